@@ -1,0 +1,43 @@
+use Rattle.std.proofs.Common.{rules, arith, subst, ℕ, List}
+use Rattle.tls_codec_wire.proofs.Filling.{take-put_mid_more, take-put_mid_same}
+use Rattle.tls_codec_wire.proofs.Given.{gave_both}
+use Rattle.tls_codec_wire.proofs.transfer.read_exactly.Goals as goal
+
+pub returns-in-Ok-eq0-clause-gave : goal.returns-in-Ok-eq0-clause-gave
+returns-in-Ok-eq0-clause-gave g c =
+    gave_both g.met.R.Source.gives_in_order c.loop-at.invariant.gave c.pull.ensures.gave
+
+pub loop-at-preserved-in-Ok : goal.loop-at-preserved-in-Ok
+loop-at-preserved-in-Ok g c = record {
+  within = search rules;
+  row = search rules;
+  gave = subst (λ (xs : List ℕ). g.R.Source.given c.args.src.now xs c.pull.new.self) (take-put_mid_more _ _ _ _ _ c.loop-at.invariant.within c.in-Ok.ensures.bound)
+      (g.met.R.Source.gives_in_order _ _ _ _ _ c.loop-at.invariant.gave c.in-Ok.ensures.gave);
+  counted = omega (arith, c.loop-at.invariant.counted, c.in-Ok.ensures.counted.1);
+  untouched = λ none. absurd (omega arith);
+}
+
+pub returns-then-row-eq-MOST_INTERRUPTIONS-clause-gave :
+    goal.returns-then-row-eq-MOST_INTERRUPTIONS-clause-gave
+returns-then-row-eq-MOST_INTERRUPTIONS-clause-gave g c =
+    gave_both g.met.R.Source.gives_in_order c.loop-at.invariant.gave c.pull.ensures.gave
+
+pub loop-at-preserved : goal.loop-at-preserved
+loop-at-preserved g c = record {
+  within = search rules;
+  row = search rules;
+  gave = subst (λ (xs : List ℕ). g.R.Source.given c.args.src.now xs c.pull.new.self) (take-put_mid_same _ _ _ _ c.loop-at.invariant.within)
+      (g.met.R.Source.gives_in_order _ _ _ _ _ c.loop-at.invariant.gave c.in-Err-Interrupted.ensures.gave);
+  counted =
+      let counted = rw c.in-Err-Interrupted.field-0-is at c.in-Err-Interrupted.ensures.counted in
+      omega (arith, c.loop-at.invariant.counted, counted.1);
+  untouched = λ none. absurd (omega arith);
+}
+
+pub returns-in-Err-NoMemory-clause-gave : goal.returns-in-Err-NoMemory-clause-gave
+returns-in-Err-NoMemory-clause-gave g c =
+    gave_both g.met.R.Source.gives_in_order c.loop-at.invariant.gave c.pull.ensures.gave
+
+pub returns-in-Err-Failed-clause-gave : goal.returns-in-Err-Failed-clause-gave
+returns-in-Err-Failed-clause-gave g c =
+    gave_both g.met.R.Source.gives_in_order c.loop-at.invariant.gave c.pull.ensures.gave

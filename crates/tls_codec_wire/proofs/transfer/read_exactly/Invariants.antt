@@ -1,0 +1,17 @@
+-- What came stands in the buffer, and a row of interruptions was counted.
+use Rattle.std.proofs.Common.{length, take, ◌-◌, ◌≡◌, ◌+◌, ◌*◌, ◌≤◌}
+use Rattle.tls_codec_wire.specs.Counts.{RoseBy}
+use Rattle.tls_codec_wire.proofs.transfer.read_exactly.Given as goal
+
+abbrev pub invariant-loop-at : goal.invariant-loop-at
+invariant-loop-at g l = record {
+  within : l.at ≤ length l.into;
+  row : l.row ≤ 16;
+  gave : g.R.Source.given l.fn.src (take l.at l.into) l.src;
+  counted : RoseBy l.row (g.R.Source.counts l.fn.src).interruptions (g.R.Source.counts l.src).interruptions;
+  untouched : length l.into ≡ 0 → l.src ≡ l.fn.src;
+}
+
+-- a byte brings the end nearer, and an interruption the end of its row
+abbrev pub decreases-loop-at : goal.decreases-loop-at
+decreases-loop-at g l = 17 * (length l.initial.into - l.at) + (16 - l.row)

@@ -1,0 +1,23 @@
+-- Why a piece is not moved whole.
+use Rattle.std.specs.Prelude.{◌≡◌, ◌<◌, ℕ, List, length, codes, Option, None, Some, ⊤}
+use Rattle.tls_codec_wire.specs.declared.error.Error.{Error}
+use Rattle.tls_codec_wire.specs.declared.error.Error.TheVariants.{EncodingError, DecodingError, EndOfStream, OutOfMemory}
+use Rattle.tls_codec_wire.specs.Counts.{Counts, RoseBy, FaultIsCounted}
+
+-- fewer than n bytes were to come, where that is told
+abbrev pub IsShortOf : ℕ → Option (List ℕ) → Type 0
+IsShortOf n None = ⊤
+IsShortOf n (Some xs) = length xs < n
+
+-- why n bytes are not read: the source failed, they were not there, or it had no memory
+abbrev pub ReadRefused : Error → ℕ → Option (List ℕ) → Counts → Counts → Type 0
+ReadRefused (DecodingError text) n coming old new = (text.now ≡ codes "read failed") × FaultIsCounted old new
+ReadRefused EndOfStream n coming old new = IsShortOf n coming
+ReadRefused OutOfMemory n coming old new = RoseBy 1 old.shortages new.shortages
+ReadRefused _ n coming old new = ⊥
+
+-- why a piece is not sent whole: the sink failed, or it had no memory
+abbrev pub WriteRefused : Error → Counts → Counts → Type 0
+WriteRefused (EncodingError text) old new = (text.now ≡ codes "write failed") × FaultIsCounted old new
+WriteRefused OutOfMemory old new = RoseBy 1 old.shortages new.shortages
+WriteRefused _ old new = ⊥

@@ -1,0 +1,71 @@
+//! What a codec refuses.
+ghost use Rattle.std.specs.Prelude.{◌≡◌};
+ghost use Rattle.tls_codec_wire.specs.Names.{name_of};
+ghost use Rattle.tls_codec_wire.specs.declared.error.Error.TheVariants.{OutOfMemory};
+
+use std::alloc::AllocError;
+use std::fmt;
+
+/// Why bytes were not read, or a value was not written.
+///
+/// Texts are constants, so that making an error takes no memory. `Display` prints the `Debug`
+/// text, as `EndOfStream` or `UnknownValue(7)`.
+#[derive(Clone, Copy, PartialEq, Eq, Debug)]
+pub enum Error {
+    /// A value could not be written, also where the sink failed.
+    EncodingError(&'static str),
+    /// A list's content passes its length field, or a vector would pass `isize::MAX` bytes.
+    InvalidVectorLength,
+    /// Never answered; kept for users of the Rust crate.
+    InvalidWriteLength(&'static str),
+    /// A slice has another length than the array it was to become.
+    InvalidInput,
+    /// Bytes spell no value, or the source failed.
+    DecodingError(&'static str),
+    /// Fewer bytes came than the value asks for.
+    EndOfStream,
+    /// A value was read where all bytes were to be used, and a byte is left.
+    TrailingData,
+    /// A tag that a user's own type doesn't know.
+    UnknownValue(u64),
+    /// A number passes the type it was to become.
+    LibraryError,
+    /// Memory was refused.
+    OutOfMemory,
+}
+
+impl Error {
+    /// The variant's name, as it is spelled in [`Error`].
+    pub fn name(&self) -> &'static str
+        ensures { result.now ≡ name_of self.now }
+    {
+        match self {
+            Error::EncodingError(_) => "EncodingError",
+            Error::InvalidVectorLength => "InvalidVectorLength",
+            Error::InvalidWriteLength(_) => "InvalidWriteLength",
+            Error::InvalidInput => "InvalidInput",
+            Error::DecodingError(_) => "DecodingError",
+            Error::EndOfStream => "EndOfStream",
+            Error::TrailingData => "TrailingData",
+            Error::UnknownValue(_) => "UnknownValue",
+            Error::LibraryError => "LibraryError",
+            Error::OutOfMemory => "OutOfMemory",
+        }
+    }
+}
+
+impl fmt::Display for Error {
+    fn fmt<W: fmt::Write>(&self, f: &mut fmt::Formatter<W>) -> fmt::Result {
+        write!(f, "{self:?}")
+    }
+}
+
+impl std::error::Error for Error {}
+
+impl From<AllocError> for Error {
+    ghost from_gives = { λ _ e. e ≡ OutOfMemory };
+
+    fn from(_e: AllocError) -> Error {
+        Error::OutOfMemory
+    }
+}

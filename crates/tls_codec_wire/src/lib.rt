@@ -1,0 +1,24 @@
+//! What moves bytes under a TLS codec: the errors it answers, the devices that bytes come from and
+//! go to, and the two calls that move a piece whole.
+//!
+//! The layer above relies on one thing: [`read_exactly`] and [`write_all`] move a piece whole, or a
+//! beginning of it and then answer a named error that is tied to a count of the device or to bytes
+//! that aren't there.
+//!
+//! - [`error`]: [`Error`], what a codec refuses.
+//! - [`device`]: [`Source`] and [`Sink`], and [`Fault`], why one call of them moved nothing.
+//! - [`memory`]: a slice as a source, a vector as a sink.
+//! - [`outside`]: [`Outside`], any `Read` or `Write` as a device.
+//! - [`transfer`]: [`read_exactly`] and [`write_all`].
+#![tactic(auto)]
+
+pub mod device;
+pub mod error;
+pub mod memory;
+pub mod outside;
+pub mod transfer;
+
+pub use device::{Fault, Sink, Source};
+pub use error::Error;
+pub use outside::Outside;
+pub use transfer::{read_exactly, write_all};

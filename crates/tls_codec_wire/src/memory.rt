@@ -1,0 +1,56 @@
+//! Devices in memory: a slice as a source, a vector as a sink.
+ghost use Rattle.std.specs.Prelude.{◌≡◌, ◌++◌, Some, refl};
+ghost use Rattle.std.proofs.Common.{rules};
+ghost use Rattle.std.proofs.lemmas.Grind.{common_steps};
+ghost use Rattle.tls_codec_wire.specs.Counts.{no_counts, only_shortages, stay};
+
+use crate::device::{Fault, Sink, Source};
+
+// Moves past what it gave, and never fails.
+impl Source for &[u8] {
+    ghost coming = { λ s. Some s.now };
+
+    ghost counts = { λ _. no_counts };
+
+    ghost given = { λ a g b. a.now ≡ g ++ b.now };
+
+    #[inline(always)]
+    fn pull(&mut self, into: &mut [u8]) -> Result<usize, Fault> {
+        let n = into.len();
+        // The length stays the constant that the caller asked for, so this is no call of `memcpy`.
+        if n <= self.len() {
+            let (front, rest) = self.split_at(n);
+            into.copy_from_slice(front);
+            *self = rest;
+            return Ok(n);
+        }
+        let n = self.len();
+        into[..n].copy_from_slice(self);
+        *self = &[];
+        Ok(n)
+    }
+
+    ghost gives_nothing = { λ s. refl };
+
+    ghost gives_in_order = { λ a xs b ys c p q. Prim.search (rules, common_steps) };
+
+    ghost gives_from_front = { λ a xs b p. p };
+
+    ghost no_count_falls = { λ a xs b p. stay no_counts };
+}
+
+// Appends, and fails for memory alone. Its shortages stand at the greatest count, so that nothing
+// is promised of memory.
+impl Sink for Vec<u8> {
+    ghost received = { λ v. Some v.items };
+
+    ghost counts = { λ _. only_shortages };
+
+    #[inline(always)]
+    fn give(&mut self, bytes: &[u8]) -> Result<usize, Fault> {
+        match self.extend_from_slice(bytes) {
+            Ok(()) => Ok(bytes.len()),
+            Err(_) => Err(Fault::NoMemory),
+        }
+    }
+}

@@ -1,0 +1,104 @@
+//! Any reader or writer of std as a device.
+ghost use Rattle.std.specs.Prelude.{◌≡◌};
+ghost use Rattle.std.proofs.KnownBytes.{Consumes-nil, Consumes-trans};
+ghost use Rattle.std.specs.Io.KnownBytes.{Consumes};
+ghost use Rattle.tls_codec_wire.specs.Counts.{no_counts, NoneFell, stay, fall_never};
+ghost use Rattle.tls_codec_wire.specs.Device.{FaultRaises};
+ghost use Rattle.tls_codec_wire.specs.Outside.{wrapped, counts_of};
+
+use crate::device::{Fault, Sink, Source};
+use std::io::{ErrorKind, Read, Write};
+
+/// A `Read` as a [`Source`], or a `Write` as a [`Sink`], with counts of what went wrong.
+///
+/// One `pull` or `give` is one `read` or `write`. An error of kind `Interrupted` is the fault
+/// `Interrupted`, one of kind `OutOfMemory` is `NoMemory`, every other is `Failed`. It tells its
+/// bytes where the wrapped one does.
+#[derive(Drop)]
+pub struct Outside<X> {
+    inner: X,
+    failures: u64,
+    interruptions: u64,
+    shortages: u64,
+}
+
+impl<X> Outside<X> {
+    /// Wraps a reader or a writer, with all counts 0.
+    pub fn new(inner: X) -> Outside<X>
+        ensures wrapped { wrapped result ≡ inner }
+        ensures counts { counts_of result ≡ no_counts }
+    {
+        Outside {
+            inner,
+            failures: 0,
+            interruptions: 0,
+            shortages: 0,
+        }
+    }
+
+    // Counts an error by its kind. A count stays at its greatest value.
+    fn count(&mut self, kind: ErrorKind) -> Fault
+        ensures wrapped { self.new.inner ≡ self.old.inner }
+        ensures counted { FaultRaises result (counts_of self.old) (counts_of self.new) }
+    {
+        match kind {
+            ErrorKind::Interrupted => {
+                self.interruptions = self.interruptions.saturating_add(1);
+                Fault::Interrupted
+            }
+            ErrorKind::OutOfMemory => {
+                self.shortages = self.shortages.saturating_add(1);
+                Fault::NoMemory
+            }
+            _ => {
+                self.failures = self.failures.saturating_add(1);
+                Fault::Failed
+            }
+        }
+    }
+}
+
+impl<R: Read> Source for Outside<R> {
+    ghost coming = { λ s. R.remaining s.inner };
+
+    ghost counts = { counts_of };
+
+    ghost given = { λ a g b. Consumes (R.remaining a.inner) (R.remaining b.inner) g
+        × NoneFell (counts_of a) (counts_of b) };
+
+    fn pull(&mut self, into: &mut [u8]) -> Result<usize, Fault> {
+        match self.inner.read(into) {
+            Ok(n) => Ok(n),
+            Err(e) => Err(self.count(e.kind())),
+        }
+    }
+
+    ghost gives_nothing = { λ s. (Consumes-nil _, stay (counts_of s)) };
+
+    ghost gives_in_order = { λ a xs b ys c p q. (
+      Consumes-trans _ _ _ _ _ p.0 q.0,
+      fall_never p.1 q.1,
+    ) };
+
+    ghost gives_from_front = { λ a xs b p. p.0 };
+
+    ghost no_count_falls = { λ a xs b p. p.1 };
+}
+
+impl<W: Write> Sink for Outside<W> {
+    ghost received = { λ s. W.contents s.inner };
+
+    ghost counts = { counts_of };
+
+    fn give(&mut self, bytes: &[u8]) -> Result<usize, Fault> {
+        match self.inner.write(bytes) {
+            Ok(n) => {
+                if n == 0 && !bytes.is_empty() {
+                    self.failures = self.failures.saturating_add(1);
+                }
+                Ok(n)
+            }
+            Err(e) => Err(self.count(e.kind())),
+        }
+    }
+}

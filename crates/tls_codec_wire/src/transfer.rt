@@ -1,0 +1,98 @@
+//! Moving a piece whole.
+ghost use Rattle.std.specs.Prelude.{◌≡◌, length, IfErr, OnOk};
+ghost use Rattle.std.specs.Io.KnownBytes.{Appends};
+ghost use Rattle.tls_codec_wire.specs.Counts.{NoneFell};
+ghost use Rattle.tls_codec_wire.specs.Device.{Gave, Received};
+ghost use Rattle.tls_codec_wire.specs.Transfer.{ReadRefused, WriteRefused};
+
+use crate::device::{Fault, Sink, Source};
+use crate::error::Error;
+
+/// How many interruptions in a row are tried again.
+const MOST_INTERRUPTIONS: u8 = 16;
+
+/// Fills the buffer with the next bytes.
+///
+/// A call that is interrupted is tried again, up to 16 times in a row; a call that moves a byte
+/// starts the row anew. `EndOfStream`: fewer bytes came than the buffer has room for.
+/// `DecodingError("read failed")`: the source failed, or was interrupted 17 times in a row.
+/// `OutOfMemory`: the source had none. After a refusal the buffer's content is open. An empty
+/// buffer makes no call.
+///
+/// ```rust
+/// let mut src = [1u8, 2, 3].as_slice();
+/// let mut into = [0u8; 2];
+/// read_exactly(&mut src, &mut into)?;
+/// assert_eq!(rt; into, [1, 2]);
+/// assert_eq!(rt; src, [3].as_slice());
+/// ```
+#[inline(always)]
+pub fn read_exactly<R: Source>(src: &mut R, into: &mut [u8]) -> Result<(), Error>
+    ensures gave { Gave R.given src.old src.new }
+    ensures filled { OnOk result (R.given src.old into.new src.new) }
+    ensures refused { IfErr result (λ e. ReadRefused e (length into.old) (R.coming src.old)
+        (R.counts src.old) (R.counts src.new)) }
+    ensures nothing_asked { length into.old ≡ 0 → (result ≡ Ok tt) × (src.new ≡ src.old) }
+{
+    let mut at = 0;
+    let mut row = 0;
+    while at < into.len() {
+        match src.pull(&mut into[at..]) {
+            Ok(0) => return Err(Error::EndOfStream),
+            Ok(n) => {
+                at += n;
+                row = 0;
+            }
+            Err(Fault::Interrupted) => {
+                if row == MOST_INTERRUPTIONS {
+                    return Err(Error::DecodingError("read failed"));
+                }
+                row += 1;
+            }
+            Err(Fault::NoMemory) => return Err(Error::OutOfMemory),
+            Err(Fault::Failed) => return Err(Error::DecodingError("read failed")),
+        }
+    }
+    Ok(())
+}
+
+/// Sends all of a piece.
+///
+/// A call that is interrupted is tried again, up to 16 times in a row; a call that moves a byte
+/// starts the row anew. `EncodingError("write failed")`: the sink failed, took no byte, or was
+/// interrupted 17 times in a row. `OutOfMemory`: the sink had none. After a refusal the sink has
+/// received a beginning of the piece. An empty piece makes no call.
+///
+/// ```rust
+/// let mut out = Vec::new(alloc);
+/// write_all(&mut out, &[1, 2, 3])?;
+/// assert_eq!(rt; out.as_slice(), [1, 2, 3].as_slice());
+/// ```
+pub fn write_all<W: Sink>(sink: &mut W, bytes: &[u8]) -> Result<(), Error>
+    ensures whole { OnOk result (Appends (W.received sink.old) (W.received sink.new) bytes.now) }
+    ensures beginning { Received (W.received sink.old) (W.received sink.new) bytes.now }
+    ensures counts { NoneFell (W.counts sink.old) (W.counts sink.new) }
+    ensures refused { IfErr result (λ e. WriteRefused e (W.counts sink.old) (W.counts sink.new)) }
+    ensures nothing_sent { length bytes.now ≡ 0 → (result ≡ Ok tt) × (sink.new ≡ sink.old) }
+{
+    let mut at = 0;
+    let mut row = 0;
+    while at < bytes.len() {
+        match sink.give(&bytes[at..]) {
+            Ok(0) => return Err(Error::EncodingError("write failed")),
+            Ok(n) => {
+                at += n;
+                row = 0;
+            }
+            Err(Fault::Interrupted) => {
+                if row == MOST_INTERRUPTIONS {
+                    return Err(Error::EncodingError("write failed"));
+                }
+                row += 1;
+            }
+            Err(Fault::NoMemory) => return Err(Error::OutOfMemory),
+            Err(Fault::Failed) => return Err(Error::EncodingError("write failed")),
+        }
+    }
+    Ok(())
+}
