@@ -1,5 +1,5 @@
 -- Announced lengths, in bytes. Every sum stays at `usize::MAX` once it is there.
-use Rattle.std.specs.Prelude.{ℕ, ◌+◌, ◌^◌, min, nat_lt, if◌then◌else◌}
+use Rattle.std.specs.Prelude.{ℕ, ◌+◌, min, nat_lt, if◌then◌else◌}
 use Rattle.tls_codec_base.specs.Tree.{Tree, Number, Empty, Join}
 
 abbrev pub capped : ℕ → ℕ

@@ -1,7 +1,6 @@
 -- What decoders answer.
 use Rattle.std.specs.Prelude.{◌≡◌, ◌⊎◌, ℕ, List, ◌++◌, Bool, false, Option, None, Some, ⊤}
 use Rattle.tls_codec_wire.specs.Counts.{Counts, FaultIsCounted, RoseBy}
-use Rattle.tls_codec_wire.specs.Device.{Gives}
 use Rattle.tls_codec_wire.specs.declared.error.Error.{Error}
 use Rattle.tls_codec_wire.specs.declared.error.Error.TheVariants.{OutOfMemory}
 use Rattle.tls_codec_base.specs.Tree.{Tree}
