@@ -5,3 +5,10 @@ pub mod Announced
 pub mod Lawful
 pub mod Decoding
 pub mod Encoding
+pub mod Refusals
+pub mod RowLaws
+pub mod NumberLaws
+pub mod OptionLaws
+pub mod FieldsLaws
+pub mod VarintLaws
+pub mod ListLaws

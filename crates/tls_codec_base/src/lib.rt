@@ -1,6 +1,23 @@
-//! What a type of the TLS presentation language is.
+//! What a type of the TLS presentation language is (RFC 8446, section 3): five traits, with the
+//! grammar of each type, the laws it meets and the contracts of its decoders and encoders.
+//!
+//! The layer above relies on the contracts of [`traits`] alone, and so do the types here that have
+//! parameters: a decoder accepts just the inputs that begin with a spelling, gives its one value
+//! and leaves the rest unread; an encoder writes the shortest form of its value.
+//!
+//! - [`traits`]: [`Size`], [`Serialize`], [`SerializeBytes`], [`Deserialize`], [`DeserializeBytes`].
+//! - [`numbers`]: `u8` and `u16`.
+//! - [`options`]: `Option<T>`.
+//! - [`laws`]: what is lawful if its parts are. [`examples`]: the definitions at work. Neither does
+//!   anything when it runs.
 #![tactic(auto)]
 
+pub mod examples;
+pub mod laws;
+pub mod numbers;
+pub mod options;
+#[cfg(test)]
+mod tests;
 pub mod traits;
 
 pub use traits::{Deserialize, DeserializeBytes, Serialize, SerializeBytes, Size};

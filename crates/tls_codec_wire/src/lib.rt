@@ -16,6 +16,8 @@ pub mod device;
 pub mod error;
 pub mod memory;
 pub mod outside;
+#[cfg(test)]
+mod tests;
 pub mod transfer;
 
 pub use device::{Fault, Sink, Source};

@@ -4,7 +4,7 @@ ghost use Rattle.std.proofs.KnownBytes.{Consumes-nil, Consumes-trans};
 ghost use Rattle.std.specs.Io.KnownBytes.{Consumes};
 ghost use Rattle.tls_codec_wire.specs.Counts.{no_counts, NoneFell, stay, fall_never};
 ghost use Rattle.tls_codec_wire.specs.Device.{FaultRaises};
-ghost use Rattle.tls_codec_wire.specs.Outside.{wrapped, counts_of};
+ghost use Rattle.tls_codec_wire.specs.Outside.{wrapped, counts_of, fault_of};
 
 use crate::device::{Fault, Sink, Source};
 use std::io::{ErrorKind, Read, Write};
@@ -38,6 +38,7 @@ impl<X> Outside<X> {
 
     // Counts an error by its kind. A count stays at its greatest value.
     fn count(&mut self, kind: ErrorKind) -> Fault
+        ensures fault { result ≡ fault_of kind }
         ensures wrapped { self.new.inner ≡ self.old.inner }
         ensures counted { FaultRaises result (counts_of self.old) (counts_of self.new) }
     {

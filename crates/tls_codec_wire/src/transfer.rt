@@ -3,6 +3,7 @@ ghost use Rattle.std.specs.Prelude.{◌≡◌, length, IfErr, OnOk};
 ghost use Rattle.std.specs.Io.KnownBytes.{Appends};
 ghost use Rattle.tls_codec_wire.specs.Counts.{NoneFell};
 ghost use Rattle.tls_codec_wire.specs.Device.{Gave, Received};
+ghost use Rattle.tls_codec_wire.specs.Digits.{AreBytes};
 ghost use Rattle.tls_codec_wire.specs.Transfer.{ReadRefused, WriteRefused};
 
 use crate::device::{Fault, Sink, Source};
@@ -30,6 +31,7 @@ const MOST_INTERRUPTIONS: u8 = 16;
 pub fn read_exactly<R: Source>(src: &mut R, into: &mut [u8]) -> Result<(), Error>
     ensures gave { Gave R.given src.old src.new }
     ensures filled { OnOk result (R.given src.old into.new src.new) }
+    ensures bytes { OnOk result (AreBytes into.new) }
     ensures refused { IfErr result (λ e. ReadRefused e (length into.old) (R.coming src.old)
         (R.counts src.old) (R.counts src.new)) }
     ensures nothing_asked { length into.old ≡ 0 → (result ≡ Ok tt) × (src.new ≡ src.old) }

@@ -1,6 +1,7 @@
 -- What came stands in the buffer, and a row of interruptions was counted.
 use Rattle.std.proofs.Common.{length, take, ◌-◌, ◌≡◌, ◌+◌, ◌*◌, ◌≤◌}
 use Rattle.tls_codec_wire.specs.Counts.{RoseBy}
+use Rattle.tls_codec_wire.specs.Digits.{AreBytes}
 use Rattle.tls_codec_wire.proofs.transfer.read_exactly.Given as goal
 
 abbrev pub invariant-loop-at : goal.invariant-loop-at
@@ -9,6 +10,7 @@ invariant-loop-at g l = record {
   row : l.row ≤ 16;
   gave : g.R.Source.given l.fn.src (take l.at l.into) l.src;
   counted : RoseBy l.row (g.R.Source.counts l.fn.src).interruptions (g.R.Source.counts l.src).interruptions;
+  bytes : AreBytes l.into;
   untouched : length l.into ≡ 0 → l.src ≡ l.fn.src;
 }
 

@@ -1,0 +1,63 @@
+-- What the calls on digits answer, over the width.
+use Rattle.std.proofs.Common.{◌≡◌, ℕ, suc, ◌-◌, ◌^◌, ◌<◌, ◌≤◌, List, ◌++◌, length, take, drop, take-append-drop, length-take-le, get_or, Option, None, Some, true, inl, inr, refl, sym, ap, subst, ◌∙◌, arith, length-append}
+use Rattle.std.specs.Int.{byte_worth, bytes_high_first, sum_through}
+use Rattle.tls_codec_wire.proofs.Bytes.{are_bytes, AreBytes-left}
+use Rattle.tls_codec_wire.specs.Counts.{Counts}
+use Rattle.tls_codec_wire.specs.Digits.{AreBytes, Digits, value}
+use Rattle.tls_codec_wire.specs.Transfer.{IsShortOf, ReadRefused}
+use Rattle.tls_codec_wire.specs.declared.error.Error.{Error}
+use Rattle.tls_codec_wire.specs.declared.error.Error.TheVariants.{DecodingError, EndOfStream, OutOfMemory}
+use Rattle.tls_codec_base.specs.Tree.{Number}
+use Rattle.tls_codec_base.specs.Grammar.{number}
+use Rattle.tls_codec_base.specs.Shortest.{IsShortest}
+use Rattle.tls_codec_base.specs.Decoding.{Begins, NoneBegins, NoneComes, RefusesSource}
+use Rattle.tls_codec_base.specs.NumberLaws.{digits_least}
+use Rattle.tls_codec_base.proofs.BigEndian.{high_first_digits, sum_through-digits}
+
+-- bytes spell the number that they stand for
+pub own_digits : (b : List ℕ) → AreBytes b → Digits (length b) b (value b)
+own_digits b bytes = record { width = refl; bytes = bytes; number = refl }
+
+-- the first k of some bytes are digits
+pub number_begins : (k : ℕ) (x front rest : List ℕ) → front ≡ take k x → rest ≡ drop k x → k ≤ length x → ((i : ℕ) → get_or x i 0 < 256) → Begins (number k) x (Number (value front)) rest
+number_begins k x front rest f r fits small =
+    let whole : x ≡ front ++ rest = sym (take-append-drop k x) ∙ ap (λ (u : List ℕ). u ++ drop k x) (sym f) ∙ ap (λ (u : List ℕ). front ++ u) (sym r) in
+    record {
+      front = front;
+      whole = whole;
+      spelled = record {
+        width = ap length f ∙ length-take-le k x fits;
+        bytes = AreBytes-left front rest (subst AreBytes whole (are_bytes x small));
+        number = refl;
+      };
+    }
+
+-- fewer bytes begin with no number
+pub number_short : (k : ℕ) (x : List ℕ) → length x < k → NoneBegins (number k) x
+number_short k x lt (Number n) rest b = omega (arith, ap length b.whole, length-append b.front rest, b.spelled.width)
+number_short k x lt _ rest b = absurd b.spelled
+
+none_comes : (k : ℕ) (coming : Option (List ℕ)) → IsShortOf k coming → NoneComes (number k) coming
+none_comes k None short = tt
+none_comes k (Some x) short = number_short k x short
+
+-- why digits are not read is why the number is refused
+pub number_refused : (k : ℕ) (coming : Option (List ℕ)) (old new : Counts) (e : Error) → ReadRefused e k coming old new → RefusesSource (number k) true coming old new e
+number_refused k coming old new (DecodingError text) p = record { cause = inr (inl p.1); memory = λ h. absurd cc }
+number_refused k coming old new EndOfStream p = record { cause = inl (none_comes k coming p); memory = λ h. absurd cc }
+number_refused k coming old new OutOfMemory p = record { cause = inr (inr refl); memory = λ h. inr p }
+number_refused k coming old new _ p = absurd p
+
+-- what holds of std's digits of a number holds at the width and the number
+pub at_number : (P : ℕ → ℕ → Type 0) (k n : ℕ) (b : List ℕ) → b ≡ bytes_high_first k n → n < 256 ^ k → P (length b) (value b) → P k n
+at_number P k n b e fits h =
+    let d = subst (λ (u : List ℕ). Digits k u n) (sym e) (high_first_digits k n fits) in
+    subst (λ (u : ℕ). P u n) d.width (subst (λ (u : ℕ). P (length b) u) d.number h)
+
+-- what holds of the number that digits stand for holds of the one that std makes of them
+pub at_digits : (P : ℕ → Type 0) (k n : ℕ) (b : List ℕ) → length b ≡ suc k → n ≡ sum_through (λ i. byte_worth (k - i) (get_or b i 0)) k → P (value b) → P n
+at_digits P k n b width e h = subst P (sym (sum_through-digits k b width) ∙ sym e) h
+
+-- bytes are the shortest form of the number that they stand for
+pub own_shortest : (b : List ℕ) → ((i : ℕ) → get_or b i 0 < 256) → IsShortest (number (length b)) b (Number (value b))
+own_shortest b small = digits_least (length b) b (value b) (own_digits b (are_bytes b small))

@@ -1,0 +1,202 @@
+// What no clause says: printed texts, that calls succeed, and which interruptions stand in a row.
+mod devices;
+
+use crate::device::{Fault, Sink, Source};
+use crate::error::Error;
+use crate::outside::Outside;
+use crate::transfer::{read_exactly, write_all};
+use devices::{Failing, Fives, Keeper, Plan};
+use std::alloc::AllocError;
+use std::io::ErrorKind;
+use std::test::Fail;
+
+const READ_FAILED: Error = Error::DecodingError("read failed");
+
+const WRITE_FAILED: Error = Error::EncodingError("write failed");
+
+const FAILED: Option<Fault> = Some(Fault::Failed);
+
+const NO_MEMORY: Option<Fault> = Some(Fault::NoMemory);
+
+#[test]
+fn each_error_has_its_variants_name(rt: HostRuntime) {
+    for (error, name) in [
+        (Error::EncodingError("write failed"), "EncodingError"),
+        (Error::InvalidVectorLength, "InvalidVectorLength"),
+        (Error::InvalidWriteLength("too long"), "InvalidWriteLength"),
+        (Error::InvalidInput, "InvalidInput"),
+        (Error::DecodingError("read failed"), "DecodingError"),
+        (Error::EndOfStream, "EndOfStream"),
+        (Error::TrailingData, "TrailingData"),
+        (Error::UnknownValue(7), "UnknownValue"),
+        (Error::LibraryError, "LibraryError"),
+        (Error::OutOfMemory, "OutOfMemory"),
+    ] {
+        assert_eq!(rt; error.name(), name);
+    }
+}
+
+#[test]
+fn an_error_prints_its_debug_text(rt: HostRuntime) -> Result<(), Fail> {
+    for (error, text) in [
+        (Error::EndOfStream, "EndOfStream"),
+        (Error::UnknownValue(7), "UnknownValue(7)"),
+        (
+            Error::DecodingError("read failed"),
+            "DecodingError(\"read failed\")",
+        ),
+    ] {
+        let printed = format!(in rt.alloc(); "{error}")?;
+        assert_eq!(rt; printed.as_str(), text);
+    }
+    Ok(())
+}
+
+#[test]
+fn refused_memory_is_out_of_memory(rt: HostRuntime) {
+    assert_eq!(rt; Error::from(AllocError), Error::OutOfMemory);
+}
+
+#[test]
+fn a_read_ends_as_its_source_does(rt: HostRuntime) {
+    for (bytes, interruptions, after, end) in [
+        (1, 16, None, Ok(())),
+        (1, 17, None, Err(READ_FAILED)),
+        (0, 0, FAILED, Err(READ_FAILED)),
+        (0, 0, NO_MEMORY, Err(Error::OutOfMemory)),
+    ] {
+        let mut src = Fives::new(Plan {
+            bytes,
+            interruptions,
+            after,
+        });
+        let mut into = [0];
+        let result = read_exactly(&mut src, &mut into);
+        assert_eq!(rt; result, end, "{interruptions} interruptions");
+        if result.is_ok() {
+            assert_eq!(rt; into, [5]);
+        }
+    }
+}
+
+#[test]
+fn a_refused_write_has_sent_a_beginning(rt: HostRuntime) {
+    for (bytes, interruptions, after, error, taken) in [
+        (3, 0, FAILED, WRITE_FAILED, [1, 2, 3].as_slice()),
+        (2, 0, NO_MEMORY, Error::OutOfMemory, [1, 2].as_slice()),
+        (4, 17, None, WRITE_FAILED, [].as_slice()),
+    ] {
+        let plan = Plan {
+            bytes,
+            interruptions,
+            after,
+        };
+        let mut sink = Keeper::new(Vec::new(rt.alloc()), plan);
+        let result = write_all(&mut sink, &[1, 2, 3, 4]);
+        assert_eq!(rt; result, Err(error));
+        assert_eq!(rt; sink.taken.as_slice(), taken);
+    }
+}
+
+// A body that counts them over the whole call refuses here.
+#[test]
+fn interruptions_are_counted_in_a_row(rt: HostRuntime) -> Result<(), Fail> {
+    let plan = Plan {
+        bytes: 2,
+        interruptions: 16,
+        after: FAILED,
+    };
+    let mut src = Fives::new(plan);
+    let mut into = [0; 2];
+    read_exactly(&mut src, &mut into)?;
+    assert_eq!(rt; into, [5, 5]);
+    let mut sink = Keeper::new(Vec::new(rt.alloc()), plan);
+    write_all(&mut sink, &[1, 2])?;
+    assert_eq!(rt; sink.taken.as_slice(), [1, 2].as_slice());
+    Ok(())
+}
+
+#[test]
+fn nothing_to_move_makes_no_call(rt: HostRuntime) -> Result<(), Fail> {
+    let plan = Plan {
+        bytes: 0,
+        interruptions: 0,
+        after: FAILED,
+    };
+    let mut src = Fives::new(plan);
+    read_exactly(&mut src, &mut [])?;
+    assert_eq!(rt; src.progress.calls, 0);
+    let mut sink = Keeper::new(Vec::new(rt.alloc()), plan);
+    write_all(&mut sink, &[])?;
+    assert_eq!(rt; sink.progress.calls, 0);
+    Ok(())
+}
+
+#[test]
+fn no_byte_taken_is_a_failure_of_the_sink(rt: HostRuntime) {
+    let mut sink = Keeper::new(
+        Vec::new(rt.alloc()),
+        Plan {
+            bytes: 0,
+            interruptions: 0,
+            after: None,
+        },
+    );
+    assert_eq!(rt; write_all(&mut sink, &[1]), Err(WRITE_FAILED));
+    assert_eq!(rt; sink.progress.failures, 1);
+    assert_eq!(rt; sink.progress.calls, 1);
+}
+
+#[test]
+fn a_slice_gives_its_front(rt: HostRuntime) -> Result<(), Fail> {
+    let mut src = [1, 2, 3].as_slice();
+    let mut into = [0; 2];
+    read_exactly(&mut src, &mut into)?;
+    assert_eq!(rt; into, [1, 2]);
+    assert_eq!(rt; src, [3].as_slice());
+    assert_eq!(rt; read_exactly(&mut src, &mut into), Err(Error::EndOfStream));
+    Ok(())
+}
+
+#[test]
+fn a_vector_takes_a_piece_at_its_end(rt: HostRuntime) -> Result<(), Fail> {
+    let mut out = Vec::new(rt.alloc());
+    write_all(&mut out, &[1, 2])?;
+    write_all(&mut out, &[3])?;
+    assert_eq!(rt; out.as_slice(), [1, 2, 3].as_slice());
+    Ok(())
+}
+
+#[test]
+fn a_reader_outside_gives_its_bytes(rt: HostRuntime) {
+    let mut src = Outside::new([1, 2, 3].as_slice());
+    let mut into = [0; 2];
+    for (moved, content) in [(2, [1, 2]), (1, [3, 2]), (0, [3, 2])] {
+        assert_eq!(rt; src.pull(&mut into), Ok(moved));
+        assert_eq!(rt; into, content);
+    }
+}
+
+#[test]
+fn a_writer_outside_takes_bytes_at_its_end(rt: HostRuntime) -> Result<(), Fail> {
+    let mut out = Vec::new(rt.alloc());
+    let mut sink = Outside::new(&mut out);
+    assert_eq!(rt; sink.give(&[1, 2]), Ok(2));
+    assert_eq!(rt; sink.give(&[3]), Ok(1));
+    assert_eq!(rt; out.as_slice(), [1, 2, 3].as_slice());
+    Ok(())
+}
+
+#[test]
+fn a_fault_outside_is_named_by_its_kind(rt: HostRuntime) {
+    for (kind, fault) in [
+        (ErrorKind::Interrupted, Fault::Interrupted),
+        (ErrorKind::OutOfMemory, Fault::NoMemory),
+        (ErrorKind::PermissionDenied, Fault::Failed),
+    ] {
+        let mut src = Outside::new(Failing { kind });
+        assert_eq!(rt; src.pull(&mut [0]), Err(fault));
+        let mut sink = Outside::new(Failing { kind });
+        assert_eq!(rt; sink.give(&[0]), Err(fault));
+    }
+}
