@@ -136,8 +136,9 @@ fn short_numbers_end_the_stream(rt: HostRuntime) {
     );
 }
 
+// A body that counts them over the whole call, and not in a row, refuses the last one.
 #[test]
-fn interruptions_are_counted_in_a_row(rt: HostRuntime) {
+fn interruptions_over_whole_call(rt: HostRuntime) {
     let read_failed = Error::DecodingError("read failed");
     assert_eq!(rt;
         u8::tls_deserialize(rt.alloc(), &mut fives_behind(16)),

@@ -100,7 +100,7 @@ fn a_refused_write_has_sent_a_beginning(rt: HostRuntime) {
 
 // A body that counts them over the whole call refuses here.
 #[test]
-fn interruptions_are_counted_in_a_row(rt: HostRuntime) -> Result<(), Fail> {
+fn interruptions_over_whole_call(rt: HostRuntime) -> Result<(), Fail> {
     let plan = Plan {
         bytes: 2,
         interruptions: 16,
