@@ -1,0 +1,10 @@
+-- Nothing was given so far, and each call was an interruption.
+use Rattle.std.proofs.Common.{[], length, ◌≡◌}
+use Rattle.tls_codec_wire.specs.Counts.{RoseBy}
+use Rattle.tlsview.proofs.input.next_piece.Given as goal
+
+abbrev pub invariant-loop-row : goal.invariant-loop-row
+invariant-loop-row g l = record {
+  gave : g.R.Source.given l.fn.input [] l.input;
+  counted : RoseBy l._row (g.R.Source.counts l.fn.input).interruptions (g.R.Source.counts l.input).interruptions;
+}
