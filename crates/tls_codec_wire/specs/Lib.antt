@@ -5,3 +5,7 @@ pub mod Outside
 pub mod Transfer
 pub mod Digits
 pub mod Varint
+pub mod Foreign
+pub mod VarintCalls
+pub mod Uint24
+pub mod VarintValue

@@ -1,10 +1,15 @@
 //! What a codec refuses.
 ghost use Rattle.std.specs.Prelude.{◌≡◌};
 ghost use Rattle.tls_codec_wire.specs.Names.{name_of};
-ghost use Rattle.tls_codec_wire.specs.declared.error.Error.TheVariants.{OutOfMemory};
+ghost use Rattle.tls_codec_wire.specs.Foreign.{ErrorOfIo};
+ghost use Rattle.tls_codec_wire.specs.declared.error.Error.TheVariants.{InvalidInput, InvalidVectorLength, OutOfMemory};
 
 use std::alloc::AllocError;
-use std::fmt;
+use std::array::TryFromSliceError;
+use std::convert::Infallible;
+use std::io::ErrorKind;
+use std::num::TryFromIntError;
+use std::{fmt, io};
 
 /// Why bytes were not read, or a value was not written.
 ///
@@ -67,5 +72,41 @@ impl From<AllocError> for Error {
 
     fn from(_e: AllocError) -> Error {
         Error::OutOfMemory
+    }
+}
+
+impl From<io::Error> for Error {
+    ghost from_gives = { ErrorOfIo };
+
+    fn from(e: io::Error) -> Error {
+        match e.kind() {
+            ErrorKind::UnexpectedEof => Error::EndOfStream,
+            _ => Error::DecodingError("io error"),
+        }
+    }
+}
+
+impl From<TryFromSliceError> for Error {
+    ghost from_gives = { λ _ e. e ≡ InvalidInput };
+
+    fn from(_e: TryFromSliceError) -> Error {
+        Error::InvalidInput
+    }
+}
+
+impl From<TryFromIntError> for Error {
+    ghost from_gives = { λ _ e. e ≡ InvalidVectorLength };
+
+    fn from(_e: TryFromIntError) -> Error {
+        Error::InvalidVectorLength
+    }
+}
+
+// It is never called: there is no such value.
+impl From<Infallible> for Error {
+    ghost from_gives = { λ _ e. e ≡ InvalidVectorLength };
+
+    fn from(_e: Infallible) -> Error {
+        Error::InvalidVectorLength
     }
 }

@@ -10,17 +10,25 @@
 //! - [`memory`]: a slice as a source, a vector as a sink.
 //! - [`outside`]: [`Outside`], any `Read` or `Write` as a device.
 //! - [`transfer`]: [`read_exactly`] and [`write_all`].
+//! - [`uint24`]: [`U24`], a number of 24 bits.
+//! - [`varint`]: [`TlsVarInt`], the number of a variable-length integer.
+//! - [`quic`]: variable-length integers, read and written.
 #![tactic(auto)]
 
 pub mod device;
 pub mod error;
 pub mod memory;
 pub mod outside;
+pub mod quic;
 #[cfg(test)]
 mod tests;
 pub mod transfer;
+pub mod uint24;
+pub mod varint;
 
 pub use device::{Fault, Sink, Source};
 pub use error::Error;
 pub use outside::Outside;
 pub use transfer::{read_exactly, write_all};
+pub use uint24::U24;
+pub use varint::TlsVarInt;

@@ -1,5 +1,6 @@
 // What no clause says: printed texts, that calls succeed, and which interruptions stand in a row.
 mod devices;
+mod numbers;
 
 use crate::device::{Fault, Sink, Source};
 use crate::error::Error;

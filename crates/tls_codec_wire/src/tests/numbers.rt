@@ -1,0 +1,104 @@
+// Numbers in bytes, and what errors of std become.
+use crate::error::Error;
+use crate::quic::{least_width, read_varint, split_varint, write_varint};
+use crate::uint24::U24;
+use crate::varint::TlsVarInt;
+use std::convert::Infallible;
+use std::io;
+use std::io::ErrorKind;
+use std::test::Fail;
+
+#[test]
+fn a_number_of_24_bits_has_three_bytes(rt: HostRuntime) -> Result<(), Fail> {
+    let n = U24::try_from(65_609)?;
+    assert_eq!(rt; n.to_be_bytes(), [0x01, 0x00, 0x49]);
+    assert_eq!(rt; U24::from_be_bytes([0x01, 0x00, 0x49]), n);
+    assert_eq!(rt; usize::from(n), 65_609);
+    assert_eq!(rt; U24::try_from(16_777_216), Err(Error::LibraryError));
+    assert_eq!(rt; U24::try_from(16_777_215), Ok(U24::MAX));
+    assert_eq!(rt; usize::from(U24::MAX), 16_777_215);
+    assert_eq!(rt; usize::from(U24::MIN), 0);
+    assert_eq!(rt; U24::default(), U24::MIN);
+    Ok(())
+}
+
+#[test]
+fn a_variable_length_integer_is_below_its_limit(rt: HostRuntime) -> Result<(), Fail> {
+    let most = TlsVarInt::try_from(TlsVarInt::MAX)?;
+    assert_eq!(rt; most.value(), 4_611_686_018_427_387_903);
+    assert_eq!(rt; u64::from(most), TlsVarInt::MAX);
+    assert_eq!(rt;
+        TlsVarInt::try_from(TlsVarInt::MAX + 1),
+        Err(Error::InvalidVectorLength)
+    );
+    assert!(rt; TlsVarInt::try_from(37)? < most);
+    Ok(())
+}
+
+// The examples of RFC 9000, appendix A.1.
+#[test]
+fn a_variable_length_integer_has_its_least_bytes(rt: HostRuntime) -> Result<(), Fail> {
+    for (number, bytes) in [
+        (37, [0x25].as_slice()),
+        (15_293, [0x7b, 0xbd].as_slice()),
+        (494_878_333, [0x9d, 0x7f, 0x3e, 0x7d].as_slice()),
+        (
+            151_288_809_941_952_652,
+            [0xc2, 0x19, 0x7c, 0x5e, 0xff, 0x14, 0xe8, 0x8c].as_slice(),
+        ),
+    ] {
+        let n = TlsVarInt::try_from(number)?;
+        let mut out = Vec::new(rt.alloc());
+        assert_eq!(rt; write_varint(&mut out, n), Ok(bytes.len()), "{number}");
+        assert_eq!(rt; out.as_slice(), bytes, "{number}");
+        assert_eq!(rt; least_width(number), bytes.len(), "{number}");
+        let mut src = bytes;
+        assert_eq!(rt; read_varint(&mut src), Ok((n, bytes.len())), "{number}");
+        assert!(rt; src.is_empty(), "{number}");
+        assert_eq!(rt; split_varint(bytes), Ok((n, [].as_slice())), "{number}");
+    }
+    Ok(())
+}
+
+#[test]
+fn no_width_holds_a_greater_number(rt: HostRuntime) {
+    assert_eq!(rt; least_width(TlsVarInt::MAX), 8);
+    assert_eq!(rt; least_width(TlsVarInt::MAX + 1), 0);
+}
+
+#[test]
+fn too_few_bytes_are_the_end(rt: HostRuntime) {
+    for bytes in [[].as_slice(), [0x40].as_slice(), [0x80, 0, 0].as_slice()] {
+        let mut src = bytes;
+        assert_eq!(rt; read_varint(&mut src), Err(Error::EndOfStream));
+        assert_eq!(rt; split_varint(bytes), Err(Error::EndOfStream));
+    }
+}
+
+fn pair(bytes: &[u8]) -> Result<[u8; 2], Error> {
+    Ok(<[u8; 2]>::try_from(bytes)?)
+}
+
+fn byte(number: u64) -> Result<u8, Error> {
+    Ok(u8::try_from(number)?)
+}
+
+fn kept(number: Result<u8, Infallible>) -> Result<u8, Error> {
+    Ok(number?)
+}
+
+#[test]
+fn errors_of_std_have_an_error_here(rt: HostRuntime) {
+    for (kind, error) in [
+        (ErrorKind::UnexpectedEof, Error::EndOfStream),
+        (
+            ErrorKind::PermissionDenied,
+            Error::DecodingError("io error"),
+        ),
+    ] {
+        assert_eq!(rt; Error::from(io::Error::from(kind)), error);
+    }
+    assert_eq!(rt; pair(&[1]), Err(Error::InvalidInput));
+    assert_eq!(rt; byte(256), Err(Error::InvalidVectorLength));
+    assert_eq!(rt; kept(Ok(5)), Ok(5));
+}
