@@ -1,8 +1,12 @@
-pub mod BigEndian
+pub mod ArrayCalls
 pub mod Coming
+pub mod FieldsDecoding
+pub mod FieldsEncoding
 pub mod NumberCalls
 pub mod OptionDecoding
 pub mod OptionEncoding
 pub mod Sent
+pub mod VarintValues
 pub mod Vectors
+pub mod Whole
 pub mod WorkedExamples

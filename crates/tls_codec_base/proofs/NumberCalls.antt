@@ -1,6 +1,6 @@
 -- What the calls on digits answer, over the width.
-use Rattle.std.proofs.Common.{◌≡◌, ℕ, suc, ◌-◌, ◌^◌, ◌<◌, ◌≤◌, List, ◌++◌, length, take, drop, take-append-drop, length-take-le, get_or, Option, None, Some, true, inl, inr, refl, sym, ap, subst, ◌∙◌, arith, length-append}
-use Rattle.std.specs.Int.{byte_worth, bytes_high_first, sum_through}
+use Rattle.std.proofs.Common.{◌≡◌, ℕ, suc, ◌-◌, ◌<◌, ◌≤◌, List, ◌++◌, length, take, drop, take-append-drop, length-take-le, get_or, Option, None, Some, true, inl, inr, refl, sym, ap, subst, ◌∙◌, arith, length-append}
+use Rattle.std.specs.Int.{byte_worth, sum_through}
 use Rattle.tls_codec_wire.proofs.Bytes.{are_bytes, AreBytes-left}
 use Rattle.tls_codec_wire.specs.Counts.{Counts}
 use Rattle.tls_codec_wire.specs.Digits.{AreBytes, Digits, value}
@@ -12,25 +12,27 @@ use Rattle.tls_codec_base.specs.Grammar.{number}
 use Rattle.tls_codec_base.specs.Shortest.{IsShortest}
 use Rattle.tls_codec_base.specs.Decoding.{Begins, NoneBegins, NoneComes, RefusesSource}
 use Rattle.tls_codec_base.specs.NumberLaws.{digits_least}
-use Rattle.tls_codec_base.proofs.BigEndian.{high_first_digits, sum_through-digits}
+use Rattle.tls_codec_wire.proofs.BigEndian.{sum_through-digits}
 
 -- bytes spell the number that they stand for
 pub own_digits : (b : List ℕ) → AreBytes b → Digits (length b) b (value b)
 own_digits b bytes = record { width = refl; bytes = bytes; number = refl }
 
--- the first k of some bytes are digits
+-- the first k of some bytes are bytes
+pub front_are_bytes : (k : ℕ) (x front : List ℕ) → front ≡ take k x → ((i : ℕ) → get_or x i 0 < 256) → AreBytes front
+front_are_bytes k x front f small = subst AreBytes (sym f) (AreBytes-left (take k x) (drop k x) (subst AreBytes (sym (take-append-drop k x)) (are_bytes x small)))
+
+-- they are digits
 pub number_begins : (k : ℕ) (x front rest : List ℕ) → front ≡ take k x → rest ≡ drop k x → k ≤ length x → ((i : ℕ) → get_or x i 0 < 256) → Begins (number k) x (Number (value front)) rest
-number_begins k x front rest f r fits small =
-    let whole : x ≡ front ++ rest = sym (take-append-drop k x) ∙ ap (λ (u : List ℕ). u ++ drop k x) (sym f) ∙ ap (λ (u : List ℕ). front ++ u) (sym r) in
-    record {
-      front = front;
-      whole = whole;
-      spelled = record {
-        width = ap length f ∙ length-take-le k x fits;
-        bytes = AreBytes-left front rest (subst AreBytes whole (are_bytes x small));
-        number = refl;
-      };
-    }
+number_begins k x front rest f r fits small = record {
+  front = front;
+  whole = sym (take-append-drop k x) ∙ ap (λ (u : List ℕ). u ++ drop k x) (sym f) ∙ ap (λ (u : List ℕ). front ++ u) (sym r);
+  spelled = record {
+    width = ap length f ∙ length-take-le k x fits;
+    bytes = front_are_bytes k x front f small;
+    number = refl;
+  };
+}
 
 -- fewer bytes begin with no number
 pub number_short : (k : ℕ) (x : List ℕ) → length x < k → NoneBegins (number k) x
@@ -47,12 +49,6 @@ number_refused k coming old new (DecodingError text) p = record { cause = inr (i
 number_refused k coming old new EndOfStream p = record { cause = inl (none_comes k coming p); memory = λ h. absurd cc }
 number_refused k coming old new OutOfMemory p = record { cause = inr (inr refl); memory = λ h. inr p }
 number_refused k coming old new _ p = absurd p
-
--- what holds of std's digits of a number holds at the width and the number
-pub at_number : (P : ℕ → ℕ → Type 0) (k n : ℕ) (b : List ℕ) → b ≡ bytes_high_first k n → n < 256 ^ k → P (length b) (value b) → P k n
-at_number P k n b e fits h =
-    let d = subst (λ (u : List ℕ). Digits k u n) (sym e) (high_first_digits k n fits) in
-    subst (λ (u : ℕ). P u n) d.width (subst (λ (u : ℕ). P (length b) u) d.number h)
 
 -- what holds of the number that digits stand for holds of the one that std makes of them
 pub at_digits : (P : ℕ → Type 0) (k n : ℕ) (b : List ℕ) → length b ≡ suc k → n ≡ sum_through (λ i. byte_worth (k - i) (get_or b i 0)) k → P (value b) → P n

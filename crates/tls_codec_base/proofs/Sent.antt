@@ -1,5 +1,5 @@
 -- A form that is sent in one piece.
-use Rattle.std.proofs.Common.{◌≡◌, ℕ, inl, inr, List, Option, subst, arith, length}
+use Rattle.std.proofs.Common.{◌≡◌, ℕ, inl, inr, List, Option, subst, ◌∙◌, arith, length}
 use Rattle.std.specs.Io.KnownBytes.{Appends}
 use Rattle.tls_codec_wire.specs.Counts.{Counts, FaultIsCounted, NoneFell, RoseBy}
 use Rattle.tls_codec_wire.specs.Device.{IsBeginning, Received}
@@ -31,6 +31,10 @@ pub refused_later : (start before after : Counts) (e : Error) → NoneFell start
 refused_later start before after (EncodingError text) fell p = (p.0, fault_later start before after fell p.1)
 refused_later start before after OutOfMemory fell p = rose_later start before after fell p
 refused_later start before after _ fell p = absurd p
+
+-- what is sent, with an equal count
+pub sends_count : {spells : Grammar} {v : Tree} {old new : Option (List ℕ)} {m n : ℕ} → Sends spells v old new m → n ≡ m → Sends spells v old new n
+sends_count {spells} {v} {old} {new} {m} {n} p e = record { form = p.form; shortest = p.shortest; held = p.held; count = e ∙ p.count }
 
 module _ (spells : Grammar) (v : Tree) (form : List ℕ) (p : IsShortest spells form v) (old new : Option (List ℕ)) where
   pub sends_whole : (n : ℕ) → Appends old new form → n ≡ capped (length form) → Sends spells v old new n

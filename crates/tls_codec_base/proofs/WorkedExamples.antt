@@ -8,7 +8,7 @@ use Rattle.tls_codec_wire.specs.Varint.{Varint}
 use Rattle.tls_codec_base.specs.Tree.{Tree, Number, Empty, Join}
 use Rattle.tls_codec_base.specs.Grammar.{Direction, Reading, Writing, number, option, content, fixed_list, list, text, nothing}
 use Rattle.tls_codec_base.specs.Shortest.{IsLeast, IsShortest}
-use Rattle.tls_codec_base.specs.Announced.{varint_width}
+use Rattle.tls_codec_wire.specs.VarintCalls.{least_width}
 use Rattle.tls_codec_base.specs.NumberLaws.{digits_one}
 use Rattle.tls_codec_base.specs.VarintLaws.{varint_field, varint_shortest}
 use Rattle.tls_codec_base.specs.ListLaws.{bytes_one, counted_least}
@@ -71,7 +71,7 @@ pub shortest_list : IsShortest (list (number 1)) (1 ∷ 0xaa ∷ []) (Join (Numb
 shortest_list =
     let inside : content (number 1) Writing (0xaa ∷ []) (Join (Number 0xaa) Empty) = record { front = 0xaa ∷ []; rest = []; whole = refl; first = (record { width = refl; bytes = (omega arith, tt); number = refl }, tt); second = refl } in
     let least : IsShortest (content (number 1)) (0xaa ∷ []) (Join (Number 0xaa) Empty) = record { spelled = inside; least = λ t q. inl (bytes_one (Join (Number 0xaa) Empty) t (0xaa ∷ []) q inside) } in
-    counted_least Varint varint_width varint_field (content (number 1)) (1 ∷ []) (0xaa ∷ []) (Join (Number 0xaa) Empty) (one_byte_varint 1 (omega arith)) least
+    counted_least Varint least_width varint_field (content (number 1)) (1 ∷ []) (0xaa ∷ []) (Join (Number 0xaa) Empty) (one_byte_varint 1 (omega arith)) least
 
 -- the shortest form of the list of one value with no parts
 pub shortest_list_of_nothing : IsShortest (list nothing) (0 ∷ []) (Join Empty Empty)
@@ -80,7 +80,7 @@ shortest_list_of_nothing =
       spelled = record { front = []; rest = []; whole = refl; first = (refl, tt); second = refl };
       least = λ t q. inl (q.whole ∙ ap (λ (u : List ℕ). u ++ q.rest) q.first.0 ∙ q.second);
     } in
-    counted_least Varint varint_width varint_field (content nothing) (0 ∷ []) [] (Join Empty Empty) (one_byte_varint 0 (omega arith)) least
+    counted_least Varint least_width varint_field (content nothing) (0 ∷ []) [] (Join Empty Empty) (one_byte_varint 0 (omega arith)) least
 
 -- which has no reading spelling
 pub nothing_is_no_element : (s : List ℕ) → list nothing Reading s (Join Empty Empty) → ⊥

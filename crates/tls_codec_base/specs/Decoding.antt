@@ -1,8 +1,8 @@
 -- What decoders answer.
-use Rattle.std.specs.Prelude.{◌≡◌, ◌⊎◌, ℕ, List, ◌++◌, Bool, false, Option, None, Some, ⊤}
+use Rattle.std.specs.Prelude.{◌≡◌, ◌<◌, ◌⊎◌, ℕ, List, ◌++◌, length, Bool, false, Option, None, Some, ⊤}
 use Rattle.tls_codec_wire.specs.Counts.{Counts, FaultIsCounted, RoseBy}
 use Rattle.tls_codec_wire.specs.declared.error.Error.{Error}
-use Rattle.tls_codec_wire.specs.declared.error.Error.TheVariants.{OutOfMemory}
+use Rattle.tls_codec_wire.specs.declared.error.Error.TheVariants.{OutOfMemory, TrailingData}
 use Rattle.tls_codec_base.specs.Tree.{Tree}
 use Rattle.tls_codec_base.specs.Grammar.{Direction, Reading}
 
@@ -22,6 +22,19 @@ NoneBegins spells x = (v : Tree) (rest : List ℕ) → Begins spells x v rest �
 pub record Refuses (spells : Direction → List ℕ → Tree → Type 0) (lean : Bool) (x : List ℕ) (e : Error) : Type 0 where
   pub cause : NoneBegins spells x ⊎ (e ≡ OutOfMemory)
   pub memory : e ≡ OutOfMemory → lean ≡ false
+
+-- ---- all of a slice
+
+-- x as a whole is no spelling
+abbrev pub NoneSpelled : (Direction → List ℕ → Tree → Type 0) → List ℕ → Type 0
+NoneSpelled spells x = (v : Tree) → spells Reading x v → ⊥
+
+-- why x is refused as a whole: it is no spelling, or there was no memory, for which a lean type never asks. Where a
+-- spelling is followed by a byte more, that is what is answered, or that there was no memory.
+pub record RefusesWhole (spells : Direction → List ℕ → Tree → Type 0) (lean : Bool) (x : List ℕ) (e : Error) : Type 0 where
+  pub cause : NoneSpelled spells x ⊎ (e ≡ OutOfMemory)
+  pub memory : e ≡ OutOfMemory → lean ≡ false
+  pub trailing : (v : Tree) (rest : List ℕ) → Begins spells x v rest → 0 < length rest → (e ≡ TrailingData) ⊎ (e ≡ OutOfMemory)
 
 -- ---- from a source
 

@@ -1,9 +1,9 @@
 -- The laws of products, from those of their parts.
 use Rattle.std.proofs.Common.{◌≡◌, ℕ, List, [], ◌++◌, length, refl, sym, ap, ◌∙◌, inl, arith}
 use Rattle.tls_codec_base.specs.Tree.{Tree, Empty, Join}
-use Rattle.tls_codec_base.specs.Grammar.{Grammar, Reading, Writing, nothing, fields}
+use Rattle.tls_codec_base.specs.Grammar.{Grammar, Reading, Writing, nothing, fields, pair, triple}
 use Rattle.tls_codec_base.specs.Shortest.{IsShortest, IsFull}
-use Rattle.tls_codec_base.specs.Announced.{capped, nothing_length, fields_length}
+use Rattle.tls_codec_base.specs.Announced.{capped, nothing_length, fields_length, pair_length, triple_length}
 use Rattle.tls_codec_base.specs.Lawful.{IsLawful}
 use Rattle.tls_codec_base.specs.RowLaws.{row_one, row_least, row_length, row_map}
 
@@ -61,3 +61,10 @@ module _ (first others : Grammar) (f g : Tree → ℕ) (l : IsLawful first f) (m
   -- products of lawful parts meet the laws
   pub fields_lawful : IsLawful (fields first others) (fields_length f g)
   fields_lawful = record { one = fields_one; shortest = fields_shortest; written = fields_written; full = fields_full; announces = fields_announces }
+
+-- two and three parts
+pub pair_lawful : (first second : Grammar) (f g : Tree → ℕ) → IsLawful first f → IsLawful second g → IsLawful (pair first second) (pair_length f g)
+pair_lawful first second f g l m = fields_lawful _ _ _ _ l (fields_lawful _ _ _ _ m nothing_lawful)
+
+pub triple_lawful : (first second third : Grammar) (f g h : Tree → ℕ) → IsLawful first f → IsLawful second g → IsLawful third h → IsLawful (triple first second third) (triple_length f g h)
+triple_lawful first second third f g h l m n = fields_lawful _ _ _ _ l (fields_lawful _ _ _ _ m (fields_lawful _ _ _ _ n nothing_lawful))

@@ -7,7 +7,8 @@ use Rattle.tls_codec_wire.specs.Varint.{Varint}
 use Rattle.tls_codec_base.specs.Tree.{Tree, Number, Empty, Join}
 use Rattle.tls_codec_base.specs.Grammar.{Direction, Reading, Writing, Grammar, Admits, number, content, counted, list, fixed_list, bytes, fixed_bytes, utf8, text}
 use Rattle.tls_codec_base.specs.Shortest.{IsLeast, IsShortest, IsFull}
-use Rattle.tls_codec_base.specs.Announced.{capped, content_length, counted_length, varint_width}
+use Rattle.tls_codec_wire.specs.VarintCalls.{least_width}
+use Rattle.tls_codec_base.specs.Announced.{capped, content_length, counted_length}
 use Rattle.tls_codec_base.specs.Lawful.{IsLawful, IsLawfulInside, IsLengthField}
 use Rattle.tls_codec_base.specs.RowLaws.{split_at, least_one, row_least, row_length, row_map}
 use Rattle.tls_codec_base.specs.NumberLaws.{digits_one, digits_field, number_lawful}
@@ -173,15 +174,15 @@ module _ (field : List ℕ → ℕ → Type 0) (width : ℕ → ℕ) (m : IsLeng
 -- ---- lists and texts
 
 -- lists behind a variable-length length meet the laws
-pub list_lawful : (element : Grammar) (f : Tree → ℕ) → IsLawful element f → IsLawful (list element) (counted_length varint_width (content_length f))
-list_lawful element f l = counted_lawful Varint varint_width varint_field (content element) (content_length f) (content_lawful element f l)
+pub list_lawful : (element : Grammar) (f : Tree → ℕ) → IsLawful element f → IsLawful (list element) (counted_length least_width (content_length f))
+list_lawful element f l = counted_lawful Varint least_width varint_field (content element) (content_length f) (content_lawful element f l)
 
 -- lists behind a length of k bytes meet the laws
 pub fixed_list_lawful : (k : ℕ) (element : Grammar) (f : Tree → ℕ) → IsLawful element f → IsLawful (fixed_list k element) (counted_length (λ n. k) (content_length f))
 fixed_list_lawful k element f l = counted_lawful (Digits k) (λ n. k) (digits_field k) (content element) (content_length f) (content_lawful element f l)
 
 -- byte vectors meet the laws
-pub bytes_lawful : IsLawful bytes (counted_length varint_width (content_length (λ v. 1)))
+pub bytes_lawful : IsLawful bytes (counted_length least_width (content_length (λ v. 1)))
 bytes_lawful = list_lawful (number 1) (λ v. 1) byte_lawful
 
 -- byte vectors behind a length of k bytes meet the laws
@@ -189,5 +190,5 @@ pub fixed_bytes_lawful : (k : ℕ) → IsLawful (fixed_bytes k) (counted_length 
 fixed_bytes_lawful k = fixed_list_lawful k (number 1) (λ v. 1) byte_lawful
 
 -- texts meet the laws
-pub text_lawful : IsLawful text (counted_length varint_width (content_length (λ v. 1)))
-text_lawful = counted_lawful Varint varint_width varint_field utf8 (content_length (λ v. 1)) utf8_lawful
+pub text_lawful : IsLawful text (counted_length least_width (content_length (λ v. 1)))
+text_lawful = counted_lawful Varint least_width varint_field utf8 (content_length (λ v. 1)) utf8_lawful

@@ -10,7 +10,8 @@ use Rattle.tls_codec_wire.specs.Varint.{Varint, VarintBy}
 use Rattle.tls_codec_base.specs.Tree.{Tree, Number}
 use Rattle.tls_codec_base.specs.Grammar.{Reading, Writing, varint}
 use Rattle.tls_codec_base.specs.Shortest.{IsLeast, IsShortest, IsFull}
-use Rattle.tls_codec_base.specs.Announced.{capped, varint_width, varint_length}
+use Rattle.tls_codec_wire.specs.VarintCalls.{least_width}
+use Rattle.tls_codec_base.specs.Announced.{capped, varint_length}
 use Rattle.tls_codec_base.specs.Lawful.{IsLawful, IsLengthField}
 use Rattle.tls_codec_base.specs.RowLaws.{split_at, least_one}
 use Rattle.tls_codec_base.specs.NumberLaws.{value_below, value_one, pow256_pos, to_digits, to_digits_digits}
@@ -94,8 +95,8 @@ pub record IsTop (n t width : ℕ) : Type 0 where
 pub above_limit : (n u : ℕ) → varint_limit u ≤ n → (s : ℕ) → n < varint_limit s → u < s
 above_limit n u h s lt = elim (cases_lt u s) [ inl a ↦ a | inr a ↦ absurd (omega (arith, lt, h, limit_mono s u a)) ]
 
--- a number below 2 ^ 62 has least top bits, and `varint_width` is how many bytes they say
-pub varint_top : (n : ℕ) → n < 4611686018427387904 → (t : ℕ) × IsTop n t (varint_width n)
+-- a number below 2 ^ 62 has least top bits, and `least_width` is how many bytes they say
+pub varint_top : (n : ℕ) → n < 4611686018427387904 → (t : ℕ) × IsTop n t (least_width n)
 varint_top n h = elim (cases_lt n 64) [
   | inl a ↦ rw (lt-ltb n 64 a) (0, record { fits = a; small = omega arith; least = λ s p. omega arith; says = refl })
   | inr a ↦ rw (le-ltb n 64 a) (elim (cases_lt n 16384) [
@@ -108,7 +109,7 @@ varint_top n h = elim (cases_lt n 64) [
 ]
 
 -- such a number takes 8 bytes at most
-pub varint_narrow : (n : ℕ) → n < 4611686018427387904 → varint_width n ≤ 8
+pub varint_narrow : (n : ℕ) → n < 4611686018427387904 → least_width n ≤ 8
 varint_narrow n h =
     let top = varint_top n h in
     let most : 2 ^ top.0 ≤ 2 ^ 3 = pow_mono {i = top.0} {j = 3} (omega (arith, top.1.small)) in
@@ -127,8 +128,8 @@ varint_shortest t r b bs n d least = record { spelled = (t, r, d); least = no_sh
           inl (varint_same t q.1 c cs r b bs n (subst (λ (u : ℕ). VarintBy u q.1 c cs n) same q.2) d)
     ]
 
--- a number below 2 ^ 62 has a least spelling, of `varint_width` bytes
-pub varint_least : (n : ℕ) → n < 4611686018427387904 → (a : List ℕ) × IsLeast (λ t. Varint t n) a × (varint_width n ≡ length a)
+-- a number below 2 ^ 62 has a least spelling, of `least_width` bytes
+pub varint_least : (n : ℕ) → n < 4611686018427387904 → (a : List ℕ) × IsLeast (λ t. Varint t n) a × (least_width n ≡ length a)
 varint_least n h =
     let top = varint_top n h in
     let d = varint_by top.0 n top.1.small top.1.fits in
@@ -145,12 +146,12 @@ varint_monotone a (b ∷ bs) m n p q le =
       | inr lt ↦ omega (arith, lt, d.2.width, q.2.width)
     ]
 
--- the least spelling has `varint_width` bytes
-pub varint_measures : (a : List ℕ) (m : ℕ) → IsLeast (λ t. Varint t m) a → varint_width m ≡ length a
+-- the least spelling has `least_width` bytes
+pub varint_measures : (a : List ℕ) (m : ℕ) → IsLeast (λ t. Varint t m) a → least_width m ≡ length a
 varint_measures a m p = let h = varint_least m (varint_fits a m p.spelled) in h.2 ∙ ap length (least_one (λ t. Varint t m) h.0 a h.1 p)
 
 -- variable-length integers are a length field
-pub varint_field : IsLengthField Varint varint_width
+pub varint_field : IsLengthField Varint least_width
 varint_field = record {
   one = varint_one;
   least = λ b m n p le. let h = varint_least m (omega (arith, varint_fits b n p)) in (h.0, h.1);
@@ -184,5 +185,5 @@ varint_lawful = record { one = value_agrees; shortest = value_shortest; written 
     value_full s _ p t q = absurd p
 
     value_announces : (s : List ℕ) (v : Tree) → IsShortest varint s v → varint_length v ≡ capped (length s)
-    value_announces s (Number n) p = stays_below_cap (varint_width n) (length s) (varint_narrow n (varint_fits s n p.spelled)) (varint_measures s n p)
+    value_announces s (Number n) p = stays_below_cap (least_width n) (length s) (varint_narrow n (varint_fits s n p.spelled)) (varint_measures s n p)
     value_announces s _ p = absurd p.spelled

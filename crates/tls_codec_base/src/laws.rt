@@ -6,7 +6,8 @@ ghost use Rattle.std.specs.Prelude.{ℕ};
 ghost use Rattle.tls_codec_base.specs.Tree.{Tree};
 ghost use Rattle.tls_codec_base.specs.Decoding.{ComesFirst, GaveSpelling};
 ghost use Rattle.tls_codec_base.specs.Grammar.{content, fields, fixed_list, list, nothing, option, text, utf8};
-ghost use Rattle.tls_codec_base.specs.Announced.{content_length, counted_length, fields_length, nothing_length, option_length, varint_width};
+ghost use Rattle.tls_codec_wire.specs.VarintCalls.{least_width};
+ghost use Rattle.tls_codec_base.specs.Announced.{content_length, counted_length, fields_length, nothing_length, option_length};
 ghost use Rattle.tls_codec_base.specs.Lawful.{IsLawful, IsLawfulInside};
 
 use crate::traits::Size;
@@ -32,9 +33,9 @@ pub fn contents_are_lawful<T: Size>()
 /// Lists of a lawful type are lawful, behind a variable-length length and behind one of any number of bytes,
 /// and so are texts.
 pub fn lists_are_lawful<T: Size>()
-    ensures lists { IsLawful (list T.spells) (counted_length varint_width (content_length T.announced)) }
+    ensures lists { IsLawful (list T.spells) (counted_length least_width (content_length T.announced)) }
     ensures fixed { (k : ℕ) → IsLawful (fixed_list k T.spells) (counted_length (λ n. k) (content_length T.announced)) }
-    ensures texts { IsLawful text (counted_length varint_width (content_length (λ v. 1))) }
+    ensures texts { IsLawful text (counted_length least_width (content_length (λ v. 1))) }
 {}
 
 /// Where a source tells its bytes and has given just a spelling, the bytes that were to come begin

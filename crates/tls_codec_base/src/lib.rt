@@ -6,18 +6,26 @@
 //! and leaves the rest unread; an encoder writes the shortest form of its value.
 //!
 //! - [`traits`]: [`Size`], [`Serialize`], [`SerializeBytes`], [`Deserialize`], [`DeserializeBytes`].
-//! - [`numbers`]: `u8` and `u16`.
+//! - [`numbers`]: `u8`, `u16`, `U24`, `u32` and `u64`.
+//! - [`varint`]: `TlsVarInt`.
+//! - [`arrays`]: `[u8; LEN]`.
 //! - [`options`]: `Option<T>`.
+//! - [`products`]: `(T, U)`, `(T, U, V)`, `()` and `PhantomData<T>`.
+//! - [`boxes`]: `Box<T>`.
 //! - [`laws`]: what is lawful if its parts are. [`examples`]: the definitions at work. Neither does
 //!   anything when it runs.
 #![tactic(auto)]
 
+pub mod arrays;
+pub mod boxes;
 pub mod examples;
 pub mod laws;
 pub mod numbers;
 pub mod options;
+pub mod products;
 #[cfg(test)]
 mod tests;
 pub mod traits;
+pub mod varint;
 
 pub use traits::{Deserialize, DeserializeBytes, Serialize, SerializeBytes, Size};

@@ -1,10 +1,11 @@
 //! Whole numbers in k bytes, the most significant first (RFC 8446, section 3.3).
 //!
-//! Each type's calls go through the four calls on digits here, which know only the width.
+//! Each type's calls go through the four calls on digits here, which know only the width. A
+//! reference to a number is written as the number, and is not read.
 ghost use Rattle.std.specs.Prelude.{◌≡◌, ◌<◌, length, true, IfErr, IfOk};
 ghost use Rattle.tls_codec_wire.specs.Counts.{NoneFell};
 ghost use Rattle.tls_codec_wire.specs.Device.{Gave};
-ghost use Rattle.tls_codec_wire.specs.Digits.{value};
+ghost use Rattle.tls_codec_wire.specs.Digits.{AreBytes, value};
 ghost use Rattle.tls_codec_wire.specs.Transfer.{ReadRefused};
 ghost use Rattle.tls_codec_wire.specs.declared.error.Error.TheVariants.{EndOfStream, OutOfMemory};
 ghost use Rattle.tls_codec_base.specs.Tree.{Number};
@@ -17,13 +18,17 @@ use std::alloc::Global;
 use tls_codec_wire::{Error, Sink, Source, read_exactly, write_all};
 
 mod uint16;
+mod uint24;
+mod uint32;
+mod uint64;
 mod uint8;
 
 // The digits that the bytes begin with, and the rest of them.
 #[inline(always)]
-fn split_digits<const K: usize>(bytes: &[u8]) -> Result<([u8; K], &[u8]), Error>
+pub(crate) fn split_digits<const K: usize>(bytes: &[u8]) -> Result<([u8; K], &[u8]), Error>
     ensures ok { IfOk result (λ found. Begins (number K) bytes.now (Number (value found.0)) found.1.now) }
     ensures width { IfOk result (λ found. length found.0 ≡ K) }
+    ensures bytes { IfOk result (λ found. AreBytes found.0) }
     ensures err { IfErr result (Refuses (number K) true bytes.now) }
     ensures named { IfErr result (λ e. (e ≡ EndOfStream) × (length bytes.now < K)) }
 {
@@ -35,10 +40,11 @@ fn split_digits<const K: usize>(bytes: &[u8]) -> Result<([u8; K], &[u8]), Error>
 
 // The next digits to come.
 #[inline(always)]
-fn read_digits<R: Source, const K: usize>(bytes: &mut R) -> Result<[u8; K], Error>
+pub(crate) fn read_digits<R: Source, const K: usize>(bytes: &mut R) -> Result<[u8; K], Error>
     ensures gave { Gave R.given bytes.old bytes.new }
     ensures ok { IfOk result (λ digits. GaveSpelling R.given (number K) bytes.old bytes.new (Number (value digits))) }
     ensures width { IfOk result (λ digits. length digits ≡ K) }
+    ensures bytes { IfOk result AreBytes }
     ensures err { IfErr result (RefusesSource (number K) true (R.coming bytes.old) (R.counts bytes.old) (R.counts bytes.new)) }
     ensures named { IfErr result (λ e. ReadRefused e K (R.coming bytes.old) (R.counts bytes.old) (R.counts bytes.new)) }
 {
@@ -48,20 +54,22 @@ fn read_digits<R: Source, const K: usize>(bytes: &mut R) -> Result<[u8; K], Erro
 }
 
 // Sends digits, and answers how many they are.
-fn write_digits<W: Sink>(writer: &mut W, digits: &[u8]) -> Result<usize, Error>
+pub(crate) fn write_digits<W: Sink>(writer: &mut W, digits: &[u8]) -> Result<usize, Error>
     ensures ok { IfOk result (Sends (number (length digits.now)) (Number (value digits.now)) (W.received writer.old) (W.received writer.new)) }
     ensures err { IfErr result (Breaks (number (length digits.now)) (Number (value digits.now)) (W.received writer.old) (W.received writer.new)
         (W.counts writer.old) (W.counts writer.new)) }
     ensures counts { NoneFell (W.counts writer.old) (W.counts writer.new) }
+    ensures bytes { AreBytes digits.now }
 {
     write_all(writer, digits)?;
     Ok(digits.len())
 }
 
 // Digits as a vector.
-fn digits_vector(alloc: Global, digits: &[u8]) -> Result<Vec<u8>, Error>
+pub(crate) fn digits_vector(alloc: Global, digits: &[u8]) -> Result<Vec<u8>, Error>
     ensures ok { IfOk result (λ bytes. IsShortest (number (length digits.now)) bytes.items (Number (value digits.now))) }
     ensures err { IfErr result (λ e. e ≡ OutOfMemory) }
+    ensures bytes { AreBytes digits.now }
 {
     let mut bytes = Vec::new(alloc);
     bytes.extend_from_slice(digits)?;

@@ -122,6 +122,34 @@ impl<T: DeserializeBytes> DeserializeBytes for Option<T> {
     }
 }
 
+impl<T: Size> Size for &Option<T> {
+    ghost plain = { λ v. option_plain T.plain v.now };
+
+    ghost spells = { option T.spells };
+
+    ghost announced = { option_length T.announced };
+
+    ghost lean = { T.lean };
+
+    fn tls_serialized_len(&self) -> usize {
+        (**self).tls_serialized_len()
+    }
+
+    ghost lawful = { option_lawful T.spells T.announced T.lawful };
+}
+
+impl<T: Serialize> Serialize for &Option<T> {
+    fn tls_serialize<W: Sink>(&self, writer: &mut W) -> Result<usize, Error> {
+        (**self).tls_serialize(writer)
+    }
+}
+
+impl<T: SerializeBytes> SerializeBytes for &Option<T> {
+    fn tls_serialize_bytes(&self, alloc: Global) -> Result<Vec<u8>, Error> {
+        (**self).tls_serialize_bytes(alloc)
+    }
+}
+
 // The tag and what is behind it, as a vector.
 fn vector(alloc: Global, tag: u8, content: &[u8]) -> Result<Vec<u8>, Error>
     ensures ok { IfOk result (λ bytes. bytes.items ≡ tag ∷ content.now) }

@@ -2,6 +2,9 @@
 ghost use Rattle.std.specs.Prelude.{None};
 ghost use Rattle.tls_codec_wire.specs.Counts.{NoneFell, fall_never, stay};
 
+mod numbers;
+mod plain;
+
 use crate::traits::{Deserialize, DeserializeBytes, Serialize, SerializeBytes, Size};
 use std::test::Fail;
 use tls_codec_wire::{Error, Fault, Sink, Source};

@@ -3,10 +3,10 @@ ghost use Rattle.std.specs.Prelude.{◌≡◌, ℕ, List, Bool, IfOk, IfErr};
 ghost use Rattle.tls_codec_wire.specs.Counts.{NoneFell};
 ghost use Rattle.tls_codec_wire.specs.Device.{Gave};
 ghost use Rattle.tls_codec_base.specs.Tree.{Tree};
-ghost use Rattle.tls_codec_base.specs.Grammar.{Direction};
+ghost use Rattle.tls_codec_base.specs.Grammar.{Direction, Reading};
 ghost use Rattle.tls_codec_base.specs.Shortest.{IsShortest};
 ghost use Rattle.tls_codec_base.specs.Lawful.{IsLawful};
-ghost use Rattle.tls_codec_base.specs.Decoding.{Begins, GaveSpelling, Refuses, RefusesSource};
+ghost use Rattle.tls_codec_base.specs.Decoding.{Begins, GaveSpelling, Refuses, RefusesSource, RefusesWhole};
 ghost use Rattle.tls_codec_base.specs.Encoding.{Breaks, RefusesVector, Sends};
 
 use std::alloc::Global;
@@ -76,6 +76,22 @@ pub trait Deserialize: Size + Drop {
         ensures ok { IfOk result (λ v. GaveSpelling R.given Self.spells bytes.old bytes.new (Self.plain v)) }
         ensures err { IfErr result (RefusesSource Self.spells Self.lean (R.coming bytes.old)
             (R.counts bytes.old) (R.counts bytes.new)) };
+
+    /// The value that all of the bytes spell, read as from a source.
+    ///
+    /// `TrailingData`: a value was read, and a byte is left. Every other refusal is that of
+    /// [`tls_deserialize`](Deserialize::tls_deserialize).
+    fn tls_deserialize_exact(alloc: Global, bytes: &[u8]) -> Result<Self, Error>
+        ensures ok { IfOk result (λ v. Self.spells Reading bytes.now (Self.plain v)) }
+        ensures err { IfErr result (RefusesWhole Self.spells Self.lean bytes.now) }
+    {
+        let mut rest = bytes;
+        let value = Self::tls_deserialize(alloc, &mut rest)?;
+        if !rest.is_empty() {
+            return Err(Error::TrailingData);
+        }
+        Ok(value)
+    }
 }
 
 /// A type that is read from a slice.
@@ -84,4 +100,19 @@ pub trait DeserializeBytes: Size + Drop {
     fn tls_deserialize_bytes(alloc: Global, bytes: &[u8]) -> Result<(Self, &[u8]), Error>
         ensures ok { IfOk result (λ found. Begins Self.spells bytes.now (Self.plain found.0) found.1.now) }
         ensures err { IfErr result (Refuses Self.spells Self.lean bytes.now) };
+
+    /// The value that all of the bytes spell.
+    ///
+    /// `TrailingData`: a value was read, and a byte is left. Every other refusal is that of
+    /// [`tls_deserialize_bytes`](DeserializeBytes::tls_deserialize_bytes).
+    fn tls_deserialize_exact_bytes(alloc: Global, bytes: &[u8]) -> Result<Self, Error>
+        ensures ok { IfOk result (λ v. Self.spells Reading bytes.now (Self.plain v)) }
+        ensures err { IfErr result (RefusesWhole Self.spells Self.lean bytes.now) }
+    {
+        let (value, rest) = Self::tls_deserialize_bytes(alloc, bytes)?;
+        if !rest.is_empty() {
+            return Err(Error::TrailingData);
+        }
+        Ok(value)
+    }
 }

@@ -69,3 +69,31 @@ impl DeserializeBytes for u8 {
         Ok((u8::from_be_bytes(digits), rest))
     }
 }
+
+impl Size for &u8 {
+    ghost plain = { λ n. Number n.now };
+
+    ghost spells = { number 1 };
+
+    ghost announced = { λ v. 1 };
+
+    ghost lean = { true };
+
+    fn tls_serialized_len(&self) -> usize {
+        (**self).tls_serialized_len()
+    }
+
+    ghost lawful = { number_lawful 1 (Prim.omega arith) };
+}
+
+impl Serialize for &u8 {
+    fn tls_serialize<W: Sink>(&self, writer: &mut W) -> Result<usize, Error> {
+        (**self).tls_serialize(writer)
+    }
+}
+
+impl SerializeBytes for &u8 {
+    fn tls_serialize_bytes(&self, alloc: Global) -> Result<Vec<u8>, Error> {
+        (**self).tls_serialize_bytes(alloc)
+    }
+}

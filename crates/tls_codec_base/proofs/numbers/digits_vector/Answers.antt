@@ -1,5 +1,6 @@
 use Rattle.std.proofs.Common.{arith, sym, subst, ◌≡◌, List, ℕ, length}
 use Rattle.tls_codec_wire.specs.Digits.{value}
+use Rattle.tls_codec_wire.proofs.Bytes.{are_bytes}
 use Rattle.tls_codec_base.specs.Tree.{Number}
 use Rattle.tls_codec_base.specs.Grammar.{number}
 use Rattle.tls_codec_base.specs.Shortest.{IsShortest}
@@ -15,3 +16,9 @@ returns-clause-ok c =
     let same : c.extend_from_slice.new.self.items ≡ digits = rw (is_ok, new) at items in
     subst (λ (u : List ℕ). IsShortest (number (length digits)) u (Number (value digits))) (sym same)
     (own_shortest digits (λ i. omega (arith, c.type_inv.digits i)))
+
+pub returns-in_err-extend_from_slice-clause-bytes : goal.returns-in_err-extend_from_slice-clause-bytes
+returns-in_err-extend_from_slice-clause-bytes c = are_bytes _ (λ i. omega (arith, c.type_inv.digits i))
+
+pub returns-clause-bytes : goal.returns-clause-bytes
+returns-clause-bytes c = are_bytes _ (λ i. omega (arith, c.type_inv.digits i))

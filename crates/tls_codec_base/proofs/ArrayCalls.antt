@@ -1,0 +1,85 @@
+-- Bytes that are spelled by themselves, from the digits that they are.
+use Rattle.std.proofs.Common.{◌≡◌, ℕ, List, length, Bool, Option, None, Some, inl, inr, refl, sym, ap, ◌∙◌, subst}
+use Rattle.tls_codec_wire.specs.Counts.{Counts}
+use Rattle.tls_codec_wire.specs.Digits.{AreBytes, Digits, value}
+use Rattle.tls_codec_wire.specs.declared.error.Error.{Error}
+use Rattle.tls_codec_base.specs.Tree.{Number, number_trees}
+use Rattle.tls_codec_base.specs.Grammar.{Itself, array, number}
+use Rattle.tls_codec_base.specs.Shortest.{IsShortest}
+use Rattle.tls_codec_base.specs.Decoding.{Begins, GaveSpelling, NoneBegins, NoneComes, Refuses, RefusesSource}
+use Rattle.tls_codec_base.specs.Encoding.{Breaks, Sends}
+use Rattle.tls_codec_base.specs.NumberLaws.{digits_least, digits_one, number_trees_one}
+use Rattle.tls_codec_base.proofs.NumberCalls.{own_digits}
+
+module _ (k : ℕ) (a : List ℕ) (width : length a ≡ k) (bytes : AreBytes a) where
+  -- digits of the number that they stand for are these bytes
+  itself : (s : List ℕ) → Digits k s (value a) → Itself k s (number_trees a)
+  itself s p = record {
+    width = p.width;
+    bytes = p.bytes;
+    same = ap number_trees (digits_one k a s (value a) (record { width = width; bytes = bytes; number = refl }) p);
+  }
+
+  pub array_begins : (x rest : List ℕ) → Begins (number k) x (Number (value a)) rest → Begins (array k) x (number_trees a) rest
+  array_begins x rest p = record { front = p.front; whole = p.whole; spelled = itself p.front p.spelled }
+
+  pub array_given : {S : Type 0} (given : S → List ℕ → S → Type 0) (old new : S) → GaveSpelling given (number k) old new (Number (value a)) → GaveSpelling given (array k) old new (number_trees a)
+  array_given {S} given old new p = record { front = p.front; held = p.held; spelled = itself p.front p.spelled }
+
+module _ (k : ℕ) where
+  -- what begins with no digits begins with no array
+  none_begins : (x : List ℕ) → NoneBegins (number k) x → NoneBegins (array k) x
+  none_begins x none v rest b = none (Number (value b.front)) rest (record {
+    front = b.front;
+    whole = b.whole;
+    spelled = record { width = b.spelled.width; bytes = b.spelled.bytes; number = refl };
+  })
+
+  none_comes : (coming : Option (List ℕ)) → NoneComes (number k) coming → NoneComes (array k) coming
+  none_comes None none = tt
+  none_comes (Some x) none = none_begins x none
+
+  pub array_refuses : (lean : Bool) (x : List ℕ) (e : Error) → Refuses (number k) lean x e → Refuses (array k) lean x e
+  array_refuses lean x e r = record {
+    cause = elim r.cause [
+      | inl none ↦ inl (none_begins x none)
+      | inr out ↦ inr out
+    ];
+    memory = r.memory;
+  }
+
+  pub array_refuses_source : (lean : Bool) (coming : Option (List ℕ)) (old new : Counts) (e : Error) → RefusesSource (number k) lean coming old new e → RefusesSource (array k) lean coming old new e
+  array_refuses_source lean coming old new e r = record {
+    cause = elim r.cause [
+      | inl none ↦ inl (none_comes coming none)
+      | inr out ↦ inr out
+    ];
+    memory = r.memory;
+  }
+
+module _ (k : ℕ) (a : List ℕ) (width : length a ≡ k) (bytes : AreBytes a) where
+  -- the shortest form of the number that these bytes stand for is theirs
+  pub array_form : (s : List ℕ) → IsShortest (number (length a)) s (Number (value a)) → IsShortest (array k) s (number_trees a)
+  array_form s p =
+      let same : s ≡ a = digits_one (length a) s a (value a) p.spelled (own_digits a bytes) in
+      record {
+        spelled = record { width = ap length same ∙ width; bytes = p.spelled.bytes; same = ap number_trees (sym same) };
+        least = λ t q. inl (number_trees_one t s (sym q.same ∙ ap number_trees (sym same)));
+      }
+
+  -- and theirs is the number's
+  number_form : (s : List ℕ) → IsShortest (array k) s (number_trees a) → IsShortest (number (length a)) s (Number (value a))
+  number_form s p =
+      let same : a ≡ s = number_trees_one a s p.spelled.same in
+      digits_least (length a) s (value a) (subst (λ (u : List ℕ). Digits (length a) u (value a)) same (own_digits a bytes))
+
+  pub array_sends : (old new : Option (List ℕ)) (n : ℕ) → Sends (number (length a)) (Number (value a)) old new n → Sends (array k) (number_trees a) old new n
+  array_sends old new n p = record { form = p.form; shortest = array_form p.form p.shortest; held = p.held; count = p.count }
+
+  pub array_breaks : (old new : Option (List ℕ)) (before after : Counts) (e : Error) → Breaks (number (length a)) (Number (value a)) old new before after e → Breaks (array k) (number_trees a) old new before after e
+  array_breaks old new before after e p = record {
+    sent = p.sent;
+    held = p.held;
+    beginning = λ form q. p.beginning form (number_form form q);
+    memory = p.memory;
+  }

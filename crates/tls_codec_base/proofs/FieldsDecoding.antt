@@ -1,0 +1,124 @@
+-- What a product's bytes begin with, from what its first part's begin with and the others'.
+use Rattle.std.proofs.Common.{◌≡◌, ℕ, List, [], ◌++◌, Bool, true, false, ◌&&◌, Option, None, Some, inl, inr, refl, sym, ap, ◌∙◌, append_assoc}
+use Rattle.std.proofs.lemmas.List.{append_cancel_left}
+use Rattle.std.specs.Io.KnownBytes.{Consumes}
+use Rattle.tls_codec_wire.specs.Counts.{Counts, NoneFell}
+use Rattle.tls_codec_wire.specs.Device.{GivesFromFront, GivesInOrder, GivesNothing, NoCountFalls}
+use Rattle.tls_codec_wire.specs.declared.error.Error.{Error}
+use Rattle.tls_codec_base.specs.Tree.{Tree, Empty, Join}
+use Rattle.tls_codec_base.specs.Grammar.{Grammar, Reading, nothing, fields}
+use Rattle.tls_codec_base.specs.Lawful.{IsLawful}
+use Rattle.tls_codec_base.specs.Decoding.{Begins, GaveSpelling, NoneBegins, NoneComes, Refuses, RefusesSource}
+use Rattle.tls_codec_base.proofs.Sent.{fault_later, rose_later}
+
+-- ---- no parts
+
+pub nothing_begins : (x : List ℕ) → Begins nothing x Empty x
+nothing_begins x = record { front = []; whole = refl; spelled = refl }
+
+pub nothing_given : {S : Type 0} {given : S → List ℕ → S → Type 0} → GivesNothing given → (a : S) → GaveSpelling given nothing a a Empty
+nothing_given {S} {given} gives a = record { front = []; held = gives a; spelled = refl }
+
+-- ---- from a slice
+
+pub fields_begins : {first others : Grammar} {x : List ℕ} {v : Tree} {r : List ℕ} {vs : Tree} {rest : List ℕ} → Begins first x v r → Begins others r vs rest → Begins (fields first others) x (Join v vs) rest
+fields_begins {first} {others} {x} {v} {r} {vs} {rest} p q = record {
+  front = p.front ++ q.front;
+  whole = p.whole ∙ ap (λ (u : List ℕ). p.front ++ u) q.whole ∙ sym (append_assoc p.front q.front rest);
+  spelled = record { front = p.front; rest = q.front; whole = refl; first = p.spelled; second = q.spelled };
+}
+
+module _ (first others : Grammar) where
+  -- where no first part begins, no product does
+  none_at_first : (x : List ℕ) → NoneBegins first x → NoneBegins (fields first others) x
+  none_at_first x none (Join v vs) rest b = none v (b.spelled.rest ++ rest) (record {
+    front = b.spelled.front;
+    whole = b.whole ∙ ap (λ (u : List ℕ). u ++ rest) b.spelled.whole ∙ append_assoc b.spelled.front b.spelled.rest rest;
+    spelled = b.spelled.first;
+  })
+  none_at_first x none _ rest b = absurd b.spelled
+
+  -- where the others don't begin behind the first part, no product does
+  none_at_others : (f : Tree → ℕ) → IsLawful first f → (x : List ℕ) (v : Tree) (r : List ℕ) → Begins first x v r → NoneBegins others r → NoneBegins (fields first others) x
+  none_at_others f l x v r p none (Join w ws) rest b =
+      let behind : x ≡ b.spelled.front ++ (b.spelled.rest ++ rest) =
+      b.whole ∙ ap (λ (u : List ℕ). u ++ rest) b.spelled.whole ∙ append_assoc b.spelled.front b.spelled.rest rest in
+      let whole : p.front ++ r ≡ b.spelled.front ++ (b.spelled.rest ++ rest) = sym p.whole ∙ behind in
+      let same = l.one p.front b.spelled.front r (b.spelled.rest ++ rest) v w p.spelled b.spelled.first whole in
+      let left : r ≡ b.spelled.rest ++ rest = append_cancel_left p.front r (b.spelled.rest ++ rest) (whole ∙ ap (λ (u : List ℕ). u ++ (b.spelled.rest ++ rest)) (sym same.0)) in
+      none ws rest (record { front = b.spelled.rest; whole = left; spelled = b.spelled.second })
+  none_at_others f l x v r p none _ rest b = absurd b.spelled
+
+-- a product is not lean where a part isn't
+first_not_lean : (a b : Bool) → a ≡ false → (a && b) ≡ false
+first_not_lean a b e = ap (λ (u : Bool). u && b) e
+
+others_not_lean : (a b : Bool) → b ≡ false → (a && b) ≡ false
+others_not_lean true b e = e
+others_not_lean false b e = refl
+
+pub fields_refuses_first : {first others : Grammar} {a : Bool} {x : List ℕ} {e : Error} (b : Bool) → Refuses first a x e → Refuses (fields first others) (a && b) x e
+fields_refuses_first {first} {others} {a} {x} {e} b r = record {
+  cause = elim r.cause [
+    | inl none ↦ inl (none_at_first first others x none)
+    | inr out ↦ inr out
+  ];
+  memory = λ h. first_not_lean a b (r.memory h);
+}
+
+pub fields_refuses_others : {first others : Grammar} {f : Tree → ℕ} {b : Bool} {x : List ℕ} {v : Tree} {y : List ℕ} {e : Error} (a : Bool) → IsLawful first f → Begins first x v y → Refuses others b y e → Refuses (fields first others) (a && b) x e
+fields_refuses_others {first} {others} {f} {b} {x} {v} {y} {e} a l p r = record {
+  cause = elim r.cause [
+    | inl none ↦ inl (none_at_others first others f l x v y p none)
+    | inr out ↦ inr out
+  ];
+  memory = λ h. others_not_lean a b (r.memory h);
+}
+
+-- ---- from a source
+
+pub fields_given : {S : Type 0} {given : S → List ℕ → S → Type 0} {first others : Grammar} {a b c : S} {v vs : Tree} → GivesInOrder given → GaveSpelling given first a b v → GaveSpelling given others b c vs → GaveSpelling given (fields first others) a c (Join v vs)
+fields_given {S} {given} {first} {others} {a} {b} {c} {v} {vs} order p q = record {
+  front = p.front ++ q.front;
+  held = order a p.front b q.front c p.held q.held;
+  spelled = record { front = p.front; rest = q.front; whole = refl; first = p.spelled; second = q.spelled };
+}
+
+module _ (first others : Grammar) where
+  none_comes_at_first : (coming : Option (List ℕ)) → NoneComes first coming → NoneComes (fields first others) coming
+  none_comes_at_first None none = tt
+  none_comes_at_first (Some x) none = none_at_first first others x none
+
+  none_comes_at_others : (f : Tree → ℕ) → IsLawful first f → (old new : Option (List ℕ)) (front : List ℕ) (v : Tree) → Consumes old new front → first Reading front v → NoneComes others new → NoneComes (fields first others) old
+  none_comes_at_others f l None new front v took spelled none = tt
+  none_comes_at_others f l (Some x) None front v took spelled none = absurd took
+  none_comes_at_others f l (Some x) (Some y) front v took spelled none = none_at_others first others f l x v y (record { front = front; whole = took; spelled = spelled }) none
+
+pub fields_source_refuses_first : {first others : Grammar} {a : Bool} {coming : Option (List ℕ)} {before after : Counts} {e : Error} (b : Bool) → RefusesSource first a coming before after e → RefusesSource (fields first others) (a && b) coming before after e
+fields_source_refuses_first {first} {others} {a} {coming} {before} {after} {e} b r = record {
+  cause = elim r.cause [
+    | inl none ↦ inl (none_comes_at_first first others coming none)
+    | inr out ↦ inr out
+  ];
+  memory = λ h. elim (r.memory h) [
+    | inl not_lean ↦ inl (first_not_lean a b not_lean)
+    | inr rose ↦ inr rose
+  ];
+}
+
+pub fields_source_refuses_others : {S : Type 0} {given : S → List ℕ → S → Type 0} {first others : Grammar} {f : Tree → ℕ} {b : Bool} {old new : S} {v : Tree} {after : Counts} {e : Error} (a : Bool) (coming : S → Option (List ℕ)) (counts : S → Counts) → GivesFromFront given coming → NoCountFalls given counts
+    → IsLawful first f → GaveSpelling given first old new v → RefusesSource others b (coming new) (counts new) after e → RefusesSource (fields first others) (a && b) (coming old) (counts old) after e
+fields_source_refuses_others {S} {given} {first} {others} {f} {b} {old} {new} {v} {after} {e} a coming counts from_front falls l p r =
+    let took : Consumes (coming old) (coming new) p.front = from_front old p.front new p.held in
+    let fell : NoneFell (counts old) (counts new) = falls old p.front new p.held in
+    record {
+      cause = elim r.cause [
+        | inl none ↦ inl (none_comes_at_others first others f l (coming old) (coming new) p.front v took p.spelled none)
+        | inr (inl fault) ↦ inr (inl (fault_later (counts old) (counts new) after fell fault))
+        | inr (inr out) ↦ inr (inr out)
+      ];
+      memory = λ h. elim (r.memory h) [
+        | inl not_lean ↦ inl (others_not_lean a b not_lean)
+        | inr rose ↦ inr (rose_later (counts old) (counts new) after fell rose)
+      ];
+    }

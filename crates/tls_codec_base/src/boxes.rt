@@ -1,0 +1,63 @@
+//! `Box<T>`: the spelling of its content. A decoder takes memory for it.
+ghost use Rattle.std.specs.Prelude.{◌≡◌, false, IfErr, IfOk};
+ghost use Rattle.tls_codec_wire.specs.declared.error.Error.TheVariants.{OutOfMemory};
+
+use crate::traits::{Deserialize, DeserializeBytes, Serialize, SerializeBytes, Size};
+use std::alloc::Global;
+use tls_codec_wire::{Error, Sink, Source};
+
+impl<T: Size> Size for Box<T> {
+    ghost plain = { λ b. T.plain b.value };
+
+    ghost spells = { T.spells };
+
+    ghost announced = { T.announced };
+
+    ghost lean = { false };
+
+    fn tls_serialized_len(&self) -> usize {
+        (**self).tls_serialized_len()
+    }
+
+    ghost lawful = { T.lawful };
+}
+
+impl<T: Serialize> Serialize for Box<T> {
+    fn tls_serialize<W: Sink>(&self, writer: &mut W) -> Result<usize, Error> {
+        (**self).tls_serialize(writer)
+    }
+}
+
+impl<T: SerializeBytes> SerializeBytes for Box<T> {
+    fn tls_serialize_bytes(&self, alloc: Global) -> Result<Vec<u8>, Error> {
+        (**self).tls_serialize_bytes(alloc)
+    }
+}
+
+impl<T: Deserialize> Deserialize for Box<T> {
+    /// `OutOfMemory`: there is none for the box. Every other refusal is the content's.
+    fn tls_deserialize<R: Source>(alloc: Global, bytes: &mut R) -> Result<Box<T>, Error> {
+        let content = T::tls_deserialize(alloc, bytes)?;
+        boxed(alloc, content)
+    }
+}
+
+impl<T: DeserializeBytes> DeserializeBytes for Box<T> {
+    /// `OutOfMemory`: there is none for the box. Every other refusal is the content's.
+    fn tls_deserialize_bytes(alloc: Global, bytes: &[u8]) -> Result<(Box<T>, &[u8]), Error> {
+        let (content, rest) = T::tls_deserialize_bytes(alloc, bytes)?;
+        let content = boxed(alloc, content)?;
+        Ok((content, rest))
+    }
+}
+
+// The value in a box.
+fn boxed<T: Drop>(alloc: Global, value: T) -> Result<Box<T>, Error>
+    ensures ok { IfOk result (λ b. b.value ≡ value) }
+    ensures err { IfErr result (λ e. e ≡ OutOfMemory) }
+{
+    match Box::new(alloc, value) {
+        Ok(content) => Ok(content),
+        Err(_) => Err(Error::OutOfMemory),
+    }
+}

@@ -1,0 +1,54 @@
+//! `(T, U)`: the first part, then the second.
+ghost use Rattle.std.specs.Prelude.{◌&&◌, true};
+ghost use Rattle.tls_codec_base.specs.Tree.{Empty, Join};
+ghost use Rattle.tls_codec_base.specs.Grammar.{pair};
+ghost use Rattle.tls_codec_base.specs.Announced.{pair_length};
+ghost use Rattle.tls_codec_base.specs.FieldsLaws.{pair_lawful};
+
+use crate::traits::{Deserialize, DeserializeBytes, Serialize, Size};
+use std::alloc::Global;
+use tls_codec_wire::{Error, Sink, Source};
+
+impl<T: Size, U: Size> Size for (T, U) {
+    ghost plain = { λ p. Join (T.plain p.0) (Join (U.plain p.1) Empty) };
+
+    ghost spells = { pair T.spells U.spells };
+
+    ghost announced = { pair_length T.announced U.announced };
+
+    ghost lean = { T.lean && (U.lean && true) };
+
+    fn tls_serialized_len(&self) -> usize {
+        self.0
+            .tls_serialized_len()
+            .saturating_add(self.1.tls_serialized_len())
+    }
+
+    ghost lawful = { pair_lawful T.spells U.spells T.announced U.announced T.lawful U.lawful };
+}
+
+impl<T: Serialize, U: Serialize> Serialize for (T, U) {
+    fn tls_serialize<W: Sink>(&self, writer: &mut W) -> Result<usize, Error> {
+        let first = self.0.tls_serialize(writer)?;
+        let second = self.1.tls_serialize(writer)?;
+        Ok(first.saturating_add(second))
+    }
+}
+
+impl<T: Deserialize, U: Deserialize> Deserialize for (T, U) {
+    /// Every refusal is that of a part.
+    fn tls_deserialize<R: Source>(alloc: Global, bytes: &mut R) -> Result<(T, U), Error> {
+        let first = T::tls_deserialize(alloc, bytes)?;
+        let second = U::tls_deserialize(alloc, bytes)?;
+        Ok((first, second))
+    }
+}
+
+impl<T: DeserializeBytes, U: DeserializeBytes> DeserializeBytes for (T, U) {
+    /// Every refusal is that of a part.
+    fn tls_deserialize_bytes(alloc: Global, bytes: &[u8]) -> Result<((T, U), &[u8]), Error> {
+        let (first, rest) = T::tls_deserialize_bytes(alloc, bytes)?;
+        let (second, rest) = U::tls_deserialize_bytes(alloc, rest)?;
+        Ok(((first, second), rest))
+    }
+}

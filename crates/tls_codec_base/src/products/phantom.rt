@@ -1,0 +1,56 @@
+//! `PhantomData<T>`: no parts, and so no bytes. Nothing is asked of `T`.
+ghost use Rattle.std.specs.Prelude.{true};
+ghost use Rattle.tls_codec_base.specs.Tree.{Empty};
+ghost use Rattle.tls_codec_base.specs.Grammar.{nothing};
+ghost use Rattle.tls_codec_base.specs.Announced.{nothing_length};
+ghost use Rattle.tls_codec_base.specs.FieldsLaws.{nothing_lawful};
+
+use crate::traits::{Deserialize, DeserializeBytes, Serialize, SerializeBytes, Size};
+use std::alloc::Global;
+use std::marker::PhantomData;
+use tls_codec_wire::{Error, Sink, Source};
+
+impl<T> Size for PhantomData<T> {
+    ghost plain = { λ _. Empty };
+
+    ghost spells = { nothing };
+
+    ghost announced = { nothing_length };
+
+    ghost lean = { true };
+
+    fn tls_serialized_len(&self) -> usize {
+        0
+    }
+
+    ghost lawful = { nothing_lawful };
+}
+
+impl<T> Serialize for PhantomData<T> {
+    fn tls_serialize<W: Sink>(&self, _writer: &mut W) -> Result<usize, Error> {
+        Ok(0)
+    }
+}
+
+impl<T> SerializeBytes for PhantomData<T> {
+    fn tls_serialize_bytes(&self, alloc: Global) -> Result<Vec<u8>, Error> {
+        Ok(Vec::new(alloc))
+    }
+}
+
+impl<T> Deserialize for PhantomData<T> {
+    /// Takes nothing and is never refused.
+    fn tls_deserialize<R: Source>(_alloc: Global, _bytes: &mut R) -> Result<PhantomData<T>, Error> {
+        Ok(PhantomData)
+    }
+}
+
+impl<T> DeserializeBytes for PhantomData<T> {
+    /// Takes nothing and is never refused.
+    fn tls_deserialize_bytes(
+        _alloc: Global,
+        bytes: &[u8],
+    ) -> Result<(PhantomData<T>, &[u8]), Error> {
+        Ok((PhantomData, bytes))
+    }
+}

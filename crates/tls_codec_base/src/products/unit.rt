@@ -1,0 +1,46 @@
+//! `()`: no parts, and so no bytes.
+ghost use Rattle.std.specs.Prelude.{true};
+ghost use Rattle.tls_codec_base.specs.Tree.{Empty};
+ghost use Rattle.tls_codec_base.specs.Grammar.{nothing};
+ghost use Rattle.tls_codec_base.specs.Announced.{nothing_length};
+ghost use Rattle.tls_codec_base.specs.FieldsLaws.{nothing_lawful};
+
+use crate::traits::{Deserialize, DeserializeBytes, Serialize, Size};
+use std::alloc::Global;
+use tls_codec_wire::{Error, Sink, Source};
+
+impl Size for () {
+    ghost plain = { λ _. Empty };
+
+    ghost spells = { nothing };
+
+    ghost announced = { nothing_length };
+
+    ghost lean = { true };
+
+    fn tls_serialized_len(&self) -> usize {
+        0
+    }
+
+    ghost lawful = { nothing_lawful };
+}
+
+impl Serialize for () {
+    fn tls_serialize<W: Sink>(&self, _writer: &mut W) -> Result<usize, Error> {
+        Ok(0)
+    }
+}
+
+impl Deserialize for () {
+    /// Takes nothing and is never refused.
+    fn tls_deserialize<R: Source>(_alloc: Global, _bytes: &mut R) -> Result<(), Error> {
+        Ok(())
+    }
+}
+
+impl DeserializeBytes for () {
+    /// Takes nothing and is never refused.
+    fn tls_deserialize_bytes(_alloc: Global, bytes: &[u8]) -> Result<((), &[u8]), Error> {
+        Ok(((), bytes))
+    }
+}
