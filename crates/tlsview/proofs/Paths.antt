@@ -9,7 +9,7 @@ use Rattle.tls_codec_base.specs.Tree.{Tree}
 use Rattle.tls_codec_base.specs.Grammar.{Grammar}
 use Rattle.tls_codec_base.specs.Lawful.{IsLawful}
 use Rattle.tls_codec_base.specs.Decoding.{Begins, Refuses, RefusesSource}
-use Rattle.tlsview.specs.View.{ok_line, refused_line, least_line, AppendsLeast, IsAcceptance, IsRefusal}
+use Rattle.tlsview.specs.View.{ok_line, refused_line, AppendsLeast, IsAcceptance, IsRefusal}
 
 -- a slice counts no fault
 no_fault : FaultIsCounted no_counts no_counts → ⊥

@@ -1,20 +1,14 @@
 -- What an input gave.
-use Rattle.std.proofs.Common.{◌≡◌, ◌+◌, ◌<◌, ℕ, List, [], ◌++◌, length, Option, Some, None, ap, ◌∙◌, subst, append-nil, length-append, arith}
+use Rattle.std.proofs.Common.{ℕ, List, [], ◌++◌, Option, Some, None, ap, ◌∙◌, subst, append-nil}
 use Rattle.std.specs.Io.KnownBytes.{Consumes, IsAtEnd}
 use Rattle.tls_codec_wire.specs.Device.{Gives, GivesInOrder}
-use Rattle.tlsview.specs.Input.{IsWhole, IsTooLong, longest}
+use Rattle.tlsview.specs.Input.{IsWhole}
 
 -- a source at its end gave all that was to come
 pub all_given : (a b : Option (List ℕ)) (text : List ℕ) → Consumes a b text → IsAtEnd b → IsWhole a text
 all_given None b text p e = tt
 all_given (Some x) None text p e = absurd p
 all_given (Some x) (Some y) text p e = p ∙ ap (λ l. text ++ l) e ∙ append-nil text
-
--- a source that gave too much had too much to give
-pub too_much_given : (a b : Option (List ℕ)) (text : List ℕ) → Consumes a b text → longest < length text → IsTooLong a
-too_much_given None b text p h = tt
-too_much_given (Some x) None text p h = absurd p
-too_much_given (Some x) (Some y) text p h = omega (arith, h, simp length-append at (ap length p))
 
 -- nothing more was given
 pub gave_no_more : {S : Type 0} {given : Gives S} {a b c : S} {xs : List ℕ} → GivesInOrder given

@@ -11,7 +11,7 @@ use crate::input::{decode, read_text};
 use crate::show::Show;
 use crate::view::view_of;
 use std::alloc::Global;
-use tls_codec_wire::{Sink, Source, write_all};
+use tls_codec_wire::{Sink, Source, TlsVarInt, write_all};
 
 /// Reads the input, and prints the view of the bytes that it stands for, by the type of a kind.
 ///
@@ -36,6 +36,7 @@ pub fn run<R: Source, W: Sink>(
 {
     match kind {
         "u16" => run_for::<u16, R, W>(alloc, input, out),
+        "varint" => run_for::<TlsVarInt, R, W>(alloc, input, out),
         "option-u16" => run_for::<Option<u16>, R, W>(alloc, input, out),
         _ => Err(ViewFault::Kind),
     }

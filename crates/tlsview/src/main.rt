@@ -58,7 +58,7 @@ fn main(rt: HostRuntime) -> ExitCode {
     ExitCode::from(status(outcome))
 }
 
-/// The program's name and its arguments. `Kind`: one of them isn't UTF-8.
+/// The program's name and its arguments. `Kind`: one of them, the name among them, isn't UTF-8.
 fn words<R: Env + AllocGlobal>(rt: &R) -> Result<Vec<String>, ViewFault>
     ensures { IfErr result (λ fault. (fault ≡ ViewFault.Kind) ⊎ (fault ≡ ViewFault.Memory)) }
 {

@@ -5,6 +5,7 @@ ghost use Rattle.tlsview.specs.Texts.{number_text, option_text};
 
 use std::alloc::AllocError;
 use tls_codec_base::{Deserialize, DeserializeBytes, Serialize};
+use tls_codec_wire::TlsVarInt;
 
 /// A type whose values a view prints.
 pub trait Show: Serialize + Deserialize + DeserializeBytes {
@@ -21,6 +22,14 @@ impl Show for u16 {
 
     fn show(&self, out: &mut String) -> Result<(), AllocError> {
         write!(out, "{self}")
+    }
+}
+
+impl Show for TlsVarInt {
+    ghost text = { number_text };
+
+    fn show(&self, out: &mut String) -> Result<(), AllocError> {
+        write!(out, "{}", self.value())
     }
 }
 

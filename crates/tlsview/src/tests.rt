@@ -69,6 +69,41 @@ fn bytes_with_a_spelling_are_shown(rt: HostRuntime) {
             "slice ok some 11903 rest ffea\nreader ok some 11903 rest ffea\nleast 012e7f\n",
         ),
         (
+            "varint",
+            "3d",
+            "slice ok 61 rest -\nreader ok 61 rest -\nleast 3d\n",
+        ),
+        (
+            "varint",
+            "4025ee",
+            "slice ok 37 rest ee\nreader ok 37 rest ee\nleast 25\n",
+        ),
+        (
+            "varint",
+            "4100",
+            "slice ok 256 rest -\nreader ok 256 rest -\nleast 4100\n",
+        ),
+        (
+            "varint",
+            "80000080",
+            "slice ok 128 rest -\nreader ok 128 rest -\nleast 4080\n",
+        ),
+        (
+            "varint",
+            "a73fa83ff4",
+            "slice ok 658483263 rest f4\nreader ok 658483263 rest f4\nleast a73fa83f\n",
+        ),
+        (
+            "varint",
+            "c000000000000005",
+            "slice ok 5 rest -\nreader ok 5 rest -\nleast 05\n",
+        ),
+        (
+            "varint",
+            "c2197c5eff14e88c4001",
+            "slice ok 151288809941952652 rest 4001\nreader ok 151288809941952652 rest 4001\nleast c2197c5eff14e88c\n",
+        ),
+        (
             "u16",
             "0000",
             "slice ok 0 rest -\nreader ok 0 rest -\nleast 0000\n",
@@ -134,6 +169,9 @@ fn bytes_without_a_spelling_are_refused(rt: HostRuntime) {
         ("option-u16", "7f", other_tag),
         ("option-u16", "020007ee", other_tag),
         ("option-u16", "ffff40", other_tag),
+        ("varint", "", ended),
+        ("varint", "800100", ended),
+        ("varint", "c00000007fffff", ended),
         ("u16", "", ended),
         ("u16", "00", ended),
         ("u16", "40", ended),

@@ -95,6 +95,9 @@ fn show_refusal(out: &mut String, path: &str, error: Error) -> Result<(), ViewFa
 }
 
 /// Appends the line of the value's shortest form.
+///
+/// A value that was read has a shortest form, no longer than what was read, so that an encoder
+/// refuses it for memory alone.
 fn show_least<T: Show>(alloc: Global, out: &mut String, value: &T) -> Result<(), AllocError>
     ensures { OnOk result (AppendsLeast T.spells (T.plain value.now) (string_bytes out.old) (string_bytes out.new)) }
 {

@@ -1,5 +1,5 @@
 -- Nothing was given so far, and each call was an interruption.
-use Rattle.std.proofs.Common.{[], length, ◌≡◌}
+use Rattle.std.proofs.Common.{[]}
 use Rattle.tls_codec_wire.specs.Counts.{RoseBy}
 use Rattle.tlsview.proofs.input.next_piece.Given as goal
 

@@ -1,13 +1,14 @@
 -- What came stands in the text.
-use Rattle.std.proofs.Common.{length, ◌-◌, ◌≡◌, ◌≤◌, vec_len}
+use Rattle.std.proofs.Common.{length, ◌+◌, ◌-◌, ◌≤◌}
+use Rattle.tlsview.specs.Input.{longest}
 use Rattle.tlsview.proofs.input.read_text.Given as goal
 
 abbrev pub invariant-loop-piece : goal.invariant-loop-piece
 invariant-loop-piece g l = record {
   gave : g.R.Source.given l.fn.input l.text.items l.input;
-  size : length l.text.items ≤ 1048577;
+  size : length l.text.items ≤ longest + 1;
 }
 
 -- a piece brings the end nearer
 abbrev pub decreases-loop-piece : goal.decreases-loop-piece
-decreases-loop-piece g l = 1048577 - length l.text.items
+decreases-loop-piece g l = longest + 1 - length l.text.items
