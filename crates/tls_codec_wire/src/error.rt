@@ -6,7 +6,6 @@ ghost use Rattle.tls_codec_wire.specs.declared.error.Error.TheVariants.{InvalidI
 
 use std::alloc::AllocError;
 use std::array::TryFromSliceError;
-use std::convert::Infallible;
 use std::io::ErrorKind;
 use std::num::TryFromIntError;
 use std::{fmt, io};
@@ -98,15 +97,6 @@ impl From<TryFromIntError> for Error {
     ghost from_gives = { λ _ e. e ≡ InvalidVectorLength };
 
     fn from(_e: TryFromIntError) -> Error {
-        Error::InvalidVectorLength
-    }
-}
-
-// It is never called: there is no such value.
-impl From<Infallible> for Error {
-    ghost from_gives = { λ _ e. e ≡ InvalidVectorLength };
-
-    fn from(_e: Infallible) -> Error {
         Error::InvalidVectorLength
     }
 }

@@ -3,7 +3,6 @@ use crate::error::Error;
 use crate::quic::{least_width, read_varint, split_varint, write_varint};
 use crate::uint24::U24;
 use crate::varint::TlsVarInt;
-use std::convert::Infallible;
 use std::io;
 use std::io::ErrorKind;
 use std::test::Fail;
@@ -83,10 +82,6 @@ fn byte(number: u64) -> Result<u8, Error> {
     Ok(u8::try_from(number)?)
 }
 
-fn kept(number: Result<u8, Infallible>) -> Result<u8, Error> {
-    Ok(number?)
-}
-
 #[test]
 fn errors_of_std_have_an_error_here(rt: HostRuntime) {
     for (kind, error) in [
@@ -100,5 +95,4 @@ fn errors_of_std_have_an_error_here(rt: HostRuntime) {
     }
     assert_eq!(rt; pair(&[1]), Err(Error::InvalidInput));
     assert_eq!(rt; byte(256), Err(Error::InvalidVectorLength));
-    assert_eq!(rt; kept(Ok(5)), Ok(5));
 }
