@@ -1,5 +1,5 @@
 -- What one call of a device does, and what a source gives in a row of calls.
-use Rattle.std.specs.Prelude.{◌≡◌, ℕ, ◌<◌, List, [], ◌++◌, take, Option, Result, Ok, Err}
+use Rattle.std.specs.Prelude.{◌≡◌, ℕ, ◌<◌, List, [], ◌++◌, length, take, Option, Result, Ok, Err}
 use Rattle.std.specs.Io.KnownBytes.{Consumes, Appends}
 use Rattle.tls_codec_wire.specs.declared.device.Fault.{Fault}
 use Rattle.tls_codec_wire.specs.declared.device.Fault.TheVariants.{Interrupted, NoMemory, Failed}
@@ -71,6 +71,13 @@ NoCountFalls {S} given counts =
 pub record Gave {S : Type 0} (given : Gives S) (old new : S) : Type 0 where
   pub bytes : List ℕ
   pub held : given old bytes new
+
+-- the bytes that a call moved stand behind those of a vector
+pub record PulledOnto {S : Type 0} (given : Gives S) (old new : S) (result : Result ℕ Fault) (before after : List ℕ) : Type 0 where
+  pub bytes : List ℕ
+  pub held : given old bytes new
+  pub appended : after ≡ before ++ bytes
+  pub count : length bytes ≡ count_moved result
 
 -- ---- what a sink has received
 

@@ -2,6 +2,7 @@ pub mod Names
 pub mod Counts
 pub mod Device
 pub mod Outside
+pub mod Bounded
 pub mod Transfer
 pub mod Digits
 pub mod Varint

@@ -1,7 +1,7 @@
 -- Why a piece is not moved whole.
-use Rattle.std.specs.Prelude.{◌≡◌, ◌<◌, ℕ, List, length, codes, Option, None, Some, ⊤}
+use Rattle.std.specs.Prelude.{◌≡◌, ◌<◌, ◌≤◌, ◌^◌, ℕ, List, length, codes, Option, None, Some, ⊤}
 use Rattle.tls_codec_wire.specs.declared.error.Error.{Error}
-use Rattle.tls_codec_wire.specs.declared.error.Error.TheVariants.{EncodingError, DecodingError, EndOfStream, OutOfMemory}
+use Rattle.tls_codec_wire.specs.declared.error.Error.TheVariants.{EncodingError, InvalidVectorLength, DecodingError, EndOfStream, OutOfMemory}
 use Rattle.tls_codec_wire.specs.Counts.{Counts, RoseBy, FaultIsCounted}
 
 -- fewer than n bytes were to come, where that is told
@@ -15,6 +15,15 @@ ReadRefused (DecodingError text) n coming old new = (text.now ≡ codes "read fa
 ReadRefused EndOfStream n coming old new = IsShortOf n coming
 ReadRefused OutOfMemory n coming old new = RoseBy 1 old.shortages new.shortages
 ReadRefused _ n coming old new = ⊥
+
+-- why no vector of the next n bytes is made: there is no vector of so many, the source failed, they were not there,
+-- or there was no memory
+abbrev pub BytesRefused : Error → ℕ → Option (List ℕ) → Counts → Counts → Type 0
+BytesRefused InvalidVectorLength n coming old new = 2 ^ 63 ≤ n
+BytesRefused (DecodingError text) n coming old new = (text.now ≡ codes "read failed") × FaultIsCounted old new
+BytesRefused EndOfStream n coming old new = IsShortOf n coming
+BytesRefused OutOfMemory n coming old new = ⊤
+BytesRefused _ n coming old new = ⊥
 
 -- why a piece is not sent whole: the sink failed, or it had no memory
 abbrev pub WriteRefused : Error → Counts → Counts → Type 0

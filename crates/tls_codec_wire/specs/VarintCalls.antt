@@ -1,11 +1,12 @@
 -- What calls on variable-length integers answer.
-use Rattle.std.specs.Prelude.{◌≡◌, ℕ, ◌*◌, ◌-◌, ◌^◌, ◌<◌, List, ◌++◌, length, codes, nat_lt, if◌then◌else◌, Option, None, Some, ⊤}
+use Rattle.std.specs.Prelude.{◌≡◌, ℕ, ◌*◌, ◌-◌, ◌^◌, ◌<◌, ◌≤◌, List, ◌++◌, length, codes, nat_lt, if◌then◌else◌, Option, None, Some, ⊤}
 use Rattle.std.specs.Io.KnownBytes.{Appends}
 use Rattle.tls_codec_wire.specs.Counts.{Counts, RoseBy, FaultIsCounted}
 use Rattle.tls_codec_wire.specs.Device.{Gives, Received}
 use Rattle.tls_codec_wire.specs.Varint.{Varint}
+use Rattle.tls_codec_wire.specs.Transfer.{WriteRefused}
 use Rattle.tls_codec_wire.specs.declared.error.Error.{Error}
-use Rattle.tls_codec_wire.specs.declared.error.Error.TheVariants.{DecodingError, EndOfStream, OutOfMemory}
+use Rattle.tls_codec_wire.specs.declared.error.Error.TheVariants.{InvalidVectorLength, DecodingError, EndOfStream, OutOfMemory}
 
 -- ---- reading
 
@@ -66,6 +67,11 @@ pub record BeganVarint (old new : Option (List ℕ)) (n : ℕ) : Type 0 where
   pub form : List ℕ
   pub least : LeastVarint form n
   pub received : Received old new form
+
+-- why a length is not sent: none holds it, the sink failed, or it had no memory
+abbrev pub LengthRefused : Error → ℕ → Counts → Counts → Type 0
+LengthRefused InvalidVectorLength n old new = 2 ^ 62 ≤ n
+LengthRefused e n old new = WriteRefused e old new
 
 -- the top bits t are the least for n: they say 2 ^ t bytes, which is this width, and stand for this mark there
 pub record IsLaidOut (n mark width : ℕ) : Type 0 where

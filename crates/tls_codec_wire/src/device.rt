@@ -1,8 +1,8 @@
 //! Where bytes come from and go to.
-ghost use Rattle.std.specs.Prelude.{◌≡◌, ℕ, ◌<◌, ◌≤◌, List, length, Option, IfOk};
+ghost use Rattle.std.specs.Prelude.{◌≡◌, ℕ, ◌+◌, ◌<◌, ◌≤◌, List, length, Option, IfOk, vec_capacity, vec_len};
 ghost use Rattle.std.specs.Io.KnownBytes.{Appends, IsAtEnd};
 ghost use Rattle.tls_codec_wire.specs.Counts.{Counts};
-ghost use Rattle.tls_codec_wire.specs.Device.{bytes_moved, GiveIsCounted, GivesFromFront, GivesInOrder, GivesNothing, NoCountFalls, PullIsCounted};
+ghost use Rattle.tls_codec_wire.specs.Device.{bytes_moved, GiveIsCounted, GivesFromFront, GivesInOrder, GivesNothing, NoCountFalls, PullIsCounted, PulledOnto};
 
 /// Why one call of a device moved no byte.
 #[derive(Clone, Copy, PartialEq, Eq, Debug)]
@@ -14,6 +14,9 @@ pub enum Fault {
     /// The device failed.
     Failed,
 }
+
+/// How many bytes a source that fills buffers alone moves at once onto a vector.
+const CHUNK: usize = 4096;
 
 /// Where bytes come from, as a file, a socket or a slice.
 ///
@@ -35,6 +38,24 @@ pub trait Source {
         ensures gave { given self.old (bytes_moved result into.new) self.new }
         ensures end { result ≡ Ok 0 → 0 < length into.old → IsAtEnd (coming self.new) }
         ensures counted { PullIsCounted result (counts self.old) (counts self.new) };
+
+    /// Puts the next bytes behind those of a vector, as many as it has room for and `most` at most,
+    /// and answers how many. It never grows the vector. It is 0 for a vector with room only at the
+    /// end of the bytes. Behind a fault nothing was taken.
+    ///
+    /// A source that has its bytes in memory writes its own, which copies them once.
+    fn pull_onto(&mut self, out: &mut Vec<u8>, most: usize) -> Result<usize, Fault>
+        ensures bound { IfOk result (λ n. n ≤ most) }
+        ensures gave { PulledOnto given self.old self.new result out.old.items out.new.items }
+        ensures end { result ≡ Ok 0 → 0 < most → vec_len out.old < vec_capacity out.old → IsAtEnd (coming self.new) }
+        ensures counted { PullIsCounted result (counts self.old) (counts self.new) }
+    {
+        let mut chunk = [0u8; CHUNK];
+        let room = most.min(out.capacity() - out.len()).min(CHUNK);
+        let n = self.pull(&mut chunk[..room])?;
+        let _ = out.extend_from_slice(&chunk[..n]);
+        Ok(n)
+    }
 
     ghost gives_nothing: { GivesNothing given };
 

@@ -9,14 +9,18 @@
 //! - [`device`]: [`Source`] and [`Sink`], and [`Fault`], why one call of them moved nothing.
 //! - [`memory`]: a slice as a source, a vector as a sink.
 //! - [`outside`]: [`Outside`], any `Read` or `Write` as a device.
-//! - [`transfer`]: [`read_exactly`] and [`write_all`].
+//! - [`bounded`]: [`Bounded`], the first bytes of another source.
+//! - [`transfer`]: [`read_exactly`] and [`write_all`]. [`gather`]: [`read_bytes_bounded`].
 //! - [`uint24`]: [`U24`], a number of 24 bits.
 //! - [`varint`]: [`TlsVarInt`], the number of a variable-length integer.
 //! - [`quic`]: variable-length integers, read and written.
+//! - [`vlen`]: lengths as such integers.
 #![tactic(auto)]
 
+pub mod bounded;
 pub mod device;
 pub mod error;
+pub mod gather;
 pub mod memory;
 pub mod outside;
 pub mod quic;
@@ -25,9 +29,12 @@ mod tests;
 pub mod transfer;
 pub mod uint24;
 pub mod varint;
+pub mod vlen;
 
+pub use bounded::Bounded;
 pub use device::{Fault, Sink, Source};
 pub use error::Error;
+pub use gather::read_bytes_bounded;
 pub use outside::Outside;
 pub use transfer::{read_exactly, write_all};
 pub use uint24::U24;

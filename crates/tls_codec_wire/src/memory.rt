@@ -30,6 +30,15 @@ impl Source for &[u8] {
         Ok(n)
     }
 
+    #[inline(always)]
+    fn pull_onto(&mut self, out: &mut Vec<u8>, most: usize) -> Result<usize, Fault> {
+        let n = self.len().min(most).min(out.capacity() - out.len());
+        let (front, behind) = self.split_at(n);
+        let _ = out.extend_from_slice(front);
+        *self = behind;
+        Ok(n)
+    }
+
     ghost gives_nothing = { λ s. refl };
 
     ghost gives_in_order = { λ a xs b ys c p q. Prim.search (rules, common_steps) };

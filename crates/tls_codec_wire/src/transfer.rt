@@ -10,7 +10,7 @@ use crate::device::{Fault, Sink, Source};
 use crate::error::Error;
 
 /// How many interruptions in a row are tried again.
-const MOST_INTERRUPTIONS: u8 = 16;
+pub(crate) const MOST_INTERRUPTIONS: u8 = 16;
 
 /// Fills the buffer with the next bytes.
 ///

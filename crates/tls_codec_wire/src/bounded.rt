@@ -1,0 +1,101 @@
+//! The first bytes of another source, as a source.
+ghost use Rattle.std.specs.Prelude.{◌≡◌, ℕ, ◌<◌, ◌≤◌, List, length, IfOk, vec_capacity, vec_len};
+ghost use Rattle.std.specs.Io.KnownBytes.{IsAtEnd};
+ghost use Rattle.tls_codec_wire.specs.Bounded.{first_bytes, GaveWithin, gives_from_front_within, gives_in_order_within, gives_nothing_within, inner_of, limit_of};
+ghost use Rattle.tls_codec_wire.specs.Device.{bytes_moved, PullIsCounted, PulledOnto};
+
+use crate::device::{Fault, Source};
+
+/// The first `limit` bytes of a source that is borrowed, as a source.
+///
+/// Once this is gone, the inner source stands just behind the bytes that were given. One may be
+/// taken over another.
+///
+/// ```rust
+/// let mut src = [1u8, 2, 3].as_slice();
+/// let mut first = Bounded::new(&mut src, 2);
+/// let mut into = [0u8; 2];
+/// read_exactly(&mut first, &mut into)?;
+/// assert_eq!(rt; into, [1, 2]);
+/// assert_eq!(rt; first.limit(), 0);
+/// ```
+#[derive(Drop)]
+pub struct Bounded<'a, R> {
+    inner: &'a mut R,
+    limit: u64,
+}
+
+impl<'a, R: Source> Bounded<'a, R> {
+    /// The first `limit` bytes of a source, or fewer where it ends before.
+    pub fn new(inner: &'a mut R, limit: u64) -> Bounded<'a, R>
+        ensures limit { limit_of result ≡ limit }
+        ensures inner { inner_of result ≡ inner.old }
+        ensures same { result.inner.ghost_name ≡ inner.entry.ghost_name }
+    {
+        Bounded { inner, limit }
+    }
+
+    /// How many bytes it may still give.
+    pub fn limit(&self) -> u64
+        ensures { result ≡ limit_of self.now }
+    {
+        self.limit
+    }
+}
+
+// At the limit 0 it calls nothing.
+impl<R: Source> Source for Bounded<'_, R> {
+    ghost coming = { first_bytes R.coming };
+
+    ghost counts = { λ b. R.counts (inner_of b) };
+
+    ghost given = { GaveWithin R.given };
+
+    #[inline(always)]
+    fn pull(&mut self, into: &mut [u8]) -> Result<usize, Fault>
+        ensures bound { IfOk result (λ n. n ≤ length into.new) }
+        ensures gave { GaveWithin R.given self.old (bytes_moved result into.new) self.new }
+        ensures end { result ≡ Ok 0 → 0 < length into.old → IsAtEnd (first_bytes R.coming self.new) }
+        ensures counted { PullIsCounted result (R.counts (inner_of self.old)) (R.counts (inner_of self.new)) }
+        ensures at_limit { limit_of self.old ≡ 0 → (result ≡ Ok 0) × (self.new ≡ self.old) }
+    {
+        // As for a slice: the length stays the constant that the caller asked for.
+        if self.limit > 0 && into.len() as u64 <= self.limit {
+            let n = self.inner.pull(into)?;
+            self.limit -= n as u64;
+            return Ok(n);
+        }
+        if self.limit == 0 {
+            return Ok(0);
+        }
+        let room = self.limit as usize;
+        let n = self.inner.pull(&mut into[..room])?;
+        self.limit -= n as u64;
+        Ok(n)
+    }
+
+    #[inline(always)]
+    fn pull_onto(&mut self, out: &mut Vec<u8>, most: usize) -> Result<usize, Fault>
+        ensures bound { IfOk result (λ n. n ≤ most) }
+        ensures gave { PulledOnto (GaveWithin R.given) self.old self.new result out.old.items out.new.items }
+        ensures end { result ≡ Ok 0 → 0 < most → vec_len out.old < vec_capacity out.old → IsAtEnd (first_bytes R.coming self.new) }
+        ensures counted { PullIsCounted result (R.counts (inner_of self.old)) (R.counts (inner_of self.new)) }
+        ensures at_limit { limit_of self.old ≡ 0 → (result ≡ Ok 0) × (self.new ≡ self.old) × (out.new ≡ out.old) }
+    {
+        if self.limit == 0 {
+            return Ok(0);
+        }
+        let room = self.limit.min(most as u64) as usize;
+        let n = self.inner.pull_onto(out, room)?;
+        self.limit -= n as u64;
+        Ok(n)
+    }
+
+    ghost gives_nothing = { gives_nothing_within R.given R.gives_nothing };
+
+    ghost gives_in_order = { gives_in_order_within R.given R.gives_in_order };
+
+    ghost gives_from_front = { gives_from_front_within R.given R.coming R.gives_from_front };
+
+    ghost no_count_falls = { λ a xs b p. R.no_count_falls (inner_of a) xs (inner_of b) p.held };
+}

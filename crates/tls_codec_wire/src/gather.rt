@@ -1,0 +1,62 @@
+//! Bytes of a source, gathered in a vector as they come.
+ghost use Rattle.std.specs.Prelude.{◌≡◌, ◌≤◌, ◌^◌, length, IfErr, IfOk};
+ghost use Rattle.tls_codec_wire.specs.Device.{Gave};
+ghost use Rattle.tls_codec_wire.specs.Transfer.{BytesRefused};
+ghost use Rattle.tls_codec_wire.specs.declared.error.Error.TheVariants.{InvalidVectorLength};
+
+use crate::device::{Fault, Source};
+use crate::error::Error;
+use crate::transfer::MOST_INTERRUPTIONS;
+use std::alloc::Global;
+
+/// How many bytes a vector has room for before one came.
+const FIRST_ROOM: usize = 4096;
+
+/// A vector of the next `len` bytes.
+///
+/// Room is asked for as the bytes come: for 4,096 at first, and then for as many as are there, so
+/// that a length without its bytes costs nothing. `InvalidVectorLength`: `len` is above
+/// `isize::MAX`, and nothing was taken. `OutOfMemory`: the source or the vector had none. Every
+/// other refusal, and interruptions, are as in [`read_exactly`](crate::read_exactly).
+///
+/// ```rust
+/// let mut src = [1u8, 2, 3].as_slice();
+/// let bytes = read_bytes_bounded(alloc, &mut src, 2)?;
+/// assert_eq!(rt; bytes.as_slice(), [1, 2].as_slice());
+/// ```
+pub fn read_bytes_bounded<R: Source>(
+    alloc: Global,
+    src: &mut R,
+    len: usize,
+) -> Result<Vec<u8>, Error>
+    ensures gave { Gave R.given src.old src.new }
+    ensures ok { IfOk result (λ bytes. R.given src.old bytes.items src.new) }
+    ensures count { IfOk result (λ bytes. length bytes.items ≡ len) }
+    ensures refused { IfErr result (λ e. BytesRefused e len (R.coming src.old) (R.counts src.old) (R.counts src.new)) }
+    ensures too_long { 2 ^ 63 ≤ len → (result ≡ Err InvalidVectorLength) × (src.new ≡ src.old) }
+    ensures nothing_asked { len ≡ 0 → IfErr result (λ e. ⊥) × (src.new ≡ src.old) }
+{
+    if len > isize::MAX as usize {
+        return Err(Error::InvalidVectorLength);
+    }
+    let mut bytes = Vec::new(alloc);
+    let mut row = 0;
+    while bytes.len() < len {
+        let came = bytes.len();
+        let step = (len - came).min(came.max(FIRST_ROOM));
+        bytes.reserve(step)?;
+        match src.pull_onto(&mut bytes, step) {
+            Ok(0) => return Err(Error::EndOfStream),
+            Ok(_) => row = 0,
+            Err(Fault::Interrupted) => {
+                if row == MOST_INTERRUPTIONS {
+                    return Err(Error::DecodingError("read failed"));
+                }
+                row += 1;
+            }
+            Err(Fault::NoMemory) => return Err(Error::OutOfMemory),
+            Err(Fault::Failed) => return Err(Error::DecodingError("read failed")),
+        }
+    }
+    Ok(bytes)
+}
