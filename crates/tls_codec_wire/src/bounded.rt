@@ -32,7 +32,7 @@ impl<'a, R: Source> Bounded<'a, R> {
         ensures inner { inner_of result ≡ inner.old }
         ensures same { result.inner.ghost_name ≡ inner.entry.ghost_name }
     {
-        Bounded { inner, limit }
+        Self { inner, limit }
     }
 
     /// How many bytes it may still give.
@@ -59,18 +59,19 @@ impl<R: Source> Source for Bounded<'_, R> {
         ensures counted { PullIsCounted result (R.counts (inner_of self.old)) (R.counts (inner_of self.new)) }
         ensures at_limit { limit_of self.old ≡ 0 → (result ≡ Ok 0) × (self.new ≡ self.old) }
     {
+        let Bounded { inner, limit } = self;
         // As for a slice: the length stays the constant that the caller asked for.
-        if self.limit > 0 && into.len() as u64 <= self.limit {
-            let n = self.inner.pull(into)?;
-            self.limit -= n as u64;
+        if *limit > 0 && into.len() as u64 <= *limit {
+            let n = inner.pull(into)?;
+            *limit -= n as u64;
             return Ok(n);
         }
-        if self.limit == 0 {
+        if *limit == 0 {
             return Ok(0);
         }
-        let room = self.limit as usize;
-        let n = self.inner.pull(&mut into[..room])?;
-        self.limit -= n as u64;
+        let room = *limit as usize;
+        let n = inner.pull(&mut into[..room])?;
+        *limit -= n as u64;
         Ok(n)
     }
 
@@ -82,12 +83,12 @@ impl<R: Source> Source for Bounded<'_, R> {
         ensures counted { PullIsCounted result (R.counts (inner_of self.old)) (R.counts (inner_of self.new)) }
         ensures at_limit { limit_of self.old ≡ 0 → (result ≡ Ok 0) × (self.new ≡ self.old) × (out.new ≡ out.old) }
     {
-        if self.limit == 0 {
+        let Bounded { inner, limit } = self;
+        if *limit == 0 {
             return Ok(0);
         }
-        let room = self.limit.min(most as u64) as usize;
-        let n = self.inner.pull_onto(out, room)?;
-        self.limit -= n as u64;
+        let n = inner.pull_onto(out, (*limit).min(most as u64) as usize)?;
+        *limit -= n as u64;
         Ok(n)
     }
 

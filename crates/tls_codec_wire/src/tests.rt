@@ -1,4 +1,5 @@
 // What no clause says: printed texts, that calls succeed, and which interruptions stand in a row.
+mod bounded;
 mod devices;
 mod numbers;
 
