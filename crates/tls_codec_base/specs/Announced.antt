@@ -27,6 +27,11 @@ abbrev pub content_length : (Tree → ℕ) → Tree → ℕ
 content_length element (Join v vs) = capped (element v + content_length element vs)
 content_length element _ = 0
 
+-- the sum of the elements' announced lengths, which stops at no number
+abbrev pub content_sum : (Tree → ℕ) → Tree → ℕ
+content_sum element (Join v vs) = element v + content_sum element vs
+content_sum element _ = 0
+
 abbrev pub varint_length : Tree → ℕ
 varint_length (Number n) = least_width n
 varint_length _ = 0

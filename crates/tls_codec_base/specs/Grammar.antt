@@ -99,6 +99,10 @@ pub record Counted (field : List ℕ → ℕ → Type 0) (b : List ℕ) (Inside 
 abbrev pub counted : (List ℕ → ℕ → Type 0) → Grammar → Grammar
 counted field inside d b v = Counted field b (λ c. inside d c v)
 
+-- n bytes of what may stand behind a length field
+abbrev pub sized : ℕ → Grammar → Grammar
+sized n inside d c v = (length c ≡ n) × inside d c v
+
 -- a list behind a variable-length length (the crate's rule; RFC 9420, section 2.1.2)
 abbrev pub list : Grammar → Grammar
 list element = counted Varint (content element)

@@ -5,6 +5,8 @@ pub mod Announced
 pub mod Lawful
 pub mod Decoding
 pub mod Encoding
+pub mod Turns
+pub mod Opaque
 pub mod Refusals
 pub mod RowLaws
 pub mod NumberLaws

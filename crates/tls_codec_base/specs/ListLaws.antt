@@ -115,7 +115,7 @@ utf8_lawful = record {
 -- ---- what a length field counts
 
 -- where what is counted has 2 ^ 64 bytes or more, the greatest number is announced, whatever the field
-capped_counted : (width : ℕ → ℕ) (c n a : ℕ) → c ≡ capped n → width n ≡ a → capped (width c + c) ≡ capped (a + n)
+pub capped_counted : (width : ℕ → ℕ) (c n a : ℕ) → c ≡ capped n → width n ≡ a → capped (width c + c) ≡ capped (a + n)
 capped_counted width c n a e m = elim (cases_lt n (2 ^ 64)) [
   | inl lt ↦ let same : c ≡ n = omega arith in omega (arith, ap width same)
   | inr le ↦ omega arith

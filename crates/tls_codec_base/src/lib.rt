@@ -12,6 +12,9 @@
 //! - [`options`]: `Option<T>`.
 //! - [`products`]: `(T, U)`, `(T, U, V)`, `()` and `PhantomData<T>`.
 //! - [`boxes`]: `Box<T>`.
+//! - [`lists`]: the engines that every list goes through. [`vectors`]: `Vec<T>` and `&[T]`.
+//! - [`opaque`]: bytes behind their length, as byte vectors and texts have them. [`texts`]: `String`
+//!   and `&str`.
 //! - [`laws`]: what is lawful if its parts are. [`examples`]: the definitions at work. Neither does
 //!   anything when it runs.
 #![tactic(auto)]
@@ -20,12 +23,16 @@ pub mod arrays;
 pub mod boxes;
 pub mod examples;
 pub mod laws;
+pub mod lists;
 pub mod numbers;
+pub mod opaque;
 pub mod options;
 pub mod products;
 #[cfg(test)]
 mod tests;
+pub mod texts;
 pub mod traits;
 pub mod varint;
+pub mod vectors;
 
 pub use traits::{Deserialize, DeserializeBytes, Serialize, SerializeBytes, Size};

@@ -2,8 +2,10 @@
 ghost use Rattle.std.specs.Prelude.{None};
 ghost use Rattle.tls_codec_wire.specs.Counts.{NoneFell, fall_never, stay};
 
+mod lists;
 mod numbers;
 mod plain;
+mod texts;
 
 use crate::traits::{Deserialize, DeserializeBytes, Serialize, SerializeBytes, Size};
 use std::test::Fail;

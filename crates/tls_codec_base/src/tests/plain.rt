@@ -7,7 +7,7 @@ use std::test::Fail;
 use tls_codec_wire::{Error, U24};
 
 // The value is announced and written as these bytes.
-fn is_written<T: Serialize>(
+pub(super) fn is_written<T: Serialize>(
     rt: &impl Abort,
     alloc: Global,
     value: &T,
@@ -24,7 +24,7 @@ fn is_written<T: Serialize>(
 }
 
 // The value is written as these bytes, also to a vector of its own.
-fn is_written_alone<T: Serialize + SerializeBytes>(
+pub(super) fn is_written_alone<T: Serialize + SerializeBytes>(
     rt: &impl Abort,
     alloc: Global,
     value: &T,
@@ -37,7 +37,7 @@ fn is_written_alone<T: Serialize + SerializeBytes>(
 }
 
 // Both paths read the value of a front of the bytes, and leave the rest.
-fn is_read<T: Deserialize + DeserializeBytes + PartialEq>(
+pub(super) fn is_read<T: Deserialize + DeserializeBytes + PartialEq>(
     rt: &impl Abort,
     alloc: Global,
     bytes: &[u8],
@@ -55,7 +55,7 @@ fn is_read<T: Deserialize + DeserializeBytes + PartialEq>(
 }
 
 // Both paths refuse the bytes with this error.
-fn is_refused<T: Deserialize + DeserializeBytes>(
+pub(super) fn is_refused<T: Deserialize + DeserializeBytes>(
     rt: &impl Abort,
     alloc: Global,
     bytes: &[u8],

@@ -1,5 +1,5 @@
 use Rattle.std.proofs.lemmas.Result.{err_from_is_err_and}
-use Rattle.tls_codec_base.proofs.Vectors.{vector_breaks}
+use Rattle.tls_codec_base.proofs.VectorSinks.{vector_breaks}
 use Rattle.tls_codec_base.proofs.traits.Serialize.tls_serialize_detached.Goals as goal
 
 pub returns-in_err-tls_serialize-clause-err : goal.returns-in_err-tls_serialize-clause-err

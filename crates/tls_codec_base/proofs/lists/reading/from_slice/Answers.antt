@@ -1,0 +1,39 @@
+use Rattle.std.proofs.Common.{rules, ◌≡◌, ◌++◌, ◌∷◌, [], arith, ap, inl, length, length-append, refl}
+use Rattle.std.proofs.lemmas.Result.{err_from_is_err_and}
+use Rattle.tls_codec_base.proofs.ListReading.{element_refused, none_if_empty, none_if_long, read_more, read_none}
+use Rattle.tls_codec_base.proofs.lists.reading.from_slice.Goals as goal
+
+pub loop-left-init : goal.loop-left-init
+loop-left-init g c =
+    let none = c.new-elements.ensures.items in
+    record {
+      read = rw none (read_none _ _ _);
+      turned = omega (arith, ap length none, c.args.turns.now.fits);
+      untouched = λ e. (none, refl, refl);
+    }
+
+pub returns-in_err-element-clause-err : goal.returns-in_err-element-clause-err
+returns-in_err-element-clause-err g c =
+    let p = err_from_is_err_and c.from_residual.result c.from_residual.ensures.1 in
+    rw (p.1, p.2) (element_refused _ _ g.met.T.Size.lawful _ _ _ _ _ _ _ c.loop-left.invariant.read (omega arith) c.in_err-element.ensures.err)
+
+pub returns-then-taken-eq0-clause-err : goal.returns-then-taken-eq0-clause-err
+returns-then-taken-eq0-clause-err g c = record {
+  cause = inl (none_if_empty _ _ g.met.T.Size.lawful _ _ _ _ _ _ _ c.loop-left.invariant.read (omega arith) c.in_ok-element.ensures.ok c.if-taken-eq0.true);
+  memory = λ h. refl;
+}
+
+pub returns-then-taken-left-clause-err : goal.returns-then-taken-left-clause-err
+returns-then-taken-left-clause-err g c = record {
+  cause = inl (none_if_long _ _ g.met.T.Size.lawful _ _ _ _ _ _ _ c.loop-left.invariant.read (omega arith) c.in_ok-element.ensures.ok (omega arith));
+  memory = λ h. refl;
+}
+
+pub loop-left-preserved : goal.loop-left-preserved
+loop-left-preserved g c =
+    let items : c.push.new.self.items ≡ c.loop-left.elements.items ++ c.in_ok-element.element ∷ [] = search rules in
+    record {
+      read = read_more g.T.Size.plain _ _ _ _ c.loop-left.elements.items _ c.in_ok-element.element _ c.push.new.self.items c.loop-left.invariant.read c.in_ok-element.ensures.ok c.if-taken-eq0.false (omega arith) items;
+      turned = omega (arith, c.loop-left.invariant.turned, c.turn.ensures, ap length items, length-append c.loop-left.elements.items (c.in_ok-element.element ∷ []));
+      untouched = λ none. absurd (omega (arith, none, c.loop-left.invariant.read.fills));
+    }

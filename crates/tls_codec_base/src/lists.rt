@@ -1,0 +1,54 @@
+//! Lists: elements in a row, which fill a declared number of bytes (RFC 8446, section 3.4).
+//!
+//! Each list type's calls go through the engines here, which know of an element its traits'
+//! contracts alone.
+ghost use Rattle.std.specs.Prelude.{◌≡◌, ◌<◌, ◌^◌};
+
+mod reading;
+mod writing;
+
+pub use reading::{from_reader, from_slice};
+pub(crate) use writing::content_bytes;
+pub use writing::{content_len, write};
+
+/// How often a list engine tried to read an element.
+///
+/// It grows by one with each attempt, also with one that is refused, up to `u64::MAX`.
+///
+/// ```rust
+/// let mut turns = Turns::new();
+/// let (elements, rest) = from_slice::<u16>(alloc, &[0, 1, 0, 2, 9], 4, &mut turns)?;
+/// assert_eq!(rt; elements.as_slice(), [1u16, 2].as_slice());
+/// assert_eq!(rt; turns.count(), 2);
+/// ```
+#[derive(Clone, Copy, PartialEq, Eq, Debug)]
+pub struct Turns {
+    count: u64,
+    ghost fits: { count < 2 ^ 64 },
+}
+
+impl Turns {
+    ghost use Rattle.tls_codec_base.specs.Turns.{TurnedBy, turns_of};
+
+    /// No turns.
+    pub fn new() -> Turns
+        ensures { turns_of result ≡ 0 }
+    {
+        Turns { count: 0 }
+    }
+
+    /// How many turns there were.
+    pub fn count(&self) -> u64
+        ensures { result ≡ turns_of self.now }
+    {
+        self.count
+    }
+
+    // One turn more.
+    fn turn(&mut self)
+        ensures { TurnedBy 1 self.old self.new }
+    {
+        let Turns { count } = self;
+        *count = count.saturating_add(1);
+    }
+}

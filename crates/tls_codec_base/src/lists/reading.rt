@@ -1,0 +1,106 @@
+//! Elements that fill a declared number of bytes, from a slice and from a source.
+ghost use Rattle.std.specs.Prelude.{◌≡◌, [], false, IfErr, IfOk, IsOkAnd};
+ghost use Rattle.tls_codec_wire.specs.Bounded.{BorrowAlike, inner_of, limit_of};
+ghost use Rattle.tls_codec_wire.specs.Device.{Gave};
+ghost use Rattle.tls_codec_base.specs.Tree.{trees};
+ghost use Rattle.tls_codec_base.specs.Grammar.{content, sized};
+ghost use Rattle.tls_codec_base.specs.Decoding.{Begins, GaveSpelling, Refuses, RefusesSource};
+ghost use Rattle.tls_codec_base.specs.Turns.{TurnedEach};
+
+use crate::lists::Turns;
+use crate::traits::{Deserialize, DeserializeBytes};
+use std::alloc::Global;
+use tls_codec_wire::{Bounded, Error, Source};
+
+const NO_BYTES: Error = Error::DecodingError("vector element consumed 0 bytes");
+
+const NOT_FILLED: Error = Error::DecodingError("elements do not fill the declared length");
+
+/// The elements that fill the first `length` bytes exactly, and the bytes behind those.
+///
+/// Each element is read from all that is left of the bytes. Its own refusal is handed on.
+/// `DecodingError("vector element consumed 0 bytes")`: an element's spelling is empty.
+/// `DecodingError("elements do not fill the declared length")`: an element passes the declared end.
+/// With `length` 0 there is no element, no turn and no want of memory.
+pub fn from_slice<'a, T: DeserializeBytes>(
+    alloc: Global,
+    bytes: &'a [u8],
+    length: usize,
+    turns: &mut Turns,
+) -> Result<(Vec<T>, &'a [u8]), Error>
+    ensures ok { IfOk result (λ found. Begins (sized length (content T.spells)) bytes.now (trees T.plain found.0.items) found.1.now) }
+    ensures err { IfErr result (Refuses (sized length (content T.spells)) false bytes.now) }
+    ensures turned { IfOk result (λ found. TurnedEach found.0.items turns.old turns.new) }
+    ensures nothing_asked { length ≡ 0 → IsOkAnd result (λ found. (found.0.items ≡ []) × (found.1.now ≡ bytes.now)) × (turns.new ≡ turns.old) }
+{
+    let mut elements = Vec::new(alloc);
+    let mut rest = bytes;
+    let mut left = length;
+    while left > 0 {
+        turns.turn();
+        let (element, behind) = T::tls_deserialize_bytes(alloc, rest)?;
+        let taken = rest.len() - behind.len();
+        if taken == 0 {
+            return Err(NO_BYTES);
+        }
+        if taken > left {
+            return Err(NOT_FILLED);
+        }
+        if elements.push(element).is_err() {
+            return Err(Error::OutOfMemory);
+        }
+        left -= taken;
+        rest = behind;
+    }
+    Ok((elements, rest))
+}
+
+/// The elements that the next `length` bytes are filled with exactly. Just these bytes are taken.
+///
+/// Each element is read from a source that ends where the list does. Its own refusal is handed on,
+/// which is `EndOfStream` where it passes the declared end.
+/// `DecodingError("vector element consumed 0 bytes")`: an element's spelling is empty. With `length`
+/// 0 there is no element, no turn and no want of memory, and the source isn't asked.
+pub fn from_reader<T: Deserialize, R: Source>(
+    alloc: Global,
+    src: &mut R,
+    length: usize,
+    turns: &mut Turns,
+) -> Result<Vec<T>, Error>
+    ensures gave { Gave R.given src.old src.new }
+    ensures ok { IfOk result (λ elements. GaveSpelling R.given (sized length (content T.spells)) src.old src.new (trees T.plain elements.items)) }
+    ensures err { IfErr result (RefusesSource (sized length (content T.spells)) false (R.coming src.old) (R.counts src.old) (R.counts src.new)) }
+    ensures turned { IfOk result (λ elements. TurnedEach elements.items turns.old turns.new) }
+    ensures nothing_asked { length ≡ 0 → IsOkAnd result (λ elements. elements.items ≡ []) × (src.new ≡ src.old) × (turns.new ≡ turns.old) }
+{
+    let mut within = Bounded::new(src, length as u64);
+    elements_within(alloc, &mut within, turns)
+}
+
+// The elements that fill what a source may still give.
+fn elements_within<T: Deserialize, R: Source>(
+    alloc: Global,
+    within: &mut Bounded<R>,
+    turns: &mut Turns,
+) -> Result<Vec<T>, Error>
+    ensures same { BorrowAlike within.old within.new }
+    ensures gave { Gave R.given (inner_of within.old) (inner_of within.new) }
+    ensures ok { IfOk result (λ elements. GaveSpelling R.given (sized (limit_of within.old) (content T.spells)) (inner_of within.old) (inner_of within.new) (trees T.plain elements.items)) }
+    ensures err { IfErr result (RefusesSource (sized (limit_of within.old) (content T.spells)) false (R.coming (inner_of within.old)) (R.counts (inner_of within.old)) (R.counts (inner_of within.new))) }
+    ensures turned { IfOk result (λ elements. TurnedEach elements.items turns.old turns.new) }
+    ensures nothing_asked { limit_of within.old ≡ 0 → IsOkAnd result (λ elements. elements.items ≡ []) × (inner_of within.new ≡ inner_of within.old) × (turns.new ≡ turns.old) }
+{
+    let mut elements = Vec::new(alloc);
+    'elements: while within.limit() > 0 {
+        turns.turn();
+        let before = within.limit();
+        let element = T::tls_deserialize(alloc, within)?;
+        if within.limit() == before {
+            return Err(NO_BYTES);
+        }
+        if elements.push(element).is_err() {
+            return Err(Error::OutOfMemory);
+        }
+    }
+    Ok(elements)
+}
