@@ -1,2 +1,4 @@
 pub mod Reading
 pub mod Paths
+pub mod KindNames
+pub mod Bytes

@@ -1,34 +1,37 @@
 -- The kinds.
-use Rattle.std.specs.Prelude.{ℕ, List, codes, ⊤}
-use Rattle.std.specs.Bool.{MatchBool}
-use Rattle.std.specs.Str.{bytes_eq}
+use Rattle.std.specs.Prelude.{◌≡◌, ℕ, Bool, List, codes}
 use Rattle.tls_codec_base.specs.Tree.{Tree}
-use Rattle.tls_codec_base.specs.Grammar.{Grammar, number, option, varint}
-use Rattle.tlsview.specs.Texts.{number_text, option_text}
+use Rattle.tls_codec_base.specs.Grammar.{Grammar, number, varint, option, triple, list, text}
+use Rattle.tlsview.specs.Texts.{number_text, option_text, triple_text, list_text, bytes_text}
 use Rattle.tlsview.specs.View.{Views, IsView}
+use Rattle.tlsview.specs.declared.kinds.Kind.{Kind}
+use Rattle.tlsview.specs.declared.kinds.Kind.TheVariants.{U16, VarInt, OptionU16, VecU8, VecU16, VecVecU16, String, Mixed}
 
--- what is said where this is the kind's name, and the other where it is not
-abbrev pub IfNamed : List ℕ → List ℕ → Type 0 → Type 0 → Type 0
-IfNamed name kind Said Unsaid = MatchBool (bytes_eq name kind) Said Unsaid
+-- The table of kinds: something is said of a kind's name, the grammar of its type, and the text of a value.
+abbrev pub OfKind : Kind → (List ℕ → Grammar → (Tree → List ℕ) → Type 0) → Type 0
+OfKind U16 Said = Said (codes "u16") (number 2) number_text
+OfKind VarInt Said = Said (codes "varint") varint number_text
+OfKind OptionU16 Said = Said (codes "option-u16") (option (number 2)) (option_text number_text)
+OfKind VecU8 Said = Said (codes "vec-u8") (list (number 1)) (list_text number_text)
+OfKind VecU16 Said = Said (codes "vec-u16") (list (number 2)) (list_text number_text)
+OfKind VecVecU16 Said = Said (codes "vec-vec-u16") (list (list (number 2))) (list_text (list_text number_text))
+OfKind String Said = Said (codes "string") text bytes_text
+OfKind Mixed Said = Said (codes "mixed") (triple (number 1) (list (number 2)) (option text)) (triple_text number_text (list_text number_text) (option_text bytes_text))
 
--- a row of the table, and the rows below it
-infixr 1 ◌otherwise◌
-abbrev pub ◌otherwise◌ : (Type 0 → Type 0) → Type 0 → Type 0
-row otherwise rest = row rest
+-- this is the kind's name
+abbrev pub IsNamed : Kind → List ℕ → Type 0
+IsNamed kind name = OfKind kind (λ own spells shows. name ≡ own)
 
--- The table of kinds: the name of each, the grammar of its type, and the text of a value. It says something of the
--- grammar and the text of the kind that has this name, and something else where none has it.
-abbrev pub OfKind : List ℕ → (Grammar → (Tree → List ℕ) → Type 0) → Type 0 → Type 0
-OfKind name Said Unknown =
-    IfNamed name (codes "u16") (Said (number 2) number_text) otherwise
-    IfNamed name (codes "varint") (Said varint number_text) otherwise
-    IfNamed name (codes "option-u16") (Said (option (number 2)) (option_text number_text)) otherwise
-    Unknown
+-- the lines are the view of the bytes x by the kind's type
+abbrev pub IsViewBy : Kind → Views
+IsViewBy kind x accepted lines = OfKind kind (λ name spells shows. IsView spells shows x accepted lines)
 
--- the lines are the view of the bytes x for the kind of this name
-abbrev pub IsViewOf : List ℕ → Views
-IsViewOf name x accepted lines = OfKind name (λ spells text. IsView spells text x accepted lines) ⊥
+-- the lines are the view of the bytes x by the type of the kind of this name
+pub record IsViewOf (name x : List ℕ) (accepted : Bool) (lines : List ℕ) : Type 0 where
+  pub kind : Kind
+  pub named : IsNamed kind name
+  pub view : IsViewBy kind x accepted lines
 
 -- this is no kind's name
 abbrev pub NamesNoKind : List ℕ → Type 0
-NamesNoKind name = OfKind name (λ spells text. ⊥) ⊤
+NamesNoKind name = (kind : Kind) → IsNamed kind name → ⊥

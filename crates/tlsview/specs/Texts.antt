@@ -1,5 +1,6 @@
 -- How values and bytes are printed.
-use Rattle.std.specs.Prelude.{ℕ, List, [], ◌∷◌, ◌++◌, codes, decimal}
+use Rattle.std.specs.Prelude.{ℕ, List, [], ◌∷◌, ◌++◌, map, codes, decimal}
+use Rattle.std.specs.List.{join_by}
 use Rattle.hex.specs.Hex.{encode_lower}
 use Rattle.tls_codec_base.specs.Tree.{Tree, Number, Empty, Join}
 
@@ -18,3 +19,30 @@ abbrev pub option_text : (Tree → List ℕ) → Tree → List ℕ
 option_text payload Empty = codes "none"
 option_text payload (Join v Empty) = codes "some " ++ payload v
 option_text payload _ = []
+
+-- a triple is its parts' texts, with commas between them, in parentheses
+abbrev pub triple_text : (Tree → List ℕ) → (Tree → List ℕ) → (Tree → List ℕ) → Tree → List ℕ
+triple_text first second third (Join v (Join w (Join x Empty))) = codes "(" ++ first v ++ codes "," ++ second w ++ codes "," ++ third x ++ codes ")"
+triple_text first second third _ = []
+
+-- the parts of a list
+abbrev pub parts : Tree → List Tree
+parts (Join v vs) = v ∷ parts vs
+parts _ = []
+
+-- the texts of a list's elements, with commas between them
+abbrev pub elements_text : (Tree → List ℕ) → Tree → List ℕ
+elements_text element v = join_by element (codes ",") (parts v)
+
+-- a list is these in brackets
+abbrev pub list_text : (Tree → List ℕ) → Tree → List ℕ
+list_text element v = codes "[" ++ elements_text element v ++ codes "]"
+
+-- the number that a value is
+abbrev pub number_in : Tree → ℕ
+number_in (Number n) = n
+number_in _ = 0
+
+-- bytes, and the UTF-8 of a text, are their hex, and `-` for none
+abbrev pub bytes_text : Tree → List ℕ
+bytes_text v = hex_or_dash (map number_in (parts v))

@@ -1,70 +1,65 @@
-//! The kinds, and what is done for each.
-ghost use Rattle.std.specs.Prelude.{◌≡◌, ◌≢◌, ◌↔◌, IfOk, IfErr, IsErrOf};
-ghost use Rattle.tls_codec_wire.specs.Counts.{NoneFell};
-ghost use Rattle.tls_codec_wire.specs.Device.{Gave};
-ghost use Rattle.tlsview.specs.Kinds.{IsViewOf, NamesNoKind};
-ghost use Rattle.tlsview.specs.Run.{BrokeOff, SentView, SinkIsToBlame, WhyNoView};
-ghost use Rattle.tlsview.specs.View.{IsView};
+//! The kinds: each names a type that bytes are read as.
+ghost use Rattle.std.specs.Prelude.{◌≡◌, IfOk, IfErr, MatchOption, string_bytes};
+ghost use Rattle.tlsview.specs.Kinds.{IsNamed, IsViewBy, NamesNoKind};
 
 use crate::fault::ViewFault;
-use crate::input::{decode, read_text};
-use crate::show::Show;
-use crate::view::view_of;
+use crate::view::{View, view_of};
 use std::alloc::Global;
-use tls_codec_wire::{Sink, Source, TlsVarInt, write_all};
+use tls_codec_wire::TlsVarInt;
 
-/// Reads the input, and prints the view of the bytes that it stands for, by the type of a kind.
-///
-/// The kind is looked up first. Of the refusals only `Write` may come after something was sent.
-pub fn run<R: Source, W: Sink>(
-    alloc: Global,
-    kind: &str,
-    input: &mut R,
-    out: &mut W,
-) -> Result<bool, ViewFault>
-    ensures ok { IfOk result (SentView R.given R.coming input.old input.new
-        (IsViewOf kind.now) (W.received out.old) (W.received out.new)) }
-    ensures kind { IsErrOf result ViewFault.Kind ↔ NamesNoKind kind.now }
-    ensures err { IfErr result (WhyNoView R.given R.coming R.counts input.old input.new) }
-    ensures broken { IsErrOf result ViewFault.Write → BrokeOff R.given R.coming input.old input.new
-        (IsViewOf kind.now) (W.received out.old) (W.received out.new) }
-    ensures blame { IsErrOf result ViewFault.Write → SinkIsToBlame (W.counts out.old) (W.counts out.new) }
-    ensures silent { IfErr result (λ fault. fault ≢ ViewFault.Write → out.new ≡ out.old) }
-    ensures gave { Gave R.given input.old input.new }
-    ensures input_counts { NoneFell (R.counts input.old) (R.counts input.new) }
-    ensures sink_counts { NoneFell (W.counts out.old) (W.counts out.new) }
-{
-    match kind {
-        "u16" => run_for::<u16, R, W>(alloc, input, out),
-        "varint" => run_for::<TlsVarInt, R, W>(alloc, input, out),
-        "option-u16" => run_for::<Option<u16>, R, W>(alloc, input, out),
-        _ => Err(ViewFault::Kind),
-    }
+/// A kind.
+#[derive(Clone, Copy)]
+pub enum Kind {
+    /// `u16`.
+    U16,
+    /// `TlsVarInt`.
+    VarInt,
+    /// `Option<u16>`.
+    OptionU16,
+    /// `Vec<u8>`, as a list of numbers.
+    VecU8,
+    /// `Vec<u16>`.
+    VecU16,
+    /// `Vec<Vec<u16>>`.
+    VecVecU16,
+    /// `String`.
+    String,
+    /// `(u8, Vec<u16>, Option<String>)`.
+    Mixed,
 }
 
-/// Reads the input, and prints the view of the bytes that it stands for, by one type.
-fn run_for<T: Show, R: Source, W: Sink>(
-    alloc: Global,
-    input: &mut R,
-    out: &mut W,
-) -> Result<bool, ViewFault>
-    ensures ok { IfOk result (SentView R.given R.coming input.old input.new
-        (IsView T.spells T.text) (W.received out.old) (W.received out.new)) }
-    ensures err { IfErr result (WhyNoView R.given R.coming R.counts input.old input.new) }
-    ensures known { IfErr result (λ fault. fault ≢ ViewFault.Kind) }
-    ensures broken { IsErrOf result ViewFault.Write → BrokeOff R.given R.coming input.old input.new
-        (IsView T.spells T.text) (W.received out.old) (W.received out.new) }
-    ensures blame { IsErrOf result ViewFault.Write → SinkIsToBlame (W.counts out.old) (W.counts out.new) }
-    ensures silent { IfErr result (λ fault. fault ≢ ViewFault.Write → out.new ≡ out.old) }
-    ensures gave { Gave R.given input.old input.new }
-    ensures input_counts { NoneFell (R.counts input.old) (R.counts input.new) }
-    ensures sink_counts { NoneFell (W.counts out.old) (W.counts out.new) }
-{
-    let text = read_text(alloc, input)?;
-    let bytes = decode(alloc, &text)?;
-    let view = view_of::<T>(alloc, &bytes)?;
-    match write_all(out, view.lines.as_bytes()) {
-        Ok(()) => Ok(view.accepted),
-        Err(_) => Err(ViewFault::Write),
+impl Kind {
+    /// The kind of this name, compared byte for byte.
+    pub fn named(name: &str) -> Option<Kind>
+        ensures { MatchOption result (NamesNoKind name.now) (λ kind. IsNamed kind name.now) }
+    {
+        match name {
+            "u16" => Some(Kind::U16),
+            "varint" => Some(Kind::VarInt),
+            "option-u16" => Some(Kind::OptionU16),
+            "vec-u8" => Some(Kind::VecU8),
+            "vec-u16" => Some(Kind::VecU16),
+            "vec-vec-u16" => Some(Kind::VecVecU16),
+            "string" => Some(Kind::String),
+            "mixed" => Some(Kind::Mixed),
+            _ => None,
+        }
+    }
+
+    /// The lines that are printed of some bytes. `Memory`: as for [`view_of`].
+    pub fn view(self, alloc: Global, bytes: &[u8]) -> Result<View, ViewFault>
+        ensures ok { IfOk result (λ view. IsViewBy self bytes.now view.accepted (string_bytes view.lines)) }
+        ensures err { IfErr result (λ fault. fault ≡ ViewFault.Memory) }
+    {
+        match self {
+            Kind::U16 => view_of::<u16>(alloc, bytes),
+            Kind::VarInt => view_of::<TlsVarInt>(alloc, bytes),
+            Kind::OptionU16 => view_of::<Option<u16>>(alloc, bytes),
+            Kind::VecU8 => view_of::<Vec<u8>>(alloc, bytes),
+            Kind::VecU16 => view_of::<Vec<u16>>(alloc, bytes),
+            Kind::VecVecU16 => view_of::<Vec<Vec<u16>>>(alloc, bytes),
+            Kind::String => view_of::<String>(alloc, bytes),
+            Kind::Mixed => view_of::<(u8, Vec<u16>, Option<String>)>(alloc, bytes),
+        }
     }
 }

@@ -16,7 +16,8 @@
 //! line is `error kind`, `error long`, `error read`, `error hex` or `error memory`, and there is
 //! none where standard output failed.
 //!
-//! - [`kinds`]: [`run`](kinds::run), which does it over any input and any sink, and the table of kinds.
+//! - [`run`]: [`run`](run::run), which does it over any input and any sink.
+//! - [`kinds`]: [`Kind`](kinds::Kind), the table of kinds.
 //! - [`input`]: reading the text, and the bytes that it stands for.
 //! - [`view`]: the lines that are printed of some bytes.
 //! - [`show`]: [`Show`](show::Show), the text of a value.
@@ -29,13 +30,14 @@ ghost use Rattle.tlsview.specs.Endings.{argument_of, status_of};
 mod fault;
 mod input;
 mod kinds;
+mod run;
 mod show;
 #[cfg(test)]
 mod tests;
 mod view;
 
 use fault::ViewFault;
-use kinds::run;
+use run::run;
 use std::env;
 use std::env::Env;
 use std::io::ErrorKind;

@@ -2,11 +2,10 @@
 ghost use Rattle.std.specs.Prelude.{◌≡◌, ◌≢◌, ◌++◌, IfOk, IfErr, OnOk, codes, string_bytes};
 ghost use Rattle.tls_codec_wire.specs.Names.{name_of};
 ghost use Rattle.tls_codec_wire.specs.declared.error.Error.TheVariants.{OutOfMemory};
-ghost use Rattle.tlsview.specs.Texts.{hex_or_dash};
 ghost use Rattle.tlsview.specs.View.{AppendsLeast, IsView, ok_line, refused_line};
 
 use crate::fault::ViewFault;
-use crate::show::Show;
+use crate::show::{Show, push_hex};
 use std::alloc::{AllocError, Global};
 use tls_codec_wire::Error;
 
@@ -73,7 +72,7 @@ fn show_value<T: Show>(
         ≡ string_bytes out.old ++ ok_line path.now (T.text (T.plain value.now)) rest.now) }
 {
     write!(out, "{path} ok ")?;
-    value.show(out)?;
+    value.show(alloc, out)?;
     out.push_str(" rest ")?;
     push_hex(alloc, out, rest)?;
     out.push_str("\n")
@@ -107,15 +106,4 @@ fn show_least<T: Show>(alloc: Global, out: &mut String, value: &T) -> Result<(),
     out.push_str("least ")?;
     push_hex(alloc, out, &form)?;
     out.push_str("\n")
-}
-
-/// Appends the hex of some bytes, and `-` for none.
-fn push_hex(alloc: Global, out: &mut String, bytes: &[u8]) -> Result<(), AllocError>
-    ensures { OnOk result (string_bytes out.new ≡ string_bytes out.old ++ hex_or_dash bytes.now) }
-{
-    if bytes.is_empty() {
-        return out.push_str("-");
-    }
-    let digits = hex::encode(alloc, bytes)?;
-    out.push_str(digits.as_str())
 }
