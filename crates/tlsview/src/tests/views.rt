@@ -1,11 +1,12 @@
 // Rows of a table of vectors from outside.
 use super::run_on;
+use std::alloc::{AllocError, Global};
 use std::test::Fail;
 
-// A kind, the hex of some bytes, and of what they begin with the value's text, the rest's hex and
-// the shortest form's.
+// Each of these rows has a kind and the hex of some bytes, and of what they begin with the value's
+// text, the rest's hex, and the shortest form's.
 #[test]
-fn bytes_with_a_spelling_are_shown(rt: HostRuntime) -> Result<(), Fail> {
+fn numbers_and_options_are_shown(rt: HostRuntime) -> Result<(), Fail> {
     for (kind, text, value, rest, least) in [
         ("u16", "0000", "0", "-", "0000"),
         ("u16", "0080", "128", "-", "0080"),
@@ -37,6 +38,18 @@ fn bytes_with_a_spelling_are_shown(rt: HostRuntime) -> Result<(), Fail> {
         ("option-u16", "010000ee01", "some 0", "ee01", "010000"),
         ("option-u16", "01040000", "some 1024", "00", "010400"),
         ("option-u16", "012e7fffea", "some 11903", "ffea", "012e7f"),
+    ] {
+        let lines = accepted(rt.alloc(), value, rest, least)?;
+        let (outcome, out) = run_on(rt.alloc(), kind, text.as_bytes());
+        assert_eq!(rt; outcome, Ok(true), "{kind} of {text}");
+        assert_eq!(rt; out.as_slice(), lines.as_bytes(), "{kind} of {text}");
+    }
+    Ok(())
+}
+
+#[test]
+fn lists_are_shown(rt: HostRuntime) -> Result<(), Fail> {
+    for (kind, text, value, rest, least) in [
         ("vec-u8", "00", "[]", "-", "00"),
         ("vec-u8", "00ee", "[]", "ee", "00"),
         ("vec-u8", "0100", "[0]", "-", "0100"),
@@ -87,6 +100,18 @@ fn bytes_with_a_spelling_are_shown(rt: HostRuntime) -> Result<(), Fail> {
             "0504404003ff",
         ),
         ("vec-vec-u16", "08c000000000000000", "[[]]", "-", "0100"),
+    ] {
+        let lines = accepted(rt.alloc(), value, rest, least)?;
+        let (outcome, out) = run_on(rt.alloc(), kind, text.as_bytes());
+        assert_eq!(rt; outcome, Ok(true), "{kind} of {text}");
+        assert_eq!(rt; out.as_slice(), lines.as_bytes(), "{kind} of {text}");
+    }
+    Ok(())
+}
+
+#[test]
+fn texts_and_triples_are_shown(rt: HostRuntime) -> Result<(), Fail> {
+    for (kind, text, value, rest, least) in [
         ("string", "00", "-", "-", "00"),
         ("string", "00ff", "-", "ff", "00"),
         ("string", "0100", "00", "-", "0100"),
@@ -137,16 +162,21 @@ fn bytes_with_a_spelling_are_shown(rt: HostRuntime) -> Result<(), Fail> {
             "0700010461616161",
         ),
     ] {
+        let lines = accepted(rt.alloc(), value, rest, least)?;
         let (outcome, out) = run_on(rt.alloc(), kind, text.as_bytes());
-        let read = format!(in rt.alloc(); "ok {value} rest {rest}")?;
-        let lines = format!(in rt.alloc(); "slice {read}\nreader {read}\nleast {least}\n")?;
         assert_eq!(rt; outcome, Ok(true), "{kind} of {text}");
         assert_eq!(rt; out.as_slice(), lines.as_bytes(), "{kind} of {text}");
     }
     Ok(())
 }
 
-// A kind, the hex of some bytes, and the refusals by slice and by reader.
+// What is printed of a value that both paths read.
+fn accepted(alloc: Global, value: &str, rest: &str, least: &str) -> Result<String, AllocError> {
+    let read = format!(in alloc; "ok {value} rest {rest}")?;
+    format!(in alloc; "slice {read}\nreader {read}\nleast {least}\n")
+}
+
+// Each of these rows has a kind, the hex of some bytes, and the refusals by slice and by reader.
 #[test]
 fn bytes_without_a_spelling_are_refused(rt: HostRuntime) -> Result<(), Fail> {
     let ended = "EndOfStream";
@@ -207,10 +237,10 @@ fn bytes_without_a_spelling_are_refused(rt: HostRuntime) -> Result<(), Fail> {
         ("mixed", "07030001000200", wrong, ended),
         ("mixed", "07000103eda080", wrong, wrong),
     ] {
-        let (outcome, out) = run_on(rt.alloc(), kind, text.as_bytes());
         let lines = format!(in rt.alloc();
             "slice refused {by_slice}\nreader refused {by_reader}\n"
         )?;
+        let (outcome, out) = run_on(rt.alloc(), kind, text.as_bytes());
         assert_eq!(rt; outcome, Ok(false), "{kind} of {text}");
         assert_eq!(rt; out.as_slice(), lines.as_bytes(), "{kind} of {text}");
     }
