@@ -1,5 +1,5 @@
 -- What one call of a device does, and what a source gives in a row of calls.
-use Rattle.std.specs.Prelude.{◌≡◌, ℕ, ◌<◌, List, [], ◌++◌, length, take, Option, Result, Ok, Err}
+use Rattle.std.specs.Prelude.{◌≡◌, ℕ, ◌<◌, ◌≤◌, List, [], ◌++◌, length, take, Option, None, Some, Result, Ok, Err, ⊤}
 use Rattle.std.specs.Io.KnownBytes.{Consumes, Appends}
 use Rattle.tls_codec_wire.specs.declared.device.Fault.{Fault}
 use Rattle.tls_codec_wire.specs.declared.device.Fault.TheVariants.{Interrupted, NoMemory, Failed}
@@ -78,6 +78,11 @@ pub record PulledOnto {S : Type 0} (given : Gives S) (old new : S) (result : Res
   pub held : given old bytes new
   pub appended : after ≡ before ++ bytes
   pub count : length bytes ≡ count_moved result
+
+-- so many bytes at least are to come, where that is told
+abbrev pub IsAtHand : ℕ → Option (List ℕ) → Type 0
+IsAtHand n None = ⊤
+IsAtHand n (Some xs) = n ≤ length xs
 
 -- ---- what a sink has received
 

@@ -76,6 +76,12 @@ impl<R: Source> Source for Bounded<'_, R> {
     }
 
     #[inline(always)]
+    fn at_hand(&self) -> usize {
+        let Bounded { inner, limit } = self;
+        (*limit).min(inner.at_hand() as u64) as usize
+    }
+
+    #[inline(always)]
     fn pull_onto(&mut self, out: &mut Vec<u8>, most: usize) -> Result<usize, Fault>
         ensures bound { IfOk result (λ n. n ≤ most) }
         ensures gave { PulledOnto (GaveWithin R.given) self.old self.new result out.old.items out.new.items }

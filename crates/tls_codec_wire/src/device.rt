@@ -2,7 +2,7 @@
 ghost use Rattle.std.specs.Prelude.{◌≡◌, ℕ, ◌+◌, ◌<◌, ◌≤◌, List, length, Option, IfOk, vec_capacity, vec_len};
 ghost use Rattle.std.specs.Io.KnownBytes.{Appends, IsAtEnd};
 ghost use Rattle.tls_codec_wire.specs.Counts.{Counts};
-ghost use Rattle.tls_codec_wire.specs.Device.{bytes_moved, GiveIsCounted, GivesFromFront, GivesInOrder, GivesNothing, NoCountFalls, PullIsCounted, PulledOnto};
+ghost use Rattle.tls_codec_wire.specs.Device.{bytes_moved, GiveIsCounted, GivesFromFront, GivesInOrder, GivesNothing, IsAtHand, NoCountFalls, PullIsCounted, PulledOnto};
 
 /// Why one call of a device moved no byte.
 #[derive(Clone, Copy, PartialEq, Eq, Debug)]
@@ -38,6 +38,13 @@ pub trait Source {
         ensures gave { given self.old (bytes_moved result into.new) self.new }
         ensures end { result ≡ Ok 0 → 0 < length into.old → IsAtEnd (coming self.new) }
         ensures counted { PullIsCounted result (counts self.old) (counts self.new) };
+
+    /// How many bytes it has at hand: so many are to come at least. It is 0 where it doesn't know.
+    fn at_hand(&self) -> usize
+        ensures { IsAtHand result (coming self.now) }
+    {
+        0
+    }
 
     /// Puts the next bytes behind those of a vector, as many as it has room for and `most` at most,
     /// and answers how many. It never grows the vector. It is 0 for a vector with room only at the

@@ -1,5 +1,5 @@
 //! Bytes of a source, gathered in a vector as they come.
-ghost use Rattle.std.specs.Prelude.{◌≡◌, ◌≤◌, ◌^◌, length, IfErr, IfOk};
+ghost use Rattle.std.specs.Prelude.{◌≡◌, ◌<◌, ◌≤◌, ◌^◌, length, IfErr, IfOk};
 ghost use Rattle.tls_codec_wire.specs.Device.{Gave};
 ghost use Rattle.tls_codec_wire.specs.Transfer.{BytesRefused};
 ghost use Rattle.tls_codec_wire.specs.declared.error.Error.TheVariants.{InvalidVectorLength};
@@ -14,8 +14,8 @@ const FIRST_ROOM: usize = 4096;
 
 /// A vector of the next `len` bytes.
 ///
-/// Room is asked for as the bytes come: for 4,096 at first, and then for as many as are there, so
-/// that a length without its bytes costs nothing. `InvalidVectorLength`: `len` is above
+/// Room is asked for as the bytes come: for 4,096 at first, and then for as many as came or are at
+/// hand, so that a length without its bytes costs nothing. `InvalidVectorLength`: `len` is above
 /// `isize::MAX`, and nothing was taken. `OutOfMemory`: the source or the vector had none. Every
 /// other refusal, and interruptions, are as in [`read_exactly`](crate::read_exactly).
 ///
@@ -43,7 +43,7 @@ pub fn read_bytes_bounded<R: Source>(
     let mut row = 0;
     while bytes.len() < len {
         let came = bytes.len();
-        let step = (len - came).min(came.max(FIRST_ROOM));
+        let step = (len - came).min(room_for(came, src.at_hand()));
         bytes.reserve(step)?;
         match src.pull_onto(&mut bytes, step) {
             Ok(0) => return Err(Error::EndOfStream),
@@ -59,4 +59,16 @@ pub fn read_bytes_bounded<R: Source>(
         }
     }
     Ok(bytes)
+}
+
+// How much room is asked for where so many bytes came, and others are at hand: before one came little,
+// and then for what is at hand, or as much as came.
+fn room_for(came: usize, at_hand: usize) -> usize
+    ensures some { 0 < result }
+    ensures first { came ≡ 0 → result ≤ 4096 }
+{
+    if came == 0 {
+        return FIRST_ROOM;
+    }
+    came.max(at_hand)
 }

@@ -31,6 +31,11 @@ impl Source for &[u8] {
     }
 
     #[inline(always)]
+    fn at_hand(&self) -> usize {
+        (**self).len()
+    }
+
+    #[inline(always)]
     fn pull_onto(&mut self, out: &mut Vec<u8>, most: usize) -> Result<usize, Fault> {
         let n = self.len().min(most).min(out.capacity() - out.len());
         let (front, behind) = self.split_at(n);

@@ -84,11 +84,13 @@ fn a_limit_within_a_limit(rt: HostRuntime) {
 fn a_limit_over_a_slice(rt: HostRuntime) {
     let mut src = [1, 2, 3].as_slice();
     let mut first = Bounded::new(&mut src, 2);
+    assert_eq!(rt; first.at_hand(), 2);
     let mut into = [0; 4];
     assert_eq!(rt; first.pull(&mut into), Ok(2));
     assert_eq!(rt; into, [1, 2, 0, 0]);
     assert_eq!(rt; first.pull(&mut into), Ok(0));
     assert_eq!(rt; first.limit(), 0);
+    assert_eq!(rt; src.at_hand(), 1);
 }
 
 #[test]
@@ -115,6 +117,7 @@ fn a_length_without_its_bytes_asks_for_little_room(rt: HostRuntime) {
     let refused = read_bytes_bounded(rt.alloc(), &mut src, isize::MAX as usize);
     assert_eq!(rt; refused.err(), Some(Error::EndOfStream));
     assert_eq!(rt; src.room, 4096);
+    assert_eq!(rt; src.at_hand(), 0);
 }
 
 #[test]
