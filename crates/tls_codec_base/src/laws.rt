@@ -2,13 +2,14 @@
 //! that tells its bytes has left.
 //!
 //! The functions do nothing. Their contracts state the laws, and so are proved.
-ghost use Rattle.std.specs.Prelude.{ℕ};
+ghost use Rattle.std.specs.Prelude.{ℕ, ◌≤◌, ◌^◌, List, length};
 ghost use Rattle.tls_codec_base.specs.Tree.{Tree};
 ghost use Rattle.tls_codec_base.specs.Decoding.{ComesFirst, GaveSpelling};
 ghost use Rattle.tls_codec_base.specs.Grammar.{content, fields, fixed_list, list, nothing, option, text, utf8};
 ghost use Rattle.tls_codec_wire.specs.VarintCalls.{least_width};
-ghost use Rattle.tls_codec_base.specs.Announced.{content_length, counted_length, fields_length, nothing_length, option_length};
+ghost use Rattle.tls_codec_base.specs.Announced.{content_length, content_sum, counted_length, fields_length, nothing_length, option_length};
 ghost use Rattle.tls_codec_base.specs.Lawful.{IsLawful, IsLawfulInside};
+ghost use Rattle.tls_codec_base.specs.Shortest.{IsShortest};
 
 use crate::traits::Size;
 use tls_codec_wire::Source;
@@ -36,6 +37,12 @@ pub fn lists_are_lawful<T: Size>()
     ensures lists { IsLawful (list T.spells) (counted_length least_width (content_length T.announced)) }
     ensures fixed { (k : ℕ) → IsLawful (fixed_list k T.spells) (counted_length (λ n. k) (content_length T.announced)) }
     ensures texts { IsLawful text (counted_length least_width (content_length (λ v. 1))) }
+{}
+
+/// Where the elements of a list all have shortest forms that together pass a length of 62 bits, so do their
+/// announced lengths, and an encoder refuses the list before anything of it is sent.
+pub fn long_contents_announce_it<T: Size>()
+    ensures { (form : List ℕ) (v : Tree) → IsShortest (content T.spells) form v → 2 ^ 62 ≤ length form → 2 ^ 62 ≤ content_sum T.announced v }
 {}
 
 /// Where a source tells its bytes and has given just a spelling, the bytes that were to come begin

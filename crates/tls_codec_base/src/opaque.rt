@@ -53,6 +53,7 @@ pub fn write<W: Sink>(sink: &mut W, content: &[u8]) -> Result<usize, Error>
 pub fn to_vec(alloc: Global, content: &[u8]) -> Result<Vec<u8>, Error>
     ensures ok { IfOk result (λ form. IsShortest bytes form.items (number_trees content.now)) }
     ensures err { IfErr result (RefusesVector bytes (number_trees content.now)) }
+    ensures too_long { 2 ^ 62 ≤ length content.now → result ≡ Err InvalidVectorLength }
 {
     counted(alloc, content)
 }
@@ -61,6 +62,7 @@ pub fn to_vec(alloc: Global, content: &[u8]) -> Result<Vec<u8>, Error>
 pub(crate) fn counted(alloc: Global, content: &[u8]) -> Result<Vec<u8>, Error>
     ensures ok { IfOk result (λ form. IsLeastCounted form.items content.now) }
     ensures err { IfErr result (λ e. (e ≡ OutOfMemory) ⊎ ((e ≡ InvalidVectorLength) × (2 ^ 62 ≤ length content.now))) }
+    ensures too_long { 2 ^ 62 ≤ length content.now → result ≡ Err InvalidVectorLength }
 {
     let width = least_width(content.len() as u64);
     if width == 0 {

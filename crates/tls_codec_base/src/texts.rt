@@ -1,12 +1,15 @@
 //! `String` and `&str`: the number of UTF-8 bytes as a variable-length integer, then these bytes (the
 //! crate's rule).
-ghost use Rattle.std.specs.Prelude.{false, IfErr, IfOk, string_bytes};
+ghost use Rattle.std.specs.Prelude.{◌≡◌, ◌≤◌, ◌^◌, length, false, IfErr, IfOk, string_bytes};
+ghost use Rattle.tls_codec_wire.specs.Counts.{NoneFell};
 ghost use Rattle.tls_codec_wire.specs.Device.{Gave};
 ghost use Rattle.tls_codec_wire.specs.VarintCalls.{least_width};
+ghost use Rattle.tls_codec_wire.specs.declared.error.Error.TheVariants.{InvalidVectorLength};
 ghost use Rattle.tls_codec_base.specs.Tree.{number_trees};
 ghost use Rattle.tls_codec_base.specs.Grammar.{text};
 ghost use Rattle.tls_codec_base.specs.Announced.{content_length, counted_length};
 ghost use Rattle.tls_codec_base.specs.Decoding.{Begins, GaveSpelling, Refuses, RefusesSource};
+ghost use Rattle.tls_codec_base.specs.Encoding.{Breaks, Sends};
 ghost use Rattle.tls_codec_base.specs.Opaque.{TextRefused, TextSourceRefused};
 ghost use Rattle.tls_codec_base.specs.ListLaws.{text_lawful};
 
@@ -34,7 +37,14 @@ impl Size for String {
 }
 
 impl Serialize for String {
-    fn tls_serialize<W: Sink>(&self, writer: &mut W) -> Result<usize, Error> {
+    /// `InvalidVectorLength` is as for a `&str`.
+    fn tls_serialize<W: Sink>(&self, writer: &mut W) -> Result<usize, Error>
+        ensures ok { IfOk result (Sends text (number_trees (string_bytes self.now)) (W.received writer.old) (W.received writer.new)) }
+        ensures err { IfErr result (Breaks text (number_trees (string_bytes self.now)) (W.received writer.old) (W.received writer.new)
+            (W.counts writer.old) (W.counts writer.new)) }
+        ensures counts { NoneFell (W.counts writer.old) (W.counts writer.new) }
+        ensures too_long { 2 ^ 62 ≤ length (string_bytes self.now) → (result ≡ Err InvalidVectorLength) × (writer.new ≡ writer.old) }
+    {
         self.as_str().tls_serialize(writer)
     }
 }
@@ -97,7 +107,15 @@ impl Size for &str {
 }
 
 impl Serialize for &str {
-    fn tls_serialize<W: Sink>(&self, writer: &mut W) -> Result<usize, Error> {
+    /// `InvalidVectorLength`: there are more bytes than the greatest length, and nothing was sent.
+    /// Every other refusal is the sink's.
+    fn tls_serialize<W: Sink>(&self, writer: &mut W) -> Result<usize, Error>
+        ensures ok { IfOk result (Sends text (number_trees self.now.now) (W.received writer.old) (W.received writer.new)) }
+        ensures err { IfErr result (Breaks text (number_trees self.now.now) (W.received writer.old) (W.received writer.new)
+            (W.counts writer.old) (W.counts writer.new)) }
+        ensures counts { NoneFell (W.counts writer.old) (W.counts writer.new) }
+        ensures too_long { 2 ^ 62 ≤ length self.now.now → (result ≡ Err InvalidVectorLength) × (writer.new ≡ writer.old) }
+    {
         opaque::write(writer, self.as_bytes())
     }
 }

@@ -1,12 +1,13 @@
 //! `Vec<T>`, `&Vec<T>` and `&[T]`: the length of the content in bytes as a variable-length integer,
 //! then the elements (the crate's rule; RFC 9420, section 2.1.2).
-ghost use Rattle.std.specs.Prelude.{◌≡◌, false, IfErr, IfOk};
+ghost use Rattle.std.specs.Prelude.{◌≡◌, ◌≤◌, ◌^◌, false, IfErr, IfOk};
 ghost use Rattle.tls_codec_wire.specs.Counts.{NoneFell};
 ghost use Rattle.tls_codec_wire.specs.VarintCalls.{least_width};
+ghost use Rattle.tls_codec_wire.specs.declared.error.Error.TheVariants.{InvalidVectorLength};
 ghost use Rattle.tls_codec_base.specs.Tree.{trees};
 ghost use Rattle.tls_codec_base.specs.Grammar.{list};
 ghost use Rattle.tls_codec_base.specs.Shortest.{IsShortest};
-ghost use Rattle.tls_codec_base.specs.Announced.{content_length, counted_length};
+ghost use Rattle.tls_codec_base.specs.Announced.{content_length, content_sum, counted_length};
 ghost use Rattle.tls_codec_base.specs.Encoding.{Breaks, RefusesVector, Sends};
 ghost use Rattle.tls_codec_base.specs.ListLaws.{list_lawful};
 
@@ -34,7 +35,16 @@ impl<T: Size> Size for Vec<T> {
 }
 
 impl<T: Serialize> Serialize for Vec<T> {
-    fn tls_serialize<W: Sink>(&self, writer: &mut W) -> Result<usize, Error> {
+    /// `InvalidVectorLength`: the elements have more bytes than the greatest length, and nothing was
+    /// sent. Every other refusal is an element's or the sink's.
+    fn tls_serialize<W: Sink>(&self, writer: &mut W) -> Result<usize, Error>
+        ensures ok { IfOk result (Sends (list T.spells) (trees T.plain self.now.items) (W.received writer.old) (W.received writer.new)) }
+        ensures err { IfErr result (Breaks (list T.spells) (trees T.plain self.now.items) (W.received writer.old) (W.received writer.new)
+            (W.counts writer.old) (W.counts writer.new)) }
+        ensures counts { NoneFell (W.counts writer.old) (W.counts writer.new) }
+        ensures too_long { 2 ^ 62 ≤ content_sum T.announced (trees T.plain self.now.items) →
+            (result ≡ Err InvalidVectorLength) × (writer.new ≡ writer.old) }
+    {
         write(writer, self.as_slice())
     }
 }
@@ -100,7 +110,15 @@ impl<T: Size> Size for &[T] {
 }
 
 impl<T: Serialize> Serialize for &[T] {
-    fn tls_serialize<W: Sink>(&self, writer: &mut W) -> Result<usize, Error> {
+    /// `InvalidVectorLength` is as for a `Vec<T>`.
+    fn tls_serialize<W: Sink>(&self, writer: &mut W) -> Result<usize, Error>
+        ensures ok { IfOk result (Sends (list T.spells) (trees T.plain self.now.now) (W.received writer.old) (W.received writer.new)) }
+        ensures err { IfErr result (Breaks (list T.spells) (trees T.plain self.now.now) (W.received writer.old) (W.received writer.new)
+            (W.counts writer.old) (W.counts writer.new)) }
+        ensures counts { NoneFell (W.counts writer.old) (W.counts writer.new) }
+        ensures too_long { 2 ^ 62 ≤ content_sum T.announced (trees T.plain self.now.now) →
+            (result ≡ Err InvalidVectorLength) × (writer.new ≡ writer.old) }
+    {
         write(writer, self)
     }
 }
@@ -127,6 +145,8 @@ fn write<T: Serialize, W: Sink>(writer: &mut W, elements: &[T]) -> Result<usize,
     ensures err { IfErr result (Breaks (list T.spells) (trees T.plain elements.now) (W.received writer.old) (W.received writer.new)
         (W.counts writer.old) (W.counts writer.new)) }
     ensures counts { NoneFell (W.counts writer.old) (W.counts writer.new) }
+    ensures too_long { 2 ^ 62 ≤ content_sum T.announced (trees T.plain elements.now) →
+        (result ≡ Err InvalidVectorLength) × (writer.new ≡ writer.old) }
 {
     let length = content_len(elements)?;
     let width = vlen::write_length(writer, length)?;
