@@ -5,6 +5,7 @@ ghost use Rattle.tlsview.specs.Kinds.{IsNamed, IsViewBy, NamesNoKind};
 use crate::fault::ViewFault;
 use crate::view::{View, view_of};
 use std::alloc::Global;
+use tls_codec_vl::VLBytes;
 use tls_codec_wire::TlsVarInt;
 
 /// A kind.
@@ -26,6 +27,10 @@ pub enum Kind {
     String,
     /// `(u8, Vec<u16>, Option<String>)`.
     Mixed,
+    /// `VLBytes`.
+    VlBytes,
+    /// `Vec<VLBytes>`.
+    VecVlBytes,
 }
 
 impl Kind {
@@ -42,6 +47,8 @@ impl Kind {
             "vec-vec-u16" => Some(Kind::VecVecU16),
             "string" => Some(Kind::String),
             "mixed" => Some(Kind::Mixed),
+            "vlbytes" => Some(Kind::VlBytes),
+            "vec-vlbytes" => Some(Kind::VecVlBytes),
             _ => None,
         }
     }
@@ -60,6 +67,8 @@ impl Kind {
             Kind::VecVecU16 => view_of::<Vec<Vec<u16>>>(alloc, bytes),
             Kind::String => view_of::<String>(alloc, bytes),
             Kind::Mixed => view_of::<(u8, Vec<u16>, Option<String>)>(alloc, bytes),
+            Kind::VlBytes => view_of::<VLBytes>(alloc, bytes),
+            Kind::VecVlBytes => view_of::<Vec<VLBytes>>(alloc, bytes),
         }
     }
 }

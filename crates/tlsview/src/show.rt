@@ -5,6 +5,7 @@ ghost use Rattle.tlsview.specs.Texts.{bytes_text, elements_text, hex_or_dash, li
 
 use std::alloc::{AllocError, Global};
 use tls_codec_base::{Deserialize, DeserializeBytes, Serialize};
+use tls_codec_vl::VLBytes;
 use tls_codec_wire::TlsVarInt;
 
 /// A type whose values a view prints.
@@ -83,6 +84,14 @@ impl Show for String {
 
     fn show(&self, alloc: Global, out: &mut String) -> Result<(), AllocError> {
         push_hex(alloc, out, self.as_bytes())
+    }
+}
+
+impl Show for VLBytes {
+    ghost text = { bytes_text };
+
+    fn show(&self, alloc: Global, out: &mut String) -> Result<(), AllocError> {
+        push_hex(alloc, out, self.as_slice())
     }
 }
 

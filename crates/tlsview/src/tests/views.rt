@@ -51,20 +51,12 @@ fn numbers_and_options_are_shown(rt: HostRuntime) -> Result<(), Fail> {
 fn lists_are_shown(rt: HostRuntime) -> Result<(), Fail> {
     for (kind, text, value, rest, least) in [
         ("vec-u8", "00", "[]", "-", "00"),
-        ("vec-u8", "00ee", "[]", "ee", "00"),
-        ("vec-u8", "0100", "[0]", "-", "0100"),
         ("vec-u8", "01ff", "[255]", "-", "01ff"),
         ("vec-u8", "020102ee", "[1,2]", "ee", "020102"),
-        ("vec-u8", "4000ee", "[]", "ee", "00"),
-        ("vec-u8", "4001aa", "[170]", "-", "01aa"),
         ("vec-u8", "80000001aa", "[170]", "-", "01aa"),
-        ("vec-u8", "04ff7000ff", "[255,112,0,255]", "-", "04ff7000ff"),
-        ("vec-u16", "00", "[]", "-", "00"),
         ("vec-u16", "00ee", "[]", "ee", "00"),
         ("vec-u16", "0400010002", "[1,2]", "-", "0400010002"),
-        ("vec-u16", "0200010002", "[1]", "0002", "020001"),
         ("vec-u16", "4002000140c080", "[1]", "40c080", "020001"),
-        ("vec-u16", "800000020001", "[1]", "-", "020001"),
         (
             "vec-u16",
             "0443ffff00008001",
@@ -72,11 +64,8 @@ fn lists_are_shown(rt: HostRuntime) -> Result<(), Fail> {
             "008001",
             "0443ffff00",
         ),
-        ("vec-vec-u16", "00", "[]", "-", "00"),
         ("vec-vec-u16", "0100", "[[]]", "-", "0100"),
         ("vec-vec-u16", "020000ee", "[[],[]]", "ee", "020000"),
-        ("vec-vec-u16", "024000", "[[]]", "-", "0100"),
-        ("vec-vec-u16", "03020001", "[[1]]", "-", "03020001"),
         ("vec-vec-u16", "0440020001", "[[1]]", "-", "03020001"),
         (
             "vec-vec-u16",
@@ -92,14 +81,30 @@ fn lists_are_shown(rt: HostRuntime) -> Result<(), Fail> {
             "00",
             "0402000100",
         ),
-        (
-            "vec-vec-u16",
-            "0504404003ff",
-            "[[16448,1023]]",
-            "-",
-            "0504404003ff",
-        ),
         ("vec-vec-u16", "08c000000000000000", "[[]]", "-", "0100"),
+    ] {
+        let lines = accepted(rt.alloc(), value, rest, least)?;
+        let (outcome, out) = run_on(rt.alloc(), kind, text.as_bytes());
+        assert_eq!(rt; outcome, Ok(true), "{kind} of {text}");
+        assert_eq!(rt; out.as_slice(), lines.as_bytes(), "{kind} of {text}");
+    }
+    Ok(())
+}
+
+#[test]
+fn byte_vectors_are_shown(rt: HostRuntime) -> Result<(), Fail> {
+    for (kind, text, value, rest, least) in [
+        ("vlbytes", "00", "-", "-", "00"),
+        ("vlbytes", "00ee", "-", "ee", "00"),
+        ("vlbytes", "01ff", "ff", "-", "01ff"),
+        ("vlbytes", "40030a141e", "0a141e", "-", "030a141e"),
+        ("vlbytes", "800000026161ee", "6161", "ee", "026161"),
+        ("vlbytes", "c000000000000000", "-", "-", "00"),
+        ("vec-vlbytes", "00", "[]", "-", "00"),
+        ("vec-vlbytes", "0100ee", "[-]", "ee", "0100"),
+        ("vec-vlbytes", "03 40 01 AA", "[aa]", "-", "0201aa"),
+        ("vec-vlbytes", "0401aa01bb", "[aa,bb]", "-", "0401aa01bb"),
+        ("vec-vlbytes", "40020161ee", "[61]", "ee", "020161"),
     ] {
         let lines = accepted(rt.alloc(), value, rest, least)?;
         let (outcome, out) = run_on(rt.alloc(), kind, text.as_bytes());
@@ -113,14 +118,10 @@ fn lists_are_shown(rt: HostRuntime) -> Result<(), Fail> {
 fn texts_and_triples_are_shown(rt: HostRuntime) -> Result<(), Fail> {
     for (kind, text, value, rest, least) in [
         ("string", "00", "-", "-", "00"),
-        ("string", "00ff", "-", "ff", "00"),
-        ("string", "0100", "00", "-", "0100"),
         ("string", "026869", "6869", "-", "026869"),
         ("string", "400161ee", "61", "ee", "0161"),
-        ("string", "02616161", "6161", "61", "026161"),
         ("string", "03e282ac", "e282ac", "-", "03e282ac"),
         ("string", "04f48fbfbf", "f48fbfbf", "-", "04f48fbfbf"),
-        ("string", "0461c3a961", "61c3a961", "-", "0461c3a961"),
         (
             "mixed",
             "0704000100020102c3a9",
@@ -128,24 +129,15 @@ fn texts_and_triples_are_shown(rt: HostRuntime) -> Result<(), Fail> {
             "-",
             "0704000100020102c3a9",
         ),
-        ("mixed", "070000", "(7,[],none)", "-", "070000"),
         ("mixed", "000000ff", "(0,[],none)", "ff", "000000"),
         ("mixed", "07000100", "(7,[],some -)", "-", "07000100"),
         ("mixed", "07400000", "(7,[],none)", "-", "070000"),
-        ("mixed", "0702000100ee", "(7,[1],none)", "ee", "0702000100"),
         (
             "mixed",
             "07020001010161",
             "(7,[1],some 61)",
             "-",
             "07020001010161",
-        ),
-        (
-            "mixed",
-            "0700014002c3a9",
-            "(7,[],some c3a9)",
-            "-",
-            "07000102c3a9",
         ),
         (
             "mixed",
@@ -199,40 +191,29 @@ fn bytes_without_a_spelling_are_refused(rt: HostRuntime) -> Result<(), Fail> {
         ("option-u16", "ffff40", wrong, wrong),
         ("vec-u8", "", ended, ended),
         ("vec-u8", "01", ended, ended),
-        ("vec-u8", "40", ended, ended),
-        ("vec-u8", "0301", ended, ended),
         ("vec-u8", "4001", ended, ended),
         ("vec-u8", "bfffffff", ended, ended),
-        ("vec-u16", "", ended, ended),
         ("vec-u16", "0100", ended, ended),
         ("vec-u16", "0300010002", wrong, ended),
-        ("vec-u16", "050001000200", ended, ended),
         ("vec-u16", "010102030405", wrong, ended),
         ("vec-u16", "4004000100", ended, ended),
-        ("vec-vec-u16", "", ended, ended),
         ("vec-vec-u16", "0101", ended, ended),
-        ("vec-vec-u16", "010100", ended, ended),
         ("vec-vec-u16", "02020001", wrong, ended),
         ("vec-vec-u16", "05020001020002", wrong, ended),
         ("vec-vec-u16", "07020001020002", ended, ended),
-        ("vec-vec-u16", "0403000102", ended, ended),
-        ("string", "", ended, ended),
         ("string", "01", wrong, ended),
         ("string", "40", ended, ended),
-        ("string", "02c3", wrong, ended),
-        ("string", "0180", wrong, wrong),
         ("string", "02c080", wrong, wrong),
         ("string", "03eda080", wrong, wrong),
         ("string", "04f4908080", wrong, wrong),
-        ("string", "4001ff", wrong, wrong),
-        ("string", "7fffffff", wrong, ended),
-        ("mixed", "", ended, ended),
+        ("vlbytes", "050102", wrong, ended),
+        ("vlbytes", "8000", ended, ended),
+        ("vec-vlbytes", "0102", wrong, ended),
+        ("vec-vlbytes", "0140", ended, ended),
+        ("vec-vlbytes", "0301aa01bb", wrong, ended),
         ("mixed", "07", ended, ended),
-        ("mixed", "0700", ended, ended),
-        ("mixed", "070100", ended, ended),
         ("mixed", "070002", wrong, wrong),
         ("mixed", "07000101", wrong, ended),
-        ("mixed", "07010000", wrong, ended),
         ("mixed", "07000102c3", wrong, ended),
         ("mixed", "07030001000200", wrong, ended),
         ("mixed", "07000103eda080", wrong, wrong),

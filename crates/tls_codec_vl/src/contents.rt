@@ -1,0 +1,44 @@
+//! What byte vectors of each type do with their bytes.
+ghost use Rattle.std.specs.Prelude.{◌≡◌, ◌⊎◌, [], ◌∷◌, ◌++◌, false, is_ok, if◌then◌else◌, length, IfErr, IfOk, IsOk};
+ghost use Rattle.tls_codec_wire.specs.declared.error.Error.TheVariants.{OutOfMemory};
+ghost use Rattle.tls_codec_base.specs.Tree.{number_trees};
+ghost use Rattle.tls_codec_base.specs.Grammar.{bytes};
+ghost use Rattle.tls_codec_base.specs.Decoding.{Begins, Refuses};
+ghost use Rattle.tls_codec_base.specs.Opaque.{OpaqueRefused};
+
+use std::alloc::Global;
+use tls_codec_base::opaque;
+use tls_codec_wire::Error;
+
+/// Appends a byte. `OutOfMemory`: the bytes are as they were.
+pub fn push(content: &mut Vec<u8>, byte: u8) -> Result<(), Error>
+    ensures content { content.new.items ≡ (if is_ok result then content.old.items ++ byte ∷ [] else content.old.items) }
+    ensures err { IfErr result (λ e. e ≡ OutOfMemory) }
+{
+    match content.push(byte) {
+        Ok(()) => Ok(()),
+        Err(_) => Err(Error::OutOfMemory),
+    }
+}
+
+/// A vector of these bytes. `OutOfMemory` is never answered for no bytes.
+pub fn copied(alloc: Global, content: &[u8]) -> Result<Vec<u8>, Error>
+    ensures ok { IfOk result (λ copy. copy.items ≡ content.now) }
+    ensures err { IfErr result (λ e. e ≡ OutOfMemory) }
+    ensures none { length content.now ≡ 0 → IsOk result }
+{
+    let mut copy = Vec::new(alloc);
+    copy.extend_from_slice(content)?;
+    Ok(copy)
+}
+
+/// A copy of the bytes that a front of `whole` spells, and the rest of it, which isn't copied.
+pub fn split(alloc: Global, whole: &[u8]) -> Result<(Vec<u8>, &[u8]), Error>
+    ensures ok { IfOk result (λ found. Begins bytes whole.now (number_trees found.0.items) found.1.now) }
+    ensures err { IfErr result (Refuses bytes false whole.now) }
+    ensures named { IfErr result (λ e. (e ≡ OutOfMemory) ⊎ OpaqueRefused e whole.now) }
+{
+    let (content, rest) = opaque::split(whole)?;
+    let copy = copied(alloc, content)?;
+    Ok((copy, rest))
+}

@@ -1,0 +1,23 @@
+//! Byte vectors behind a variable-length length (RFC 9420, section 2.1.2): the type that messages of
+//! MLS are mostly made of.
+//!
+//! Their bytes are moved in bulk, where a `Vec<u8>`, which has the same spellings, goes byte by byte.
+//! A declared length asks for no memory: room is made as the bytes come.
+//!
+//! - [`vl_bytes`]: [`VLBytes`]. [`vl_byte_vec`]: [`VLByteVec`], which is the same under another name.
+//! - [`vl_byte_slice`]: [`VLByteSlice`], borrowed bytes, which are written and not read.
+//! - [`laws`]: vectors are compared by their bytes. It does nothing when it runs.
+#![tactic(auto)]
+
+mod contents;
+pub mod laws;
+mod show;
+#[cfg(test)]
+mod tests;
+pub mod vl_byte_slice;
+pub mod vl_byte_vec;
+pub mod vl_bytes;
+
+pub use vl_byte_slice::VLByteSlice;
+pub use vl_byte_vec::VLByteVec;
+pub use vl_bytes::VLBytes;

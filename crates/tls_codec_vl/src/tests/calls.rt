@@ -1,0 +1,69 @@
+//! The calls that read and write nothing.
+use crate::{VLByteSlice, VLByteVec, VLBytes};
+use std::hash::{DefaultHasher, Hash, Hasher};
+use std::test::Fail;
+
+fn hash_of<T: Hash>(value: &T) -> u64 {
+    let mut state = DefaultHasher::new();
+    value.hash(&mut state);
+    state.finish()
+}
+
+// Each call of a type with bytes of its own.
+macro_rules! owned_calls {
+    ($rt:ident, $Owned:ident, $shown:literal, $shown_empty:literal) => {
+        let alloc = $rt.alloc();
+        let mut owned = $Owned::new(Vec::new(alloc));
+        assert_eq!(&$rt; owned.pop(), None);
+        let text = format!(in alloc; "{owned:?}")?;
+        assert_eq!(&$rt; text.as_str(), $shown_empty);
+        owned.push(5)?;
+        assert_eq!(&$rt; owned.as_slice(), [5].as_slice());
+        let copy = owned.clone()?;
+        assert_eq!(&$rt; owned.pop(), Some(5));
+        assert_eq!(&$rt; copy.as_slice(), [5].as_slice());
+
+        let low = $Owned::from_slice(alloc, &[0x00, 0xff])?;
+        let high = $Owned::from_array(alloc, &[0x01])?;
+        assert!(&$rt; low < high);
+        assert!(&$rt; low != high);
+        let same = $Owned::from_array(alloc, &[0x00, 0xff])?;
+        assert!(&$rt; low == same);
+        assert_eq!(&$rt; hash_of(&low), hash_of(&same));
+
+        let shown = $Owned::from_array(alloc, &[0x00, 0xaa])?;
+        let text = format!(in alloc; "{shown:?}")?;
+        assert_eq!(&$rt; text.as_str(), $shown);
+
+        let content: Vec<u8> = low.into();
+        assert_eq!(&$rt; content.as_slice(), [0x00, 0xff].as_slice());
+        let back = $Owned::from(content);
+        assert!(&$rt; back == same);
+    };
+}
+
+#[test]
+fn calls_of_vl_bytes(rt: HostRuntime) -> Result<(), Fail> {
+    owned_calls!(rt, VLBytes, "VLBytes { 0x00aa }", "VLBytes { b\"\" }");
+    Ok(())
+}
+
+#[test]
+fn calls_of_vl_byte_vec(rt: HostRuntime) -> Result<(), Fail> {
+    owned_calls!(rt, VLByteVec, "VLByteVec { 0x00aa }", "VLByteVec { b\"\" }");
+    Ok(())
+}
+
+#[test]
+fn borrowed_bytes_are_shown(rt: HostRuntime) -> Result<(), Fail> {
+    let table = [
+        ([0x00, 0xaa].as_slice(), "VLByteSlice { 0x00aa }"),
+        (&[], "VLByteSlice { b\"\" }"),
+    ];
+    for (content, text) in table {
+        let slice = VLByteSlice(content);
+        assert_eq!(rt; format!(in rt.alloc(); "{slice:?}")?.as_str(), text);
+        assert_eq!(rt; slice.as_slice(), content);
+    }
+    Ok(())
+}

@@ -1,0 +1,147 @@
+//! What is written and read, and what is refused.
+use super::filled;
+use crate::{VLByteSlice, VLByteVec, VLBytes};
+use std::alloc::Global;
+use std::process::Abort;
+use std::test::Fail;
+use tls_codec_base::{Deserialize, DeserializeBytes, Serialize, SerializeBytes, Size};
+use tls_codec_wire::Error;
+
+const NOT_THERE: Error = Error::DecodingError("declared content is not there");
+
+// The value is announced and written in so many bytes, which begin with these.
+fn begins<T: Serialize>(
+    rt: &impl Abort,
+    alloc: Global,
+    value: &T,
+    front: &[u8],
+    count: usize,
+) -> Result<(), Fail> {
+    assert_eq!(rt; value.tls_serialized_len(), count);
+    let mut received = Vec::new(alloc);
+    assert_eq!(rt; value.tls_serialize(&mut received)?, count);
+    assert_eq!(rt; received.len(), count);
+    assert!(rt; received.as_slice().starts_with(front));
+    let detached = value.tls_serialize_detached(alloc)?;
+    assert!(rt; detached == received);
+    Ok(())
+}
+
+// Also to a vector of its own.
+fn begins_alone<T: Serialize + SerializeBytes>(
+    rt: &impl Abort,
+    alloc: Global,
+    value: &T,
+    front: &[u8],
+    count: usize,
+) -> Result<(), Fail> {
+    begins(rt, alloc, value, front, count)?;
+    let alone = value.tls_serialize_bytes(alloc)?;
+    assert_eq!(rt; alone.len(), count);
+    assert!(rt; alone.as_slice().starts_with(front));
+    Ok(())
+}
+
+// Both paths read the value of a front of the bytes, and leave the rest.
+fn is_read<T: Deserialize + DeserializeBytes + PartialEq>(
+    rt: &impl Abort,
+    alloc: Global,
+    bytes: &[u8],
+    value: &T,
+    rest: &[u8],
+) -> Result<(), Fail> {
+    let (found, left) = T::tls_deserialize_bytes(alloc, bytes)?;
+    assert!(rt; found == *value);
+    assert_eq!(rt; left, rest);
+    let mut source = bytes;
+    let found = T::tls_deserialize(alloc, &mut source)?;
+    assert!(rt; found == *value);
+    assert_eq!(rt; source, rest);
+    Ok(())
+}
+
+// Each path refuses the bytes with its error.
+fn is_refused<T: Deserialize + DeserializeBytes>(
+    rt: &impl Abort,
+    alloc: Global,
+    bytes: &[u8],
+    by_slice: Error,
+    by_reader: Error,
+) {
+    match T::tls_deserialize_bytes(alloc, bytes) {
+        Ok(_) => assert!(rt; false),
+        Err(found) => assert_eq!(rt; found, by_slice),
+    }
+    let mut source = bytes;
+    match T::tls_deserialize(alloc, &mut source) {
+        Ok(_) => assert!(rt; false),
+        Err(found) => assert_eq!(rt; found, by_reader),
+    }
+}
+
+#[test]
+fn lengths_are_the_least(rt: HostRuntime) -> Result<(), Fail> {
+    let alloc = rt.alloc();
+    let table = [
+        (63, [0x3f, 0x63, 0x63].as_slice(), 64),
+        (64, [0x40, 0x40, 0x63].as_slice(), 66),
+        (16_383, [0x7f, 0xff, 0x63].as_slice(), 16_385),
+        (16_384, [0x80, 0x00, 0x40, 0x00, 0x63].as_slice(), 16_388),
+    ];
+    for (length, front, count) in table {
+        let owned = VLBytes::new(filled(alloc, length, 0x63)?);
+        begins_alone(&rt, alloc, &owned, front, count)?;
+        begins_alone(&rt, alloc, &&owned, front, count)?;
+        let slice = VLByteSlice(owned.as_slice());
+        begins_alone(&rt, alloc, &slice, front, count)?;
+        begins(&rt, alloc, &&slice, front, count)?;
+        let owned = VLByteVec::new(filled(alloc, length, 0x63)?);
+        begins_alone(&rt, alloc, &owned, front, count)?;
+        begins_alone(&rt, alloc, &&owned, front, count)?;
+    }
+    Ok(())
+}
+
+#[test]
+fn long_bytes(rt: HostRuntime) -> Result<(), Fail> {
+    let alloc = rt.alloc();
+    let owned = VLBytes::new(filled(alloc, 65_536, 0x4d)?);
+    let front = [0x80, 0x01, 0x00, 0x00, 0x4d].as_slice();
+    begins_alone(&rt, alloc, &owned, front, 65_540)?;
+    let form = owned.tls_serialize_bytes(alloc)?;
+    is_read(&rt, alloc, &form, &owned, &[])?;
+    let owned = VLByteVec::new(filled(alloc, 65_536, 0x4d)?);
+    begins_alone(&rt, alloc, &owned, front, 65_540)?;
+    is_read(&rt, alloc, &form, &owned, &[])?;
+    Ok(())
+}
+
+#[test]
+fn a_wide_length_is_read(rt: HostRuntime) -> Result<(), Fail> {
+    let alloc = rt.alloc();
+    let bytes = [0x40, 0x03, 0x0a, 0x14, 0x1e, 0xff];
+    let owned = VLBytes::from_array(alloc, &[0x0a, 0x14, 0x1e])?;
+    is_read(&rt, alloc, &bytes[..5], &owned, &[])?;
+    is_read(&rt, alloc, &bytes, &owned, &[0xff])?;
+    let owned = VLByteVec::from_array(alloc, &[0x0a, 0x14, 0x1e])?;
+    is_read(&rt, alloc, &bytes[..5], &owned, &[])?;
+    is_read(&rt, alloc, &bytes, &owned, &[0xff])?;
+    Ok(())
+}
+
+#[test]
+fn bytes_that_are_not_there(rt: HostRuntime) {
+    let alloc = rt.alloc();
+    let table = [
+        ([0x05, 0x01, 0x02].as_slice(), NOT_THERE),
+        (
+            [0xff, 0xff, 0xff, 0xff, 0xff, 0xff, 0xff, 0xff, 0x00].as_slice(),
+            NOT_THERE,
+        ),
+        ([0x40].as_slice(), Error::EndOfStream),
+    ];
+    for (bytes, by_slice) in table {
+        is_refused::<VLBytes>(&rt, alloc, bytes, by_slice, Error::EndOfStream);
+        is_refused::<VLByteVec>(&rt, alloc, bytes, by_slice, Error::EndOfStream);
+    }
+}

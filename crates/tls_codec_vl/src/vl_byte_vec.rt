@@ -1,0 +1,216 @@
+//! [`VLByteVec`], bytes that it owns.
+ghost use Rattle.std.specs.Prelude.{◌≡◌, ◌≤◌, ◌⊎◌, ◌^◌, [], ◌∷◌, ◌++◌, codes, false, is_ok, if◌then◌else◌, length, IfErr, IfOk, IsOk, MatchOption, Some};
+ghost use Rattle.tls_codec_wire.specs.Counts.{NoneFell};
+ghost use Rattle.tls_codec_wire.specs.Device.{Gave};
+ghost use Rattle.tls_codec_wire.specs.VarintCalls.{least_width};
+ghost use Rattle.tls_codec_wire.specs.declared.error.Error.TheVariants.{InvalidVectorLength, OutOfMemory};
+ghost use Rattle.tls_codec_base.specs.Tree.{number_trees};
+ghost use Rattle.tls_codec_base.specs.Grammar.{bytes};
+ghost use Rattle.tls_codec_base.specs.Announced.{content_length, counted_length};
+ghost use Rattle.tls_codec_base.specs.Decoding.{Begins, GaveSpelling, Refuses, RefusesSource};
+ghost use Rattle.tls_codec_base.specs.Encoding.{Breaks, Sends};
+ghost use Rattle.tls_codec_base.specs.ListLaws.{bytes_lawful};
+ghost use Rattle.tls_codec_base.specs.Opaque.{OpaqueRefused, OpaqueSourceRefused};
+ghost use Rattle.tls_codec_vl.specs.Contents.{vec_bytes_of};
+ghost use Rattle.tls_codec_vl.specs.Shown.{debug_text};
+
+use crate::{contents, show};
+use std::alloc::Global;
+use std::fmt;
+use tls_codec_base::{Deserialize, DeserializeBytes, Serialize, SerializeBytes, Size, opaque};
+use tls_codec_wire::{Error, Sink, Source};
+
+/// Bytes, which are spelled behind their number as a variable-length integer.
+///
+/// They are compared, ordered and hashed as the list of them is. This is a
+/// [`VLBytes`](crate::VLBytes) under another name.
+///
+/// ```rust
+/// let key = VLByteVec::from_array(alloc, &[0x00, 0xaa])?;
+/// assert_eq!(rt; key.tls_serialize_detached(alloc)?.as_slice(), [0x02, 0x00, 0xaa].as_slice());
+/// ```
+#[derive(PartialEq, Eq, PartialOrd, Ord, Hash, Drop)]
+pub struct VLByteVec(Vec<u8>);
+
+impl VLByteVec {
+    /// These bytes, which aren't copied.
+    pub fn new(content: Vec<u8>) -> VLByteVec
+        ensures { vec_bytes_of result ≡ content.items }
+    {
+        VLByteVec(content)
+    }
+
+    /// A copy of these bytes.
+    ///
+    /// `OutOfMemory`: there was no memory for it. No bytes ask for none.
+    pub fn from_slice(alloc: Global, content: &[u8]) -> Result<VLByteVec, Error>
+        ensures ok { IfOk result (λ v. vec_bytes_of v ≡ content.now) }
+        ensures err { IfErr result (λ e. e ≡ OutOfMemory) }
+        ensures none { length content.now ≡ 0 → IsOk result }
+    {
+        let copy = contents::copied(alloc, content)?;
+        Ok(VLByteVec::new(copy))
+    }
+
+    /// A copy of the bytes of an array. `OutOfMemory` is as in [`from_slice`](VLByteVec::from_slice).
+    pub fn from_array<const N: usize>(alloc: Global, content: &[u8; N]) -> Result<VLByteVec, Error>
+        ensures ok { IfOk result (λ v. vec_bytes_of v ≡ content.now) }
+        ensures err { IfErr result (λ e. e ≡ OutOfMemory) }
+        ensures none { N ≡ 0 → IsOk result }
+    {
+        VLByteVec::from_slice(alloc, content)
+    }
+
+    /// A copy, by the allocator that these bytes were made with. `OutOfMemory` is as in
+    /// [`from_slice`](VLByteVec::from_slice).
+    pub fn clone(&self) -> Result<VLByteVec, Error>
+        ensures ok { IfOk result (λ v. vec_bytes_of v ≡ vec_bytes_of self.now) }
+        ensures err { IfErr result (λ e. e ≡ OutOfMemory) }
+        ensures none { length (vec_bytes_of self.now) ≡ 0 → IsOk result }
+    {
+        VLByteVec::from_slice(*self.0.allocator(), self.as_slice())
+    }
+
+    /// The bytes.
+    pub fn as_slice(&self) -> &[u8]
+        ensures { result.now ≡ vec_bytes_of self.now }
+    {
+        self.0.as_slice()
+    }
+
+    /// Appends a byte. `OutOfMemory`: there was no memory for it, and the bytes are as they were.
+    pub fn push(&mut self, byte: u8) -> Result<(), Error>
+        ensures content { vec_bytes_of self.new ≡ (if is_ok result then vec_bytes_of self.old ++ byte ∷ [] else vec_bytes_of self.old) }
+        ensures err { IfErr result (λ e. e ≡ OutOfMemory) }
+    {
+        contents::push(&mut self.0, byte)
+    }
+
+    /// Takes the last byte, if there is one.
+    pub fn pop(&mut self) -> Option<u8>
+        ensures { MatchOption result ((vec_bytes_of self.old ≡ []) × (vec_bytes_of self.new ≡ []))
+            (λ byte. vec_bytes_of self.old ≡ vec_bytes_of self.new ++ byte ∷ []) }
+    {
+        self.0.pop()
+    }
+}
+
+impl From<Vec<u8>> for VLByteVec {
+    ghost from_gives = { λ content v. vec_bytes_of v ≡ content.items };
+
+    fn from(content: Vec<u8>) -> VLByteVec {
+        VLByteVec::new(content)
+    }
+}
+
+impl From<VLByteVec> for Vec<u8> {
+    ghost from_gives = { λ v content. content.items ≡ vec_bytes_of v };
+
+    fn from(value: VLByteVec) -> Vec<u8> {
+        value.0
+    }
+}
+
+impl fmt::Debug for VLByteVec {
+    ghost debug_output = { λ v. Some (debug_text (codes "VLByteVec") (vec_bytes_of v)) };
+
+    fn fmt<W: fmt::Write>(&self, f: &mut fmt::Formatter<W>) -> fmt::Result {
+        show::debug("VLByteVec", self.as_slice(), f)
+    }
+}
+
+impl Size for VLByteVec {
+    ghost plain = { λ v. number_trees (vec_bytes_of v) };
+
+    ghost spells = { bytes };
+
+    ghost announced = { counted_length least_width (content_length (λ v. 1)) };
+
+    ghost lean = { false };
+
+    fn tls_serialized_len(&self) -> usize {
+        opaque::announced_len(self.as_slice())
+    }
+
+    ghost lawful = { bytes_lawful };
+}
+
+impl Serialize for VLByteVec {
+    /// `InvalidVectorLength`: there are more bytes than the greatest length, and nothing was sent.
+    /// Every other refusal is the sink's.
+    fn tls_serialize<W: Sink>(&self, writer: &mut W) -> Result<usize, Error>
+        ensures ok { IfOk result (Sends bytes (number_trees (vec_bytes_of self.now)) (W.received writer.old) (W.received writer.new)) }
+        ensures err { IfErr result (Breaks bytes (number_trees (vec_bytes_of self.now)) (W.received writer.old) (W.received writer.new)
+            (W.counts writer.old) (W.counts writer.new)) }
+        ensures counts { NoneFell (W.counts writer.old) (W.counts writer.new) }
+        ensures too_long { 2 ^ 62 ≤ length (vec_bytes_of self.now) → (result ≡ Err InvalidVectorLength) × (writer.new ≡ writer.old) }
+    {
+        opaque::write(writer, self.as_slice())
+    }
+}
+
+impl SerializeBytes for VLByteVec {
+    fn tls_serialize_bytes(&self, alloc: Global) -> Result<Vec<u8>, Error> {
+        opaque::to_vec(alloc, self.as_slice())
+    }
+}
+
+impl Deserialize for VLByteVec {
+    /// `EndOfStream`: there is no whole length, or fewer bytes come than it declares.
+    fn tls_deserialize<R: Source>(alloc: Global, src: &mut R) -> Result<VLByteVec, Error>
+        ensures gave { Gave R.given src.old src.new }
+        ensures ok { IfOk result (λ v. GaveSpelling R.given bytes src.old src.new (number_trees (vec_bytes_of v))) }
+        ensures err { IfErr result (RefusesSource bytes false (R.coming src.old) (R.counts src.old) (R.counts src.new)) }
+        ensures named { IfErr result (λ e. OpaqueSourceRefused e (R.coming src.old) (R.counts src.old) (R.counts src.new)) }
+    {
+        let read = opaque::read(alloc, src)?;
+        Ok(VLByteVec::new(read))
+    }
+}
+
+impl DeserializeBytes for VLByteVec {
+    /// `EndOfStream`: there is no whole length. `DecodingError("declared content is not there")`:
+    /// fewer bytes are behind it than it declares.
+    fn tls_deserialize_bytes(alloc: Global, whole: &[u8]) -> Result<(VLByteVec, &[u8]), Error>
+        ensures ok { IfOk result (λ found. Begins bytes whole.now (number_trees (vec_bytes_of found.0)) found.1.now) }
+        ensures err { IfErr result (Refuses bytes false whole.now) }
+        ensures named { IfErr result (λ e. (e ≡ OutOfMemory) ⊎ OpaqueRefused e whole.now) }
+    {
+        let (copy, rest) = contents::split(alloc, whole)?;
+        Ok((VLByteVec::new(copy), rest))
+    }
+}
+
+impl Size for &VLByteVec {
+    ghost plain = { λ v. number_trees (vec_bytes_of v.now) };
+
+    ghost spells = { bytes };
+
+    ghost announced = { counted_length least_width (content_length (λ v. 1)) };
+
+    ghost lean = { false };
+
+    fn tls_serialized_len(&self) -> usize {
+        (**self).tls_serialized_len()
+    }
+
+    ghost lawful = { bytes_lawful };
+}
+
+impl Serialize for &VLByteVec {
+    fn tls_serialize<W: Sink>(&self, writer: &mut W) -> Result<usize, Error>
+        ensures ok { IfOk result (Sends bytes (number_trees (vec_bytes_of self.now.now)) (W.received writer.old) (W.received writer.new)) }
+        ensures err { IfErr result (Breaks bytes (number_trees (vec_bytes_of self.now.now)) (W.received writer.old) (W.received writer.new)
+            (W.counts writer.old) (W.counts writer.new)) }
+        ensures counts { NoneFell (W.counts writer.old) (W.counts writer.new) }
+        ensures too_long { 2 ^ 62 ≤ length (vec_bytes_of self.now.now) → (result ≡ Err InvalidVectorLength) × (writer.new ≡ writer.old) }
+    {
+        (**self).tls_serialize(writer)
+    }
+}
+
+impl SerializeBytes for &VLByteVec {
+    fn tls_serialize_bytes(&self, alloc: Global) -> Result<Vec<u8>, Error> {
+        (**self).tls_serialize_bytes(alloc)
+    }
+}
