@@ -1,0 +1,24 @@
+-- What the cases are called.
+use Rattle.std.specs.Prelude.{ℕ, List, [], ◌∷◌, ◌++◌, codes}
+use Rattle.tls_codec_bench.specs.declared.cases.Case.{Case}
+use Rattle.tls_codec_bench.specs.declared.cases.Case.TheVariants.{Copy, Bytes64, Bytes4096, Bytes1048576, Numbers512, Numbers65536, Lists, Vl64, Vl4096, Vl1048576, VlLists, DeepOne, DeepTwo}
+
+abbrev pub name_of : Case → List ℕ
+name_of Copy = codes "copy 1048576"
+name_of Bytes64 = codes "Vec<u8> 64"
+name_of Bytes4096 = codes "Vec<u8> 4096"
+name_of Bytes1048576 = codes "Vec<u8> 1048576"
+name_of Numbers512 = codes "Vec<u16> 512"
+name_of Numbers65536 = codes "Vec<u16> 65536"
+name_of Lists = codes "Vec<Vec<u16>> 256x64"
+name_of Vl64 = codes "VLBytes 64"
+name_of Vl4096 = codes "VLBytes 4096"
+name_of Vl1048576 = codes "VLBytes 1048576"
+name_of VlLists = codes "Vec<VLBytes> 1000x32"
+name_of DeepOne = codes "8 deep, one element a level"
+name_of DeepTwo = codes "8 deep, two elements a level"
+
+-- the names of some cases, each ended by a line feed
+abbrev pub names_of : List Case → List ℕ
+names_of [] = []
+names_of (case ∷ cases) = name_of case ++ (10 ∷ []) ++ names_of cases

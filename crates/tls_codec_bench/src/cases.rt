@@ -1,0 +1,88 @@
+//! What is timed.
+ghost use Rattle.std.specs.Prelude.{◌≡◌, IfOk, string_bytes};
+ghost use Rattle.tls_codec_bench.specs.Names.{name_of, names_of};
+
+use std::alloc::{AllocError, Global};
+
+/// A value, or a plain copy, that is timed.
+#[derive(Clone, Copy, PartialEq, Eq, Debug)]
+pub enum Case {
+    /// No codec: bytes copied to a vector of their own.
+    Copy,
+    /// 64 bytes.
+    Bytes64,
+    /// 4,096 bytes.
+    Bytes4096,
+    /// A mebibyte.
+    Bytes1048576,
+    /// 512 numbers of 16 bits.
+    Numbers512,
+    /// 65,536 numbers of 16 bits.
+    Numbers65536,
+    /// 256 lists of 64 numbers of 16 bits.
+    Lists,
+    /// 64 bytes, moved in bulk.
+    Vl64,
+    /// 4,096 bytes, moved in bulk.
+    Vl4096,
+    /// A mebibyte, moved in bulk.
+    Vl1048576,
+    /// 1,000 byte vectors of 32 bytes.
+    VlLists,
+    /// Lists nested eight deep over one byte.
+    DeepOne,
+    /// Lists nested eight deep over 256 bytes, two elements in each.
+    DeepTwo,
+}
+
+/// The cases, in the order in which they are timed.
+pub const CASES: [Case; 13] = [
+    Case::Copy,
+    Case::Bytes64,
+    Case::Bytes4096,
+    Case::Bytes1048576,
+    Case::Numbers512,
+    Case::Numbers65536,
+    Case::Lists,
+    Case::Vl64,
+    Case::Vl4096,
+    Case::Vl1048576,
+    Case::VlLists,
+    Case::DeepOne,
+    Case::DeepTwo,
+];
+
+impl Case {
+    /// What the case is called.
+    pub fn name(&self) -> &'static str
+        ensures { result.now ≡ name_of self.now }
+    {
+        match self {
+            Case::Copy => "copy 1048576",
+            Case::Bytes64 => "Vec<u8> 64",
+            Case::Bytes4096 => "Vec<u8> 4096",
+            Case::Bytes1048576 => "Vec<u8> 1048576",
+            Case::Numbers512 => "Vec<u16> 512",
+            Case::Numbers65536 => "Vec<u16> 65536",
+            Case::Lists => "Vec<Vec<u16>> 256x64",
+            Case::Vl64 => "VLBytes 64",
+            Case::Vl4096 => "VLBytes 4096",
+            Case::Vl1048576 => "VLBytes 1048576",
+            Case::VlLists => "Vec<VLBytes> 1000x32",
+            Case::DeepOne => "8 deep, one element a level",
+            Case::DeepTwo => "8 deep, two elements a level",
+        }
+    }
+}
+
+/// The names of some cases, one a line.
+pub fn names(alloc: Global, cases: &[Case]) -> Result<String, AllocError>
+    ensures { IfOk result (λ text. string_bytes text ≡ names_of cases.now) }
+{
+    let mut text = String::new(alloc);
+    for case in cases {
+        text.push_str(case.name())?;
+        text.push('\n')?;
+    }
+    Ok(text)
+}

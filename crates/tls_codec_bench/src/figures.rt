@@ -1,0 +1,119 @@
+//! The figures of a case.
+ghost use Rattle.std.specs.Prelude.{◌≡◌, IfOk};
+ghost use Rattle.tls_codec_bench.specs.Figures.{IsOfCopy};
+ghost use Rattle.tls_codec_bench.specs.declared.cases.Case.TheVariants.{Copy};
+
+use crate::cases::Case;
+use crate::fault::BenchFault;
+use crate::noise::Noise;
+use crate::timing::time;
+use crate::values::FromNoise;
+use std::alloc::{AllocError, Global};
+use std::rt::Clock;
+use tls_codec_base::{Deserialize, DeserializeBytes, Serialize};
+use tls_codec_vl::VLBytes;
+use tls_codec_wire::Error;
+
+// Eight lists, one in the other.
+type Deep = Vec<Vec<Vec<Vec<Vec<Vec<Vec<Vec<u8>>>>>>>>;
+
+/// How many bytes a case has, and how many nanoseconds each of its calls takes.
+#[derive(Clone, Copy, PartialEq, Eq, Debug)]
+pub struct Figures {
+    /// The bytes that are written and read.
+    pub bytes: usize,
+    /// `tls_serialize_detached`, and letting go of the vector.
+    pub encode: u64,
+    /// `tls_deserialize_bytes`, and letting go of the value.
+    pub slice: u64,
+    /// `tls_deserialize` from a slice, and letting go of the value.
+    pub reader: u64,
+}
+
+/// Times a case.
+///
+/// The faults are those of [`time`], and `Memory`.
+pub fn measure<C: Clock>(alloc: Global, clock: &C, case: Case) -> Result<Figures, BenchFault>
+    ensures copy { case ≡ Copy → IfOk result (IsOfCopy 1048576) }
+{
+    match case {
+        Case::Copy => measure_copy(alloc, clock, 1_048_576),
+        Case::Bytes64 => measure_codec::<Vec<u8>, C>(alloc, clock, &[64]),
+        Case::Bytes4096 => measure_codec::<Vec<u8>, C>(alloc, clock, &[4096]),
+        Case::Bytes1048576 => measure_codec::<Vec<u8>, C>(alloc, clock, &[1_048_576]),
+        Case::Numbers512 => measure_codec::<Vec<u16>, C>(alloc, clock, &[512]),
+        Case::Numbers65536 => measure_codec::<Vec<u16>, C>(alloc, clock, &[65_536]),
+        Case::Lists => measure_codec::<Vec<Vec<u16>>, C>(alloc, clock, &[256, 64]),
+        Case::Vl64 => measure_codec::<VLBytes, C>(alloc, clock, &[64]),
+        Case::Vl4096 => measure_codec::<VLBytes, C>(alloc, clock, &[4096]),
+        Case::Vl1048576 => measure_codec::<VLBytes, C>(alloc, clock, &[1_048_576]),
+        Case::VlLists => measure_codec::<Vec<VLBytes>, C>(alloc, clock, &[1000, 32]),
+        Case::DeepOne => measure_codec::<Deep, C>(alloc, clock, &[1; 8]),
+        Case::DeepTwo => measure_codec::<Deep, C>(alloc, clock, &[2; 8]),
+    }
+}
+
+// Times the copy of so many bytes.
+fn measure_copy<C: Clock>(alloc: Global, clock: &C, count: usize) -> Result<Figures, BenchFault>
+    ensures { IfOk result (IsOfCopy count) }
+{
+    let bytes = Vec::<u8>::from_noise(alloc, &mut Noise::new(), &[count])?;
+    let nanos = time(clock, || copy(alloc, &bytes).is_ok())?;
+    Ok(Figures {
+        bytes: count,
+        encode: nanos,
+        slice: nanos,
+        reader: nanos,
+    })
+}
+
+// Times the three calls for a value of this shape.
+fn measure_codec<T, C: Clock>(
+    alloc: Global,
+    clock: &C,
+    shape: &[usize],
+) -> Result<Figures, BenchFault>
+where
+    T: FromNoise + Serialize + Deserialize + DeserializeBytes,
+{
+    let value = T::from_noise(alloc, &mut Noise::new(), shape)?;
+    let Ok(bytes) = encode(alloc, &value) else {
+        return Err(BenchFault::Refused);
+    };
+    let encode = time(clock, || encode(alloc, &value).is_ok())?;
+    let slice = time(clock, || decode_slice::<T>(alloc, &bytes).is_ok())?;
+    let reader = time(clock, || decode_reader::<T>(alloc, &bytes).is_ok())?;
+    Ok(Figures {
+        bytes: bytes.len(),
+        encode,
+        slice,
+        reader,
+    })
+}
+
+// The calls that are timed. None is inlined, so that each builds what it answers.
+
+#[inline(never)]
+fn copy(alloc: Global, bytes: &[u8]) -> Result<Vec<u8>, AllocError> {
+    let mut copied = Vec::with_capacity(alloc, bytes.len())?;
+    copied.extend_from_slice(bytes)?;
+    Ok(copied)
+}
+
+#[inline(never)]
+fn encode<T: Serialize>(alloc: Global, value: &T) -> Result<Vec<u8>, Error> {
+    value.tls_serialize_detached(alloc)
+}
+
+#[inline(never)]
+fn decode_slice<T: DeserializeBytes>(alloc: Global, bytes: &[u8]) -> Result<T, Error> {
+    let (value, _) = T::tls_deserialize_bytes(alloc, bytes)?;
+    Ok(value)
+}
+
+#[inline(never)]
+fn decode_reader<T: Deserialize>(alloc: Global, bytes: &[u8]) -> Result<T, Error> {
+    let mut left = bytes;
+    let value = T::tls_deserialize(alloc, &mut left)?;
+    Ok(value)
+}
