@@ -1,5 +1,8 @@
 -- The figures of a case.
-use Rattle.std.specs.Prelude.{◌≡◌, ℕ}
+use Rattle.std.specs.Prelude.{◌≡◌, ℕ, List}
+use Rattle.tls_codec_base.specs.Tree.{Tree}
+use Rattle.tls_codec_base.specs.Grammar.{Grammar}
+use Rattle.tls_codec_base.specs.Decoding.{Begins}
 use Rattle.tls_codec_bench.specs.declared.figures.Figures.{Figures}
 
 -- so many bytes are copied, and one figure stands in each column
@@ -7,3 +10,8 @@ pub record IsOfCopy (count : ℕ) (figures : Figures) : Type 0 where
   pub bytes : figures.bytes ≡ count
   pub slice : figures.slice ≡ figures.encode
   pub reader : figures.reader ≡ figures.encode
+
+-- x begins with a spelling of v
+pub record BeginsWith (spells : Grammar) (x : List ℕ) (v : Tree) : Type 0 where
+  pub rest : List ℕ
+  pub begins : Begins spells x v rest

@@ -1,6 +1,7 @@
 //! The figures of a case.
 ghost use Rattle.std.specs.Prelude.{◌≡◌, IfOk};
-ghost use Rattle.tls_codec_bench.specs.Figures.{IsOfCopy};
+ghost use Rattle.tls_codec_base.specs.Shortest.{IsShortest};
+ghost use Rattle.tls_codec_bench.specs.Figures.{BeginsWith, IsOfCopy};
 ghost use Rattle.tls_codec_bench.specs.declared.cases.Case.TheVariants.{Copy};
 
 use crate::cases::Case;
@@ -94,25 +95,33 @@ where
 // The calls that are timed. None is inlined, so that each builds what it answers.
 
 #[inline(never)]
-fn copy(alloc: Global, bytes: &[u8]) -> Result<Vec<u8>, AllocError> {
+fn copy(alloc: Global, bytes: &[u8]) -> Result<Vec<u8>, AllocError>
+    ensures { IfOk result (λ copied. copied.items ≡ bytes.now) }
+{
     let mut copied = Vec::with_capacity(alloc, bytes.len())?;
     copied.extend_from_slice(bytes)?;
     Ok(copied)
 }
 
 #[inline(never)]
-fn encode<T: Serialize>(alloc: Global, value: &T) -> Result<Vec<u8>, Error> {
+fn encode<T: Serialize>(alloc: Global, value: &T) -> Result<Vec<u8>, Error>
+    ensures { IfOk result (λ form. IsShortest T.spells form.items (T.plain value.now)) }
+{
     value.tls_serialize_detached(alloc)
 }
 
 #[inline(never)]
-fn decode_slice<T: DeserializeBytes>(alloc: Global, bytes: &[u8]) -> Result<T, Error> {
+fn decode_slice<T: DeserializeBytes>(alloc: Global, bytes: &[u8]) -> Result<T, Error>
+    ensures { IfOk result (λ value. BeginsWith T.spells bytes.now (T.plain value)) }
+{
     let (value, _) = T::tls_deserialize_bytes(alloc, bytes)?;
     Ok(value)
 }
 
 #[inline(never)]
-fn decode_reader<T: Deserialize>(alloc: Global, bytes: &[u8]) -> Result<T, Error> {
+fn decode_reader<T: Deserialize>(alloc: Global, bytes: &[u8]) -> Result<T, Error>
+    ensures { IfOk result (λ value. BeginsWith T.spells bytes.now (T.plain value)) }
+{
     let mut left = bytes;
     let value = T::tls_deserialize(alloc, &mut left)?;
     Ok(value)
