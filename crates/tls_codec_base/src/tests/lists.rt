@@ -63,6 +63,19 @@ fn is_refused_by_each<T: Deserialize + DeserializeBytes>(
     );
 }
 
+// The value is announced and written as these bytes, to a vector of its own.
+fn is_a_vector<T: SerializeBytes>(
+    rt: &impl Abort,
+    alloc: Global,
+    value: &T,
+    bytes: &[u8],
+) -> Result<(), Fail> {
+    assert_eq!(rt; value.tls_serialized_len(), bytes.len());
+    let alone = value.tls_serialize_bytes(alloc)?;
+    assert_eq!(rt; alone.as_slice(), bytes);
+    Ok(())
+}
+
 #[test]
 fn lists_of_numbers(rt: HostRuntime) -> Result<(), Fail> {
     let alloc = rt.alloc();
@@ -72,8 +85,7 @@ fn lists_of_numbers(rt: HostRuntime) -> Result<(), Fail> {
     is_written_alone(&rt, alloc, &numbers, &bytes[..5])?;
     is_written_alone(&rt, alloc, &numbers.as_slice(), &bytes[..5])?;
     is_read(&rt, alloc, &bytes, &numbers, &[0xee])?;
-    let alone = (&numbers).tls_serialize_bytes(alloc)?;
-    assert_eq!(rt; alone.as_slice(), &bytes[..5]);
+    is_a_vector::<&Vec<u16>>(&rt, alloc, &&numbers, &bytes[..5])?;
     is_read(&rt, alloc, &[0], &Vec::<u16>::new(alloc), &[])?;
     is_refused::<Vec<u16>>(&rt, alloc, &[3, 0, 1, 0], Error::EndOfStream);
     is_refused::<Vec<u16>>(&rt, alloc, &[], Error::EndOfStream);
@@ -86,8 +98,7 @@ fn lists_of_bytes(rt: HostRuntime) -> Result<(), Fail> {
     let alloc = rt.alloc();
     let mut bytes = Vec::new(alloc);
     bytes.extend_from_slice(&[1u8, 2])?;
-    let alone = (&bytes).tls_serialize_bytes(alloc)?;
-    assert_eq!(rt; alone.as_slice(), [2, 1, 2].as_slice());
+    is_a_vector::<&Vec<u8>>(&rt, alloc, &&bytes, &[2, 1, 2])?;
     let mut one = Vec::new(alloc);
     one.extend_from_slice(&[0xaau8])?;
     is_read(&rt, alloc, &[0xc0, 0, 0, 0, 0, 0, 0, 1, 0xaa], &one, &[])?;
