@@ -1,5 +1,5 @@
 -- Bytes that are spelled by themselves, from the digits that they are.
-use Rattle.std.proofs.Common.{◌≡◌, ℕ, List, length, Bool, Option, None, Some, inl, inr, refl, sym, ap, ◌∙◌, subst}
+use Rattle.std.proofs.Common.{◌≡◌, ℕ, List, length, Bool, Option, None, Some, Result, Ok, Err, inl, inr, refl, sym, ap, ◌∙◌, subst, arith}
 use Rattle.tls_codec_wire.specs.Counts.{Counts}
 use Rattle.tls_codec_wire.specs.Digits.{AreBytes, Digits, value}
 use Rattle.tls_codec_wire.specs.declared.error.Error.{Error}
@@ -7,8 +7,11 @@ use Rattle.tls_codec_base.specs.Tree.{Number, number_trees}
 use Rattle.tls_codec_base.specs.Grammar.{Itself, array, number}
 use Rattle.tls_codec_base.specs.Shortest.{IsShortest}
 use Rattle.tls_codec_base.specs.Decoding.{Begins, GaveSpelling, NoneBegins, NoneComes, Refuses, RefusesSource}
-use Rattle.tls_codec_base.specs.Encoding.{Breaks, Sends}
-use Rattle.tls_codec_base.specs.NumberLaws.{digits_least, digits_one, number_trees_one}
+use Rattle.tls_codec_wire.specs.declared.device.Sink.{Ghosts}
+use Rattle.tls_codec_base.specs.Format.{array_format, number_format}
+use Rattle.tls_codec_base.specs.Encoding.{AppendsForm, Breaks, Sends}
+use Rattle.tls_codec_base.proofs.Appending.{part_refused}
+use Rattle.tls_codec_base.specs.laws.NumberLaws.{digits_least, digits_one, number_trees_one}
 use Rattle.tls_codec_base.proofs.NumberCalls.{own_digits}
 
 module _ (k : ℕ) (a : List ℕ) (width : length a ≡ k) (bytes : AreBytes a) where
@@ -46,6 +49,7 @@ module _ (k : ℕ) where
       | inr out ↦ inr out
     ];
     memory = r.memory;
+    not_trailing = r.not_trailing;
   }
 
   pub array_refuses_source : (lean : Bool) (coming : Option (List ℕ)) (old new : Counts) (e : Error) → RefusesSource (number k) lean coming old new e → RefusesSource (array k) lean coming old new e
@@ -55,6 +59,7 @@ module _ (k : ℕ) where
       | inr out ↦ inr out
     ];
     memory = r.memory;
+    not_trailing = r.not_trailing;
   }
 
 module _ (k : ℕ) (a : List ℕ) (width : length a ≡ k) (bytes : AreBytes a) where
@@ -73,13 +78,15 @@ module _ (k : ℕ) (a : List ℕ) (width : length a ≡ k) (bytes : AreBytes a) 
       let same : a ≡ s = number_trees_one a s p.spelled.same in
       digits_least (length a) s (value a) (subst (λ (u : List ℕ). Digits (length a) u (value a)) same (own_digits a bytes))
 
-  pub array_sends : (old new : Option (List ℕ)) (n : ℕ) → Sends (number (length a)) (Number (value a)) old new n → Sends (array k) (number_trees a) old new n
-  array_sends old new n p = record { form = p.form; shortest = array_form p.form p.shortest; held = p.held; count = p.count }
+  -- so what is written of the number is written of the array
+  module _ {S : Type 0} {sink : Ghosts S} {old new : S} where
+    pub array_sends : {n : ℕ} → Sends (number_format (length a)) (Number (value a)) sink old new n → Sends (array_format k) (number_trees a) sink old new n
+    array_sends {n} p = record { form = p.form; shortest = array_form p.form p.shortest; held = p.held; count = p.count; fell = p.fell }
 
-  pub array_breaks : (old new : Option (List ℕ)) (before after : Counts) (e : Error) → Breaks (number (length a)) (Number (value a)) old new before after e → Breaks (array k) (number_trees a) old new before after e
-  array_breaks old new before after e p = record {
-    sent = p.sent;
-    held = p.held;
-    beginning = λ form q. p.beginning form (number_form form q);
-    memory = p.memory;
-  }
+    pub array_breaks : {e : Error} → Breaks (number_format (length a)) (Number (value a)) sink old new e → Breaks (array_format k) (number_trees a) sink old new e
+    array_breaks {e} p = record { sent = p.sent; held = p.held; beginning = λ form q. p.beginning form (number_form form q); cause = p.cause; fell = p.fell }
+
+  -- what is appended too
+  pub array_appends : (old new : List ℕ) (result : Result ℕ Error) → AppendsForm (number_format (length a)) (Number (value a)) old new result → AppendsForm (array_format k) (number_trees a) old new result
+  array_appends old new (Ok n) p = record { form = p.form; shortest = array_form p.form p.shortest; held = p.held; count = p.count }
+  array_appends old new (Err e) p = part_refused (array_format k) (number_trees a) old new p p.kept (λ named. named) (λ s q. (s, number_form s q, omega arith))

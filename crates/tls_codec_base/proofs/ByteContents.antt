@@ -5,10 +5,8 @@ use Rattle.tls_codec_base.specs.Tree.{Tree, Number, Empty, Join, number_trees}
 use Rattle.tls_codec_base.specs.Grammar.{Direction, Reading, Writing, Grammar, Admits, number, content, sized}
 use Rattle.tls_codec_base.specs.Shortest.{IsShortest}
 use Rattle.tls_codec_base.specs.Announced.{capped, content_length, counted_length}
-use Rattle.tls_codec_base.specs.Lawful.{IsLawfulInside}
 use Rattle.tls_codec_base.specs.Decoding.{NoneBegins}
-use Rattle.tls_codec_base.specs.ListLaws.{byte_lawful, content_lawful}
-use Rattle.tls_codec_base.specs.NumberLaws.{number_trees_one}
+use Rattle.tls_codec_base.specs.laws.NumberLaws.{number_trees_one}
 
 -- what is behind a front of bytes is bytes
 pub AreBytes-right : (a b : List ℕ) → AreBytes (a ++ b) → AreBytes b
@@ -50,10 +48,6 @@ content_bytes d c _ p = absurd search
 -- what is spelled as these bytes is these bytes
 pub content_same_bytes : (d : Direction) (s c : List ℕ) → content (number 1) d s (number_trees c) → s ≡ c
 content_same_bytes d s c p = number_trees_one s c (sym (content_bytes d s (number_trees c) p))
-
--- such contents meet the laws of what stands behind a length field
-pub byte_content_lawful : IsLawfulInside (content (number 1)) (content_length (λ v. 1))
-byte_content_lawful = content_lawful (number 1) (λ v. 1) byte_lawful
 
 -- bytes are their shortest content
 pub bytes_shortest : (c : List ℕ) → AreBytes c → IsShortest (content (number 1)) c (number_trees c)

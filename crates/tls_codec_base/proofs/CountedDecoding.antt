@@ -1,6 +1,5 @@
 -- What a length field with what it counts is read as, from what is read of both.
 use Rattle.std.proofs.Common.{◌≡◌, ℕ, List, ◌++◌, length, Bool, Option, None, Some, inl, inr, refl, sym, ap, subst, ◌∙◌, append_assoc}
-use Rattle.std.specs.Prelude.{⊤}
 use Rattle.std.proofs.lemmas.List.{append_cancel_left}
 use Rattle.std.specs.Io.KnownBytes.{Consumes}
 use Rattle.tls_codec_wire.specs.Counts.{Counts, NoneFell}
@@ -13,17 +12,12 @@ use Rattle.tls_codec_base.specs.Tree.{Tree}
 use Rattle.tls_codec_base.specs.Grammar.{Grammar, counted, sized}
 use Rattle.tls_codec_base.specs.Lawful.{IsLengthField}
 use Rattle.tls_codec_base.specs.Decoding.{Begins, GaveSpelling, NoneBegins, NoneComes, Refuses, RefusesSource}
-use Rattle.tls_codec_base.specs.VarintLaws.{varint_field}
+use Rattle.tls_codec_base.specs.laws.VarintLaws.{varint_field}
 use Rattle.tls_codec_base.proofs.Sent.{fault_later, rose_later}
 
 -- no front of x is a length
 abbrev pub NoFieldBegins : (List ℕ → ℕ → Type 0) → List ℕ → Type 0
 NoFieldBegins field x = (a behind : List ℕ) (n : ℕ) → x ≡ a ++ behind → field a n → ⊥
-
--- no front of the bytes to come, where they are told, is a length
-abbrev pub NoFieldComes : (List ℕ → ℕ → Type 0) → Option (List ℕ) → Type 0
-NoFieldComes field None = ⊤
-NoFieldComes field (Some x) = NoFieldBegins field x
 
 module _ (field : List ℕ → ℕ → Type 0) (width : ℕ → ℕ) (m : IsLengthField field width) (inside : Grammar) where
   -- ---- from a slice
@@ -57,6 +51,7 @@ module _ (field : List ℕ → ℕ → Type 0) (width : ℕ → ℕ) (m : IsLeng
       | inr out ↦ inr out
     ];
     memory = r.memory;
+    not_trailing = r.not_trailing;
   }
 
   -- ---- from a source
@@ -67,10 +62,6 @@ module _ (field : List ℕ → ℕ → Type 0) (width : ℕ → ℕ) (m : IsLeng
     held = order a front b p.front c held p.held;
     spelled = record { count = front; inside = p.front; whole = refl; counts = subst (field front) (sym p.spelled.0) f; is_inside = p.spelled.1 };
   }
-
-  pub counted_none_comes_at_count : (coming : Option (List ℕ)) → NoFieldComes field coming → NoneComes (counted field inside) coming
-  counted_none_comes_at_count None none = tt
-  counted_none_comes_at_count (Some x) none = counted_none_at_count x none
 
   pub counted_none_comes_at_inside : (old new : Option (List ℕ)) (n : ℕ) (front : List ℕ) → Consumes old new front → field front n → NoneComes (sized n inside) new → NoneComes (counted field inside) old
   counted_none_comes_at_inside None new n front took f none = tt
@@ -92,6 +83,7 @@ module _ (field : List ℕ → ℕ → Type 0) (width : ℕ → ℕ) (m : IsLeng
           | inl not_lean ↦ inl not_lean
           | inr rose ↦ inr (rose_later (counts a) (counts b) after fell rose)
         ];
+        not_trailing = r.not_trailing;
       }
 
 -- ---- behind a variable-length length
@@ -113,7 +105,7 @@ module _ (inside : Grammar) where
 
   -- the length is refused
   pub varint_count_refuses : {lean : Bool} {x : List ℕ} {e : Error} → (e ≡ EndOfStream) × NoVarintBegins x → Refuses (counted Varint inside) lean x e
-  varint_count_refuses {lean} {x} {e} p = record { cause = inl (varint_none_begins x p.1); memory = λ h. absurd (let ends = p.0 in cc) }
+  varint_count_refuses {lean} {x} {e} p = record { cause = inl (varint_none_begins x p.1); memory = λ h. absurd (let ends = p.0 in cc); not_trailing = λ h. let ends = p.0 in cc }
 
   -- the inside is refused
   pub varint_counted_refuses : {x behind : List ℕ} {n : ℕ} {lean : Bool} {e : Error} → BeginsVarint x n behind → Refuses (sized n inside) lean behind e → Refuses (counted Varint inside) lean x e
@@ -124,9 +116,9 @@ module _ (inside : Grammar) where
 
   -- the source is refused at the length
   pub varint_count_refused : {lean : Bool} (e : Error) (coming : Option (List ℕ)) (old new : Counts) → VarintRefused e coming old new → RefusesSource (counted Varint inside) lean coming old new e
-  varint_count_refused {lean} (DecodingError text) coming old new p = record { cause = inr (inl p.1); memory = λ h. absurd cc }
-  varint_count_refused {lean} EndOfStream coming old new p = record { cause = inl (varint_none_comes coming p); memory = λ h. absurd cc }
-  varint_count_refused {lean} OutOfMemory coming old new p = record { cause = inr (inr refl); memory = λ h. inr p }
+  varint_count_refused {lean} (DecodingError text) coming old new p = record { cause = inr (inl p.1); memory = λ h. absurd cc; not_trailing = λ h. cc }
+  varint_count_refused {lean} EndOfStream coming old new p = record { cause = inl (varint_none_comes coming p); memory = λ h. absurd cc; not_trailing = λ h. cc }
+  varint_count_refused {lean} OutOfMemory coming old new p = record { cause = inr (inr refl); memory = λ h. inr p; not_trailing = λ h. cc }
   varint_count_refused {lean} _ coming old new p = absurd p
 
   -- the source is refused at the inside

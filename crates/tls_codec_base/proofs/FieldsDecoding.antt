@@ -4,11 +4,16 @@ use Rattle.std.proofs.lemmas.List.{append_cancel_left}
 use Rattle.std.specs.Io.KnownBytes.{Consumes}
 use Rattle.tls_codec_wire.specs.Counts.{Counts, NoneFell}
 use Rattle.tls_codec_wire.specs.Device.{GivesFromFront, GivesInOrder, GivesNothing, NoCountFalls}
+use Rattle.tls_codec_wire.specs.declared.device.Source.{Ghosts}
 use Rattle.tls_codec_wire.specs.declared.error.Error.{Error}
+use Rattle.tls_codec_wire.proofs.Given.{gave_on}
 use Rattle.tls_codec_base.specs.Tree.{Tree, Empty, Join}
 use Rattle.tls_codec_base.specs.Grammar.{Grammar, Reading, nothing, fields}
-use Rattle.tls_codec_base.specs.Lawful.{IsLawful}
-use Rattle.tls_codec_base.specs.Decoding.{Begins, GaveSpelling, NoneBegins, NoneComes, Refuses, RefusesSource}
+use Rattle.tls_codec_base.specs.Lawful.{IsLawful, MeetsLaws}
+use Rattle.tls_codec_base.specs.Format.{Format, fields_format}
+use Rattle.tls_codec_base.specs.Decoding.{Begins, GaveSpelling, LeavesSource, NoneBegins, NoneComes, Refuses, RefusesSource}
+use Rattle.tls_codec_base.specs.Refusals.{IsSpelling, NamedBehind, SliceNames, SourceNamedBehind, SourceNames}
+use Rattle.tls_codec_base.proofs.Coming.{named_behind}
 use Rattle.tls_codec_base.proofs.Sent.{fault_later, rose_later}
 
 -- ---- no parts
@@ -64,6 +69,7 @@ fields_refuses_first {first} {others} {a} {x} {e} b r = record {
     | inr out ↦ inr out
   ];
   memory = λ h. first_not_lean a b (r.memory h);
+  not_trailing = r.not_trailing;
 }
 
 pub fields_refuses_others : {first others : Grammar} {f : Tree → ℕ} {b : Bool} {x : List ℕ} {v : Tree} {y : List ℕ} {e : Error} (a : Bool) → IsLawful first f → Begins first x v y → Refuses others b y e → Refuses (fields first others) (a && b) x e
@@ -73,6 +79,7 @@ fields_refuses_others {first} {others} {f} {b} {x} {v} {y} {e} a l p r = record 
     | inr out ↦ inr out
   ];
   memory = λ h. others_not_lean a b (r.memory h);
+  not_trailing = r.not_trailing;
 }
 
 -- ---- from a source
@@ -104,6 +111,7 @@ fields_source_refuses_first {first} {others} {a} {coming} {before} {after} {e} b
     | inl not_lean ↦ inl (first_not_lean a b not_lean)
     | inr rose ↦ inr rose
   ];
+  not_trailing = r.not_trailing;
 }
 
 pub fields_source_refuses_others : {S : Type 0} {given : S → List ℕ → S → Type 0} {first others : Grammar} {f : Tree → ℕ} {b : Bool} {old new : S} {v : Tree} {after : Counts} {e : Error} (a : Bool) (coming : S → Option (List ℕ)) (counts : S → Counts) → GivesFromFront given coming → NoCountFalls given counts
@@ -121,4 +129,27 @@ fields_source_refuses_others {S} {given} {first} {others} {f} {b} {old} {new} {v
         | inl not_lean ↦ inl (others_not_lean a b not_lean)
         | inr rose ↦ inr (rose_later (counts old) (counts new) after fell rose)
       ];
+      not_trailing = r.not_trailing;
     }
+
+-- ---- the same over formats: one citation a field
+
+module _ {S : Type 0} {source : Ghosts S} {first : Format} (others : Format) {e : Error} where
+  pub fields_leaves_first : {a b : S} → LeavesSource first source a b e → LeavesSource (fields_format first others) source a b e
+  fields_leaves_first p = record { gave = p.gave; refused = fields_source_refuses_first others.lean p.refused }
+
+  pub fields_leaves_others : {a b c : S} {v : Tree} → GivesInOrder source.given → GivesFromFront source.given source.coming → NoCountFalls source.given source.counts → MeetsLaws first
+      → GaveSpelling source.given first.spells a b v → LeavesSource others source b c e → LeavesSource (fields_format first others) source a c e
+  fields_leaves_others order from_front falls l p q = record {
+    gave = gave_on order p.held q.gave;
+    refused = fields_source_refuses_others first.lean source.coming source.counts from_front falls l.spelled p q.refused;
+  }
+
+-- ---- what the others name behind the first part: one citation a field
+
+pub others_named : {first : Grammar} {x : List ℕ} {v : Tree} {rest : List ℕ} {e : Error} (names : SliceNames) → Begins first x v rest → names rest e → NamedBehind (IsSpelling first) names x e
+others_named {first} {x} {v} {rest} names p named = record { front = p.front; rest = rest; whole = p.whole; is_front = (v, p.spelled); named = named }
+
+pub others_named_source : {S : Type 0} {given : S → List ℕ → S → Type 0} {first : Grammar} {a b : S} {v : Tree} {after : Counts} {e : Error} (names : SourceNames) (coming : S → Option (List ℕ)) (counts : S → Counts) → GivesFromFront given coming → NoCountFalls given counts
+    → GaveSpelling given first a b v → names (coming b) (counts b) after e → SourceNamedBehind (IsSpelling first) names (coming a) (counts a) after e
+others_named_source {S} {given} {first} {a} {b} {v} names coming counts from_front falls p named = named_behind names coming counts from_front falls p.held (v, p.spelled) named

@@ -1,3 +1,4 @@
+pub mod Appending
 pub mod ArrayCalls
 pub mod ByteContents
 pub mod Coming

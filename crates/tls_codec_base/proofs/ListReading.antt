@@ -1,14 +1,17 @@
 -- Elements that are read in a row from the front of some bytes.
 use Rattle.std.proofs.Common.{◌≡◌, ℕ, ◌+◌, ◌-◌, ◌<◌, ◌≤◌, List, [], ◌∷◌, ◌++◌, length, Bool, false, refl, sym, ap, subst, ◌∙◌, inl, inr, append_assoc, append-nil, arith, length-append}
-use Rattle.std.proofs.lemmas.List.{append_cancel_left}
+use Rattle.std.proofs.lemmas.List.{append_cancel_left, nil_from_length}
 use Rattle.tls_codec_wire.specs.declared.error.Error.{Error}
 use Rattle.tls_codec_base.specs.Tree.{Tree, Empty, Join, trees}
-use Rattle.tls_codec_base.specs.Grammar.{Direction, Reading, Grammar, content, sized}
+use Rattle.tls_codec_base.specs.Grammar.{Reading, Grammar, content, sized}
 use Rattle.tls_codec_base.specs.Lawful.{IsLawful}
 use Rattle.tls_codec_base.specs.Decoding.{Begins, NoneBegins, Refuses}
+use Rattle.tls_codec_base.specs.Shortest.{IsHollow}
+use Rattle.tls_codec_base.specs.Format.{Format}
+use Rattle.tls_codec_base.specs.Refusals.{Overruns, SliceNames, element_names, elements_names}
 
 -- the front of x is a content of v, and left of n bytes are still to be read
-pub record ReadSoFar (element : Direction → List ℕ → Tree → Type 0) (x : List ℕ) (n left : ℕ) (v : Tree) (rest : List ℕ) : Type 0 where
+pub record ReadSoFar (element : Grammar) (x : List ℕ) (n left : ℕ) (v : Tree) (rest : List ℕ) : Type 0 where
   pub front : List ℕ
   pub whole : x ≡ front ++ rest
   pub fills : length front + left ≡ n
@@ -17,10 +20,6 @@ pub record ReadSoFar (element : Direction → List ℕ → Tree → Type 0) (x :
 -- nothing was read
 pub read_none : (element : Grammar) (x : List ℕ) (n : ℕ) → ReadSoFar element x n n Empty x
 read_none element x n = record { front = []; whole = refl; fills = omega arith; spelled = refl }
-
--- all was read
-pub read_all : (element : Grammar) (x : List ℕ) (n left : ℕ) (v : Tree) (rest : List ℕ) → ReadSoFar element x n left v rest → left ≤ 0 → Begins (sized n (content element)) x v rest
-read_all element x n left v rest p none = record { front = p.front; whole = p.whole; spelled = (omega (arith, p.fills, none), p.spelled) }
 
 -- a content and an element behind it are a content
 pub content_more : {T : Type 0} (plain : T → Tree) (element : Grammar) (c : List ℕ) (xs : List T) (s : List ℕ) (x : T) → content element Reading c (trees plain xs) → element Reading s (plain x) → 0 < length s → content element Reading (c ++ s) (trees plain (xs ++ x ∷ []))
@@ -94,6 +93,7 @@ module _ (element : Grammar) (f : Tree → ℕ) (l : IsLawful element f) where
       | inr memory ↦ inr memory
     ];
     memory = λ h. refl;
+    not_trailing = r.not_trailing;
   }
 
   -- the element that was found is the list's next one
@@ -113,3 +113,33 @@ module _ (element : Grammar) (f : Tree → ℕ) (l : IsLawful element f) where
   none_if_long x n left v rest u behind p lt b long w t q =
       let h = found_length x n left v rest u behind p lt b w t q in
       absurd (omega (arith, h.1, long, ap length b.whole, length-append b.front behind))
+
+-- ---- what is named
+
+-- the next element isn't taken
+pub element_named : (element : Format) {x : List ℕ} {n left : ℕ} {v : Tree} {rest : List ℕ} {e : Error} (names : SliceNames) → ReadSoFar element.spells x n left v rest → 0 < left → element_names element names left rest e → elements_names element names n x e
+element_named element {x} {n} {left} {v} {rest} names p some named = inr (
+  left,
+  record {
+    front = p.front;
+    rest = rest;
+    whole = p.whole;
+    is_front = record { elements = (v, p.spelled); fills = p.fills; some = some };
+    named = named;
+  },
+)
+
+-- an element of no bytes was found
+pub found_empty : {element : Grammar} {x : List ℕ} {v : Tree} {rest : List ℕ} → Begins element x v rest → length x - length rest ≡ 0 → IsHollow element
+found_empty {element} {x} {v} {rest} p none =
+    let empty : p.front ≡ [] = nil_from_length p.front (omega (arith, none, ap length p.whole, length-append p.front rest)) in
+    (v, subst (λ (s : List ℕ). element Reading s v) empty p.spelled)
+
+-- an element of too many was
+pub found_long : {element : Grammar} {left : ℕ} {x : List ℕ} {v : Tree} {rest : List ℕ} → Begins element x v rest → left < length x - length rest → Overruns element left x
+found_long {element} {left} {x} {v} {rest} p long = record {
+  value = v;
+  rest = rest;
+  begins = p;
+  long = omega (arith, long, ap length p.whole, length-append p.front rest);
+}

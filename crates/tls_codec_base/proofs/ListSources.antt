@@ -1,5 +1,5 @@
 -- Elements that are read in a row from a source that ends where their list does.
-use Rattle.std.proofs.Common.{◌≡◌, ◌≤◌, ℕ, ◌+◌, ◌-◌, ◌<◌, List, [], ◌∷◌, ◌++◌, length, take, Bool, false, Option, None, Some, refl, sym, ap, subst, ◌∙◌, inl, inr, arith, length-append}
+use Rattle.std.proofs.Common.{◌≡◌, ℕ, ◌+◌, ◌-◌, ◌<◌, List, [], ◌∷◌, ◌++◌, length, take, Bool, false, Option, None, Some, refl, sym, ap, subst, ◌∙◌, inl, inr, arith, length-append}
 use Rattle.std.specs.Prelude.{option_map}
 use Rattle.std.specs.Io.KnownBytes.{Consumes}
 use Rattle.std.proofs.Math.Seq.{take-append-add}
@@ -8,30 +8,26 @@ use Rattle.tls_codec_wire.specs.declared.bounded.Bounded.{Bounded}
 use Rattle.tls_codec_wire.specs.declared.error.Error.{Error}
 use Rattle.tls_codec_wire.specs.Bounded.{first_bytes, GaveWithin, inner_of, limit_of}
 use Rattle.tls_codec_wire.specs.Counts.{Counts, NoneFell}
-use Rattle.tls_codec_wire.specs.Device.{Gave, GivesFromFront, GivesInOrder, GivesNothing, NoCountFalls}
-use Rattle.tls_codec_base.specs.Tree.{Tree, Empty, trees}
-use Rattle.tls_codec_base.specs.Grammar.{Direction, Reading, Grammar, content, sized}
+use Rattle.tls_codec_wire.specs.Device.{Gave, GivesFromFront, GivesInOrder, NoCountFalls}
+use Rattle.tls_codec_base.specs.Tree.{Tree, trees}
+use Rattle.tls_codec_base.specs.Grammar.{Reading, Grammar, content, sized}
 use Rattle.tls_codec_base.specs.Lawful.{IsLawful}
 use Rattle.tls_codec_base.specs.Decoding.{GaveSpelling, NoneBegins, NoneComes, RefusesSource}
 use Rattle.tls_codec_base.proofs.ListReading.{ReadSoFar, content_more, next_of, none_if_empty}
+use Rattle.tls_codec_base.specs.Shortest.{IsHollow}
+use Rattle.tls_codec_base.specs.Format.{Format}
+use Rattle.tls_codec_base.specs.Refusals.{SourceNames, element_source_names, elements_source_names}
+use Rattle.tls_codec_base.proofs.Coming.{named_behind}
 use Rattle.tls_codec_base.proofs.Sent.{fault_later}
 
 -- the source gave a content of v, and left of n bytes are still to be read
-pub record GivenSoFar {S : Type 0} (given : S → List ℕ → S → Type 0) (element : Direction → List ℕ → Tree → Type 0) (old new : S) (n left : ℕ) (v : Tree) : Type 0 where
+pub record GivenSoFar {S : Type 0} (given : S → List ℕ → S → Type 0) (element : Grammar) (old new : S) (n left : ℕ) (v : Tree) : Type 0 where
   pub front : List ℕ
   pub held : given old front new
   pub fills : length front + left ≡ n
   pub spelled : content element Reading front v
 
 module _ {S : Type 0} (given : S → List ℕ → S → Type 0) (element : Grammar) where
-  -- nothing was read
-  pub given_none : GivesNothing given → (start : S) (n : ℕ) → GivenSoFar given element start start n n Empty
-  given_none nothing start n = record { front = []; held = nothing start; fills = omega arith; spelled = refl }
-
-  -- all was read
-  pub given_all : (start new : S) (n left : ℕ) (v : Tree) → GivenSoFar given element start new n left v → left ≤ 0 → GaveSpelling given (sized n (content element)) start new v
-  given_all start new n left v p none = record { front = p.front; held = p.held; spelled = (omega (arith, p.fills, none), p.spelled) }
-
   module _ (order : GivesInOrder given) (start : S) (n : ℕ) (a b : Bounded S) where
     -- what was given with the attempt at an element more
     pub gave_attempt : (v : Tree) → GivenSoFar given element start (inner_of a) n (limit_of a) v → Gave (GaveWithin given) a b → Gave given start (inner_of b)
@@ -86,6 +82,7 @@ module _ (element : Grammar) (f : Tree → ℕ) (l : IsLawful element f) where
             | inr (inr memory) ↦ inr (inr memory)
           ];
           memory = λ h. inl refl;
+          not_trailing = r.not_trailing;
         }
 
     -- an element of no bytes is found
@@ -93,3 +90,17 @@ module _ (element : Grammar) (f : Tree → ℕ) (l : IsLawful element f) where
     none_if_empty_source b u p lt q same =
         let empty : q.front ≡ [] = nil_from_length q.front (omega (arith, same, q.held.fell)) in
         none_comes_empty (coming start) (coming (inner_of a)) p.front n (limit_of a) v u (from_front start p.front (inner_of a) p.held) p.fills p.spelled lt (subst (λ (s : List ℕ). element Reading s u) empty q.spelled)
+
+-- ---- what is named
+
+-- the next element isn't taken
+pub element_named_source : {S : Type 0} {given : S → List ℕ → S → Type 0} (element : Format) {start mid : S} {n left : ℕ} {v : Tree} {after : Counts} {e : Error} (names : SourceNames) (coming : S → Option (List ℕ)) (counts : S → Counts) → GivesFromFront given coming → NoCountFalls given counts
+    → GivenSoFar given element.spells start mid n left v → 0 < left → element_source_names element names left (coming mid) (counts mid) after e → elements_source_names element names n (coming start) (counts start) after e
+element_named_source {S} {given} element {start} {mid} {n} {left} {v} names coming counts from_front falls p some named =
+    inr (left, named_behind _ coming counts from_front falls p.held (record { elements = (v, p.spelled); fills = p.fills; some = some }) named)
+
+-- an element of no bytes was given
+pub given_empty : {S : Type 0} {given : S → List ℕ → S → Type 0} {element : Grammar} {a b : Bounded S} {u : Tree} → GaveSpelling (GaveWithin given) element a b u → limit_of b ≡ limit_of a → IsHollow element
+given_empty {S} {given} {element} {a} {b} {u} p same =
+    let empty : p.front ≡ [] = nil_from_length p.front (omega (arith, same, p.held.fell)) in
+    (u, subst (λ (s : List ℕ). element Reading s u) empty p.spelled)

@@ -1,17 +1,13 @@
 -- What the calls on digits answer, over the width.
-use Rattle.std.proofs.Common.{◌≡◌, ℕ, suc, ◌-◌, ◌<◌, ◌≤◌, List, ◌++◌, length, take, drop, take-append-drop, length-take-le, get_or, Option, None, Some, true, inl, inr, refl, sym, ap, subst, ◌∙◌, arith, length-append}
+use Rattle.std.proofs.Common.{◌≡◌, ℕ, suc, ◌-◌, ◌<◌, ◌≤◌, List, [], ◌∷◌, ◌++◌, length, take, drop, take-append-drop, length-take-le, get_or, refl, sym, ap, subst, ◌∙◌, arith}
 use Rattle.std.specs.Int.{byte_worth, sum_through}
 use Rattle.tls_codec_wire.proofs.Bytes.{are_bytes, AreBytes-left}
-use Rattle.tls_codec_wire.specs.Counts.{Counts}
 use Rattle.tls_codec_wire.specs.Digits.{AreBytes, Digits, value}
-use Rattle.tls_codec_wire.specs.Transfer.{IsShortOf, ReadRefused}
-use Rattle.tls_codec_wire.specs.declared.error.Error.{Error}
-use Rattle.tls_codec_wire.specs.declared.error.Error.TheVariants.{DecodingError, EndOfStream, OutOfMemory}
 use Rattle.tls_codec_base.specs.Tree.{Number}
 use Rattle.tls_codec_base.specs.Grammar.{number}
 use Rattle.tls_codec_base.specs.Shortest.{IsShortest}
-use Rattle.tls_codec_base.specs.Decoding.{Begins, NoneBegins, NoneComes, RefusesSource}
-use Rattle.tls_codec_base.specs.NumberLaws.{digits_least}
+use Rattle.tls_codec_base.specs.Decoding.{Begins}
+use Rattle.tls_codec_base.specs.laws.NumberLaws.{digits_least}
 use Rattle.tls_codec_wire.proofs.BigEndian.{sum_through-digits}
 
 -- bytes spell the number that they stand for
@@ -34,22 +30,6 @@ number_begins k x front rest f r fits small = record {
   };
 }
 
--- fewer bytes begin with no number
-pub number_short : (k : ℕ) (x : List ℕ) → length x < k → NoneBegins (number k) x
-number_short k x lt (Number n) rest b = omega (arith, ap length b.whole, length-append b.front rest, b.spelled.width)
-number_short k x lt _ rest b = absurd b.spelled
-
-none_comes : (k : ℕ) (coming : Option (List ℕ)) → IsShortOf k coming → NoneComes (number k) coming
-none_comes k None short = tt
-none_comes k (Some x) short = number_short k x short
-
--- why digits are not read is why the number is refused
-pub number_refused : (k : ℕ) (coming : Option (List ℕ)) (old new : Counts) (e : Error) → ReadRefused e k coming old new → RefusesSource (number k) true coming old new e
-number_refused k coming old new (DecodingError text) p = record { cause = inr (inl p.1); memory = λ h. absurd cc }
-number_refused k coming old new EndOfStream p = record { cause = inl (none_comes k coming p); memory = λ h. absurd cc }
-number_refused k coming old new OutOfMemory p = record { cause = inr (inr refl); memory = λ h. inr p }
-number_refused k coming old new _ p = absurd p
-
 -- what holds of the number that digits stand for holds of the one that std makes of them
 pub at_digits : (P : ℕ → Type 0) (k n : ℕ) (b : List ℕ) → length b ≡ suc k → n ≡ sum_through (λ i. byte_worth (k - i) (get_or b i 0)) k → P (value b) → P n
 at_digits P k n b width e h = subst P (sym (sum_through-digits k b width) ∙ sym e) h
@@ -57,3 +37,7 @@ at_digits P k n b width e h = subst P (sym (sum_through-digits k b width) ∙ sy
 -- bytes are the shortest form of the number that they stand for
 pub own_shortest : (b : List ℕ) → ((i : ℕ) → get_or b i 0 < 256) → IsShortest (number (length b)) b (Number (value b))
 own_shortest b small = digits_least (length b) b (value b) (own_digits b (are_bytes b small))
+
+-- a byte is the shortest form of its number
+pub byte_shortest : (n : ℕ) → n < 256 → IsShortest (number 1) (n ∷ []) (Number n)
+byte_shortest n small = digits_least 1 (n ∷ []) n (record { width = refl; bytes = (small, tt); number = omega arith })

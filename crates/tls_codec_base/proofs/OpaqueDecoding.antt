@@ -7,13 +7,13 @@ use Rattle.tls_codec_wire.specs.Transfer.{BytesRefused, IsShortOf}
 use Rattle.tls_codec_wire.specs.Varint.{Varint}
 use Rattle.tls_codec_wire.specs.VarintCalls.{BeginsVarint, GaveVarint, VarintRefused, least_width}
 use Rattle.tls_codec_wire.specs.declared.error.Error.{Error}
-use Rattle.tls_codec_wire.specs.declared.error.Error.TheVariants.{DecodingError, EndOfStream, InvalidVectorLength, OutOfMemory}
+use Rattle.tls_codec_wire.specs.declared.error.Error.TheVariants.{DecodingError, EndOfStream, InvalidVectorLength, OutOfMemory, TrailingData}
 use Rattle.tls_codec_wire.proofs.Bytes.{are_bytes, AreBytes-left}
 use Rattle.tls_codec_base.specs.Tree.{number_trees}
 use Rattle.tls_codec_base.specs.Grammar.{Grammar, Reading, bytes, content, number, sized}
 use Rattle.tls_codec_base.specs.Decoding.{Begins, GaveSpelling, NoneComes, Refuses, RefusesSource}
 use Rattle.tls_codec_base.specs.Opaque.{IsCutOff, OpaqueSourceRefused}
-use Rattle.tls_codec_base.specs.VarintLaws.{varint_field}
+use Rattle.tls_codec_base.specs.laws.VarintLaws.{varint_field}
 use Rattle.tls_codec_base.proofs.ByteContents.{AreBytes-right, bytes_content, sized_short}
 use Rattle.tls_codec_base.proofs.CountedDecoding.{counted_none_at_inside, counted_none_comes_at_inside, varint_counted_begins, varint_counted_given, varint_none_comes}
 use Rattle.tls_codec_base.proofs.Sent.{fault_later}
@@ -28,10 +28,11 @@ bytes_begin x {behind} {c} {rest} {n} small p front back width =
     let content_small : AreBytes c = AreBytes-left c rest (subst AreBytes whole behind_small) in
     varint_counted_begins (content (number 1)) p (record { front = c; whole = whole; spelled = (width, bytes_content Reading c content_small) })
 
-pub cut_off_refused : {lean : Bool} {x : List ℕ} {e : Error} → IsCutOff x → e ≢ OutOfMemory → Refuses bytes lean x e
-cut_off_refused {lean} {x} {e} p other = record {
+pub cut_off_refused : {lean : Bool} {x : List ℕ} {e : Error} → IsCutOff x → e ≢ OutOfMemory → e ≢ TrailingData → Refuses bytes lean x e
+cut_off_refused {lean} {x} {e} p other not_trailing = record {
   cause = inl (counted_none_at_inside Varint least_width varint_field (content (number 1)) x p.behind p.declared p.begins.front p.begins.whole p.begins.spelled (sized_short p.declared (content (number 1)) p.behind p.short));
   memory = λ h. absurd (other h);
+  not_trailing = not_trailing;
 }
 
 -- ---- from a source
@@ -65,7 +66,7 @@ content_not_read {S} {given} {a} {b} {n} {k} _ coming counts after from_front fa
 
 -- and why that is a refusal of the source
 pub bytes_not_read : (e : Error) (coming : Option (List ℕ)) (old new : Counts) → OpaqueSourceRefused e coming old new → RefusesSource bytes false coming old new e
-bytes_not_read (DecodingError text) coming old new p = record { cause = inr (inl p.1); memory = λ h. absurd cc }
-bytes_not_read EndOfStream coming old new p = record { cause = inl p; memory = λ h. absurd cc }
-bytes_not_read OutOfMemory coming old new p = record { cause = inr (inr refl); memory = λ h. inl refl }
+bytes_not_read (DecodingError text) coming old new p = record { cause = inr (inl p.1); memory = λ h. absurd cc; not_trailing = λ h. cc }
+bytes_not_read EndOfStream coming old new p = record { cause = inl p; memory = λ h. absurd cc; not_trailing = λ h. cc }
+bytes_not_read OutOfMemory coming old new p = record { cause = inr (inr refl); memory = λ h. inl refl; not_trailing = λ h. cc }
 bytes_not_read _ coming old new p = absurd p

@@ -3,19 +3,23 @@ use Rattle.std.proofs.Common.{◌≡◌, ◌≢◌, ℕ, List, [], ◌∷◌, �
 use Rattle.std.specs.Io.KnownBytes.{Consumes}
 use Rattle.tls_codec_wire.specs.Counts.{Counts, NoneFell}
 use Rattle.tls_codec_wire.specs.Device.{GivesInOrder}
-use Rattle.tls_codec_wire.specs.Transfer.{IsShortOf, ReadRefused}
 use Rattle.tls_codec_wire.specs.declared.error.Error.{Error}
-use Rattle.tls_codec_wire.specs.declared.error.Error.TheVariants.{DecodingError, EndOfStream, OutOfMemory}
+use Rattle.tls_codec_wire.specs.declared.error.Error.TheVariants.{DecodingError}
 use Rattle.tls_codec_base.proofs.Sent.{fault_later, rose_later}
 use Rattle.tls_codec_base.specs.Tree.{Tree, Empty, Join}
 use Rattle.tls_codec_base.specs.Grammar.{Grammar, option}
 use Rattle.tls_codec_base.specs.Decoding.{Begins, NoneBegins, NoneComes, GaveSpelling, Refuses, RefusesSource}
+use Rattle.tls_codec_base.specs.Refusals.{IsOtherByte}
 
 -- a buffer of one byte
 one_byte : (buffer : List ℕ) (b : ℕ) → length buffer ≡ 1 → get_or buffer 0 0 ≡ b → buffer ≡ b ∷ []
 one_byte [] b width e = absurd (omega (arith, width))
 one_byte (x ∷ []) b width e = ap (λ (u : ℕ). u ∷ []) e
 one_byte (x ∷ y ∷ more) b width e = absurd (omega (arith, width))
+
+-- another tag
+pub other_byte : (buffer : List ℕ) → length buffer ≡ 1 → get_or buffer 0 0 ≢ 0 → get_or buffer 0 0 ≢ 1 → IsOtherByte buffer
+other_byte buffer width zero one = (get_or buffer 0 0, one_byte buffer (get_or buffer 0 0) width refl, omega (arith, zero, one))
 
 module _ (payload : Grammar) where
   -- ---- from a slice
@@ -44,19 +48,10 @@ module _ (payload : Grammar) where
       | inr out ↦ inr out
     ];
     memory = r.memory;
+    not_trailing = r.not_trailing;
   }
 
   -- ---- from a source
-
-  -- no option begins with no tag, and none with another tag
-  none_without_tag : NoneBegins (option payload) []
-  none_without_tag Empty rest p =
-      let h : [] ≡ 0 ∷ rest = p.whole ∙ ap (λ (u : List ℕ). u ++ rest) p.spelled in
-      absurd cc
-  none_without_tag (Join v Empty) rest p =
-      let h : [] ≡ 1 ∷ (p.spelled.0 ++ rest) = p.whole ∙ ap (λ (u : List ℕ). u ++ rest) p.spelled.1 in
-      absurd cc
-  none_without_tag _ rest p = absurd p.spelled
 
   none_with_other_tag : (tag : ℕ) (x : List ℕ) → tag ≢ 0 → tag ≢ 1 → NoneBegins (option payload) (tag ∷ x)
   none_with_other_tag tag x zero one Empty rest p =
@@ -66,18 +61,6 @@ module _ (payload : Grammar) where
       let h : tag ∷ x ≡ 1 ∷ (p.spelled.0 ++ rest) = p.whole ∙ ap (λ (u : List ℕ). u ++ rest) p.spelled.1 in
       absurd (one cc)
   none_with_other_tag tag x zero one _ rest p = absurd p.spelled
-
-  none_comes_without_tag : (coming : Option (List ℕ)) → IsShortOf 1 coming → NoneComes (option payload) coming
-  none_comes_without_tag None short = tt
-  none_comes_without_tag (Some []) short = none_without_tag
-  none_comes_without_tag (Some (x ∷ xs)) short = absurd (omega (arith, short))
-
-  -- a tag that isn't read
-  pub tag_refused : (lean : Bool) (coming : Option (List ℕ)) (old new : Counts) (e : Error) → ReadRefused e 1 coming old new → RefusesSource (option payload) lean coming old new e
-  tag_refused lean coming old new (DecodingError text) p = record { cause = inr (inl p.1); memory = λ h. absurd cc }
-  tag_refused lean coming old new EndOfStream p = record { cause = inl (none_comes_without_tag coming p); memory = λ h. absurd cc }
-  tag_refused lean coming old new OutOfMemory p = record { cause = inr (inr refl); memory = λ h. inr p }
-  tag_refused lean coming old new _ p = absurd p
 
   none_comes_with_other_tag : (old new : Option (List ℕ)) (buffer : List ℕ) → length buffer ≡ 1 → Consumes old new buffer → get_or buffer 0 0 ≢ 0 → get_or buffer 0 0 ≢ 1 → NoneComes (option payload) old
   none_comes_with_other_tag None new buffer width took zero one = tt
@@ -99,6 +82,7 @@ module _ (payload : Grammar) where
   other_tag_refused lean coming new buffer before after text width took zero one = record {
     cause = inl (none_comes_with_other_tag coming new buffer width took zero one);
     memory = λ h. absurd cc;
+    not_trailing = λ h. cc;
   }
 
   -- the payload is refused
@@ -113,6 +97,7 @@ module _ (payload : Grammar) where
       | inl not_lean ↦ inl not_lean
       | inr rose ↦ inr (rose_later start before after fell rose)
     ];
+    not_trailing = r.not_trailing;
   }
 
   pub option_given : {S : Type 0} (given : S → List ℕ → S → Type 0) (a b c : S) (buffer : List ℕ) (v : Tree) → GivesInOrder given → length buffer ≡ 1 → given a buffer b → get_or buffer 0 0 ≡ 1 → GaveSpelling given payload b c v → GaveSpelling given (option payload) a c (Join v Empty)

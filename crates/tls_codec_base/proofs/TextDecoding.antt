@@ -1,16 +1,16 @@
 -- Texts, which are bytes that are UTF-8, read from a slice and from a source.
-use Rattle.std.proofs.Common.{ℕ, List, Bool, false, Option, None, Some, IsUtf8, inl, inr, refl, sym, subst, ◌∙◌}
+use Rattle.std.proofs.Common.{◌≢◌, ℕ, List, Bool, false, Option, None, Some, IsUtf8, inl, inr, refl, sym, subst, ◌∙◌}
 use Rattle.std.specs.Io.KnownBytes.{Consumes}
 use Rattle.tls_codec_wire.specs.Counts.{Counts}
 use Rattle.tls_codec_wire.specs.Device.{GivesFromFront}
 use Rattle.tls_codec_wire.specs.declared.error.Error.{Error}
-use Rattle.tls_codec_wire.specs.declared.error.Error.TheVariants.{DecodingError, EndOfStream, OutOfMemory}
+use Rattle.tls_codec_wire.specs.declared.error.Error.TheVariants.{DecodingError, EndOfStream, OutOfMemory, TrailingData}
 use Rattle.tls_codec_base.specs.Tree.{number_trees}
 use Rattle.tls_codec_base.specs.Grammar.{Reading, bytes, text}
 use Rattle.tls_codec_base.specs.Decoding.{Begins, GaveSpelling, NoneBegins, NoneComes, Refuses, RefusesSource}
-use Rattle.tls_codec_base.specs.NumberLaws.{number_trees_one}
+use Rattle.tls_codec_base.specs.laws.NumberLaws.{number_trees_one}
 use Rattle.tls_codec_base.specs.Opaque.{IsNoText, NoTextComes, OpaqueRefused, OpaqueSourceRefused, TextRefused, TextSourceRefused}
-use Rattle.tls_codec_base.specs.ListLaws.{bytes_lawful}
+use Rattle.tls_codec_base.specs.laws.ListLaws.{bytes_lawful}
 use Rattle.tls_codec_base.proofs.ByteContents.{content_bytes}
 use Rattle.tls_codec_base.proofs.TextForms.{text_from_bytes, text_to_bytes}
 
@@ -30,6 +30,7 @@ text_refuses {lean} {x} {e} r = record {
     | inr out ↦ inr out
   ];
   memory = λ h. refl;
+  not_trailing = r.not_trailing;
 }
 
 -- nor where they are no UTF-8
@@ -40,8 +41,8 @@ invalid_begins_none x p v rest b =
     let inside = number_trees_one p.content b.spelled.inside (same.1 ∙ content_bytes Reading b.spelled.inside v b.spelled.is_inside.0) in
     p.invalid (subst IsUtf8 (sym inside) b.spelled.is_inside.1)
 
-pub invalid_refuses : {x : List ℕ} {e : Error} → IsNoText x → Refuses text false x e
-invalid_refuses {x} {e} p = record { cause = inl (invalid_begins_none x p); memory = λ h. refl }
+pub invalid_refuses : {x : List ℕ} {e : Error} → IsNoText x → e ≢ TrailingData → Refuses text false x e
+invalid_refuses {x} {e} p other = record { cause = inl (invalid_begins_none x p); memory = λ h. refl; not_trailing = other }
 
 pub text_not_split : (e : Error) (x : List ℕ) → OpaqueRefused e x → TextRefused e x
 text_not_split EndOfStream x p = p
@@ -64,6 +65,7 @@ text_source_refuses {coming} {old} {new} {e} r = record {
     | inr other ↦ inr other
   ];
   memory = r.memory;
+  not_trailing = r.not_trailing;
 }
 
 invalid_comes_first : (old new : Option (List ℕ)) (front c : List ℕ) → Consumes old new front → bytes Reading front (number_trees c) → (IsUtf8 c → ⊥) → NoTextComes old
@@ -80,8 +82,8 @@ invalid_comes_none : (coming : Option (List ℕ)) → NoTextComes coming → Non
 invalid_comes_none None p = tt
 invalid_comes_none (Some x) p = invalid_begins_none x p
 
-pub invalid_source_refuses : {coming : Option (List ℕ)} {old new : Counts} {e : Error} → NoTextComes coming → RefusesSource text false coming old new e
-invalid_source_refuses {coming} {old} {new} {e} p = record { cause = inl (invalid_comes_none coming p); memory = λ h. inl refl }
+pub invalid_source_refuses : {coming : Option (List ℕ)} {old new : Counts} {e : Error} → NoTextComes coming → e ≢ TrailingData → RefusesSource text false coming old new e
+invalid_source_refuses {coming} {old} {new} {e} p other = record { cause = inl (invalid_comes_none coming p); memory = λ h. inl refl; not_trailing = other }
 
 pub text_not_read : (e : Error) (coming : Option (List ℕ)) (old new : Counts) → OpaqueSourceRefused e coming old new → TextSourceRefused e coming old new
 text_not_read EndOfStream coming old new p = p

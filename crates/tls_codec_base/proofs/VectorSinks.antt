@@ -1,25 +1,27 @@
--- Why no vector is made.
-use Rattle.std.proofs.Common.{◌≤◌, ◌^◌, inl, inr, refl, ℕ, List, Option, arith}
+-- What is written to a vector as a sink, and why nothing is.
+use Rattle.std.proofs.Common.{◌≡◌, ◌<◌, ◌^◌, ◌⊎◌, ℕ, List, ◌++◌, length, length-append, ap, inl, inr, refl, arith}
 use Rattle.tls_codec_wire.specs.Counts.{FaultIsCounted, only_shortages}
+use Rattle.tls_codec_wire.specs.Transfer.{WriteRefused}
 use Rattle.tls_codec_wire.specs.declared.error.Error.{Error}
 use Rattle.tls_codec_wire.specs.declared.error.Error.TheVariants.{EncodingError, OutOfMemory}
 use Rattle.tls_codec_base.specs.Tree.{Tree}
-use Rattle.tls_codec_base.specs.Grammar.{Grammar}
-use Rattle.tls_codec_base.specs.Lawful.{IsLawful}
-use Rattle.tls_codec_base.specs.Encoding.{Breaks, RefusesVector, PassesVector}
+use Rattle.tls_codec_base.specs.Format.{Format}
+use Rattle.tls_codec_base.specs.Shortest.{IsShortest}
+use Rattle.tls_codec_base.specs.Announced.{capped}
+use Rattle.tls_codec_base.specs.Encoding.{Appended, AppendRefused}
 
 -- a vector as a sink counts no fault
 no_fault : FaultIsCounted only_shortages only_shortages → ⊥
 no_fault (inl failed) = omega (arith, failed)
 no_fault (inr interrupted) = omega (arith, interrupted)
 
-module _ (spells : Grammar) (f : Tree → ℕ) (l : IsLawful spells f) where
-  -- a refusal of the vector that is written to
-  pub vector_breaks : (v : Tree) (old new : Option (List ℕ)) (e : Error) → Breaks spells v old new only_shortages only_shortages e → RefusesVector spells v e
-  vector_breaks v old new OutOfMemory p = inl refl
-  vector_breaks v old new (EncodingError text) p = inr (inl (λ s q. let form = l.shortest s v q in no_fault (p.beginning form.0 form.1).1.1))
-  vector_breaks v old new _ p = inr (inl (λ s q. let form = l.shortest s v q in (p.beginning form.0 form.1).1))
+-- what a vector as a sink received
+pub written_appended : {f : Format} {v : Tree} {form a b : List ℕ} {n : ℕ} → IsShortest f.spells form v → b ≡ a ++ form → n ≡ capped (length form) → length b < 2 ^ 63 → Appended f v a b n
+written_appended {f} {v} {form} {a} {b} {n} p held count fits = record { form = form; shortest = p; held = held; count = omega (arith, count, fits, ap length held, length-append a form) }
 
-  -- an announced length that passes the greatest vector
-  pub vector_passed : (v : Tree) → 2 ^ 63 ≤ f v → PassesVector spells v
-  vector_passed v h form p = omega (arith, h, l.announces form v p)
+-- a refusal of the vector that is written to
+pub write_not_appended : {f : Format} {v : Tree} {a d : List ℕ} (e : Error) → d ≡ a → WriteRefused e only_shortages only_shortages ⊎ f.refuses v e → AppendRefused f v a d e
+write_not_appended e kept (inr named) = record { kept = kept; cause = inr (inl named) }
+write_not_appended OutOfMemory kept (inl refused) = record { kept = kept; cause = inl refl }
+write_not_appended (EncodingError text) kept (inl refused) = absurd (no_fault refused.1)
+write_not_appended _ kept (inl refused) = absurd refused

@@ -1,7 +1,7 @@
 -- What all of the bytes spell, from what they begin with.
 use Rattle.std.proofs.Common.{◌≡◌, ℕ, List, [], ◌∷◌, ◌++◌, length, Some, Bool, true, false, inl, inr, refl, sym, ap, subst, ◌∙◌, append-nil, length-append, arith}
 use Rattle.std.specs.Prelude.{◌==◌}
-use borrow.Author.Tests.{eqb-true, eqb-false}
+use Rattle.std.proofs.lemmas.Bool.{eqb-true, eqb-false}
 use Rattle.tls_codec_wire.specs.Counts.{no_counts}
 use Rattle.tls_codec_wire.specs.declared.error.Error.{Error}
 use Rattle.tls_codec_wire.specs.declared.error.Error.TheVariants.{TrailingData}
@@ -39,6 +39,7 @@ module _ (spells : Grammar) where
       | inl none ↦ absurd (none v rest b)
       | inr memory ↦ inr memory
     ];
+    left = λ h. absurd (r.not_trailing h);
   }
 
   -- what a slice gives as a source is what it begins with
@@ -58,6 +59,7 @@ module _ (spells : Grammar) where
       | inl not_lean ↦ not_lean
       | inr rose ↦ absurd (omega (arith, rose))
     ];
+    not_trailing = r.not_trailing;
   }
 
 module _ (spells : Grammar) (f : Tree → ℕ) (l : IsLawful spells f) where
@@ -69,4 +71,5 @@ module _ (spells : Grammar) (f : Tree → ℕ) (l : IsLawful spells f) where
         omega (arith, eqb-false (length rest) 0 (sym some), ap length b.whole, ap length h.0, length-append b.front rest));
     memory = λ h. absurd cc;
     trailing = λ w more c lt. inl refl;
+    left = λ h. (v, rest, b, omega (arith, eqb-false (length rest) 0 (sym some)));
   }

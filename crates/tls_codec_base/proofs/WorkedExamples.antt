@@ -1,6 +1,6 @@
 -- The longer proofs of the worked examples.
 use Rattle.std.proofs.Common.{◌≡◌, ℕ, ◌+◌, ◌*◌, ◌^◌, ◌<◌, List, [], ◌∷◌, ◌++◌, length, false, true, refl, sym, ap, subst, ◌∙◌, inl, arith, length-append}
-use lib.Utf8.{encode}
+use Rattle.std.proofs.Math.Utf8.{encode}
 use Rattle.std.specs.Str.{IsUtf8, is_utf8, chars}
 use Rattle.std.proofs.lemmas.Str.{is_utf8-from_IsUtf8}
 use Rattle.tls_codec_wire.specs.Digits.{Digits}
@@ -9,9 +9,9 @@ use Rattle.tls_codec_base.specs.Tree.{Tree, Number, Empty, Join}
 use Rattle.tls_codec_base.specs.Grammar.{Direction, Reading, Writing, number, option, content, fixed_list, list, text, nothing}
 use Rattle.tls_codec_base.specs.Shortest.{IsLeast, IsShortest}
 use Rattle.tls_codec_wire.specs.VarintCalls.{least_width}
-use Rattle.tls_codec_base.specs.NumberLaws.{digits_one}
-use Rattle.tls_codec_base.specs.VarintLaws.{varint_field, varint_shortest}
-use Rattle.tls_codec_base.specs.ListLaws.{bytes_one, counted_least}
+use Rattle.tls_codec_base.specs.laws.NumberLaws.{digits_one}
+use Rattle.tls_codec_base.specs.laws.VarintLaws.{varint_field, varint_shortest}
+use Rattle.tls_codec_base.specs.laws.ListLaws.{bytes_one, counted_least}
 
 -- a number below 64 is the shortest form of itself
 pub one_byte_varint : (n : ℕ) → n < 64 → IsLeast (λ t. Varint t n) (n ∷ [])

@@ -17,12 +17,6 @@ abbrev pub fields_length : (Tree → ℕ) → (Tree → ℕ) → Tree → ℕ
 fields_length first others (Join v vs) = capped (first v + others vs)
 fields_length first others _ = 0
 
-abbrev pub pair_length : (Tree → ℕ) → (Tree → ℕ) → Tree → ℕ
-pair_length first second = fields_length first (fields_length second nothing_length)
-
-abbrev pub triple_length : (Tree → ℕ) → (Tree → ℕ) → (Tree → ℕ) → Tree → ℕ
-triple_length first second third = fields_length first (fields_length second (fields_length third nothing_length))
-
 abbrev pub content_length : (Tree → ℕ) → Tree → ℕ
 content_length element (Join v vs) = capped (element v + content_length element vs)
 content_length element _ = 0

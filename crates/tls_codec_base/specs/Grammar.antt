@@ -117,9 +117,6 @@ fixed_list k element = counted (Digits k) (content element)
 abbrev pub bytes : Grammar
 bytes = list (number 1)
 
-abbrev pub fixed_bytes : ℕ → Grammar
-fixed_bytes k = fixed_list k (number 1)
-
 -- a text's content is its UTF-8
 abbrev pub utf8 : Grammar
 utf8 d c v = content (number 1) d c v × IsUtf8 c

@@ -1,11 +1,14 @@
 -- The laws that each type's grammar and announced length meet.
 use Rattle.std.specs.Prelude.{◌≡◌, ◌≤◌, ℕ, List, ◌++◌, length}
 use Rattle.tls_codec_base.specs.Tree.{Tree}
-use Rattle.tls_codec_base.specs.Grammar.{Direction, Reading, Writing}
-use Rattle.tls_codec_base.specs.Shortest.{IsLeast, IsShortest, IsFull}
+use Rattle.tls_codec_base.specs.Grammar.{Grammar, Reading, Writing}
+use Rattle.tls_codec_base.specs.Shortest.{IsLeast, IsShortest, IsFull, HasNoSpelling}
 use Rattle.tls_codec_base.specs.Announced.{capped}
+use Rattle.tls_codec_base.specs.Format.{Format}
+use Rattle.tls_codec_wire.specs.declared.error.Error.{Error}
+use Rattle.tls_codec_wire.specs.declared.error.Error.TheVariants.{InvalidVectorLength, OutOfMemory}
 
-pub record IsLawful (spells : Direction → List ℕ → Tree → Type 0) (announced : Tree → ℕ) : Type 0 where
+pub record IsLawful (spells : Grammar) (announced : Tree → ℕ) : Type 0 where
   -- if two reading spellings begin one byte list, they are equal and spell one value
   pub one : (s t x y : List ℕ) (v w : Tree) → spells Reading s v → spells Reading t w → s ++ x ≡ t ++ y → (s ≡ t) × (v ≡ w)
   -- a value with a writing spelling has a shortest form
@@ -19,7 +22,7 @@ pub record IsLawful (spells : Direction → List ℕ → Tree → Type 0) (annou
 
 -- The same laws for what stands behind a length field, which says where it ends: there only one value is asked of
 -- one byte list.
-pub record IsLawfulInside (inside : Direction → List ℕ → Tree → Type 0) (announced : Tree → ℕ) : Type 0 where
+pub record IsLawfulInside (inside : Grammar) (announced : Tree → ℕ) : Type 0 where
   pub same : (c : List ℕ) (v w : Tree) → inside Reading c v → inside Reading c w → v ≡ w
   pub shortest : (c : List ℕ) (v : Tree) → inside Writing c v → (t : List ℕ) × IsShortest inside t v
   pub written : (c : List ℕ) (v : Tree) → inside Reading c v → inside Writing c v
@@ -33,3 +36,17 @@ pub record IsLengthField (field : List ℕ → ℕ → Type 0) (width : ℕ → 
   pub least : (b : List ℕ) (m n : ℕ) → field b n → m ≤ n → (a : List ℕ) × IsLeast (λ t. field t m) a
   pub monotone : (a b : List ℕ) (m n : ℕ) → IsLeast (λ t. field t m) a → field b n → m ≤ n → length a ≤ length b
   pub measures : (a : List ℕ) (m : ℕ) → IsLeast (λ t. field t m) a → width m ≡ length a
+
+-- The laws of a format: those of its spellings; what it refuses has no spelling; want of memory isn't among the errors
+-- that it names; what is refused before anything is sent is `InvalidVectorLength`.
+pub record MeetsLaws (f : Format) : Type 0 where
+  pub spelled : IsLawful f.spells f.announced
+  pub unspelled : (v : Tree) (e : Error) → f.refuses v e → HasNoSpelling f.spells v
+  pub not_memory : (v : Tree) → f.refuses v OutOfMemory → ⊥
+  pub long : (v : Tree) → f.too_long v → f.refuses v InvalidVectorLength
+
+-- The same for what stands behind a length field.
+pub record MeetsLawsInside (f : Format) : Type 0 where
+  pub spelled : IsLawfulInside f.spells f.announced
+  pub unspelled : (v : Tree) (e : Error) → f.refuses v e → HasNoSpelling f.spells v
+  pub not_memory : (v : Tree) → f.refuses v OutOfMemory → ⊥

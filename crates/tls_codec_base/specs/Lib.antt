@@ -2,15 +2,11 @@ pub mod Tree
 pub mod Grammar
 pub mod Shortest
 pub mod Announced
+pub mod Format
 pub mod Lawful
 pub mod Decoding
 pub mod Encoding
 pub mod Turns
 pub mod Opaque
 pub mod Refusals
-pub mod RowLaws
-pub mod NumberLaws
-pub mod OptionLaws
-pub mod FieldsLaws
-pub mod VarintLaws
-pub mod ListLaws
+pub mod laws

@@ -1,6 +1,7 @@
 -- Bytes and texts behind a variable-length length: the least length for them, and why they are refused.
 use Rattle.std.specs.Prelude.{◌≡◌, ◌<◌, ◌⊎◌, ℕ, List, ◌++◌, length, codes, Option, None, Some, IsUtf8, ⊤}
-use Rattle.tls_codec_wire.specs.Counts.{Counts, FaultIsCounted}
+use Rattle.tls_codec_wire.specs.Counts.{Counts}
+use Rattle.tls_codec_wire.specs.Transfer.{IsReadFailure}
 use Rattle.tls_codec_wire.specs.Varint.{Varint}
 use Rattle.tls_codec_wire.specs.VarintCalls.{BeginsVarint, NoVarintBegins}
 use Rattle.tls_codec_wire.specs.declared.error.Error.{Error}
@@ -32,7 +33,7 @@ OpaqueRefused _ x = ⊥
 -- why they are not read from a source: they are not to come, it failed, or there was no memory
 abbrev pub OpaqueSourceRefused : Error → Option (List ℕ) → Counts → Counts → Type 0
 OpaqueSourceRefused EndOfStream coming old new = NoneComes bytes coming
-OpaqueSourceRefused (DecodingError text) coming old new = (text.now ≡ codes "read failed") × FaultIsCounted old new
+OpaqueSourceRefused (DecodingError text) coming old new = IsReadFailure text old new
 OpaqueSourceRefused OutOfMemory coming old new = ⊤
 OpaqueSourceRefused _ coming old new = ⊥
 
@@ -60,6 +61,6 @@ NoTextComes (Some x) = IsNoText x
 abbrev pub TextSourceRefused : Error → Option (List ℕ) → Counts → Counts → Type 0
 TextSourceRefused EndOfStream coming old new = NoneComes bytes coming
 TextSourceRefused (DecodingError text) coming old new =
-    ((text.now ≡ codes "read failed") × FaultIsCounted old new) ⊎ ((text.now ≡ codes "invalid utf8") × NoTextComes coming)
+    IsReadFailure text old new ⊎ ((text.now ≡ codes "invalid utf8") × NoTextComes coming)
 TextSourceRefused OutOfMemory coming old new = ⊤
 TextSourceRefused _ coming old new = ⊥

@@ -1,9 +1,150 @@
--- The texts of refusals.
-use Rattle.std.specs.Prelude.{◌≡◌, codes}
+-- Which errors decoders of options, products and lists name: their parts' are handed on.
+use Rattle.std.specs.Prelude.{◌≡◌, ◌<◌, ◌+◌, ◌⊎◌, ℕ, List, [], ◌∷◌, ◌++◌, length, take, codes, Option, option_map}
+use Rattle.std.specs.Io.KnownBytes.{Consumes}
+use Rattle.tls_codec_wire.specs.Counts.{Counts, NoneFell}
+use Rattle.tls_codec_wire.specs.Transfer.{ReadRefused}
+use Rattle.tls_codec_wire.specs.Varint.{Varint}
+use Rattle.tls_codec_wire.specs.VarintCalls.{NoVarintBegins, VarintRefused}
 use Rattle.tls_codec_wire.specs.declared.error.Error.{Error}
-use Rattle.tls_codec_wire.specs.declared.error.Error.TheVariants.{DecodingError}
+use Rattle.tls_codec_wire.specs.declared.error.Error.TheVariants.{DecodingError, EndOfStream, OutOfMemory}
+use Rattle.tls_codec_base.specs.Tree.{Tree}
+use Rattle.tls_codec_base.specs.Grammar.{Grammar, Reading, content}
+use Rattle.tls_codec_base.specs.Format.{Format}
+use Rattle.tls_codec_base.specs.Shortest.{IsHollow}
+use Rattle.tls_codec_base.specs.Decoding.{Begins, Refuses, RefusesSource}
 
--- the refusal of an option's tag
+-- which errors are named, by the bytes
+abbrev pub SliceNames : Type 1
+SliceNames = List ℕ → Error → Type 0
+
+-- by the bytes to come, where those are told, and by the counts before and after
+abbrev pub SourceNames : Type 1
+SourceNames = Option (List ℕ) → Counts → Counts → Error → Type 0
+
+-- a decoding error of this text
+abbrev pub Says : List ℕ → Error → Type 0
+Says said (DecodingError text) = text.now ≡ said
+Says said _ = ⊥
+
+-- a part refuses the bytes, with an error that it names
+abbrev pub part_names : Format → SliceNames → SliceNames
+part_names part names x e = Refuses part.spells part.lean x e × names x e
+
+-- the same from a source
+abbrev pub part_source_names : Format → SourceNames → SourceNames
+part_source_names part names coming old new e = RefusesSource part.spells part.lean coming old new e × names coming old new e
+
+-- ---- what is named behind a front
+
+-- x has such a front, and the error is one that is named of the rest
+pub record NamedBehind (Front : List ℕ → Type 0) (names : SliceNames) (x : List ℕ) (e : Error) : Type 0 where
+  pub front : List ℕ
+  pub rest : List ℕ
+  pub whole : x ≡ front ++ rest
+  pub is_front : Front front
+  pub named : names rest e
+
+-- such a front was to come, and the error is one that is named of what came behind it, by the counts in between, none
+-- of which had fallen
+pub record SourceNamedBehind (Front : List ℕ → Type 0) (names : SourceNames) (coming : Option (List ℕ)) (old new : Counts) (e : Error) : Type 0 where
+  pub front : List ℕ
+  pub behind : Option (List ℕ)
+  pub between : Counts
+  pub took : Consumes coming behind front
+  pub is_front : Front front
+  pub fell : NoneFell old between
+  pub named : names behind between new e
+
+-- ---- options
+
+-- the byte behind which the payload follows
+abbrev pub IsPayloadTag : List ℕ → Type 0
+IsPayloadTag s = s ≡ 1 ∷ []
+
+-- a byte that is no tag
+abbrev pub IsOtherByte : List ℕ → Type 0
+IsOtherByte s = (tag : ℕ) × (s ≡ tag ∷ []) × (1 < tag)
+
+-- the refusal of such a byte
 abbrev pub IsOtherTag : Error → Type 0
-IsOtherTag (DecodingError text) = text.now ≡ codes "option tag is not 0 or 1"
-IsOtherTag _ = ⊥
+IsOtherTag = Says (codes "option tag is not 0 or 1")
+
+-- from a slice: there is no tag, it is another one, or behind the tag 1 the payload is refused
+abbrev pub option_names : SliceNames → SliceNames
+option_names payload x e =
+    ((x ≡ []) × (e ≡ EndOfStream)) ⊎ (NamedBehind IsOtherByte (λ rest error. IsOtherTag error) x e ⊎ NamedBehind IsPayloadTag payload x e)
+
+-- from a source: the tag isn't read, it is another one, or behind the tag 1 the payload is refused
+abbrev pub option_source_names : SourceNames → SourceNames
+option_source_names payload coming old new e =
+    ReadRefused e 1 coming old new
+    ⊎ (SourceNamedBehind IsOtherByte (λ behind before after error. IsOtherTag error) coming old new e
+    ⊎ SourceNamedBehind IsPayloadTag payload coming old new e)
+
+-- ---- products
+
+-- these bytes spell a value
+abbrev pub IsSpelling : Grammar → List ℕ → Type 0
+IsSpelling spells s = (v : Tree) × spells Reading s v
+
+-- from a slice: the first part is refused, or behind a spelling of it the others are
+abbrev pub fields_names : Format → (first others : SliceNames) → SliceNames
+fields_names part first others x e = part_names part first x e ⊎ NamedBehind (IsSpelling part.spells) others x e
+
+-- the same from a source
+abbrev pub fields_source_names : Format → (first others : SourceNames) → SourceNames
+fields_source_names part first others coming old new e =
+    part_source_names part first coming old new e ⊎ SourceNamedBehind (IsSpelling part.spells) others coming old new e
+
+-- ---- lists
+
+-- elements in a row, of n bytes but for these that are left
+pub record IsRun (spells : Grammar) (n left : ℕ) (s : List ℕ) : Type 0 where
+  pub elements : IsSpelling (content spells) s
+  pub fills : length s + left ≡ n
+  pub some : 0 < left
+
+-- an element has no bytes
+abbrev pub IsEmptyElement : Grammar → Error → Type 0
+IsEmptyElement spells e = Says (codes "vector element consumed 0 bytes") e × IsHollow spells
+
+-- the element that begins x has more bytes than are left
+pub record Overruns (spells : Grammar) (left : ℕ) (x : List ℕ) : Type 0 where
+  pub value : Tree
+  pub rest : List ℕ
+  pub begins : Begins spells x value rest
+  pub long : left < length begins.front
+
+-- the element that begins x isn't taken: it is refused, has no bytes, or passes the end
+abbrev pub element_names : Format → SliceNames → ℕ → SliceNames
+element_names element names left x e =
+    part_names element names x e
+    ⊎ (IsEmptyElement element.spells e
+    ⊎ (Says (codes "elements do not fill the declared length") e × Overruns element.spells left x))
+
+-- from a slice: there was no memory, or behind some elements the next one isn't taken
+abbrev pub elements_names : Format → SliceNames → ℕ → SliceNames
+elements_names element names n x e =
+    (e ≡ OutOfMemory) ⊎ ((left : ℕ) × NamedBehind (IsRun element.spells n left) (element_names element names left) x e)
+
+-- of a source an element is refused that ends where the list does
+abbrev pub element_source_names : Format → SourceNames → ℕ → SourceNames
+element_source_names element names left coming old new e =
+    part_source_names element names (option_map (take left) coming) old new e ⊎ IsEmptyElement element.spells e
+
+-- from a source: there was no memory, or behind some elements the next one isn't taken
+abbrev pub elements_source_names : Format → SourceNames → ℕ → SourceNames
+elements_source_names element names n coming old new e =
+    (e ≡ OutOfMemory)
+    ⊎ ((left : ℕ) × SourceNamedBehind (IsRun element.spells n left) (element_source_names element names left) coming old new e)
+
+-- from a slice: no length begins it, or behind a length the elements are refused
+abbrev pub list_names : Format → SliceNames → SliceNames
+list_names element names x e =
+    ((e ≡ EndOfStream) × NoVarintBegins x) ⊎ ((n : ℕ) × NamedBehind (λ s. Varint s n) (elements_names element names n) x e)
+
+-- from a source: the length isn't read, or behind it the elements are refused
+abbrev pub list_source_names : Format → SourceNames → SourceNames
+list_source_names element names coming old new e =
+    VarintRefused e coming old new
+    ⊎ ((n : ℕ) × SourceNamedBehind (λ s. Varint s n) (elements_source_names element names n) coming old new e)

@@ -1,6 +1,8 @@
 //! `Box<T>`: the spelling of its content. A decoder takes memory for it.
-ghost use Rattle.std.specs.Prelude.{◌≡◌, false, IfErr, IfOk};
+ghost use Rattle.std.specs.Prelude.{◌≡◌, ◌⊎◌, IfErr, IfOk};
 ghost use Rattle.tls_codec_wire.specs.declared.error.Error.TheVariants.{OutOfMemory};
+ghost use Rattle.tls_codec_base.specs.Format.{with_memory};
+ghost use Rattle.tls_codec_base.specs.laws.FormatLaws.{with_memory_meets};
 
 use crate::traits::{Deserialize, DeserializeBytes, Serialize, SerializeBytes, Size};
 use std::alloc::Global;
@@ -9,22 +11,22 @@ use tls_codec_wire::{Error, Sink, Source};
 impl<T: Size> Size for Box<T> {
     ghost plain = { λ b. T.plain b.value };
 
-    ghost spells = { T.spells };
-
-    ghost announced = { T.announced };
-
-    ghost lean = { false };
+    ghost format = { with_memory T.format };
 
     fn tls_serialized_len(&self) -> usize {
         (**self).tls_serialized_len()
     }
 
-    ghost lawful = { T.lawful };
+    ghost lawful = { with_memory_meets T.lawful };
 }
 
 impl<T: Serialize> Serialize for Box<T> {
     fn tls_serialize<W: Sink>(&self, writer: &mut W) -> Result<usize, Error> {
         (**self).tls_serialize(writer)
+    }
+
+    fn tls_serialize_into(&self, out: &mut Vec<u8>) -> Result<usize, Error> {
+        (**self).tls_serialize_into(out)
     }
 }
 
@@ -35,6 +37,8 @@ impl<T: SerializeBytes> SerializeBytes for Box<T> {
 }
 
 impl<T: Deserialize> Deserialize for Box<T> {
+    ghost names = { λ coming old new e. (e ≡ OutOfMemory) ⊎ T.names coming old new e };
+
     /// `OutOfMemory`: there is none for the box. Every other refusal is the content's.
     fn tls_deserialize<R: Source>(alloc: Global, bytes: &mut R) -> Result<Box<T>, Error> {
         let content = T::tls_deserialize(alloc, bytes)?;
@@ -43,6 +47,8 @@ impl<T: Deserialize> Deserialize for Box<T> {
 }
 
 impl<T: DeserializeBytes> DeserializeBytes for Box<T> {
+    ghost names = { λ x e. (e ≡ OutOfMemory) ⊎ T.names x e };
+
     /// `OutOfMemory`: there is none for the box. Every other refusal is the content's.
     fn tls_deserialize_bytes(alloc: Global, bytes: &[u8]) -> Result<(Box<T>, &[u8]), Error> {
         let (content, rest) = T::tls_deserialize_bytes(alloc, bytes)?;

@@ -8,8 +8,7 @@ mod reading;
 mod writing;
 
 pub use reading::{from_reader, from_slice};
-pub(crate) use writing::content_bytes;
-pub use writing::{content_len, write};
+pub use writing::{append, append_bytes, content_len, write};
 
 /// How often a list engine tried to read an element.
 ///
@@ -21,7 +20,7 @@ pub use writing::{content_len, write};
 /// assert_eq!(rt; elements.as_slice(), [1u16, 2].as_slice());
 /// assert_eq!(rt; turns.count(), 2);
 /// ```
-#[derive(Clone, Copy, PartialEq, Eq, Debug)]
+#[derive(PartialEq, Eq, Debug, Drop)]
 pub struct Turns {
     count: u64,
     ghost fits: { count < 2 ^ 64 },

@@ -2,30 +2,28 @@
 //! RFC 8446, section 3.4).
 //!
 //! Byte vectors and texts go through the calls here, which move the bytes in bulk.
-ghost use Rattle.std.specs.Prelude.{◌≡◌, ◌≤◌, ◌⊎◌, ◌^◌, length, false, true, IfErr, IfOk};
-ghost use Rattle.tls_codec_wire.specs.Counts.{NoneFell};
-ghost use Rattle.tls_codec_wire.specs.Device.{Gave};
+ghost use Rattle.std.specs.Prelude.{◌≡◌, ◌≤◌, ◌⊎◌, ◌^◌, length, true, IfErr, IfOk};
 ghost use Rattle.tls_codec_wire.specs.Digits.{AreBytes};
-ghost use Rattle.tls_codec_wire.specs.VarintCalls.{least_width};
 ghost use Rattle.tls_codec_wire.specs.declared.error.Error.TheVariants.{InvalidVectorLength, OutOfMemory};
 ghost use Rattle.tls_codec_base.specs.Tree.{number_trees};
-ghost use Rattle.tls_codec_base.specs.Grammar.{bytes};
-ghost use Rattle.tls_codec_base.specs.Shortest.{IsShortest};
-ghost use Rattle.tls_codec_base.specs.Announced.{content_length, counted_length};
-ghost use Rattle.tls_codec_base.specs.Decoding.{Begins, GaveSpelling, Refuses, RefusesSource};
-ghost use Rattle.tls_codec_base.specs.Encoding.{Breaks, RefusesVector, Sends};
+ghost use Rattle.tls_codec_base.specs.Format.{bytes_format};
+ghost use Rattle.tls_codec_base.specs.Decoding.{Reads, Splits};
+ghost use Rattle.tls_codec_base.specs.Encoding.{AppendsForm, Makes, Writes};
 ghost use Rattle.tls_codec_base.specs.Opaque.{IsLeastCounted, OpaqueRefused, OpaqueSourceRefused};
 
 use std::alloc::Global;
 use tls_codec_wire::quic::least_width;
-use tls_codec_wire::{Error, Sink, Source, read_bytes_bounded, vlen, write_all};
+use tls_codec_wire::{Error, Sink, Source, TlsVarInt, read_bytes_bounded, vlen, write_all};
+
+/// The most bytes of a length.
+const MOST_WIDTH: usize = 8;
 
 const NOT_THERE: Error = Error::DecodingError("declared content is not there");
 
 /// The announced length of some bytes: their number, and the least width of it, saturated at
 /// `usize::MAX`.
 pub fn announced_len(content: &[u8]) -> usize
-    ensures { result ≡ counted_length least_width (content_length (λ v. 1)) (number_trees content.now) }
+    ensures { result ≡ bytes_format.announced (number_trees content.now) }
 {
     let length = content.len();
     least_width(length as u64).saturating_add(length)
@@ -36,24 +34,43 @@ pub fn announced_len(content: &[u8]) -> usize
 /// `InvalidVectorLength`: there are more bytes than the greatest length, and nothing was sent. Every
 /// other refusal is the sink's, as in `write_all`.
 pub fn write<W: Sink>(sink: &mut W, content: &[u8]) -> Result<usize, Error>
-    ensures ok { IfOk result (Sends bytes (number_trees content.now) (W.received sink.old) (W.received sink.new)) }
-    ensures err { IfErr result (Breaks bytes (number_trees content.now) (W.received sink.old) (W.received sink.new)
-        (W.counts sink.old) (W.counts sink.new)) }
-    ensures counts { NoneFell (W.counts sink.old) (W.counts sink.new) }
-    ensures too_long { 2 ^ 62 ≤ length content.now → (result ≡ Err InvalidVectorLength) × (sink.new ≡ sink.old) }
+    ensures writes { Writes bytes_format (number_trees content.now) W.Sink sink.old sink.new result }
+    ensures too_long { bytes_format.too_long (number_trees content.now) → (result ≡ Err InvalidVectorLength) × (sink.new ≡ sink.old) }
 {
     let width = vlen::write_length(sink, content.len())?;
     write_all(sink, content)?;
     Ok(width + content.len())
 }
 
+/// Appends the shortest form of some bytes to a vector, and answers how many bytes that is.
+///
+/// `InvalidVectorLength`: there are more bytes than the greatest length. `OutOfMemory`: there was none.
+/// After a refusal the vector's bytes are those from before.
+pub fn append(out: &mut Vec<u8>, content: &[u8]) -> Result<usize, Error>
+    ensures appends { AppendsForm bytes_format (number_trees content.now) out.old.items out.new.items result }
+    ensures too_long { bytes_format.too_long (number_trees content.now) → result ≡ Err InvalidVectorLength }
+{
+    if content.len() as u64 > TlsVarInt::MAX {
+        return Err(Error::InvalidVectorLength);
+    }
+    let at = out.len();
+    out.reserve(content.len().saturating_add(MOST_WIDTH))?;
+    let width = vlen::append_length(out, content.len())?;
+    match out.extend_from_slice(content) {
+        Ok(()) => Ok(width + content.len()),
+        Err(_) => {
+            out.truncate(at);
+            Err(Error::OutOfMemory)
+        }
+    }
+}
+
 /// The shortest form of some bytes.
 ///
 /// `InvalidVectorLength`: there are more bytes than the greatest length.
 pub fn to_vec(alloc: Global, content: &[u8]) -> Result<Vec<u8>, Error>
-    ensures ok { IfOk result (λ form. IsShortest bytes form.items (number_trees content.now)) }
-    ensures err { IfErr result (RefusesVector bytes (number_trees content.now)) }
-    ensures too_long { 2 ^ 62 ≤ length content.now → result ≡ Err InvalidVectorLength }
+    ensures makes { Makes bytes_format (number_trees content.now) result }
+    ensures too_long { bytes_format.too_long (number_trees content.now) → result ≡ Err InvalidVectorLength }
 {
     counted(alloc, content)
 }
@@ -79,8 +96,7 @@ pub(crate) fn counted(alloc: Global, content: &[u8]) -> Result<Vec<u8>, Error>
 /// `EndOfStream`: there is no whole length. `DecodingError("declared content is not there")`: fewer
 /// bytes are behind it than it declares.
 pub fn split(whole: &[u8]) -> Result<(&[u8], &[u8]), Error>
-    ensures ok { IfOk result (λ found. Begins bytes whole.now (number_trees found.0.now) found.1.now) }
-    ensures err { IfErr result (Refuses bytes true whole.now) }
+    ensures splits { Splits (record bytes_format { lean = true }) (λ found. number_trees found.now) whole.now result }
     ensures named { IfErr result (λ e. OpaqueRefused e whole.now) }
 {
     let (length, rest) = vlen::split_length(whole)?;
@@ -95,9 +111,7 @@ pub fn split(whole: &[u8]) -> Result<(&[u8], &[u8]), Error>
 /// Room is asked for as they come. `EndOfStream`: there is no whole length, or fewer bytes come than
 /// it declares. `DecodingError("read failed")` and `OutOfMemory` are as in `read_bytes_bounded`.
 pub fn read<R: Source>(alloc: Global, src: &mut R) -> Result<Vec<u8>, Error>
-    ensures gave { Gave R.given src.old src.new }
-    ensures ok { IfOk result (λ content. GaveSpelling R.given bytes src.old src.new (number_trees content.items)) }
-    ensures err { IfErr result (RefusesSource bytes false (R.coming src.old) (R.counts src.old) (R.counts src.new)) }
+    ensures reads { Reads bytes_format (λ content. number_trees content.items) R.Source src.old src.new result }
     ensures named { IfErr result (λ e. OpaqueSourceRefused e (R.coming src.old) (R.counts src.old) (R.counts src.new)) }
 {
     let (length, _) = vlen::read_length(src)?;

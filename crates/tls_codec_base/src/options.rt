@@ -1,15 +1,11 @@
 //! `Option<T>`: the byte 0 for no payload, or the byte 1 and the payload (the crate's rule;
 //! RFC 9420, section 2.1.1).
-ghost use Rattle.std.specs.Prelude.{◌≡◌, ◌<◌, ◌⊎◌, [], ◌∷◌, ℕ, List, IfErr, IfOk, IsErrAnd};
-ghost use Rattle.tls_codec_wire.specs.Device.{Gave};
-ghost use Rattle.tls_codec_wire.specs.Transfer.{ReadRefused};
-ghost use Rattle.tls_codec_wire.specs.declared.error.Error.TheVariants.{EndOfStream, OutOfMemory};
-ghost use Rattle.tls_codec_base.specs.Decoding.{Begins, GaveSpelling, Refuses, RefusesSource};
-ghost use Rattle.tls_codec_base.specs.Refusals.{IsOtherTag};
+ghost use Rattle.std.specs.Prelude.{◌≡◌, ◌∷◌, IfErr, IfOk};
+ghost use Rattle.tls_codec_wire.specs.declared.error.Error.TheVariants.{OutOfMemory};
+ghost use Rattle.tls_codec_base.specs.Refusals.{option_names, option_source_names};
 ghost use Rattle.tls_codec_base.specs.Tree.{option_plain};
-ghost use Rattle.tls_codec_base.specs.Grammar.{option};
-ghost use Rattle.tls_codec_base.specs.Announced.{option_length};
-ghost use Rattle.tls_codec_base.specs.OptionLaws.{option_lawful};
+ghost use Rattle.tls_codec_base.specs.Format.{option_format};
+ghost use Rattle.tls_codec_base.specs.laws.FormatLaws.{option_meets};
 
 use crate::traits::{Deserialize, DeserializeBytes, Serialize, SerializeBytes, Size};
 use std::alloc::Global;
@@ -26,11 +22,7 @@ const OTHER_TAG: Error = Error::DecodingError("option tag is not 0 or 1");
 impl<T: Size> Size for Option<T> {
     ghost plain = { option_plain T.plain };
 
-    ghost spells = { option T.spells };
-
-    ghost announced = { option_length T.announced };
-
-    ghost lean = { T.lean };
+    ghost format = { option_format T.format };
 
     fn tls_serialized_len(&self) -> usize {
         match self {
@@ -39,7 +31,7 @@ impl<T: Size> Size for Option<T> {
         }
     }
 
-    ghost lawful = { option_lawful T.spells T.announced T.lawful };
+    ghost lawful = { option_meets T.lawful };
 }
 
 impl<T: Serialize> Serialize for Option<T> {
@@ -53,6 +45,26 @@ impl<T: Serialize> Serialize for Option<T> {
                 write_all(writer, &[SOME])?;
                 let length = payload.tls_serialize(writer)?;
                 Ok(length.saturating_add(1))
+            }
+        }
+    }
+
+    fn tls_serialize_into(&self, out: &mut Vec<u8>) -> Result<usize, Error> {
+        match self {
+            None => {
+                out.extend_from_slice(&[NONE])?;
+                Ok(1)
+            }
+            Some(payload) => {
+                let at = out.len();
+                out.extend_from_slice(&[SOME])?;
+                match payload.tls_serialize_into(out) {
+                    Ok(length) => Ok(length.saturating_add(1)),
+                    Err(error) => {
+                        out.truncate(at);
+                        Err(error)
+                    }
+                }
             }
         }
     }
@@ -74,18 +86,11 @@ impl<T: SerializeBytes> SerializeBytes for Option<T> {
 }
 
 impl<T: Deserialize> Deserialize for Option<T> {
+    ghost names = { option_source_names T.names };
+
     /// `EndOfStream`: no byte comes. `DecodingError("option tag is not 0 or 1")`: another tag comes.
     /// Every other refusal is the payload's.
-    fn tls_deserialize<R: Source>(alloc: Global, bytes: &mut R) -> Result<Option<T>, Error>
-        ensures gave { Gave R.given bytes.old bytes.new }
-        ensures ok { IfOk result (λ v. GaveSpelling R.given (option T.spells) bytes.old bytes.new (option_plain T.plain v)) }
-        ensures err { IfErr result (RefusesSource (option T.spells) T.lean (R.coming bytes.old)
-            (R.counts bytes.old) (R.counts bytes.new)) }
-        ensures no_tag { R.coming bytes.old ≡ Some [] →
-            IsErrAnd result (λ e. ReadRefused e 1 (R.coming bytes.old) (R.counts bytes.old) (R.counts bytes.new)) }
-        ensures other_tag { (tag : ℕ) (rest : List ℕ) → R.coming bytes.old ≡ Some (tag ∷ rest) → 1 < tag →
-            IsErrAnd result (λ e. IsOtherTag e ⊎ ReadRefused e 1 (R.coming bytes.old) (R.counts bytes.old) (R.counts bytes.new)) }
-    {
+    fn tls_deserialize<R: Source>(alloc: Global, bytes: &mut R) -> Result<Option<T>, Error> {
         let mut tag = [0u8; 1];
         read_exactly(bytes, &mut tag)?;
         match tag[0] {
@@ -100,14 +105,11 @@ impl<T: Deserialize> Deserialize for Option<T> {
 }
 
 impl<T: DeserializeBytes> DeserializeBytes for Option<T> {
+    ghost names = { option_names T.names };
+
     /// `EndOfStream`: there is no byte. `DecodingError("option tag is not 0 or 1")`: there is another
     /// tag. Every other refusal is the payload's.
-    fn tls_deserialize_bytes(alloc: Global, bytes: &[u8]) -> Result<(Option<T>, &[u8]), Error>
-        ensures ok { IfOk result (λ found. Begins (option T.spells) bytes.now (option_plain T.plain found.0) found.1.now) }
-        ensures err { IfErr result (Refuses (option T.spells) T.lean bytes.now) }
-        ensures no_tag { bytes.now ≡ [] → result ≡ Err EndOfStream }
-        ensures other_tag { (tag : ℕ) (rest : List ℕ) → bytes.now ≡ tag ∷ rest → 1 < tag → IsErrAnd result IsOtherTag }
-    {
+    fn tls_deserialize_bytes(alloc: Global, bytes: &[u8]) -> Result<(Option<T>, &[u8]), Error> {
         let Some((tag, rest)) = bytes.split_first() else {
             return Err(Error::EndOfStream);
         };
@@ -125,22 +127,22 @@ impl<T: DeserializeBytes> DeserializeBytes for Option<T> {
 impl<T: Size> Size for &Option<T> {
     ghost plain = { λ v. option_plain T.plain v.now };
 
-    ghost spells = { option T.spells };
-
-    ghost announced = { option_length T.announced };
-
-    ghost lean = { T.lean };
+    ghost format = { option_format T.format };
 
     fn tls_serialized_len(&self) -> usize {
         (**self).tls_serialized_len()
     }
 
-    ghost lawful = { option_lawful T.spells T.announced T.lawful };
+    ghost lawful = { option_meets T.lawful };
 }
 
 impl<T: Serialize> Serialize for &Option<T> {
     fn tls_serialize<W: Sink>(&self, writer: &mut W) -> Result<usize, Error> {
         (**self).tls_serialize(writer)
+    }
+
+    fn tls_serialize_into(&self, out: &mut Vec<u8>) -> Result<usize, Error> {
+        (**self).tls_serialize_into(out)
     }
 }
 

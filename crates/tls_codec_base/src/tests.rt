@@ -1,10 +1,12 @@
-//! Worked rows of numbers and options, by both paths and each encoder.
+//! Worked rows of every type, by both paths and each encoder.
 ghost use Rattle.std.specs.Prelude.{None};
 ghost use Rattle.tls_codec_wire.specs.Counts.{NoneFell, fall_never, stay};
 
+mod appending;
 mod lists;
 mod numbers;
 mod plain;
+mod refusals;
 mod texts;
 
 use crate::traits::{Deserialize, DeserializeBytes, Serialize, SerializeBytes, Size};
@@ -12,6 +14,10 @@ use std::test::Fail;
 use tls_codec_wire::{Error, Fault, Sink, Source};
 
 const OTHER_TAG: Error = Error::DecodingError("option tag is not 0 or 1");
+
+const NO_BYTES: Error = Error::DecodingError("vector element consumed 0 bytes");
+
+const NOT_FILLED: Error = Error::DecodingError("elements do not fill the declared length");
 
 // Gives the byte 5 each time, after a row of interruptions.
 #[derive(Drop)]

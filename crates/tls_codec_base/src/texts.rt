@@ -1,17 +1,10 @@
 //! `String` and `&str`: the number of UTF-8 bytes as a variable-length integer, then these bytes (the
 //! crate's rule).
-ghost use Rattle.std.specs.Prelude.{◌≡◌, ◌≤◌, ◌^◌, length, false, IfErr, IfOk, string_bytes};
-ghost use Rattle.tls_codec_wire.specs.Counts.{NoneFell};
-ghost use Rattle.tls_codec_wire.specs.Device.{Gave};
-ghost use Rattle.tls_codec_wire.specs.VarintCalls.{least_width};
-ghost use Rattle.tls_codec_wire.specs.declared.error.Error.TheVariants.{InvalidVectorLength};
+ghost use Rattle.std.specs.Prelude.{string_bytes};
 ghost use Rattle.tls_codec_base.specs.Tree.{number_trees};
-ghost use Rattle.tls_codec_base.specs.Grammar.{text};
-ghost use Rattle.tls_codec_base.specs.Announced.{content_length, counted_length};
-ghost use Rattle.tls_codec_base.specs.Decoding.{Begins, GaveSpelling, Refuses, RefusesSource};
-ghost use Rattle.tls_codec_base.specs.Encoding.{Breaks, Sends};
+ghost use Rattle.tls_codec_base.specs.Format.{text_format};
+ghost use Rattle.tls_codec_base.specs.laws.FormatLaws.{text_meets};
 ghost use Rattle.tls_codec_base.specs.Opaque.{TextRefused, TextSourceRefused};
-ghost use Rattle.tls_codec_base.specs.ListLaws.{text_lawful};
 
 use crate::opaque;
 use crate::traits::{Deserialize, DeserializeBytes, Serialize, SerializeBytes, Size};
@@ -23,29 +16,24 @@ const INVALID_UTF8: Error = Error::DecodingError("invalid utf8");
 impl Size for String {
     ghost plain = { λ s. number_trees (string_bytes s) };
 
-    ghost spells = { text };
-
-    ghost announced = { counted_length least_width (content_length (λ v. 1)) };
-
-    ghost lean = { false };
+    ghost format = { text_format };
 
     fn tls_serialized_len(&self) -> usize {
         self.as_str().tls_serialized_len()
     }
 
-    ghost lawful = { text_lawful };
+    ghost lawful = { text_meets };
 }
 
 impl Serialize for String {
     /// `InvalidVectorLength` is as for a `&str`.
-    fn tls_serialize<W: Sink>(&self, writer: &mut W) -> Result<usize, Error>
-        ensures ok { IfOk result (Sends text (number_trees (string_bytes self.now)) (W.received writer.old) (W.received writer.new)) }
-        ensures err { IfErr result (Breaks text (number_trees (string_bytes self.now)) (W.received writer.old) (W.received writer.new)
-            (W.counts writer.old) (W.counts writer.new)) }
-        ensures counts { NoneFell (W.counts writer.old) (W.counts writer.new) }
-        ensures too_long { 2 ^ 62 ≤ length (string_bytes self.now) → (result ≡ Err InvalidVectorLength) × (writer.new ≡ writer.old) }
-    {
+    fn tls_serialize<W: Sink>(&self, writer: &mut W) -> Result<usize, Error> {
         self.as_str().tls_serialize(writer)
+    }
+
+    /// The refusals are those of a `&str`.
+    fn tls_serialize_into(&self, out: &mut Vec<u8>) -> Result<usize, Error> {
+        self.as_str().tls_serialize_into(out)
     }
 }
 
@@ -56,14 +44,11 @@ impl SerializeBytes for String {
 }
 
 impl Deserialize for String {
+    ghost names = { λ coming old new e. TextSourceRefused e coming old new };
+
     /// `EndOfStream`: there is no whole length, or fewer bytes come than it declares.
     /// `DecodingError("invalid utf8")`: the bytes are no text.
-    fn tls_deserialize<R: Source>(alloc: Global, bytes: &mut R) -> Result<String, Error>
-        ensures gave { Gave R.given bytes.old bytes.new }
-        ensures ok { IfOk result (λ s. GaveSpelling R.given text bytes.old bytes.new (number_trees (string_bytes s))) }
-        ensures err { IfErr result (RefusesSource text false (R.coming bytes.old) (R.counts bytes.old) (R.counts bytes.new)) }
-        ensures named { IfErr result (λ e. TextSourceRefused e (R.coming bytes.old) (R.counts bytes.old) (R.counts bytes.new)) }
-    {
+    fn tls_deserialize<R: Source>(alloc: Global, bytes: &mut R) -> Result<String, Error> {
         let content = opaque::read(alloc, bytes)?;
         match String::from_utf8(content) {
             Ok(text) => Ok(text),
@@ -73,14 +58,12 @@ impl Deserialize for String {
 }
 
 impl DeserializeBytes for String {
+    ghost names = { λ x e. TextRefused e x };
+
     /// `EndOfStream`: there is no whole length. `DecodingError("declared content is not there")`:
     /// fewer bytes are behind it than it declares. `DecodingError("invalid utf8")`: the bytes are no
     /// text.
-    fn tls_deserialize_bytes(alloc: Global, bytes: &[u8]) -> Result<(String, &[u8]), Error>
-        ensures ok { IfOk result (λ found. Begins text bytes.now (number_trees (string_bytes found.0)) found.1.now) }
-        ensures err { IfErr result (Refuses text false bytes.now) }
-        ensures named { IfErr result (λ e. TextRefused e bytes.now) }
-    {
+    fn tls_deserialize_bytes(alloc: Global, bytes: &[u8]) -> Result<(String, &[u8]), Error> {
         let (content, rest) = opaque::split(bytes)?;
         let Ok(text) = std::str::from_utf8(content) else {
             return Err(INVALID_UTF8);
@@ -93,30 +76,26 @@ impl DeserializeBytes for String {
 impl Size for &str {
     ghost plain = { λ s. number_trees s.now };
 
-    ghost spells = { text };
-
-    ghost announced = { counted_length least_width (content_length (λ v. 1)) };
-
-    ghost lean = { false };
+    ghost format = { text_format };
 
     fn tls_serialized_len(&self) -> usize {
         opaque::announced_len(self.as_bytes())
     }
 
-    ghost lawful = { text_lawful };
+    ghost lawful = { text_meets };
 }
 
 impl Serialize for &str {
     /// `InvalidVectorLength`: there are more bytes than the greatest length, and nothing was sent.
     /// Every other refusal is the sink's.
-    fn tls_serialize<W: Sink>(&self, writer: &mut W) -> Result<usize, Error>
-        ensures ok { IfOk result (Sends text (number_trees self.now.now) (W.received writer.old) (W.received writer.new)) }
-        ensures err { IfErr result (Breaks text (number_trees self.now.now) (W.received writer.old) (W.received writer.new)
-            (W.counts writer.old) (W.counts writer.new)) }
-        ensures counts { NoneFell (W.counts writer.old) (W.counts writer.new) }
-        ensures too_long { 2 ^ 62 ≤ length self.now.now → (result ≡ Err InvalidVectorLength) × (writer.new ≡ writer.old) }
-    {
+    fn tls_serialize<W: Sink>(&self, writer: &mut W) -> Result<usize, Error> {
         opaque::write(writer, self.as_bytes())
+    }
+
+    /// `InvalidVectorLength`: there are more bytes than the greatest length. `OutOfMemory`: there was
+    /// none.
+    fn tls_serialize_into(&self, out: &mut Vec<u8>) -> Result<usize, Error> {
+        opaque::append(out, self.as_bytes())
     }
 }
 

@@ -1,39 +1,33 @@
 //! The five traits of a type with a spelling, and their contracts.
-ghost use Rattle.std.specs.Prelude.{◌≡◌, ℕ, List, Bool, IfOk, IfErr};
-ghost use Rattle.tls_codec_wire.specs.Counts.{NoneFell};
-ghost use Rattle.tls_codec_wire.specs.Device.{Gave};
+ghost use Rattle.std.specs.Prelude.{◌≡◌, ◌⊎◌, List, Option, Some, ℕ, IfErr};
+ghost use Rattle.tls_codec_wire.specs.Counts.{Counts, no_counts};
+ghost use Rattle.tls_codec_wire.specs.declared.error.Error.{Error};
+ghost use Rattle.tls_codec_wire.specs.declared.error.Error.TheVariants.{InvalidVectorLength, TrailingData};
 ghost use Rattle.tls_codec_base.specs.Tree.{Tree};
-ghost use Rattle.tls_codec_base.specs.Grammar.{Direction, Reading};
-ghost use Rattle.tls_codec_base.specs.Shortest.{IsShortest};
-ghost use Rattle.tls_codec_base.specs.Lawful.{IsLawful};
-ghost use Rattle.tls_codec_base.specs.Decoding.{Begins, GaveSpelling, Refuses, RefusesSource, RefusesWhole};
-ghost use Rattle.tls_codec_base.specs.Encoding.{Breaks, RefusesVector, Sends};
+ghost use Rattle.tls_codec_base.specs.Format.{Format};
+ghost use Rattle.tls_codec_base.specs.Lawful.{MeetsLaws};
+ghost use Rattle.tls_codec_base.specs.Decoding.{Reads, ReadsWhole, Splits};
+ghost use Rattle.tls_codec_base.specs.Encoding.{AppendsForm, Makes, Writes};
 
 use std::alloc::Global;
 use tls_codec_wire::{Error, Sink, Source};
 
 /// A type whose values have spellings in bytes.
 ///
-/// For contracts it carries what a value stands for, which bytes spell it, its announced length and
-/// whether it is lean: its decoders take no memory.
+/// For contracts it carries what a value stands for and its format: which bytes spell it, its
+/// announced length, and which errors there are where no bytes do.
 pub trait Size {
     // What a value stands for.
     ghost plain: { Self → Tree };
 
-    // Which bytes spell which values.
-    ghost spells: { Direction → List ℕ → Tree → Type 0 };
-
-    // The announced length of a value, in bytes.
-    ghost announced: { Tree → ℕ };
-
-    // Its decoders take no memory.
-    ghost lean: { Bool };
+    // What is said of its spellings.
+    ghost format: { Format };
 
     /// The number of bytes of the value's shortest form, saturated at `usize::MAX`.
     fn tls_serialized_len(&self) -> usize
-        ensures { result ≡ announced (plain self.now) };
+        ensures { result ≡ format.announced (plain self.now) };
 
-    ghost lawful: { IsLawful spells announced };
+    ghost lawful: { MeetsLaws format };
 }
 
 /// A type that is written to a sink.
@@ -41,21 +35,32 @@ pub trait Serialize: Size {
     /// Appends the value's shortest form to what the sink has received, and answers how many bytes
     /// that is, saturated at `usize::MAX`.
     fn tls_serialize<W: Sink>(&self, writer: &mut W) -> Result<usize, Error>
-        ensures ok { IfOk result (Sends Self.spells (Self.plain self.now) (W.received writer.old) (W.received writer.new)) }
-        ensures err { IfErr result (Breaks Self.spells (Self.plain self.now) (W.received writer.old) (W.received writer.new)
-            (W.counts writer.old) (W.counts writer.new)) }
-        ensures counts { NoneFell (W.counts writer.old) (W.counts writer.new) };
+        ensures writes { Writes Self.format (Self.plain self.now) W.Sink writer.old writer.new result }
+        ensures too_long { Self.format.too_long (Self.plain self.now) → (result ≡ Err InvalidVectorLength) × (writer.new ≡ writer.old) };
+
+    /// Appends the value's shortest form to a vector, and answers how many bytes that is. After a
+    /// refusal the vector's bytes are those from before.
+    fn tls_serialize_into(&self, out: &mut Vec<u8>) -> Result<usize, Error>
+        ensures appends { AppendsForm Self.format (Self.plain self.now) out.old.items out.new.items result }
+        ensures too_long { Self.format.too_long (Self.plain self.now) → result ≡ Err InvalidVectorLength }
+    {
+        let at = out.len();
+        match self.tls_serialize(out) {
+            Ok(length) => Ok(length),
+            Err(error) => {
+                out.truncate(at);
+                Err(error)
+            }
+        }
+    }
 
     /// The value's shortest form.
     fn tls_serialize_detached(&self, alloc: Global) -> Result<Vec<u8>, Error>
-        ensures ok { IfOk result (λ bytes. IsShortest Self.spells bytes.items (Self.plain self.now)) }
-        ensures err { IfErr result (RefusesVector Self.spells (Self.plain self.now)) }
+        ensures makes { Makes Self.format (Self.plain self.now) result }
+        ensures too_long { Self.format.too_long (Self.plain self.now) → result ≡ Err InvalidVectorLength }
     {
-        if self.tls_serialized_len() > isize::MAX as usize {
-            return Err(Error::InvalidVectorLength);
-        }
         let mut bytes = Vec::new(alloc);
-        self.tls_serialize(&mut bytes)?;
+        self.tls_serialize_into(&mut bytes)?;
         Ok(bytes)
     }
 }
@@ -64,26 +69,27 @@ pub trait Serialize: Size {
 pub trait SerializeBytes: Size {
     /// The value's shortest form.
     fn tls_serialize_bytes(&self, alloc: Global) -> Result<Vec<u8>, Error>
-        ensures ok { IfOk result (λ bytes. IsShortest Self.spells bytes.items (Self.plain self.now)) }
-        ensures err { IfErr result (RefusesVector Self.spells (Self.plain self.now)) };
+        ensures makes { Makes Self.format (Self.plain self.now) result }
+        ensures too_long { Self.format.too_long (Self.plain self.now) → result ≡ Err InvalidVectorLength };
 }
 
 /// A type that is read from a source.
 pub trait Deserialize: Size + Drop {
+    // Which errors are named, by the bytes to come where those are told, and by the counts before and after.
+    ghost names: { Option (List ℕ) → Counts → Counts → Error → Type 0 } = { λ x old new e. Unit {0} };
+
     /// The value that the bytes to come begin with. Just its spelling is taken.
     fn tls_deserialize<R: Source>(alloc: Global, bytes: &mut R) -> Result<Self, Error>
-        ensures gave { Gave R.given bytes.old bytes.new }
-        ensures ok { IfOk result (λ v. GaveSpelling R.given Self.spells bytes.old bytes.new (Self.plain v)) }
-        ensures err { IfErr result (RefusesSource Self.spells Self.lean (R.coming bytes.old)
-            (R.counts bytes.old) (R.counts bytes.new)) };
+        ensures reads { Reads Self.format Self.plain R.Source bytes.old bytes.new result }
+        ensures named { IfErr result (names (R.coming bytes.old) (R.counts bytes.old) (R.counts bytes.new)) };
 
     /// The value that all of the bytes spell, read as from a source.
     ///
     /// `TrailingData`: a value was read, and a byte is left. Every other refusal is that of
     /// [`tls_deserialize`](Deserialize::tls_deserialize).
     fn tls_deserialize_exact(alloc: Global, bytes: &[u8]) -> Result<Self, Error>
-        ensures ok { IfOk result (λ v. Self.spells Reading bytes.now (Self.plain v)) }
-        ensures err { IfErr result (RefusesWhole Self.spells Self.lean bytes.now) }
+        ensures reads { ReadsWhole Self.format Self.plain bytes.now result }
+        ensures named { IfErr result (λ e. (e ≡ TrailingData) ⊎ names (Some bytes.now) no_counts no_counts e) }
     {
         let mut rest = bytes;
         let value = Self::tls_deserialize(alloc, &mut rest)?;
@@ -96,18 +102,21 @@ pub trait Deserialize: Size + Drop {
 
 /// A type that is read from a slice.
 pub trait DeserializeBytes: Size + Drop {
+    // Which errors are named, by the bytes.
+    ghost names: { List ℕ → Error → Type 0 } = { λ x e. Unit {0} };
+
     /// The value that the bytes begin with, and the rest of them, which isn't copied.
     fn tls_deserialize_bytes(alloc: Global, bytes: &[u8]) -> Result<(Self, &[u8]), Error>
-        ensures ok { IfOk result (λ found. Begins Self.spells bytes.now (Self.plain found.0) found.1.now) }
-        ensures err { IfErr result (Refuses Self.spells Self.lean bytes.now) };
+        ensures splits { Splits Self.format Self.plain bytes.now result }
+        ensures named { IfErr result (names bytes.now) };
 
     /// The value that all of the bytes spell.
     ///
     /// `TrailingData`: a value was read, and a byte is left. Every other refusal is that of
     /// [`tls_deserialize_bytes`](DeserializeBytes::tls_deserialize_bytes).
     fn tls_deserialize_exact_bytes(alloc: Global, bytes: &[u8]) -> Result<Self, Error>
-        ensures ok { IfOk result (λ v. Self.spells Reading bytes.now (Self.plain v)) }
-        ensures err { IfErr result (RefusesWhole Self.spells Self.lean bytes.now) }
+        ensures reads { ReadsWhole Self.format Self.plain bytes.now result }
+        ensures named { IfErr result (λ e. (e ≡ TrailingData) ⊎ names bytes.now e) }
     {
         let (value, rest) = Self::tls_deserialize_bytes(alloc, bytes)?;
         if !rest.is_empty() {

@@ -1,7 +1,8 @@
 -- The figures of a case.
-use Rattle.std.specs.Prelude.{◌≡◌, ℕ, List}
+use Rattle.std.specs.Prelude.{◌≡◌, ℕ, List, length}
 use Rattle.tls_codec_base.specs.Tree.{Tree}
 use Rattle.tls_codec_base.specs.Grammar.{Grammar}
+use Rattle.tls_codec_base.specs.Shortest.{IsShortest}
 use Rattle.tls_codec_base.specs.Decoding.{Begins}
 use Rattle.tls_codec_bench.specs.declared.figures.Figures.{Figures}
 
@@ -15,3 +16,9 @@ pub record IsOfCopy (count : ℕ) (figures : Figures) : Type 0 where
 pub record BeginsWith (spells : Grammar) (x : List ℕ) (v : Tree) : Type 0 where
   pub rest : List ℕ
   pub begins : Begins spells x v rest
+
+-- the shortest form of v has n bytes
+pub record IsLengthOf (spells : Grammar) (v : Tree) (n : ℕ) : Type 0 where
+  pub form : List ℕ
+  pub shortest : IsShortest spells form v
+  pub count : n ≡ length form

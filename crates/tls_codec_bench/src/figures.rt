@@ -1,7 +1,7 @@
 //! The figures of a case.
-ghost use Rattle.std.specs.Prelude.{◌≡◌, IfOk};
+ghost use Rattle.std.specs.Prelude.{◌≡◌, [], length, IfOk};
 ghost use Rattle.tls_codec_base.specs.Shortest.{IsShortest};
-ghost use Rattle.tls_codec_bench.specs.Figures.{BeginsWith, IsOfCopy};
+ghost use Rattle.tls_codec_bench.specs.Figures.{BeginsWith, IsLengthOf, IsOfCopy};
 ghost use Rattle.tls_codec_bench.specs.declared.cases.Case.TheVariants.{Copy};
 
 use crate::cases::Case;
@@ -10,6 +10,7 @@ use crate::noise::Noise;
 use crate::timing::time;
 use crate::values::FromNoise;
 use std::alloc::{AllocError, Global};
+use std::cell::Cell;
 use std::rt::Clock;
 use tls_codec_base::{Deserialize, DeserializeBytes, Serialize};
 use tls_codec_vl::VLBytes;
@@ -25,6 +26,8 @@ pub struct Figures {
     pub bytes: usize,
     /// `tls_serialize_detached`, and letting go of the vector.
     pub encode: u64,
+    /// `tls_serialize_into` a vector that is used again and again.
+    pub into: u64,
     /// `tls_deserialize_bytes`, and letting go of the value.
     pub slice: u64,
     /// `tls_deserialize` from a slice, and letting go of the value.
@@ -60,15 +63,18 @@ fn measure_copy<C: Clock>(alloc: Global, clock: &C, count: usize) -> Result<Figu
 {
     let bytes = Vec::<u8>::from_noise(alloc, &mut Noise::new(), &[count])?;
     let nanos = time(clock, || copy(alloc, &bytes).is_ok())?;
+    let reused = Cell::new(Vec::new(alloc));
+    let into = time(clock, || copy_into(alloc, &bytes, &reused).is_ok())?;
     Ok(Figures {
         bytes: count,
         encode: nanos,
+        into,
         slice: nanos,
         reader: nanos,
     })
 }
 
-// Times the three calls for a value of this shape.
+// Times the four calls for a value of this shape.
 fn measure_codec<T, C: Clock>(
     alloc: Global,
     clock: &C,
@@ -82,11 +88,14 @@ where
         return Err(BenchFault::Refused);
     };
     let encode = time(clock, || encode(alloc, &value).is_ok())?;
+    let reused = Cell::new(Vec::new(alloc));
+    let into = time(clock, || encode_into(alloc, &value, &reused).is_ok())?;
     let slice = time(clock, || decode_slice::<T>(alloc, &bytes).is_ok())?;
     let reader = time(clock, || decode_reader::<T>(alloc, &bytes).is_ok())?;
     Ok(Figures {
         bytes: bytes.len(),
         encode,
+        into,
         slice,
         reader,
     })
@@ -104,15 +113,41 @@ fn copy(alloc: Global, bytes: &[u8]) -> Result<Vec<u8>, AllocError>
 }
 
 #[inline(never)]
+fn copy_into(alloc: Global, bytes: &[u8], reused: &Cell<Vec<u8>>) -> Result<usize, AllocError>
+    ensures { IfOk result (λ count. count ≡ length bytes.now) }
+{
+    let mut out = emptied(alloc, reused);
+    let copied = out.extend_from_slice(bytes);
+    let count = out.len();
+    reused.set(out);
+    copied?;
+    Ok(count)
+}
+
+#[inline(never)]
 fn encode<T: Serialize>(alloc: Global, value: &T) -> Result<Vec<u8>, Error>
-    ensures { IfOk result (λ form. IsShortest T.spells form.items (T.plain value.now)) }
+    ensures { IfOk result (λ form. IsShortest T.format.spells form.items (T.plain value.now)) }
 {
     value.tls_serialize_detached(alloc)
 }
 
 #[inline(never)]
+fn encode_into<T: Serialize>(
+    alloc: Global,
+    value: &T,
+    reused: &Cell<Vec<u8>>,
+) -> Result<usize, Error>
+    ensures { IfOk result (IsLengthOf T.format.spells (T.plain value.now)) }
+{
+    let mut out = emptied(alloc, reused);
+    let written = value.tls_serialize_into(&mut out);
+    reused.set(out);
+    written
+}
+
+#[inline(never)]
 fn decode_slice<T: DeserializeBytes>(alloc: Global, bytes: &[u8]) -> Result<T, Error>
-    ensures { IfOk result (λ value. BeginsWith T.spells bytes.now (T.plain value)) }
+    ensures { IfOk result (λ value. BeginsWith T.format.spells bytes.now (T.plain value)) }
 {
     let (value, _) = T::tls_deserialize_bytes(alloc, bytes)?;
     Ok(value)
@@ -120,9 +155,18 @@ fn decode_slice<T: DeserializeBytes>(alloc: Global, bytes: &[u8]) -> Result<T, E
 
 #[inline(never)]
 fn decode_reader<T: Deserialize>(alloc: Global, bytes: &[u8]) -> Result<T, Error>
-    ensures { IfOk result (λ value. BeginsWith T.spells bytes.now (T.plain value)) }
+    ensures { IfOk result (λ value. BeginsWith T.format.spells bytes.now (T.plain value)) }
 {
     let mut left = bytes;
     let value = T::tls_deserialize(alloc, &mut left)?;
     Ok(value)
+}
+
+// The vector in the cell, emptied; an empty one stands in the cell in its place.
+fn emptied(alloc: Global, reused: &Cell<Vec<u8>>) -> Vec<u8>
+    ensures { result.items ≡ [] }
+{
+    let mut out = reused.replace(Vec::new(alloc));
+    out.clear();
+    out
 }

@@ -2,8 +2,8 @@
 //!
 //! With no argument it prints the names of its cases, one a line. With the argument `run` it prints
 //! a line for each case: its name, the bytes of its spelling, and the nanoseconds of a call of
-//! `tls_serialize_detached`, of `tls_deserialize_bytes` and of `tls_deserialize` over a slice, with
-//! tabs between. A figure is the median of 15 batches of at least 20 milliseconds. With any other
+//! `tls_serialize_detached`, of `tls_serialize_into` a vector that is used again, of
+//! `tls_deserialize_bytes` and of `tls_deserialize` over a slice, with tabs between. A figure is the median of 15 batches of at least 20 milliseconds. With any other
 //! argument it ends with status 1.
 //!
 //! - [`cases`]: the cases and their names. [`figures`]: the figures of a case.
@@ -50,8 +50,8 @@ fn print_rows<R: Print + AllocGlobal + Clock>(rt: &R) -> Result<(), BenchFault> 
         let figures = measure(rt.alloc(), rt, case)?;
         let name = case.name();
         println!(rt;
-            "{name}\t{}\t{}\t{}\t{}",
-            figures.bytes, figures.encode, figures.slice, figures.reader
+            "{name}\t{}\t{}\t{}\t{}\t{}",
+            figures.bytes, figures.encode, figures.into, figures.slice, figures.reader
         )?;
     }
     Ok(())

@@ -107,6 +107,7 @@ fn each_case_has_its_bytes(rt: HostRuntime) -> Result<(), Fail> {
         let figures = Figures {
             bytes,
             encode: 1_000_000,
+            into: 1_000_000,
             slice: 1_000_000,
             reader: 1_000_000,
         };

@@ -1,9 +1,9 @@
 //! What byte vectors of each type do with their bytes.
-ghost use Rattle.std.specs.Prelude.{◌≡◌, ◌⊎◌, [], ◌∷◌, ◌++◌, false, is_ok, if◌then◌else◌, length, IfErr, IfOk, IsOk};
+ghost use Rattle.std.specs.Prelude.{◌≡◌, ◌⊎◌, [], ◌∷◌, ◌++◌, is_ok, if◌then◌else◌, length, IfErr, IfOk, IsOk};
 ghost use Rattle.tls_codec_wire.specs.declared.error.Error.TheVariants.{OutOfMemory};
 ghost use Rattle.tls_codec_base.specs.Tree.{number_trees};
-ghost use Rattle.tls_codec_base.specs.Grammar.{bytes};
-ghost use Rattle.tls_codec_base.specs.Decoding.{Begins, Refuses};
+ghost use Rattle.tls_codec_base.specs.Format.{bytes_format};
+ghost use Rattle.tls_codec_base.specs.Decoding.{Splits};
 ghost use Rattle.tls_codec_base.specs.Opaque.{OpaqueRefused};
 
 use std::alloc::Global;
@@ -34,8 +34,7 @@ pub fn copied(alloc: Global, content: &[u8]) -> Result<Vec<u8>, Error>
 
 /// A copy of the bytes that a front of `whole` spells, and the rest of it, which isn't copied.
 pub fn split(alloc: Global, whole: &[u8]) -> Result<(Vec<u8>, &[u8]), Error>
-    ensures ok { IfOk result (λ found. Begins bytes whole.now (number_trees found.0.items) found.1.now) }
-    ensures err { IfErr result (Refuses bytes false whole.now) }
+    ensures splits { Splits bytes_format (λ content. number_trees content.items) whole.now result }
     ensures named { IfErr result (λ e. (e ≡ OutOfMemory) ⊎ OpaqueRefused e whole.now) }
 {
     let (content, rest) = opaque::split(whole)?;

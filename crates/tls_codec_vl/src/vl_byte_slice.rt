@@ -1,13 +1,8 @@
 //! [`VLByteSlice`], borrowed bytes, which are written and not read.
-ghost use Rattle.std.specs.Prelude.{◌≡◌, ◌≤◌, ◌^◌, codes, false, length, IfErr, IfOk, Some};
-ghost use Rattle.tls_codec_wire.specs.Counts.{NoneFell};
-ghost use Rattle.tls_codec_wire.specs.VarintCalls.{least_width};
-ghost use Rattle.tls_codec_wire.specs.declared.error.Error.TheVariants.{InvalidVectorLength};
+ghost use Rattle.std.specs.Prelude.{◌≡◌, codes, Some};
 ghost use Rattle.tls_codec_base.specs.Tree.{number_trees};
-ghost use Rattle.tls_codec_base.specs.Grammar.{bytes};
-ghost use Rattle.tls_codec_base.specs.Announced.{content_length, counted_length};
-ghost use Rattle.tls_codec_base.specs.Encoding.{Breaks, Sends};
-ghost use Rattle.tls_codec_base.specs.ListLaws.{bytes_lawful};
+ghost use Rattle.tls_codec_base.specs.Format.{bytes_format};
+ghost use Rattle.tls_codec_base.specs.laws.FormatLaws.{bytes_meets};
 ghost use Rattle.tls_codec_vl.specs.Contents.{slice_bytes_of};
 ghost use Rattle.tls_codec_vl.specs.Shown.{debug_text};
 
@@ -49,30 +44,26 @@ impl<'a> fmt::Debug for VLByteSlice<'a> {
 impl<'a> Size for VLByteSlice<'a> {
     ghost plain = { λ v. number_trees (slice_bytes_of v) };
 
-    ghost spells = { bytes };
-
-    ghost announced = { counted_length least_width (content_length (λ v. 1)) };
-
-    ghost lean = { false };
+    ghost format = { bytes_format };
 
     fn tls_serialized_len(&self) -> usize {
         opaque::announced_len(self.as_slice())
     }
 
-    ghost lawful = { bytes_lawful };
+    ghost lawful = { bytes_meets };
 }
 
 impl<'a> Serialize for VLByteSlice<'a> {
     /// `InvalidVectorLength`: there are more bytes than the greatest length, and nothing was sent.
     /// Every other refusal is the sink's.
-    fn tls_serialize<W: Sink>(&self, writer: &mut W) -> Result<usize, Error>
-        ensures ok { IfOk result (Sends bytes (number_trees (slice_bytes_of self.now)) (W.received writer.old) (W.received writer.new)) }
-        ensures err { IfErr result (Breaks bytes (number_trees (slice_bytes_of self.now)) (W.received writer.old) (W.received writer.new)
-            (W.counts writer.old) (W.counts writer.new)) }
-        ensures counts { NoneFell (W.counts writer.old) (W.counts writer.new) }
-        ensures too_long { 2 ^ 62 ≤ length (slice_bytes_of self.now) → (result ≡ Err InvalidVectorLength) × (writer.new ≡ writer.old) }
-    {
+    fn tls_serialize<W: Sink>(&self, writer: &mut W) -> Result<usize, Error> {
         opaque::write(writer, self.as_slice())
+    }
+
+    /// `InvalidVectorLength`: there are more bytes than the greatest length. `OutOfMemory`: there was
+    /// none.
+    fn tls_serialize_into(&self, out: &mut Vec<u8>) -> Result<usize, Error> {
+        opaque::append(out, self.as_slice())
     }
 }
 
@@ -85,28 +76,22 @@ impl<'a> SerializeBytes for VLByteSlice<'a> {
 impl<'a> Size for &VLByteSlice<'a> {
     ghost plain = { λ v. number_trees (slice_bytes_of v.now) };
 
-    ghost spells = { bytes };
-
-    ghost announced = { counted_length least_width (content_length (λ v. 1)) };
-
-    ghost lean = { false };
+    ghost format = { bytes_format };
 
     fn tls_serialized_len(&self) -> usize {
         (**self).tls_serialized_len()
     }
 
-    ghost lawful = { bytes_lawful };
+    ghost lawful = { bytes_meets };
 }
 
 impl<'a> Serialize for &VLByteSlice<'a> {
-    fn tls_serialize<W: Sink>(&self, writer: &mut W) -> Result<usize, Error>
-        ensures ok { IfOk result (Sends bytes (number_trees (slice_bytes_of self.now.now)) (W.received writer.old) (W.received writer.new)) }
-        ensures err { IfErr result (Breaks bytes (number_trees (slice_bytes_of self.now.now)) (W.received writer.old) (W.received writer.new)
-            (W.counts writer.old) (W.counts writer.new)) }
-        ensures counts { NoneFell (W.counts writer.old) (W.counts writer.new) }
-        ensures too_long { 2 ^ 62 ≤ length (slice_bytes_of self.now.now) → (result ≡ Err InvalidVectorLength) × (writer.new ≡ writer.old) }
-    {
+    fn tls_serialize<W: Sink>(&self, writer: &mut W) -> Result<usize, Error> {
         (**self).tls_serialize(writer)
+    }
+
+    fn tls_serialize_into(&self, out: &mut Vec<u8>) -> Result<usize, Error> {
+        (**self).tls_serialize_into(out)
     }
 
     fn tls_serialize_detached(&self, alloc: Global) -> Result<Vec<u8>, Error> {

@@ -1,15 +1,9 @@
 //! [`VLBytes`], bytes that it owns.
-ghost use Rattle.std.specs.Prelude.{◌≡◌, ◌≤◌, ◌⊎◌, ◌^◌, [], ◌∷◌, ◌++◌, codes, false, is_ok, if◌then◌else◌, length, IfErr, IfOk, IsOk, MatchOption, Some};
-ghost use Rattle.tls_codec_wire.specs.Counts.{NoneFell};
-ghost use Rattle.tls_codec_wire.specs.Device.{Gave};
-ghost use Rattle.tls_codec_wire.specs.VarintCalls.{least_width};
-ghost use Rattle.tls_codec_wire.specs.declared.error.Error.TheVariants.{InvalidVectorLength, OutOfMemory};
+ghost use Rattle.std.specs.Prelude.{◌≡◌, ◌⊎◌, [], ◌∷◌, ◌++◌, codes, is_ok, if◌then◌else◌, length, IfErr, IfOk, IsOk, MatchOption, Some};
+ghost use Rattle.tls_codec_wire.specs.declared.error.Error.TheVariants.{OutOfMemory};
 ghost use Rattle.tls_codec_base.specs.Tree.{number_trees};
-ghost use Rattle.tls_codec_base.specs.Grammar.{bytes};
-ghost use Rattle.tls_codec_base.specs.Announced.{content_length, counted_length};
-ghost use Rattle.tls_codec_base.specs.Decoding.{Begins, GaveSpelling, Refuses, RefusesSource};
-ghost use Rattle.tls_codec_base.specs.Encoding.{Breaks, Sends};
-ghost use Rattle.tls_codec_base.specs.ListLaws.{bytes_lawful};
+ghost use Rattle.tls_codec_base.specs.Format.{bytes_format};
+ghost use Rattle.tls_codec_base.specs.laws.FormatLaws.{bytes_meets};
 ghost use Rattle.tls_codec_base.specs.Opaque.{OpaqueRefused, OpaqueSourceRefused};
 ghost use Rattle.tls_codec_vl.specs.Contents.{bytes_of};
 ghost use Rattle.tls_codec_vl.specs.Shown.{debug_text};
@@ -121,30 +115,26 @@ impl fmt::Debug for VLBytes {
 impl Size for VLBytes {
     ghost plain = { λ v. number_trees (bytes_of v) };
 
-    ghost spells = { bytes };
-
-    ghost announced = { counted_length least_width (content_length (λ v. 1)) };
-
-    ghost lean = { false };
+    ghost format = { bytes_format };
 
     fn tls_serialized_len(&self) -> usize {
         opaque::announced_len(self.as_slice())
     }
 
-    ghost lawful = { bytes_lawful };
+    ghost lawful = { bytes_meets };
 }
 
 impl Serialize for VLBytes {
     /// `InvalidVectorLength`: there are more bytes than the greatest length, and nothing was sent.
     /// Every other refusal is the sink's.
-    fn tls_serialize<W: Sink>(&self, writer: &mut W) -> Result<usize, Error>
-        ensures ok { IfOk result (Sends bytes (number_trees (bytes_of self.now)) (W.received writer.old) (W.received writer.new)) }
-        ensures err { IfErr result (Breaks bytes (number_trees (bytes_of self.now)) (W.received writer.old) (W.received writer.new)
-            (W.counts writer.old) (W.counts writer.new)) }
-        ensures counts { NoneFell (W.counts writer.old) (W.counts writer.new) }
-        ensures too_long { 2 ^ 62 ≤ length (bytes_of self.now) → (result ≡ Err InvalidVectorLength) × (writer.new ≡ writer.old) }
-    {
+    fn tls_serialize<W: Sink>(&self, writer: &mut W) -> Result<usize, Error> {
         opaque::write(writer, self.as_slice())
+    }
+
+    /// `InvalidVectorLength`: there are more bytes than the greatest length. `OutOfMemory`: there was
+    /// none.
+    fn tls_serialize_into(&self, out: &mut Vec<u8>) -> Result<usize, Error> {
+        opaque::append(out, self.as_slice())
     }
 }
 
@@ -155,26 +145,21 @@ impl SerializeBytes for VLBytes {
 }
 
 impl Deserialize for VLBytes {
+    ghost names = { λ coming old new e. OpaqueSourceRefused e coming old new };
+
     /// `EndOfStream`: there is no whole length, or fewer bytes come than it declares.
-    fn tls_deserialize<R: Source>(alloc: Global, src: &mut R) -> Result<VLBytes, Error>
-        ensures gave { Gave R.given src.old src.new }
-        ensures ok { IfOk result (λ v. GaveSpelling R.given bytes src.old src.new (number_trees (bytes_of v))) }
-        ensures err { IfErr result (RefusesSource bytes false (R.coming src.old) (R.counts src.old) (R.counts src.new)) }
-        ensures named { IfErr result (λ e. OpaqueSourceRefused e (R.coming src.old) (R.counts src.old) (R.counts src.new)) }
-    {
+    fn tls_deserialize<R: Source>(alloc: Global, src: &mut R) -> Result<VLBytes, Error> {
         let read = opaque::read(alloc, src)?;
         Ok(VLBytes::new(read))
     }
 }
 
 impl DeserializeBytes for VLBytes {
+    ghost names = { λ x e. (e ≡ OutOfMemory) ⊎ OpaqueRefused e x };
+
     /// `EndOfStream`: there is no whole length. `DecodingError("declared content is not there")`:
     /// fewer bytes are behind it than it declares.
-    fn tls_deserialize_bytes(alloc: Global, whole: &[u8]) -> Result<(VLBytes, &[u8]), Error>
-        ensures ok { IfOk result (λ found. Begins bytes whole.now (number_trees (bytes_of found.0)) found.1.now) }
-        ensures err { IfErr result (Refuses bytes false whole.now) }
-        ensures named { IfErr result (λ e. (e ≡ OutOfMemory) ⊎ OpaqueRefused e whole.now) }
-    {
+    fn tls_deserialize_bytes(alloc: Global, whole: &[u8]) -> Result<(VLBytes, &[u8]), Error> {
         let (copy, rest) = contents::split(alloc, whole)?;
         Ok((VLBytes::new(copy), rest))
     }
@@ -183,28 +168,22 @@ impl DeserializeBytes for VLBytes {
 impl Size for &VLBytes {
     ghost plain = { λ v. number_trees (bytes_of v.now) };
 
-    ghost spells = { bytes };
-
-    ghost announced = { counted_length least_width (content_length (λ v. 1)) };
-
-    ghost lean = { false };
+    ghost format = { bytes_format };
 
     fn tls_serialized_len(&self) -> usize {
         (**self).tls_serialized_len()
     }
 
-    ghost lawful = { bytes_lawful };
+    ghost lawful = { bytes_meets };
 }
 
 impl Serialize for &VLBytes {
-    fn tls_serialize<W: Sink>(&self, writer: &mut W) -> Result<usize, Error>
-        ensures ok { IfOk result (Sends bytes (number_trees (bytes_of self.now.now)) (W.received writer.old) (W.received writer.new)) }
-        ensures err { IfErr result (Breaks bytes (number_trees (bytes_of self.now.now)) (W.received writer.old) (W.received writer.new)
-            (W.counts writer.old) (W.counts writer.new)) }
-        ensures counts { NoneFell (W.counts writer.old) (W.counts writer.new) }
-        ensures too_long { 2 ^ 62 ≤ length (bytes_of self.now.now) → (result ≡ Err InvalidVectorLength) × (writer.new ≡ writer.old) }
-    {
+    fn tls_serialize<W: Sink>(&self, writer: &mut W) -> Result<usize, Error> {
         (**self).tls_serialize(writer)
+    }
+
+    fn tls_serialize_into(&self, out: &mut Vec<u8>) -> Result<usize, Error> {
+        (**self).tls_serialize_into(out)
     }
 }
 

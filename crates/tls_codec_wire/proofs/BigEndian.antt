@@ -1,10 +1,10 @@
 -- The digits that std makes of a number, and the number that it makes of digits.
 use Rattle.std.proofs.Common.{◌≡◌, ℕ, suc, zero, ◌+◌, ◌-◌, ◌*◌, ◌%◌, ◌^◌, ◌<◌, ◌≤◌, List, [], ◌∷◌, ◌++◌, length, take, get_or, refl, sym, ap, ◌∙◌, arith, pow-suc, mul_comm, length-append}
-use Rattle.std.proofs.Math.Nat.{pow-le-pow_right, mod-eq_of_lt}
+use Rattle.std.proofs.Math.Nat.{pow-le-pow_right}
 use Rattle.std.proofs.Math.Seq.{take-suc, take-length}
 use Rattle.std.proofs.Math.Arith.{mod-mul}
 use Rattle.std.specs.Int.{byte_at, byte_worth, bytes_high_first, sum_through}
-use Rattle.tls_codec_wire.specs.Digits.{AreBytes, Digits, value}
+use Rattle.tls_codec_wire.specs.Digits.{AreBytes, value}
 
 -- ---- from a number
 
@@ -32,14 +32,6 @@ one_more_high (suc k) n =
 pub value-high_first : (k n : ℕ) → value (bytes_high_first k n) ≡ n % 256 ^ k
 value-high_first zero n = omega arith
 value-high_first (suc k) n = rw (length-high_first k n, value-high_first k n) (one_more_high k n)
-
--- the k digits of a number that has no more
-pub high_first_digits : (k n : ℕ) → n < 256 ^ k → Digits k (bytes_high_first k n) n
-high_first_digits k n fits = record {
-  width = length-high_first k n;
-  bytes = AreBytes-high_first k n;
-  number = value-high_first k n ∙ mod-eq_of_lt fits;
-}
 
 -- ---- to a number
 

@@ -1,3 +1,4 @@
+pub mod AtHand
 pub mod BigEndian
 pub mod Bytes
 pub mod Filling

@@ -1,7 +1,6 @@
 -- What a sink has received of a piece, call by call.
-use Rattle.std.proofs.Common.{ℕ, ◌+◌, ◌-◌, List, ◌++◌, length, take, drop, sym, ap, ◌∙◌, take-append-drop, Option, subst}
+use Rattle.std.proofs.Common.{ℕ, ◌+◌, ◌-◌, List, ◌++◌, length, take, drop, sym, ap, ◌∙◌, take-append-drop, Option, subst, take-add}
 use Rattle.std.proofs.lemmas.List.{take_rest}
-use lib.Seq.{take-add}
 use Rattle.std.specs.Io.KnownBytes.{Appends}
 use Rattle.std.proofs.KnownBytes.{Appends-trans}
 use Rattle.tls_codec_wire.specs.Device.{Received}

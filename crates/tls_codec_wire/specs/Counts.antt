@@ -1,6 +1,7 @@
 -- How often a device failed, was interrupted and had no memory.
-use Rattle.std.specs.Prelude.{◌⊎◌, ℕ, ◌+◌, ◌-◌, ◌^◌, ◌≤◌, min, max}
-use Rattle.std.proofs.Common.{arith}
+use Rattle.std.specs.Prelude.{◌≡◌, ◌⊎◌, ℕ, ◌+◌, ◌-◌, ◌^◌, ◌≤◌, min, max}
+use Rattle.std.proofs.Common.{arith, refl, ◌∙◌}
+use Rattle.tls_codec_wire.specs.declared.transfer.TheConstants.{MOST_INTERRUPTIONS}
 
 -- the three counts of a device
 pub record Counts : Type 0 where
@@ -26,9 +27,16 @@ pub record NoneFell (old new : Counts) : Type 0 where
   pub interruptions : old.interruptions ≤ new.interruptions
   pub shortages : old.shortages ≤ new.shortages
 
--- a fault of the device was counted: failures rose by 1, or interruptions by 17
+-- nothing was counted but interruptions
+pub record OnlyInterrupted (old new : Counts) : Type 0 where
+  pub failures : new.failures ≡ old.failures
+  pub interruptions : old.interruptions ≤ new.interruptions
+  pub shortages : new.shortages ≡ old.shortages
+
+-- a fault of the device was counted: failures rose by 1, or interruptions by one more than are tried again
 abbrev pub FaultIsCounted : Counts → Counts → Type 0
-FaultIsCounted old new = RoseBy 1 old.failures new.failures ⊎ RoseBy 17 old.interruptions new.interruptions
+FaultIsCounted old new =
+    RoseBy 1 old.failures new.failures ⊎ RoseBy (MOST_INTERRUPTIONS + 1) old.interruptions new.interruptions
 
 -- the counts of a device that counted nothing
 abbrev pub no_counts : Counts
@@ -48,4 +56,21 @@ fall_never {a} {b} {c} p q = record {
   failures = omega (arith, p.failures, q.failures);
   interruptions = omega (arith, p.interruptions, q.interruptions);
   shortages = omega (arith, p.shortages, q.shortages);
+}
+
+pub calm_stays : (a : Counts) → OnlyInterrupted a a
+calm_stays a = record { failures = refl; interruptions = omega arith; shortages = refl }
+
+pub calm_goes_on : {a b c : Counts} → OnlyInterrupted a b → OnlyInterrupted b c → OnlyInterrupted a c
+calm_goes_on {a} {b} {c} p q = record {
+  failures = q.failures ∙ p.failures;
+  interruptions = omega (arith, p.interruptions, q.interruptions);
+  shortages = q.shortages ∙ p.shortages;
+}
+
+pub calm_falls_never : {a b : Counts} → OnlyInterrupted a b → NoneFell a b
+calm_falls_never {a} {b} p = record {
+  failures = omega (arith, p.failures);
+  interruptions = p.interruptions;
+  shortages = omega (arith, p.shortages);
 }

@@ -1,5 +1,5 @@
 -- What one call of a device does, and what a source gives in a row of calls.
-use Rattle.std.specs.Prelude.{◌≡◌, ℕ, ◌<◌, ◌≤◌, List, [], ◌++◌, length, take, Option, None, Some, Result, Ok, Err, ⊤}
+use Rattle.std.specs.Prelude.{◌≡◌, ℕ, ◌<◌, List, [], ◌++◌, length, take, Option, None, Some, Result, Ok, Err, ⊤}
 use Rattle.std.specs.Io.KnownBytes.{Consumes, Appends}
 use Rattle.tls_codec_wire.specs.declared.device.Fault.{Fault}
 use Rattle.tls_codec_wire.specs.declared.device.Fault.TheVariants.{Interrupted, NoMemory, Failed}
@@ -79,16 +79,16 @@ pub record PulledOnto {S : Type 0} (given : Gives S) (old new : S) (result : Res
   pub appended : after ≡ before ++ bytes
   pub count : length bytes ≡ count_moved result
 
--- so many bytes at least are to come, where that is told
-abbrev pub IsAtHand : ℕ → Option (List ℕ) → Type 0
-IsAtHand n None = ⊤
-IsAtHand n (Some xs) = n ≤ length xs
-
--- ---- what a sink has received
-
 -- p is a beginning of s
 abbrev pub IsBeginning : List ℕ → List ℕ → Type 0
 IsBeginning p s = (rest : List ℕ) × (s ≡ p ++ rest)
+
+-- these bytes come first, where the bytes to come are told
+abbrev pub IsAtHand : List ℕ → Option (List ℕ) → Type 0
+IsAtHand bytes None = ⊤
+IsAtHand bytes (Some xs) = IsBeginning bytes xs
+
+-- ---- what a sink has received
 
 -- a beginning of these bytes was received
 pub record Received (old new : Option (List ℕ)) (bytes : List ℕ) : Type 0 where

@@ -1,5 +1,5 @@
--- The names of the errors.
-use Rattle.std.specs.Prelude.{◌≡◌, ℕ, List, codes}
+-- The names of the errors, and which are the same.
+use Rattle.std.specs.Prelude.{◌≡◌, ℕ, List, codes, ⊤}
 use Rattle.tls_codec_wire.specs.declared.error.Error.{Error}
 use Rattle.tls_codec_wire.specs.declared.error.Error.TheVariants.{EncodingError, InvalidVectorLength, InvalidWriteLength, InvalidInput, DecodingError, EndOfStream, TrailingData, UnknownValue, LibraryError, OutOfMemory}
 
@@ -16,6 +16,16 @@ name_of (UnknownValue n) = codes "UnknownValue"
 name_of LibraryError = codes "LibraryError"
 name_of OutOfMemory = codes "OutOfMemory"
 
--- the name of some error
-abbrev pub IsName : List ℕ → Type 0
-IsName text = (e : Error) × (text ≡ name_of e)
+-- one variant, with one text or number
+abbrev pub AreSame : Error → Error → Type 0
+AreSame (EncodingError a) (EncodingError b) = a.now ≡ b.now
+AreSame InvalidVectorLength InvalidVectorLength = ⊤
+AreSame (InvalidWriteLength a) (InvalidWriteLength b) = a.now ≡ b.now
+AreSame InvalidInput InvalidInput = ⊤
+AreSame (DecodingError a) (DecodingError b) = a.now ≡ b.now
+AreSame EndOfStream EndOfStream = ⊤
+AreSame TrailingData TrailingData = ⊤
+AreSame (UnknownValue m) (UnknownValue n) = m ≡ n
+AreSame LibraryError LibraryError = ⊤
+AreSame OutOfMemory OutOfMemory = ⊤
+AreSame _ _ = ⊥

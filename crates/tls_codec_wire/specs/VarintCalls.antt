@@ -1,10 +1,10 @@
 -- What calls on variable-length integers answer.
-use Rattle.std.specs.Prelude.{◌≡◌, ℕ, ◌*◌, ◌-◌, ◌^◌, ◌<◌, ◌≤◌, List, ◌++◌, length, codes, nat_lt, if◌then◌else◌, Option, None, Some, ⊤}
+use Rattle.std.specs.Prelude.{◌≡◌, ℕ, ◌*◌, ◌-◌, ◌^◌, ◌<◌, ◌≤◌, ◌+◌, ◌⊎◌, List, ◌++◌, length, take, drop, nat_lt, if◌then◌else◌, Option, None, Some, ⊤}
 use Rattle.std.specs.Io.KnownBytes.{Appends}
-use Rattle.tls_codec_wire.specs.Counts.{Counts, RoseBy, FaultIsCounted}
+use Rattle.tls_codec_wire.specs.Counts.{Counts, RoseBy}
 use Rattle.tls_codec_wire.specs.Device.{Gives, Received}
 use Rattle.tls_codec_wire.specs.Varint.{Varint}
-use Rattle.tls_codec_wire.specs.Transfer.{WriteRefused}
+use Rattle.tls_codec_wire.specs.Transfer.{IsReadFailure, WriteRefused}
 use Rattle.tls_codec_wire.specs.declared.error.Error.{Error}
 use Rattle.tls_codec_wire.specs.declared.error.Error.TheVariants.{InvalidVectorLength, DecodingError, EndOfStream, OutOfMemory}
 
@@ -34,7 +34,7 @@ NoVarintComes (Some x) = NoVarintBegins x
 
 -- why a source is refused: it failed, no spelling was to come, or it had no memory
 abbrev pub VarintRefused : Error → Option (List ℕ) → Counts → Counts → Type 0
-VarintRefused (DecodingError text) coming old new = (text.now ≡ codes "read failed") × FaultIsCounted old new
+VarintRefused (DecodingError text) coming old new = IsReadFailure text old new
 VarintRefused EndOfStream coming old new = NoVarintComes coming
 VarintRefused OutOfMemory coming old new = RoseBy 1 old.shortages new.shortages
 VarintRefused _ coming old new = ⊥
@@ -81,3 +81,19 @@ pub record IsLaidOut (n mark width : ℕ) : Type 0 where
   pub says : width ≡ 2 ^ top
   pub marks : mark ≡ 64 * top * 256 ^ (2 ^ top - 1)
   pub least : width ≡ least_width n
+
+-- ---- putting a length before what it counts
+
+-- the least spelling of the number of bytes behind a place stands before them, of so many bytes
+pub record InsertedVarint (old new : List ℕ) (at width : ℕ) : Type 0 where
+  pub form : List ℕ
+  pub least : LeastVarint form (length old - at)
+  pub held : new ≡ take at old ++ (form ++ drop at old)
+  pub count : width ≡ length form
+
+-- why a length is not put before n bytes of a vector of so many: none holds it, the vector would pass `isize::MAX`
+-- bytes, or there was no memory
+abbrev pub InsertRefused : Error → ℕ → ℕ → Type 0
+InsertRefused InvalidVectorLength n whole = (2 ^ 62 ≤ n) ⊎ (2 ^ 63 ≤ whole + least_width n)
+InsertRefused OutOfMemory n whole = ⊤
+InsertRefused _ n whole = ⊥

@@ -76,9 +76,11 @@ impl<R: Source> Source for Bounded<'_, R> {
     }
 
     #[inline(always)]
-    fn at_hand(&self) -> usize {
-        let Bounded { inner, limit } = self;
-        (*limit).min(inner.at_hand() as u64) as usize
+    #[tactic(auto, using(crate::proofs::AtHand::at_hand_within))]
+    fn at_hand(&self) -> &[u8] {
+        let bytes = self.inner.at_hand();
+        let n = self.limit.min(bytes.len() as u64) as usize;
+        &bytes[..n]
     }
 
     #[inline(always)]

@@ -39,11 +39,12 @@ pub trait Source {
         ensures end { result ≡ Ok 0 → 0 < length into.old → IsAtEnd (coming self.new) }
         ensures counted { PullIsCounted result (counts self.old) (counts self.new) };
 
-    /// How many bytes it has at hand: so many are to come at least. It is 0 where it doesn't know.
-    fn at_hand(&self) -> usize
-        ensures { IsAtHand result (coming self.now) }
+    /// The bytes that it has at hand in memory, which are to come first. There are none where it
+    /// doesn't know.
+    fn at_hand(&self) -> &[u8]
+        ensures { IsAtHand result.now (coming self.now) }
     {
-        0
+        &[]
     }
 
     /// Puts the next bytes behind those of a vector, as many as it has room for and `most` at most,

@@ -1,12 +1,13 @@
 //! Bytes of a source, gathered in a vector as they come.
-ghost use Rattle.std.specs.Prelude.{◌≡◌, ◌<◌, ◌≤◌, ◌^◌, length, IfErr, IfOk};
+ghost use Rattle.std.specs.Prelude.{◌≡◌, ◌<◌, ◌≤◌, ◌^◌, length, max, IfErr, IfOk};
+ghost use Rattle.tls_codec_wire.specs.Counts.{OnlyInterrupted};
 ghost use Rattle.tls_codec_wire.specs.Device.{Gave};
 ghost use Rattle.tls_codec_wire.specs.Transfer.{BytesRefused};
 ghost use Rattle.tls_codec_wire.specs.declared.error.Error.TheVariants.{InvalidVectorLength};
 
-use crate::device::{Fault, Source};
+use crate::device::Source;
 use crate::error::Error;
-use crate::transfer::MOST_INTERRUPTIONS;
+use crate::transfer::after_fault;
 use std::alloc::Global;
 
 /// How many bytes a vector has room for before one came.
@@ -34,6 +35,7 @@ pub fn read_bytes_bounded<R: Source>(
     ensures count { IfOk result (λ bytes. length bytes.items ≡ len) }
     ensures refused { IfErr result (λ e. BytesRefused e len (R.coming src.old) (R.counts src.old) (R.counts src.new)) }
     ensures too_long { 2 ^ 63 ≤ len → (result ≡ Err InvalidVectorLength) × (src.new ≡ src.old) }
+    ensures calm { IfOk result (λ _. OnlyInterrupted (R.counts src.old) (R.counts src.new)) }
     ensures nothing_asked { len ≡ 0 → IfErr result (λ e. ⊥) × (src.new ≡ src.old) }
 {
     if len > isize::MAX as usize {
@@ -44,18 +46,11 @@ pub fn read_bytes_bounded<R: Source>(
     while bytes.len() < len {
         let came = bytes.len();
         let step = (len - came).min(room_for(came, src.at_hand()));
-        bytes.reserve(step)?;
+        bytes.reserve_exact(step)?;
         match src.pull_onto(&mut bytes, step) {
             Ok(0) => return Err(Error::EndOfStream),
             Ok(_) => row = 0,
-            Err(Fault::Interrupted) => {
-                if row == MOST_INTERRUPTIONS {
-                    return Err(Error::DecodingError("read failed"));
-                }
-                row += 1;
-            }
-            Err(Fault::NoMemory) => return Err(Error::OutOfMemory),
-            Err(Fault::Failed) => return Err(Error::DecodingError("read failed")),
+            Err(fault) => row = after_fault(fault, row, Error::DecodingError("read failed"))?,
         }
     }
     Ok(bytes)
@@ -63,12 +58,13 @@ pub fn read_bytes_bounded<R: Source>(
 
 // How much room is asked for where so many bytes came, and others are at hand: before one came little,
 // and then for what is at hand, or as much as came.
-fn room_for(came: usize, at_hand: usize) -> usize
+fn room_for(came: usize, at_hand: &[u8]) -> usize
     ensures some { 0 < result }
     ensures first { came ≡ 0 → result ≤ 4096 }
+    ensures most { result ≤ max 4096 (max came (length at_hand.now)) }
 {
     if came == 0 {
         return FIRST_ROOM;
     }
-    came.max(at_hand)
+    came.max(at_hand.len())
 }

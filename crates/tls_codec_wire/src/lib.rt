@@ -15,12 +15,14 @@
 //! - [`varint`]: [`TlsVarInt`], the number of a variable-length integer.
 //! - [`quic`]: variable-length integers, read and written.
 //! - [`vlen`]: lengths as such integers.
+//! - [`laws`]: errors and numbers are compared as what they stand for is.
 #![tactic(auto)]
 
 pub mod bounded;
 pub mod device;
 pub mod error;
 pub mod gather;
+pub mod laws;
 pub mod memory;
 pub mod outside;
 pub mod quic;
@@ -36,6 +38,6 @@ pub use device::{Fault, Sink, Source};
 pub use error::Error;
 pub use gather::read_bytes_bounded;
 pub use outside::Outside;
-pub use transfer::{read_exactly, write_all};
+pub use transfer::{MOST_INTERRUPTIONS, read_exactly, write_all};
 pub use uint24::U24;
 pub use varint::TlsVarInt;

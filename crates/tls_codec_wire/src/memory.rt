@@ -31,8 +31,8 @@ impl Source for &[u8] {
     }
 
     #[inline(always)]
-    fn at_hand(&self) -> usize {
-        (**self).len()
+    fn at_hand(&self) -> &[u8] {
+        self
     }
 
     #[inline(always)]

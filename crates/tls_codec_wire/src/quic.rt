@@ -3,7 +3,7 @@
 //! The top two bits of the first byte say how many bytes there are: 1, 2, 4 or 8. The other bits are
 //! the number, the most significant first. Every width is read, and the least is written.
 ghost use Rattle.std.specs.Prelude.{◌≡◌, ◌+◌, ◌*◌, ◌/◌, ◌^◌, ◌<◌, ◌≤◌, drop, length, IfErr, IfOk};
-ghost use Rattle.tls_codec_wire.specs.Counts.{NoneFell};
+ghost use Rattle.tls_codec_wire.specs.Counts.{NoneFell, OnlyInterrupted};
 ghost use Rattle.tls_codec_wire.specs.Device.{Gave};
 ghost use Rattle.tls_codec_wire.specs.Digits.{value};
 ghost use Rattle.tls_codec_wire.specs.Transfer.{WriteRefused};
@@ -24,6 +24,7 @@ pub fn read_varint<R: Source>(src: &mut R) -> Result<(TlsVarInt, usize), Error>
     ensures gave { Gave R.given src.old src.new }
     ensures ok { IfOk result (λ found. GaveVarint R.given src.old src.new (number_of found.0) found.1) }
     ensures refused { IfErr result (λ e. VarintRefused e (R.coming src.old) (R.counts src.old) (R.counts src.new)) }
+    ensures calm { IfOk result (λ _. OnlyInterrupted (R.counts src.old) (R.counts src.new)) }
 {
     let mut first = [0u8; 1];
     read_exactly(src, &mut first)?;
@@ -60,6 +61,7 @@ pub fn write_varint<W: Sink>(sink: &mut W, n: TlsVarInt) -> Result<usize, Error>
     ensures beginning { BeganVarint (W.received sink.old) (W.received sink.new) (number_of n) }
     ensures counts { NoneFell (W.counts sink.old) (W.counts sink.new) }
     ensures refused { IfErr result (λ e. WriteRefused e (W.counts sink.old) (W.counts sink.new)) }
+    ensures calm { IfOk result (λ _. OnlyInterrupted (W.counts sink.old) (W.counts sink.new)) }
 {
     let (bytes, at) = least_form(n);
     let form = &bytes[at..];
@@ -105,7 +107,7 @@ fn number_from(top: u8, digits: &[u8]) -> TlsVarInt
 }
 
 // The least spelling stands at the end of these bytes, from this place on.
-fn least_form(n: TlsVarInt) -> ([u8; 8], usize)
+pub(crate) fn least_form(n: TlsVarInt) -> ([u8; 8], usize)
     ensures within { result.1 ≤ 8 }
     ensures least { LeastVarint (drop result.1 result.0) (number_of n) }
 {

@@ -1,13 +1,14 @@
 // What no clause says: printed texts, that calls succeed, and which interruptions stand in a row.
 mod bounded;
 mod devices;
+mod faults;
 mod numbers;
 
 use crate::device::{Fault, Sink, Source};
 use crate::error::Error;
 use crate::outside::Outside;
 use crate::transfer::{read_exactly, write_all};
-use devices::{Failing, Fives, Keeper, Plan};
+use devices::{ENDED, Failing, Fives, Keeper, Plan};
 use std::alloc::AllocError;
 use std::io::ErrorKind;
 use std::test::Fail;
@@ -21,33 +22,36 @@ const FAILED: Option<Fault> = Some(Fault::Failed);
 const NO_MEMORY: Option<Fault> = Some(Fault::NoMemory);
 
 #[test]
-fn each_error_has_its_variants_name(rt: HostRuntime) {
-    for (error, name) in [
-        (Error::EncodingError("write failed"), "EncodingError"),
-        (Error::InvalidVectorLength, "InvalidVectorLength"),
-        (Error::InvalidWriteLength("too long"), "InvalidWriteLength"),
-        (Error::InvalidInput, "InvalidInput"),
-        (Error::DecodingError("read failed"), "DecodingError"),
-        (Error::EndOfStream, "EndOfStream"),
-        (Error::TrailingData, "TrailingData"),
-        (Error::UnknownValue(7), "UnknownValue"),
-        (Error::LibraryError, "LibraryError"),
-        (Error::OutOfMemory, "OutOfMemory"),
-    ] {
-        assert_eq!(rt; error.name(), name);
-    }
-}
-
-#[test]
-fn an_error_prints_its_debug_text(rt: HostRuntime) -> Result<(), Fail> {
-    for (error, text) in [
-        (Error::EndOfStream, "EndOfStream"),
-        (Error::UnknownValue(7), "UnknownValue(7)"),
+fn an_error_prints_its_name_and_its_debug_text(rt: HostRuntime) -> Result<(), Fail> {
+    for (error, name, text) in [
+        (
+            Error::EncodingError("write failed"),
+            "EncodingError",
+            "EncodingError(\"write failed\")",
+        ),
+        (
+            Error::InvalidVectorLength,
+            "InvalidVectorLength",
+            "InvalidVectorLength",
+        ),
+        (
+            Error::InvalidWriteLength("too long"),
+            "InvalidWriteLength",
+            "InvalidWriteLength(\"too long\")",
+        ),
+        (Error::InvalidInput, "InvalidInput", "InvalidInput"),
         (
             Error::DecodingError("read failed"),
+            "DecodingError",
             "DecodingError(\"read failed\")",
         ),
+        (Error::EndOfStream, "EndOfStream", "EndOfStream"),
+        (Error::TrailingData, "TrailingData", "TrailingData"),
+        (Error::UnknownValue(7), "UnknownValue", "UnknownValue(7)"),
+        (Error::LibraryError, "LibraryError", "LibraryError"),
+        (Error::OutOfMemory, "OutOfMemory", "OutOfMemory"),
     ] {
+        assert_eq!(rt; error.name(), name);
         let printed = format!(in rt.alloc(); "{error}")?;
         assert_eq!(rt; printed.as_str(), text);
     }
@@ -68,6 +72,7 @@ fn a_read_ends_as_its_source_does(rt: HostRuntime) {
         (0, 0, NO_MEMORY, Err(Error::OutOfMemory)),
     ] {
         let mut src = Fives::new(Plan {
+            first: None,
             bytes,
             interruptions,
             after,
@@ -89,6 +94,7 @@ fn a_refused_write_has_sent_a_beginning(rt: HostRuntime) {
         (4, 17, None, WRITE_FAILED, [].as_slice()),
     ] {
         let plan = Plan {
+            first: None,
             bytes,
             interruptions,
             after,
@@ -104,6 +110,7 @@ fn a_refused_write_has_sent_a_beginning(rt: HostRuntime) {
 #[test]
 fn interruptions_over_whole_call(rt: HostRuntime) -> Result<(), Fail> {
     let plan = Plan {
+        first: None,
         bytes: 2,
         interruptions: 16,
         after: FAILED,
@@ -121,6 +128,7 @@ fn interruptions_over_whole_call(rt: HostRuntime) -> Result<(), Fail> {
 #[test]
 fn nothing_to_move_makes_no_call(rt: HostRuntime) -> Result<(), Fail> {
     let plan = Plan {
+        first: None,
         bytes: 0,
         interruptions: 0,
         after: FAILED,
@@ -136,14 +144,7 @@ fn nothing_to_move_makes_no_call(rt: HostRuntime) -> Result<(), Fail> {
 
 #[test]
 fn no_byte_taken_is_a_failure_of_the_sink(rt: HostRuntime) {
-    let mut sink = Keeper::new(
-        Vec::new(rt.alloc()),
-        Plan {
-            bytes: 0,
-            interruptions: 0,
-            after: None,
-        },
-    );
+    let mut sink = Keeper::new(Vec::new(rt.alloc()), ENDED);
     assert_eq!(rt; write_all(&mut sink, &[1]), Err(WRITE_FAILED));
     assert_eq!(rt; sink.progress.failures, 1);
     assert_eq!(rt; sink.progress.calls, 1);

@@ -1,22 +1,23 @@
 //! Moving a piece whole.
-ghost use Rattle.std.specs.Prelude.{◌≡◌, length, IfErr, OnOk};
+ghost use Rattle.std.specs.Prelude.{◌≡◌, ◌+◌, ◌<◌, length, IfErr, IfOk, OnOk};
 ghost use Rattle.std.specs.Io.KnownBytes.{Appends};
-ghost use Rattle.tls_codec_wire.specs.Counts.{NoneFell};
+ghost use Rattle.tls_codec_wire.specs.Counts.{NoneFell, OnlyInterrupted};
 ghost use Rattle.tls_codec_wire.specs.Device.{Gave, Received};
 ghost use Rattle.tls_codec_wire.specs.Digits.{AreBytes};
-ghost use Rattle.tls_codec_wire.specs.Transfer.{ReadRefused, WriteRefused};
+ghost use Rattle.tls_codec_wire.specs.Transfer.{ErrorOfFault, ReadRefused, WriteRefused};
+ghost use Rattle.tls_codec_wire.specs.declared.device.Fault.TheVariants.{Interrupted};
 
 use crate::device::{Fault, Sink, Source};
 use crate::error::Error;
 
-/// How many interruptions in a row are tried again.
-pub(crate) const MOST_INTERRUPTIONS: u8 = 16;
+/// How many interruptions in a row are tried again: a call that is interrupted once more is refused.
+pub const MOST_INTERRUPTIONS: u8 = 16;
 
 /// Fills the buffer with the next bytes.
 ///
-/// A call that is interrupted is tried again, up to 16 times in a row; a call that moves a byte
-/// starts the row anew. `EndOfStream`: fewer bytes came than the buffer has room for.
-/// `DecodingError("read failed")`: the source failed, or was interrupted 17 times in a row.
+/// A call that is interrupted is tried again, up to [`MOST_INTERRUPTIONS`] times in a row; a call
+/// that moves a byte starts the row anew. `EndOfStream`: fewer bytes came than the buffer has room
+/// for. `DecodingError("read failed")`: the source failed, or was interrupted more often in a row.
 /// `OutOfMemory`: the source had none. After a refusal the buffer's content is open. An empty
 /// buffer makes no call.
 ///
@@ -34,6 +35,7 @@ pub fn read_exactly<R: Source>(src: &mut R, into: &mut [u8]) -> Result<(), Error
     ensures bytes { OnOk result (AreBytes into.new) }
     ensures refused { IfErr result (λ e. ReadRefused e (length into.old) (R.coming src.old)
         (R.counts src.old) (R.counts src.new)) }
+    ensures calm { OnOk result (OnlyInterrupted (R.counts src.old) (R.counts src.new)) }
     ensures nothing_asked { length into.old ≡ 0 → (result ≡ Ok tt) × (src.new ≡ src.old) }
 {
     let mut at = 0;
@@ -45,14 +47,7 @@ pub fn read_exactly<R: Source>(src: &mut R, into: &mut [u8]) -> Result<(), Error
                 at += n;
                 row = 0;
             }
-            Err(Fault::Interrupted) => {
-                if row == MOST_INTERRUPTIONS {
-                    return Err(Error::DecodingError("read failed"));
-                }
-                row += 1;
-            }
-            Err(Fault::NoMemory) => return Err(Error::OutOfMemory),
-            Err(Fault::Failed) => return Err(Error::DecodingError("read failed")),
+            Err(fault) => row = after_fault(fault, row, Error::DecodingError("read failed"))?,
         }
     }
     Ok(())
@@ -60,10 +55,10 @@ pub fn read_exactly<R: Source>(src: &mut R, into: &mut [u8]) -> Result<(), Error
 
 /// Sends all of a piece.
 ///
-/// A call that is interrupted is tried again, up to 16 times in a row; a call that moves a byte
-/// starts the row anew. `EncodingError("write failed")`: the sink failed, took no byte, or was
-/// interrupted 17 times in a row. `OutOfMemory`: the sink had none. After a refusal the sink has
-/// received a beginning of the piece. An empty piece makes no call.
+/// A call that is interrupted is tried again, up to [`MOST_INTERRUPTIONS`] times in a row; a call
+/// that moves a byte starts the row anew. `EncodingError("write failed")`: the sink failed, took no
+/// byte, or was interrupted more often in a row. `OutOfMemory`: the sink had none. After a refusal
+/// the sink has received a beginning of the piece. An empty piece makes no call.
 ///
 /// ```rust
 /// let mut out = Vec::new(alloc);
@@ -75,6 +70,7 @@ pub fn write_all<W: Sink>(sink: &mut W, bytes: &[u8]) -> Result<(), Error>
     ensures beginning { Received (W.received sink.old) (W.received sink.new) bytes.now }
     ensures counts { NoneFell (W.counts sink.old) (W.counts sink.new) }
     ensures refused { IfErr result (λ e. WriteRefused e (W.counts sink.old) (W.counts sink.new)) }
+    ensures calm { OnOk result (OnlyInterrupted (W.counts sink.old) (W.counts sink.new)) }
     ensures nothing_sent { length bytes.now ≡ 0 → (result ≡ Ok tt) × (sink.new ≡ sink.old) }
 {
     let mut at = 0;
@@ -86,15 +82,22 @@ pub fn write_all<W: Sink>(sink: &mut W, bytes: &[u8]) -> Result<(), Error>
                 at += n;
                 row = 0;
             }
-            Err(Fault::Interrupted) => {
-                if row == MOST_INTERRUPTIONS {
-                    return Err(Error::EncodingError("write failed"));
-                }
-                row += 1;
-            }
-            Err(Fault::NoMemory) => return Err(Error::OutOfMemory),
-            Err(Fault::Failed) => return Err(Error::EncodingError("write failed")),
+            Err(fault) => row = after_fault(fault, row, Error::EncodingError("write failed"))?,
         }
     }
     Ok(())
+}
+
+// How many interruptions in a row there are after a fault that is tried again; else the error that it is,
+// which is `failed` for all but want of memory.
+#[inline(always)]
+pub(crate) fn after_fault(fault: Fault, row: u8, failed: Error) -> Result<u8, Error>
+    ensures ok { IfOk result (λ next. (fault ≡ Interrupted) × (row < MOST_INTERRUPTIONS) × (next ≡ row + 1)) }
+    ensures err { IfErr result (ErrorOfFault fault row failed) }
+{
+    match fault {
+        Fault::Interrupted if row < MOST_INTERRUPTIONS => Ok(row + 1),
+        Fault::NoMemory => Err(Error::OutOfMemory),
+        _ => Err(failed),
+    }
 }

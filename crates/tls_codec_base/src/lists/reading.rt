@@ -1,10 +1,10 @@
 //! Elements that fill a declared number of bytes, from a slice and from a source.
-ghost use Rattle.std.specs.Prelude.{◌≡◌, [], false, IfErr, IfOk, IsOkAnd};
+ghost use Rattle.std.specs.Prelude.{◌≡◌, [], IfErr, IfOk, IsOkAnd};
 ghost use Rattle.tls_codec_wire.specs.Bounded.{BorrowAlike, inner_of, limit_of};
-ghost use Rattle.tls_codec_wire.specs.Device.{Gave};
 ghost use Rattle.tls_codec_base.specs.Tree.{trees};
-ghost use Rattle.tls_codec_base.specs.Grammar.{content, sized};
-ghost use Rattle.tls_codec_base.specs.Decoding.{Begins, GaveSpelling, Refuses, RefusesSource};
+ghost use Rattle.tls_codec_base.specs.Format.{content_format, sized_format};
+ghost use Rattle.tls_codec_base.specs.Decoding.{Reads, Splits};
+ghost use Rattle.tls_codec_base.specs.Refusals.{elements_names, elements_source_names};
 ghost use Rattle.tls_codec_base.specs.Turns.{TurnedEach};
 
 use crate::lists::Turns;
@@ -28,8 +28,8 @@ pub fn from_slice<'a, T: DeserializeBytes>(
     length: usize,
     turns: &mut Turns,
 ) -> Result<(Vec<T>, &'a [u8]), Error>
-    ensures ok { IfOk result (λ found. Begins (sized length (content T.spells)) bytes.now (trees T.plain found.0.items) found.1.now) }
-    ensures err { IfErr result (Refuses (sized length (content T.spells)) false bytes.now) }
+    ensures splits { Splits (sized_format length (content_format T.format)) (λ elements. trees T.plain elements.items) bytes.now result }
+    ensures named { IfErr result (elements_names T.format T.names length bytes.now) }
     ensures turned { IfOk result (λ found. TurnedEach found.0.items turns.old turns.new) }
     ensures nothing_asked { length ≡ 0 → IsOkAnd result (λ found. (found.0.items ≡ []) × (found.1.now ≡ bytes.now)) × (turns.new ≡ turns.old) }
 {
@@ -67,9 +67,8 @@ pub fn from_reader<T: Deserialize, R: Source>(
     length: usize,
     turns: &mut Turns,
 ) -> Result<Vec<T>, Error>
-    ensures gave { Gave R.given src.old src.new }
-    ensures ok { IfOk result (λ elements. GaveSpelling R.given (sized length (content T.spells)) src.old src.new (trees T.plain elements.items)) }
-    ensures err { IfErr result (RefusesSource (sized length (content T.spells)) false (R.coming src.old) (R.counts src.old) (R.counts src.new)) }
+    ensures reads { Reads (sized_format length (content_format T.format)) (λ elements. trees T.plain elements.items) R.Source src.old src.new result }
+    ensures named { IfErr result (elements_source_names T.format T.names length (R.coming src.old) (R.counts src.old) (R.counts src.new)) }
     ensures turned { IfOk result (λ elements. TurnedEach elements.items turns.old turns.new) }
     ensures nothing_asked { length ≡ 0 → IsOkAnd result (λ elements. elements.items ≡ []) × (src.new ≡ src.old) × (turns.new ≡ turns.old) }
 {
@@ -84,9 +83,10 @@ fn elements_within<T: Deserialize, R: Source>(
     turns: &mut Turns,
 ) -> Result<Vec<T>, Error>
     ensures same { BorrowAlike within.old within.new }
-    ensures gave { Gave R.given (inner_of within.old) (inner_of within.new) }
-    ensures ok { IfOk result (λ elements. GaveSpelling R.given (sized (limit_of within.old) (content T.spells)) (inner_of within.old) (inner_of within.new) (trees T.plain elements.items)) }
-    ensures err { IfErr result (RefusesSource (sized (limit_of within.old) (content T.spells)) false (R.coming (inner_of within.old)) (R.counts (inner_of within.old)) (R.counts (inner_of within.new))) }
+    ensures reads { Reads (sized_format (limit_of within.old) (content_format T.format)) (λ elements. trees T.plain elements.items) R.Source
+        (inner_of within.old) (inner_of within.new) result }
+    ensures named { IfErr result (elements_source_names T.format T.names (limit_of within.old)
+        (R.coming (inner_of within.old)) (R.counts (inner_of within.old)) (R.counts (inner_of within.new))) }
     ensures turned { IfOk result (λ elements. TurnedEach elements.items turns.old turns.new) }
     ensures nothing_asked { limit_of within.old ≡ 0 → IsOkAnd result (λ elements. elements.items ≡ []) × (inner_of within.new ≡ inner_of within.old) × (turns.new ≡ turns.old) }
 {

@@ -1,16 +1,20 @@
 //! Elements in a row, written without a length.
 ghost use Rattle.std.specs.Prelude.{◌≡◌, ◌≤◌, ◌^◌, IfErr, IfOk};
-ghost use Rattle.tls_codec_wire.specs.Counts.{NoneFell};
 ghost use Rattle.tls_codec_wire.specs.declared.error.Error.TheVariants.{InvalidVectorLength};
 ghost use Rattle.tls_codec_base.specs.Tree.{trees};
-ghost use Rattle.tls_codec_base.specs.Grammar.{content};
-ghost use Rattle.tls_codec_base.specs.Shortest.{IsShortest};
 ghost use Rattle.tls_codec_base.specs.Announced.{content_sum};
-ghost use Rattle.tls_codec_base.specs.Encoding.{Breaks, RefusesVector, Sends};
+ghost use Rattle.tls_codec_base.specs.Format.{content_format};
+ghost use Rattle.tls_codec_base.specs.Encoding.{AppendsForm, Writes};
 
 use crate::traits::{Serialize, SerializeBytes, Size};
 use std::alloc::Global;
 use tls_codec_wire::{Error, Sink};
+
+/// For how many elements room is asked for at once, a byte for each.
+const MOST_ROOM: usize = 4096;
+
+/// Room for the length, which is put before them.
+const LENGTH_ROOM: usize = 8;
 
 /// The sum of the elements' announced lengths.
 ///
@@ -20,8 +24,8 @@ use tls_codec_wire::{Error, Sink};
 /// assert_eq!(rt; content_len(&[1u16, 2]), Ok(4));
 /// ```
 pub fn content_len<T: Size>(elements: &[T]) -> Result<usize, Error>
-    ensures ok { IfOk result (λ n. n ≡ content_sum T.announced (trees T.plain elements.now)) }
-    ensures err { IfErr result (λ e. (e ≡ InvalidVectorLength) × (2 ^ 64 ≤ content_sum T.announced (trees T.plain elements.now))) }
+    ensures ok { IfOk result (λ n. n ≡ content_sum T.format.announced (trees T.plain elements.now)) }
+    ensures err { IfErr result (λ e. (e ≡ InvalidVectorLength) × (2 ^ 64 ≤ content_sum T.format.announced (trees T.plain elements.now))) }
 {
     let mut sum: usize = 0;
     for element in elements {
@@ -42,10 +46,7 @@ pub fn content_len<T: Size>(elements: &[T]) -> Result<usize, Error>
 /// assert_eq!(rt; out.as_slice(), [0, 1, 0, 2].as_slice());
 /// ```
 pub fn write<T: Serialize, W: Sink>(sink: &mut W, elements: &[T]) -> Result<usize, Error>
-    ensures ok { IfOk result (Sends (content T.spells) (trees T.plain elements.now) (W.received sink.old) (W.received sink.new)) }
-    ensures err { IfErr result (Breaks (content T.spells) (trees T.plain elements.now) (W.received sink.old) (W.received sink.new)
-        (W.counts sink.old) (W.counts sink.new)) }
-    ensures counts { NoneFell (W.counts sink.old) (W.counts sink.new) }
+    ensures { Writes (content_format T.format) (trees T.plain elements.now) W.Sink sink.old sink.new result }
 {
     let mut sent: usize = 0;
     for element in elements {
@@ -55,21 +56,64 @@ pub fn write<T: Serialize, W: Sink>(sink: &mut W, elements: &[T]) -> Result<usiz
     Ok(sent)
 }
 
-// The elements' shortest forms in a row, as a vector.
-pub(crate) fn content_bytes<T: SerializeBytes>(
-    alloc: Global,
-    elements: &[T],
-) -> Result<Vec<u8>, Error>
-    ensures ok { IfOk result (λ bytes. IsShortest (content T.spells) bytes.items (trees T.plain elements.now)) }
-    ensures err { IfErr result (RefusesVector (content T.spells) (trees T.plain elements.now)) }
+/// Appends the elements' shortest forms in a row, without a length, and answers how many bytes that
+/// is.
+///
+/// A refusal is an element's, and leaves the vector's bytes as they were.
+///
+/// ```rust
+/// let mut out = Vec::from_slice(alloc, &[9])?;
+/// assert_eq!(rt; append(&mut out, &[1u16, 2]), Ok(4));
+/// assert_eq!(rt; out.as_slice(), [9, 0, 1, 0, 2].as_slice());
+/// ```
+pub fn append<T: Serialize>(out: &mut Vec<u8>, elements: &[T]) -> Result<usize, Error>
+    ensures { AppendsForm (content_format T.format) (trees T.plain elements.now) out.old.items out.new.items result }
 {
-    let mut bytes = Vec::new(alloc);
+    let at = out.len();
+    let _ = out.reserve(elements.len().min(MOST_ROOM) + LENGTH_ROOM);
     for element in elements {
-        let form = element.tls_serialize_bytes(alloc)?;
-        if form.len() > isize::MAX as usize - bytes.len() {
-            return Err(Error::InvalidVectorLength);
+        if let Err(error) = element.tls_serialize_into(out) {
+            out.truncate(at);
+            return Err(error);
         }
-        bytes.extend_from_slice(&form)?;
     }
-    Ok(bytes)
+    Ok(out.len() - at)
+}
+
+/// Appends the elements' shortest forms in a row, each made by `tls_serialize_bytes`, and answers how
+/// many bytes that is.
+///
+/// A refusal is an element's, or `InvalidVectorLength` where the vector would pass `isize::MAX` bytes.
+/// It leaves the vector's bytes as they were.
+pub fn append_bytes<T: SerializeBytes>(
+    alloc: Global,
+    out: &mut Vec<u8>,
+    elements: &[T],
+) -> Result<usize, Error>
+    ensures { AppendsForm (content_format T.format) (trees T.plain elements.now) out.old.items out.new.items result }
+{
+    let at = out.len();
+    for element in elements {
+        if let Err(error) = append_form(alloc, out, element) {
+            out.truncate(at);
+            return Err(error);
+        }
+    }
+    Ok(out.len() - at)
+}
+
+// Appends the shortest form of one element, and answers how many bytes that is.
+fn append_form<T: SerializeBytes>(
+    alloc: Global,
+    out: &mut Vec<u8>,
+    element: &T,
+) -> Result<usize, Error>
+    ensures { AppendsForm T.format (T.plain element.now) out.old.items out.new.items result }
+{
+    let form = element.tls_serialize_bytes(alloc)?;
+    if form.len() > isize::MAX as usize - out.len() {
+        return Err(Error::InvalidVectorLength);
+    }
+    out.extend_from_slice(&form)?;
+    Ok(form.len())
 }

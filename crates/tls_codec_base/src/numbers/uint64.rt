@@ -1,15 +1,13 @@
 //! `u64`, the `uint64` of RFC 8446, section 3.3.
-ghost use Rattle.std.specs.Prelude.{◌≡◌, ◌<◌, length, true, IfErr, IfOk};
+ghost use Rattle.std.specs.Prelude.{◌≡◌, ◌<◌, length};
 ghost use Rattle.std.proofs.Common.{arith};
-ghost use Rattle.tls_codec_wire.specs.Device.{Gave};
 ghost use Rattle.tls_codec_wire.specs.Transfer.{ReadRefused};
 ghost use Rattle.tls_codec_wire.specs.declared.error.Error.TheVariants.{EndOfStream};
 ghost use Rattle.tls_codec_base.specs.Tree.{Number};
-ghost use Rattle.tls_codec_base.specs.Grammar.{number};
-ghost use Rattle.tls_codec_base.specs.Decoding.{Begins, GaveSpelling, Refuses, RefusesSource};
-ghost use Rattle.tls_codec_base.specs.NumberLaws.{number_lawful};
+ghost use Rattle.tls_codec_base.specs.Format.{number_format};
+ghost use Rattle.tls_codec_base.specs.laws.FormatLaws.{number_meets};
 
-use super::{digits_vector, read_digits, split_digits, write_digits};
+use super::{append_digits, digits_vector, read_digits, split_digits, write_digits};
 use crate::traits::{Deserialize, DeserializeBytes, Serialize, SerializeBytes, Size};
 use std::alloc::Global;
 use tls_codec_wire::{Error, Sink, Source};
@@ -17,22 +15,23 @@ use tls_codec_wire::{Error, Sink, Source};
 impl Size for u64 {
     ghost plain = { Number };
 
-    ghost spells = { number 8 };
-
-    ghost announced = { λ v. 8 };
-
-    ghost lean = { true };
+    ghost format = { number_format 8 };
 
     fn tls_serialized_len(&self) -> usize {
         8
     }
 
-    ghost lawful = { number_lawful 8 (Prim.omega arith) };
+    ghost lawful = { number_meets 8 (Prim.omega arith) };
 }
 
 impl Serialize for u64 {
     fn tls_serialize<W: Sink>(&self, writer: &mut W) -> Result<usize, Error> {
         write_digits(writer, &self.to_be_bytes())
+    }
+
+    #[inline(always)]
+    fn tls_serialize_into(&self, out: &mut Vec<u8>) -> Result<usize, Error> {
+        append_digits(out, &self.to_be_bytes())
     }
 }
 
@@ -43,28 +42,22 @@ impl SerializeBytes for u64 {
 }
 
 impl Deserialize for u64 {
+    ghost names = { λ coming old new e. ReadRefused e 8 coming old new };
+
     /// `EndOfStream`: fewer than eight bytes come.
     #[inline(always)]
-    fn tls_deserialize<R: Source>(_alloc: Global, bytes: &mut R) -> Result<u64, Error>
-        ensures gave { Gave R.given bytes.old bytes.new }
-        ensures ok { IfOk result (λ n. GaveSpelling R.given (number 8) bytes.old bytes.new (Number n)) }
-        ensures err { IfErr result (RefusesSource (number 8) true (R.coming bytes.old)
-            (R.counts bytes.old) (R.counts bytes.new)) }
-        ensures named { IfErr result (λ e. ReadRefused e 8 (R.coming bytes.old) (R.counts bytes.old) (R.counts bytes.new)) }
-    {
+    fn tls_deserialize<R: Source>(_alloc: Global, bytes: &mut R) -> Result<u64, Error> {
         let digits = read_digits(bytes)?;
         Ok(u64::from_be_bytes(digits))
     }
 }
 
 impl DeserializeBytes for u64 {
+    ghost names = { λ x e. (e ≡ EndOfStream) × (length x < 8) };
+
     /// `EndOfStream`: there are fewer than eight bytes.
     #[inline(always)]
-    fn tls_deserialize_bytes(_alloc: Global, bytes: &[u8]) -> Result<(u64, &[u8]), Error>
-        ensures ok { IfOk result (λ found. Begins (number 8) bytes.now (Number found.0) found.1.now) }
-        ensures err { IfErr result (Refuses (number 8) true bytes.now) }
-        ensures named { IfErr result (λ e. (e ≡ EndOfStream) × (length bytes.now < 8)) }
-    {
+    fn tls_deserialize_bytes(_alloc: Global, bytes: &[u8]) -> Result<(u64, &[u8]), Error> {
         let (digits, rest) = split_digits(bytes)?;
         Ok((u64::from_be_bytes(digits), rest))
     }
@@ -73,22 +66,23 @@ impl DeserializeBytes for u64 {
 impl Size for &u64 {
     ghost plain = { λ n. Number n.now };
 
-    ghost spells = { number 8 };
-
-    ghost announced = { λ v. 8 };
-
-    ghost lean = { true };
+    ghost format = { number_format 8 };
 
     fn tls_serialized_len(&self) -> usize {
         (**self).tls_serialized_len()
     }
 
-    ghost lawful = { number_lawful 8 (Prim.omega arith) };
+    ghost lawful = { number_meets 8 (Prim.omega arith) };
 }
 
 impl Serialize for &u64 {
     fn tls_serialize<W: Sink>(&self, writer: &mut W) -> Result<usize, Error> {
         (**self).tls_serialize(writer)
+    }
+
+    #[inline(always)]
+    fn tls_serialize_into(&self, out: &mut Vec<u8>) -> Result<usize, Error> {
+        (**self).tls_serialize_into(out)
     }
 }
 

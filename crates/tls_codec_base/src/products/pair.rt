@@ -1,9 +1,8 @@
 //! `(T, U)`: the first part, then the second.
-ghost use Rattle.std.specs.Prelude.{◌&&◌, true};
 ghost use Rattle.tls_codec_base.specs.Tree.{Empty, Join};
-ghost use Rattle.tls_codec_base.specs.Grammar.{pair};
-ghost use Rattle.tls_codec_base.specs.Announced.{pair_length};
-ghost use Rattle.tls_codec_base.specs.FieldsLaws.{pair_lawful};
+ghost use Rattle.tls_codec_base.specs.Format.{pair_format};
+ghost use Rattle.tls_codec_base.specs.laws.FormatLaws.{pair_meets};
+ghost use Rattle.tls_codec_base.specs.Refusals.{fields_names, fields_source_names};
 
 use crate::traits::{Deserialize, DeserializeBytes, Serialize, Size};
 use std::alloc::Global;
@@ -12,11 +11,7 @@ use tls_codec_wire::{Error, Sink, Source};
 impl<T: Size, U: Size> Size for (T, U) {
     ghost plain = { λ p. Join (T.plain p.0) (Join (U.plain p.1) Empty) };
 
-    ghost spells = { pair T.spells U.spells };
-
-    ghost announced = { pair_length T.announced U.announced };
-
-    ghost lean = { T.lean && (U.lean && true) };
+    ghost format = { pair_format T.format U.format };
 
     fn tls_serialized_len(&self) -> usize {
         self.0
@@ -24,7 +19,7 @@ impl<T: Size, U: Size> Size for (T, U) {
             .saturating_add(self.1.tls_serialized_len())
     }
 
-    ghost lawful = { pair_lawful T.spells U.spells T.announced U.announced T.lawful U.lawful };
+    ghost lawful = { pair_meets T.lawful U.lawful };
 }
 
 impl<T: Serialize, U: Serialize> Serialize for (T, U) {
@@ -33,9 +28,23 @@ impl<T: Serialize, U: Serialize> Serialize for (T, U) {
         let second = self.1.tls_serialize(writer)?;
         Ok(first.saturating_add(second))
     }
+
+    fn tls_serialize_into(&self, out: &mut Vec<u8>) -> Result<usize, Error> {
+        let at = out.len();
+        let first = self.0.tls_serialize_into(out)?;
+        match self.1.tls_serialize_into(out) {
+            Ok(second) => Ok(first.saturating_add(second)),
+            Err(error) => {
+                out.truncate(at);
+                Err(error)
+            }
+        }
+    }
 }
 
 impl<T: Deserialize, U: Deserialize> Deserialize for (T, U) {
+    ghost names = { fields_source_names T.format T.names U.names };
+
     /// Every refusal is that of a part.
     fn tls_deserialize<R: Source>(alloc: Global, bytes: &mut R) -> Result<(T, U), Error> {
         let first = T::tls_deserialize(alloc, bytes)?;
@@ -45,6 +54,8 @@ impl<T: Deserialize, U: Deserialize> Deserialize for (T, U) {
 }
 
 impl<T: DeserializeBytes, U: DeserializeBytes> DeserializeBytes for (T, U) {
+    ghost names = { fields_names T.format T.names U.names };
+
     /// Every refusal is that of a part.
     fn tls_deserialize_bytes(alloc: Global, bytes: &[u8]) -> Result<((T, U), &[u8]), Error> {
         let (first, rest) = T::tls_deserialize_bytes(alloc, bytes)?;

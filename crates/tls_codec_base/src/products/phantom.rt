@@ -1,9 +1,7 @@
 //! `PhantomData<T>`: no parts, and so no bytes. Nothing is asked of `T`.
-ghost use Rattle.std.specs.Prelude.{true};
 ghost use Rattle.tls_codec_base.specs.Tree.{Empty};
-ghost use Rattle.tls_codec_base.specs.Grammar.{nothing};
-ghost use Rattle.tls_codec_base.specs.Announced.{nothing_length};
-ghost use Rattle.tls_codec_base.specs.FieldsLaws.{nothing_lawful};
+ghost use Rattle.tls_codec_base.specs.Format.{nothing_format};
+ghost use Rattle.tls_codec_base.specs.laws.FormatLaws.{nothing_meets};
 
 use crate::traits::{Deserialize, DeserializeBytes, Serialize, SerializeBytes, Size};
 use std::alloc::Global;
@@ -13,17 +11,13 @@ use tls_codec_wire::{Error, Sink, Source};
 impl<T> Size for PhantomData<T> {
     ghost plain = { λ _. Empty };
 
-    ghost spells = { nothing };
-
-    ghost announced = { nothing_length };
-
-    ghost lean = { true };
+    ghost format = { nothing_format };
 
     fn tls_serialized_len(&self) -> usize {
         0
     }
 
-    ghost lawful = { nothing_lawful };
+    ghost lawful = { nothing_meets };
 }
 
 impl<T> Serialize for PhantomData<T> {
@@ -39,6 +33,8 @@ impl<T> SerializeBytes for PhantomData<T> {
 }
 
 impl<T> Deserialize for PhantomData<T> {
+    ghost names = { λ coming old new e. ⊥ };
+
     /// Takes nothing and is never refused.
     fn tls_deserialize<R: Source>(_alloc: Global, _bytes: &mut R) -> Result<PhantomData<T>, Error> {
         Ok(PhantomData)
@@ -46,6 +42,8 @@ impl<T> Deserialize for PhantomData<T> {
 }
 
 impl<T> DeserializeBytes for PhantomData<T> {
+    ghost names = { λ x e. ⊥ };
+
     /// Takes nothing and is never refused.
     fn tls_deserialize_bytes(
         _alloc: Global,

@@ -1,9 +1,7 @@
 //! `()`: no parts, and so no bytes.
-ghost use Rattle.std.specs.Prelude.{true};
 ghost use Rattle.tls_codec_base.specs.Tree.{Empty};
-ghost use Rattle.tls_codec_base.specs.Grammar.{nothing};
-ghost use Rattle.tls_codec_base.specs.Announced.{nothing_length};
-ghost use Rattle.tls_codec_base.specs.FieldsLaws.{nothing_lawful};
+ghost use Rattle.tls_codec_base.specs.Format.{nothing_format};
+ghost use Rattle.tls_codec_base.specs.laws.FormatLaws.{nothing_meets};
 
 use crate::traits::{Deserialize, DeserializeBytes, Serialize, Size};
 use std::alloc::Global;
@@ -12,17 +10,13 @@ use tls_codec_wire::{Error, Sink, Source};
 impl Size for () {
     ghost plain = { λ _. Empty };
 
-    ghost spells = { nothing };
-
-    ghost announced = { nothing_length };
-
-    ghost lean = { true };
+    ghost format = { nothing_format };
 
     fn tls_serialized_len(&self) -> usize {
         0
     }
 
-    ghost lawful = { nothing_lawful };
+    ghost lawful = { nothing_meets };
 }
 
 impl Serialize for () {
@@ -32,6 +26,8 @@ impl Serialize for () {
 }
 
 impl Deserialize for () {
+    ghost names = { λ coming old new e. ⊥ };
+
     /// Takes nothing and is never refused.
     fn tls_deserialize<R: Source>(_alloc: Global, _bytes: &mut R) -> Result<(), Error> {
         Ok(())
@@ -39,6 +35,8 @@ impl Deserialize for () {
 }
 
 impl DeserializeBytes for () {
+    ghost names = { λ x e. ⊥ };
+
     /// Takes nothing and is never refused.
     fn tls_deserialize_bytes(_alloc: Global, bytes: &[u8]) -> Result<((), &[u8]), Error> {
         Ok(((), bytes))

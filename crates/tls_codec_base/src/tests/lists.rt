@@ -6,16 +6,13 @@ ghost use Rattle.std.proofs.lemmas.Grind.{common_steps};
 ghost use Rattle.tls_codec_wire.specs.Counts.{no_counts, stay};
 
 use super::plain::{is_read, is_refused, is_written, is_written_alone};
+use super::{NO_BYTES, NOT_FILLED};
 use crate::lists::{self, Turns};
 use crate::traits::{Deserialize, DeserializeBytes, SerializeBytes};
 use std::alloc::Global;
 use std::process::Abort;
 use std::test::Fail;
 use tls_codec_wire::{Error, Fault, Source};
-
-const NO_BYTES: Error = Error::DecodingError("vector element consumed 0 bytes");
-
-const NOT_FILLED: Error = Error::DecodingError("elements do not fill the declared length");
 
 // Gives its bytes one a call.
 #[derive(Drop)]
@@ -94,11 +91,14 @@ fn lists_of_numbers(rt: HostRuntime) -> Result<(), Fail> {
 }
 
 #[test]
-fn lists_of_bytes(rt: HostRuntime) -> Result<(), Fail> {
+fn lists_of_bytes_and_options(rt: HostRuntime) -> Result<(), Fail> {
     let alloc = rt.alloc();
     let mut bytes = Vec::new(alloc);
     bytes.extend_from_slice(&[1u8, 2])?;
     is_a_vector::<&Vec<u8>>(&rt, alloc, &&bytes, &[2, 1, 2])?;
+    let mut options = Vec::new(alloc);
+    options.extend_from_slice(&[Some(9u8), None])?;
+    is_written_alone(&rt, alloc, &options, &[3, 1, 9, 0])?;
     let mut one = Vec::new(alloc);
     one.extend_from_slice(&[0xaau8])?;
     is_read(&rt, alloc, &[0xc0, 0, 0, 0, 0, 0, 0, 1, 0xaa], &one, &[])?;
@@ -109,7 +109,9 @@ fn lists_of_bytes(rt: HostRuntime) -> Result<(), Fail> {
 #[test]
 fn lists_of_elements_without_bytes(rt: HostRuntime) -> Result<(), Fail> {
     let alloc = rt.alloc();
-    let units = [(), ()];
+    let mut units = Vec::new(alloc);
+    units.extend_from_slice(&[(), ()])?;
+    is_written(&rt, alloc, &units, &[0])?;
     is_written(&rt, alloc, &units.as_slice(), &[0])?;
     is_read(&rt, alloc, &[0], &Vec::<()>::new(alloc), &[])?;
     is_refused::<Vec<()>>(&rt, alloc, &[1], NO_BYTES);
@@ -134,6 +136,9 @@ fn lists_in_products(rt: HostRuntime) -> Result<(), Fail> {
     let value = mixed(rt.alloc())?;
     let bytes = [7, 4, 0, 1, 0, 2, 1, 2, 0xc3, 0xa9];
     is_written(&rt, rt.alloc(), &value, &bytes)?;
+    let mut numbers = Vec::new(rt.alloc());
+    numbers.extend_from_slice(&[1u16, 2])?;
+    is_written(&rt, rt.alloc(), &(7u8, numbers, Some("é")), &bytes)?;
     is_read(&rt, rt.alloc(), &bytes, &value, &[])
 }
 

@@ -13,6 +13,10 @@ fn a_number_of_24_bits_has_three_bytes(rt: HostRuntime) -> Result<(), Fail> {
     assert_eq!(rt; out.as_slice(), bytes.as_slice());
     assert_eq!(rt; (&n).tls_serialize(&mut out), Ok(3));
     assert_eq!(rt; out.len(), 6);
+    assert_eq!(rt;
+        n.tls_serialize_detached(alloc)?.as_slice(),
+        bytes.as_slice()
+    );
     assert_eq!(rt; n.tls_serialize_bytes(alloc)?.as_slice(), bytes.as_slice());
     assert_eq!(rt;
         (&n).tls_serialize_bytes(alloc)?.as_slice(),
@@ -63,6 +67,11 @@ fn a_variable_length_integer_has_its_least_bytes(rt: HostRuntime) -> Result<(), 
         let mut out = Vec::new(alloc);
         assert_eq!(rt; n.tls_serialize(&mut out), Ok(bytes.len()), "{number}");
         assert_eq!(rt; out.as_slice(), bytes, "{number}");
+        assert_eq!(rt;
+            n.tls_serialize_detached(alloc)?.as_slice(),
+            bytes,
+            "{number}"
+        );
         assert_eq!(rt; n.tls_serialize_bytes(alloc)?.as_slice(), bytes, "{number}");
         assert_eq!(rt; n.tls_serialized_len(), bytes.len(), "{number}");
         let mut src = bytes;

@@ -6,7 +6,7 @@ use std::process::Abort;
 use std::test::Fail;
 use tls_codec_wire::{Error, U24};
 
-// The value is announced and written as these bytes.
+// The value is announced and written as these bytes, also behind another one.
 pub(super) fn is_written<T: Serialize>(
     rt: &impl Abort,
     alloc: Global,
@@ -20,6 +20,12 @@ pub(super) fn is_written<T: Serialize>(
     let count = value.tls_serialize(&mut received)?;
     assert_eq!(rt; count, bytes.len());
     assert_eq!(rt; received.as_slice(), bytes);
+    let mut behind = [0xee].to_vec(alloc)?;
+    let count = value.tls_serialize_into(&mut behind)?;
+    assert_eq!(rt; count, bytes.len());
+    let mut both = [0xee].to_vec(alloc)?;
+    both.extend_from_slice(bytes)?;
+    assert_eq!(rt; behind.as_slice(), both.as_slice());
     Ok(())
 }
 

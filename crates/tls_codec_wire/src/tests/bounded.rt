@@ -12,13 +12,15 @@ use crate::vlen::{read_length, split_length, write_length};
 use std::alloc::Global;
 use std::test::Fail;
 
-// Ends at once, and notes how much room a vector had for its bytes.
+// Has so many bytes left, and notes whether a vector had more room for them than the greater of 4,096
+// and what came.
 #[derive(Drop)]
-struct Empty {
-    room: usize,
+struct RoomWatcher {
+    left: usize,
+    had_more: bool,
 }
 
-impl Source for Empty {
+impl Source for RoomWatcher {
     ghost coming = { λ _. None };
 
     ghost counts = { λ _. no_counts };
@@ -29,9 +31,13 @@ impl Source for Empty {
         Ok(0)
     }
 
-    fn pull_onto(&mut self, out: &mut Vec<u8>, _most: usize) -> Result<usize, Fault> {
-        self.room = out.capacity();
-        Ok(0)
+    fn pull_onto(&mut self, out: &mut Vec<u8>, most: usize) -> Result<usize, Fault> {
+        let room = out.capacity() - out.len();
+        self.had_more = self.had_more || room > out.len().max(4096);
+        let n = most.min(room).min(4096).min(self.left);
+        let _ = out.extend_from_slice(&[7; 4096][..n]);
+        self.left -= n;
+        Ok(n)
     }
 
     ghost gives_nothing = { λ s. tt };
@@ -84,13 +90,13 @@ fn a_limit_within_a_limit(rt: HostRuntime) {
 fn a_limit_over_a_slice(rt: HostRuntime) {
     let mut src = [1, 2, 3].as_slice();
     let mut first = Bounded::new(&mut src, 2);
-    assert_eq!(rt; first.at_hand(), 2);
+    assert_eq!(rt; first.at_hand(), [1, 2].as_slice());
     let mut into = [0; 4];
     assert_eq!(rt; first.pull(&mut into), Ok(2));
     assert_eq!(rt; into, [1, 2, 0, 0]);
     assert_eq!(rt; first.pull(&mut into), Ok(0));
     assert_eq!(rt; first.limit(), 0);
-    assert_eq!(rt; src.at_hand(), 1);
+    assert_eq!(rt; src.at_hand(), [3].as_slice());
 }
 
 #[test]
@@ -113,17 +119,24 @@ fn bytes_are_gathered(rt: HostRuntime) -> Result<(), Fail> {
 
 #[test]
 fn a_length_without_its_bytes_asks_for_little_room(rt: HostRuntime) {
-    let mut src = Empty { room: 0 };
-    let refused = read_bytes_bounded(rt.alloc(), &mut src, isize::MAX as usize);
-    assert_eq!(rt; refused.err(), Some(Error::EndOfStream));
-    assert_eq!(rt; src.room, 4096);
-    assert_eq!(rt; src.at_hand(), 0);
+    for left in [0, 1, 5_000, 100_000] {
+        let mut src = RoomWatcher {
+            left,
+            had_more: false,
+        };
+        let refused = read_bytes_bounded(rt.alloc(), &mut src, isize::MAX as usize);
+        assert_eq!(rt; refused.err(), Some(Error::EndOfStream), "{left} bytes");
+        assert_eq!(rt; src.left, 0, "{left} bytes");
+        assert!(rt; !src.had_more, "{left} bytes");
+        assert!(rt; src.at_hand().is_empty());
+    }
 }
 
 #[test]
 fn bytes_are_gathered_between_interruptions(rt: HostRuntime) -> Result<(), Fail> {
     for (interruptions, end) in [(16, None), (17, Some(Error::DecodingError("read failed")))] {
         let mut src = Fives::new(Plan {
+            first: None,
             bytes: 2,
             interruptions,
             after: Some(Fault::Failed),

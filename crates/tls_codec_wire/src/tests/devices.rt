@@ -1,21 +1,31 @@
 // A source and a sink that follow a plan. They tell no bytes, and count their calls.
-ghost use Rattle.std.specs.Prelude.{None};
+ghost use Rattle.std.specs.Prelude.{◌≡◌, None};
 ghost use Rattle.tls_codec_wire.specs.Counts.{Counts, fall_never, NoneFell, stay};
-ghost use Rattle.tls_codec_wire.specs.Device.{PullIsCounted};
+ghost use Rattle.tls_codec_wire.specs.Device.{FaultRaises, PullIsCounted};
 
 use crate::device::{Fault, Sink, Source};
 use std::io;
 use std::io::{ErrorKind, Read, Write};
 use std::marker::Model;
 
-// A device moves so many bytes, one a call, and each is preceded by so many interruptions. After
-// them it answers each call the same: a fault, or no byte.
+// A device answers its first call by a fault, where it has one. Then it moves so many bytes, one a
+// call, and each is preceded by so many interruptions. After them it answers each call the same: a
+// fault, or no byte.
 #[derive(Clone, Copy)]
 pub struct Plan {
+    pub first: Option<Fault>,
     pub bytes: u8,
     pub interruptions: u8,
     pub after: Option<Fault>,
 }
+
+// It has no byte.
+pub const ENDED: Plan = Plan {
+    first: None,
+    bytes: 0,
+    interruptions: 0,
+    after: None,
+};
 
 // How far a plan has come.
 #[derive(Drop)]
@@ -48,16 +58,32 @@ impl Progress {
         }
     }
 
+    // Counts a fault.
+    fn count(&mut self, fault: Fault) -> Fault
+        ensures same { result ≡ fault }
+        ensures counted { FaultRaises fault self.old self.new }
+    {
+        match fault {
+            Fault::Interrupted => self.interruptions = self.interruptions.saturating_add(1),
+            Fault::NoMemory => self.shortages = self.shortages.saturating_add(1),
+            Fault::Failed => self.failures = self.failures.saturating_add(1),
+        }
+        fault
+    }
+
     // How many bytes the next call is to move: one or none.
     fn turn(&mut self) -> Result<usize, Fault>
         ensures counted { PullIsCounted result self.old self.new }
     {
         self.calls = self.calls.saturating_add(1);
+        if let Some(fault) = self.plan.first {
+            self.plan.first = None;
+            return Err(self.count(fault));
+        }
         if self.moved < self.plan.bytes {
             if self.row < self.plan.interruptions {
                 self.row += 1;
-                self.interruptions = self.interruptions.saturating_add(1);
-                return Err(Fault::Interrupted);
+                return Err(self.count(Fault::Interrupted));
             }
             self.row = 0;
             self.moved += 1;
@@ -65,18 +91,7 @@ impl Progress {
         }
         match self.plan.after {
             None => Ok(0),
-            Some(Fault::Interrupted) => {
-                self.interruptions = self.interruptions.saturating_add(1);
-                Err(Fault::Interrupted)
-            }
-            Some(Fault::NoMemory) => {
-                self.shortages = self.shortages.saturating_add(1);
-                Err(Fault::NoMemory)
-            }
-            Some(Fault::Failed) => {
-                self.failures = self.failures.saturating_add(1);
-                Err(Fault::Failed)
-            }
+            Some(fault) => Err(self.count(fault)),
         }
     }
 }
@@ -177,5 +192,26 @@ impl Write for Failing {
 
     fn flush(&mut self) -> io::Result<()> {
         Err(io::Error::from(self.kind))
+    }
+}
+
+// Fails at its first call, by an error of this kind, and then gives the byte 5 each time.
+#[derive(Drop)]
+pub struct FailingOnce {
+    pub kind: ErrorKind,
+    pub reads: u64,
+}
+
+impl Read for FailingOnce {
+    fn read(&mut self, buf: &mut [u8]) -> io::Result<usize> {
+        self.reads = self.reads.saturating_add(1);
+        if self.reads == 1 {
+            return Err(io::Error::from(self.kind));
+        }
+        if buf.is_empty() {
+            return Ok(0);
+        }
+        buf[0] = 5;
+        Ok(1)
     }
 }

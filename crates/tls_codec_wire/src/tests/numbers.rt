@@ -3,6 +3,7 @@ use crate::error::Error;
 use crate::quic::{least_width, read_varint, split_varint, write_varint};
 use crate::uint24::U24;
 use crate::varint::TlsVarInt;
+use crate::vlen::{append_length, insert_bytes, insert_length};
 use std::io;
 use std::io::ErrorKind;
 use std::test::Fail;
@@ -95,4 +96,44 @@ fn errors_of_std_have_an_error_here(rt: HostRuntime) {
     }
     assert_eq!(rt; pair(&[1]), Err(Error::InvalidInput));
     assert_eq!(rt; byte(256), Err(Error::InvalidVectorLength));
+}
+
+#[test]
+fn a_length_is_put_before_what_it_counts(rt: HostRuntime) -> Result<(), Fail> {
+    let alloc = rt.alloc();
+    let mut out = Vec::from_slice(alloc, &[0xaa, 1, 2])?;
+    assert_eq!(rt; insert_length(&mut out, 1), Ok(1));
+    assert_eq!(rt; out.as_slice(), [0xaa, 2, 1, 2].as_slice());
+    let mut out = Vec::from_slice(alloc, &[0xaa, 1, 2])?;
+    assert_eq!(rt; insert_length(&mut out, 3), Ok(1));
+    assert_eq!(rt; out.as_slice(), [0xaa, 1, 2, 0].as_slice());
+    let mut out = Vec::from_slice(alloc, &[7; 64])?;
+    assert_eq!(rt; insert_length(&mut out, 0), Ok(2));
+    assert_eq!(rt; &out[..3], [0x40, 0x40, 7].as_slice());
+    let mut out = Vec::from_slice(alloc, &[7; 16384])?;
+    assert_eq!(rt; insert_length(&mut out, 0), Ok(4));
+    assert_eq!(rt; &out[..5], [0x80, 0, 0x40, 0, 7].as_slice());
+    assert_eq!(rt; out.len(), 16388);
+    Ok(())
+}
+
+#[test]
+fn a_length_or_bytes_are_put_into_a_vector(rt: HostRuntime) -> Result<(), Fail> {
+    let mut out = Vec::from_slice(rt.alloc(), &[0xaa])?;
+    assert_eq!(rt; append_length(&mut out, 15_293), Ok(2));
+    assert_eq!(rt; out.as_slice(), [0xaa, 0x7b, 0xbd].as_slice());
+    insert_bytes(&mut out, 1, &[1, 2])?;
+    assert_eq!(rt; out.as_slice(), [0xaa, 1, 2, 0x7b, 0xbd].as_slice());
+    Ok(())
+}
+
+#[test]
+fn a_copy_is_equal(rt: HostRuntime) -> Result<(), Fail> {
+    let n = TlsVarInt::try_from(37)?;
+    assert_eq!(rt; n.clone()?, n);
+    assert_eq!(rt; U24::MAX.clone()?, U24::MAX);
+    let error = Error::DecodingError("read failed");
+    assert_eq!(rt; error.clone()?, error);
+    assert!(rt; error != Error::DecodingError("io error"));
+    Ok(())
 }

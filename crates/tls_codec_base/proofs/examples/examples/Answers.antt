@@ -1,5 +1,5 @@
 use Rattle.std.proofs.Common.{rules, [], ◌∷◌, refl, arith}
-use Rattle.tls_codec_base.specs.NumberLaws.{digits_below}
+use Rattle.tls_codec_base.specs.laws.NumberLaws.{digits_below}
 use Rattle.tls_codec_base.proofs.WorkedExamples.{one_byte_varint, some_spelled_once, no_half_element, two_byte_character, surrogate_is_no_text, shortest_list, shortest_list_of_nothing, nothing_is_no_element}
 use Rattle.tls_codec_base.proofs.examples.examples.Goals as goal
 

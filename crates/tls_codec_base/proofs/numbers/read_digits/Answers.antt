@@ -1,8 +1,8 @@
 use Rattle.std.proofs.Common.{rules, refl}
 use Rattle.tls_codec_base.proofs.numbers.read_digits.Goals as goal
 
-pub returns-clause-ok : goal.returns-clause-ok
-returns-clause-ok g c =
+pub returns-clause-reads : goal.returns-clause-reads
+returns-clause-reads g c =
     record {
       front = _;
       held = c.in_ok-read_exactly.ensures.filled;

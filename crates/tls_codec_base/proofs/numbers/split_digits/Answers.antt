@@ -2,8 +2,8 @@ use Rattle.std.proofs.Common.{arith}
 use Rattle.tls_codec_base.proofs.NumberCalls.{front_are_bytes, number_begins}
 use Rattle.tls_codec_base.proofs.numbers.split_digits.Goals as goal
 
-pub returns-clause-ok : goal.returns-clause-ok
-returns-clause-ok g c =
+pub returns-clause-splits : goal.returns-clause-splits
+returns-clause-splits g c =
     let cases = c.in-Some.ensures.cases in
     number_begins _ _ _ _ cases.0 cases.1 (omega (arith, cases.2)) (λ i. omega (arith, c.type_inv.bytes i))
 

@@ -1,8 +1,8 @@
 use Rattle.tls_codec_base.proofs.ArrayCalls.{array_given, array_refuses_source}
 use Rattle.tls_codec_base.proofs.arrays.ArrayU8Deserialize.tls_deserialize.Goals as goal
 
-pub returns-in-Ok-clause-ok : goal.returns-in-Ok-clause-ok
-returns-in-Ok-clause-ok g c = array_given _ _ c.in-Ok.ensures.width c.in-Ok.ensures.bytes _ _ _ c.in-Ok.ensures.ok
+pub returns-in-Ok-clause-reads : goal.returns-in-Ok-clause-reads
+returns-in-Ok-clause-reads g c = array_given _ _ c.in-Ok.ensures.width c.in-Ok.ensures.bytes _ _ _ c.in-Ok.ensures.reads
 
-pub returns-in-Err-clause-err : goal.returns-in-Err-clause-err
-returns-in-Err-clause-err g c = array_refuses_source _ _ _ _ _ _ c.in-Err.ensures.err
+pub returns-in-Err-clause-reads : goal.returns-in-Err-clause-reads
+returns-in-Err-clause-reads g c = record { gave = c.in-Err.ensures.reads.gave; refused = array_refuses_source _ _ _ _ _ _ c.in-Err.ensures.reads.refused }

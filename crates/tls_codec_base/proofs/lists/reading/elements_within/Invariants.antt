@@ -9,7 +9,7 @@ use Rattle.tls_codec_base.proofs.lists.reading.elements_within.Given as goal
 abbrev pub invariant-elements : goal.invariant-elements
 invariant-elements g l = record {
   same : BorrowAlike l.fn.within l.within;
-  read : GivenSoFar g.R.Source.given g.T.Size.spells (inner_of l.fn.within) (inner_of l.within) (limit_of l.fn.within) (limit_of l.within) (trees g.T.Size.plain l.elements.items);
+  read : GivenSoFar g.R.Source.given g.T.Size.format.spells (inner_of l.fn.within) (inner_of l.within) (limit_of l.fn.within) (limit_of l.within) (trees g.T.Size.plain l.elements.items);
   turned : TurnedEach l.elements.items l.fn.turns l.turns;
   untouched : limit_of l.fn.within ≡ 0 → (l.elements.items ≡ []) × (inner_of l.within ≡ inner_of l.fn.within) × (l.turns ≡ l.fn.turns);
 }

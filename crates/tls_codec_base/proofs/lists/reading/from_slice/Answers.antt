@@ -1,6 +1,6 @@
-use Rattle.std.proofs.Common.{rules, ◌≡◌, ◌++◌, ◌∷◌, [], arith, ap, inl, length, length-append, refl}
+use Rattle.std.proofs.Common.{rules, ◌≡◌, ◌++◌, ◌∷◌, [], arith, ap, inl, inr, length, length-append, refl}
 use Rattle.std.proofs.lemmas.Result.{err_from_is_err_and}
-use Rattle.tls_codec_base.proofs.ListReading.{element_refused, none_if_empty, none_if_long, read_more, read_none}
+use Rattle.tls_codec_base.proofs.ListReading.{element_named, element_refused, found_empty, found_long, none_if_empty, none_if_long, read_more, read_none}
 use Rattle.tls_codec_base.proofs.lists.reading.from_slice.Goals as goal
 
 pub loop-left-init : goal.loop-left-init
@@ -12,28 +12,43 @@ loop-left-init g c =
       untouched = λ e. (none, refl, refl);
     }
 
-pub returns-in_err-element-clause-err : goal.returns-in_err-element-clause-err
-returns-in_err-element-clause-err g c =
+pub returns-in_err-element-clause-splits : goal.returns-in_err-element-clause-splits
+returns-in_err-element-clause-splits g c =
     let p = err_from_is_err_and c.from_residual.result c.from_residual.ensures.1 in
-    rw (p.1, p.2) (element_refused _ _ g.met.T.Size.lawful _ _ _ _ _ _ _ c.loop-left.invariant.read (omega arith) c.in_err-element.ensures.err)
+    rw (p.1, p.2) (element_refused _ _ g.met.T.Size.lawful.spelled _ _ _ _ _ _ _ c.loop-left.invariant.read (omega arith) c.in_err-element.ensures.splits)
 
-pub returns-then-taken-eq0-clause-err : goal.returns-then-taken-eq0-clause-err
-returns-then-taken-eq0-clause-err g c = record {
-  cause = inl (none_if_empty _ _ g.met.T.Size.lawful _ _ _ _ _ _ _ c.loop-left.invariant.read (omega arith) c.in_ok-element.ensures.ok c.if-taken-eq0.true);
+pub returns-then-taken-eq0-clause-splits : goal.returns-then-taken-eq0-clause-splits
+returns-then-taken-eq0-clause-splits g c = record {
+  cause = inl (none_if_empty _ _ g.met.T.Size.lawful.spelled _ _ _ _ _ _ _ c.loop-left.invariant.read (omega arith) c.in_ok-element.ensures.splits c.if-taken-eq0.true);
   memory = λ h. refl;
+  not_trailing = λ h. cc;
 }
 
-pub returns-then-taken-left-clause-err : goal.returns-then-taken-left-clause-err
-returns-then-taken-left-clause-err g c = record {
-  cause = inl (none_if_long _ _ g.met.T.Size.lawful _ _ _ _ _ _ _ c.loop-left.invariant.read (omega arith) c.in_ok-element.ensures.ok (omega arith));
+pub returns-then-taken-left-clause-splits : goal.returns-then-taken-left-clause-splits
+returns-then-taken-left-clause-splits g c = record {
+  cause = inl (none_if_long _ _ g.met.T.Size.lawful.spelled _ _ _ _ _ _ _ c.loop-left.invariant.read (omega arith) c.in_ok-element.ensures.splits (omega arith));
   memory = λ h. refl;
+  not_trailing = λ h. cc;
 }
 
 pub loop-left-preserved : goal.loop-left-preserved
 loop-left-preserved g c =
     let items : c.push.new.self.items ≡ c.loop-left.elements.items ++ c.in_ok-element.element ∷ [] = search rules in
     record {
-      read = read_more g.T.Size.plain _ _ _ _ c.loop-left.elements.items _ c.in_ok-element.element _ c.push.new.self.items c.loop-left.invariant.read c.in_ok-element.ensures.ok c.if-taken-eq0.false (omega arith) items;
+      read = read_more g.T.Size.plain _ _ _ _ c.loop-left.elements.items _ c.in_ok-element.element _ c.push.new.self.items c.loop-left.invariant.read c.in_ok-element.ensures.splits c.if-taken-eq0.false (omega arith) items;
       turned = omega (arith, c.loop-left.invariant.turned, c.turn.ensures, ap length items, length-append c.loop-left.elements.items (c.in_ok-element.element ∷ []));
       untouched = λ none. absurd (omega (arith, none, c.loop-left.invariant.read.fills));
     }
+
+pub returns-in_err-element-clause-named : goal.returns-in_err-element-clause-named
+returns-in_err-element-clause-named g c =
+    let p = err_from_is_err_and c.from_residual.result c.from_residual.ensures.1 in
+    rw (p.1, p.2) (element_named g.T.Size.format g.T.DeserializeBytes.names c.loop-left.invariant.read (omega arith) (inl (c.in_err-element.ensures.splits, c.in_err-element.ensures.named)))
+
+pub returns-then-taken-eq0-clause-named : goal.returns-then-taken-eq0-clause-named
+returns-then-taken-eq0-clause-named g c =
+    element_named g.T.Size.format g.T.DeserializeBytes.names c.loop-left.invariant.read (omega arith) (inr (inl (refl, found_empty c.in_ok-element.ensures.splits c.if-taken-eq0.true)))
+
+pub returns-then-taken-left-clause-named : goal.returns-then-taken-left-clause-named
+returns-then-taken-left-clause-named g c =
+    element_named g.T.Size.format g.T.DeserializeBytes.names c.loop-left.invariant.read (omega arith) (inr (inr (refl, found_long c.in_ok-element.ensures.splits (omega arith))))

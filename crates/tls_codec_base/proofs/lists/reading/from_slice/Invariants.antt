@@ -7,7 +7,7 @@ use Rattle.tls_codec_base.proofs.lists.reading.from_slice.Given as goal
 
 abbrev pub invariant-loop-left : goal.invariant-loop-left
 invariant-loop-left g l = record {
-  read : ReadSoFar g.T.Size.spells l.bytes l.length l.left (trees g.T.Size.plain l.elements.items) l.rest;
+  read : ReadSoFar g.T.Size.format.spells l.bytes l.length l.left (trees g.T.Size.plain l.elements.items) l.rest;
   turned : TurnedEach l.elements.items l.fn.turns l.turns;
   untouched : l.length ≡ 0 → (l.elements.items ≡ []) × (l.rest ≡ l.bytes) × (l.turns ≡ l.fn.turns);
 }

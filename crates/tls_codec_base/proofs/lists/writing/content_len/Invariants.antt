@@ -6,6 +6,6 @@ use Rattle.tls_codec_base.proofs.lists.writing.content_len.Given as goal
 -- the sum so far and that of what is left are the sum of all
 abbrev pub invariant-loop-element : goal.invariant-loop-element
 invariant-loop-element g l = record {
-  total : l.sum + content_sum g.T.Size.announced (trees g.T.Size.plain (drop l.element-index l.elements)) ≡ content_sum g.T.Size.announced (trees g.T.Size.plain l.elements);
+  total : l.sum + content_sum g.T.Size.format.announced (trees g.T.Size.plain (drop l.element-index l.elements)) ≡ content_sum g.T.Size.format.announced (trees g.T.Size.plain l.elements);
   fits : l.sum < 2 ^ 64;
 }

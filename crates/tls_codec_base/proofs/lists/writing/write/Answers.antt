@@ -5,13 +5,13 @@ use Rattle.tls_codec_base.specs.Tree.{trees}
 use Rattle.tls_codec_base.proofs.ListWriting.{sent_all, sent_breaks, sent_more, trees_drop}
 use Rattle.tls_codec_base.proofs.lists.writing.write.Goals as goal
 
-pub returns-in_err-length-clause-err : goal.returns-in_err-length-clause-err
-returns-in_err-length-clause-err g c =
+pub returns-in_err-length : goal.returns-in_err-length
+returns-in_err-length g c =
     let p = err_from_is_err_and c.from_residual.result c.from_residual.ensures.1 in
-    rw (p.1, p.2) (sent_breaks _ _ g.met.T.Size.lawful c.loop-element.invariant (trees_drop g.T.Size.plain c.args.elements.now c.loop-element.element-index _ c.loop-element-test.true c.element-item.is) c.in_err-length.ensures.err)
+    rw (p.1, p.2) (sent_breaks g.met.T.Size.lawful c.loop-element.invariant (trees_drop g.T.Size.plain c.args.elements.now c.loop-element.element-index _ c.loop-element-test.true c.element-item.is) c.in_err-length.ensures.writes)
 
 pub loop-element-preserved : goal.loop-element-preserved
-loop-element-preserved g c = sent_more _ _ g.met.T.Size.lawful c.loop-element.invariant (trees_drop g.T.Size.plain c.args.elements.now c.loop-element.element-index _ c.loop-element-test.true c.element-item.is) c.in_ok-length.ensures.ok c.tls_serialize.ensures.counts c.saturating_add-sent.ensures
+loop-element-preserved g c = sent_more g.met.T.Size.lawful c.loop-element.invariant (trees_drop g.T.Size.plain c.args.elements.now c.loop-element.element-index _ c.loop-element-test.true c.element-item.is) c.in_ok-length.ensures.writes c.saturating_add-sent.ensures
 
-pub returns-clause-ok : goal.returns-clause-ok
-returns-clause-ok g c = sent_all _ _ g.met.T.Size.lawful c.loop-element.invariant (ap (trees g.T.Size.plain) (drop_of_length-le c.args.elements.now c.loop-element-test.false))
+pub returns : goal.returns
+returns g c = sent_all c.loop-element.invariant (ap (trees g.T.Size.plain) (drop_of_length-le c.args.elements.now c.loop-element-test.false))

@@ -4,4 +4,4 @@ use Rattle.tls_codec_base.proofs.ListWriting.{SentSoFar}
 use Rattle.tls_codec_base.proofs.lists.writing.write.Given as goal
 
 abbrev pub invariant-loop-element : goal.invariant-loop-element
-invariant-loop-element g l = SentSoFar g.T.Size.spells g.T.Size.announced g.met.T.Size.lawful (trees g.T.Size.plain l.elements) (trees g.T.Size.plain (drop l.element-index l.elements)) (g.W.Sink.received l.initial.sink) (g.W.Sink.received l.sink) (g.W.Sink.counts l.initial.sink) (g.W.Sink.counts l.sink) l.sent
+invariant-loop-element g l = SentSoFar g.T.Size.format g.W.Sink (trees g.T.Size.plain l.elements) (trees g.T.Size.plain (drop l.element-index l.elements)) l.initial.sink l.sink l.sent

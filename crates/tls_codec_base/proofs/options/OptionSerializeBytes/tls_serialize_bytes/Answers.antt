@@ -2,8 +2,8 @@ use Rattle.std.proofs.lemmas.Result.{err_from_is_err_and}
 use Rattle.tls_codec_base.proofs.OptionEncoding.{option_refuses_vector}
 use Rattle.tls_codec_base.proofs.options.OptionSerializeBytes.tls_serialize_bytes.Goals as goal
 
-pub returns-in_err-content-in-Some-clause-err : goal.returns-in_err-content-in-Some-clause-err
-returns-in_err-content-in-Some-clause-err g c =
+pub returns-in_err-content-in-Some-clause-makes : goal.returns-in_err-content-in-Some-clause-makes
+returns-in_err-content-in-Some-clause-makes g c =
     let p = err_from_is_err_and c.from_residual.result c.from_residual.ensures.1 in
     let some = c.in-Some.is in
-    rw (p.1, p.2, some) (option_refuses_vector _ _ g.met.T.Size.lawful _ _ c.in_err-content-in-Some.ensures.err)
+    rw (p.1, p.2, some) (option_refuses_vector g.met.T.Size.lawful _ c.in_err-content-in-Some.ensures.makes)

@@ -1,11 +1,8 @@
-use Rattle.std.proofs.lemmas.Result.{IfErr-weaker, IfOk-weaker}
-use Rattle.tls_codec_base.proofs.TextForms.{text_form, text_vector_refused}
+use Rattle.tls_codec_base.proofs.TextForms.{text_makes}
 use Rattle.tls_codec_base.proofs.texts.RefStrSerializeBytes.tls_serialize_bytes.Goals as goal
 
-pub returns-clause-ok : goal.returns-clause-ok
-returns-clause-ok c =
-    rw (← c.as_bytes.ensures.value) (IfOk-weaker c.to_vec.result _ _ (λ form p. text_form _ c.as_bytes.ensures.utf8 _ p) c.to_vec.ensures.ok)
+pub returns-clause-makes : goal.returns-clause-makes
+returns-clause-makes c = rw (← c.as_bytes.ensures.value) (text_makes _ c.as_bytes.ensures.utf8 c.to_vec.result c.to_vec.ensures.makes)
 
-pub returns-clause-err : goal.returns-clause-err
-returns-clause-err c =
-    rw (← c.as_bytes.ensures.value) (IfErr-weaker c.to_vec.result _ _ (λ e p. text_vector_refused _ c.as_bytes.ensures.utf8 e p) c.to_vec.ensures.err)
+pub returns-clause-too_long : goal.returns-clause-too_long
+returns-clause-too_long c = rw (← c.as_bytes.ensures.value) c.to_vec.ensures.too_long

@@ -2,21 +2,21 @@ use Rattle.std.proofs.lemmas.Result.{err_from_is_err_and}
 use Rattle.tls_codec_base.proofs.TextDecoding.{invalid_refuses, text_begin, text_not_split, text_refuses}
 use Rattle.tls_codec_base.proofs.texts.StringDeserializeBytes.tls_deserialize_bytes.Goals as goal
 
-pub returns-in_err-content-clause-err : goal.returns-in_err-content-clause-err
-returns-in_err-content-clause-err c =
+pub returns-in_err-content-clause-splits : goal.returns-in_err-content-clause-splits
+returns-in_err-content-clause-splits c =
     let p = err_from_is_err_and c.from_residual.result c.from_residual.ensures.1 in
-    rw (p.1, p.2) (text_refuses c.in_err-content.ensures.err)
+    rw (p.1, p.2) (text_refuses c.in_err-content.ensures.splits)
 
 pub returns-in_err-content-clause-named : goal.returns-in_err-content-clause-named
 returns-in_err-content-clause-named c =
     let p = err_from_is_err_and c.from_residual.result c.from_residual.ensures.1 in
     rw (p.1, p.2) (text_not_split _ _ c.in_err-content.ensures.named)
 
-pub returns-in_default-clause-err : goal.returns-in_default-clause-err
-returns-in_default-clause-err c =
-    invalid_refuses (record { content = _; rest = _; begins = c.in_ok-content.ensures.ok; invalid = c.in_default.ensures.cases.0 })
+pub returns-in_default-clause-splits : goal.returns-in_default-clause-splits
+returns-in_default-clause-splits c =
+    invalid_refuses (record { content = _; rest = _; begins = c.in_ok-content.ensures.splits; invalid = c.in_default.ensures.cases.0 }) (λ h. cc)
 
-pub returns-clause-ok : goal.returns-clause-ok
-returns-clause-ok c =
+pub returns-clause-splits : goal.returns-clause-splits
+returns-clause-splits c =
     let cases = c.in-Ok.ensures.cases in
-    rw (c.in_ok-owned.ensures.ok, cases.0) (text_begin cases.1 c.in_ok-content.ensures.ok)
+    rw (c.in_ok-owned.ensures.ok, cases.0) (text_begin cases.1 c.in_ok-content.ensures.splits)

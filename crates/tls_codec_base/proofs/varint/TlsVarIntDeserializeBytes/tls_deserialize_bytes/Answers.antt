@@ -1,5 +1,6 @@
-use Rattle.tls_codec_base.proofs.VarintValues.{slice_refused}
+use Rattle.tls_codec_wire.specs.VarintValue.{number_of}
+use Rattle.tls_codec_base.proofs.VarintValues.{varint_splits}
 use Rattle.tls_codec_base.proofs.varint.TlsVarIntDeserializeBytes.tls_deserialize_bytes.Goals as goal
 
-pub returns-clause-err : goal.returns-clause-err
-returns-clause-err c = slice_refused _ _ c.split_varint.ensures.err
+pub returns-clause-splits : goal.returns-clause-splits
+returns-clause-splits c = varint_splits number_of _ c.split_varint.result c.split_varint.ensures.ok c.split_varint.ensures.err

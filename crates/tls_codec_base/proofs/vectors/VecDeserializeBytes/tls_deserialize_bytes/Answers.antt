@@ -1,16 +1,23 @@
+use Rattle.std.proofs.Common.{inr}
 use Rattle.std.proofs.lemmas.Result.{err_from_is_err_and}
 use Rattle.tls_codec_base.proofs.CountedDecoding.{varint_count_refuses, varint_counted_begins, varint_counted_refuses}
 use Rattle.tls_codec_base.proofs.vectors.VecDeserializeBytes.tls_deserialize_bytes.Goals as goal
 
-pub returns-in_err-length-clause-err : goal.returns-in_err-length-clause-err
-returns-in_err-length-clause-err g c =
+pub returns-in_err-length-clause-splits : goal.returns-in_err-length-clause-splits
+returns-in_err-length-clause-splits g c =
     let p = err_from_is_err_and c.from_residual.result c.from_residual.ensures.1 in
     rw (p.1, p.2) (varint_count_refuses _ c.in_err-length.ensures.err)
 
-pub returns-in_err-elements-clause-err : goal.returns-in_err-elements-clause-err
-returns-in_err-elements-clause-err g c =
+pub returns-in_err-elements-clause-splits : goal.returns-in_err-elements-clause-splits
+returns-in_err-elements-clause-splits g c =
     let p = err_from_is_err_and c.from_residual-in_err-elements.result c.from_residual-in_err-elements.ensures.1 in
-    rw (p.1, p.2) (varint_counted_refuses _ c.in_ok-length.ensures.ok c.in_err-elements.ensures.err)
+    rw (p.1, p.2) (varint_counted_refuses _ c.in_ok-length.ensures.ok c.in_err-elements.ensures.splits)
 
-pub returns-clause-ok : goal.returns-clause-ok
-returns-clause-ok g c = varint_counted_begins _ c.in_ok-length.ensures.ok c.in_ok-elements.ensures.ok
+pub returns-clause-splits : goal.returns-clause-splits
+returns-clause-splits g c = varint_counted_begins _ c.in_ok-length.ensures.ok c.in_ok-elements.ensures.splits
+
+pub returns-in_err-elements-clause-named : goal.returns-in_err-elements-clause-named
+returns-in_err-elements-clause-named g c =
+    let p = err_from_is_err_and c.from_residual-in_err-elements.result c.from_residual-in_err-elements.ensures.1 in
+    let read = c.in_ok-length.ensures.ok in
+    rw (p.1, p.2) (inr (_, record { front = read.front; rest = _; whole = read.whole; is_front = read.spelled; named = c.in_err-elements.ensures.named }))

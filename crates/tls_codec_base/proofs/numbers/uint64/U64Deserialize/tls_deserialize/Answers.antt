@@ -4,7 +4,7 @@ use Rattle.tls_codec_base.specs.Decoding.{GaveSpelling}
 use Rattle.tls_codec_base.proofs.NumberCalls.{at_digits}
 use Rattle.tls_codec_base.proofs.numbers.uint64.U64Deserialize.tls_deserialize.Goals as goal
 
-pub returns-clause-ok : goal.returns-clause-ok
-returns-clause-ok g c =
+pub returns-clause-reads : goal.returns-clause-reads
+returns-clause-reads g c =
     let read = c.in_ok-digits.ensures in
-    at_digits (λ n. GaveSpelling g.R.Source.given (number 8) c.args.bytes.now c.read_digits.new.bytes (Number n)) 7 _ c.in_ok-digits.digits read.width c.from_be_bytes.ensures read.ok
+    at_digits (λ n. GaveSpelling g.R.Source.given (number 8) c.args.bytes.now c.read_digits.new.bytes (Number n)) 7 _ c.in_ok-digits.digits read.width c.from_be_bytes.ensures read.reads

@@ -4,7 +4,7 @@ use Rattle.tls_codec_base.specs.Decoding.{Begins}
 use Rattle.tls_codec_base.proofs.NumberCalls.{at_digits}
 use Rattle.tls_codec_base.proofs.numbers.uint64.U64DeserializeBytes.tls_deserialize_bytes.Goals as goal
 
-pub returns-clause-ok : goal.returns-clause-ok
-returns-clause-ok c =
+pub returns-clause-splits : goal.returns-clause-splits
+returns-clause-splits c =
     let found = c.in_ok-digits.ensures in
-    at_digits (λ n. Begins (number 8) c.args.bytes.now (Number n) c.in_ok-digits.rest.now) 7 _ c.in_ok-digits.digits found.width c.from_be_bytes.ensures found.ok
+    at_digits (λ n. Begins (number 8) c.args.bytes.now (Number n) c.in_ok-digits.rest.now) 7 _ c.in_ok-digits.digits found.width c.from_be_bytes.ensures found.splits

@@ -1,19 +1,20 @@
 use Rattle.std.proofs.Common.{arith}
 use Rattle.std.proofs.lemmas.Result.{err_from_is_err_and}
-use Rattle.tls_codec_base.specs.FieldsLaws.{fields_lawful, nothing_lawful}
+use Rattle.tls_codec_base.specs.laws.FormatLaws.{fields_meets, nothing_meets}
 use Rattle.tls_codec_base.proofs.FieldsEncoding.{fields_breaks_first, fields_breaks_others, fields_sends, nothing_sends}
 use Rattle.tls_codec_base.proofs.Sent.{sends_count}
 use Rattle.tls_codec_base.proofs.products.pair.Tuple2Serialize.tls_serialize.Goals as goal
 
-pub returns-in_err-first-clause-err : goal.returns-in_err-first-clause-err
-returns-in_err-first-clause-err g c =
+pub returns-in_err-first-clause-writes : goal.returns-in_err-first-clause-writes
+returns-in_err-first-clause-writes g c =
     let p = err_from_is_err_and c.from_residual.result c.from_residual.ensures.1 in
-    rw (p.1, p.2) (fields_breaks_first g.met.T.Size.lawful (fields_lawful _ _ _ _ g.met.U.Size.lawful nothing_lawful) c.in_err-first.ensures.err)
+    rw (p.1, p.2) (fields_breaks_first g.met.T.Size.lawful (fields_meets g.met.U.Size.lawful nothing_meets) c.in_err-first.ensures.writes)
 
-pub returns-in_err-second-clause-err : goal.returns-in_err-second-clause-err
-returns-in_err-second-clause-err g c =
+pub returns-in_err-second-clause-writes : goal.returns-in_err-second-clause-writes
+returns-in_err-second-clause-writes g c =
     let p = err_from_is_err_and c.from_residual-in_err-second.result c.from_residual-in_err-second.ensures.1 in
-    rw (p.1, p.2) (fields_breaks_others g.met.T.Size.lawful (fields_lawful _ _ _ _ g.met.U.Size.lawful nothing_lawful) c.in_ok-first.ensures.ok c.tls_serialize.ensures.counts (fields_breaks_first g.met.U.Size.lawful nothing_lawful c.in_err-second.ensures.err))
+    let second = fields_breaks_first g.met.U.Size.lawful nothing_meets c.in_err-second.ensures.writes in
+    rw (p.1, p.2) (fields_breaks_others g.met.T.Size.lawful (fields_meets g.met.U.Size.lawful nothing_meets) c.in_ok-first.ensures.writes second)
 
-pub returns-clause-ok : goal.returns-clause-ok
-returns-clause-ok g c = sends_count (fields_sends c.in_ok-first.ensures.ok (fields_sends c.in_ok-second.ensures.ok (nothing_sends _))) (omega (arith, c.saturating_add.ensures))
+pub returns-clause-writes : goal.returns-clause-writes
+returns-clause-writes g c = sends_count (fields_sends c.in_ok-first.ensures.writes (fields_sends c.in_ok-second.ensures.writes (nothing_sends _ _))) (omega (arith, c.saturating_add.ensures))

@@ -1,39 +1,39 @@
+use Rattle.std.proofs.Common.{inl, inr}
 use Rattle.std.proofs.lemmas.Result.{err_from_is_err_and}
-use Rattle.tls_codec_wire.proofs.Given.{gave_then}
-use Rattle.tls_codec_base.proofs.FieldsDecoding.{fields_given, fields_source_refuses_first, fields_source_refuses_others, nothing_given}
+use Rattle.tls_codec_base.specs.Format.{fields_format, nothing_format}
+use Rattle.tls_codec_base.proofs.FieldsDecoding.{fields_given, fields_leaves_first, fields_leaves_others, nothing_given, others_named_source}
 use Rattle.tls_codec_base.proofs.products.triple.Tuple3Deserialize.tls_deserialize.Goals as goal
 
-pub returns-in_err-first-clause-err : goal.returns-in_err-first-clause-err
-returns-in_err-first-clause-err g c =
+pub returns-in_err-first-clause-reads : goal.returns-in_err-first-clause-reads
+returns-in_err-first-clause-reads g c =
     let p = err_from_is_err_and c.from_residual.result c.from_residual.ensures.1 in
-    rw (p.1, p.2) (fields_source_refuses_first _ c.in_err-first.ensures.err)
+    rw (p.1, p.2) (fields_leaves_first (fields_format g.U.Size.format (fields_format g.V.Size.format nothing_format)) c.in_err-first.ensures.reads)
 
-pub returns-in_err-second-clause-gave : goal.returns-in_err-second-clause-gave
-returns-in_err-second-clause-gave g c = gave_then g.met.R.Source.gives_in_order c.tls_deserialize.ensures.gave c.tls_deserialize-2.ensures.gave
-
-pub returns-in_err-second-clause-err : goal.returns-in_err-second-clause-err
-returns-in_err-second-clause-err g c =
+pub returns-in_err-second-clause-reads : goal.returns-in_err-second-clause-reads
+returns-in_err-second-clause-reads g c =
     let source = g.met.R.Source in
     let p = err_from_is_err_and c.from_residual-in_err-second.result c.from_residual-in_err-second.ensures.1 in
-    rw (p.1, p.2) (fields_source_refuses_others _ _ _ source.gives_from_front source.no_count_falls g.met.T.Size.lawful c.in_ok-first.ensures.ok (fields_source_refuses_first _ c.in_err-second.ensures.err))
+    rw (p.1, p.2) (fields_leaves_others (fields_format g.U.Size.format (fields_format g.V.Size.format nothing_format)) source.gives_in_order source.gives_from_front source.no_count_falls g.met.T.Size.lawful c.in_ok-first.ensures.reads (fields_leaves_first (fields_format g.V.Size.format nothing_format) c.in_err-second.ensures.reads))
 
-pub returns-in_err-third-clause-gave : goal.returns-in_err-third-clause-gave
-returns-in_err-third-clause-gave g c =
-    let order = g.met.R.Source.gives_in_order in
-    gave_then order c.tls_deserialize.ensures.gave (gave_then order c.tls_deserialize-2.ensures.gave c.tls_deserialize-3.ensures.gave)
-
-pub returns-in_err-third-clause-err : goal.returns-in_err-third-clause-err
-returns-in_err-third-clause-err g c =
+pub returns-in_err-third-clause-reads : goal.returns-in_err-third-clause-reads
+returns-in_err-third-clause-reads g c =
     let source = g.met.R.Source in
     let p = err_from_is_err_and c.from_residual-in_err-third.result c.from_residual-in_err-third.ensures.1 in
-    rw (p.1, p.2) (fields_source_refuses_others _ _ _ source.gives_from_front source.no_count_falls g.met.T.Size.lawful c.in_ok-first.ensures.ok (fields_source_refuses_others _ _ _ source.gives_from_front source.no_count_falls g.met.U.Size.lawful c.in_ok-second.ensures.ok (fields_source_refuses_first _ c.in_err-third.ensures.err)))
+    rw (p.1, p.2) (fields_leaves_others (fields_format g.U.Size.format (fields_format g.V.Size.format nothing_format)) source.gives_in_order source.gives_from_front source.no_count_falls g.met.T.Size.lawful c.in_ok-first.ensures.reads (fields_leaves_others (fields_format g.V.Size.format nothing_format) source.gives_in_order source.gives_from_front source.no_count_falls g.met.U.Size.lawful c.in_ok-second.ensures.reads (fields_leaves_first nothing_format c.in_err-third.ensures.reads)))
 
-pub returns-clause-gave : goal.returns-clause-gave
-returns-clause-gave g c =
-    let order = g.met.R.Source.gives_in_order in
-    gave_then order c.tls_deserialize.ensures.gave (gave_then order c.tls_deserialize-2.ensures.gave c.tls_deserialize-3.ensures.gave)
-
-pub returns-clause-ok : goal.returns-clause-ok
-returns-clause-ok g c =
+pub returns-in_err-second-clause-named : goal.returns-in_err-second-clause-named
+returns-in_err-second-clause-named g c =
     let source = g.met.R.Source in
-    fields_given source.gives_in_order c.in_ok-first.ensures.ok (fields_given source.gives_in_order c.in_ok-second.ensures.ok (fields_given source.gives_in_order c.in_ok-third.ensures.ok (nothing_given source.gives_nothing _)))
+    let p = err_from_is_err_and c.from_residual-in_err-second.result c.from_residual-in_err-second.ensures.1 in
+    rw (p.1, p.2) (inr (others_named_source _ _ _ source.gives_from_front source.no_count_falls c.in_ok-first.ensures.reads (inl (c.in_err-second.ensures.reads.refused, c.in_err-second.ensures.named))))
+
+pub returns-in_err-third-clause-named : goal.returns-in_err-third-clause-named
+returns-in_err-third-clause-named g c =
+    let source = g.met.R.Source in
+    let p = err_from_is_err_and c.from_residual-in_err-third.result c.from_residual-in_err-third.ensures.1 in
+    rw (p.1, p.2) (inr (others_named_source _ _ _ source.gives_from_front source.no_count_falls c.in_ok-first.ensures.reads (inr (others_named_source _ _ _ source.gives_from_front source.no_count_falls c.in_ok-second.ensures.reads c.in_err-third.ensures.named))))
+
+pub returns-clause-reads : goal.returns-clause-reads
+returns-clause-reads g c =
+    let source = g.met.R.Source in
+    fields_given source.gives_in_order c.in_ok-first.ensures.reads (fields_given source.gives_in_order c.in_ok-second.ensures.reads (fields_given source.gives_in_order c.in_ok-third.ensures.reads (nothing_given source.gives_nothing _)))

@@ -1,30 +1,27 @@
 use Rattle.std.proofs.Common.{arith}
 use Rattle.std.proofs.lemmas.Result.{err_from_is_err_and}
-use Rattle.tls_codec_base.specs.FieldsLaws.{fields_lawful, nothing_lawful}
+use Rattle.tls_codec_base.specs.laws.FormatLaws.{fields_meets, nothing_meets}
 use Rattle.tls_codec_base.proofs.FieldsEncoding.{fields_breaks_first, fields_breaks_others, fields_sends, nothing_sends}
 use Rattle.tls_codec_base.proofs.Sent.{sends_count}
 use Rattle.tls_codec_base.proofs.products.triple.Tuple3Serialize.tls_serialize.Goals as goal
 
-pub returns-in_err-first-clause-err : goal.returns-in_err-first-clause-err
-returns-in_err-first-clause-err g c =
-    let last = fields_lawful _ _ _ _ g.met.V.Size.lawful nothing_lawful in
-    let others = fields_lawful _ _ _ _ g.met.U.Size.lawful last in
+pub returns-in_err-first-clause-writes : goal.returns-in_err-first-clause-writes
+returns-in_err-first-clause-writes g c =
+    let last = fields_meets g.met.V.Size.lawful nothing_meets in
     let p = err_from_is_err_and c.from_residual.result c.from_residual.ensures.1 in
-    rw (p.1, p.2) (fields_breaks_first g.met.T.Size.lawful others c.in_err-first.ensures.err)
+    rw (p.1, p.2) (fields_breaks_first g.met.T.Size.lawful (fields_meets g.met.U.Size.lawful last) c.in_err-first.ensures.writes)
 
-pub returns-in_err-second-clause-err : goal.returns-in_err-second-clause-err
-returns-in_err-second-clause-err g c =
-    let last = fields_lawful _ _ _ _ g.met.V.Size.lawful nothing_lawful in
-    let others = fields_lawful _ _ _ _ g.met.U.Size.lawful last in
+pub returns-in_err-second-clause-writes : goal.returns-in_err-second-clause-writes
+returns-in_err-second-clause-writes g c =
+    let last = fields_meets g.met.V.Size.lawful nothing_meets in
     let p = err_from_is_err_and c.from_residual-in_err-second.result c.from_residual-in_err-second.ensures.1 in
-    rw (p.1, p.2) (fields_breaks_others g.met.T.Size.lawful others c.in_ok-first.ensures.ok c.tls_serialize.ensures.counts (fields_breaks_first g.met.U.Size.lawful last c.in_err-second.ensures.err))
+    rw (p.1, p.2) (fields_breaks_others g.met.T.Size.lawful (fields_meets g.met.U.Size.lawful last) c.in_ok-first.ensures.writes (fields_breaks_first g.met.U.Size.lawful last c.in_err-second.ensures.writes))
 
-pub returns-in_err-third-clause-err : goal.returns-in_err-third-clause-err
-returns-in_err-third-clause-err g c =
-    let last = fields_lawful _ _ _ _ g.met.V.Size.lawful nothing_lawful in
-    let others = fields_lawful _ _ _ _ g.met.U.Size.lawful last in
+pub returns-in_err-third-clause-writes : goal.returns-in_err-third-clause-writes
+returns-in_err-third-clause-writes g c =
+    let last = fields_meets g.met.V.Size.lawful nothing_meets in
     let p = err_from_is_err_and c.from_residual-in_err-third.result c.from_residual-in_err-third.ensures.1 in
-    rw (p.1, p.2) (fields_breaks_others g.met.T.Size.lawful others c.in_ok-first.ensures.ok c.tls_serialize.ensures.counts (fields_breaks_others g.met.U.Size.lawful last c.in_ok-second.ensures.ok c.tls_serialize-2.ensures.counts (fields_breaks_first g.met.V.Size.lawful nothing_lawful c.in_err-third.ensures.err)))
+    rw (p.1, p.2) (fields_breaks_others g.met.T.Size.lawful (fields_meets g.met.U.Size.lawful last) c.in_ok-first.ensures.writes (fields_breaks_others g.met.U.Size.lawful last c.in_ok-second.ensures.writes (fields_breaks_first g.met.V.Size.lawful nothing_meets c.in_err-third.ensures.writes)))
 
-pub returns-clause-ok : goal.returns-clause-ok
-returns-clause-ok g c = sends_count (fields_sends c.in_ok-first.ensures.ok (fields_sends c.in_ok-second.ensures.ok (fields_sends c.in_ok-third.ensures.ok (nothing_sends _)))) (omega (arith, c.saturating_add.ensures, c.saturating_add-2.ensures))
+pub returns-clause-writes : goal.returns-clause-writes
+returns-clause-writes g c = sends_count (fields_sends c.in_ok-first.ensures.writes (fields_sends c.in_ok-second.ensures.writes (fields_sends c.in_ok-third.ensures.writes (nothing_sends _ _)))) (omega (arith, c.saturating_add.ensures, c.saturating_add-2.ensures))

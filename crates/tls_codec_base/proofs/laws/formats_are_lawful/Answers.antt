@@ -1,0 +1,12 @@
+use Rattle.tls_codec_base.specs.laws.FormatLaws.{fields_meets, fixed_list_meets, list_meets, nothing_meets, option_meets, text_meets}
+use Rattle.tls_codec_base.proofs.laws.formats_are_lawful.Goals as goal
+
+pub returns : goal.returns
+returns g c = record {
+  options = option_meets g.met.T.Size.lawful;
+  none = nothing_meets;
+  more = fields_meets g.met.T.Size.lawful g.met.U.Size.lawful;
+  lists = list_meets g.met.T.Size.lawful;
+  fixed = λ k. fixed_list_meets k g.met.T.Size.lawful;
+  texts = text_meets;
+}

@@ -1,0 +1,24 @@
+use Rattle.std.proofs.Common.{◌∙◌, refl, arith}
+use Rattle.std.proofs.lemmas.Result.{err_from_is_err_and}
+use Rattle.tls_codec_base.specs.laws.FormatLaws.{fields_meets, nothing_meets}
+use Rattle.tls_codec_base.proofs.Appending.{appended_size, cut_off, fields_appended, first_not_appended, nothing_appended, others_not_appended}
+use Rattle.tls_codec_base.proofs.products.pair.Tuple2Serialize.tls_serialize_into.Goals as goal
+
+pub returns-in_err-first-clause-appends : goal.returns-in_err-first-clause-appends
+returns-in_err-first-clause-appends g c =
+    let p = err_from_is_err_and c.from_residual.result c.from_residual.ensures.1 in
+    let refused = c.in_err-first.ensures.appends in
+    rw (p.1, p.2) (first_not_appended g.met.T.Size.lawful (fields_meets g.met.U.Size.lawful nothing_meets) refused refused.kept)
+
+pub returns-in-Ok-clause-appends : goal.returns-in-Ok-clause-appends
+returns-in-Ok-clause-appends g c =
+    let first = c.in_ok-first.ensures.appends in
+    let second = c.in-Ok.ensures.appends in
+    fields_appended first (fields_appended second (nothing_appended _) refl) (omega (arith, c.saturating_add.ensures, appended_size first, appended_size second))
+
+pub returns-in-Err-clause-appends : goal.returns-in-Err-clause-appends
+returns-in-Err-clause-appends g c =
+    let first = c.in_ok-first.ensures.appends in
+    let refused = c.in-Err.ensures.appends in
+    let kept = cut_off _ c.truncate.ensures.items (omega (arith, c.len-at.ensures)) (refused.kept ∙ first.held) in
+    others_not_appended g.met.T.Size.lawful (fields_meets g.met.U.Size.lawful nothing_meets) first (first_not_appended g.met.U.Size.lawful nothing_meets refused refused.kept) kept

@@ -1,0 +1,164 @@
+//! Encoders into one buffer, each size read back, and a type of which no value has a spelling.
+ghost use Rattle.std.specs.Prelude.{◌≡◌, true};
+ghost use Rattle.tls_codec_wire.specs.declared.error.Error.TheVariants.{InvalidInput};
+ghost use Rattle.tls_codec_base.specs.Tree.{Empty};
+
+use super::plain::{is_read, is_written_alone};
+use crate::traits::{Serialize, SerializeBytes, Size};
+use crate::{lists, opaque};
+use std::alloc::Global;
+use std::test::Fail;
+use tls_codec_wire::{Error, Sink};
+
+// No bytes spell it, and more are announced than there are.
+#[derive(Drop)]
+struct Huge;
+
+impl Size for Huge {
+    ghost plain = { λ _. Empty };
+
+    ghost format = { record {
+      spells = λ d b v. ⊥;
+      announced = λ v. 0xffff_ffff_ffff_ffff;
+      lean = true;
+      refuses = λ v e. e ≡ InvalidInput;
+      too_long = λ v. ⊥;
+    } };
+
+    fn tls_serialized_len(&self) -> usize {
+        usize::MAX
+    }
+
+    ghost lawful = { record {
+      spelled = record {
+        one = λ s t x y v w p q e. absurd p;
+        shortest = λ s v p. absurd p;
+        written = λ s v p. p;
+        full = λ s v p t q. q;
+        announces = λ s v p. absurd p.spelled;
+      };
+      unspelled = λ v e p s q. q;
+      not_memory = λ v p. Prim.cc;
+      long = λ v p. absurd p;
+    } };
+}
+
+impl Serialize for Huge {
+    fn tls_serialize<W: Sink>(&self, _writer: &mut W) -> Result<usize, Error> {
+        Err(Error::InvalidInput)
+    }
+}
+
+impl SerializeBytes for Huge {
+    fn tls_serialize_bytes(&self, _alloc: Global) -> Result<Vec<u8>, Error> {
+        Err(Error::InvalidInput)
+    }
+}
+
+#[test]
+fn lists_longer_than_any_length(rt: HostRuntime) -> Result<(), Fail> {
+    let too_long = Err(Error::InvalidVectorLength);
+    let list = [Huge, Huge];
+    assert_eq!(rt; list.as_slice().tls_serialized_len(), usize::MAX);
+    assert_eq!(rt; lists::content_len(&list), too_long);
+    let mut out = [0xaa, 0xbb].to_vec(rt.alloc())?;
+    assert_eq!(rt; list.as_slice().tls_serialize(&mut out), too_long);
+    assert_eq!(rt; out.as_slice(), [0xaa, 0xbb].as_slice());
+    assert_eq!(rt; list.as_slice().tls_serialize_into(&mut out), too_long);
+    assert_eq!(rt; out.as_slice(), [0xaa, 0xbb].as_slice());
+    Ok(())
+}
+
+#[test]
+fn a_refused_element_leaves_the_vector(rt: HostRuntime) -> Result<(), Fail> {
+    let alloc = rt.alloc();
+    let refused = Err(Error::InvalidInput);
+    let list = [None, Some(Huge)];
+    let mut out = [0xaa, 0xbb].to_vec(alloc)?;
+    assert_eq!(rt; lists::append(&mut out, &list), refused);
+    assert_eq!(rt; out.as_slice(), [0xaa, 0xbb].as_slice());
+    assert_eq!(rt; lists::append_bytes(alloc, &mut out, &list), refused);
+    assert_eq!(rt; out.as_slice(), [0xaa, 0xbb].as_slice());
+    assert_eq!(rt; (7u8, Huge).tls_serialize_into(&mut out), refused);
+    assert_eq!(rt; out.as_slice(), [0xaa, 0xbb].as_slice());
+    assert_eq!(rt; (7u8, 8u8, Huge).tls_serialize_into(&mut out), refused);
+    assert_eq!(rt; out.as_slice(), [0xaa, 0xbb].as_slice());
+    Ok(())
+}
+
+// With an allocation refused in turn (`rt try --test --fail-alloc N`) the other arm is run.
+#[test]
+fn appended_whole_or_not_at_all(rt: HostRuntime) {
+    let Ok(mut out) = [0xaa, 0xbb].to_vec(rt.alloc()) else {
+        return;
+    };
+    match (7u8, [1u16, 2].as_slice(), "é").tls_serialize_into(&mut out) {
+        Ok(count) => {
+            assert_eq!(rt; count, 9);
+            let whole = [0xaa, 0xbb, 7, 4, 0, 1, 0, 2, 2, 0xc3, 0xa9];
+            assert_eq!(rt; out.as_slice(), whole.as_slice());
+        }
+        Err(error) => {
+            assert_eq!(rt; error, Error::OutOfMemory);
+            assert_eq!(rt; out.as_slice(), [0xaa, 0xbb].as_slice());
+        }
+    }
+}
+
+#[test]
+fn engines_append(rt: HostRuntime) -> Result<(), Fail> {
+    let mut out = [0xee].to_vec(rt.alloc())?;
+    assert_eq!(rt; lists::append(&mut out, &[1u16, 2]), Ok(4));
+    assert_eq!(rt;
+        lists::append_bytes(rt.alloc(), &mut out, &[Some(3u8), None]),
+        Ok(3)
+    );
+    assert_eq!(rt; opaque::append(&mut out, &[9, 8]), Ok(3));
+    assert_eq!(rt;
+        out.as_slice(),
+        [0xee, 0, 1, 0, 2, 1, 3, 0, 2, 9, 8].as_slice()
+    );
+    Ok(())
+}
+
+// The inner length has one byte, and the outer one has one or two.
+#[test]
+fn lengths_are_put_in_front(rt: HostRuntime) -> Result<(), Fail> {
+    let alloc = rt.alloc();
+    for (zeros, count, front) in [
+        (62, 64, [0x3f, 0x3e, 0x00].as_slice()),
+        (63, 66, [0x40, 0x40, 0x3f, 0x00].as_slice()),
+    ] {
+        let mut inner = Vec::new(alloc);
+        inner.resize(zeros, 0u8)?;
+        let mut lists = Vec::new(alloc);
+        assert!(rt; lists.push(inner).is_ok());
+        let mut out = Vec::new(alloc);
+        assert_eq!(rt; lists.tls_serialize_into(&mut out)?, count);
+        assert_eq!(rt; out.len(), count);
+        assert!(rt; out.as_slice().starts_with(front));
+        is_written_alone(&rt, alloc, &lists, &out)?;
+    }
+    Ok(())
+}
+
+#[test]
+fn each_size_is_read_back(rt: HostRuntime) -> Result<(), Fail> {
+    let alloc = rt.alloc();
+    let mut bytes = Vec::new(alloc);
+    let mut text = String::new(alloc);
+    for size in 0..=300usize {
+        let width = if size < 64 { 1 } else { 2 };
+        let form = bytes.tls_serialize_detached(alloc)?;
+        assert_eq!(rt; form.len(), width + size);
+        is_written_alone(&rt, alloc, &bytes, &form)?;
+        is_read(&rt, alloc, &form, &bytes, &[])?;
+        let form = text.tls_serialize_detached(alloc)?;
+        assert_eq!(rt; form.len(), width + size);
+        is_written_alone(&rt, alloc, &text, &form)?;
+        is_read(&rt, alloc, &form, &text, &[])?;
+        bytes.push(7u8)?;
+        text.push('x')?;
+    }
+    Ok(())
+}

@@ -1,0 +1,119 @@
+//! What parts refuse, handed on by what they are parts of, and what the list engines count then.
+ghost use Rattle.std.specs.Prelude.{None};
+ghost use Rattle.tls_codec_wire.specs.Counts.{NoneFell, fall_never, stay};
+
+use super::plain::is_refused;
+use super::{NO_BYTES, NOT_FILLED, OTHER_TAG};
+use crate::lists::{self, Turns};
+use crate::traits::{Deserialize, DeserializeBytes};
+use std::alloc::Global;
+use std::process::Abort;
+use tls_codec_wire::{Error, Fault, Source};
+
+// Gives its bytes, and then fails.
+#[derive(Drop)]
+struct Torn<'a> {
+    bytes: &'a [u8],
+    failures: u64,
+}
+
+impl Source for Torn<'_> {
+    ghost coming = { λ _. None };
+
+    ghost counts = { λ s. record { failures = s.failures; interruptions = 0; shortages = 0 } };
+
+    ghost given = { λ a g b. NoneFell (record { failures = a.failures; interruptions = 0; shortages = 0 })
+        (record { failures = b.failures; interruptions = 0; shortages = 0 }) };
+
+    fn pull(&mut self, into: &mut [u8]) -> Result<usize, Fault> {
+        if self.bytes.is_empty() {
+            self.failures = self.failures.saturating_add(1);
+            return Err(Fault::Failed);
+        }
+        self.bytes.pull(into)
+    }
+
+    ghost gives_nothing = { λ s. stay _ };
+
+    ghost gives_in_order = { λ a xs b ys c p q. fall_never p q };
+
+    ghost gives_from_front = { λ a xs b p. tt };
+
+    ghost no_count_falls = { λ a xs b p. p };
+}
+
+#[test]
+fn a_source_that_fails_in_a_list(rt: HostRuntime) {
+    for bytes in [[].as_slice(), &[4], &[4, 0], &[4, 0, 1, 0]] {
+        let mut source = Torn { bytes, failures: 0 };
+        assert_eq!(rt;
+            <Vec<u16>>::tls_deserialize(rt.alloc(), &mut source).err(),
+            Some(Error::DecodingError("read failed"))
+        );
+    }
+}
+
+#[test]
+fn refusals_of_parts(rt: HostRuntime) {
+    let alloc = rt.alloc();
+    is_refused::<(u8, Option<u16>)>(&rt, alloc, &[5, 2], OTHER_TAG);
+    for bytes in [[2].as_slice(), &[0, 2], &[0, 0, 2]] {
+        is_refused::<(Option<u8>, Option<u8>, Option<u8>)>(&rt, alloc, bytes, OTHER_TAG);
+    }
+    is_refused::<Box<Option<u8>>>(&rt, alloc, &[2], OTHER_TAG);
+    is_refused::<Option<Option<u8>>>(&rt, alloc, &[1, 2], OTHER_TAG);
+    is_refused::<Vec<Option<u8>>>(&rt, alloc, &[1, 2], OTHER_TAG);
+    assert_eq!(rt;
+        <Option<u8>>::tls_deserialize_exact(alloc, &[2]),
+        Err(OTHER_TAG)
+    );
+    assert_eq!(rt;
+        <Option<u8>>::tls_deserialize_exact_bytes(alloc, &[2]),
+        Err(OTHER_TAG)
+    );
+}
+
+// The engines refuse the bytes, after so many turns.
+fn is_refused_after<T: Deserialize + DeserializeBytes>(
+    rt: &impl Abort,
+    alloc: Global,
+    bytes: &[u8],
+    length: usize,
+    (by_slice, by_reader): (Error, Error),
+    count: u64,
+) {
+    let mut turns = Turns::new();
+    let refused = lists::from_slice::<T>(alloc, bytes, length, &mut turns);
+    assert_eq!(rt; refused.err(), Some(by_slice));
+    assert_eq!(rt; turns.count(), count);
+    let mut source = bytes;
+    let mut turns = Turns::new();
+    let refused = lists::from_reader::<T, &[u8]>(alloc, &mut source, length, &mut turns);
+    assert_eq!(rt; refused.err(), Some(by_reader));
+    assert_eq!(rt; turns.count(), count);
+}
+
+#[test]
+fn turns_of_refused_elements(rt: HostRuntime) {
+    let alloc = rt.alloc();
+    let end = Error::EndOfStream;
+    is_refused_after::<u8>(&rt, alloc, &[1, 2], 10, (end, end), 3);
+    is_refused_after::<u16>(&rt, alloc, &[0, 1, 0, 2], 3, (NOT_FILLED, end), 2);
+    is_refused_after::<()>(&rt, alloc, &[], 5, (NO_BYTES, NO_BYTES), 1);
+    let mut turns = Turns::new();
+    let found = lists::from_slice::<u8>(alloc, &[0xff], 0, &mut turns);
+    assert!(rt;
+        found.is_ok_and(|(elements, rest)| elements.is_empty() && rest == [0xff].as_slice())
+    );
+    assert_eq!(rt; turns.count(), 0);
+}
+
+// A body that asks for the declared room has no memory for it.
+#[test]
+fn room_by_declared_length(rt: HostRuntime) {
+    let alloc = rt.alloc();
+    let end = Error::EndOfStream;
+    let greatest = [0xff, 0xff, 0xff, 0xff, 0xff, 0xff, 0xff, 0xff, 0, 1];
+    is_refused::<Vec<u16>>(&rt, alloc, &greatest, end);
+    is_refused_after::<u16>(&rt, alloc, &[0], isize::MAX as usize, (end, end), 1);
+}

@@ -1,0 +1,97 @@
+// A fault is answered at once, and no call is made behind it, nor behind the end.
+use super::devices::{ENDED, FailingOnce, Fives, Keeper, Plan};
+use crate::device::{Fault, Source};
+use crate::error::Error;
+use crate::gather::read_bytes_bounded;
+use crate::outside::Outside;
+use crate::quic::{read_varint, write_varint};
+use crate::transfer::{read_exactly, write_all};
+use crate::varint::TlsVarInt;
+use crate::vlen::{read_length, write_length};
+use std::io::ErrorKind;
+use std::test::Fail;
+
+// Fails once, and then works.
+fn failing_once(fault: Fault) -> Plan {
+    Plan {
+        first: Some(fault),
+        bytes: 9,
+        interruptions: 0,
+        after: None,
+    }
+}
+
+#[test]
+fn a_read_that_failed_is_not_tried_again(rt: HostRuntime) {
+    for (fault, error) in [
+        (Fault::Failed, Error::DecodingError("read failed")),
+        (Fault::NoMemory, Error::OutOfMemory),
+    ] {
+        let mut src = Fives::new(failing_once(fault));
+        assert_eq!(rt; read_exactly(&mut src, &mut [0; 2]), Err(error));
+        assert_eq!(rt; src.progress.calls, 1);
+        let mut src = Fives::new(failing_once(fault));
+        let refused = read_bytes_bounded(rt.alloc(), &mut src, 2);
+        assert_eq!(rt; refused.err(), Some(error));
+        assert_eq!(rt; src.progress.calls, 1);
+        let mut src = Fives::new(failing_once(fault));
+        assert_eq!(rt; read_varint(&mut src), Err(error));
+        assert_eq!(rt; src.progress.calls, 1);
+        let mut src = Fives::new(failing_once(fault));
+        assert_eq!(rt; read_length(&mut src), Err(error));
+        assert_eq!(rt; src.progress.calls, 1);
+    }
+}
+
+#[test]
+fn a_write_that_failed_is_not_tried_again(rt: HostRuntime) -> Result<(), Fail> {
+    let n = TlsVarInt::try_from(64)?;
+    for (fault, error) in [
+        (Fault::Failed, Error::EncodingError("write failed")),
+        (Fault::NoMemory, Error::OutOfMemory),
+    ] {
+        let mut sink = Keeper::new(Vec::new(rt.alloc()), failing_once(fault));
+        assert_eq!(rt; write_all(&mut sink, &[1, 2]), Err(error));
+        assert_eq!(rt; sink.progress.calls, 1);
+        let mut sink = Keeper::new(Vec::new(rt.alloc()), failing_once(fault));
+        assert_eq!(rt; write_varint(&mut sink, n), Err(error));
+        assert_eq!(rt; sink.progress.calls, 1);
+        let mut sink = Keeper::new(Vec::new(rt.alloc()), failing_once(fault));
+        assert_eq!(rt; write_length(&mut sink, 64), Err(error));
+        assert_eq!(rt; sink.progress.calls, 1);
+    }
+    Ok(())
+}
+
+#[test]
+fn the_end_is_asked_for_once(rt: HostRuntime) {
+    let one = Plan { bytes: 1, ..ENDED };
+    let mut src = Fives::new(one);
+    let refused = read_exactly(&mut src, &mut [0; 3]);
+    assert_eq!(rt; refused, Err(Error::EndOfStream));
+    assert_eq!(rt; src.progress.calls, 2);
+    let mut src = Fives::new(one);
+    let refused = read_bytes_bounded(rt.alloc(), &mut src, 3);
+    assert_eq!(rt; refused.err(), Some(Error::EndOfStream));
+    assert_eq!(rt; src.progress.calls, 2);
+    let mut src = Fives::new(ENDED);
+    assert_eq!(rt; read_length(&mut src), Err(Error::EndOfStream));
+    assert_eq!(rt; src.progress.calls, 1);
+}
+
+#[test]
+fn a_reader_outside_is_read_once_a_pull(rt: HostRuntime) {
+    for (kind, fault) in [
+        (ErrorKind::Interrupted, Fault::Interrupted),
+        (ErrorKind::OutOfMemory, Fault::NoMemory),
+        (ErrorKind::PermissionDenied, Fault::Failed),
+    ] {
+        let mut reader = FailingOnce { kind, reads: 0 };
+        let mut src = Outside::new(&mut reader);
+        let mut into = [0; 2];
+        assert_eq!(rt; src.pull(&mut into), Err(fault));
+        assert_eq!(rt; src.pull(&mut into), Ok(1));
+        assert_eq!(rt; into, [5, 0]);
+        assert_eq!(rt; reader.reads, 2);
+    }
+}

@@ -1,4 +1,0 @@
-pub mod Reading
-pub mod Paths
-pub mod KindNames
-pub mod Bytes

@@ -1,0 +1,74 @@
+//! Reading the input, and the bytes that its text stands for.
+ghost use Rattle.std.specs.Prelude.{◌≡◌, ◌<◌, ◌≤◌, [], length, take, IfOk, IfErr, OnOk, OnErr};
+ghost use Rattle.std.specs.Io.KnownBytes.{IsAtEnd};
+ghost use Rattle.tls_codec_wire.specs.Counts.{OnlyInterrupted};
+ghost use Rattle.tls_codec_wire.specs.Device.{Gave};
+ghost use Rattle.tlsview_run.specs.Input.{GaveAll, StandsFor, WhyNoBytes, WhyNoPiece, WhyNoText};
+
+use crate::fault::ViewFault;
+use hex::FromHexError;
+use std::alloc::Global;
+use tls_codec_wire::{Fault, MOST_INTERRUPTIONS, Source};
+
+/// The greatest number of bytes that an input may have.
+const LONGEST: usize = 1_048_576;
+
+/// The most bytes that are asked for in one call.
+const PIECE: usize = 4096;
+
+/// Reads the input to its end. Of an input that is too long it takes one byte more than an input
+/// may have.
+pub fn read_text<R: Source>(alloc: Global, input: &mut R) -> Result<Vec<u8>, ViewFault>
+    ensures gave { Gave R.given input.old input.new }
+    ensures ok { IfOk result (λ text. GaveAll R.Source input.old input.new text.items) }
+    ensures err { IfErr result (WhyNoText R.Source input.old input.new) }
+{
+    let mut text = Vec::new(alloc);
+    let mut piece = [0u8; PIECE];
+    while text.len() <= LONGEST {
+        let room = PIECE.min(LONGEST + 1 - text.len());
+        let count = next_piece(input, &mut piece[..room])?;
+        if count == 0 {
+            return Ok(text);
+        }
+        text.extend_from_slice(&piece[..count])?;
+    }
+    Err(ViewFault::Long)
+}
+
+/// Pulls once, and again after an interruption, up to 16 times in a row.
+fn next_piece<R: Source>(input: &mut R, into: &mut [u8]) -> Result<usize, ViewFault>
+    ensures bound { IfOk result (λ count. count ≤ length into.new) }
+    ensures gave { IfOk result (λ count. R.given input.old (take count into.new) input.new) }
+    ensures calm { OnOk result (OnlyInterrupted (R.counts input.old) (R.counts input.new)) }
+    ensures kept { OnErr result (R.given input.old [] input.new) }
+    ensures end { result ≡ Ok 0 → 0 < length into.old → IsAtEnd (R.coming input.new) }
+    ensures err { IfErr result (WhyNoPiece (R.counts input.old) (R.counts input.new)) }
+{
+    for _row in 0..=MOST_INTERRUPTIONS {
+        match input.pull(into) {
+            Ok(count) => return Ok(count),
+            Err(Fault::Interrupted) => {}
+            Err(Fault::NoMemory) => return Err(ViewFault::Memory),
+            Err(Fault::Failed) => return Err(ViewFault::Read),
+        }
+    }
+    Err(ViewFault::Read)
+}
+
+/// The bytes that a text stands for.
+pub fn decode(alloc: Global, text: &[u8]) -> Result<Vec<u8>, ViewFault>
+    ensures ok { IfOk result (λ bytes. StandsFor text.now bytes.items) }
+    ensures err { IfErr result (WhyNoBytes text.now) }
+{
+    let digits: Vec<u8> = text
+        .iter()
+        .copied()
+        .filter(|byte| !matches!(byte, b'\t' | b'\n' | b'\r' | b' '))
+        .collect(alloc)?;
+    match hex::decode(alloc, &digits) {
+        Ok(bytes) => Ok(bytes),
+        Err(FromHexError::OutOfMemory) => Err(ViewFault::Memory),
+        Err(_) => Err(ViewFault::Hex),
+    }
+}

@@ -1,0 +1,166 @@
+// What no clause says: printed texts of worked inputs, that calls succeed, and how runs and the program end.
+mod answers;
+mod devices;
+mod views;
+
+use crate::fault::ViewFault;
+use crate::run::run;
+use devices::{Narrow, Trickle};
+use std::alloc::Global;
+use std::io::ErrorKind;
+use std::test::Fail;
+use tls_codec_wire::Outside;
+
+// The outcome of a run over a text in memory, and what was printed.
+fn run_on(alloc: Global, kind: &str, mut text: &[u8]) -> (Result<bool, ViewFault>, Vec<u8>) {
+    let mut out = Vec::new(alloc);
+    let outcome = run(alloc, kind, &mut text, &mut out);
+    (outcome, out)
+}
+
+// No contract can say that memory is there: this fails for a run that always answers that it isn't.
+#[test]
+fn run_always_memory(rt: HostRuntime) {
+    let (outcome, out) = run_on(rt.alloc(), "option-u16", b"010007ee\n");
+    assert_eq!(rt; outcome, Ok(true));
+    assert!(rt; !out.is_empty());
+}
+
+#[test]
+fn blanks_and_cases_make_no_difference(rt: HostRuntime) {
+    let lines = "slice ok 2730 rest ef\nreader ok 2730 rest ef\nleast 0aaa\n";
+    for text in [
+        "0aaaef",
+        "0AAAEF",
+        "0aAaEf\n",
+        " 0\t aa\r\nae\nf  ",
+        "\r0aaa ef",
+    ] {
+        let (outcome, out) = run_on(rt.alloc(), "u16", text.as_bytes());
+        assert_eq!(rt; outcome, Ok(true), "{text}");
+        assert_eq!(rt; out.as_slice(), lines.as_bytes(), "{text}");
+    }
+}
+
+#[test]
+fn a_text_that_is_no_hex_is_refused(rt: HostRuntime) {
+    for text in ["123", "0x01", "00-1", "0", "zz", "00\u{b}00", "é"] {
+        let (outcome, out) = run_on(rt.alloc(), "u16", text.as_bytes());
+        assert_eq!(rt; outcome, Err(ViewFault::Hex), "{text}");
+        assert!(rt; out.is_empty());
+    }
+}
+
+// Kinds are compared byte for byte, and before the input is read.
+#[test]
+fn other_kinds_are_refused(rt: HostRuntime) {
+    for kind in [
+        "u99",
+        "",
+        "U16",
+        "u16 ",
+        "u1",
+        "option-u1",
+        "option-u166",
+        "option_u16",
+    ] {
+        for text in ["0007", "", "zz"] {
+            let mut rest = text.as_bytes();
+            let mut out = Vec::new(rt.alloc());
+            let outcome = run(rt.alloc(), kind, &mut rest, &mut out);
+            assert_eq!(rt; outcome, Err(ViewFault::Kind), "{kind}");
+            assert_eq!(rt; rest, text.as_bytes());
+            assert!(rt; out.is_empty());
+        }
+    }
+}
+
+#[test]
+fn an_input_has_a_greatest_length(rt: HostRuntime) -> Result<(), Fail> {
+    for (length, blank, answer, printed) in [
+        (1_048_577, b'0', Err(ViewFault::Long), 0),
+        (1_048_577, b'\n', Err(ViewFault::Long), 0),
+        (1_048_580, b'z', Err(ViewFault::Long), 0),
+        (1_048_576, b'0', Ok(true), 2_097_190),
+        (1_048_576, b' ', Ok(false), 53),
+        (1_048_576, b'z', Err(ViewFault::Hex), 0),
+    ] {
+        let text = vec![in rt.alloc(); blank; length]?;
+        let (outcome, out) = run_on(rt.alloc(), "u16", &text);
+        assert_eq!(rt; outcome, answer, "{length} bytes");
+        assert_eq!(rt; out.len(), printed, "{length} bytes");
+    }
+    Ok(())
+}
+
+#[test]
+fn a_run_ends_as_its_input_does(rt: HostRuntime) {
+    for (text, interruptions, end, answer) in [
+        (
+            "",
+            0,
+            Some(ErrorKind::PermissionDenied),
+            Err(ViewFault::Read),
+        ),
+        (
+            "0007",
+            0,
+            Some(ErrorKind::PermissionDenied),
+            Err(ViewFault::Read),
+        ),
+        (
+            "0007",
+            0,
+            Some(ErrorKind::Interrupted),
+            Err(ViewFault::Read),
+        ),
+        (
+            "0007",
+            0,
+            Some(ErrorKind::OutOfMemory),
+            Err(ViewFault::Memory),
+        ),
+        (
+            "zz",
+            0,
+            Some(ErrorKind::PermissionDenied),
+            Err(ViewFault::Read),
+        ),
+        ("0007", 17, None, Err(ViewFault::Read)),
+        ("0007", 16, None, Ok(true)),
+        ("0007", 0, None, Ok(true)),
+    ] {
+        let mut input = Outside::new(Trickle::new(text.as_bytes(), interruptions, end));
+        let mut out = Vec::new(rt.alloc());
+        let outcome = run(rt.alloc(), "u16", &mut input, &mut out);
+        assert_eq!(rt;
+            outcome,
+            answer,
+            "{text} behind {interruptions} interruptions"
+        );
+        let lines = "slice ok 7 rest -\nreader ok 7 rest -\nleast 0007\n";
+        let printed = if answer.is_ok() { lines } else { "" };
+        assert_eq!(rt; out.as_slice(), printed.as_bytes());
+    }
+}
+
+#[test]
+fn a_sink_that_fails_has_a_beginning(rt: HostRuntime) {
+    for (room, end, received) in [
+        (3, ErrorKind::PermissionDenied, "sli"),
+        (0, ErrorKind::PermissionDenied, ""),
+        (27, ErrorKind::OutOfMemory, "slice ok some 7 rest ee\nrea"),
+        (5, ErrorKind::Interrupted, "slice"),
+    ] {
+        let mut input = b"010007ee\n".as_slice();
+        let mut out = Narrow::new(Vec::new(rt.alloc()), room, end);
+        let outcome = run(
+            rt.alloc(),
+            "option-u16",
+            &mut input,
+            &mut Outside::new(&mut out),
+        );
+        assert_eq!(rt; outcome, Err(ViewFault::Write));
+        assert_eq!(rt; out.taken.as_slice(), received.as_bytes());
+    }
+}
