@@ -1,13 +1,14 @@
 -- What decoders answer.
-use Rattle.std.specs.Prelude.{◌≡◌, ◌≢◌, ◌<◌, ◌⊎◌, ℕ, List, ◌++◌, length, Bool, false, Option, None, Some, Result, Ok, Err, ⊤}
+use Rattle.std.specs.Prelude.{◌≡◌, ◌≢◌, ◌<◌, ◌⊎◌, ℕ, List, ◌++◌, length, Bool, false, Option, None, Some, Result, Ok, Err, Vec, ⊤}
+use Rattle.std.specs.Global.{Global}
 use Rattle.tls_codec_wire.specs.Counts.{Counts, FaultIsCounted, RoseBy}
 use Rattle.std.specs.Borrow.{Bor}
 use Rattle.tls_codec_wire.specs.Device.{Gave}
 use Rattle.tls_codec_wire.specs.declared.device.Source.{Ghosts}
 use Rattle.tls_codec_wire.specs.declared.error.Error.{Error}
 use Rattle.tls_codec_wire.specs.declared.error.Error.TheVariants.{OutOfMemory, TrailingData}
-use Rattle.tls_codec_base.specs.Tree.{Tree}
-use Rattle.tls_codec_base.specs.Grammar.{Grammar, Reading}
+use Rattle.tls_codec_base.specs.Tree.{Tree, trees}
+use Rattle.tls_codec_base.specs.Grammar.{Grammar, Reading, content}
 use Rattle.tls_codec_base.specs.Format.{Format}
 
 -- ---- from a slice
@@ -89,3 +90,11 @@ Splits f plain x (Err e) = Refuses f.spells f.lean x e
 abbrev pub ReadsWhole : {T : Type 0} → Format → (T → Tree) → List ℕ → Result T Error → Type 0
 ReadsWhole f plain x (Ok v) = f.spells Reading x (plain v)
 ReadsWhole f plain x (Err e) = RefusesWhole f.spells f.lean x e
+
+-- ---- elements at once
+
+-- elements that all of some bytes spell in a row, or none, of which nothing is said; or there was no memory
+abbrev pub AllRead : {T : Type 0} → Format → (T → Tree) → List ℕ → Result (Option (Vec T Global)) Error → Type 0
+AllRead f plain x (Ok (Some elements)) = content f.spells Reading x (trees plain elements.items)
+AllRead f plain x (Ok None) = ⊤
+AllRead f plain x (Err e) = e ≡ OutOfMemory

@@ -1,5 +1,5 @@
 -- What encoders answer.
-use Rattle.std.specs.Prelude.{◌≡◌, ◌≤◌, ◌+◌, ◌^◌, ◌⊎◌, ℕ, List, ◌++◌, length, Result, Ok, Err, Vec}
+use Rattle.std.specs.Prelude.{◌≡◌, ◌≤◌, ◌+◌, ◌^◌, ◌⊎◌, ℕ, List, ◌++◌, length, Option, None, Some, Result, Ok, Err, Vec}
 use Rattle.std.specs.Global.{Global}
 use Rattle.std.specs.Io.KnownBytes.{Appends}
 use Rattle.tls_codec_wire.specs.Counts.{NoneFell}
@@ -10,7 +10,7 @@ use Rattle.tls_codec_wire.specs.declared.error.Error.{Error}
 use Rattle.tls_codec_wire.specs.declared.error.Error.TheVariants.{InvalidVectorLength, OutOfMemory}
 use Rattle.tls_codec_base.specs.Tree.{Tree}
 use Rattle.tls_codec_base.specs.Grammar.{Grammar}
-use Rattle.tls_codec_base.specs.Format.{Format}
+use Rattle.tls_codec_base.specs.Format.{Format, content_format}
 use Rattle.tls_codec_base.specs.Shortest.{IsShortest}
 use Rattle.tls_codec_base.specs.Announced.{capped}
 
@@ -37,6 +37,12 @@ pub record Breaks {S : Type 0} (f : Format) (v : Tree) (sink : Ghosts S) (old ne
 abbrev pub Writes : {S : Type 0} → Format → Tree → Ghosts S → S → S → Result ℕ Error → Type 0
 Writes f v sink old new (Ok n) = Sends f v sink old new n
 Writes f v sink old new (Err e) = Breaks f v sink old new e
+
+-- elements' forms in a row at once, or none of them, and nothing was sent
+abbrev pub AllSent : {S : Type 0} → Format → Tree → Ghosts S → S → S → Result (Option ℕ) Error → Type 0
+AllSent f v sink old new (Ok (Some n)) = Sends (content_format f) v sink old new n
+AllSent f v sink old new (Ok None) = new ≡ old
+AllSent f v sink old new (Err e) = Breaks (content_format f) v sink old new e
 
 -- ---- to a vector
 

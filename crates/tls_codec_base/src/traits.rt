@@ -3,11 +3,11 @@ ghost use Rattle.std.specs.Prelude.{◌≡◌, ◌⊎◌, List, Option, Some, �
 ghost use Rattle.tls_codec_wire.specs.Counts.{Counts, no_counts};
 ghost use Rattle.tls_codec_wire.specs.declared.error.Error.{Error};
 ghost use Rattle.tls_codec_wire.specs.declared.error.Error.TheVariants.{InvalidVectorLength, TrailingData};
-ghost use Rattle.tls_codec_base.specs.Tree.{Tree};
+ghost use Rattle.tls_codec_base.specs.Tree.{Tree, trees};
 ghost use Rattle.tls_codec_base.specs.Format.{Format};
 ghost use Rattle.tls_codec_base.specs.Lawful.{MeetsLaws};
-ghost use Rattle.tls_codec_base.specs.Decoding.{Reads, ReadsWhole, Splits};
-ghost use Rattle.tls_codec_base.specs.Encoding.{AppendsForm, Makes, Writes};
+ghost use Rattle.tls_codec_base.specs.Decoding.{AllRead, Reads, ReadsWhole, Splits};
+ghost use Rattle.tls_codec_base.specs.Encoding.{AllSent, AppendsForm, Makes, Writes};
 
 use std::alloc::Global;
 use tls_codec_wire::{Error, Sink, Source};
@@ -26,6 +26,27 @@ pub trait Size {
     /// The number of bytes of the value's shortest form, saturated at `usize::MAX`.
     fn tls_serialized_len(&self) -> usize
         ensures { result ≡ format.announced (plain self.now) };
+
+    /// The elements that all of these bytes spell in a row; none where such elements are read one by
+    /// one.
+    ///
+    /// Provided; a type of fixed width may do it at once, and every list then goes through here.
+    /// `OutOfMemory`: there was none.
+    fn tls_elements(_alloc: Global, bytes: &[u8]) -> Result<Option<Vec<Self>>, Error>
+        ensures { AllRead format plain bytes.now result }
+    {
+        Ok(None)
+    }
+
+    /// Sends the elements' shortest forms in a row, and answers how many bytes that is, saturated at
+    /// `usize::MAX`; none and nothing is sent where such elements are sent one by one.
+    ///
+    /// Provided; a type of fixed width may do it at once, and every list then goes through here.
+    fn tls_send_elements<W: Sink>(elements: &[Self], sink: &mut W) -> Result<Option<usize>, Error>
+        ensures { AllSent format (trees plain elements.now) W.Sink sink.old sink.new result }
+    {
+        Ok(None)
+    }
 
     ghost lawful: { MeetsLaws format };
 }
