@@ -83,3 +83,9 @@ pub record AppendRefused (f : Format) (v : Tree) (old new : List ℕ) (e : Error
 abbrev pub AppendsForm : Format → Tree → List ℕ → List ℕ → Result ℕ Error → Type 0
 AppendsForm f v old new (Ok n) = Appended f v old new n
 AppendsForm f v old new (Err e) = AppendRefused f v old new e
+
+-- elements' forms in a row at once, or none of them, and nothing was appended
+abbrev pub AllAppended : Format → Tree → List ℕ → List ℕ → Result (Option ℕ) Error → Type 0
+AllAppended f v old new (Ok (Some n)) = Appended (content_format f) v old new n
+AllAppended f v old new (Ok None) = new ≡ old
+AllAppended f v old new (Err e) = AppendRefused (content_format f) v old new e

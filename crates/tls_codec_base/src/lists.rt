@@ -47,7 +47,14 @@ impl Turns {
     fn turn(&mut self)
         ensures { TurnedBy 1 self.old self.new }
     {
+        self.turn_by(1);
+    }
+
+    // So many turns more.
+    fn turn_by(&mut self, more: usize)
+        ensures { TurnedBy more self.old self.new }
+    {
         let Turns { count } = self;
-        *count = count.saturating_add(1);
+        *count = count.saturating_add(more as u64);
     }
 }

@@ -33,6 +33,13 @@ pub fn from_slice<'a, T: DeserializeBytes>(
     ensures turned { IfOk result (λ found. TurnedEach found.0.items turns.old turns.new) }
     ensures nothing_asked { length ≡ 0 → IsOkAnd result (λ found. (found.0.items ≡ []) × (found.1.now ≡ bytes.now)) × (turns.new ≡ turns.old) }
 {
+    if length > 0 && length <= bytes.len() {
+        let (front, behind) = bytes.split_at(length);
+        if let Some(elements) = T::tls_elements(alloc, front)? {
+            turns.turn_by(elements.len());
+            return Ok((elements, behind));
+        }
+    }
     let mut elements = Vec::new(alloc);
     let mut rest = bytes;
     let mut left = length;

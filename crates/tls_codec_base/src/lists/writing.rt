@@ -4,7 +4,7 @@ ghost use Rattle.tls_codec_wire.specs.declared.error.Error.TheVariants.{InvalidV
 ghost use Rattle.tls_codec_base.specs.Tree.{trees};
 ghost use Rattle.tls_codec_base.specs.Announced.{content_sum};
 ghost use Rattle.tls_codec_base.specs.Format.{content_format};
-ghost use Rattle.tls_codec_base.specs.Encoding.{AppendsForm, Writes};
+ghost use Rattle.tls_codec_base.specs.Encoding.{AllAppended, AppendsForm, Writes};
 
 use crate::traits::{Serialize, SerializeBytes, Size};
 use std::alloc::Global;
@@ -48,6 +48,16 @@ pub fn content_len<T: Size>(elements: &[T]) -> Result<usize, Error>
 pub fn write<T: Serialize, W: Sink>(sink: &mut W, elements: &[T]) -> Result<usize, Error>
     ensures { Writes (content_format T.format) (trees T.plain elements.now) W.Sink sink.old sink.new result }
 {
+    match T::tls_send_elements(elements, sink)? {
+        Some(sent) => Ok(sent),
+        None => write_each(sink, elements),
+    }
+}
+
+// The same, one element after another.
+fn write_each<T: Serialize, W: Sink>(sink: &mut W, elements: &[T]) -> Result<usize, Error>
+    ensures { Writes (content_format T.format) (trees T.plain elements.now) W.Sink sink.old sink.new result }
+{
     let mut sent: usize = 0;
     for element in elements {
         let length = element.tls_serialize(sink)?;
@@ -69,6 +79,31 @@ pub fn write<T: Serialize, W: Sink>(sink: &mut W, elements: &[T]) -> Result<usiz
 pub fn append<T: Serialize>(out: &mut Vec<u8>, elements: &[T]) -> Result<usize, Error>
     ensures { AppendsForm (content_format T.format) (trees T.plain elements.now) out.old.items out.new.items result }
 {
+    match append_at_once(out, elements)? {
+        Some(length) => Ok(length),
+        None => append_each(out, elements),
+    }
+}
+
+// The same at once; none and nothing where such elements are appended one by one.
+fn append_at_once<T: Size>(out: &mut Vec<u8>, elements: &[T]) -> Result<Option<usize>, Error>
+    ensures { AllAppended T.format (trees T.plain elements.now) out.old.items out.new.items result }
+{
+    let at = out.len();
+    match T::tls_send_elements(elements, out) {
+        Ok(Some(_)) => Ok(Some(out.len() - at)),
+        Ok(None) => Ok(None),
+        Err(error) => {
+            out.truncate(at);
+            Err(error)
+        }
+    }
+}
+
+// The same, one element after another.
+fn append_each<T: Serialize>(out: &mut Vec<u8>, elements: &[T]) -> Result<usize, Error>
+    ensures { AppendsForm (content_format T.format) (trees T.plain elements.now) out.old.items out.new.items result }
+{
     let at = out.len();
     let _ = out.reserve(elements.len().min(MOST_ROOM) + LENGTH_ROOM);
     for element in elements {
@@ -86,6 +121,20 @@ pub fn append<T: Serialize>(out: &mut Vec<u8>, elements: &[T]) -> Result<usize, 
 /// A refusal is an element's, or `InvalidVectorLength` where the vector would pass `isize::MAX` bytes.
 /// It leaves the vector's bytes as they were.
 pub fn append_bytes<T: SerializeBytes>(
+    alloc: Global,
+    out: &mut Vec<u8>,
+    elements: &[T],
+) -> Result<usize, Error>
+    ensures { AppendsForm (content_format T.format) (trees T.plain elements.now) out.old.items out.new.items result }
+{
+    match append_at_once(out, elements)? {
+        Some(length) => Ok(length),
+        None => append_each_form(alloc, out, elements),
+    }
+}
+
+// The same, one element after another.
+fn append_each_form<T: SerializeBytes>(
     alloc: Global,
     out: &mut Vec<u8>,
     elements: &[T],

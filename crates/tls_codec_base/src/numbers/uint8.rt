@@ -10,7 +10,7 @@ ghost use Rattle.tls_codec_base.specs.laws.FormatLaws.{number_meets};
 use super::{digits_vector, read_digits, split_digits, write_digits};
 use crate::traits::{Deserialize, DeserializeBytes, Serialize, SerializeBytes, Size};
 use std::alloc::Global;
-use tls_codec_wire::{Error, Sink, Source};
+use tls_codec_wire::{Error, Sink, Source, write_all};
 
 impl Size for u8 {
     ghost plain = { Number };
@@ -19,6 +19,17 @@ impl Size for u8 {
 
     fn tls_serialized_len(&self) -> usize {
         1
+    }
+
+    /// The bytes are copied at once.
+    fn tls_elements(alloc: Global, bytes: &[u8]) -> Result<Option<Vec<u8>>, Error> {
+        Ok(Some(Vec::from_slice(alloc, bytes)?))
+    }
+
+    /// The bytes are sent at once.
+    fn tls_send_elements<W: Sink>(elements: &[u8], sink: &mut W) -> Result<Option<usize>, Error> {
+        write_all(sink, elements)?;
+        Ok(Some(elements.len()))
     }
 
     ghost lawful = { number_meets 1 (Prim.omega arith) };

@@ -14,7 +14,7 @@ loop-left-init g c =
 
 pub returns-in_err-element-clause-splits : goal.returns-in_err-element-clause-splits
 returns-in_err-element-clause-splits g c =
-    let p = err_from_is_err_and c.from_residual.result c.from_residual.ensures.1 in
+    let p = err_from_is_err_and c.from_residual-in_err-element.result c.from_residual-in_err-element.ensures.1 in
     rw (p.1, p.2) (element_refused _ _ g.met.T.Size.lawful.spelled _ _ _ _ _ _ _ c.loop-left.invariant.read (omega arith) c.in_err-element.ensures.splits)
 
 pub returns-then-taken-eq0-clause-splits : goal.returns-then-taken-eq0-clause-splits
@@ -42,7 +42,7 @@ loop-left-preserved g c =
 
 pub returns-in_err-element-clause-named : goal.returns-in_err-element-clause-named
 returns-in_err-element-clause-named g c =
-    let p = err_from_is_err_and c.from_residual.result c.from_residual.ensures.1 in
+    let p = err_from_is_err_and c.from_residual-in_err-element.result c.from_residual-in_err-element.ensures.1 in
     rw (p.1, p.2) (element_named g.T.Size.format g.T.DeserializeBytes.names c.loop-left.invariant.read (omega arith) (inl (c.in_err-element.ensures.splits, c.in_err-element.ensures.named)))
 
 pub returns-then-taken-eq0-clause-named : goal.returns-then-taken-eq0-clause-named
