@@ -28,7 +28,7 @@ impl Size for u16 {
         let Some(digits) = whole_digits::<2>(bytes) else {
             return Ok(None);
         };
-        Ok(Some(digits.iter().map(|d| number_of(d)).collect(alloc)?))
+        Ok(Some(digits.iter().map(|d| of_digits(d)).collect(alloc)?))
     }
 
     ghost lawful = { number_meets 2 (Prim.omega arith) };
@@ -36,7 +36,7 @@ impl Size for u16 {
 
 // The number of these digits.
 #[inline(always)]
-fn number_of(digits: &[u8; 2]) -> u16
+fn of_digits(digits: &[u8; 2]) -> u16
     ensures { result ≡ value digits.now }
 {
     u16::from_be_bytes(*digits)

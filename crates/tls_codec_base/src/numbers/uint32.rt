@@ -1,12 +1,14 @@
 //! `u32`, the `uint32` of RFC 8446, section 3.3.
 ghost use Rattle.std.specs.Prelude.{◌≡◌, ◌<◌, length};
 ghost use Rattle.std.proofs.Common.{arith};
+ghost use Rattle.tls_codec_wire.specs.Digits.{value};
 ghost use Rattle.tls_codec_wire.specs.Transfer.{ReadRefused};
 ghost use Rattle.tls_codec_wire.specs.declared.error.Error.TheVariants.{EndOfStream};
 ghost use Rattle.tls_codec_base.specs.Tree.{Number};
 ghost use Rattle.tls_codec_base.specs.Format.{number_format};
 ghost use Rattle.tls_codec_base.specs.laws.FormatLaws.{number_meets};
 
+use super::runs::whole_digits;
 use super::{append_digits, digits_vector, read_digits, split_digits, write_digits};
 use crate::traits::{Deserialize, DeserializeBytes, Serialize, SerializeBytes, Size};
 use std::alloc::Global;
@@ -21,7 +23,23 @@ impl Size for u32 {
         4
     }
 
+    /// The numbers are read at once.
+    fn tls_elements(alloc: Global, bytes: &[u8]) -> Result<Option<Vec<u32>>, Error> {
+        let Some(digits) = whole_digits::<4>(bytes) else {
+            return Ok(None);
+        };
+        Ok(Some(digits.iter().map(|d| of_digits(d)).collect(alloc)?))
+    }
+
     ghost lawful = { number_meets 4 (Prim.omega arith) };
+}
+
+// The number of these digits.
+#[inline(always)]
+fn of_digits(digits: &[u8; 4]) -> u32
+    ensures { result ≡ value digits.now }
+{
+    u32::from_be_bytes(*digits)
 }
 
 impl Serialize for u32 {
