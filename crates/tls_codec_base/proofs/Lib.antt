@@ -10,6 +10,7 @@ pub mod ListReading
 pub mod ListSources
 pub mod ListWriting
 pub mod NumberCalls
+pub mod NumberRunSources
 pub mod NumberRuns
 pub mod OpaqueDecoding
 pub mod OpaqueEncoding

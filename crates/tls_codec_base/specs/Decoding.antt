@@ -4,12 +4,14 @@ use Rattle.std.specs.Global.{Global}
 use Rattle.tls_codec_wire.specs.Counts.{Counts, FaultIsCounted, RoseBy}
 use Rattle.std.specs.Borrow.{Bor}
 use Rattle.tls_codec_wire.specs.Device.{Gave}
+use Rattle.tls_codec_wire.specs.Bounded.{inner_of, limit_of}
+use Rattle.tls_codec_wire.specs.declared.bounded.Bounded.{Bounded}
 use Rattle.tls_codec_wire.specs.declared.device.Source.{Ghosts}
 use Rattle.tls_codec_wire.specs.declared.error.Error.{Error}
 use Rattle.tls_codec_wire.specs.declared.error.Error.TheVariants.{OutOfMemory, TrailingData}
 use Rattle.tls_codec_base.specs.Tree.{Tree, trees}
-use Rattle.tls_codec_base.specs.Grammar.{Grammar, Reading, content}
-use Rattle.tls_codec_base.specs.Format.{Format}
+use Rattle.tls_codec_base.specs.Grammar.{Grammar, Reading, content, sized}
+use Rattle.tls_codec_base.specs.Format.{Format, content_format, sized_format}
 
 -- ---- from a slice
 
@@ -98,3 +100,9 @@ abbrev pub AllRead : {T : Type 0} → Format → (T → Tree) → List ℕ → R
 AllRead f plain x (Ok (Some elements)) = content f.spells Reading x (trees plain elements.items)
 AllRead f plain x (Ok None) = ⊤
 AllRead f plain x (Err e) = e ≡ OutOfMemory
+
+-- elements that a source gave up to its limit; or none, and nothing was taken
+abbrev pub AllGiven : {T S : Type 0} → Format → (T → Tree) → Ghosts S → Bounded S → Bounded S → Result (Option (Vec T Global)) Error → Type 0
+AllGiven f plain source old new (Ok (Some elements)) = GaveSpelling source.given (sized (limit_of old) (content f.spells)) (inner_of old) (inner_of new) (trees plain elements.items)
+AllGiven f plain source old new (Ok None) = new ≡ old
+AllGiven f plain source old new (Err e) = LeavesSource (sized_format (limit_of old) (content_format f)) source (inner_of old) (inner_of new) e

@@ -1,5 +1,6 @@
 pub mod Tree
 pub mod Grammar
+pub mod Runs
 pub mod Shortest
 pub mod Announced
 pub mod Format

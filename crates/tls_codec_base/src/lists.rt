@@ -51,7 +51,7 @@ impl Turns {
     }
 
     // So many turns more.
-    fn turn_by(&mut self, more: usize)
+    pub(crate) fn turn_by(&mut self, more: usize)
         ensures { TurnedBy more self.old self.new }
     {
         let Turns { count } = self;

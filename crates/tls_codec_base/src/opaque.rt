@@ -121,6 +121,6 @@ pub fn read<R: Source>(alloc: Global, src: &mut R) -> Result<Vec<u8>, Error>
 }
 
 // What a slice refers to is known to be bytes; of a vector's items that isn't known before.
-fn see_bytes(_content: &[u8])
+pub(crate) fn see_bytes(_content: &[u8])
     ensures { AreBytes _content.now }
 {}

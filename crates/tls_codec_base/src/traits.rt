@@ -1,16 +1,20 @@
 //! The five traits of a type with a spelling, and their contracts.
 ghost use Rattle.std.specs.Prelude.{◌≡◌, ◌⊎◌, List, Option, Some, ℕ, IfErr};
+ghost use Rattle.tls_codec_wire.specs.Bounded.{BorrowAlike, inner_of, limit_of};
 ghost use Rattle.tls_codec_wire.specs.Counts.{Counts, no_counts};
 ghost use Rattle.tls_codec_wire.specs.declared.error.Error.{Error};
 ghost use Rattle.tls_codec_wire.specs.declared.error.Error.TheVariants.{InvalidVectorLength, TrailingData};
 ghost use Rattle.tls_codec_base.specs.Tree.{Tree, trees};
 ghost use Rattle.tls_codec_base.specs.Format.{Format};
 ghost use Rattle.tls_codec_base.specs.Lawful.{MeetsLaws};
-ghost use Rattle.tls_codec_base.specs.Decoding.{AllRead, Reads, ReadsWhole, Splits};
+ghost use Rattle.tls_codec_base.specs.Refusals.{elements_source_names};
+ghost use Rattle.tls_codec_base.specs.Turns.{TurnedAll};
+ghost use Rattle.tls_codec_base.specs.Decoding.{AllGiven, AllRead, Reads, ReadsWhole, Splits};
 ghost use Rattle.tls_codec_base.specs.Encoding.{AllSent, AppendsForm, Makes, Writes};
 
+use crate::lists::Turns;
 use std::alloc::Global;
-use tls_codec_wire::{Error, Sink, Source};
+use tls_codec_wire::{Bounded, Error, Sink, Source};
 
 /// A type whose values have spellings in bytes.
 ///
@@ -118,6 +122,24 @@ pub trait Deserialize: Size + Drop {
             return Err(Error::TrailingData);
         }
         Ok(value)
+    }
+
+    /// The elements that fill what a source may still give, each of which is a turn; none, and nothing
+    /// is taken, where such elements are read one by one.
+    ///
+    /// Provided; a type of fixed width may do it at once, and every list then goes through here.
+    fn tls_read_elements<R: Source>(
+        _alloc: Global,
+        within: &mut Bounded<R>,
+        turns: &mut Turns,
+    ) -> Result<Option<Vec<Self>>, Error>
+        ensures same { BorrowAlike within.old within.new }
+        ensures reads { AllGiven Self.format Self.plain R.Source within.old within.new result }
+        ensures named { IfErr result (elements_source_names Self.format names (limit_of within.old)
+            (R.coming (inner_of within.old)) (R.counts (inner_of within.old)) (R.counts (inner_of within.new))) }
+        ensures turned { TurnedAll turns.old turns.new result }
+    {
+        Ok(None)
     }
 }
 

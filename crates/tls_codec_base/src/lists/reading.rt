@@ -97,6 +97,28 @@ fn elements_within<T: Deserialize, R: Source>(
     ensures turned { IfOk result (λ elements. TurnedEach elements.items turns.old turns.new) }
     ensures nothing_asked { limit_of within.old ≡ 0 → IsOkAnd result (λ elements. elements.items ≡ []) × (inner_of within.new ≡ inner_of within.old) × (turns.new ≡ turns.old) }
 {
+    if within.limit() > 0 {
+        if let Some(elements) = T::tls_read_elements(alloc, within, turns)? {
+            return Ok(elements);
+        }
+    }
+    each_within(alloc, within, turns)
+}
+
+// The same, one element after another.
+fn each_within<T: Deserialize, R: Source>(
+    alloc: Global,
+    within: &mut Bounded<R>,
+    turns: &mut Turns,
+) -> Result<Vec<T>, Error>
+    ensures same { BorrowAlike within.old within.new }
+    ensures reads { Reads (sized_format (limit_of within.old) (content_format T.format)) (λ elements. trees T.plain elements.items) R.Source
+        (inner_of within.old) (inner_of within.new) result }
+    ensures named { IfErr result (elements_source_names T.format T.names (limit_of within.old)
+        (R.coming (inner_of within.old)) (R.counts (inner_of within.old)) (R.counts (inner_of within.new))) }
+    ensures turned { IfOk result (λ elements. TurnedEach elements.items turns.old turns.new) }
+    ensures nothing_asked { limit_of within.old ≡ 0 → IsOkAnd result (λ elements. elements.items ≡ []) × (inner_of within.new ≡ inner_of within.old) × (turns.new ≡ turns.old) }
+{
     let mut elements = Vec::new(alloc);
     'elements: while within.limit() > 0 {
         turns.turn();

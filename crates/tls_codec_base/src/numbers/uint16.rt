@@ -1,18 +1,20 @@
 //! `u16`, the `uint16` of RFC 8446, section 3.3.
-ghost use Rattle.std.specs.Prelude.{◌≡◌, ◌<◌, length};
+ghost use Rattle.std.specs.Prelude.{◌≡◌, ◌<◌, ◌%◌, ◌/◌, length, IfErr, IfOk};
 ghost use Rattle.std.proofs.Common.{arith};
 ghost use Rattle.tls_codec_wire.specs.Digits.{value};
 ghost use Rattle.tls_codec_wire.specs.Transfer.{ReadRefused};
-ghost use Rattle.tls_codec_wire.specs.declared.error.Error.TheVariants.{EndOfStream};
-ghost use Rattle.tls_codec_base.specs.Tree.{Number};
+ghost use Rattle.tls_codec_wire.specs.declared.error.Error.TheVariants.{EndOfStream, OutOfMemory};
+ghost use Rattle.tls_codec_base.specs.Tree.{Number, number_trees};
+ghost use Rattle.tls_codec_base.specs.Grammar.{Reading, content, number};
 ghost use Rattle.tls_codec_base.specs.Format.{number_format};
 ghost use Rattle.tls_codec_base.specs.laws.FormatLaws.{number_meets};
 
-use super::runs::whole_digits;
+use super::runs::{in_groups, read_run};
 use super::{append_digits, digits_vector, read_digits, split_digits, write_digits};
+use crate::lists::Turns;
 use crate::traits::{Deserialize, DeserializeBytes, Serialize, SerializeBytes, Size};
 use std::alloc::Global;
-use tls_codec_wire::{Error, Sink, Source};
+use tls_codec_wire::{Bounded, Error, Sink, Source};
 
 impl Size for u16 {
     ghost plain = { Number };
@@ -25,10 +27,10 @@ impl Size for u16 {
 
     /// The numbers are read at once.
     fn tls_elements(alloc: Global, bytes: &[u8]) -> Result<Option<Vec<u16>>, Error> {
-        let Some(digits) = whole_digits::<2>(bytes) else {
+        if bytes.len() % 2 != 0 {
             return Ok(None);
-        };
-        Ok(Some(digits.iter().map(|d| of_digits(d)).collect(alloc)?))
+        }
+        Ok(Some(numbers_of(alloc, bytes)?))
     }
 
     ghost lawful = { number_meets 2 (Prim.omega arith) };
@@ -40,6 +42,16 @@ fn of_digits(digits: &[u8; 2]) -> u16
     ensures { result ≡ value digits.now }
 {
     u16::from_be_bytes(*digits)
+}
+
+// The numbers of these digits.
+fn numbers_of(alloc: Global, digits: &[u8]) -> Result<Vec<u16>, Error>
+    ensures ok { IfOk result (λ numbers. length digits.now % 2 ≡ 0 → content (number 2) Reading digits.now (number_trees numbers.items)) }
+    ensures count { IfOk result (λ numbers. length numbers.items ≡ length digits.now / 2) }
+    ensures err { IfErr result (λ e. e ≡ OutOfMemory) }
+{
+    let numbers = in_groups::<2>(digits).iter().map(|d| of_digits(d)).collect(alloc)?;
+    Ok(numbers)
 }
 
 impl Serialize for u16 {
@@ -67,6 +79,18 @@ impl Deserialize for u16 {
     fn tls_deserialize<R: Source>(_alloc: Global, bytes: &mut R) -> Result<u16, Error> {
         let digits = read_digits(bytes)?;
         Ok(u16::from_be_bytes(digits))
+    }
+
+    /// The numbers are read at once, where they are at hand.
+    fn tls_read_elements<R: Source>(
+        alloc: Global,
+        within: &mut Bounded<R>,
+        turns: &mut Turns,
+    ) -> Result<Option<Vec<u16>>, Error> {
+        let Some(digits) = read_run::<R, 2>(alloc, within, turns)? else {
+            return Ok(None);
+        };
+        Ok(Some(numbers_of(alloc, &digits)?))
     }
 }
 

@@ -7,10 +7,12 @@ ghost use Rattle.tls_codec_base.specs.Tree.{Number};
 ghost use Rattle.tls_codec_base.specs.Format.{number_format};
 ghost use Rattle.tls_codec_base.specs.laws.FormatLaws.{number_meets};
 
+use super::runs::read_run;
 use super::{digits_vector, read_digits, split_digits, write_digits};
+use crate::lists::Turns;
 use crate::traits::{Deserialize, DeserializeBytes, Serialize, SerializeBytes, Size};
 use std::alloc::Global;
-use tls_codec_wire::{Error, Sink, Source, write_all};
+use tls_codec_wire::{Bounded, Error, Sink, Source, write_all};
 
 impl Size for u8 {
     ghost plain = { Number };
@@ -64,6 +66,15 @@ impl Deserialize for u8 {
     fn tls_deserialize<R: Source>(_alloc: Global, bytes: &mut R) -> Result<u8, Error> {
         let digits = read_digits(bytes)?;
         Ok(u8::from_be_bytes(digits))
+    }
+
+    /// The bytes are read at once, where they are at hand.
+    fn tls_read_elements<R: Source>(
+        alloc: Global,
+        within: &mut Bounded<R>,
+        turns: &mut Turns,
+    ) -> Result<Option<Vec<u8>>, Error> {
+        read_run::<R, 1>(alloc, within, turns)
     }
 }
 

@@ -4,7 +4,7 @@ use Rattle.tls_codec_wire.specs.Bounded.{BorrowAlike, inner_of, limit_of}
 use Rattle.tls_codec_base.specs.Tree.{trees}
 use Rattle.tls_codec_base.specs.Turns.{TurnedEach}
 use Rattle.tls_codec_base.proofs.ListSources.{GivenSoFar}
-use Rattle.tls_codec_base.proofs.lists.reading.elements_within.Given as goal
+use Rattle.tls_codec_base.proofs.lists.reading.each_within.Given as goal
 
 abbrev pub invariant-elements : goal.invariant-elements
 invariant-elements g l = record {

@@ -1,7 +1,7 @@
 use Rattle.std.proofs.Common.{rules, ◌≡◌, ◌∙◌, ◌++◌, ◌∷◌, [], arith, ap, inl, inr, length, length-append, refl, sym}
 use Rattle.std.proofs.lemmas.Result.{err_from_is_err_and}
 use Rattle.tls_codec_base.proofs.ListSources.{element_named_source, element_refused_source, gave_attempt, given_empty, given_more, none_if_empty_source}
-use Rattle.tls_codec_base.proofs.lists.reading.elements_within.Goals as goal
+use Rattle.tls_codec_base.proofs.lists.reading.each_within.Goals as goal
 
 pub returns-in_err-element-clause-reads : goal.returns-in_err-element-clause-reads
 returns-in_err-element-clause-reads g c =

@@ -1,0 +1,85 @@
+-- Numbers of one width in a row, of which a source may have too few.
+use Rattle.std.proofs.Common.{◌≡◌, ℕ, ◌+◌, ◌-◌, ◌*◌, ◌/◌, ◌<◌, ◌≤◌, ◌^◌, List, [], ◌++◌, length, take, drop, take-append-drop, length-take-le, Option, None, Some, false, true, inl, inr, refl, sym, ap, subst, ◌∙◌, arith, length-append, map}
+use Rattle.std.proofs.lemmas.Nat.{div-add-mod'}
+use Rattle.std.specs.Prelude.{option_map, Result, Ok, Err, Vec}
+use Rattle.std.specs.Global.{Global}
+use Rattle.std.specs.Io.KnownBytes.{Consumes}
+use Rattle.tls_codec_wire.specs.Bounded.{GaveWithin, first_bytes, inner_of, limit_of}
+use Rattle.tls_codec_wire.specs.Device.{Gave, IsAtHand}
+use Rattle.tls_codec_wire.specs.declared.bounded.Bounded.{Bounded}
+use Rattle.tls_codec_wire.specs.declared.device.Source.{Ghosts}
+use Rattle.tls_codec_wire.specs.Counts.{Counts, stay}
+use Rattle.tls_codec_wire.specs.Digits.{AreBytes, value}
+use Rattle.tls_codec_wire.specs.Transfer.{BytesRefused, IsShortOf}
+use Rattle.tls_codec_wire.specs.declared.error.Error.{Error}
+use Rattle.tls_codec_wire.specs.declared.error.Error.TheVariants.{DecodingError, EndOfStream, InvalidVectorLength, OutOfMemory}
+use Rattle.tls_codec_wire.proofs.Bytes.{AreBytes-left}
+use Rattle.tls_codec_base.specs.Tree.{Empty, Number}
+use Rattle.tls_codec_base.specs.Grammar.{Grammar, Reading, content, number, sized}
+use Rattle.tls_codec_base.specs.Decoding.{AllGiven, NoneComes, RefusesSource}
+use Rattle.tls_codec_base.specs.Format.{number_format}
+use Rattle.tls_codec_base.specs.Refusals.{elements_source_names}
+use Rattle.tls_codec_base.specs.Runs.{ReadsRun, RefusesRun, number_source_names}
+use Rattle.tls_codec_base.specs.declared.lists.Turns.{Turns}
+use Rattle.tls_codec_base.proofs.ByteContents.{bytes_content}
+
+-- fewer bytes than n up to the limit n are no n bytes
+none_short : (n : ℕ) (inside : Grammar) (coming : Option (List ℕ)) → IsShortOf n (option_map (take n) coming) → NoneComes (sized n inside) coming
+none_short n inside None short = tt
+none_short n inside (Some x) short = λ v rest b. omega (arith, short, length-take-le n x (omega (arith, ap length b.whole, length-append b.front rest, b.spelled.0)))
+
+-- why bytes up to the limit are not gathered is why the list is refused
+pub run_refused : (k n : ℕ) (coming : Option (List ℕ)) (old new : Counts) (e : Error) → n < 2 ^ 63 → BytesRefused e n (option_map (take n) coming) old new → RefusesSource (sized n (content (number k))) false coming old new e
+run_refused k n coming old new InvalidVectorLength small p = absurd (omega (arith, small, p))
+run_refused k n coming old new (DecodingError text) small p = record { cause = inr (inl p.1); memory = λ h. absurd cc; not_trailing = λ h. cc }
+run_refused k n coming old new EndOfStream small p = record { cause = inl (none_short n _ coming p); memory = λ h. absurd cc; not_trailing = λ h. cc }
+run_refused k n coming old new OutOfMemory small p = record { cause = inr (inr refl); memory = λ h. inl refl; not_trailing = λ h. cc }
+run_refused k n coming old new _ small p = absurd p
+
+took_none : (coming : Option (List ℕ)) → Consumes coming coming []
+took_none None = tt
+took_none (Some x) = refl
+
+-- and it is named so before the first number
+at_first : (k n : ℕ) (coming : Option (List ℕ)) (old new : Counts) (e : Error) → 0 < n → RefusesSource (number k) true (option_map (take n) coming) old new e → number_source_names k (option_map (take n) coming) old new e → elements_source_names (number_format k) (number_source_names k) n coming old new e
+at_first k n coming old new e some refused named = inr (
+  n,
+  record {
+    front = [];
+    behind = coming;
+    between = old;
+    took = took_none coming;
+    is_front = record { elements = (Empty, refl); fills = omega arith; some = some };
+    fell = stay old;
+    named = inl (refused, named);
+  },
+)
+
+-- where as many bytes are at hand, none can be missing
+pub run_named : (k n : ℕ) (coming : Option (List ℕ)) (hand : List ℕ) (old new : Counts) (e : Error) → 0 < n → n < 2 ^ 63 → length hand ≡ n → IsAtHand hand (option_map (take n) coming) → BytesRefused e n (option_map (take n) coming) old new → elements_source_names (number_format k) (number_source_names k) n coming old new e
+run_named k n coming hand old new InvalidVectorLength some small width first p = absurd (omega (arith, small, p))
+run_named k n coming hand old new (DecodingError text) some small width first p =
+    at_first k n coming old new (DecodingError text) some (record { cause = inr (inl p.1); memory = λ h. absurd cc; not_trailing = λ h. cc }) p
+run_named k n None hand old new EndOfStream some small width first p =
+    at_first k n None old new EndOfStream some (record { cause = inl tt; memory = λ h. absurd cc; not_trailing = λ h. cc }) tt
+run_named k n (Some x) hand old new EndOfStream some small width first p = absurd (omega (arith, p, width, ap length first.1, length-append hand first.0))
+run_named k n coming hand old new OutOfMemory some small width first p = inl refl
+run_named k n coming hand old new _ some small width first p = absurd p
+
+-- a run at hand that is not read
+pub run_not_read : {S : Type 0} {source : Ghosts S} {a b : Bounded S} {size : ℕ} {e : Error} (k : ℕ) (hand : List ℕ) → size ≡ limit_of a → 0 < size → size < 2 ^ 63 → length hand ≡ size → IsAtHand hand (first_bytes source.coming a) → Gave (GaveWithin source.given) a b
+    → BytesRefused e size (first_bytes source.coming a) (source.counts (inner_of a)) (source.counts (inner_of b)) → RefusesRun k source a b e
+run_not_read {S} {source} {a} {b} {size} {e} k hand fills some small width first gave refused =
+    let n = limit_of a in
+    let below : n < 2 ^ 63 = omega (arith, fills, small) in
+    let same = subst (λ (u : ℕ). BytesRefused e u (first_bytes source.coming a) (source.counts (inner_of a)) (source.counts (inner_of b))) fills refused in
+    record {
+      leaves = record { gave = record { bytes = gave.bytes; held = gave.held.held }; refused = run_refused k n _ _ _ e below same };
+      named = run_named k n _ hand _ _ e (omega (arith, fills, some)) below (width ∙ fills) first same;
+    }
+
+-- a run of bytes is a list of them
+pub byte_run : {S : Type 0} (source : Ghosts S) (a b : Bounded S) (before after : Turns) (result : Result (Option (Vec ℕ Global)) Error) → ReadsRun 1 source a b before after result → AllGiven (number_format 1) Number source a b result
+byte_run source a b before after (Ok (Some digits)) p = record { front = digits.items; held = p.held; spelled = (p.fills, bytes_content Reading digits.items p.bytes) }
+byte_run source a b before after (Ok None) p = p.0
+byte_run source a b before after (Err e) p = p.leaves
