@@ -3,8 +3,10 @@ ghost use Rattle.std.specs.Prelude.{◌≡◌, ℕ, ◌<◌, ◌≤◌, List, le
 ghost use Rattle.std.specs.Io.KnownBytes.{IsAtEnd};
 ghost use Rattle.tls_codec_wire.specs.Bounded.{first_bytes, GaveWithin, gives_from_front_within, gives_in_order_within, gives_nothing_within, inner_of, limit_of};
 ghost use Rattle.tls_codec_wire.specs.Device.{bytes_moved, PullIsCounted, PulledOnto};
+ghost use Rattle.tls_codec_wire.specs.Transfer.{IsShortOf};
+ghost use Rattle.tls_codec_wire.specs.declared.device.Fill.TheVariants.{Full, TooFew, Unknown};
 
-use crate::device::{Fault, Source};
+use crate::device::{Fault, Fill, Source};
 
 /// The first `limit` bytes of a source that is borrowed, as a source.
 ///
@@ -60,16 +62,10 @@ impl<R: Source> Source for Bounded<'_, R> {
         ensures at_limit { limit_of self.old ≡ 0 → (result ≡ Ok 0) × (self.new ≡ self.old) }
     {
         let Bounded { inner, limit } = self;
-        // As for a slice: the length stays the constant that the caller asked for.
-        if *limit > 0 && into.len() as u64 <= *limit {
-            let n = inner.pull(into)?;
-            *limit -= n as u64;
-            return Ok(n);
-        }
         if *limit == 0 {
             return Ok(0);
         }
-        let room = *limit as usize;
+        let room = (*limit).min(into.len() as u64) as usize;
         let n = inner.pull(&mut into[..room])?;
         *limit -= n as u64;
         Ok(n)
@@ -81,6 +77,26 @@ impl<R: Source> Source for Bounded<'_, R> {
         let bytes = self.inner.at_hand();
         let n = self.limit.min(bytes.len() as u64) as usize;
         &bytes[..n]
+    }
+
+    #[inline(always)]
+    fn fill_at_hand(&mut self, into: &mut [u8]) -> Fill
+        ensures filled { result ≡ Full → GaveWithin R.given self.old into.new self.new }
+        ensures too_few { result ≡ TooFew → IsShortOf (length into.old) (first_bytes R.coming self.old) × (self.new ≡ self.old) }
+        ensures unknown { result ≡ Unknown → self.new ≡ self.old }
+        ensures calm { R.counts (inner_of self.new) ≡ R.counts (inner_of self.old) }
+        ensures beyond { limit_of self.old < length into.old → result ≡ TooFew }
+    {
+        let Bounded { inner, limit } = self;
+        let n = into.len() as u64;
+        if n > *limit {
+            return Fill::TooFew;
+        }
+        let found = inner.fill_at_hand(into);
+        if found == Fill::Full {
+            *limit -= n;
+        }
+        found
     }
 
     #[inline(always)]

@@ -3,6 +3,8 @@ ghost use Rattle.std.specs.Prelude.{◌≡◌, ℕ, ◌+◌, ◌<◌, ◌≤◌,
 ghost use Rattle.std.specs.Io.KnownBytes.{Appends, IsAtEnd};
 ghost use Rattle.tls_codec_wire.specs.Counts.{Counts};
 ghost use Rattle.tls_codec_wire.specs.Device.{bytes_moved, GiveIsCounted, GivesFromFront, GivesInOrder, GivesNothing, IsAtHand, NoCountFalls, PullIsCounted, PulledOnto};
+ghost use Rattle.tls_codec_wire.specs.Transfer.{IsShortOf};
+ghost use Rattle.tls_codec_wire.specs.declared.device.Fill.TheVariants.{Full, TooFew, Unknown};
 
 /// Why one call of a device moved no byte.
 #[derive(Clone, Copy, PartialEq, Eq, Debug)]
@@ -13,6 +15,17 @@ pub enum Fault {
     NoMemory,
     /// The device failed.
     Failed,
+}
+
+/// What came of filling a buffer at once with bytes at hand.
+#[derive(Clone, Copy, PartialEq, Eq, Debug)]
+pub enum Fill {
+    /// The buffer is full.
+    Full,
+    /// Fewer bytes are to come than the buffer has room for, and none was taken.
+    TooFew,
+    /// The source doesn't have as many in memory, or doesn't know. None was taken.
+    Unknown,
 }
 
 /// How many bytes a source that fills buffers alone moves at once onto a vector.
@@ -45,6 +58,19 @@ pub trait Source {
         ensures { IsAtHand result.now (coming self.now) }
     {
         &[]
+    }
+
+    /// Fills the whole buffer with the next bytes, where it has as many at hand in memory.
+    ///
+    /// A number is read by one such call, in place of a loop over [`pull`](Source::pull). A source
+    /// that doesn't know what it has answers `Unknown`.
+    fn fill_at_hand(&mut self, _into: &mut [u8]) -> Fill
+        ensures filled { result ≡ Full → given self.old _into.new self.new }
+        ensures too_few { result ≡ TooFew → IsShortOf (length _into.old) (coming self.old) × (self.new ≡ self.old) }
+        ensures unknown { result ≡ Unknown → self.new ≡ self.old }
+        ensures calm { counts self.new ≡ counts self.old }
+    {
+        Fill::Unknown
     }
 
     /// Puts the next bytes behind those of a vector, as many as it has room for and `most` at most,

@@ -34,7 +34,7 @@ pub mod varint;
 pub mod vlen;
 
 pub use bounded::Bounded;
-pub use device::{Fault, Sink, Source};
+pub use device::{Fault, Fill, Sink, Source};
 pub use error::Error;
 pub use gather::read_bytes_bounded;
 pub use outside::Outside;

@@ -1,10 +1,11 @@
 //! Devices in memory: a slice as a source, a vector as a sink.
-ghost use Rattle.std.specs.Prelude.{◌≡◌, ◌++◌, Some, refl};
+ghost use Rattle.std.specs.Prelude.{◌≡◌, ◌<◌, ◌++◌, length, Some, refl};
 ghost use Rattle.std.proofs.Common.{rules};
 ghost use Rattle.std.proofs.lemmas.Grind.{common_steps};
 ghost use Rattle.tls_codec_wire.specs.Counts.{no_counts, only_shortages, stay};
+ghost use Rattle.tls_codec_wire.specs.declared.device.Fill.TheVariants.{Full, TooFew, Unknown};
 
-use crate::device::{Fault, Sink, Source};
+use crate::device::{Fault, Fill, Sink, Source};
 
 // Moves past what it gave, and never fails.
 impl Source for &[u8] {
@@ -16,23 +17,35 @@ impl Source for &[u8] {
 
     #[inline(always)]
     fn pull(&mut self, into: &mut [u8]) -> Result<usize, Fault> {
-        let n = into.len();
-        // The length stays the constant that the caller asked for, so this is no call of `memcpy`.
-        if n <= self.len() {
-            let (front, rest) = self.split_at(n);
-            into.copy_from_slice(front);
-            *self = rest;
-            return Ok(n);
-        }
-        let n = self.len();
-        into[..n].copy_from_slice(self);
-        *self = &[];
+        let n = self.len().min(into.len());
+        let (front, rest) = self.split_at(n);
+        into[..n].copy_from_slice(front);
+        *self = rest;
         Ok(n)
     }
 
     #[inline(always)]
     fn at_hand(&self) -> &[u8] {
         self
+    }
+
+    // The length stays the constant that the caller asked for, so this is no call of `memcpy`.
+    #[inline(always)]
+    fn fill_at_hand(&mut self, into: &mut [u8]) -> Fill
+        ensures filled { result ≡ Full → self.old.now ≡ into.new ++ self.new.now }
+        ensures too_few { result ≡ TooFew → (length self.old.now < length into.old) × (self.new ≡ self.old) }
+        ensures unknown { result ≡ Unknown → self.new ≡ self.old }
+        ensures calm { no_counts ≡ no_counts }
+        ensures known { result ≡ Unknown → ⊥ }
+    {
+        let n = into.len();
+        if n > self.len() {
+            return Fill::TooFew;
+        }
+        let (front, left) = self.split_at(n);
+        into.copy_from_slice(front);
+        *self = left;
+        Fill::Full
     }
 
     #[inline(always)]

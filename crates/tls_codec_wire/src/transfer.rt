@@ -7,7 +7,7 @@ ghost use Rattle.tls_codec_wire.specs.Digits.{AreBytes};
 ghost use Rattle.tls_codec_wire.specs.Transfer.{ErrorOfFault, ReadRefused, WriteRefused};
 ghost use Rattle.tls_codec_wire.specs.declared.device.Fault.TheVariants.{Interrupted};
 
-use crate::device::{Fault, Sink, Source};
+use crate::device::{Fault, Fill, Sink, Source};
 use crate::error::Error;
 
 /// How many interruptions in a row are tried again: a call that is interrupted once more is refused.
@@ -15,11 +15,12 @@ pub const MOST_INTERRUPTIONS: u8 = 16;
 
 /// Fills the buffer with the next bytes.
 ///
-/// A call that is interrupted is tried again, up to [`MOST_INTERRUPTIONS`] times in a row; a call
-/// that moves a byte starts the row anew. `EndOfStream`: fewer bytes came than the buffer has room
-/// for. `DecodingError("read failed")`: the source failed, or was interrupted more often in a row.
-/// `OutOfMemory`: the source had none. After a refusal the buffer's content is open. An empty
-/// buffer makes no call.
+/// They are taken in one step where the source has them at hand, and none is taken where it knows that
+/// there are fewer. Else a call that is interrupted is tried again, up to [`MOST_INTERRUPTIONS`] times
+/// in a row; a call that moves a byte starts the row anew. `EndOfStream`: fewer bytes came than the
+/// buffer has room for. `DecodingError("read failed")`: the source failed, or was interrupted more
+/// often in a row. `OutOfMemory`: the source had none. After a refusal the buffer's content is open.
+/// An empty buffer makes no call.
 ///
 /// ```rust
 /// let mut src = [1u8, 2, 3].as_slice();
@@ -30,6 +31,26 @@ pub const MOST_INTERRUPTIONS: u8 = 16;
 /// ```
 #[inline(always)]
 pub fn read_exactly<R: Source>(src: &mut R, into: &mut [u8]) -> Result<(), Error>
+    ensures gave { Gave R.given src.old src.new }
+    ensures filled { OnOk result (R.given src.old into.new src.new) }
+    ensures bytes { OnOk result (AreBytes into.new) }
+    ensures refused { IfErr result (λ e. ReadRefused e (length into.old) (R.coming src.old)
+        (R.counts src.old) (R.counts src.new)) }
+    ensures calm { OnOk result (OnlyInterrupted (R.counts src.old) (R.counts src.new)) }
+    ensures nothing_asked { length into.old ≡ 0 → (result ≡ Ok tt) × (src.new ≡ src.old) }
+{
+    if into.is_empty() {
+        return Ok(());
+    }
+    match src.fill_at_hand(into) {
+        Fill::Full => Ok(()),
+        Fill::TooFew => Err(Error::EndOfStream),
+        Fill::Unknown => read_as_it_comes(src, into),
+    }
+}
+
+// Fills the buffer call by call.
+fn read_as_it_comes<R: Source>(src: &mut R, into: &mut [u8]) -> Result<(), Error>
     ensures gave { Gave R.given src.old src.new }
     ensures filled { OnOk result (R.given src.old into.new src.new) }
     ensures bytes { OnOk result (AreBytes into.new) }

@@ -2,9 +2,9 @@
 ghost use Rattle.std.specs.Prelude.{None, ⊤};
 ghost use Rattle.tls_codec_wire.specs.Counts.{no_counts, stay};
 
-use super::devices::{Fives, Plan};
+use super::devices::{ENDED, Fives, Plan};
 use crate::bounded::Bounded;
-use crate::device::{Fault, Source};
+use crate::device::{Fault, Fill, Source};
 use crate::error::Error;
 use crate::gather::read_bytes_bounded;
 use crate::transfer::read_exactly;
@@ -97,6 +97,20 @@ fn a_limit_over_a_slice(rt: HostRuntime) {
     assert_eq!(rt; first.pull(&mut into), Ok(0));
     assert_eq!(rt; first.limit(), 0);
     assert_eq!(rt; src.at_hand(), [3].as_slice());
+}
+
+#[test]
+fn a_buffer_is_filled_at_once_or_not_at_all(rt: HostRuntime) {
+    let mut src = [1, 2, 3].as_slice();
+    let mut first = Bounded::new(&mut src, 2);
+    let mut into = [0; 2];
+    assert_eq!(rt; first.fill_at_hand(&mut [0; 3]), Fill::TooFew);
+    assert_eq!(rt; first.fill_at_hand(&mut into), Fill::Full);
+    assert_eq!(rt; into, [1, 2]);
+    assert_eq!(rt; first.limit(), 0);
+    assert_eq!(rt; src.fill_at_hand(&mut into), Fill::TooFew);
+    assert_eq!(rt; src, [3].as_slice());
+    assert_eq!(rt; Fives::new(ENDED).fill_at_hand(&mut into), Fill::Unknown);
 }
 
 #[test]

@@ -3,7 +3,7 @@ use Rattle.std.proofs.Common.{length, take, ◌-◌, ◌≡◌, ◌+◌, ◌*◌
 use Rattle.tls_codec_wire.specs.Counts.{OnlyInterrupted, RoseBy}
 use Rattle.tls_codec_wire.specs.Digits.{AreBytes}
 use Rattle.tls_codec_wire.specs.declared.transfer.TheConstants.{MOST_INTERRUPTIONS}
-use Rattle.tls_codec_wire.proofs.transfer.read_exactly.Given as goal
+use Rattle.tls_codec_wire.proofs.transfer.read_as_it_comes.Given as goal
 
 abbrev pub invariant-loop-at : goal.invariant-loop-at
 invariant-loop-at g l = record {
