@@ -28,8 +28,6 @@ pub mod numbers;
 pub mod opaque;
 pub mod options;
 pub mod products;
-#[cfg(test)]
-mod tests;
 pub mod texts;
 pub mod traits;
 pub mod varint;

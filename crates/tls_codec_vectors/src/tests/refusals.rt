@@ -4,10 +4,10 @@ ghost use Rattle.tls_codec_wire.specs.Counts.{NoneFell, fall_never, stay};
 
 use super::plain::is_refused;
 use super::{NO_BYTES, NOT_FILLED, OTHER_TAG};
-use crate::lists::{self, Turns};
-use crate::traits::{Deserialize, DeserializeBytes};
 use std::alloc::Global;
 use std::process::Abort;
+use tls_codec_base::lists::{self, Turns};
+use tls_codec_base::{Deserialize, DeserializeBytes};
 use tls_codec_wire::{Error, Fault, Source};
 
 // Gives its bytes, and then fails.

@@ -4,10 +4,9 @@ ghost use Rattle.tls_codec_wire.specs.declared.error.Error.TheVariants.{InvalidI
 ghost use Rattle.tls_codec_base.specs.Tree.{Empty};
 
 use super::plain::{is_read, is_written_alone};
-use crate::traits::{Serialize, SerializeBytes, Size};
-use crate::{lists, opaque};
 use std::alloc::Global;
 use std::test::Fail;
+use tls_codec_base::{Serialize, SerializeBytes, Size, lists, opaque};
 use tls_codec_wire::{Error, Sink};
 
 // No bytes spell it, and more are announced than there are.

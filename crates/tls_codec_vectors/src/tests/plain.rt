@@ -1,9 +1,9 @@
 //! Numbers, references, arrays, products, boxes and the exact forms.
-use crate::{Deserialize, DeserializeBytes, Serialize, SerializeBytes, Size};
 use std::alloc::Global;
 use std::marker::PhantomData;
 use std::process::Abort;
 use std::test::Fail;
+use tls_codec_base::{Deserialize, DeserializeBytes, Serialize, SerializeBytes, Size};
 use tls_codec_wire::{Error, U24};
 
 // The value is announced and written as these bytes, also behind another one.

@@ -1,6 +1,6 @@
 // Numbers and their bytes, on both paths.
-use crate::traits::{Deserialize, DeserializeBytes, Serialize, SerializeBytes, Size};
 use std::test::Fail;
+use tls_codec_base::{Deserialize, DeserializeBytes, Serialize, SerializeBytes, Size};
 use tls_codec_wire::{Error, TlsVarInt, U24};
 
 #[test]

@@ -7,11 +7,11 @@ ghost use Rattle.tls_codec_wire.specs.Counts.{no_counts, stay};
 
 use super::plain::{is_read, is_refused, is_written, is_written_alone};
 use super::{NO_BYTES, NOT_FILLED};
-use crate::lists::{self, Turns};
-use crate::traits::{Deserialize, DeserializeBytes, SerializeBytes};
 use std::alloc::Global;
 use std::process::Abort;
 use std::test::Fail;
+use tls_codec_base::lists::{self, Turns};
+use tls_codec_base::{Deserialize, DeserializeBytes, SerializeBytes};
 use tls_codec_wire::{Error, Fault, Source};
 
 // Gives its bytes one a call.

@@ -1,7 +1,7 @@
 //! Bytes and texts behind their length.
 use super::plain::{is_read, is_refused, is_written_alone};
-use crate::{Deserialize, DeserializeBytes, opaque};
 use std::test::Fail;
+use tls_codec_base::{Deserialize, DeserializeBytes, opaque};
 use tls_codec_wire::Error;
 
 const CUT_OFF: Error = Error::DecodingError("declared content is not there");

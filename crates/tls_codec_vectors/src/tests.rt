@@ -9,8 +9,8 @@ mod plain;
 mod refusals;
 mod texts;
 
-use crate::traits::{Deserialize, DeserializeBytes, Serialize, SerializeBytes, Size};
 use std::test::Fail;
+use tls_codec_base::{Deserialize, DeserializeBytes, Serialize, SerializeBytes, Size};
 use tls_codec_wire::{Error, Fault, Sink, Source};
 
 const OTHER_TAG: Error = Error::DecodingError("option tag is not 0 or 1");
