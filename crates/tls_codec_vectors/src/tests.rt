@@ -3,6 +3,8 @@ ghost use Rattle.std.specs.Prelude.{None};
 ghost use Rattle.tls_codec_wire.specs.Counts.{NoneFell, fall_never, stay};
 
 mod appending;
+mod byte_vectors;
+mod each_call;
 mod lists;
 mod numbers;
 mod plain;

@@ -12,8 +12,6 @@
 mod contents;
 pub mod laws;
 mod show;
-#[cfg(test)]
-mod tests;
 pub mod vl_byte_slice;
 pub mod vl_byte_vec;
 pub mod vl_bytes;

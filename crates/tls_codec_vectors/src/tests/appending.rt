@@ -3,7 +3,7 @@ ghost use Rattle.std.specs.Prelude.{◌≡◌, true};
 ghost use Rattle.tls_codec_wire.specs.declared.error.Error.TheVariants.{InvalidInput};
 ghost use Rattle.tls_codec_base.specs.Tree.{Empty};
 
-use super::plain::{is_read, is_written_alone};
+use super::each_call::{is_read, is_written_alone};
 use std::alloc::Global;
 use std::test::Fail;
 use tls_codec_base::{Serialize, SerializeBytes, Size, lists, opaque};

@@ -5,13 +5,13 @@ ghost use Rattle.std.proofs.Common.{rules};
 ghost use Rattle.std.proofs.lemmas.Grind.{common_steps};
 ghost use Rattle.tls_codec_wire.specs.Counts.{no_counts, stay};
 
-use super::plain::{is_read, is_refused, is_written, is_written_alone};
+use super::each_call::{is_read, is_refused, is_refused_by_each, is_written, is_written_alone};
 use super::{NO_BYTES, NOT_FILLED};
 use std::alloc::Global;
 use std::process::Abort;
 use std::test::Fail;
 use tls_codec_base::lists::{self, Turns};
-use tls_codec_base::{Deserialize, DeserializeBytes, SerializeBytes};
+use tls_codec_base::{Deserialize, SerializeBytes};
 use tls_codec_wire::{Error, Fault, Source};
 
 // Gives its bytes one a call.
@@ -39,25 +39,6 @@ impl Source for Drip<'_> {
     ghost gives_from_front = { λ a xs b p. p };
 
     ghost no_count_falls = { λ a xs b p. stay no_counts };
-}
-
-// The two paths refuse the bytes, each with its error.
-fn is_refused_by_each<T: Deserialize + DeserializeBytes>(
-    rt: &impl Abort,
-    alloc: Global,
-    bytes: &[u8],
-    by_slice: Error,
-    by_reader: Error,
-) {
-    assert_eq!(rt;
-        T::tls_deserialize_bytes(alloc, bytes).err(),
-        Some(by_slice)
-    );
-    let mut source = bytes;
-    assert_eq!(rt;
-        T::tls_deserialize(alloc, &mut source).err(),
-        Some(by_reader)
-    );
 }
 
 // The value is announced and written as these bytes, to a vector of its own.

@@ -1,82 +1,9 @@
 //! Numbers, references, arrays, products, boxes and the exact forms.
-use std::alloc::Global;
+use super::each_call::{is_read, is_refused, is_written, is_written_alone};
 use std::marker::PhantomData;
-use std::process::Abort;
 use std::test::Fail;
-use tls_codec_base::{Deserialize, DeserializeBytes, Serialize, SerializeBytes, Size};
+use tls_codec_base::{Deserialize, DeserializeBytes, Serialize};
 use tls_codec_wire::{Error, U24};
-
-// The value is announced and written as these bytes, also behind another one.
-pub(super) fn is_written<T: Serialize>(
-    rt: &impl Abort,
-    alloc: Global,
-    value: &T,
-    bytes: &[u8],
-) -> Result<(), Fail> {
-    assert_eq!(rt; value.tls_serialized_len(), bytes.len());
-    let detached = value.tls_serialize_detached(alloc)?;
-    assert_eq!(rt; detached.as_slice(), bytes);
-    let mut received = Vec::new(alloc);
-    let count = value.tls_serialize(&mut received)?;
-    assert_eq!(rt; count, bytes.len());
-    assert_eq!(rt; received.as_slice(), bytes);
-    let mut behind = [0xee].to_vec(alloc)?;
-    let count = value.tls_serialize_into(&mut behind)?;
-    assert_eq!(rt; count, bytes.len());
-    let mut both = [0xee].to_vec(alloc)?;
-    both.extend_from_slice(bytes)?;
-    assert_eq!(rt; behind.as_slice(), both.as_slice());
-    Ok(())
-}
-
-// The value is written as these bytes, also to a vector of its own.
-pub(super) fn is_written_alone<T: Serialize + SerializeBytes>(
-    rt: &impl Abort,
-    alloc: Global,
-    value: &T,
-    bytes: &[u8],
-) -> Result<(), Fail> {
-    is_written(rt, alloc, value, bytes)?;
-    let alone = value.tls_serialize_bytes(alloc)?;
-    assert_eq!(rt; alone.as_slice(), bytes);
-    Ok(())
-}
-
-// Both paths read the value of a front of the bytes, and leave the rest.
-pub(super) fn is_read<T: Deserialize + DeserializeBytes + PartialEq>(
-    rt: &impl Abort,
-    alloc: Global,
-    bytes: &[u8],
-    value: &T,
-    rest: &[u8],
-) -> Result<(), Fail> {
-    let (found, left) = T::tls_deserialize_bytes(alloc, bytes)?;
-    assert!(rt; found == *value);
-    assert_eq!(rt; left, rest);
-    let mut source = bytes;
-    let found = T::tls_deserialize(alloc, &mut source)?;
-    assert!(rt; found == *value);
-    assert_eq!(rt; source, rest);
-    Ok(())
-}
-
-// Both paths refuse the bytes with this error.
-pub(super) fn is_refused<T: Deserialize + DeserializeBytes>(
-    rt: &impl Abort,
-    alloc: Global,
-    bytes: &[u8],
-    error: Error,
-) {
-    match T::tls_deserialize_bytes(alloc, bytes) {
-        Ok(_) => assert!(rt; false),
-        Err(found) => assert_eq!(rt; found, error),
-    }
-    let mut source = bytes;
-    match T::tls_deserialize(alloc, &mut source) {
-        Ok(_) => assert!(rt; false),
-        Err(found) => assert_eq!(rt; found, error),
-    }
-}
 
 #[test]
 fn numbers_in_a_row(rt: HostRuntime) -> Result<(), Fail> {

@@ -2,7 +2,7 @@
 ghost use Rattle.std.specs.Prelude.{None};
 ghost use Rattle.tls_codec_wire.specs.Counts.{NoneFell, fall_never, stay};
 
-use super::plain::is_refused;
+use super::each_call::is_refused;
 use super::{NO_BYTES, NOT_FILLED, OTHER_TAG};
 use std::alloc::Global;
 use std::process::Abort;

@@ -1,5 +1,5 @@
 //! Bytes and texts behind their length.
-use super::plain::{is_read, is_refused, is_written_alone};
+use super::each_call::{is_read, is_refused, is_written_alone};
 use std::test::Fail;
 use tls_codec_base::{Deserialize, DeserializeBytes, opaque};
 use tls_codec_wire::Error;

@@ -1,13 +1,20 @@
 //! What is written and read, and what is refused.
-use super::filled;
-use crate::{VLByteSlice, VLByteVec, VLBytes};
-use std::alloc::Global;
+use crate::tests::each_call::{is_read, is_refused_by_each};
+use std::alloc::{AllocError, Global};
 use std::process::Abort;
 use std::test::Fail;
-use tls_codec_base::{Deserialize, DeserializeBytes, Serialize, SerializeBytes, Size};
+use tls_codec_base::{Serialize, SerializeBytes};
+use tls_codec_vl::{VLByteSlice, VLByteVec, VLBytes};
 use tls_codec_wire::Error;
 
 const NOT_THERE: Error = Error::DecodingError("declared content is not there");
+
+// So many bytes of one value.
+fn filled(alloc: Global, count: usize, byte: u8) -> Result<Vec<u8>, AllocError> {
+    let mut content = Vec::new(alloc);
+    content.resize(count, byte)?;
+    Ok(content)
+}
 
 // The value is announced and written in so many bytes, which begin with these.
 fn begins<T: Serialize>(
@@ -40,43 +47,6 @@ fn begins_alone<T: Serialize + SerializeBytes>(
     assert_eq!(rt; alone.len(), count);
     assert!(rt; alone.as_slice().starts_with(front));
     Ok(())
-}
-
-// Both paths read the value of a front of the bytes, and leave the rest.
-fn is_read<T: Deserialize + DeserializeBytes + PartialEq>(
-    rt: &impl Abort,
-    alloc: Global,
-    bytes: &[u8],
-    value: &T,
-    rest: &[u8],
-) -> Result<(), Fail> {
-    let (found, left) = T::tls_deserialize_bytes(alloc, bytes)?;
-    assert!(rt; found == *value);
-    assert_eq!(rt; left, rest);
-    let mut source = bytes;
-    let found = T::tls_deserialize(alloc, &mut source)?;
-    assert!(rt; found == *value);
-    assert_eq!(rt; source, rest);
-    Ok(())
-}
-
-// Each path refuses the bytes with its error.
-fn is_refused<T: Deserialize + DeserializeBytes>(
-    rt: &impl Abort,
-    alloc: Global,
-    bytes: &[u8],
-    by_slice: Error,
-    by_reader: Error,
-) {
-    match T::tls_deserialize_bytes(alloc, bytes) {
-        Ok(_) => assert!(rt; false),
-        Err(found) => assert_eq!(rt; found, by_slice),
-    }
-    let mut source = bytes;
-    match T::tls_deserialize(alloc, &mut source) {
-        Ok(_) => assert!(rt; false),
-        Err(found) => assert_eq!(rt; found, by_reader),
-    }
 }
 
 #[test]
@@ -141,7 +111,7 @@ fn bytes_that_are_not_there(rt: HostRuntime) {
         ([0x40].as_slice(), Error::EndOfStream),
     ];
     for (bytes, by_slice) in table {
-        is_refused::<VLBytes>(&rt, alloc, bytes, by_slice, Error::EndOfStream);
-        is_refused::<VLByteVec>(&rt, alloc, bytes, by_slice, Error::EndOfStream);
+        is_refused_by_each::<VLBytes>(&rt, alloc, bytes, by_slice, Error::EndOfStream);
+        is_refused_by_each::<VLByteVec>(&rt, alloc, bytes, by_slice, Error::EndOfStream);
     }
 }

@@ -1,7 +1,7 @@
 //! The calls that read and write nothing.
-use crate::{VLByteSlice, VLByteVec, VLBytes};
 use std::hash::{DefaultHasher, Hash, Hasher};
 use std::test::Fail;
+use tls_codec_vl::{VLByteSlice, VLByteVec, VLBytes};
 
 fn hash_of<T: Hash>(value: &T) -> u64 {
     let mut state = DefaultHasher::new();

@@ -1,15 +1,15 @@
 //! Lists of byte vectors, and bytes behind others.
-use super::{is_read_by_each, is_written_by_each};
-use crate::VLBytes;
+use crate::tests::each_call::{is_read_whole, is_written_alone};
 use std::test::Fail;
 use tls_codec_base::Serialize;
+use tls_codec_vl::VLBytes;
 
 #[test]
 fn a_wide_element_is_written_in_the_least(rt: HostRuntime) -> Result<(), Fail> {
     let alloc = rt.alloc();
     let list = vec![in alloc; VLBytes::from_array(alloc, &[0xaa])?]?;
-    is_read_by_each(&rt, alloc, &[0x03, 0x40, 0x01, 0xaa], &list)?;
-    is_written_by_each(&rt, alloc, &list, &[0x02, 0x01, 0xaa])
+    is_read_whole(&rt, alloc, &[0x03, 0x40, 0x01, 0xaa], &list)?;
+    is_written_alone(&rt, alloc, &list, &[0x02, 0x01, 0xaa])
 }
 
 #[test]

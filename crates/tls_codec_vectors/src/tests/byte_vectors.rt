@@ -1,0 +1,5 @@
+//! Byte vectors as messages spell them, and the calls of each type.
+mod calls;
+mod lists;
+mod sizes;
+mod spellings;
