@@ -33,10 +33,16 @@ pub enum Case {
     DeepOne,
     /// Lists nested eight deep over 256 bytes, two elements in each.
     DeepTwo,
+    /// Two lists of 2,048 bytes in another.
+    Deep2,
+    /// The same, four deep.
+    Deep4,
+    /// The same, eight deep.
+    Deep8,
 }
 
 /// The cases, in the order in which they are timed.
-pub const CASES: [Case; 13] = [
+pub const CASES: [Case; 16] = [
     Case::Copy,
     Case::Bytes64,
     Case::Bytes4096,
@@ -50,6 +56,9 @@ pub const CASES: [Case; 13] = [
     Case::VlLists,
     Case::DeepOne,
     Case::DeepTwo,
+    Case::Deep2,
+    Case::Deep4,
+    Case::Deep8,
 ];
 
 impl Case {
@@ -71,6 +80,9 @@ impl Case {
             Case::VlLists => "Vec<VLBytes> 1000x32",
             Case::DeepOne => "8 deep, one element a level",
             Case::DeepTwo => "8 deep, two elements a level",
+            Case::Deep2 => "2 deep 2x2048",
+            Case::Deep4 => "4 deep 2x2048",
+            Case::Deep8 => "8 deep 2x2048",
         }
     }
 }

@@ -16,8 +16,15 @@ use tls_codec_base::{Deserialize, DeserializeBytes, Serialize};
 use tls_codec_vl::VLBytes;
 use tls_codec_wire::Error;
 
-// Eight lists, one in the other.
-type Deep = Vec<Vec<Vec<Vec<Vec<Vec<Vec<Vec<u8>>>>>>>>;
+// Lists, one in the other, so many deep.
+type Two = Vec<Vec<u8>>;
+
+type Four = Vec<Vec<Two>>;
+
+type Eight = Vec<Vec<Vec<Vec<Four>>>>;
+
+// Two lists of 2,048 bytes in one, and that one in others that have no more. Fewer deep are its end.
+const DEEP: [usize; 8] = [1, 1, 1, 1, 1, 1, 2, 2048];
 
 /// How many bytes a case has, and how many nanoseconds each of its calls takes.
 #[derive(Clone, Copy, PartialEq, Eq, Debug)]
@@ -52,8 +59,11 @@ pub fn measure<C: Clock>(alloc: Global, clock: &C, case: Case) -> Result<Figures
         Case::Vl4096 => measure_codec::<VLBytes, C>(alloc, clock, &[4096]),
         Case::Vl1048576 => measure_codec::<VLBytes, C>(alloc, clock, &[1_048_576]),
         Case::VlLists => measure_codec::<Vec<VLBytes>, C>(alloc, clock, &[1000, 32]),
-        Case::DeepOne => measure_codec::<Deep, C>(alloc, clock, &[1; 8]),
-        Case::DeepTwo => measure_codec::<Deep, C>(alloc, clock, &[2; 8]),
+        Case::DeepOne => measure_codec::<Eight, C>(alloc, clock, &[1; 8]),
+        Case::DeepTwo => measure_codec::<Eight, C>(alloc, clock, &[2; 8]),
+        Case::Deep2 => measure_codec::<Two, C>(alloc, clock, &DEEP[6..]),
+        Case::Deep4 => measure_codec::<Four, C>(alloc, clock, &DEEP[4..]),
+        Case::Deep8 => measure_codec::<Eight, C>(alloc, clock, &DEEP),
     }
 }
 
