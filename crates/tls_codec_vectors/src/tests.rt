@@ -9,6 +9,7 @@ mod lists;
 mod numbers;
 mod plain;
 mod refusals;
+mod runs;
 mod texts;
 
 use std::test::Fail;

@@ -16,8 +16,18 @@ use tls_codec_wire::{Error, Fault, Source};
 
 // Gives its bytes one a call.
 #[derive(Drop)]
-struct Drip<'a> {
+pub(super) struct Drip<'a> {
     bytes: &'a [u8],
+}
+
+impl<'a> Drip<'a> {
+    pub(super) fn new(bytes: &'a [u8]) -> Drip<'a> {
+        Drip { bytes }
+    }
+
+    pub(super) fn left(&self) -> &'a [u8] {
+        self.bytes
+    }
 }
 
 impl Source for Drip<'_> {
@@ -127,12 +137,12 @@ fn lists_in_products(rt: HostRuntime) -> Result<(), Fail> {
 #[test]
 fn lists_in_lists_one_byte_a_pull(rt: HostRuntime) -> Result<(), Fail> {
     let bytes = [6, 2, 0, 1, 2, 0, 2, 0xee];
-    let mut source = Drip { bytes: &bytes };
+    let mut source = Drip::new(&bytes);
     let lists = <Vec<Vec<u16>>>::tls_deserialize(rt.alloc(), &mut source)?;
     assert_eq!(rt; lists.len(), 2);
     assert_eq!(rt; lists[0].as_slice(), [1].as_slice());
     assert_eq!(rt; lists[1].as_slice(), [2].as_slice());
-    assert_eq!(rt; source.bytes, [0xee].as_slice());
+    assert_eq!(rt; source.left(), [0xee].as_slice());
     Ok(())
 }
 
