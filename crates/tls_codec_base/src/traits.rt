@@ -31,17 +31,6 @@ pub trait Size {
     fn tls_serialized_len(&self) -> usize
         ensures { result ≡ format.announced (plain self.now) };
 
-    /// The elements that all of these bytes spell in a row; none where such elements are read one by
-    /// one.
-    ///
-    /// Provided; a type of fixed width may do it at once, and every list then goes through here.
-    /// `OutOfMemory`: there was none.
-    fn tls_elements(_alloc: Global, bytes: &[u8]) -> Result<Option<Vec<Self>>, Error>
-        ensures { AllRead format plain bytes.now result }
-    {
-        Ok(None)
-    }
-
     /// Sends the elements' shortest forms in a row, and answers how many bytes that is, saturated at
     /// `usize::MAX`; none and nothing is sent where such elements are sent one by one.
     ///
@@ -166,5 +155,16 @@ pub trait DeserializeBytes: Size + Drop {
             return Err(Error::TrailingData);
         }
         Ok(value)
+    }
+
+    /// The elements that all of these bytes spell in a row; none where such elements are read one by
+    /// one.
+    ///
+    /// Provided; a type of fixed width may do it at once, and every list then goes through here.
+    /// `OutOfMemory`: there was none.
+    fn tls_elements(_alloc: Global, bytes: &[u8]) -> Result<Option<Vec<Self>>, Error>
+        ensures { AllRead Self.format Self.plain bytes.now result }
+    {
+        Ok(None)
     }
 }

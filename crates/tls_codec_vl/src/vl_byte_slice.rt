@@ -82,6 +82,14 @@ impl<'a> Size for &VLByteSlice<'a> {
         (**self).tls_serialized_len()
     }
 
+    /// They are sent one by one.
+    fn tls_send_elements<W: Sink>(
+        _elements: &[&VLByteSlice<'a>],
+        _sink: &mut W,
+    ) -> Result<Option<usize>, Error> {
+        Ok(None)
+    }
+
     ghost lawful = { bytes_meets };
 }
 

@@ -25,14 +25,6 @@ impl Size for u16 {
         2
     }
 
-    /// The numbers are read at once.
-    fn tls_elements(alloc: Global, bytes: &[u8]) -> Result<Option<Vec<u16>>, Error> {
-        if bytes.len() % 2 != 0 {
-            return Ok(None);
-        }
-        Ok(Some(numbers_of(alloc, bytes)?))
-    }
-
     ghost lawful = { number_meets 2 (Prim.omega arith) };
 }
 
@@ -102,6 +94,14 @@ impl DeserializeBytes for u16 {
     fn tls_deserialize_bytes(_alloc: Global, bytes: &[u8]) -> Result<(u16, &[u8]), Error> {
         let (digits, rest) = split_digits(bytes)?;
         Ok((u16::from_be_bytes(digits), rest))
+    }
+
+    /// The numbers are read at once.
+    fn tls_elements(alloc: Global, bytes: &[u8]) -> Result<Option<Vec<u16>>, Error> {
+        if bytes.len() % 2 != 0 {
+            return Ok(None);
+        }
+        Ok(Some(numbers_of(alloc, bytes)?))
     }
 }
 

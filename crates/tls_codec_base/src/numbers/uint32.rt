@@ -25,14 +25,6 @@ impl Size for u32 {
         4
     }
 
-    /// The numbers are read at once.
-    fn tls_elements(alloc: Global, bytes: &[u8]) -> Result<Option<Vec<u32>>, Error> {
-        if bytes.len() % 4 != 0 {
-            return Ok(None);
-        }
-        Ok(Some(numbers_of(alloc, bytes)?))
-    }
-
     ghost lawful = { number_meets 4 (Prim.omega arith) };
 }
 
@@ -102,6 +94,14 @@ impl DeserializeBytes for u32 {
     fn tls_deserialize_bytes(_alloc: Global, bytes: &[u8]) -> Result<(u32, &[u8]), Error> {
         let (digits, rest) = split_digits(bytes)?;
         Ok((u32::from_be_bytes(digits), rest))
+    }
+
+    /// The numbers are read at once.
+    fn tls_elements(alloc: Global, bytes: &[u8]) -> Result<Option<Vec<u32>>, Error> {
+        if bytes.len() % 4 != 0 {
+            return Ok(None);
+        }
+        Ok(Some(numbers_of(alloc, bytes)?))
     }
 }
 

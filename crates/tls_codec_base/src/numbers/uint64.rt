@@ -25,14 +25,6 @@ impl Size for u64 {
         8
     }
 
-    /// The numbers are read at once.
-    fn tls_elements(alloc: Global, bytes: &[u8]) -> Result<Option<Vec<u64>>, Error> {
-        if bytes.len() % 8 != 0 {
-            return Ok(None);
-        }
-        Ok(Some(numbers_of(alloc, bytes)?))
-    }
-
     ghost lawful = { number_meets 8 (Prim.omega arith) };
 }
 
@@ -102,6 +94,14 @@ impl DeserializeBytes for u64 {
     fn tls_deserialize_bytes(_alloc: Global, bytes: &[u8]) -> Result<(u64, &[u8]), Error> {
         let (digits, rest) = split_digits(bytes)?;
         Ok((u64::from_be_bytes(digits), rest))
+    }
+
+    /// The numbers are read at once.
+    fn tls_elements(alloc: Global, bytes: &[u8]) -> Result<Option<Vec<u64>>, Error> {
+        if bytes.len() % 8 != 0 {
+            return Ok(None);
+        }
+        Ok(Some(numbers_of(alloc, bytes)?))
     }
 }
 

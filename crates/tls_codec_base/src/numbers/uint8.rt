@@ -23,11 +23,6 @@ impl Size for u8 {
         1
     }
 
-    /// The bytes are copied at once.
-    fn tls_elements(alloc: Global, bytes: &[u8]) -> Result<Option<Vec<u8>>, Error> {
-        Ok(Some(Vec::from_slice(alloc, bytes)?))
-    }
-
     /// The bytes are sent at once.
     fn tls_send_elements<W: Sink>(elements: &[u8], sink: &mut W) -> Result<Option<usize>, Error> {
         write_all(sink, elements)?;
@@ -86,6 +81,11 @@ impl DeserializeBytes for u8 {
     fn tls_deserialize_bytes(_alloc: Global, bytes: &[u8]) -> Result<(u8, &[u8]), Error> {
         let (digits, rest) = split_digits(bytes)?;
         Ok((u8::from_be_bytes(digits), rest))
+    }
+
+    /// The bytes are copied at once.
+    fn tls_elements(alloc: Global, bytes: &[u8]) -> Result<Option<Vec<u8>>, Error> {
+        Ok(Some(Vec::from_slice(alloc, bytes)?))
     }
 }
 

@@ -3,7 +3,7 @@ use Rattle.tls_codec_wire.proofs.Bytes.{are_bytes}
 use Rattle.tls_codec_base.specs.Tree.{number_trees}
 use Rattle.tls_codec_base.specs.Grammar.{Reading, content, number}
 use Rattle.tls_codec_base.proofs.ByteContents.{bytes_content}
-use Rattle.tls_codec_base.proofs.numbers.uint8.U8Size.tls_elements.Goals as goal
+use Rattle.tls_codec_base.proofs.numbers.uint8.U8DeserializeBytes.tls_elements.Goals as goal
 
 pub returns : goal.returns
 returns c =
