@@ -1,7 +1,7 @@
 -- What the cases are called.
 use Rattle.std.specs.Prelude.{ℕ, List, [], ◌∷◌, ◌++◌, codes}
 use Rattle.tls_codec_bench.specs.declared.cases.Case.{Case}
-use Rattle.tls_codec_bench.specs.declared.cases.Case.TheVariants.{Copy, Bytes64, Bytes4096, Bytes1048576, Numbers512, Numbers65536, Lists, Vl64, Vl4096, Vl1048576, VlLists, DeepOne, DeepTwo, Deep2, Deep4, Deep8}
+use Rattle.tls_codec_bench.specs.declared.cases.Case.TheVariants.{Copy, Bytes64, Bytes4096, Bytes1048576, Numbers512, Numbers65536, Lists, Vl64, Vl4096, Vl1048576, VlLists, DeepOne, DeepTwo, Deep2, Deep4, Deep8, Deep16}
 
 abbrev pub name_of : Case → List ℕ
 name_of Copy = codes "copy 1048576"
@@ -20,6 +20,7 @@ name_of DeepTwo = codes "8 deep, two elements a level"
 name_of Deep2 = codes "2 deep 2x2048"
 name_of Deep4 = codes "4 deep 2x2048"
 name_of Deep8 = codes "8 deep 2x2048"
+name_of Deep16 = codes "16 deep 2x2048"
 
 -- the names of some cases, each ended by a line feed
 abbrev pub names_of : List Case → List ℕ

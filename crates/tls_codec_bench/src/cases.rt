@@ -39,10 +39,12 @@ pub enum Case {
     Deep4,
     /// The same, eight deep.
     Deep8,
+    /// The same, sixteen deep.
+    Deep16,
 }
 
 /// The cases, in the order in which they are timed.
-pub const CASES: [Case; 16] = [
+pub const CASES: [Case; 17] = [
     Case::Copy,
     Case::Bytes64,
     Case::Bytes4096,
@@ -59,6 +61,7 @@ pub const CASES: [Case; 16] = [
     Case::Deep2,
     Case::Deep4,
     Case::Deep8,
+    Case::Deep16,
 ];
 
 impl Case {
@@ -83,6 +86,7 @@ impl Case {
             Case::Deep2 => "2 deep 2x2048",
             Case::Deep4 => "4 deep 2x2048",
             Case::Deep8 => "8 deep 2x2048",
+            Case::Deep16 => "16 deep 2x2048",
         }
     }
 }

@@ -23,8 +23,10 @@ type Four = Vec<Vec<Two>>;
 
 type Eight = Vec<Vec<Vec<Vec<Four>>>>;
 
+type Sixteen = Vec<Vec<Vec<Vec<Vec<Vec<Vec<Vec<Eight>>>>>>>>;
+
 // Two lists of 2,048 bytes in one, and that one in others that have no more. Fewer deep are its end.
-const DEEP: [usize; 8] = [1, 1, 1, 1, 1, 1, 2, 2048];
+const DEEP: [usize; 16] = [1, 1, 1, 1, 1, 1, 1, 1, 1, 1, 1, 1, 1, 1, 2, 2048];
 
 /// How many bytes a case has, and how many nanoseconds each of its calls takes.
 #[derive(Clone, Copy, PartialEq, Eq, Debug)]
@@ -61,9 +63,10 @@ pub fn measure<C: Clock>(alloc: Global, clock: &C, case: Case) -> Result<Figures
         Case::VlLists => measure_codec::<Vec<VLBytes>, C>(alloc, clock, &[1000, 32]),
         Case::DeepOne => measure_codec::<Eight, C>(alloc, clock, &[1; 8]),
         Case::DeepTwo => measure_codec::<Eight, C>(alloc, clock, &[2; 8]),
-        Case::Deep2 => measure_codec::<Two, C>(alloc, clock, &DEEP[6..]),
-        Case::Deep4 => measure_codec::<Four, C>(alloc, clock, &DEEP[4..]),
-        Case::Deep8 => measure_codec::<Eight, C>(alloc, clock, &DEEP),
+        Case::Deep2 => measure_codec::<Two, C>(alloc, clock, &DEEP[14..]),
+        Case::Deep4 => measure_codec::<Four, C>(alloc, clock, &DEEP[12..]),
+        Case::Deep8 => measure_codec::<Eight, C>(alloc, clock, &DEEP[8..]),
+        Case::Deep16 => measure_codec::<Sixteen, C>(alloc, clock, &DEEP),
     }
 }
 
