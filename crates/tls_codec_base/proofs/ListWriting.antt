@@ -1,5 +1,5 @@
 -- What is written of a list's elements in a row.
-use Rattle.std.proofs.Common.{◌≡◌, ℕ, suc, ◌+◌, ◌<◌, ◌≤◌, ◌^◌, List, [], ◌++◌, length, get_or, drop, inl, inr, refl, sym, ap, subst, ◌∙◌, append_assoc, append-nil, add-one, length-append, arith}
+use Rattle.std.proofs.Common.{◌≡◌, ℕ, suc, ◌+◌, ◌<◌, ◌≤◌, ◌^◌, List, [], ◌∷◌, ◌++◌, length, get_or, drop, inl, inr, refl, sym, ap, subst, ◌∙◌, append_assoc, append-nil, add-one, length-append, arith}
 use Rattle.std.proofs.Math.Seq.{drop-cons}
 use Rattle.std.specs.Io.KnownBytes.{Appends}
 use Rattle.std.proofs.KnownBytes.{Appends-trans}
@@ -23,6 +23,10 @@ use Rattle.tls_codec_base.proofs.Sent.{cause_later}
 -- one element, and the others
 pub trees_drop : {T : Type 0} (plain : T → Tree) (xs : List T) (i : ℕ) (x : T) → i < length xs → x ≡ get_or xs i x → trees plain (drop i xs) ≡ Join (plain x) (trees plain (drop (i + 1) xs))
 trees_drop plain xs i x lt e = ap (trees plain) (drop-cons xs i x lt) ∙ ap (λ (y : _). Join (plain y) (trees plain (drop (suc i) xs))) (sym e) ∙ ap (λ (k : ℕ). Join (plain x) (trees plain (drop k xs))) (sym (add-one i))
+
+pub trees_none : {T : Type 0} (plain : T → Tree) (xs : List T) → length xs ≡ 0 → trees plain xs ≡ Empty
+trees_none plain [] n = refl
+trees_none plain (x ∷ xs) n = absurd (omega (arith, n))
 
 -- ---- announced lengths
 
@@ -100,6 +104,59 @@ module _ {element : Format} (l : MeetsLaws element) where
   pub named_next : {all left x vs : Tree} {form : List ℕ} {e : Error} → FormSoFar element all left form → left ≡ Join x vs → element.refuses x e → content_refuses element.refuses all e
   named_next {all} {left} {x} {vs} {form} {e} p h r = p.named e (subst (λ (u : Tree). content_refuses element.refuses u e) (sym h) (inl r))
 
+-- ---- many elements at once
+
+-- what is behind a part of what is left
+pub form_behind : {element : Format} {all left behind : Tree} {form more : List ℕ} → FormSoFar element all left form → FormSoFar element left behind more → FormSoFar element all behind (form ++ more)
+form_behind {element} {all} {left} {behind} {form} {more} p q = record {
+  onward = λ c r. subst (λ (u : List ℕ). IsShortest (content element.spells) u all) (sym (append_assoc form more c)) (p.onward (more ++ c) (q.onward c r));
+  back = λ s r.
+      let a = p.back s r in
+      let b = q.back a.0 a.2 in
+      (b.0, a.1 ∙ ap (λ (u : List ℕ). form ++ u) b.1 ∙ sym (append_assoc form more b.0), b.2);
+  named = λ e r. p.named e (q.named e r);
+}
+
+-- the shortest form of elements begins with that of the first ones
+pub record FirstForm (element : Grammar) (first : Tree) (s : List ℕ) : Type 0 where
+  pub front : List ℕ
+  pub others : List ℕ
+  pub whole : s ≡ front ++ others
+  pub shortest : IsShortest (content element) front first
+
+module _ {element : Format} (l : MeetsLaws element) {T : Type 0} (plain : T → Tree) where
+  -- the shortest form of the first elements is the form so far
+  form_next : (x : T) (xs ys : List T) (c : List ℕ) (n : NextForm element.spells (trees plain (x ∷ xs)) (plain x) (trees plain xs) [] c) → FormSoFar element (trees plain (xs ++ ys)) (trees plain ys) n.others → FormSoFar element (trees plain (x ∷ (xs ++ ys))) (trees plain ys) c
+  form_next x xs ys c n p =
+      let one = form_more l (form_none element (trees plain (x ∷ (xs ++ ys)))) refl n.next_shortest in
+      subst (λ (u : List ℕ). FormSoFar element (trees plain (x ∷ (xs ++ ys))) (trees plain ys) u) (sym n.whole) (form_behind one p)
+
+  pub form_first : (xs ys : List T) (c : List ℕ) → IsShortest (content element.spells) c (trees plain xs) → FormSoFar element (trees plain (xs ++ ys)) (trees plain ys) c
+  form_first [] ys c p = subst (λ (u : List ℕ). FormSoFar element (trees plain ys) (trees plain ys) u) (sym p.spelled) (form_none element (trees plain ys))
+  form_first (x ∷ xs) ys c p =
+      let n = next_form l (form_none element (trees plain (x ∷ xs))) refl c p in
+      form_next x xs ys c n (form_first xs ys n.others n.others_shortest)
+
+  first_next : (x : T) (xs ys : List T) (s : List ℕ) (n : NextForm element.spells (trees plain (x ∷ (xs ++ ys))) (plain x) (trees plain (xs ++ ys)) [] s) → FirstForm element.spells (trees plain xs) n.others → FirstForm element.spells (trees plain (x ∷ xs)) s
+  first_next x xs ys s n r = record {
+    front = n.next ++ r.front;
+    others = r.others;
+    whole = n.whole ∙ ap (λ (u : List ℕ). n.next ++ u) r.whole ∙ sym (append_assoc n.next r.front r.others);
+    shortest = join_least l (plain x) (trees plain xs) n.next r.front n.next_shortest r.shortest;
+  }
+
+  pub first_form : (xs ys : List T) (s : List ℕ) → IsShortest (content element.spells) s (trees plain (xs ++ ys)) → FirstForm element.spells (trees plain xs) s
+  first_form [] ys s p = record { front = []; others = s; whole = refl; shortest = record { spelled = refl; least = λ t q. inl q } }
+  first_form (x ∷ xs) ys s p =
+      let n = next_form l (form_none element (trees plain (x ∷ (xs ++ ys)))) refl s p in
+      first_next x xs ys s n (first_form xs ys n.others n.others_shortest)
+
+  -- an error that is named for the first elements is named for all
+  pub named_first : (xs ys : List T) (e : Error) → content_refuses element.refuses (trees plain xs) e → content_refuses element.refuses (trees plain (xs ++ ys)) e
+  named_first [] ys e p = absurd p
+  named_first (x ∷ xs) ys e (inl p) = inl p
+  named_first (x ∷ xs) ys e (inr p) = inr (named_first xs ys e p)
+
 -- ---- to a sink
 
 -- the form so far was sent, of n bytes
@@ -135,5 +192,32 @@ module _ {S : Type 0} {sink : Ghosts S} {element : Format} (l : MeetsLaws elemen
         let behind : next.next ++ next.others ≡ q.sent ++ rest = ap (λ (u : List ℕ). u ++ next.others) k.1 ∙ append_assoc q.sent k.0 next.others in
         (rest, next.whole ∙ ap (λ (u : List ℕ). p.form ++ u) behind ∙ sym (append_assoc p.form q.sent rest));
     cause = cause_later (sink.counts a) (sink.counts b) (sink.counts c) e p.fell (named_next l p.so_far h) q.cause;
+    fell = fall_never p.fell q.fell;
+  }
+
+module _ {S : Type 0} {sink : Ghosts S} {element : Format} (l : MeetsLaws element) {T : Type 0} (plain : T → Tree) where
+  -- the next elements were sent at once
+  pub sent_first : (xs ys : List T) {all left : Tree} {a b c : S} {n k m : ℕ} → SentSoFar element sink all left a b n → left ≡ trees plain (xs ++ ys) → Sends (content_format element) (trees plain xs) sink b c k → m ≡ capped (n + k) → SentSoFar element sink all (trees plain ys) a c m
+  sent_first xs ys {all} {left} {a} {b} {c} {n} {k} {m} p e q h = record {
+    form = p.form ++ q.form;
+    so_far = form_behind p.so_far (subst (λ (u : Tree). FormSoFar element u (trees plain ys) q.form) (sym e) (form_first l plain xs ys q.form q.shortest));
+    held = Appends-trans (sink.received a) (sink.received b) (sink.received c) p.form q.form p.held q.held;
+    fell = fall_never p.fell q.fell;
+    count = omega (arith, h, p.count, q.count, length-append p.form q.form);
+  }
+
+  -- or refused
+  pub first_breaks : (xs ys : List T) {all left : Tree} {a b c : S} {n : ℕ} {e : Error} → SentSoFar element sink all left a b n → left ≡ trees plain (xs ++ ys) → Breaks (content_format element) (trees plain xs) sink b c e → Breaks (content_format element) all sink a c e
+  first_breaks xs ys {all} {left} {a} {b} {c} {n} {e} p h q = record {
+    sent = p.form ++ q.sent;
+    held = Appends-trans (sink.received a) (sink.received b) (sink.received c) p.form q.sent p.held q.held;
+    beginning = λ s r.
+        let behind = p.so_far.back s r in
+        let f = first_form l plain xs ys behind.0 (subst (λ (u : Tree). IsShortest (content element.spells) behind.0 u) h behind.2) in
+        let k = q.beginning f.front f.shortest in
+        let rest : List ℕ = k.0 ++ f.others in
+        let same : f.front ++ f.others ≡ q.sent ++ rest = ap (λ (u : List ℕ). u ++ f.others) k.1 ∙ append_assoc q.sent k.0 f.others in
+        (rest, behind.1 ∙ ap (λ (u : List ℕ). p.form ++ u) (f.whole ∙ same) ∙ sym (append_assoc p.form q.sent rest));
+    cause = cause_later (sink.counts a) (sink.counts b) (sink.counts c) e p.fell (λ r. p.so_far.named e (subst (λ (u : Tree). content_refuses element.refuses u e) (sym h) (named_first l plain xs ys e r))) q.cause;
     fell = fall_never p.fell q.fell;
   }

@@ -1,6 +1,5 @@
 -- Numbers of one width in a row, of which a source may have too few.
-use Rattle.std.proofs.Common.{◌≡◌, ℕ, ◌+◌, ◌-◌, ◌*◌, ◌/◌, ◌<◌, ◌≤◌, ◌^◌, List, [], ◌++◌, length, take, drop, take-append-drop, length-take-le, Option, None, Some, false, true, inl, inr, refl, sym, ap, subst, ◌∙◌, arith, length-append, map}
-use Rattle.std.proofs.lemmas.Nat.{div-add-mod'}
+use Rattle.std.proofs.Common.{◌≡◌, ℕ, ◌<◌, ◌^◌, List, [], length, take, length-take-le, Option, None, Some, false, true, inl, inr, refl, ap, subst, ◌∙◌, arith, length-append}
 use Rattle.std.specs.Prelude.{option_map, Result, Ok, Err, Vec}
 use Rattle.std.specs.Global.{Global}
 use Rattle.std.specs.Io.KnownBytes.{Consumes}
@@ -9,11 +8,9 @@ use Rattle.tls_codec_wire.specs.Device.{Gave, IsAtHand}
 use Rattle.tls_codec_wire.specs.declared.bounded.Bounded.{Bounded}
 use Rattle.tls_codec_wire.specs.declared.device.Source.{Ghosts}
 use Rattle.tls_codec_wire.specs.Counts.{Counts, stay}
-use Rattle.tls_codec_wire.specs.Digits.{AreBytes, value}
 use Rattle.tls_codec_wire.specs.Transfer.{BytesRefused, IsShortOf}
 use Rattle.tls_codec_wire.specs.declared.error.Error.{Error}
 use Rattle.tls_codec_wire.specs.declared.error.Error.TheVariants.{DecodingError, EndOfStream, InvalidVectorLength, OutOfMemory}
-use Rattle.tls_codec_wire.proofs.Bytes.{AreBytes-left}
 use Rattle.tls_codec_base.specs.Tree.{Empty, Number}
 use Rattle.tls_codec_base.specs.Grammar.{Grammar, Reading, content, number, sized}
 use Rattle.tls_codec_base.specs.Decoding.{AllGiven, NoneComes, RefusesSource}

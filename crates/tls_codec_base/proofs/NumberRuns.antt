@@ -1,10 +1,16 @@
 -- Numbers of one width in a row.
-use Rattle.std.proofs.Common.{◌≡◌, ℕ, zero, suc, ◌*◌, ◌<◌, ◌≤◌, List, [], ◌∷◌, ◌++◌, length, take, drop, take-append-drop, length-take-le, map, refl, sym, ap, subst, arith, length-append}
+use Rattle.std.proofs.Common.{◌≡◌, ℕ, zero, suc, ◌*◌, ◌<◌, ◌≤◌, List, [], ◌∷◌, ◌++◌, length, take, drop, take-append-drop, length-take-le, map, refl, sym, ap, subst, arith, length-append, get_or, inl}
+use Rattle.std.specs.List.{flat_map}
 use Rattle.std.specs.Simd.{first_chunks}
-use Rattle.tls_codec_wire.specs.Digits.{AreBytes, value}
+use Rattle.tls_codec_wire.specs.Digits.{AreBytes, Digits, value}
 use Rattle.tls_codec_wire.proofs.Bytes.{AreBytes-left}
-use Rattle.tls_codec_base.specs.Tree.{number_trees}
-use Rattle.tls_codec_base.specs.Grammar.{Reading, content, number}
+use Rattle.tls_codec_base.specs.Tree.{Number, number_trees, trees}
+use Rattle.tls_codec_base.specs.Grammar.{Reading, Writing, content, number}
+use Rattle.tls_codec_base.specs.Runs.{AllDigits}
+use Rattle.tls_codec_base.specs.Shortest.{IsShortest}
+use Rattle.tls_codec_base.specs.laws.ListLaws.{Part, part_least}
+use Rattle.tls_codec_base.specs.laws.NumberLaws.{digits_least}
+use Rattle.tls_codec_base.specs.laws.RowLaws.{row_least}
 use Rattle.tls_codec_base.proofs.ByteContents.{AreBytes-right}
 
 -- m numbers of k bytes are the content of their digits
@@ -24,3 +30,20 @@ chunks_content k (suc m) xs some small n =
       first = (record { width = width; bytes = AreBytes-left (take k xs) (drop k xs) both; number = refl }, omega (arith, width, some));
       second = chunks_content k m (drop k xs) some (AreBytes-right (take k xs) (drop k xs) both) rest;
     }
+
+-- ---- sent
+
+-- arrays that were filled one after another
+pub digits_by_index : {T : Type 0} (k : ℕ) (f : T → ℕ) (xs : List T) (ds : List (List ℕ)) → length xs ≤ length ds → ((i : ℕ) → i < length xs → Digits k (get_or ds i []) (get_or (map f xs) i 0)) → AllDigits k f xs ds
+digits_by_index k f [] ds fits each = tt
+digits_by_index k f (x ∷ xs) [] fits each = absurd (omega (arith, fits))
+digits_by_index k f (x ∷ xs) (d ∷ ds) fits each = (each 0 (omega arith), digits_by_index k f xs ds (omega (arith, fits)) (λ i lt. each (suc i) (omega (arith, lt))))
+
+-- numbers' digits in a row are their shortest form
+pub digits_in_a_row : {T : Type 0} (k : ℕ) (f : T → ℕ) (xs : List T) (ds : List (List ℕ)) → AllDigits k f xs ds → IsShortest (content (number k)) (flat_map (λ x. x) (take (length xs) ds)) (trees (λ x. Number (f x)) xs)
+digits_in_a_row k f [] ds p = record { spelled = refl; least = λ t q. inl q }
+digits_in_a_row k f (x ∷ xs) [] p = absurd p
+digits_in_a_row k f (x ∷ xs) (d ∷ ds) p =
+    let first = part_least (number k) d (Number (f x)) (digits_least k d (f x) p.0) in
+    let others = digits_in_a_row k f xs ds p.1 in
+    row_least (Part (number k) Writing (Number (f x))) (λ u. content (number k) Writing u (trees (λ y. Number (f y)) xs)) d (flat_map (λ y. y) (take (length xs) ds)) first others

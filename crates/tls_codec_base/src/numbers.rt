@@ -16,6 +16,7 @@ ghost use Rattle.tls_codec_base.specs.Encoding.{AppendsForm, Writes};
 use std::alloc::Global;
 use tls_codec_wire::{Error, Sink, Source, read_exactly, write_all};
 
+mod groups;
 mod runs;
 mod uint16;
 mod uint24;

@@ -10,8 +10,8 @@ use crate::traits::{Serialize, SerializeBytes, Size};
 use std::alloc::Global;
 use tls_codec_wire::{Error, Sink};
 
-/// For how many elements room is asked for at once, a byte for each.
-const MOST_ROOM: usize = 4096;
+/// For how many elements room is asked for at once, a byte for each: those of no bytes need none.
+const MOST_ROOM: usize = 1 << 20;
 
 /// Room for the length, which is put before them.
 const LENGTH_ROOM: usize = 8;
@@ -90,6 +90,7 @@ fn append_at_once<T: Size>(out: &mut Vec<u8>, elements: &[T]) -> Result<Option<u
     ensures { AllAppended T.format (trees T.plain elements.now) out.old.items out.new.items result }
 {
     let at = out.len();
+    let _ = out.reserve(elements.len().min(MOST_ROOM) + LENGTH_ROOM);
     match T::tls_send_elements(elements, out) {
         Ok(Some(_)) => Ok(Some(out.len() - at)),
         Ok(None) => Ok(None),
@@ -105,7 +106,6 @@ fn append_each<T: Serialize>(out: &mut Vec<u8>, elements: &[T]) -> Result<usize,
     ensures { AppendsForm (content_format T.format) (trees T.plain elements.now) out.old.items out.new.items result }
 {
     let at = out.len();
-    let _ = out.reserve(elements.len().min(MOST_ROOM) + LENGTH_ROOM);
     for element in elements {
         if let Err(error) = element.tls_serialize_into(out) {
             out.truncate(at);

@@ -9,6 +9,7 @@ ghost use Rattle.tls_codec_base.specs.Grammar.{Reading, content, number};
 ghost use Rattle.tls_codec_base.specs.Format.{number_format};
 ghost use Rattle.tls_codec_base.specs.laws.FormatLaws.{number_meets};
 
+use super::groups::{HasDigits, send_run};
 use super::runs::{in_groups, read_run};
 use super::{append_digits, digits_vector, read_digits, split_digits, write_digits};
 use crate::lists::Turns;
@@ -25,7 +26,21 @@ impl Size for u16 {
         2
     }
 
+    /// The numbers are sent in groups.
+    fn tls_send_elements<W: Sink>(elements: &[u16], sink: &mut W) -> Result<Option<usize>, Error> {
+        Ok(Some(send_run::<u16, W, 2>(elements, sink)?))
+    }
+
     ghost lawful = { number_meets 2 (Prim.omega arith) };
+}
+
+impl HasDigits<2> for u16 {
+    ghost number = { λ n. n };
+
+    #[inline(always)]
+    fn digits(&self) -> [u8; 2] {
+        self.to_be_bytes()
+    }
 }
 
 // The number of these digits.
@@ -42,7 +57,10 @@ fn numbers_of(alloc: Global, digits: &[u8]) -> Result<Vec<u16>, Error>
     ensures count { IfOk result (λ numbers. length numbers.items ≡ length digits.now / 2) }
     ensures err { IfErr result (λ e. e ≡ OutOfMemory) }
 {
-    let numbers = in_groups::<2>(digits).iter().map(|d| of_digits(d)).collect(alloc)?;
+    let numbers = in_groups::<2>(digits)
+        .iter()
+        .map(|d| of_digits(d))
+        .collect(alloc)?;
     Ok(numbers)
 }
 

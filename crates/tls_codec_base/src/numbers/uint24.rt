@@ -8,6 +8,7 @@ ghost use Rattle.tls_codec_base.specs.Tree.{Number};
 ghost use Rattle.tls_codec_base.specs.Format.{number_format};
 ghost use Rattle.tls_codec_base.specs.laws.FormatLaws.{number_meets};
 
+use super::groups::{HasDigits, send_run};
 use super::{append_digits, digits_vector, read_digits, split_digits, write_digits};
 use crate::traits::{Deserialize, DeserializeBytes, Serialize, SerializeBytes, Size};
 use std::alloc::Global;
@@ -22,7 +23,21 @@ impl Size for U24 {
         3
     }
 
+    /// The numbers are sent in groups.
+    fn tls_send_elements<W: Sink>(elements: &[U24], sink: &mut W) -> Result<Option<usize>, Error> {
+        Ok(Some(send_run::<U24, W, 3>(elements, sink)?))
+    }
+
     ghost lawful = { number_meets 3 (Prim.omega arith) };
+}
+
+impl HasDigits<3> for U24 {
+    ghost number = { number_of };
+
+    #[inline(always)]
+    fn digits(&self) -> [u8; 3] {
+        self.to_be_bytes()
+    }
 }
 
 impl Serialize for U24 {

@@ -9,6 +9,7 @@ ghost use Rattle.tls_codec_base.specs.Grammar.{Reading, content, number};
 ghost use Rattle.tls_codec_base.specs.Format.{number_format};
 ghost use Rattle.tls_codec_base.specs.laws.FormatLaws.{number_meets};
 
+use super::groups::{HasDigits, send_run};
 use super::runs::{in_groups, read_run};
 use super::{append_digits, digits_vector, read_digits, split_digits, write_digits};
 use crate::lists::Turns;
@@ -25,7 +26,21 @@ impl Size for u32 {
         4
     }
 
+    /// The numbers are sent in groups.
+    fn tls_send_elements<W: Sink>(elements: &[u32], sink: &mut W) -> Result<Option<usize>, Error> {
+        Ok(Some(send_run::<u32, W, 4>(elements, sink)?))
+    }
+
     ghost lawful = { number_meets 4 (Prim.omega arith) };
+}
+
+impl HasDigits<4> for u32 {
+    ghost number = { λ n. n };
+
+    #[inline(always)]
+    fn digits(&self) -> [u8; 4] {
+        self.to_be_bytes()
+    }
 }
 
 // The number of these digits.
@@ -42,7 +57,10 @@ fn numbers_of(alloc: Global, digits: &[u8]) -> Result<Vec<u32>, Error>
     ensures count { IfOk result (λ numbers. length numbers.items ≡ length digits.now / 4) }
     ensures err { IfErr result (λ e. e ≡ OutOfMemory) }
 {
-    let numbers = in_groups::<4>(digits).iter().map(|d| of_digits(d)).collect(alloc)?;
+    let numbers = in_groups::<4>(digits)
+        .iter()
+        .map(|d| of_digits(d))
+        .collect(alloc)?;
     Ok(numbers)
 }
 

@@ -9,6 +9,7 @@ ghost use Rattle.tls_codec_base.specs.Grammar.{Reading, content, number};
 ghost use Rattle.tls_codec_base.specs.Format.{number_format};
 ghost use Rattle.tls_codec_base.specs.laws.FormatLaws.{number_meets};
 
+use super::groups::{HasDigits, send_run};
 use super::runs::{in_groups, read_run};
 use super::{append_digits, digits_vector, read_digits, split_digits, write_digits};
 use crate::lists::Turns;
@@ -25,7 +26,21 @@ impl Size for u64 {
         8
     }
 
+    /// The numbers are sent in groups.
+    fn tls_send_elements<W: Sink>(elements: &[u64], sink: &mut W) -> Result<Option<usize>, Error> {
+        Ok(Some(send_run::<u64, W, 8>(elements, sink)?))
+    }
+
     ghost lawful = { number_meets 8 (Prim.omega arith) };
+}
+
+impl HasDigits<8> for u64 {
+    ghost number = { λ n. n };
+
+    #[inline(always)]
+    fn digits(&self) -> [u8; 8] {
+        self.to_be_bytes()
+    }
 }
 
 // The number of these digits.
@@ -42,7 +57,10 @@ fn numbers_of(alloc: Global, digits: &[u8]) -> Result<Vec<u64>, Error>
     ensures count { IfOk result (λ numbers. length numbers.items ≡ length digits.now / 8) }
     ensures err { IfErr result (λ e. e ≡ OutOfMemory) }
 {
-    let numbers = in_groups::<8>(digits).iter().map(|d| of_digits(d)).collect(alloc)?;
+    let numbers = in_groups::<8>(digits)
+        .iter()
+        .map(|d| of_digits(d))
+        .collect(alloc)?;
     Ok(numbers)
 }
 

@@ -1,4 +1,4 @@
-use Rattle.std.proofs.Common.{ap, arith}
+use Rattle.std.proofs.Common.{ap, arith, refl}
 use Rattle.std.proofs.Math.ListN.{drop_of_length-le}
 use Rattle.tls_codec_base.specs.Tree.{trees}
 use Rattle.tls_codec_base.proofs.Appending.{appended_all, appended_more, appended_none, next_not_appended}
@@ -6,7 +6,7 @@ use Rattle.tls_codec_base.proofs.ListWriting.{trees_drop}
 use Rattle.tls_codec_base.proofs.lists.writing.append_each.Goals as goal
 
 pub loop-element-init : goal.loop-element-init
-loop-element-init g c = appended_none _ _ c.reserve.ensures.items
+loop-element-init g c = appended_none _ _ refl
 
 pub returns-in-Err : goal.returns-in-Err
 returns-in-Err g c =

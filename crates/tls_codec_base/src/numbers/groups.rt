@@ -1,0 +1,71 @@
+//! Numbers of one width in a row, sent in groups.
+ghost use Rattle.std.specs.Prelude.{◌≤◌, ℕ, length};
+ghost use Rattle.tls_codec_wire.specs.Digits.{Digits};
+ghost use Rattle.tls_codec_base.specs.Tree.{Number, trees};
+ghost use Rattle.tls_codec_base.specs.Format.{content_format, number_format};
+ghost use Rattle.tls_codec_base.specs.Runs.{AllDigits};
+ghost use Rattle.tls_codec_base.specs.Encoding.{Writes};
+
+use tls_codec_wire::{Error, Sink, write_all};
+
+// How many numbers are sent at once: their digits stand on the stack meanwhile, since an encoder asks
+// for no memory but the sink's.
+const GROUP: usize = 64;
+
+// A number that K bytes spell.
+pub(crate) trait HasDigits<const K: usize> {
+    // The number.
+    ghost number: { Self → ℕ };
+
+    // Its digits.
+    fn digits(&self) -> [u8; K]
+        ensures { Digits K result (number self.now) };
+}
+
+// Sends the numbers' digits in a row, and answers how many bytes that is, saturated at `usize::MAX`.
+pub(crate) fn send_run<T: HasDigits<K>, W: Sink, const K: usize>(
+    numbers: &[T],
+    sink: &mut W,
+) -> Result<usize, Error>
+    requires { K ≤ 8 }
+    ensures { Writes (content_format (number_format K)) (trees (λ x. Number (T.number x)) numbers.now) W.Sink sink.old sink.new result }
+{
+    let mut sent: usize = 0;
+    let mut rest = numbers;
+    while !rest.is_empty() {
+        let (group, behind) = rest.split_at(rest.len().min(GROUP));
+        let length = send_group::<T, W, K>(group, sink)?;
+        sent = sent.saturating_add(length);
+        rest = behind;
+    }
+    Ok(sent)
+}
+
+// The same for one group, in one piece.
+fn send_group<T: HasDigits<K>, W: Sink, const K: usize>(
+    group: &[T],
+    sink: &mut W,
+) -> Result<usize, Error>
+    requires width { K ≤ 8 }
+    requires size { length group.now ≤ 64 }
+    ensures { Writes (content_format (number_format K)) (trees (λ x. Number (T.number x)) group.now) W.Sink sink.old sink.new result }
+{
+    let digits = digits_of::<T, K>(group);
+    let form = digits[..group.len()].as_flattened();
+    write_all(sink, form)?;
+    Ok(form.len())
+}
+
+// The digits of a group's numbers, and zeros behind them.
+#[inline(always)]
+fn digits_of<T: HasDigits<K>, const K: usize>(group: &[T]) -> [[u8; K]; GROUP]
+    requires width { K ≤ 8 }
+    requires size { length group.now ≤ 64 }
+    ensures { AllDigits K T.number group.now result }
+{
+    let mut digits = [[0u8; K]; GROUP];
+    for i in 0..group.len() {
+        digits[i] = group[i].digits();
+    }
+    digits
+}
