@@ -1,6 +1,7 @@
 //! Numbers of one width in a row, sent in groups.
 ghost use Rattle.std.specs.Prelude.{◌≤◌, ℕ, length};
 ghost use Rattle.tls_codec_wire.specs.Digits.{Digits};
+ghost use Rattle.tls_codec_base.specs.declared.numbers.groups.TheConstants.{GROUP};
 ghost use Rattle.tls_codec_base.specs.Tree.{Number, trees};
 ghost use Rattle.tls_codec_base.specs.Format.{content_format, number_format};
 ghost use Rattle.tls_codec_base.specs.Runs.{AllDigits};
@@ -47,7 +48,7 @@ fn send_group<T: HasDigits<K>, W: Sink, const K: usize>(
     sink: &mut W,
 ) -> Result<usize, Error>
     requires width { K ≤ 8 }
-    requires size { length group.now ≤ 64 }
+    requires size { length group.now ≤ GROUP }
     ensures { Writes (content_format (number_format K)) (trees (λ x. Number (T.number x)) group.now) W.Sink sink.old sink.new result }
 {
     let digits = digits_of::<T, K>(group);
@@ -60,7 +61,7 @@ fn send_group<T: HasDigits<K>, W: Sink, const K: usize>(
 #[inline(always)]
 fn digits_of<T: HasDigits<K>, const K: usize>(group: &[T]) -> [[u8; K]; GROUP]
     requires width { K ≤ 8 }
-    requires size { length group.now ≤ 64 }
+    requires size { length group.now ≤ GROUP }
     ensures { AllDigits K T.number group.now result }
 {
     let mut digits = [[0u8; K]; GROUP];
