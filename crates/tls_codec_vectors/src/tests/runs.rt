@@ -36,7 +36,7 @@ fn is_a_run<T: Serialize + SerializeBytes + Deserialize + DeserializeBytes + Par
     let found = lists::from_reader::<T, Drip>(alloc, &mut drip, bytes.len(), &mut turns)?;
     assert!(rt; found.as_slice() == elements);
     assert_eq!(rt; drip.left(), [0xee].as_slice());
-    assert_eq!(rt; turns.count(), 3 * elements.len() as u64);
+    assert_eq!(rt; turns.count(), (elements.len() as u64).saturating_mul(3));
     Ok(())
 }
 
