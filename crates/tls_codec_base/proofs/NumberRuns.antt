@@ -6,7 +6,6 @@ use Rattle.tls_codec_wire.specs.Digits.{AreBytes, Digits, value}
 use Rattle.tls_codec_wire.proofs.Bytes.{AreBytes-left}
 use Rattle.tls_codec_base.specs.Tree.{Number, number_trees, trees}
 use Rattle.tls_codec_base.specs.Grammar.{Reading, Writing, content, number}
-use Rattle.tls_codec_base.specs.Runs.{AllDigits}
 use Rattle.tls_codec_base.specs.Shortest.{IsShortest}
 use Rattle.tls_codec_base.specs.laws.ListLaws.{Part, part_least}
 use Rattle.tls_codec_base.specs.laws.NumberLaws.{digits_least}
@@ -33,17 +32,11 @@ chunks_content k (suc m) xs some small n =
 
 -- ---- sent
 
--- arrays that were filled one after another
-pub digits_by_index : {T : Type 0} (k : ℕ) (f : T → ℕ) (xs : List T) (ds : List (List ℕ)) → length xs ≤ length ds → ((i : ℕ) → i < length xs → Digits k (get_or ds i []) (get_or (map f xs) i 0)) → AllDigits k f xs ds
-digits_by_index k f [] ds fits each = tt
-digits_by_index k f (x ∷ xs) [] fits each = absurd (omega (arith, fits))
-digits_by_index k f (x ∷ xs) (d ∷ ds) fits each = (each 0 (omega arith), digits_by_index k f xs ds (omega (arith, fits)) (λ i lt. each (suc i) (omega (arith, lt))))
-
--- numbers' digits in a row are their shortest form
-pub digits_in_a_row : {T : Type 0} (k : ℕ) (f : T → ℕ) (xs : List T) (ds : List (List ℕ)) → AllDigits k f xs ds → IsShortest (content (number k)) (flat_map (λ x. x) (take (length xs) ds)) (trees (λ x. Number (f x)) xs)
-digits_in_a_row k f [] ds p = record { spelled = refl; least = λ t q. inl q }
-digits_in_a_row k f (x ∷ xs) [] p = absurd p
-digits_in_a_row k f (x ∷ xs) (d ∷ ds) p =
-    let first = part_least (number k) d (Number (f x)) (digits_least k d (f x) p.0) in
-    let others = digits_in_a_row k f xs ds p.1 in
+-- numbers' digits in a row, the first of some arrays, are their shortest form
+pub digits_in_a_row : {T : Type 0} (k : ℕ) (f : T → ℕ) (xs : List T) (ds : List (List ℕ)) → length xs ≤ length ds → ((i : ℕ) → i < length xs → Digits k (get_or ds i []) (get_or (map f xs) i 0)) → IsShortest (content (number k)) (flat_map (λ x. x) (take (length xs) ds)) (trees (λ x. Number (f x)) xs)
+digits_in_a_row k f [] ds fits each = record { spelled = refl; least = λ t q. inl q }
+digits_in_a_row k f (x ∷ xs) [] fits each = absurd (omega (arith, fits))
+digits_in_a_row k f (x ∷ xs) (d ∷ ds) fits each =
+    let first = part_least (number k) d (Number (f x)) (digits_least k d (f x) (each 0 (omega arith))) in
+    let others = digits_in_a_row k f xs ds (omega (arith, fits)) (λ i lt. each (suc i) (omega (arith, lt))) in
     row_least (Part (number k) Writing (Number (f x))) (λ u. content (number k) Writing u (trees (λ y. Number (f y)) xs)) d (flat_map (λ y. y) (take (length xs) ds)) first others

@@ -1,8 +1,8 @@
--- Numbers of one width in a row, read and sent at once.
-use Rattle.std.specs.Prelude.{◌≡◌, ◌%◌, ◌/◌, ℕ, List, [], ◌∷◌, length, Option, None, Some, Result, Ok, Err, Vec}
+-- Numbers of one width in a row, read at once.
+use Rattle.std.specs.Prelude.{◌≡◌, ◌%◌, ◌/◌, ℕ, List, length, Option, None, Some, Result, Ok, Err, Vec}
 use Rattle.std.specs.Global.{Global}
 use Rattle.tls_codec_wire.specs.Bounded.{inner_of, limit_of}
-use Rattle.tls_codec_wire.specs.Digits.{AreBytes, Digits}
+use Rattle.tls_codec_wire.specs.Digits.{AreBytes}
 use Rattle.tls_codec_wire.specs.Transfer.{ReadRefused}
 use Rattle.tls_codec_wire.specs.declared.bounded.Bounded.{Bounded}
 use Rattle.tls_codec_wire.specs.declared.device.Source.{Ghosts}
@@ -35,9 +35,3 @@ abbrev pub ReadsRun : {S : Type 0} → ℕ → Ghosts S → Bounded S → Bounde
 ReadsRun k source old new before after (Ok (Some digits)) = GaveRun k source old new before after digits.items
 ReadsRun k source old new before after (Ok None) = (new ≡ old) × (after ≡ before)
 ReadsRun k source old new before after (Err e) = RefusesRun k source old new e
-
--- the first of these arrays are the numbers' digits, in turn
-abbrev pub AllDigits : {T : Type 0} → ℕ → (T → ℕ) → List T → List (List ℕ) → Type 0
-AllDigits k number [] ds = Unit {0}
-AllDigits k number (x ∷ xs) [] = ⊥
-AllDigits k number (x ∷ xs) (d ∷ ds) = Digits k d (number x) × AllDigits k number xs ds

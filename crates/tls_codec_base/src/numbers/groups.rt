@@ -4,7 +4,6 @@ ghost use Rattle.tls_codec_wire.specs.Digits.{Digits};
 ghost use Rattle.tls_codec_base.specs.declared.numbers.groups.TheConstants.{GROUP};
 ghost use Rattle.tls_codec_base.specs.Tree.{Number, trees};
 ghost use Rattle.tls_codec_base.specs.Format.{content_format, number_format};
-ghost use Rattle.tls_codec_base.specs.Runs.{AllDigits};
 ghost use Rattle.tls_codec_base.specs.Encoding.{Writes};
 
 use tls_codec_wire::{Error, Sink, write_all};
@@ -24,6 +23,8 @@ pub(crate) trait HasDigits<const K: usize> {
 }
 
 // Sends the numbers' digits in a row, and answers how many bytes that is, saturated at `usize::MAX`.
+//
+// A width is at most that of `u64`, so that memory has an array of a group's digits.
 pub(crate) fn send_run<T: HasDigits<K>, W: Sink, const K: usize>(
     numbers: &[T],
     sink: &mut W,
@@ -51,22 +52,11 @@ fn send_group<T: HasDigits<K>, W: Sink, const K: usize>(
     requires size { length group.now ≤ GROUP }
     ensures { Writes (content_format (number_format K)) (trees (λ x. Number (T.number x)) group.now) W.Sink sink.old sink.new result }
 {
-    let digits = digits_of::<T, K>(group);
-    let form = digits[..group.len()].as_flattened();
-    write_all(sink, form)?;
-    Ok(form.len())
-}
-
-// The digits of a group's numbers, and zeros behind them.
-#[inline(always)]
-fn digits_of<T: HasDigits<K>, const K: usize>(group: &[T]) -> [[u8; K]; GROUP]
-    requires width { K ≤ 8 }
-    requires size { length group.now ≤ GROUP }
-    ensures { AllDigits K T.number group.now result }
-{
     let mut digits = [[0u8; K]; GROUP];
     for i in 0..group.len() {
         digits[i] = group[i].digits();
     }
-    digits
+    let form = digits[..group.len()].as_flattened();
+    write_all(sink, form)?;
+    Ok(form.len())
 }
