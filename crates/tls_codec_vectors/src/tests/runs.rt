@@ -20,7 +20,10 @@ fn is_a_run<T: Serialize + SerializeBytes + Deserialize + DeserializeBytes + Par
     assert_eq!(rt; sent.as_slice(), bytes);
     let mut out = Vec::new(alloc);
     assert_eq!(rt; lists::append(&mut out, elements), Ok(bytes.len()));
-    assert_eq!(rt; lists::append_bytes(alloc, &mut out, elements), Ok(bytes.len()));
+    assert_eq!(rt;
+        lists::append_bytes(alloc, &mut out, elements),
+        Ok(bytes.len())
+    );
     let (first, second) = out.split_at(bytes.len());
     assert_eq!(rt; (first, second), (bytes, bytes));
     sent.push(0xee)?;
@@ -43,13 +46,33 @@ fn is_a_run<T: Serialize + SerializeBytes + Deserialize + DeserializeBytes + Par
 #[test]
 fn runs_of_numbers(rt: HostRuntime) -> Result<(), Fail> {
     let alloc = rt.alloc();
-    let digits = [0, 1, 2, 3, 4, 5, 6, 7, 0xff, 0xfe, 0xfd, 0xfc, 0xfb, 0xfa, 0xf9, 0xf8];
+    let digits = [
+        0, 1, 2, 3, 4, 5, 6, 7, 0xff, 0xfe, 0xfd, 0xfc, 0xfb, 0xfa, 0xf9, 0xf8,
+    ];
     is_a_run::<u8>(&rt, alloc, &[], &[])?;
     is_a_run::<u8>(&rt, alloc, &digits, &digits)?;
-    is_a_run::<u16>(&rt, alloc, &[1, 0x0203, 0x0405, 0x0607, 0xfffe], &digits[..10])?;
-    is_a_run::<u32>(&rt, alloc, &[0x0001_0203, 0x0405_0607, 0xfffe_fdfc], &digits[..12])?;
-    is_a_run::<u64>(&rt, alloc, &[0x0001_0203_0405_0607, 0xfffe_fdfc_fbfa_f9f8], &digits)?;
-    let numbers = [U24::try_from(0x00_0102usize)?, U24::try_from(0x03_0405usize)?];
+    is_a_run::<u16>(
+        &rt,
+        alloc,
+        &[1, 0x0203, 0x0405, 0x0607, 0xfffe],
+        &digits[..10],
+    )?;
+    is_a_run::<u32>(
+        &rt,
+        alloc,
+        &[0x0001_0203, 0x0405_0607, 0xfffe_fdfc],
+        &digits[..12],
+    )?;
+    is_a_run::<u64>(
+        &rt,
+        alloc,
+        &[0x0001_0203_0405_0607, 0xfffe_fdfc_fbfa_f9f8],
+        &digits,
+    )?;
+    let numbers = [
+        U24::try_from(0x00_0102usize)?,
+        U24::try_from(0x03_0405usize)?,
+    ];
     is_a_run::<U24>(&rt, alloc, &numbers, &digits[..6])
 }
 
