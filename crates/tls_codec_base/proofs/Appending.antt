@@ -1,27 +1,24 @@
 -- What is appended to a vector of parts in a row, and why nothing is.
 use Rattle.std.proofs.Common.{◌≡◌, ℕ, ◌+◌, ◌-◌, ◌<◌, ◌≤◌, ◌^◌, ◌⊎◌, List, [], ◌∷◌, ◌++◌, length, take, drop, inl, inr, refl, sym, ap, subst, ◌∙◌, append_assoc, append-nil, length-append, arith}
 use Rattle.std.proofs.Math.Seq.{drop-append_seam, take-append_seam}
-use Rattle.tls_codec_wire.specs.Varint.{Varint}
-use Rattle.tls_codec_wire.specs.VarintCalls.{InsertedVarint, InsertRefused, least_width}
 use Rattle.tls_codec_wire.specs.declared.error.Error.{Error}
 use Rattle.tls_codec_wire.specs.declared.error.Error.TheVariants.{InvalidVectorLength, OutOfMemory}
 use Rattle.tls_codec_base.specs.Tree.{Tree, Empty, Join}
 use Rattle.tls_codec_base.specs.Grammar.{Writing}
 use Rattle.tls_codec_base.specs.Shortest.{IsLeast, IsShortest}
 use Rattle.tls_codec_base.specs.Announced.{capped}
-use Rattle.tls_codec_base.specs.Format.{Format, content_format, fields_format, nothing_format, option_format}
-use Rattle.tls_codec_base.specs.Lawful.{MeetsLaws, MeetsLawsInside}
-use Rattle.tls_codec_base.specs.Encoding.{Appended, AppendRefused, RefusesVector}
+use Rattle.tls_codec_base.specs.Field.{Field, FilledGap, GapRefused, IsSafeGap, OpenedGap}
+use Rattle.tls_codec_base.specs.Format.{Format, content_format, counted_format, fields_format, nothing_format, option_format}
+use Rattle.tls_codec_base.specs.Lawful.{MeetsFieldLaws, MeetsLaws, MeetsLawsInside}
+use Rattle.tls_codec_base.specs.Encoding.{Appended, AppendRefused, PassesVectorBehind, RefusesVector}
 use Rattle.tls_codec_base.specs.laws.RowLaws.{least_one}
 use Rattle.tls_codec_base.specs.laws.FieldsLaws.{fields_least}
 use Rattle.tls_codec_base.specs.laws.ListLaws.{counted_least}
 use Rattle.tls_codec_base.specs.laws.OptionLaws.{option_some}
-use Rattle.tls_codec_base.specs.laws.VarintLaws.{varint_field}
-use Rattle.tls_codec_base.proofs.CountedEncoding.{counted_split, varint_counted}
+use Rattle.tls_codec_base.proofs.CountedEncoding.{counted_split}
 use Rattle.tls_codec_base.proofs.FieldsEncoding.{fields_form, nothing_form}
 use Rattle.tls_codec_base.proofs.ListWriting.{FormSoFar, form_all, form_more, form_none, named_next, next_form}
 use Rattle.tls_codec_base.proofs.OptionEncoding.{some_form}
-use Rattle.tls_codec_base.proofs.VarintValues.{least_shortest}
 
 -- what was appended is cut off
 pub cut_off : {a b c : List ℕ} {n : ℕ} (form : List ℕ) → c ≡ take n b → n ≡ length a → b ≡ a ++ form → c ≡ a
@@ -175,36 +172,60 @@ module _ {element : Format} (l : MeetsLaws element) where
 
 -- ---- what stands behind its length
 
-module _ {inside : Format} (l : MeetsLawsInside inside) where
+-- what is too long has no form
+pub too_long_no_form : {f : Format} {v : Tree} {form : List ℕ} → MeetsLaws f → f.too_long v → IsShortest f.spells form v → ⊥
+too_long_no_form {f} {v} {form} l long p = l.unspelled v InvalidVectorLength (l.long v long) form p.spelled
+
+-- where a refusal names what it is named for, or that the value is too long, it is one of the format
+pub either_not_appended : {f : Format} {v : Tree} {a b d : List ℕ} {e refused : Error} → MeetsLaws f → AppendRefused f v a b e → d ≡ b → (refused ≡ e) ⊎ ((refused ≡ InvalidVectorLength) × f.too_long v) → AppendRefused f v a d refused
+either_not_appended {f} {v} {a} {b} {d} l p same (inl e) = record { kept = same ∙ p.kept; cause = subst (λ (u : Error). (u ≡ OutOfMemory) ⊎ (f.refuses v u ⊎ ((u ≡ InvalidVectorLength) × PassesVectorBehind (length a) f.spells v))) (sym e) p.cause }
+either_not_appended {f} {v} {a} {b} {d} l p same (inr long) = record { kept = same ∙ p.kept; cause = inr (inl (subst (f.refuses v) (sym long.0) (l.long v long.1))) }
+
+pub either_no_vector : {f : Format} {v : Tree} {e refused : Error} → MeetsLaws f → RefusesVector f v e → (refused ≡ e) ⊎ ((refused ≡ InvalidVectorLength) × f.too_long v) → RefusesVector f v refused
+either_no_vector {f} {v} l p (inl same) = subst (RefusesVector f v) (sym same) p
+either_no_vector {f} {v} l p (inr long) = record { cause = inr (inl (subst (f.refuses v) (sym long.0) (l.long v long.1))) }
+
+module _ {field : Field} (m : MeetsFieldLaws field) {inside : Format} (l : MeetsLawsInside inside) where
   module _ {sum : Tree → ℕ} {v : Tree} where
-    -- the length was put before the inside
-    pub counted_appended : {a b c : List ℕ} {at k width n : ℕ} → at ≡ length a → Appended inside v a b k → InsertedVarint b c at width → n ≡ capped (k + width) → length c < 2 ^ 63 → Appended (varint_counted sum inside) v a c n
-    counted_appended {a} {b} {c} {at} {k} {width} {n} e p q h fits =
-        let size : length b - at ≡ length p.form = omega (arith, e, ap length p.held, length-append a p.form) in
-        let least : IsLeast (λ t. Varint t (length p.form)) q.form =
-        subst (λ (j : ℕ). IsLeast (λ t. Varint t j) q.form) size (least_shortest q.form (length b - at) q.least) in
-        let behind : drop at b ≡ p.form = ap (λ (j : ℕ). drop j b) e ∙ ap (drop (length a)) p.held ∙ drop-append_seam a p.form in
-        let held : c ≡ a ++ (q.form ++ p.form) = q.held ∙ ap (λ (u : List ℕ). u ++ (q.form ++ drop at b)) (cut_off p.form refl e p.held) ∙ ap (λ (u : List ℕ). a ++ (q.form ++ u)) behind in
+    -- the length stands in the gap before the inside
+    pub counted_appended : {a b c d : List ℕ} {at gap k width n : ℕ} → at ≡ length a → OpenedGap a b gap → Appended inside v b c k → FilledGap field c d at gap width → n ≡ length d - at → Appended (counted_format field sum inside) v a d n
+    counted_appended {a} {b} {c} {d} {at} {gap} {k} {width} {n} e o p q h =
+        let place : at + gap ≡ length b = omega (arith, e, o.count, ap length o.held, length-append a o.gap) in
+        let size : length c - (at + gap) ≡ length p.form = omega (arith, place, ap length p.held, length-append b p.form) in
+        let least : IsLeast (λ t. field.spells t (length p.form)) q.form = subst (λ (j : ℕ). IsLeast (λ t. field.spells t j) q.form) size q.least in
+        let behind : drop (at + gap) c ≡ p.form = ap (λ (j : ℕ). drop j c) place ∙ ap (drop (length b)) p.held ∙ drop-append_seam b p.form in
+        let whole : c ≡ a ++ (o.gap ++ p.form) = p.held ∙ ap (λ (u : List ℕ). u ++ p.form) o.held ∙ append_assoc a o.gap p.form in
+        let held : d ≡ a ++ (q.form ++ p.form) = q.held ∙ ap (λ (u : List ℕ). u ++ (q.form ++ drop (at + gap) c)) (cut_off (o.gap ++ p.form) refl e whole) ∙ ap (λ (u : List ℕ). a ++ (q.form ++ u)) behind in
         record {
           form = q.form ++ p.form;
-          shortest = counted_least Varint least_width varint_field inside.spells q.form p.form v least p.shortest;
+          shortest = counted_least field.spells field.width m.counts inside.spells q.form p.form v least p.shortest;
           held = held;
-          count = omega (arith, h, fits, p.count, q.count, ap length held, length-append a (q.form ++ p.form), length-append q.form p.form);
+          count = omega (arith, h, e, ap length held, length-append a (q.form ++ p.form));
         }
 
-    -- the inside is refused
-    pub inside_not_appended : {a b d : List ℕ} {e : Error} → AppendRefused inside v a b e → d ≡ a → AppendRefused (varint_counted sum inside) v a d e
-    inside_not_appended {a} {b} {d} {e} p kept = part_refused (varint_counted sum inside) v a d p kept (λ named. inr named) (λ s q.
-        let h = counted_split varint_field l s q in
-        (h.0, h.3, omega (arith, ap length h.2, length-append h.1 h.0)))
+    -- the inside is refused behind its gap
+    pub inside_not_appended : {a b c d : List ℕ} {gap : ℕ} {e : Error} → OpenedGap a b gap → IsSafeGap (length a) gap → AppendRefused inside v b c e → d ≡ a → AppendRefused (counted_format field sum inside) v a d e
+    inside_not_appended {a} {b} {c} {d} {gap} {e} o safe p kept = record {
+      kept = kept;
+      cause = elim p.cause [
+        | inl memory ↦ inl memory
+        | inr (inl named) ↦ inr (inl (inr named))
+        | inr (inr long) ↦ inr (inr (
+          long.0,
+          λ s q.
+              let h = counted_split m l s q in
+              let below = m.below h.1 (length h.0) h.4.spelled in
+              let more = long.1 h.0 h.3 in
+              elim safe [
+                | inl none ↦ omega (arith, more, none, o.count, ap length o.held, length-append a o.gap, ap length h.2, length-append h.1 h.0)
+                | inr small ↦ absurd (omega (arith, more, below, m.small, small, o.count, ap length o.held, length-append a o.gap))
+              ],
+        ))
+      ];
+    }
 
-    -- so is the whole, for this or since it is too long
-    pub either_not_appended : {a d : List ℕ} {e refused : Error} → AppendRefused inside v a d e → (refused ≡ e) ⊎ ((refused ≡ InvalidVectorLength) × (2 ^ 62 ≤ sum v)) → AppendRefused (varint_counted sum inside) v a d refused
-    either_not_appended {a} {d} p (inl same) = subst (AppendRefused (varint_counted sum inside) v a d) (sym same) (inside_not_appended p p.kept)
-    either_not_appended {a} {d} p (inr long) = record { kept = p.kept; cause = inr (inl (inl long)) }
-
-    -- its length, which stands before it, is refused
-    pub count_not_appended : {a d c : List ℕ} {e : Error} → inside.announced v ≡ capped (sum v) → IsShortest inside.spells c v → d ≡ a → (e ≡ OutOfMemory) ⊎ ((e ≡ InvalidVectorLength) × (2 ^ 62 ≤ length c)) → AppendRefused (varint_counted sum inside) v a d e
+    -- its length is refused
+    pub count_not_appended : {a d c : List ℕ} {e : Error} → inside.announced v ≡ capped (sum v) → IsShortest inside.spells c v → d ≡ a → (e ≡ OutOfMemory) ⊎ ((e ≡ InvalidVectorLength) × (field.limit ≤ length c)) → AppendRefused (counted_format field sum inside) v a d e
     count_not_appended {a} {d} {c} {e} is_sum p kept q = record {
       kept = kept;
       cause = elim q [
@@ -213,25 +234,35 @@ module _ {inside : Format} (l : MeetsLawsInside inside) where
       ];
     }
 
-    -- the same for the length that is put before it
-    pub length_not_appended : {a b d : List ℕ} {at k : ℕ} (e : Error) → inside.announced v ≡ capped (sum v) → at ≡ length a → Appended inside v a b k → d ≡ a → InsertRefused e (length b - at) (length b) → AppendRefused (varint_counted sum inside) v a d e
-    length_not_appended OutOfMemory is_sum e p kept q = record { kept = kept; cause = inl refl }
-    length_not_appended {a} {b} {d} {at} {k} InvalidVectorLength is_sum e p kept (inl long) =
-        record { kept = kept; cause = inr (inl (inl (refl, omega (arith, e, long, is_sum, l.spelled.announces p.form v p.shortest, ap length p.held, length-append a p.form)))) }
-    length_not_appended {a} {b} {d} {at} {k} InvalidVectorLength is_sum e p kept (inr passes) = record {
-      kept = kept;
-      cause = inr (inr (
-        refl,
-        λ s q.
-            let h = counted_split varint_field l s q in
-            let same : h.0 ≡ p.form = least_one (λ u. inside.spells Writing u v) h.0 p.form h.3 p.shortest in
-            let size : length b - at ≡ length h.0 = omega (arith, e, ap length same, ap length p.held, length-append a p.form) in
-            let width = varint_field.measures h.1 (length h.0) h.4 in
-            omega (arith, passes, ap least_width size, width, ap length h.2, length-append h.1 h.0, ap length same, ap length p.held, length-append a p.form),
-      ));
-    }
-    length_not_appended _ is_sum e p kept q = absurd q
+    -- the same for the length that is put into the gap
+    pub gap_not_filled : {a b c d : List ℕ} {at gap k : ℕ} (e : Error) → inside.announced v ≡ capped (sum v) → at ≡ length a → OpenedGap a b gap → Appended inside v b c k → d ≡ a → GapRefused field e at (length c - (at + gap)) → AppendRefused (counted_format field sum inside) v a d e
+    gap_not_filled OutOfMemory is_sum e o p kept q = record { kept = kept; cause = inl refl }
+    gap_not_filled {a} {b} {c} {d} {at} {gap} {k} InvalidVectorLength is_sum e o p kept q =
+        let size : length c - (at + gap) ≡ length p.form = omega (arith, e, o.count, ap length o.held, length-append a o.gap, ap length p.held, length-append b p.form) in
+        record {
+          kept = kept;
+          cause = elim q [
+            | inl long ↦ inr (inl (inl (refl, omega (arith, size, long, is_sum, l.spelled.announces p.form v p.shortest))))
+            | inr passes ↦ inr (inr (
+              refl,
+              λ s r.
+                  let h = counted_split m l s r in
+                  let same : h.0 ≡ p.form = least_one (λ u. inside.spells Writing u v) h.0 p.form h.3 p.shortest in
+                  let width = m.counts.measures h.1 (length h.0) h.4 in
+                  let wide : field.width (length c - (at + gap)) ≡ field.width (length h.0) = ap field.width (size ∙ ap length (sym same)) in
+                  omega (arith, passes, wide, width, e, size, ap length same, ap length h.2, length-append h.1 h.0),
+            ))
+          ];
+        }
+    gap_not_filled _ is_sum e o p kept q = absurd q
 
-  -- what is too long behind its place has a length that is refused
-  pub too_long_behind : (sum : Tree → ℕ) (v : Tree) {a b : List ℕ} {at k : ℕ} → inside.announced v ≡ capped (sum v) → at ≡ length a → Appended inside v a b k → 2 ^ 62 ≤ sum v → 2 ^ 62 ≤ length b - at
-  too_long_behind sum v {a} {b} {at} {k} is_sum e p long = omega (arith, e, long, is_sum, l.spelled.announces p.form v p.shortest, ap length p.held, length-append a p.form)
+  -- what is too long behind its gap has a length that is refused
+  pub too_long_behind : (sum : Tree → ℕ) (v : Tree) {a b c : List ℕ} {at gap k : ℕ} → inside.announced v ≡ capped (sum v) → at ≡ length a → OpenedGap a b gap → Appended inside v b c k → field.limit ≤ sum v → field.limit ≤ length c - (at + gap)
+  too_long_behind sum v {a} {b} {c} {at} {gap} {k} is_sum e o p long =
+      omega (arith, e, long, is_sum, m.small, l.spelled.announces p.form v p.shortest, o.count, ap length o.held, length-append a o.gap, ap length p.held, length-append b p.form)
+
+-- what stood before a gap is left of a vector whose bytes before it are as they were
+pub kept_before_gap : {f : Format} {v : Tree} {a b c : List ℕ} (d : List ℕ) {at gap k : ℕ} → at ≡ length a → OpenedGap a b gap → Appended f v b c k → take at d ≡ take at c → take (length a) d ≡ a
+kept_before_gap {f} {v} {a} {b} {c} d {at} e o p same =
+    let whole : c ≡ a ++ (o.gap ++ p.form) = p.held ∙ ap (λ (u : List ℕ). u ++ p.form) o.held ∙ append_assoc a o.gap p.form in
+    ap (λ (n : ℕ). take n d) (sym e) ∙ same ∙ cut_off (o.gap ++ p.form) refl e whole

@@ -7,23 +7,19 @@ use Rattle.tls_codec_wire.specs.Counts.{Counts, NoneFell, fall_never, stay}
 use Rattle.tls_codec_wire.specs.declared.device.Sink.{Ghosts}
 use Rattle.tls_codec_wire.specs.Device.{Received}
 use Rattle.tls_codec_wire.specs.Transfer.{WriteRefused}
-use Rattle.tls_codec_wire.specs.Varint.{Varint}
-use Rattle.tls_codec_wire.specs.VarintCalls.{BeganVarint, LeastVarint, LengthRefused, SentVarint, least_width}
 use Rattle.tls_codec_wire.specs.declared.error.Error.{Error}
-use Rattle.tls_codec_wire.specs.declared.error.Error.TheVariants.{InvalidVectorLength, OutOfMemory}
+use Rattle.tls_codec_wire.specs.declared.error.Error.TheVariants.{InvalidVectorLength}
 use Rattle.tls_codec_base.specs.Tree.{Tree}
 use Rattle.tls_codec_base.specs.Grammar.{Writing, counted}
 use Rattle.tls_codec_base.specs.Shortest.{IsLeast, IsShortest}
 use Rattle.tls_codec_base.specs.Announced.{capped}
+use Rattle.tls_codec_base.specs.Field.{BeganField, Field, FieldNotSent, SentField}
 use Rattle.tls_codec_base.specs.Format.{Format, counted_format}
-use Rattle.tls_codec_base.specs.Lawful.{IsLengthField, MeetsLaws, MeetsLawsInside}
-use Rattle.tls_codec_base.specs.Encoding.{Breaks, Makes, RefusesVector, Sends}
-use Rattle.tls_codec_base.specs.Opaque.{IsLeastCounted}
+use Rattle.tls_codec_base.specs.Lawful.{MeetsFieldLaws, MeetsLaws, MeetsLawsInside}
+use Rattle.tls_codec_base.specs.Encoding.{Breaks, Sends}
 use Rattle.tls_codec_base.specs.laws.RowLaws.{least_one}
 use Rattle.tls_codec_base.specs.laws.ListLaws.{counted_least, counted_parts}
-use Rattle.tls_codec_base.specs.laws.VarintLaws.{varint_field, varint_fits}
 use Rattle.tls_codec_base.proofs.Sent.{cause_later}
-use Rattle.tls_codec_base.proofs.VarintValues.{least_shortest}
 
 -- nothing was sent of a value for which the format names the error
 pub named_breaks : {S : Type 0} {f : Format} {sink : Ghosts S} {v : Tree} {old new : S} {e : Error} → MeetsLaws f → f.refuses v e → new ≡ old → Breaks f v sink old new e
@@ -42,32 +38,32 @@ pub record CountsInside (field : List ℕ → ℕ → Type 0) (announced : ℕ) 
   pub fits : n < 0xffff_ffff_ffff_ffff
   pub least : IsLeast (λ t. field t n) a
 
-module _ {field : List ℕ → ℕ → Type 0} {width : ℕ → ℕ} (m : IsLengthField field width) {inside : Format} (l : MeetsLawsInside inside) where
+module _ {field : Field} (m : MeetsFieldLaws field) {inside : Format} (l : MeetsLawsInside inside) where
   -- a shortest inside has the bytes that are counted
-  counted_bytes : {v : Tree} {a c : List ℕ} → (p : CountsInside field (inside.announced v) a) → IsShortest inside.spells c v → p.n ≡ length c
+  counted_bytes : {v : Tree} {a c : List ℕ} → (p : CountsInside field.spells (inside.announced v) a) → IsShortest inside.spells c v → p.n ≡ length c
   counted_bytes {v} {a} {c} p q = omega (arith, p.is_announced, p.fits, l.spelled.announces c v q)
 
   -- the shortest form is the shortest inside behind the least field for it
-  pub counted_split : {v : Tree} (s : List ℕ) → IsShortest (counted field inside.spells) s v → (c : List ℕ) × (a : List ℕ) × (s ≡ a ++ c) × IsShortest inside.spells c v × IsLeast (λ t. field t (length c)) a
+  pub counted_split : {v : Tree} (s : List ℕ) → IsShortest (counted field.spells inside.spells) s v → (c : List ℕ) × (a : List ℕ) × (s ≡ a ++ c) × IsShortest inside.spells c v × IsLeast (λ t. field.spells t (length c)) a
   counted_split {v} s q =
-      let h = counted_parts field width m inside.spells inside.announced l.spelled s v q.spelled in
-      (h.0, h.1, least_one (λ u. counted field inside.spells Writing u v) s (h.1 ++ h.0) q (counted_least field width m inside.spells h.1 h.0 v h.3 h.2), h.2, h.3)
+      let h = counted_parts field.spells field.width m.counts inside.spells inside.announced l.spelled s v q.spelled in
+      (h.0, h.1, least_one (λ u. counted field.spells inside.spells Writing u v) s (h.1 ++ h.0) q (counted_least field.spells field.width m.counts inside.spells h.1 h.0 v h.3 h.2), h.2, h.3)
 
   -- which is the one that counts what is inside
-  pub counted_form : {v : Tree} {a : List ℕ} → CountsInside field (inside.announced v) a → (s : List ℕ) → IsShortest (counted field inside.spells) s v → (c : List ℕ) × (s ≡ a ++ c) × IsShortest inside.spells c v
+  pub counted_form : {v : Tree} {a : List ℕ} → CountsInside field.spells (inside.announced v) a → (s : List ℕ) → IsShortest (counted field.spells inside.spells) s v → (c : List ℕ) × (s ≡ a ++ c) × IsShortest inside.spells c v
   counted_form {v} {a} p s q =
       let h = counted_split s q in
-      let least : IsLeast (λ t. field t p.n) h.1 = subst (λ (k : ℕ). IsLeast (λ t. field t k) h.1) (sym (counted_bytes p h.3)) h.4 in
-      let same : h.1 ≡ a = least_one (λ t. field t p.n) h.1 a least p.least in
+      let least : IsLeast (λ t. field.spells t p.n) h.1 = subst (λ (k : ℕ). IsLeast (λ t. field.spells t k) h.1) (sym (counted_bytes p h.3)) h.4 in
+      let same : h.1 ≡ a = least_one (λ t. field.spells t p.n) h.1 a least p.least in
       (h.0, h.2 ∙ ap (λ (u : List ℕ). u ++ h.0) same, h.3)
 
   -- the least field and the shortest inside are the shortest form
-  pub counted_whole : {v : Tree} {a c : List ℕ} → CountsInside field (inside.announced v) a → IsShortest inside.spells c v → IsShortest (counted field inside.spells) (a ++ c) v
-  counted_whole {v} {a} {c} p q = counted_least field width m inside.spells a c v (subst (λ (k : ℕ). IsLeast (λ t. field t k) a) (counted_bytes p q) p.least) q
+  pub counted_whole : {v : Tree} {a c : List ℕ} → CountsInside field.spells (inside.announced v) a → IsShortest inside.spells c v → IsShortest (counted field.spells inside.spells) (a ++ c) v
+  counted_whole {v} {a} {c} p q = counted_least field.spells field.width m.counts inside.spells a c v (subst (λ (k : ℕ). IsLeast (λ t. field.spells t k) a) (counted_bytes p q) p.least) q
 
-  module _ {limit : ℕ} {sum : Tree → ℕ} {S : Type 0} {sink : Ghosts S} where
-    pub counted_sends : {v : Tree} {a : List ℕ} {old mid new : S} {k total : ℕ} → CountsInside field (inside.announced v) a → Appends (sink.received old) (sink.received mid) a → NoneFell (sink.counts old) (sink.counts mid)
-        → Sends inside v sink mid new k → total ≡ capped (length a + k) → Sends (counted_format field width limit sum inside) v sink old new total
+  module _ {sum : Tree → ℕ} {S : Type 0} {sink : Ghosts S} where
+    pub counted_sends : {v : Tree} {a : List ℕ} {old mid new : S} {k total : ℕ} → CountsInside field.spells (inside.announced v) a → Appends (sink.received old) (sink.received mid) a → NoneFell (sink.counts old) (sink.counts mid)
+        → Sends inside v sink mid new k → total ≡ capped (length a + k) → Sends (counted_format field sum inside) v sink old new total
     counted_sends {v} {a} {old} {mid} {new} {k} {total} p held fell q e = record {
       form = a ++ q.form;
       shortest = counted_whole p q.shortest;
@@ -77,8 +73,8 @@ module _ {field : List ℕ → ℕ → Type 0} {width : ℕ → ℕ} (m : IsLeng
     }
 
     -- the field is refused
-    pub counted_breaks_count : {v : Tree} {a : List ℕ} {old new : S} {e : Error} → CountsInside field (inside.announced v) a → Received (sink.received old) (sink.received new) a → WriteRefused e (sink.counts old) (sink.counts new) → NoneFell (sink.counts old) (sink.counts new)
-        → Breaks (counted_format field width limit sum inside) v sink old new e
+    pub counted_breaks_count : {v : Tree} {a : List ℕ} {old new : S} {e : Error} → CountsInside field.spells (inside.announced v) a → Received (sink.received old) (sink.received new) a → WriteRefused e (sink.counts old) (sink.counts new) → NoneFell (sink.counts old) (sink.counts new)
+        → Breaks (counted_format field sum inside) v sink old new e
     counted_breaks_count {v} {a} {old} {new} {e} p r refused fell = record {
       sent = r.front;
       held = r.held;
@@ -90,8 +86,8 @@ module _ {field : List ℕ → ℕ → Type 0} {width : ℕ → ℕ} (m : IsLeng
     }
 
     -- the inside is refused
-    pub counted_breaks_inside : {v : Tree} {a : List ℕ} {old mid new : S} {e : Error} → CountsInside field (inside.announced v) a → Appends (sink.received old) (sink.received mid) a → NoneFell (sink.counts old) (sink.counts mid)
-        → Breaks inside v sink mid new e → Breaks (counted_format field width limit sum inside) v sink old new e
+    pub counted_breaks_inside : {v : Tree} {a : List ℕ} {old mid new : S} {e : Error} → CountsInside field.spells (inside.announced v) a → Appends (sink.received old) (sink.received mid) a → NoneFell (sink.counts old) (sink.counts mid)
+        → Breaks inside v sink mid new e → Breaks (counted_format field sum inside) v sink old new e
     counted_breaks_inside {v} {a} {old} {mid} {new} {e} p held fell q = record {
       sent = a ++ q.sent;
       held = Appends-trans (sink.received old) (sink.received mid) (sink.received new) a q.sent held q.held;
@@ -103,58 +99,37 @@ module _ {field : List ℕ → ℕ → Type 0} {width : ℕ → ℕ} (m : IsLeng
       fell = fall_never fell q.fell;
     }
 
--- ---- variable-length fields
+  -- ---- by what the calls on the field say
 
--- behind such a field, which counts up to 2 ^ 62
-abbrev pub varint_counted : (Tree → ℕ) → Format → Format
-varint_counted sum inside = counted_format Varint least_width (2 ^ 62) sum inside
+  -- the least field for a number that is announced counts what is inside
+  least_counts : {announced n : ℕ} {form : List ℕ} → announced ≡ capped n → IsLeast (λ s. field.spells s n) form → CountsInside field.spells announced form
+  least_counts {announced} {n} {form} e p = record {
+    n = n;
+    is_announced = e;
+    fits = omega (arith, m.below form n p.spelled, m.small);
+    least = p;
+  }
 
--- a length that isn't too long is refused by the sink
-refused_by_sink : (e : Error) (n : ℕ) (old new : Counts) → n < 2 ^ 62 → LengthRefused e n old new → WriteRefused e old new
-refused_by_sink InvalidVectorLength n old new lt p = absurd (omega (arith, lt, p))
-refused_by_sink e n old new lt p = p
+  -- a length that isn't too long is refused by the sink
+  refused_by_sink : (e : Error) (n : ℕ) (old new : Counts) → n < field.limit → FieldNotSent field e n old new → WriteRefused e old new
+  refused_by_sink InvalidVectorLength n old new lt p = absurd (omega (arith, lt, p))
+  refused_by_sink e n old new lt p = p
 
--- the least spelling of a number that is announced counts what is inside
-least_counts : {announced n : ℕ} {form : List ℕ} → announced ≡ capped n → LeastVarint form n → CountsInside Varint announced form
-least_counts {announced} {n} {form} e p = record {
-  n = n;
-  is_announced = e;
-  fits = omega (arith, varint_fits form n p.spelled);
-  least = least_shortest form n p;
-}
-
-module _ {inside : Format} (l : MeetsLawsInside inside) where
   module _ {sum : Tree → ℕ} {S : Type 0} {sink : Ghosts S} where
-    pub varint_counted_sends : {v : Tree} {n j k total : ℕ} {old mid new : S} → inside.announced v ≡ capped n → SentVarint (sink.received old) (sink.received mid) n j → NoneFell (sink.counts old) (sink.counts mid) → Sends inside v sink mid new k → total ≡ capped (j + k)
-        → Sends (varint_counted sum inside) v sink old new total
-    varint_counted_sends {v} {n} {j} {k} {total} {old} {mid} {new} e p fell q h =
-        counted_sends varint_field l (least_counts e p.least) p.held fell q (omega (arith, h, p.count))
+    pub field_sends : {v : Tree} {n j k total : ℕ} {old mid new : S} → inside.announced v ≡ capped n → SentField field (sink.received old) (sink.received mid) n j → NoneFell (sink.counts old) (sink.counts mid) → Sends inside v sink mid new k → total ≡ capped (j + k)
+        → Sends (counted_format field sum inside) v sink old new total
+    field_sends {v} {n} {j} {k} {total} {old} {mid} {new} e p fell q h =
+        counted_sends (least_counts e p.least) p.held fell q (omega (arith, h, p.count))
 
-    pub varint_counted_breaks_inside : {v : Tree} {n j : ℕ} {old mid new : S} {e : Error} → inside.announced v ≡ capped n → SentVarint (sink.received old) (sink.received mid) n j → NoneFell (sink.counts old) (sink.counts mid) → Breaks inside v sink mid new e
-        → Breaks (varint_counted sum inside) v sink old new e
-    varint_counted_breaks_inside announced p fell q = counted_breaks_inside varint_field l (least_counts announced p.least) p.held fell q
+    pub field_breaks_inside : {v : Tree} {n j : ℕ} {old mid new : S} {e : Error} → inside.announced v ≡ capped n → SentField field (sink.received old) (sink.received mid) n j → NoneFell (sink.counts old) (sink.counts mid) → Breaks inside v sink mid new e
+        → Breaks (counted_format field sum inside) v sink old new e
+    field_breaks_inside announced p fell q = counted_breaks_inside (least_counts announced p.least) p.held fell q
 
-    -- the field is refused by the sink
-    pub varint_counted_breaks_count : {v : Tree} {n : ℕ} {old new : S} (e : Error) → MeetsLaws (varint_counted sum inside) → inside.announced v ≡ capped n → n ≡ sum v
-        → (n < 2 ^ 62 → BeganVarint (sink.received old) (sink.received new) n) → (2 ^ 62 ≤ n → (e ≡ InvalidVectorLength) × (new ≡ old)) → LengthRefused e n (sink.counts old) (sink.counts new) → NoneFell (sink.counts old) (sink.counts new)
-        → Breaks (varint_counted sum inside) v sink old new e
-    varint_counted_breaks_count {v} {n} {old} {new} e laws announced is_sum began long refused fell = elim (cases_lt n (2 ^ 62)) [
-      | inl lt ↦ counted_breaks_count varint_field l (least_counts announced (began lt).least) (began lt).received (refused_by_sink e n (sink.counts old) (sink.counts new) lt refused) fell
+    -- the field is refused
+    pub field_breaks_count : {v : Tree} {n : ℕ} {old new : S} (e : Error) → MeetsLaws (counted_format field sum inside) → inside.announced v ≡ capped n → n ≡ sum v
+        → (n < field.limit → BeganField field (sink.received old) (sink.received new) n) → (field.limit ≤ n → (e ≡ InvalidVectorLength) × (new ≡ old)) → FieldNotSent field e n (sink.counts old) (sink.counts new) → NoneFell (sink.counts old) (sink.counts new)
+        → Breaks (counted_format field sum inside) v sink old new e
+    field_breaks_count {v} {n} {old} {new} e laws announced is_sum began long refused fell = elim (cases_lt n field.limit) [
+      | inl lt ↦ counted_breaks_count (least_counts announced (began lt).least) (began lt).received (refused_by_sink e n (sink.counts old) (sink.counts new) lt refused) fell
       | inr le ↦ named_breaks laws (inl ((long le).0, omega (arith, le, is_sum))) (long le).1
     ]
-
-  -- the least field and a shortest inside, as a vector
-  pub varint_counted_shortest : {v : Tree} {form c : List ℕ} → IsLeastCounted form c → IsShortest inside.spells c v → IsShortest (counted Varint inside.spells) form v
-  varint_counted_shortest {v} {form} {c} p q = subst (λ (s : List ℕ). IsShortest (counted Varint inside.spells) s v) (sym p.whole) (counted_least Varint least_width varint_field inside.spells p.count c v p.least q)
-
-  -- no vector of them is made
-  varint_counted_no_vector : {sum : Tree → ℕ} {v : Tree} {c : List ℕ} (e : Error) → inside.announced v ≡ capped (sum v) → IsShortest inside.spells c v → (e ≡ OutOfMemory) ⊎ ((e ≡ InvalidVectorLength) × (2 ^ 62 ≤ length c)) → RefusesVector (varint_counted sum inside) v e
-  varint_counted_no_vector e is_sum p (inl memory) = record { cause = inl memory }
-  varint_counted_no_vector {sum} {v} {c} e is_sum p (inr long) = record { cause = inr (inl (inl (long.0, omega (arith, long.1, is_sum, l.spelled.announces c v p)))) }
-
-  -- which either is made or isn't
-  pub varint_counted_makes : (sum : Tree → ℕ) (v : Tree) {c : List ℕ} → inside.announced v ≡ capped (sum v) → IsShortest inside.spells c v
-      → (result : Result (Vec ℕ Global) Error) → IfOk result (λ form. IsLeastCounted form.items c) → IfErr result (λ e. (e ≡ OutOfMemory) ⊎ ((e ≡ InvalidVectorLength) × (2 ^ 62 ≤ length c)))
-      → Makes (varint_counted sum inside) v result
-  varint_counted_makes sum v is_sum p (Ok form) ok err = varint_counted_shortest ok p
-  varint_counted_makes sum v is_sum p (Err e) ok err = varint_counted_no_vector e is_sum p err

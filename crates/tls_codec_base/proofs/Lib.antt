@@ -6,6 +6,7 @@ pub mod CountedDecoding
 pub mod CountedEncoding
 pub mod FieldsDecoding
 pub mod FieldsEncoding
+pub mod LengthFields
 pub mod ListReading
 pub mod ListSources
 pub mod ListWriting

@@ -4,12 +4,12 @@ use Rattle.std.specs.Io.KnownBytes.{Consumes}
 use Rattle.tls_codec_wire.specs.Counts.{Counts}
 use Rattle.tls_codec_wire.specs.Device.{GivesFromFront}
 use Rattle.tls_codec_wire.specs.declared.error.Error.{Error}
-use Rattle.tls_codec_wire.specs.declared.error.Error.TheVariants.{DecodingError, EndOfStream, OutOfMemory, TrailingData}
+use Rattle.tls_codec_wire.specs.declared.error.Error.TheVariants.{TrailingData}
 use Rattle.tls_codec_base.specs.Tree.{number_trees}
 use Rattle.tls_codec_base.specs.Grammar.{Reading, bytes, text}
 use Rattle.tls_codec_base.specs.Decoding.{Begins, GaveSpelling, NoneBegins, NoneComes, Refuses, RefusesSource}
 use Rattle.tls_codec_base.specs.laws.NumberLaws.{number_trees_one}
-use Rattle.tls_codec_base.specs.Opaque.{IsNoText, NoTextComes, OpaqueRefused, OpaqueSourceRefused, TextRefused, TextSourceRefused}
+use Rattle.tls_codec_base.specs.Opaque.{IsNoText, NoTextComes}
 use Rattle.tls_codec_base.specs.laws.ListLaws.{bytes_lawful}
 use Rattle.tls_codec_base.proofs.ByteContents.{content_bytes}
 use Rattle.tls_codec_base.proofs.TextForms.{text_from_bytes, text_to_bytes}
@@ -43,11 +43,6 @@ invalid_begins_none x p v rest b =
 
 pub invalid_refuses : {x : List ℕ} {e : Error} → IsNoText x → e ≢ TrailingData → Refuses text false x e
 invalid_refuses {x} {e} p other = record { cause = inl (invalid_begins_none x p); memory = λ h. refl; not_trailing = other }
-
-pub text_not_split : (e : Error) (x : List ℕ) → OpaqueRefused e x → TextRefused e x
-text_not_split EndOfStream x p = p
-text_not_split (DecodingError message) x p = inl p
-text_not_split _ x p = absurd p
 
 -- ---- from a source
 
@@ -84,9 +79,3 @@ invalid_comes_none (Some x) p = invalid_begins_none x p
 
 pub invalid_source_refuses : {coming : Option (List ℕ)} {old new : Counts} {e : Error} → NoTextComes coming → e ≢ TrailingData → RefusesSource text false coming old new e
 invalid_source_refuses {coming} {old} {new} {e} p other = record { cause = inl (invalid_comes_none coming p); memory = λ h. inl refl; not_trailing = other }
-
-pub text_not_read : (e : Error) (coming : Option (List ℕ)) (old new : Counts) → OpaqueSourceRefused e coming old new → TextSourceRefused e coming old new
-text_not_read EndOfStream coming old new p = p
-text_not_read (DecodingError message) coming old new p = inl p
-text_not_read OutOfMemory coming old new p = tt
-text_not_read _ coming old new p = absurd p

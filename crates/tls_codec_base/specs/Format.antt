@@ -1,11 +1,9 @@
 -- What contracts say of a type: its format, and the formats of the types that have parameters.
-use Rattle.std.specs.Prelude.{◌≡◌, ◌≤◌, ◌^◌, ◌⊎◌, ◌&&◌, ℕ, List, Bool, true, false}
-use Rattle.tls_codec_wire.specs.Varint.{Varint}
-use Rattle.tls_codec_wire.specs.Digits.{Digits}
-use Rattle.tls_codec_wire.specs.VarintCalls.{least_width}
+use Rattle.std.specs.Prelude.{◌≡◌, ◌≤◌, ◌⊎◌, ◌&&◌, ℕ, List, Bool, true, false}
 use Rattle.tls_codec_wire.specs.declared.error.Error.{Error}
 use Rattle.tls_codec_wire.specs.declared.error.Error.TheVariants.{InvalidVectorLength}
 use Rattle.tls_codec_base.specs.Tree.{Tree, Empty, Join}
+use Rattle.tls_codec_base.specs.Field.{Field, fixed_field, variable_field}
 use Rattle.tls_codec_base.specs.Grammar.{Grammar, number, varint, array, option, nothing, fields, content, counted, sized, utf8}
 use Rattle.tls_codec_base.specs.Announced.{option_length, nothing_length, fields_length, content_length, content_sum, counted_length, varint_length}
 
@@ -102,23 +100,31 @@ sized_format n inside = record inside { spells = sized n inside.spells }
 -- ---- lists, bytes and texts
 
 -- what a length field counts, whose announced lengths add up to this: `InvalidVectorLength` from the limit of the field on
-abbrev pub counted_format : (List ℕ → ℕ → Type 0) → (ℕ → ℕ) → ℕ → (Tree → ℕ) → Format → Format
-counted_format field width limit sum inside = record {
-  spells = counted field inside.spells;
-  announced = counted_length width inside.announced;
+abbrev pub counted_format : Field → (Tree → ℕ) → Format → Format
+counted_format field sum inside = record {
+  spells = counted field.spells inside.spells;
+  announced = counted_length field.width inside.announced;
   lean = false;
-  refuses = λ v e. ((e ≡ InvalidVectorLength) × (limit ≤ sum v)) ⊎ inside.refuses v e;
-  too_long = λ v. limit ≤ sum v;
+  refuses = λ v e. ((e ≡ InvalidVectorLength) × (field.limit ≤ sum v)) ⊎ inside.refuses v e;
+  too_long = λ v. field.limit ≤ sum v;
 }
 
+-- elements behind any length field
+abbrev pub counted_list_format : Field → Format → Format
+counted_list_format field element = counted_format field (content_sum element.announced) (content_format element)
+
 abbrev pub list_format : Format → Format
-list_format element = counted_format Varint least_width (2 ^ 62) (content_sum element.announced) (content_format element)
+list_format element = counted_list_format variable_field element
 
 abbrev pub fixed_list_format : ℕ → Format → Format
-fixed_list_format k element = counted_format (Digits k) (λ n. k) (256 ^ k) (content_sum element.announced) (content_format element)
+fixed_list_format k element = counted_list_format (fixed_field k) element
+
+-- bytes behind any length field
+abbrev pub counted_bytes_format : Field → Format
+counted_bytes_format field = counted_list_format field (number_format 1)
 
 abbrev pub bytes_format : Format
-bytes_format = list_format (number_format 1)
+bytes_format = counted_bytes_format variable_field
 
 abbrev pub text_format : Format
-text_format = counted_format Varint least_width (2 ^ 62) (content_sum (λ v. 1)) utf8_format
+text_format = counted_format variable_field (content_sum (λ v. 1)) utf8_format

@@ -1,12 +1,13 @@
 -- The laws that each type's grammar and announced length meet.
-use Rattle.std.specs.Prelude.{◌≡◌, ◌≤◌, ℕ, List, ◌++◌, length}
+use Rattle.std.specs.Prelude.{◌≡◌, ◌≢◌, ◌<◌, ◌≤◌, ◌^◌, ℕ, List, ◌++◌, length}
 use Rattle.tls_codec_base.specs.Tree.{Tree}
 use Rattle.tls_codec_base.specs.Grammar.{Grammar, Reading, Writing}
 use Rattle.tls_codec_base.specs.Shortest.{IsLeast, IsShortest, IsFull, HasNoSpelling}
 use Rattle.tls_codec_base.specs.Announced.{capped}
+use Rattle.tls_codec_base.specs.Field.{Field}
 use Rattle.tls_codec_base.specs.Format.{Format}
 use Rattle.tls_codec_wire.specs.declared.error.Error.{Error}
-use Rattle.tls_codec_wire.specs.declared.error.Error.TheVariants.{InvalidVectorLength, OutOfMemory}
+use Rattle.tls_codec_wire.specs.declared.error.Error.TheVariants.{InvalidVectorLength, OutOfMemory, TrailingData}
 
 pub record IsLawful (spells : Grammar) (announced : Tree → ℕ) : Type 0 where
   -- if two reading spellings begin one byte list, they are equal and spell one value
@@ -36,6 +37,13 @@ pub record IsLengthField (field : List ℕ → ℕ → Type 0) (width : ℕ → 
   pub least : (b : List ℕ) (m n : ℕ) → field b n → m ≤ n → (a : List ℕ) × IsLeast (λ t. field t m) a
   pub monotone : (a b : List ℕ) (m n : ℕ) → IsLeast (λ t. field t m) a → field b n → m ≤ n → length a ≤ length b
   pub measures : (a : List ℕ) (m : ℕ) → IsLeast (λ t. field t m) a → width m ≡ length a
+
+-- The laws of a length field with its limit, which memory can't pass.
+pub record MeetsFieldLaws (field : Field) : Type 0 where
+  pub counts : IsLengthField field.spells field.width
+  pub below : (b : List ℕ) (n : ℕ) → field.spells b n → n < field.limit
+  pub small : field.limit ≤ 2 ^ 62
+  pub cut : (e : Error) → field.cut_off e → (e ≢ OutOfMemory) × (e ≢ TrailingData)
 
 -- The laws of a format: those of its spellings; what it refuses has no spelling; want of memory isn't among the errors
 -- that it names; what is refused before anything is sent is `InvalidVectorLength`.

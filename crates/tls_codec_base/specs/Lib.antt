@@ -3,6 +3,8 @@ pub mod Grammar
 pub mod Runs
 pub mod Shortest
 pub mod Announced
+pub mod Errors
+pub mod Field
 pub mod Format
 pub mod Lawful
 pub mod Decoding

@@ -3,12 +3,12 @@ use Rattle.std.specs.Prelude.{◌≡◌, ◌<◌, ◌+◌, ◌⊎◌, ℕ, List,
 use Rattle.std.specs.Io.KnownBytes.{Consumes}
 use Rattle.tls_codec_wire.specs.Counts.{Counts, NoneFell}
 use Rattle.tls_codec_wire.specs.Transfer.{ReadRefused}
-use Rattle.tls_codec_wire.specs.Varint.{Varint}
-use Rattle.tls_codec_wire.specs.VarintCalls.{NoVarintBegins, VarintRefused}
 use Rattle.tls_codec_wire.specs.declared.error.Error.{Error}
-use Rattle.tls_codec_wire.specs.declared.error.Error.TheVariants.{DecodingError, EndOfStream, OutOfMemory}
+use Rattle.tls_codec_wire.specs.declared.error.Error.TheVariants.{EndOfStream, OutOfMemory}
 use Rattle.tls_codec_base.specs.Tree.{Tree}
 use Rattle.tls_codec_base.specs.Grammar.{Grammar, Reading, content}
+use Rattle.tls_codec_base.specs.Errors.{Says}
+use Rattle.tls_codec_base.specs.Field.{Field, FieldRefused, NoFieldBegins, variable_field}
 use Rattle.tls_codec_base.specs.Format.{Format}
 use Rattle.tls_codec_base.specs.Shortest.{IsHollow}
 use Rattle.tls_codec_base.specs.Decoding.{Begins, Refuses, RefusesSource}
@@ -20,11 +20,6 @@ SliceNames = List ℕ → Error → Type 0
 -- by the bytes to come, where those are told, and by the counts before and after
 abbrev pub SourceNames : Type 1
 SourceNames = Option (List ℕ) → Counts → Counts → Error → Type 0
-
--- a decoding error of this text
-abbrev pub Says : List ℕ → Error → Type 0
-Says said (DecodingError text) = text.now ≡ said
-Says said _ = ⊥
 
 -- a part refuses the bytes, with an error that it names
 abbrev pub part_names : Format → SliceNames → SliceNames
@@ -139,12 +134,19 @@ elements_source_names element names n coming old new e =
     ⊎ ((left : ℕ) × SourceNamedBehind (IsRun element.spells n left) (element_source_names element names left) coming old new e)
 
 -- from a slice: no length begins it, or behind a length the elements are refused
-abbrev pub list_names : Format → SliceNames → SliceNames
-list_names element names x e =
-    ((e ≡ EndOfStream) × NoVarintBegins x) ⊎ ((n : ℕ) × NamedBehind (λ s. Varint s n) (elements_names element names n) x e)
+abbrev pub counted_list_names : Field → Format → SliceNames → SliceNames
+counted_list_names field element names x e =
+    ((e ≡ EndOfStream) × NoFieldBegins field x) ⊎ ((n : ℕ) × NamedBehind (λ s. field.spells s n) (elements_names element names n) x e)
 
 -- from a source: the length isn't read, or behind it the elements are refused
+abbrev pub counted_list_source_names : Field → Format → SourceNames → SourceNames
+counted_list_source_names field element names coming old new e =
+    FieldRefused field e coming old new
+    ⊎ ((n : ℕ) × SourceNamedBehind (λ s. field.spells s n) (elements_source_names element names n) coming old new e)
+
+-- the same of lists behind a variable-length integer
+abbrev pub list_names : Format → SliceNames → SliceNames
+list_names element names = counted_list_names variable_field element names
+
 abbrev pub list_source_names : Format → SourceNames → SourceNames
-list_source_names element names coming old new e =
-    VarintRefused e coming old new
-    ⊎ ((n : ℕ) × SourceNamedBehind (λ s. Varint s n) (elements_source_names element names n) coming old new e)
+list_source_names element names = counted_list_source_names variable_field element names

@@ -23,6 +23,10 @@ impl<const LEN: usize> Size for [u8; LEN] {
         LEN
     }
 
+    fn tls_fixed_len() -> Option<usize> {
+        Some(LEN)
+    }
+
     ghost lawful = { array_meets LEN (Prim.omega (arith, LEN-fits)) };
 }
 

@@ -21,8 +21,10 @@
 
 pub mod arrays;
 pub mod boxes;
+pub mod counted;
 pub mod examples;
 pub mod laws;
+pub mod length_field;
 pub mod lists;
 pub mod numbers;
 pub mod opaque;
@@ -33,4 +35,5 @@ pub mod traits;
 pub mod varint;
 pub mod vectors;
 
+pub use length_field::LengthField;
 pub use traits::{Deserialize, DeserializeBytes, Serialize, SerializeBytes, Size};

@@ -1,63 +1,58 @@
-//! Bytes behind their number as a variable-length integer (RFC 9420, section 2.1.2; the `opaque` of
-//! RFC 8446, section 3.4).
+//! Bytes behind a length field, whatever the field: the `opaque` of RFC 8446, section 3.4.
 //!
 //! Byte vectors and texts go through the calls here, which move the bytes in bulk.
-ghost use Rattle.std.specs.Prelude.{◌≡◌, ◌≤◌, ◌⊎◌, ◌^◌, length, true, IfErr, IfOk};
+ghost use Rattle.std.specs.Prelude.{◌≡◌, true, IfErr};
 ghost use Rattle.tls_codec_wire.specs.Digits.{AreBytes};
-ghost use Rattle.tls_codec_wire.specs.declared.error.Error.TheVariants.{InvalidVectorLength, OutOfMemory};
+ghost use Rattle.tls_codec_wire.specs.declared.error.Error.TheVariants.{InvalidVectorLength};
 ghost use Rattle.tls_codec_base.specs.Tree.{number_trees};
-ghost use Rattle.tls_codec_base.specs.Format.{bytes_format};
+ghost use Rattle.tls_codec_base.specs.Format.{counted_bytes_format};
 ghost use Rattle.tls_codec_base.specs.Decoding.{Reads, Splits};
 ghost use Rattle.tls_codec_base.specs.Encoding.{AppendsForm, Makes, Writes};
-ghost use Rattle.tls_codec_base.specs.Opaque.{IsLeastCounted, OpaqueRefused, OpaqueSourceRefused};
+ghost use Rattle.tls_codec_base.specs.Opaque.{OpaqueRefused, OpaqueSourceRefused};
 
+use crate::length_field::{LengthField, write_length};
 use std::alloc::Global;
-use tls_codec_wire::quic::least_width;
-use tls_codec_wire::{Error, Sink, Source, TlsVarInt, read_bytes_bounded, vlen, write_all};
+use tls_codec_wire::{Error, Sink, Source, read_bytes_bounded, write_all};
 
-/// The most bytes of a length.
-const MOST_WIDTH: usize = 8;
-
-const NOT_THERE: Error = Error::DecodingError("declared content is not there");
-
-/// The announced length of some bytes: their number, and the least width of it, saturated at
-/// `usize::MAX`.
-pub fn announced_len(content: &[u8]) -> usize
-    ensures { result ≡ bytes_format.announced (number_trees content.now) }
+/// The announced length of some bytes: their number, and the width of it, saturated at `usize::MAX`.
+pub fn announced_len<F: LengthField>(content: &[u8]) -> usize
+    ensures { result ≡ (counted_bytes_format F.field).announced (number_trees content.now) }
 {
     let length = content.len();
-    least_width(length as u64).saturating_add(length)
+    F::width(length).saturating_add(length)
 }
 
 /// Sends the shortest form of some bytes, and answers how many bytes that is.
 ///
 /// `InvalidVectorLength`: there are more bytes than the greatest length, and nothing was sent. Every
 /// other refusal is the sink's, as in `write_all`.
-pub fn write<W: Sink>(sink: &mut W, content: &[u8]) -> Result<usize, Error>
-    ensures writes { Writes bytes_format (number_trees content.now) W.Sink sink.old sink.new result }
-    ensures too_long { bytes_format.too_long (number_trees content.now) → (result ≡ Err InvalidVectorLength) × (sink.new ≡ sink.old) }
+pub fn write<F: LengthField, W: Sink>(sink: &mut W, content: &[u8]) -> Result<usize, Error>
+    ensures writes { Writes (counted_bytes_format F.field) (number_trees content.now) W.Sink sink.old sink.new result }
+    ensures too_long { (counted_bytes_format F.field).too_long (number_trees content.now) → (result ≡ Err InvalidVectorLength) × (sink.new ≡ sink.old) }
 {
-    let width = vlen::write_length(sink, content.len())?;
+    let width = write_length::<F, W>(sink, content.len())?;
     write_all(sink, content)?;
-    Ok(width + content.len())
+    Ok(width.saturating_add(content.len()))
 }
 
 /// Appends the shortest form of some bytes to a vector, and answers how many bytes that is.
 ///
 /// `InvalidVectorLength`: there are more bytes than the greatest length. `OutOfMemory`: there was none.
 /// After a refusal the vector's bytes are those from before.
-pub fn append(out: &mut Vec<u8>, content: &[u8]) -> Result<usize, Error>
-    ensures appends { AppendsForm bytes_format (number_trees content.now) out.old.items out.new.items result }
-    ensures too_long { bytes_format.too_long (number_trees content.now) → result ≡ Err InvalidVectorLength }
+pub fn append<F: LengthField>(out: &mut Vec<u8>, content: &[u8]) -> Result<usize, Error>
+    ensures appends { AppendsForm (counted_bytes_format F.field) (number_trees content.now) out.old.items out.new.items result }
+    ensures too_long { (counted_bytes_format F.field).too_long (number_trees content.now) → result ≡ Err InvalidVectorLength }
 {
-    if content.len() as u64 > TlsVarInt::MAX {
-        return Err(Error::InvalidVectorLength);
-    }
     let at = out.len();
-    out.reserve(content.len().saturating_add(MOST_WIDTH))?;
-    let width = vlen::append_length(out, content.len())?;
+    let Some(found) = F::least_form(content.len()) else {
+        return Err(Error::InvalidVectorLength);
+    };
+    let (bytes, from) = found;
+    let form = &bytes[from..];
+    out.reserve(form.len().saturating_add(content.len()))?;
+    out.extend_from_slice(form)?;
     match out.extend_from_slice(content) {
-        Ok(()) => Ok(width + content.len()),
+        Ok(()) => Ok(out.len() - at),
         Err(_) => {
             out.truncate(at);
             Err(Error::OutOfMemory)
@@ -68,26 +63,12 @@ pub fn append(out: &mut Vec<u8>, content: &[u8]) -> Result<usize, Error>
 /// The shortest form of some bytes.
 ///
 /// `InvalidVectorLength`: there are more bytes than the greatest length.
-pub fn to_vec(alloc: Global, content: &[u8]) -> Result<Vec<u8>, Error>
-    ensures makes { Makes bytes_format (number_trees content.now) result }
-    ensures too_long { bytes_format.too_long (number_trees content.now) → result ≡ Err InvalidVectorLength }
+pub fn to_vec<F: LengthField>(alloc: Global, content: &[u8]) -> Result<Vec<u8>, Error>
+    ensures makes { Makes (counted_bytes_format F.field) (number_trees content.now) result }
+    ensures too_long { (counted_bytes_format F.field).too_long (number_trees content.now) → result ≡ Err InvalidVectorLength }
 {
-    counted(alloc, content)
-}
-
-// The least length of some bytes, and these bytes behind it.
-pub(crate) fn counted(alloc: Global, content: &[u8]) -> Result<Vec<u8>, Error>
-    ensures ok { IfOk result (λ form. IsLeastCounted form.items content.now) }
-    ensures err { IfErr result (λ e. (e ≡ OutOfMemory) ⊎ ((e ≡ InvalidVectorLength) × (2 ^ 62 ≤ length content.now))) }
-    ensures too_long { 2 ^ 62 ≤ length content.now → result ≡ Err InvalidVectorLength }
-{
-    let width = least_width(content.len() as u64);
-    if width == 0 {
-        return Err(Error::InvalidVectorLength);
-    }
-    let mut form = Vec::with_capacity(alloc, width + content.len())?;
-    vlen::write_length(&mut form, content.len())?;
-    form.extend_from_slice(content)?;
+    let mut form = Vec::new(alloc);
+    append::<F>(&mut form, content)?;
     Ok(form)
 }
 
@@ -95,13 +76,13 @@ pub(crate) fn counted(alloc: Global, content: &[u8]) -> Result<Vec<u8>, Error>
 ///
 /// `EndOfStream`: there is no whole length. `DecodingError("declared content is not there")`: fewer
 /// bytes are behind it than it declares.
-pub fn split(whole: &[u8]) -> Result<(&[u8], &[u8]), Error>
-    ensures splits { Splits (record bytes_format { lean = true }) (λ found. number_trees found.now) whole.now result }
-    ensures named { IfErr result (λ e. OpaqueRefused e whole.now) }
+pub fn split<F: LengthField>(whole: &[u8]) -> Result<(&[u8], &[u8]), Error>
+    ensures splits { Splits (record (counted_bytes_format F.field) { lean = true }) (λ found. number_trees found.now) whole.now result }
+    ensures named { IfErr result (λ e. OpaqueRefused F.field e whole.now) }
 {
-    let (length, rest) = vlen::split_length(whole)?;
+    let (length, rest) = F::split_length(whole)?;
     if rest.len() < length {
-        return Err(NOT_THERE);
+        return Err(F::cut_off());
     }
     Ok(rest.split_at(length))
 }
@@ -110,11 +91,11 @@ pub fn split(whole: &[u8]) -> Result<(&[u8], &[u8]), Error>
 ///
 /// Room is asked for as they come. `EndOfStream`: there is no whole length, or fewer bytes come than
 /// it declares. `DecodingError("read failed")` and `OutOfMemory` are as in `read_bytes_bounded`.
-pub fn read<R: Source>(alloc: Global, src: &mut R) -> Result<Vec<u8>, Error>
-    ensures reads { Reads bytes_format (λ content. number_trees content.items) R.Source src.old src.new result }
-    ensures named { IfErr result (λ e. OpaqueSourceRefused e (R.coming src.old) (R.counts src.old) (R.counts src.new)) }
+pub fn read<F: LengthField, R: Source>(alloc: Global, src: &mut R) -> Result<Vec<u8>, Error>
+    ensures reads { Reads (counted_bytes_format F.field) (λ content. number_trees content.items) R.Source src.old src.new result }
+    ensures named { IfErr result (λ e. OpaqueSourceRefused F.field e (R.coming src.old) (R.counts src.old) (R.counts src.new)) }
 {
-    let (length, _) = vlen::read_length(src)?;
+    let length = F::read_length(src)?;
     let content = read_bytes_bounded(alloc, src, length)?;
     see_bytes(&content);
     Ok(content)

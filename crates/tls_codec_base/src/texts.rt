@@ -9,7 +9,7 @@ ghost use Rattle.tls_codec_base.specs.Opaque.{TextRefused, TextSourceRefused};
 use crate::opaque;
 use crate::traits::{Deserialize, DeserializeBytes, Serialize, SerializeBytes, Size};
 use std::alloc::Global;
-use tls_codec_wire::{Error, Sink, Source};
+use tls_codec_wire::{Error, Sink, Source, TlsVarInt};
 
 const INVALID_UTF8: Error = Error::DecodingError("invalid utf8");
 
@@ -49,7 +49,7 @@ impl Deserialize for String {
     /// `EndOfStream`: there is no whole length, or fewer bytes come than it declares.
     /// `DecodingError("invalid utf8")`: the bytes are no text.
     fn tls_deserialize<R: Source>(alloc: Global, bytes: &mut R) -> Result<String, Error> {
-        let content = opaque::read(alloc, bytes)?;
+        let content = opaque::read::<TlsVarInt, R>(alloc, bytes)?;
         match String::from_utf8(content) {
             Ok(text) => Ok(text),
             Err(_) => Err(INVALID_UTF8),
@@ -64,7 +64,7 @@ impl DeserializeBytes for String {
     /// fewer bytes are behind it than it declares. `DecodingError("invalid utf8")`: the bytes are no
     /// text.
     fn tls_deserialize_bytes(alloc: Global, bytes: &[u8]) -> Result<(String, &[u8]), Error> {
-        let (content, rest) = opaque::split(bytes)?;
+        let (content, rest) = opaque::split::<TlsVarInt>(bytes)?;
         let Ok(text) = std::str::from_utf8(content) else {
             return Err(INVALID_UTF8);
         };
@@ -79,7 +79,7 @@ impl Size for &str {
     ghost format = { text_format };
 
     fn tls_serialized_len(&self) -> usize {
-        opaque::announced_len(self.as_bytes())
+        opaque::announced_len::<TlsVarInt>(self.as_bytes())
     }
 
     ghost lawful = { text_meets };
@@ -89,18 +89,18 @@ impl Serialize for &str {
     /// `InvalidVectorLength`: there are more bytes than the greatest length, and nothing was sent.
     /// Every other refusal is the sink's.
     fn tls_serialize<W: Sink>(&self, writer: &mut W) -> Result<usize, Error> {
-        opaque::write(writer, self.as_bytes())
+        opaque::write::<TlsVarInt, W>(writer, self.as_bytes())
     }
 
     /// `InvalidVectorLength`: there are more bytes than the greatest length. `OutOfMemory`: there was
     /// none.
     fn tls_serialize_into(&self, out: &mut Vec<u8>) -> Result<usize, Error> {
-        opaque::append(out, self.as_bytes())
+        opaque::append::<TlsVarInt>(out, self.as_bytes())
     }
 }
 
 impl SerializeBytes for &str {
     fn tls_serialize_bytes(&self, alloc: Global) -> Result<Vec<u8>, Error> {
-        opaque::to_vec(alloc, self.as_bytes())
+        opaque::to_vec::<TlsVarInt>(alloc, self.as_bytes())
     }
 }

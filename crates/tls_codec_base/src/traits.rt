@@ -1,5 +1,5 @@
 //! The five traits of a type with a spelling, and their contracts.
-ghost use Rattle.std.specs.Prelude.{◌≡◌, ◌⊎◌, List, Option, Some, ℕ, IfErr};
+ghost use Rattle.std.specs.Prelude.{◌≡◌, ◌⊎◌, List, Option, Some, ℕ, IfErr, IfSome};
 ghost use Rattle.tls_codec_wire.specs.Bounded.{BorrowAlike, inner_of, limit_of};
 ghost use Rattle.tls_codec_wire.specs.Counts.{Counts, no_counts};
 ghost use Rattle.tls_codec_wire.specs.declared.error.Error.{Error};
@@ -30,6 +30,16 @@ pub trait Size {
     /// The number of bytes of the value's shortest form, saturated at `usize::MAX`.
     fn tls_serialized_len(&self) -> usize
         ensures { result ≡ format.announced (plain self.now) };
+
+    /// The number of bytes of each value's shortest form, where all values have as many; none where they
+    /// don't, or where that isn't known.
+    ///
+    /// Provided; a type of fixed width may tell it, and lengths of its lists need no sums then.
+    fn tls_fixed_len() -> Option<usize>
+        ensures { IfSome result (λ n. (v : Self) → format.announced (plain v) ≡ n) }
+    {
+        None
+    }
 
     /// Sends the elements' shortest forms in a row, and answers how many bytes that is, saturated at
     /// `usize::MAX`; none and nothing is sent where such elements are sent one by one.

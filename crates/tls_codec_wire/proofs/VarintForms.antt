@@ -10,7 +10,7 @@ use Rattle.tls_codec_wire.specs.Varint.{Varint}
 use Rattle.tls_codec_wire.specs.VarintCalls.{IsLaidOut, LeastVarint}
 
 -- the last j digits
-drop-high_first : (k j n : ℕ) → drop k (bytes_high_first (k + j) n) ≡ bytes_high_first j n
+pub drop-high_first : (k j n : ℕ) → drop k (bytes_high_first (k + j) n) ≡ bytes_high_first j n
 drop-high_first zero j n = ap (λ (u : ℕ). bytes_high_first u n) (omega arith)
 drop-high_first (suc k) j n =
     let one : suc k + j ≡ suc (k + j) = omega arith in

@@ -106,8 +106,14 @@ fn number_from(top: u8, digits: &[u8]) -> TlsVarInt
     TlsVarInt::new(number)
 }
 
-// The least spelling stands at the end of these bytes, from this place on.
-pub(crate) fn least_form(n: TlsVarInt) -> ([u8; 8], usize)
+/// The least spelling of a number, which is what stands in these bytes from this place on.
+///
+/// ```rust
+/// let (bytes, at) = least_form(TlsVarInt::try_from(64)?);
+/// assert_eq!(rt; bytes[at..], [0x40, 0x40]);
+/// ```
+#[inline(always)]
+pub fn least_form(n: TlsVarInt) -> ([u8; 8], usize)
     ensures within { result.1 ≤ 8 }
     ensures least { LeastVarint (drop result.1 result.0) (number_of n) }
 {

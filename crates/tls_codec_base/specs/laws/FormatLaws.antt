@@ -1,14 +1,16 @@
 -- The laws of formats, from those of their parts.
-use Rattle.std.proofs.Common.{◌≡◌, ℕ, List, ◌^◌, ◌<◌, ◌≤◌, length, refl, inl, inr, arith}
+use Rattle.std.proofs.Common.{◌≡◌, ℕ, List, ◌^◌, ◌<◌, ◌≤◌, length, codes, refl, inl, inr, arith}
 use Rattle.tls_codec_wire.specs.declared.error.Error.{Error}
-use Rattle.tls_codec_wire.specs.declared.error.Error.TheVariants.{OutOfMemory}
+use Rattle.tls_codec_wire.specs.declared.error.Error.TheVariants.{DecodingError, OutOfMemory, TrailingData}
 use Rattle.tls_codec_base.specs.Tree.{Tree, Number, Empty, Join}
 use Rattle.tls_codec_base.specs.Grammar.{Writing, Grammar, option, fields, content}
 use Rattle.tls_codec_base.specs.Shortest.{HasNoSpelling, IsShortest}
 use Rattle.tls_codec_base.specs.laws.RowLaws.{row_length}
 use Rattle.tls_codec_base.specs.Announced.{capped, content_length, content_sum}
-use Rattle.tls_codec_base.specs.Format.{Format, atom, number_format, array_format, varint_format, with_memory, option_format, option_refuses, nothing_format, fields_format, fields_refuses, pair_format, triple_format, content_format, content_refuses, utf8_format, counted_format, list_format, fixed_list_format, bytes_format, text_format}
-use Rattle.tls_codec_base.specs.Lawful.{IsLengthField, IsLawful, MeetsLaws, MeetsLawsInside}
+use Rattle.tls_codec_base.specs.Format.{Format, atom, number_format, array_format, varint_format, with_memory, option_format, option_refuses, nothing_format, fields_format, fields_refuses, pair_format, triple_format, content_format, content_refuses, utf8_format, counted_format, list_format, fixed_list_format, bytes_format, text_format, counted_list_format, counted_bytes_format}
+use Rattle.tls_codec_base.specs.Errors.{Says}
+use Rattle.tls_codec_base.specs.Field.{Field, fixed_field, variable_field}
+use Rattle.tls_codec_base.specs.Lawful.{IsLengthField, IsLawful, MeetsFieldLaws, MeetsLaws, MeetsLawsInside}
 use Rattle.tls_codec_base.specs.laws.NumberLaws.{digits_below, digits_field, array_lawful, number_lawful}
 use Rattle.tls_codec_base.specs.laws.OptionLaws.{option_lawful}
 use Rattle.tls_codec_base.specs.laws.FieldsLaws.{nothing_lawful, fields_lawful}
@@ -104,14 +106,29 @@ module _ {element : Format} (l : MeetsLaws element) where
       omega (arith, n, l.spelled.announces a.0 v a.1, sum_fits b.0 vs b.1)
   sum_fits c _ p = omega arith
 
+-- the laws of length fields
+pub variable_field_meets : MeetsFieldLaws variable_field
+variable_field_meets = record { counts = varint_field; below = varint_fits; small = omega arith; cut = λ e p. (λ h. cut_memory e p h, λ h. cut_trailing e p h) }
+  where
+    cut_memory : (e : Error) → Says (codes "declared content is not there") e → e ≡ OutOfMemory → ⊥
+    cut_memory (DecodingError text) p h = absurd cc
+    cut_memory _ p h = absurd p
+
+    cut_trailing : (e : Error) → Says (codes "declared content is not there") e → e ≡ TrailingData → ⊥
+    cut_trailing (DecodingError text) p h = absurd cc
+    cut_trailing _ p h = absurd p
+
+pub fixed_field_meets : (k : ℕ) → 256 ^ k ≤ 2 ^ 62 → MeetsFieldLaws (fixed_field k)
+fixed_field_meets k small = record { counts = digits_field k; below = digits_below k; small = small; cut = λ e p. (λ h. cc, λ h. cc) }
+
 -- a length field and what it counts, where no field holds the limit
-pub counted_meets : {field : List ℕ → ℕ → Type 0} {width : ℕ → ℕ} {limit : ℕ} {sum : Tree → ℕ} {inside : Format} → IsLengthField field width → ((a : List ℕ) (n : ℕ) → field a n → n < limit)
-    → MeetsLawsInside inside → ((c : List ℕ) (v : Tree) → IsShortest inside.spells c v → sum v ≤ length c) → MeetsLaws (counted_format field width limit sum inside)
-counted_meets {field} {width} {limit} {sum} {inside} m below l fits = record {
-  spelled = counted_lawful field width m inside.spells inside.announced l.spelled;
+counted_meets : (field : Field) {sum : Tree → ℕ} {inside : Format} → IsLengthField field.spells field.width → ((a : List ℕ) (n : ℕ) → field.spells a n → n < field.limit)
+    → MeetsLawsInside inside → ((c : List ℕ) (v : Tree) → IsShortest inside.spells c v → sum v ≤ length c) → MeetsLaws (counted_format field sum inside)
+counted_meets field {sum} {inside} m below l fits = record {
+  spelled = counted_lawful field.spells field.width m inside.spells inside.announced l.spelled;
   unspelled = λ v e p s q. elim p [
     | inl long ↦
-        let parts = counted_parts field width m inside.spells inside.announced l.spelled s v q in
+        let parts = counted_parts field.spells field.width m inside.spells inside.announced l.spelled s v q in
         omega (arith, long.1, fits parts.0 v parts.2, below parts.1 (length parts.0) parts.3.spelled)
     | inr named ↦ l.unspelled v e named q.inside q.is_inside
   ];
@@ -124,17 +141,24 @@ counted_meets {field} {width} {limit} {sum} {inside} m below l fits = record {
 
 -- ---- lists, bytes and texts
 
-pub list_meets : {element : Format} → MeetsLaws element → MeetsLaws (list_format element)
-list_meets l = counted_meets varint_field varint_fits (content_meets l) (sum_fits l)
+pub counted_list_meets : {field : Field} {element : Format} → MeetsFieldLaws field → MeetsLaws element → MeetsLaws (counted_list_format field element)
+counted_list_meets {field} m l = counted_meets field m.counts m.below (content_meets l) (sum_fits l)
 
+pub list_meets : {element : Format} → MeetsLaws element → MeetsLaws (list_format element)
+list_meets l = counted_list_meets variable_field_meets l
+
+-- whose width may be any
 pub fixed_list_meets : (k : ℕ) {element : Format} → MeetsLaws element → MeetsLaws (fixed_list_format k element)
-fixed_list_meets k l = counted_meets (digits_field k) (digits_below k) (content_meets l) (sum_fits l)
+fixed_list_meets k l = counted_meets (fixed_field k) (digits_field k) (digits_below k) (content_meets l) (sum_fits l)
+
+pub counted_bytes_meets : {field : Field} → MeetsFieldLaws field → MeetsLaws (counted_bytes_format field)
+counted_bytes_meets m = counted_list_meets m (number_meets 1 (omega arith))
 
 pub bytes_meets : MeetsLaws bytes_format
-bytes_meets = list_meets (number_meets 1 (omega arith))
+bytes_meets = counted_bytes_meets variable_field_meets
 
 pub text_meets : MeetsLaws text_format
 text_meets =
     let byte = number_meets 1 (omega arith) in
-    counted_meets varint_field varint_fits utf8_meets
+    counted_meets variable_field varint_field varint_fits utf8_meets
     (λ c v p. sum_fits byte c v (record { spelled = p.spelled.0; least = λ t q. inl (bytes_one v t c q p.spelled.0) }))

@@ -26,6 +26,10 @@ impl Size for u16 {
         2
     }
 
+    fn tls_fixed_len() -> Option<usize> {
+        Some(2)
+    }
+
     /// The numbers are sent in groups.
     fn tls_send_elements<W: Sink>(elements: &[u16], sink: &mut W) -> Result<Option<usize>, Error> {
         Ok(Some(send_run::<u16, W, 2>(elements, sink)?))

@@ -23,6 +23,10 @@ impl Size for U24 {
         3
     }
 
+    fn tls_fixed_len() -> Option<usize> {
+        Some(3)
+    }
+
     /// The numbers are sent in groups.
     fn tls_send_elements<W: Sink>(elements: &[U24], sink: &mut W) -> Result<Option<usize>, Error> {
         Ok(Some(send_run::<U24, W, 3>(elements, sink)?))

@@ -26,6 +26,10 @@ impl Size for u32 {
         4
     }
 
+    fn tls_fixed_len() -> Option<usize> {
+        Some(4)
+    }
+
     /// The numbers are sent in groups.
     fn tls_send_elements<W: Sink>(elements: &[u32], sink: &mut W) -> Result<Option<usize>, Error> {
         Ok(Some(send_run::<u32, W, 4>(elements, sink)?))

@@ -26,6 +26,10 @@ impl Size for u64 {
         8
     }
 
+    fn tls_fixed_len() -> Option<usize> {
+        Some(8)
+    }
+
     /// The numbers are sent in groups.
     fn tls_send_elements<W: Sink>(elements: &[u64], sink: &mut W) -> Result<Option<usize>, Error> {
         Ok(Some(send_run::<u64, W, 8>(elements, sink)?))

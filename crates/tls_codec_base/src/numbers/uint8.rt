@@ -23,6 +23,10 @@ impl Size for u8 {
         1
     }
 
+    fn tls_fixed_len() -> Option<usize> {
+        Some(1)
+    }
+
     /// The bytes are sent at once.
     fn tls_send_elements<W: Sink>(elements: &[u8], sink: &mut W) -> Result<Option<usize>, Error> {
         write_all(sink, elements)?;

@@ -1,7 +1,7 @@
-use Rattle.std.proofs.Common.{Global, IsUtf8, Vec, inr, refl, subst, ℕ}
+use Rattle.std.proofs.Common.{Global, IsUtf8, Vec, inl, inr, refl, subst, ℕ}
 use Rattle.std.proofs.lemmas.Result.{err_from_is_err_and}
 use Rattle.std.proofs.lemmas.Str.{IsUtf8-string_bytes}
-use Rattle.tls_codec_base.proofs.TextDecoding.{invalid_comes, invalid_source_refuses, text_given, text_not_read, text_source_refuses}
+use Rattle.tls_codec_base.proofs.TextDecoding.{invalid_comes, invalid_source_refuses, text_given, text_source_refuses}
 use Rattle.tls_codec_base.proofs.texts.StringDeserialize.tls_deserialize.Goals as goal
 
 pub returns-in_err-content-clause-reads : goal.returns-in_err-content-clause-reads
@@ -12,7 +12,7 @@ returns-in_err-content-clause-reads g c =
 pub returns-in_err-content-clause-named : goal.returns-in_err-content-clause-named
 returns-in_err-content-clause-named g c =
     let p = err_from_is_err_and c.from_residual.result c.from_residual.ensures.1 in
-    rw (p.1, p.2) (text_not_read _ _ _ _ c.in_err-content.ensures.named)
+    rw (p.1, p.2) (inl c.in_err-content.ensures.named)
 
 pub returns-in-Ok-clause-reads : goal.returns-in-Ok-clause-reads
 returns-in-Ok-clause-reads g c =

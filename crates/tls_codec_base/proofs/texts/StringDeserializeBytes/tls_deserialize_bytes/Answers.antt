@@ -1,5 +1,6 @@
+use Rattle.std.proofs.Common.{inl, inr}
 use Rattle.std.proofs.lemmas.Result.{err_from_is_err_and}
-use Rattle.tls_codec_base.proofs.TextDecoding.{invalid_refuses, text_begin, text_not_split, text_refuses}
+use Rattle.tls_codec_base.proofs.TextDecoding.{invalid_refuses, text_begin, text_refuses}
 use Rattle.tls_codec_base.proofs.texts.StringDeserializeBytes.tls_deserialize_bytes.Goals as goal
 
 pub returns-in_err-content-clause-splits : goal.returns-in_err-content-clause-splits
@@ -10,7 +11,7 @@ returns-in_err-content-clause-splits c =
 pub returns-in_err-content-clause-named : goal.returns-in_err-content-clause-named
 returns-in_err-content-clause-named c =
     let p = err_from_is_err_and c.from_residual.result c.from_residual.ensures.1 in
-    rw (p.1, p.2) (text_not_split _ _ c.in_err-content.ensures.named)
+    rw (p.1, p.2) (inr (inl c.in_err-content.ensures.named))
 
 pub returns-in_default-clause-splits : goal.returns-in_default-clause-splits
 returns-in_default-clause-splits c =

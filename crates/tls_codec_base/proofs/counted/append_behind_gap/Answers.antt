@@ -1,0 +1,25 @@
+use Rattle.std.proofs.Common.{ℕ, arith, refl, subst, ◌∙◌}
+use Rattle.std.proofs.lemmas.Result.{err_from_is_err_and}
+use Rattle.tls_codec_base.specs.Field.{IsSafeGap}
+use Rattle.tls_codec_base.specs.laws.FormatLaws.{content_length_sum, content_meets}
+use Rattle.tls_codec_base.proofs.Appending.{counted_appended, cut_off, gap_not_filled, inside_not_appended, kept_before_gap}
+use Rattle.tls_codec_base.proofs.counted.append_behind_gap.Goals as goal
+
+pub returns-in_err-append-clause-err : goal.returns-in_err-append-clause-err
+returns-in_err-append-clause-err g c =
+    let p = err_from_is_err_and c.from_residual-in_err-append.result c.from_residual-in_err-append.ensures.1 in
+    let opened = c.in_ok-open_gap.ensures.ok in
+    let refused = c.in_err-append.ensures in
+    let safe = subst (λ (n : ℕ). IsSafeGap n c.likely_width-gap.result) (omega (arith, c.len-at.ensures)) c.likely_width-gap.ensures in
+    rw (p.1, p.2) (inside_not_appended g.met.F.LengthField.lawful (content_meets g.met.T.Size.lawful) opened safe refused (cut_off opened.gap refl refl (refused.kept ∙ opened.held)))
+
+pub returns-in_err-fill_gap-clause-err : goal.returns-in_err-fill_gap-clause-err
+returns-in_err-fill_gap-clause-err g c =
+    let p = err_from_is_err_and c.from_residual-in_err-fill_gap.result c.from_residual-in_err-fill_gap.ensures.1 in
+    let opened = c.in_ok-open_gap.ensures.ok in
+    let filled = c.in_err-fill_gap.ensures in
+    rw (p.1, p.2) (gap_not_filled g.met.F.LengthField.lawful (content_meets g.met.T.Size.lawful) _ (content_length_sum _ _) (omega (arith, c.len-at.ensures)) opened c.in_ok-append.ensures (kept_before_gap _ (omega (arith, c.len-at.ensures)) opened c.in_ok-append.ensures filled.kept) filled.refused)
+
+pub returns-clause-ok : goal.returns-clause-ok
+returns-clause-ok g c =
+    counted_appended g.met.F.LengthField.lawful (content_meets g.met.T.Size.lawful) (omega (arith, c.len-at.ensures)) c.in_ok-open_gap.ensures.ok c.in_ok-append.ensures c.in_ok-fill_gap.ensures.ok (omega (arith, c.len.ensures))

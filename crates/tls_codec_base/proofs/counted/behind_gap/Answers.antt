@@ -1,0 +1,22 @@
+use Rattle.std.proofs.Common.{length, arith, refl}
+use Rattle.std.proofs.lemmas.Result.{err_from_is_err_and}
+use Rattle.tls_codec_base.specs.Field.{IsSafeGap}
+use Rattle.tls_codec_base.specs.Format.{counted_list_format}
+use Rattle.tls_codec_base.specs.laws.FormatLaws.{content_length_sum, content_meets}
+use Rattle.tls_codec_base.proofs.Appending.{counted_appended, empty_made, empty_refused, gap_not_filled, inside_not_appended}
+use Rattle.tls_codec_base.proofs.counted.behind_gap.Goals as goal
+
+pub returns-in_err-append_bytes : goal.returns-in_err-append_bytes
+returns-in_err-append_bytes g c =
+    let p = err_from_is_err_and c.from_residual-in_err-append_bytes.result c.from_residual-in_err-append_bytes.ensures.1 in
+    let safe : IsSafeGap (length c.new-bytes.result.items) c.likely_width-gap.result = rw c.new-bytes.ensures.items c.likely_width-gap.ensures in
+    rw (p.1, p.2) (empty_refused c.new-bytes.ensures.items (inside_not_appended g.met.F.LengthField.lawful (content_meets g.met.T.Size.lawful) c.in_ok-open_gap.ensures.ok safe c.in_err-append_bytes.ensures refl))
+
+pub returns-in_err-fill_gap : goal.returns-in_err-fill_gap
+returns-in_err-fill_gap g c =
+    let p = err_from_is_err_and c.from_residual-in_err-fill_gap.result c.from_residual-in_err-fill_gap.ensures.1 in
+    rw (p.1, p.2) (empty_refused c.new-bytes.ensures.items (gap_not_filled g.met.F.LengthField.lawful (content_meets g.met.T.Size.lawful) _ (content_length_sum _ _) (omega arith) c.in_ok-open_gap.ensures.ok c.in_ok-append_bytes.ensures refl c.in_err-fill_gap.ensures.refused))
+
+pub returns : goal.returns
+returns g c =
+    empty_made (counted_list_format g.F.LengthField.field g.T.Size.format) c.new-bytes.ensures.items (counted_appended g.met.F.LengthField.lawful (content_meets g.met.T.Size.lawful) (omega arith) c.in_ok-open_gap.ensures.ok c.in_ok-append_bytes.ensures c.in_ok-fill_gap.ensures.ok refl)

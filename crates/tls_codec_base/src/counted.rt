@@ -1,0 +1,181 @@
+//! Elements behind a length field, whatever the field (RFC 8446, section 3.4).
+//!
+//! `Vec<T>`, `&[T]` and each family of vectors go through the calls here, which know of an element and
+//! of a length field their traits' contracts alone.
+ghost use Rattle.std.specs.Prelude.{◌≡◌, ◌≤◌, ◌⊎◌, length, take, IfErr, IfOk};
+ghost use Rattle.tls_codec_wire.specs.declared.error.Error.TheVariants.{InvalidVectorLength};
+ghost use Rattle.tls_codec_base.specs.Tree.{trees};
+ghost use Rattle.tls_codec_base.specs.Field.{IsSafeGap};
+ghost use Rattle.tls_codec_base.specs.Format.{counted_list_format};
+ghost use Rattle.tls_codec_base.specs.Decoding.{Reads, Splits};
+ghost use Rattle.tls_codec_base.specs.Encoding.{AppendRefused, Appended, AppendsForm, Makes, Writes};
+ghost use Rattle.tls_codec_base.specs.Refusals.{counted_list_names, counted_list_source_names};
+
+use crate::length_field::{LengthField, fill_gap, open_gap, write_length};
+use crate::lists::{self, Turns, content_len};
+use crate::traits::{Deserialize, DeserializeBytes, Serialize, SerializeBytes, Size};
+use std::alloc::Global;
+use tls_codec_wire::{Error, Sink, Source};
+
+/// How many bytes an element likely has, where elements have no one width.
+const LIKELY_LENGTH: usize = 64;
+
+/// A gap for a length is left behind at most so many bytes.
+const MOST_BEHIND: usize = 1 << 61;
+
+/// The announced length of a list: that of its elements, and the width of it, saturated at
+/// `usize::MAX`.
+pub fn announced_len<F: LengthField, T: Size>(elements: &[T]) -> usize
+    ensures { result ≡ (counted_list_format F.field T.format).announced (trees T.plain elements.now) }
+{
+    match content_len(elements) {
+        Ok(length) => F::width(length).saturating_add(length),
+        Err(_) => usize::MAX,
+    }
+}
+
+/// Sends a list's shortest form, and answers how many bytes that is, saturated at `usize::MAX`.
+///
+/// `InvalidVectorLength`: the elements have more bytes than the greatest length, and nothing was sent.
+/// Every other refusal is an element's or the sink's.
+pub fn write<F: LengthField, T: Serialize, W: Sink>(
+    writer: &mut W,
+    elements: &[T],
+) -> Result<usize, Error>
+    ensures writes { Writes (counted_list_format F.field T.format) (trees T.plain elements.now) W.Sink writer.old writer.new result }
+    ensures too_long { (counted_list_format F.field T.format).too_long (trees T.plain elements.now) → (result ≡ Err InvalidVectorLength) × (writer.new ≡ writer.old) }
+{
+    let length = content_len(elements)?;
+    let width = write_length::<F, W>(writer, length)?;
+    let sent = lists::write(writer, elements)?;
+    Ok(sent.saturating_add(width))
+}
+
+/// Appends a list's shortest form to a vector, and answers how many bytes that is.
+///
+/// `InvalidVectorLength`: the elements have more bytes than the greatest length, or the vector would
+/// pass `isize::MAX` bytes. Every other refusal is an element's or want of memory. After a refusal the
+/// vector's bytes are those from before.
+pub fn append<F: LengthField, T: Serialize>(
+    out: &mut Vec<u8>,
+    elements: &[T],
+) -> Result<usize, Error>
+    ensures appends { AppendsForm (counted_list_format F.field T.format) (trees T.plain elements.now) out.old.items out.new.items result }
+    ensures too_long { (counted_list_format F.field T.format).too_long (trees T.plain elements.now) → result ≡ Err InvalidVectorLength }
+{
+    let at = out.len();
+    match append_behind_gap::<F, T>(out, elements) {
+        Ok(length) => Ok(length),
+        Err(error) => {
+            out.truncate(at);
+            Err(first_refusal::<F, T>(elements, error))
+        }
+    }
+}
+
+// The same, but that bytes stay behind those from before after a refusal, which is that of a part.
+fn append_behind_gap<F: LengthField, T: Serialize>(
+    out: &mut Vec<u8>,
+    elements: &[T],
+) -> Result<usize, Error>
+    ensures ok { IfOk result (λ n. Appended (counted_list_format F.field T.format) (trees T.plain elements.now) out.old.items out.new.items n) }
+    ensures err { IfErr result (λ e. AppendRefused (counted_list_format F.field T.format) (trees T.plain elements.now) out.old.items (take (length out.old.items) out.new.items) e) }
+{
+    let at = out.len();
+    let gap = likely_width::<F, T>(at, elements.len());
+    open_gap(out, gap)?;
+    lists::append(out, elements)?;
+    fill_gap::<F>(out, at, gap)?;
+    Ok(out.len() - at)
+}
+
+/// A list's shortest form, of elements that are written to vectors of their own.
+///
+/// The refusals are those of [`append`].
+pub fn to_vec<F: LengthField, T: SerializeBytes>(
+    alloc: Global,
+    elements: &[T],
+) -> Result<Vec<u8>, Error>
+    ensures makes { Makes (counted_list_format F.field T.format) (trees T.plain elements.now) result }
+    ensures too_long { (counted_list_format F.field T.format).too_long (trees T.plain elements.now) → result ≡ Err InvalidVectorLength }
+{
+    match behind_gap::<F, T>(alloc, elements) {
+        Ok(bytes) => Ok(bytes),
+        Err(error) => Err(first_refusal::<F, T>(elements, error)),
+    }
+}
+
+// The same, but that a refusal is that of a part.
+fn behind_gap<F: LengthField, T: SerializeBytes>(
+    alloc: Global,
+    elements: &[T],
+) -> Result<Vec<u8>, Error>
+    ensures { Makes (counted_list_format F.field T.format) (trees T.plain elements.now) result }
+{
+    let mut bytes = Vec::new(alloc);
+    let gap = likely_width::<F, T>(0, elements.len());
+    open_gap(&mut bytes, gap)?;
+    lists::append_bytes(alloc, &mut bytes, elements)?;
+    fill_gap::<F>(&mut bytes, 0, gap)?;
+    Ok(bytes)
+}
+
+// How wide the length of so many elements is likely to be behind so many bytes: a guess, which is right
+// where the elements have one width.
+//
+// There is none behind so many bytes that the guess may be what passes the greatest vector.
+fn likely_width<F: LengthField, T: Size>(at: usize, count: usize) -> usize
+    ensures { IsSafeGap at result }
+{
+    if at > MOST_BEHIND {
+        return 0;
+    }
+    let each = T::tls_fixed_len().unwrap_or(LIKELY_LENGTH);
+    F::width(count.saturating_mul(each)).min(8)
+}
+
+// Why a list is refused: the sum of the announced lengths passes the greatest length, and else this.
+fn first_refusal<F: LengthField, T: Size>(elements: &[T], error: Error) -> Error
+    ensures either { (result ≡ error) ⊎ ((result ≡ InvalidVectorLength) × (counted_list_format F.field T.format).too_long (trees T.plain elements.now)) }
+    ensures too_long { (counted_list_format F.field T.format).too_long (trees T.plain elements.now) → result ≡ InvalidVectorLength }
+{
+    let Ok(length) = content_len(elements) else {
+        return Error::InvalidVectorLength;
+    };
+    if F::least_form(length).is_none() {
+        return Error::InvalidVectorLength;
+    }
+    error
+}
+
+/// The list that the bytes to come spell. Just its spelling is taken.
+///
+/// `EndOfStream`: there is no whole length. Every other refusal is that of
+/// [`lists::from_reader`](crate::lists::from_reader).
+pub fn read<F: LengthField, T: Deserialize, R: Source>(
+    alloc: Global,
+    bytes: &mut R,
+) -> Result<Vec<T>, Error>
+    ensures reads { Reads (counted_list_format F.field T.format) (λ elements. trees T.plain elements.items) R.Source bytes.old bytes.new result }
+    ensures named { IfErr result (counted_list_source_names F.field T.format T.names (R.coming bytes.old) (R.counts bytes.old) (R.counts bytes.new)) }
+{
+    let length = F::read_length(bytes)?;
+    let elements = lists::from_reader(alloc, bytes, length, &mut Turns::new())?;
+    Ok(elements)
+}
+
+/// The list that the bytes begin with, and the rest of them, which isn't copied.
+///
+/// `EndOfStream`: there is no whole length. Every other refusal is that of
+/// [`lists::from_slice`](crate::lists::from_slice).
+pub fn split<F: LengthField, T: DeserializeBytes>(
+    alloc: Global,
+    bytes: &[u8],
+) -> Result<(Vec<T>, &[u8]), Error>
+    ensures splits { Splits (counted_list_format F.field T.format) (λ elements. trees T.plain elements.items) bytes.now result }
+    ensures named { IfErr result (counted_list_names F.field T.format T.names bytes.now) }
+{
+    let (length, rest) = F::split_length(bytes)?;
+    let (elements, rest) = lists::from_slice(alloc, rest, length, &mut Turns::new())?;
+    Ok((elements, rest))
+}
