@@ -1,5 +1,5 @@
 -- What is written of a list's elements in a row.
-use Rattle.std.proofs.Common.{◌≡◌, ℕ, suc, ◌+◌, ◌<◌, ◌≤◌, ◌^◌, List, [], ◌∷◌, ◌++◌, length, get_or, drop, inl, inr, refl, sym, ap, subst, ◌∙◌, append_assoc, append-nil, add-one, length-append, arith}
+use Rattle.std.proofs.Common.{◌≡◌, ℕ, suc, ◌+◌, ◌*◌, ◌<◌, ◌≤◌, ◌^◌, List, [], ◌∷◌, ◌++◌, length, get_or, drop, inl, inr, refl, sym, ap, subst, ◌∙◌, append_assoc, append-nil, add-one, length-append, arith}
 use Rattle.std.proofs.Math.Seq.{drop-cons}
 use Rattle.std.specs.Io.KnownBytes.{Appends}
 use Rattle.std.proofs.KnownBytes.{Appends-trans}
@@ -32,6 +32,11 @@ trees_none plain (x ∷ xs) n = absurd (omega (arith, n))
 
 pub content_announced : (f : Tree → ℕ) (v : Tree) (n : ℕ) → n ≡ content_sum f v → content_length f v ≡ capped n
 content_announced f v n e = content_length_sum f v ∙ ap capped (sym e)
+
+-- the sum of lengths that are all the same
+pub even_sum : {T : Type 0} (f : Tree → ℕ) (plain : T → Tree) (n : ℕ) (xs : List T) → ((x : T) → f (plain x) ≡ n) → length xs * n ≡ content_sum f (trees plain xs)
+even_sum f plain n [] same = omega arith
+even_sum f plain n (x ∷ xs) same = omega (arith, same x, even_sum f plain n xs same)
 
 -- so is that of the field and the content
 pub counted_announced : (width : ℕ → ℕ) (f : Tree → ℕ) (v : Tree) (n : ℕ) → n ≡ content_sum f v → capped (width n + n) ≡ counted_length width (content_length f) v

@@ -83,7 +83,7 @@ fn append_behind_gap<F: LengthField, T: Serialize>(
 {
     let at = out.len();
     let gap = likely_width::<F, T>(at, elements.len());
-    open_gap(out, gap)?;
+    open_gap(out, gap, lists::room_for::<T>(elements.len()))?;
     lists::append(out, elements)?;
     fill_gap::<F>(out, at, gap)?;
     Ok(out.len() - at)
@@ -114,7 +114,7 @@ fn behind_gap<F: LengthField, T: SerializeBytes>(
 {
     let mut bytes = Vec::new(alloc);
     let gap = likely_width::<F, T>(0, elements.len());
-    open_gap(&mut bytes, gap)?;
+    open_gap(&mut bytes, gap, lists::room_for::<T>(elements.len()))?;
     lists::append_bytes(alloc, &mut bytes, elements)?;
     fill_gap::<F>(&mut bytes, 0, gap)?;
     Ok(bytes)

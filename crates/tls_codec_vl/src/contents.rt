@@ -2,13 +2,14 @@
 ghost use Rattle.std.specs.Prelude.{◌≡◌, ◌⊎◌, [], ◌∷◌, ◌++◌, is_ok, if◌then◌else◌, length, IfErr, IfOk, IsOk};
 ghost use Rattle.tls_codec_wire.specs.declared.error.Error.TheVariants.{OutOfMemory};
 ghost use Rattle.tls_codec_base.specs.Tree.{number_trees};
+ghost use Rattle.tls_codec_base.specs.Field.{variable_field};
 ghost use Rattle.tls_codec_base.specs.Format.{bytes_format};
 ghost use Rattle.tls_codec_base.specs.Decoding.{Splits};
 ghost use Rattle.tls_codec_base.specs.Opaque.{OpaqueRefused};
 
 use std::alloc::Global;
 use tls_codec_base::opaque;
-use tls_codec_wire::Error;
+use tls_codec_wire::{Error, TlsVarInt};
 
 /// Appends a byte. `OutOfMemory`: the bytes are as they were.
 pub fn push(content: &mut Vec<u8>, byte: u8) -> Result<(), Error>
@@ -35,9 +36,9 @@ pub fn copied(alloc: Global, content: &[u8]) -> Result<Vec<u8>, Error>
 /// A copy of the bytes that a front of `whole` spells, and the rest of it, which isn't copied.
 pub fn split(alloc: Global, whole: &[u8]) -> Result<(Vec<u8>, &[u8]), Error>
     ensures splits { Splits bytes_format (λ content. number_trees content.items) whole.now result }
-    ensures named { IfErr result (λ e. (e ≡ OutOfMemory) ⊎ OpaqueRefused e whole.now) }
+    ensures named { IfErr result (λ e. (e ≡ OutOfMemory) ⊎ OpaqueRefused variable_field e whole.now) }
 {
-    let (content, rest) = opaque::split(whole)?;
+    let (content, rest) = opaque::split::<TlsVarInt>(whole)?;
     let copy = copied(alloc, content)?;
     Ok((copy, rest))
 }

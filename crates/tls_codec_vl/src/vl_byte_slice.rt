@@ -10,7 +10,7 @@ use crate::show;
 use std::alloc::Global;
 use std::fmt;
 use tls_codec_base::{Serialize, SerializeBytes, Size, opaque};
-use tls_codec_wire::{Error, Sink};
+use tls_codec_wire::{Error, Sink, TlsVarInt};
 
 /// Borrowed bytes, which are spelled behind their number as a variable-length integer.
 ///
@@ -47,7 +47,7 @@ impl<'a> Size for VLByteSlice<'a> {
     ghost format = { bytes_format };
 
     fn tls_serialized_len(&self) -> usize {
-        opaque::announced_len(self.as_slice())
+        opaque::announced_len::<TlsVarInt>(self.as_slice())
     }
 
     ghost lawful = { bytes_meets };
@@ -57,19 +57,19 @@ impl<'a> Serialize for VLByteSlice<'a> {
     /// `InvalidVectorLength`: there are more bytes than the greatest length, and nothing was sent.
     /// Every other refusal is the sink's.
     fn tls_serialize<W: Sink>(&self, writer: &mut W) -> Result<usize, Error> {
-        opaque::write(writer, self.as_slice())
+        opaque::write::<TlsVarInt, W>(writer, self.as_slice())
     }
 
     /// `InvalidVectorLength`: there are more bytes than the greatest length. `OutOfMemory`: there was
     /// none.
     fn tls_serialize_into(&self, out: &mut Vec<u8>) -> Result<usize, Error> {
-        opaque::append(out, self.as_slice())
+        opaque::append::<TlsVarInt>(out, self.as_slice())
     }
 }
 
 impl<'a> SerializeBytes for VLByteSlice<'a> {
     fn tls_serialize_bytes(&self, alloc: Global) -> Result<Vec<u8>, Error> {
-        opaque::to_vec(alloc, self.as_slice())
+        opaque::to_vec::<TlsVarInt>(alloc, self.as_slice())
     }
 }
 

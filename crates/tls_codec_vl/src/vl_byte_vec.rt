@@ -2,6 +2,7 @@
 ghost use Rattle.std.specs.Prelude.{◌≡◌, ◌⊎◌, [], ◌∷◌, ◌++◌, codes, is_ok, if◌then◌else◌, length, IfErr, IfOk, IsOk, MatchOption, Some};
 ghost use Rattle.tls_codec_wire.specs.declared.error.Error.TheVariants.{OutOfMemory};
 ghost use Rattle.tls_codec_base.specs.Tree.{number_trees};
+ghost use Rattle.tls_codec_base.specs.Field.{variable_field};
 ghost use Rattle.tls_codec_base.specs.Format.{bytes_format};
 ghost use Rattle.tls_codec_base.specs.laws.FormatLaws.{bytes_meets};
 ghost use Rattle.tls_codec_base.specs.Opaque.{OpaqueRefused, OpaqueSourceRefused};
@@ -12,7 +13,7 @@ use crate::{contents, show};
 use std::alloc::Global;
 use std::fmt;
 use tls_codec_base::{Deserialize, DeserializeBytes, Serialize, SerializeBytes, Size, opaque};
-use tls_codec_wire::{Error, Sink, Source};
+use tls_codec_wire::{Error, Sink, Source, TlsVarInt};
 
 /// Bytes, which are spelled behind their number as a variable-length integer.
 ///
@@ -119,7 +120,7 @@ impl Size for VLByteVec {
     ghost format = { bytes_format };
 
     fn tls_serialized_len(&self) -> usize {
-        opaque::announced_len(self.as_slice())
+        opaque::announced_len::<TlsVarInt>(self.as_slice())
     }
 
     ghost lawful = { bytes_meets };
@@ -129,34 +130,34 @@ impl Serialize for VLByteVec {
     /// `InvalidVectorLength`: there are more bytes than the greatest length, and nothing was sent.
     /// Every other refusal is the sink's.
     fn tls_serialize<W: Sink>(&self, writer: &mut W) -> Result<usize, Error> {
-        opaque::write(writer, self.as_slice())
+        opaque::write::<TlsVarInt, W>(writer, self.as_slice())
     }
 
     /// `InvalidVectorLength`: there are more bytes than the greatest length. `OutOfMemory`: there was
     /// none.
     fn tls_serialize_into(&self, out: &mut Vec<u8>) -> Result<usize, Error> {
-        opaque::append(out, self.as_slice())
+        opaque::append::<TlsVarInt>(out, self.as_slice())
     }
 }
 
 impl SerializeBytes for VLByteVec {
     fn tls_serialize_bytes(&self, alloc: Global) -> Result<Vec<u8>, Error> {
-        opaque::to_vec(alloc, self.as_slice())
+        opaque::to_vec::<TlsVarInt>(alloc, self.as_slice())
     }
 }
 
 impl Deserialize for VLByteVec {
-    ghost names = { λ coming old new e. OpaqueSourceRefused e coming old new };
+    ghost names = { λ coming old new e. OpaqueSourceRefused variable_field e coming old new };
 
     /// `EndOfStream`: there is no whole length, or fewer bytes come than it declares.
     fn tls_deserialize<R: Source>(alloc: Global, src: &mut R) -> Result<VLByteVec, Error> {
-        let read = opaque::read(alloc, src)?;
+        let read = opaque::read::<TlsVarInt, R>(alloc, src)?;
         Ok(VLByteVec::new(read))
     }
 }
 
 impl DeserializeBytes for VLByteVec {
-    ghost names = { λ x e. (e ≡ OutOfMemory) ⊎ OpaqueRefused e x };
+    ghost names = { λ x e. (e ≡ OutOfMemory) ⊎ OpaqueRefused variable_field e x };
 
     /// `EndOfStream`: there is no whole length. `DecodingError("declared content is not there")`:
     /// fewer bytes are behind it than it declares.

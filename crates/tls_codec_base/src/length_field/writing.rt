@@ -28,13 +28,15 @@ pub(crate) fn write_length<F: LengthField, W: Sink>(
     Ok(form.len())
 }
 
-// Leaves a gap of so many bytes for a length that isn't known yet.
-pub(crate) fn open_gap(out: &mut Vec<u8>, width: usize) -> Result<(), Error>
+// Leaves a gap of so many bytes for a length that isn't known yet, and asks for room for so many more
+// behind it, which may be refused.
+pub(crate) fn open_gap(out: &mut Vec<u8>, width: usize, room: usize) -> Result<(), Error>
     requires { width ≤ 8 }
     ensures ok { OnOk result (OpenedGap out.old.items out.new.items width) }
     ensures kept { OnErr result (out.new.items ≡ out.old.items) }
     ensures err { IfErr result (λ e. e ≡ OutOfMemory) }
 {
+    let _ = out.reserve(width.saturating_add(room));
     let empty = [0u8; 8];
     out.extend_from_slice(&empty[..width])?;
     Ok(())

@@ -1,5 +1,5 @@
 //! Elements in a row, written without a length.
-ghost use Rattle.std.specs.Prelude.{◌≡◌, ◌≤◌, ◌^◌, IfErr, IfOk};
+ghost use Rattle.std.specs.Prelude.{◌≡◌, ◌≤◌, ◌*◌, ◌^◌, IfErr, IfOk};
 ghost use Rattle.tls_codec_wire.specs.declared.error.Error.TheVariants.{InvalidVectorLength};
 ghost use Rattle.tls_codec_base.specs.Tree.{trees};
 ghost use Rattle.tls_codec_base.specs.Announced.{content_sum};
@@ -10,11 +10,9 @@ use crate::traits::{Serialize, SerializeBytes, Size};
 use std::alloc::Global;
 use tls_codec_wire::{Error, Sink};
 
-/// For how many elements room is asked for at once, a byte for each: those of no bytes need none.
+/// For how many elements of unknown lengths room is asked for at once, a byte for each: those of no bytes
+/// need none.
 const MOST_ROOM: usize = 1 << 20;
-
-/// Room for the length, which is put before them.
-const LENGTH_ROOM: usize = 8;
 
 /// The sum of the elements' announced lengths.
 ///
@@ -24,6 +22,28 @@ const LENGTH_ROOM: usize = 8;
 /// assert_eq!(rt; content_len(&[1u16, 2]), Ok(4));
 /// ```
 pub fn content_len<T: Size>(elements: &[T]) -> Result<usize, Error>
+    ensures ok { IfOk result (λ n. n ≡ content_sum T.format.announced (trees T.plain elements.now)) }
+    ensures err { IfErr result (λ e. (e ≡ InvalidVectorLength) × (2 ^ 64 ≤ content_sum T.format.announced (trees T.plain elements.now))) }
+{
+    match T::tls_fixed_len() {
+        Some(each) => product(elements.len(), each),
+        None => sum_of_lengths(elements),
+    }
+}
+
+// So many lengths together.
+fn product(count: usize, each: usize) -> Result<usize, Error>
+    ensures ok { IfOk result (λ n. n ≡ count * each) }
+    ensures err { IfErr result (λ e. (e ≡ InvalidVectorLength) × (2 ^ 64 ≤ count * each)) }
+{
+    match count.checked_mul(each) {
+        Some(length) => Ok(length),
+        None => Err(Error::InvalidVectorLength),
+    }
+}
+
+// The same, one element after another.
+fn sum_of_lengths<T: Size>(elements: &[T]) -> Result<usize, Error>
     ensures ok { IfOk result (λ n. n ≡ content_sum T.format.announced (trees T.plain elements.now)) }
     ensures err { IfErr result (λ e. (e ≡ InvalidVectorLength) × (2 ^ 64 ≤ content_sum T.format.announced (trees T.plain elements.now))) }
 {
@@ -85,12 +105,20 @@ pub fn append<T: Serialize>(out: &mut Vec<u8>, elements: &[T]) -> Result<usize, 
     }
 }
 
+// How much room is asked for at once for so many elements.
+pub(crate) fn room_for<T: Size>(count: usize) -> usize {
+    match T::tls_fixed_len() {
+        Some(each) => count.saturating_mul(each),
+        None => count.min(MOST_ROOM),
+    }
+}
+
 // The same at once; none and nothing where such elements are appended one by one.
 fn append_at_once<T: Size>(out: &mut Vec<u8>, elements: &[T]) -> Result<Option<usize>, Error>
     ensures { AllAppended T.format (trees T.plain elements.now) out.old.items out.new.items result }
 {
     let at = out.len();
-    let _ = out.reserve(elements.len().min(MOST_ROOM) + LENGTH_ROOM);
+    let _ = out.reserve(room_for::<T>(elements.len()));
     match T::tls_send_elements(elements, out) {
         Ok(Some(_)) => Ok(Some(out.len() - at)),
         Ok(None) => Ok(None),

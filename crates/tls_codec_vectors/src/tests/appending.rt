@@ -7,7 +7,7 @@ use super::each_call::{is_read, is_written_alone};
 use std::alloc::Global;
 use std::test::Fail;
 use tls_codec_base::{Serialize, SerializeBytes, Size, lists, opaque};
-use tls_codec_wire::{Error, Sink};
+use tls_codec_wire::{Error, Sink, TlsVarInt};
 
 // No bytes spell it, and more are announced than there are.
 #[derive(Drop)]
@@ -112,7 +112,7 @@ fn engines_append(rt: HostRuntime) -> Result<(), Fail> {
         lists::append_bytes(rt.alloc(), &mut out, &[Some(3u8), None]),
         Ok(3)
     );
-    assert_eq!(rt; opaque::append(&mut out, &[9, 8]), Ok(3));
+    assert_eq!(rt; opaque::append::<TlsVarInt>(&mut out, &[9, 8]), Ok(3));
     assert_eq!(rt;
         out.as_slice(),
         [0xee, 0, 1, 0, 2, 1, 3, 0, 2, 9, 8].as_slice()

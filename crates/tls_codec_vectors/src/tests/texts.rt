@@ -2,7 +2,7 @@
 use super::each_call::{is_read, is_refused, is_written_alone};
 use std::test::Fail;
 use tls_codec_base::{Deserialize, DeserializeBytes, opaque};
-use tls_codec_wire::Error;
+use tls_codec_wire::{Error, TlsVarInt};
 
 const CUT_OFF: Error = Error::DecodingError("declared content is not there");
 
@@ -13,22 +13,22 @@ fn bytes_behind_their_length(rt: HostRuntime) -> Result<(), Fail> {
     let alloc = rt.alloc();
     let content = [0x0a, 0x14, 0x1e];
     let form = [0x03, 0x0a, 0x14, 0x1e];
-    assert_eq!(rt; opaque::announced_len(&content), 4);
+    assert_eq!(rt; opaque::announced_len::<TlsVarInt>(&content), 4);
     let mut out = Vec::new(alloc);
-    assert_eq!(rt; opaque::write(&mut out, &content)?, 4);
+    assert_eq!(rt; opaque::write::<TlsVarInt, Vec<u8>>(&mut out, &content)?, 4);
     assert_eq!(rt; out.as_slice(), form.as_slice());
     assert_eq!(rt;
-        opaque::to_vec(alloc, &content)?.as_slice(),
+        opaque::to_vec::<TlsVarInt>(alloc, &content)?.as_slice(),
         form.as_slice()
     );
     // A length in more bytes than the least is read too.
     let whole = [0x40, 0x03, 0x0a, 0x14, 0x1e, 0x99];
-    let (found, rest) = opaque::split(&whole)?;
+    let (found, rest) = opaque::split::<TlsVarInt>(&whole)?;
     assert_eq!(rt; found, content.as_slice());
     assert_eq!(rt; rest, [0x99].as_slice());
     let mut src = whole.as_slice();
     assert_eq!(rt;
-        opaque::read(alloc, &mut src)?.as_slice(),
+        opaque::read::<TlsVarInt, &[u8]>(alloc, &mut src)?.as_slice(),
         content.as_slice()
     );
     assert_eq!(rt; src, [0x99].as_slice());
