@@ -20,6 +20,10 @@ use tls_codec_wire::{Error, Sink, Source};
 /// How many bytes an element likely has, where elements have no one width.
 const LIKELY_LENGTH: usize = 64;
 
+/// For how many elements of no one width room is asked for at once, a byte for each: those of no bytes
+/// need none.
+const MOST_ROOM: usize = 1 << 20;
+
 /// A gap for a length is left behind at most so many bytes.
 const MOST_BEHIND: usize = 1 << 61;
 
@@ -83,7 +87,7 @@ fn append_behind_gap<F: LengthField, T: Serialize>(
 {
     let at = out.len();
     let gap = likely_width::<F, T>(at, elements.len());
-    open_gap(out, gap, lists::room_for::<T>(elements.len()))?;
+    open_gap(out, gap, room_for::<T>(elements.len()))?;
     lists::append(out, elements)?;
     fill_gap::<F>(out, at, gap)?;
     Ok(out.len() - at)
@@ -114,7 +118,7 @@ fn behind_gap<F: LengthField, T: SerializeBytes>(
 {
     let mut bytes = Vec::new(alloc);
     let gap = likely_width::<F, T>(0, elements.len());
-    open_gap(&mut bytes, gap, lists::room_for::<T>(elements.len()))?;
+    open_gap(&mut bytes, gap, room_for::<T>(elements.len()))?;
     lists::append_bytes(alloc, &mut bytes, elements)?;
     fill_gap::<F>(&mut bytes, 0, gap)?;
     Ok(bytes)
@@ -132,6 +136,14 @@ fn likely_width<F: LengthField, T: Size>(at: usize, count: usize) -> usize
     }
     let each = T::tls_fixed_len().unwrap_or(LIKELY_LENGTH);
     F::width(count.saturating_mul(each)).min(8)
+}
+
+// How much room is asked for at once for so many elements.
+fn room_for<T: Size>(count: usize) -> usize {
+    match T::tls_fixed_len() {
+        Some(each) => count.saturating_mul(each),
+        None => count.min(MOST_ROOM),
+    }
 }
 
 // Why a list is refused: the sum of the announced lengths passes the greatest length, and else this.

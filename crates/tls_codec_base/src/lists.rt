@@ -8,7 +8,6 @@ mod reading;
 mod writing;
 
 pub use reading::{from_reader, from_slice};
-pub(crate) use writing::room_for;
 pub use writing::{append, append_bytes, content_len, write};
 
 /// How often a list engine tried to read an element.

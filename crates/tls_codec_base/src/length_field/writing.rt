@@ -30,6 +30,7 @@ pub(crate) fn write_length<F: LengthField, W: Sink>(
 
 // Leaves a gap of so many bytes for a length that isn't known yet, and asks for room for so many more
 // behind it, which may be refused.
+#[inline(always)]
 pub(crate) fn open_gap(out: &mut Vec<u8>, width: usize, room: usize) -> Result<(), Error>
     requires { width ≤ 8 }
     ensures ok { OnOk result (OpenedGap out.old.items out.new.items width) }
@@ -38,7 +39,13 @@ pub(crate) fn open_gap(out: &mut Vec<u8>, width: usize, room: usize) -> Result<(
 {
     let _ = out.reserve(width.saturating_add(room));
     let empty = [0u8; 8];
-    out.extend_from_slice(&empty[..width])?;
+    // So few bytes are stored by no call.
+    match width {
+        1 => out.extend_from_slice(&empty[..1])?,
+        2 => out.extend_from_slice(&empty[..2])?,
+        4 => out.extend_from_slice(&empty[..4])?,
+        _ => out.extend_from_slice(&empty[..width])?,
+    }
     Ok(())
 }
 
@@ -64,7 +71,7 @@ pub(crate) fn fill_gap<F: LengthField>(
     let (bytes, from) = found;
     let form = &bytes[from..];
     fit_gap(out, at, gap, form.len())?;
-    overwrite(out, at, form);
+    put_over(out, at, form);
     Ok(form.len())
 }
 
@@ -101,6 +108,7 @@ fn widen_gap(out: &mut Vec<u8>, at: usize, more: usize) -> Result<(), Error>
 }
 
 // Takes so many bytes out of a vector, which stand behind a place.
+#[inline(always)]
 fn remove_bytes(out: &mut Vec<u8>, at: usize, count: usize)
     requires { at + count ≤ vec_len out.old }
     ensures { out.new.items ≡ take at out.old.items ++ drop (at + count) out.old.items }
@@ -112,7 +120,22 @@ fn remove_bytes(out: &mut Vec<u8>, at: usize, count: usize)
     }
 }
 
+// Writes a few bytes over those of a vector that stand behind a place. So few are stored by no call.
+#[inline(always)]
+fn put_over(out: &mut Vec<u8>, at: usize, form: &[u8])
+    requires { at + length form.now ≤ vec_len out.old }
+    ensures { out.new.items ≡ take at out.old.items ++ (form.now ++ drop (at + length form.now) out.old.items) }
+{
+    match form.len() {
+        1 => overwrite(out, at, &form[..1]),
+        2 => overwrite(out, at, &form[..2]),
+        4 => overwrite(out, at, &form[..4]),
+        _ => overwrite(out, at, form),
+    }
+}
+
 // Writes bytes over those of a vector that stand behind a place.
+#[inline(always)]
 fn overwrite(out: &mut Vec<u8>, at: usize, bytes: &[u8])
     requires { at + length bytes.now ≤ vec_len out.old }
     ensures { out.new.items ≡ take at out.old.items ++ (bytes.now ++ drop (at + length bytes.now) out.old.items) }

@@ -10,10 +10,6 @@ use crate::traits::{Serialize, SerializeBytes, Size};
 use std::alloc::Global;
 use tls_codec_wire::{Error, Sink};
 
-/// For how many elements of unknown lengths room is asked for at once, a byte for each: those of no bytes
-/// need none.
-const MOST_ROOM: usize = 1 << 20;
-
 /// The sum of the elements' announced lengths.
 ///
 /// `InvalidVectorLength`: it passes `usize::MAX`.
@@ -105,20 +101,11 @@ pub fn append<T: Serialize>(out: &mut Vec<u8>, elements: &[T]) -> Result<usize, 
     }
 }
 
-// How much room is asked for at once for so many elements.
-pub(crate) fn room_for<T: Size>(count: usize) -> usize {
-    match T::tls_fixed_len() {
-        Some(each) => count.saturating_mul(each),
-        None => count.min(MOST_ROOM),
-    }
-}
-
 // The same at once; none and nothing where such elements are appended one by one.
 fn append_at_once<T: Size>(out: &mut Vec<u8>, elements: &[T]) -> Result<Option<usize>, Error>
     ensures { AllAppended T.format (trees T.plain elements.now) out.old.items out.new.items result }
 {
     let at = out.len();
-    let _ = out.reserve(room_for::<T>(elements.len()));
     match T::tls_send_elements(elements, out) {
         Ok(Some(_)) => Ok(Some(out.len() - at)),
         Ok(None) => Ok(None),

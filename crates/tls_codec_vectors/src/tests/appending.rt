@@ -120,27 +120,6 @@ fn engines_append(rt: HostRuntime) -> Result<(), Fail> {
     Ok(())
 }
 
-// The inner length has one byte, and the outer one has one or two.
-#[test]
-fn lengths_are_put_in_front(rt: HostRuntime) -> Result<(), Fail> {
-    let alloc = rt.alloc();
-    for (zeros, count, front) in [
-        (62, 64, [0x3f, 0x3e, 0x00].as_slice()),
-        (63, 66, [0x40, 0x40, 0x3f, 0x00].as_slice()),
-    ] {
-        let mut inner = Vec::new(alloc);
-        inner.resize(zeros, 0u8)?;
-        let mut lists = Vec::new(alloc);
-        assert!(rt; lists.push(inner).is_ok());
-        let mut out = Vec::new(alloc);
-        assert_eq!(rt; lists.tls_serialize_into(&mut out)?, count);
-        assert_eq!(rt; out.len(), count);
-        assert!(rt; out.as_slice().starts_with(front));
-        is_written_alone(&rt, alloc, &lists, &out)?;
-    }
-    Ok(())
-}
-
 #[test]
 fn each_size_is_read_back(rt: HostRuntime) -> Result<(), Fail> {
     let alloc = rt.alloc();
