@@ -39,6 +39,8 @@ pub(crate) fn read_run<R: Source, const K: usize>(
 }
 
 // The numbers of these digits.
+//
+// A width is at most that of `u64`, so that memory has an array of its digits.
 fn numbers_of<T: HasDigits<K>, const K: usize>(
     alloc: Global,
     digits: &[u8],
