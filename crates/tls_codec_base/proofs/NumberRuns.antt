@@ -4,7 +4,7 @@ use Rattle.std.specs.List.{flat_map}
 use Rattle.std.specs.Simd.{first_chunks}
 use Rattle.tls_codec_wire.specs.Digits.{AreBytes, Digits, value}
 use Rattle.tls_codec_wire.proofs.Bytes.{AreBytes-left}
-use Rattle.tls_codec_base.specs.Tree.{Number, number_trees, trees}
+use Rattle.tls_codec_base.specs.Tree.{Number, trees}
 use Rattle.tls_codec_base.specs.Grammar.{Reading, Writing, content, number}
 use Rattle.tls_codec_base.specs.Shortest.{IsShortest}
 use Rattle.tls_codec_base.specs.laws.ListLaws.{Part, part_least}
@@ -12,22 +12,28 @@ use Rattle.tls_codec_base.specs.laws.NumberLaws.{digits_least}
 use Rattle.tls_codec_base.specs.laws.RowLaws.{row_least}
 use Rattle.tls_codec_base.proofs.ByteContents.{AreBytes-right}
 
--- m numbers of k bytes are the content of their digits
-pub chunks_content : (k m : ℕ) (xs : List ℕ) → 0 < k → AreBytes xs → length xs ≡ m * k → content (number k) Reading xs (number_trees (map value (first_chunks k m xs)))
-chunks_content k zero [] some small n = refl
-chunks_content k zero (x ∷ xs) some small n = absurd (omega (arith, n))
-chunks_content k (suc m) xs some small n =
+-- ---- read
+
+-- m numbers that the first m groups of k bytes stand for are the content of these bytes
+pub groups_content : {T : Type 0} (k m : ℕ) (f : T → ℕ) (numbers : List T) (xs : List ℕ) → 0 < k → AreBytes xs → length xs ≡ m * k → map f numbers ≡ map value (first_chunks k m xs) → content (number k) Reading xs (trees (λ x. Number (f x)) numbers)
+groups_content k zero f [] [] some small n same = refl
+groups_content k zero f [] (x ∷ xs) some small n same = absurd (omega (arith, n))
+groups_content k zero f (y ∷ ys) xs some small n same = absurd cc
+groups_content k (suc m) f [] xs some small n same = absurd cc
+groups_content k (suc m) f (y ∷ ys) xs some small n same =
     let fits : k ≤ length xs = omega (arith, n) in
     let parts : take k xs ++ drop k xs ≡ xs = take-append-drop k xs in
     let width : length (take k xs) ≡ k = length-take-le k xs fits in
     let both : AreBytes (take k xs ++ drop k xs) = subst AreBytes (sym parts) small in
     let rest : length (drop k xs) ≡ m * k = omega (arith, n, width, ap length parts, length-append (take k xs) (drop k xs)) in
+    let one : f y ≡ value (take k xs) = cc in
+    let others : map f ys ≡ map value (first_chunks k m (drop k xs)) = cc in
     record {
       front = take k xs;
       rest = drop k xs;
       whole = sym parts;
-      first = (record { width = width; bytes = AreBytes-left (take k xs) (drop k xs) both; number = refl }, omega (arith, width, some));
-      second = chunks_content k m (drop k xs) some (AreBytes-right (take k xs) (drop k xs) both) rest;
+      first = (record { width = width; bytes = AreBytes-left (take k xs) (drop k xs) both; number = sym one }, omega (arith, width, some));
+      second = groups_content k m f ys (drop k xs) some (AreBytes-right (take k xs) (drop k xs) both) rest others;
     }
 
 -- ---- sent

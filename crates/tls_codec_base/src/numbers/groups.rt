@@ -1,6 +1,6 @@
 //! Numbers of one width in a row, sent in groups.
-ghost use Rattle.std.specs.Prelude.{◌≤◌, ℕ, length};
-ghost use Rattle.tls_codec_wire.specs.Digits.{Digits};
+ghost use Rattle.std.specs.Prelude.{◌≡◌, ◌≤◌, ℕ, length};
+ghost use Rattle.tls_codec_wire.specs.Digits.{Digits, value};
 ghost use Rattle.tls_codec_base.specs.declared.numbers.groups.TheConstants.{GROUP};
 ghost use Rattle.tls_codec_base.specs.Tree.{Number, trees};
 ghost use Rattle.tls_codec_base.specs.Format.{content_format, number_format};
@@ -13,13 +13,17 @@ use tls_codec_wire::{Error, Sink, write_all};
 const GROUP: usize = 64;
 
 // A number that K bytes spell.
-pub(crate) trait HasDigits<const K: usize> {
+pub(crate) trait HasDigits<const K: usize>: Drop {
     // The number.
     ghost number: { Self → ℕ };
 
     // Its digits.
     fn digits(&self) -> [u8; K]
         ensures { Digits K result (number self.now) };
+
+    // The number of these digits.
+    fn of_digits(digits: &[u8; K]) -> Self
+        ensures { number result ≡ value digits.now };
 }
 
 // Sends the numbers' digits in a row, and answers how many bytes that is, saturated at `usize::MAX`.

@@ -1,24 +1,21 @@
-//! Numbers of one width in a row, read and sent at once.
-ghost use Rattle.std.specs.Prelude.{◌≡◌, ◌<◌, ◌%◌, ◌/◌, length, map};
-ghost use Rattle.tls_codec_wire.specs.Bounded.{BorrowAlike};
+//! Numbers of one width in a row, read at once.
+ghost use Rattle.std.specs.Prelude.{◌≡◌, ◌<◌, ◌≤◌, ◌%◌, ◌/◌, length, IfErr, IfOk};
+ghost use Rattle.tls_codec_wire.specs.Bounded.{BorrowAlike, inner_of, limit_of};
 ghost use Rattle.tls_codec_wire.specs.Digits.{value};
-ghost use Rattle.tls_codec_base.specs.Tree.{number_trees};
+ghost use Rattle.tls_codec_wire.specs.declared.error.Error.TheVariants.{OutOfMemory};
+ghost use Rattle.tls_codec_base.specs.Tree.{Number, trees};
 ghost use Rattle.tls_codec_base.specs.Grammar.{Reading, content, number};
-ghost use Rattle.tls_codec_base.specs.Runs.{ReadsRun};
+ghost use Rattle.tls_codec_base.specs.Format.{number_format};
+ghost use Rattle.tls_codec_base.specs.Decoding.{AllGiven, AllRead};
+ghost use Rattle.tls_codec_base.specs.Refusals.{elements_source_names};
+ghost use Rattle.tls_codec_base.specs.Turns.{TurnedAll};
+ghost use Rattle.tls_codec_base.specs.Runs.{ReadsRun, number_source_names};
 
+use super::groups::HasDigits;
 use crate::lists::Turns;
 use crate::opaque::see_bytes;
 use std::alloc::Global;
 use tls_codec_wire::{Bounded, Error, Source, read_bytes_bounded};
-
-// The digits in groups of K, one for each number.
-pub(crate) fn in_groups<const K: usize>(digits: &[u8]) -> &[[u8; K]]
-    requires { 0 < K }
-    ensures spelled { length digits.now % K ≡ 0 → content (number K) Reading digits.now (number_trees (map value result.now)) }
-    ensures count { length result.now ≡ length digits.now / K }
-{
-    digits.as_chunks::<K>().0
-}
 
 // The digits of all numbers of K bytes that a source may still give, where it has them at hand; else
 // none, and nothing is taken.
@@ -39,4 +36,61 @@ pub(crate) fn read_run<R: Source, const K: usize>(
     see_bytes(&digits);
     turns.turn_by(size / K);
     Ok(Some(digits))
+}
+
+// The numbers of these digits.
+//
+// A width is at most that of `u64`, so that memory has an array of its digits.
+fn numbers_of<T: HasDigits<K>, const K: usize>(
+    alloc: Global,
+    digits: &[u8],
+) -> Result<Vec<T>, Error>
+    requires some { 0 < K }
+    requires width { K ≤ 8 }
+    ensures ok { IfOk result (λ numbers. length digits.now % K ≡ 0 → content (number K) Reading digits.now (trees (λ x. Number (T.number x)) numbers.items)) }
+    ensures count { IfOk result (λ numbers. length numbers.items ≡ length digits.now / K) }
+    ensures err { IfErr result (λ e. e ≡ OutOfMemory) }
+{
+    let (groups, _) = digits.as_chunks::<K>();
+    let number = |group: &[u8; K]|
+        ensures { T.number result ≡ value group.now }
+    { T::of_digits(group) };
+    let numbers = groups.iter().map(number).collect(alloc)?;
+    Ok(numbers)
+}
+
+// The numbers whose digits are all of these bytes; none where a byte is left over.
+pub(crate) fn elements_of<T: HasDigits<K>, const K: usize>(
+    alloc: Global,
+    bytes: &[u8],
+) -> Result<Option<Vec<T>>, Error>
+    requires some { 0 < K }
+    requires width { K ≤ 8 }
+    ensures { AllRead (number_format K) (λ x. Number (T.number x)) bytes.now result }
+{
+    if bytes.len() % K != 0 {
+        return Ok(None);
+    }
+    Ok(Some(numbers_of::<T, K>(alloc, bytes)?))
+}
+
+// The numbers that a source may still give, where their digits are at hand; else none, and nothing
+// is taken.
+pub(crate) fn read_elements<T: HasDigits<K>, R: Source, const K: usize>(
+    alloc: Global,
+    within: &mut Bounded<R>,
+    turns: &mut Turns,
+) -> Result<Option<Vec<T>>, Error>
+    requires some { 0 < K }
+    requires width { K ≤ 8 }
+    ensures same { BorrowAlike within.old within.new }
+    ensures reads { AllGiven (number_format K) (λ x. Number (T.number x)) R.Source within.old within.new result }
+    ensures named { IfErr result (elements_source_names (number_format K) (number_source_names K) (limit_of within.old)
+        (R.coming (inner_of within.old)) (R.counts (inner_of within.old)) (R.counts (inner_of within.new))) }
+    ensures turned { TurnedAll turns.old turns.new result }
+{
+    let Some(digits) = read_run::<R, K>(alloc, within, turns)? else {
+        return Ok(None);
+    };
+    Ok(Some(numbers_of::<T, K>(alloc, &digits)?))
 }

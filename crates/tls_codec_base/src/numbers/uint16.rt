@@ -1,16 +1,14 @@
 //! `u16`, the `uint16` of RFC 8446, section 3.3.
-ghost use Rattle.std.specs.Prelude.{◌≡◌, ◌<◌, ◌%◌, ◌/◌, length, IfErr, IfOk};
+ghost use Rattle.std.specs.Prelude.{◌≡◌, ◌<◌, length};
 ghost use Rattle.std.proofs.Common.{arith};
-ghost use Rattle.tls_codec_wire.specs.Digits.{value};
 ghost use Rattle.tls_codec_wire.specs.Transfer.{ReadRefused};
-ghost use Rattle.tls_codec_wire.specs.declared.error.Error.TheVariants.{EndOfStream, OutOfMemory};
-ghost use Rattle.tls_codec_base.specs.Tree.{Number, number_trees};
-ghost use Rattle.tls_codec_base.specs.Grammar.{Reading, content, number};
+ghost use Rattle.tls_codec_wire.specs.declared.error.Error.TheVariants.{EndOfStream};
+ghost use Rattle.tls_codec_base.specs.Tree.{Number};
 ghost use Rattle.tls_codec_base.specs.Format.{number_format};
 ghost use Rattle.tls_codec_base.specs.laws.FormatLaws.{number_meets};
 
 use super::groups::{HasDigits, send_run};
-use super::runs::{in_groups, read_run};
+use super::runs::{elements_of, read_elements};
 use super::{append_digits, digits_vector, read_digits, split_digits, write_digits};
 use crate::lists::Turns;
 use crate::traits::{Deserialize, DeserializeBytes, Serialize, SerializeBytes, Size};
@@ -45,27 +43,11 @@ impl HasDigits<2> for u16 {
     fn digits(&self) -> [u8; 2] {
         self.to_be_bytes()
     }
-}
 
-// The number of these digits.
-#[inline(always)]
-fn of_digits(digits: &[u8; 2]) -> u16
-    ensures { result ≡ value digits.now }
-{
-    u16::from_be_bytes(*digits)
-}
-
-// The numbers of these digits.
-fn numbers_of(alloc: Global, digits: &[u8]) -> Result<Vec<u16>, Error>
-    ensures ok { IfOk result (λ numbers. length digits.now % 2 ≡ 0 → content (number 2) Reading digits.now (number_trees numbers.items)) }
-    ensures count { IfOk result (λ numbers. length numbers.items ≡ length digits.now / 2) }
-    ensures err { IfErr result (λ e. e ≡ OutOfMemory) }
-{
-    let numbers = in_groups::<2>(digits)
-        .iter()
-        .map(|d| of_digits(d))
-        .collect(alloc)?;
-    Ok(numbers)
+    #[inline(always)]
+    fn of_digits(digits: &[u8; 2]) -> u16 {
+        u16::from_be_bytes(*digits)
+    }
 }
 
 impl Serialize for u16 {
@@ -101,10 +83,7 @@ impl Deserialize for u16 {
         within: &mut Bounded<R>,
         turns: &mut Turns,
     ) -> Result<Option<Vec<u16>>, Error> {
-        let Some(digits) = read_run::<R, 2>(alloc, within, turns)? else {
-            return Ok(None);
-        };
-        Ok(Some(numbers_of(alloc, &digits)?))
+        read_elements::<u16, R, 2>(alloc, within, turns)
     }
 }
 
@@ -120,10 +99,7 @@ impl DeserializeBytes for u16 {
 
     /// The numbers are read at once.
     fn tls_elements(alloc: Global, bytes: &[u8]) -> Result<Option<Vec<u16>>, Error> {
-        if bytes.len() % 2 != 0 {
-            return Ok(None);
-        }
-        Ok(Some(numbers_of(alloc, bytes)?))
+        elements_of::<u16, 2>(alloc, bytes)
     }
 }
 

@@ -9,10 +9,12 @@ ghost use Rattle.tls_codec_base.specs.Format.{number_format};
 ghost use Rattle.tls_codec_base.specs.laws.FormatLaws.{number_meets};
 
 use super::groups::{HasDigits, send_run};
+use super::runs::{elements_of, read_elements};
 use super::{append_digits, digits_vector, read_digits, split_digits, write_digits};
+use crate::lists::Turns;
 use crate::traits::{Deserialize, DeserializeBytes, Serialize, SerializeBytes, Size};
 use std::alloc::Global;
-use tls_codec_wire::{Error, Sink, Source, U24};
+use tls_codec_wire::{Bounded, Error, Sink, Source, U24};
 
 impl Size for U24 {
     ghost plain = { λ n. Number (number_of n) };
@@ -42,6 +44,11 @@ impl HasDigits<3> for U24 {
     fn digits(&self) -> [u8; 3] {
         self.to_be_bytes()
     }
+
+    #[inline(always)]
+    fn of_digits(digits: &[u8; 3]) -> U24 {
+        U24::from_be_bytes(*digits)
+    }
 }
 
 impl Serialize for U24 {
@@ -70,6 +77,15 @@ impl Deserialize for U24 {
         let digits = read_digits(bytes)?;
         Ok(U24::from_be_bytes(digits))
     }
+
+    /// The numbers are read at once, where they are at hand.
+    fn tls_read_elements<R: Source>(
+        alloc: Global,
+        within: &mut Bounded<R>,
+        turns: &mut Turns,
+    ) -> Result<Option<Vec<U24>>, Error> {
+        read_elements::<U24, R, 3>(alloc, within, turns)
+    }
 }
 
 impl DeserializeBytes for U24 {
@@ -80,6 +96,11 @@ impl DeserializeBytes for U24 {
     fn tls_deserialize_bytes(_alloc: Global, bytes: &[u8]) -> Result<(U24, &[u8]), Error> {
         let (digits, rest) = split_digits(bytes)?;
         Ok((U24::from_be_bytes(digits), rest))
+    }
+
+    /// The numbers are read at once.
+    fn tls_elements(alloc: Global, bytes: &[u8]) -> Result<Option<Vec<U24>>, Error> {
+        elements_of::<U24, 3>(alloc, bytes)
     }
 }
 

@@ -1,16 +1,14 @@
 //! `u32`, the `uint32` of RFC 8446, section 3.3.
-ghost use Rattle.std.specs.Prelude.{◌≡◌, ◌<◌, ◌%◌, ◌/◌, length, IfErr, IfOk};
+ghost use Rattle.std.specs.Prelude.{◌≡◌, ◌<◌, length};
 ghost use Rattle.std.proofs.Common.{arith};
-ghost use Rattle.tls_codec_wire.specs.Digits.{value};
 ghost use Rattle.tls_codec_wire.specs.Transfer.{ReadRefused};
-ghost use Rattle.tls_codec_wire.specs.declared.error.Error.TheVariants.{EndOfStream, OutOfMemory};
-ghost use Rattle.tls_codec_base.specs.Tree.{Number, number_trees};
-ghost use Rattle.tls_codec_base.specs.Grammar.{Reading, content, number};
+ghost use Rattle.tls_codec_wire.specs.declared.error.Error.TheVariants.{EndOfStream};
+ghost use Rattle.tls_codec_base.specs.Tree.{Number};
 ghost use Rattle.tls_codec_base.specs.Format.{number_format};
 ghost use Rattle.tls_codec_base.specs.laws.FormatLaws.{number_meets};
 
 use super::groups::{HasDigits, send_run};
-use super::runs::{in_groups, read_run};
+use super::runs::{elements_of, read_elements};
 use super::{append_digits, digits_vector, read_digits, split_digits, write_digits};
 use crate::lists::Turns;
 use crate::traits::{Deserialize, DeserializeBytes, Serialize, SerializeBytes, Size};
@@ -45,27 +43,11 @@ impl HasDigits<4> for u32 {
     fn digits(&self) -> [u8; 4] {
         self.to_be_bytes()
     }
-}
 
-// The number of these digits.
-#[inline(always)]
-fn of_digits(digits: &[u8; 4]) -> u32
-    ensures { result ≡ value digits.now }
-{
-    u32::from_be_bytes(*digits)
-}
-
-// The numbers of these digits.
-fn numbers_of(alloc: Global, digits: &[u8]) -> Result<Vec<u32>, Error>
-    ensures ok { IfOk result (λ numbers. length digits.now % 4 ≡ 0 → content (number 4) Reading digits.now (number_trees numbers.items)) }
-    ensures count { IfOk result (λ numbers. length numbers.items ≡ length digits.now / 4) }
-    ensures err { IfErr result (λ e. e ≡ OutOfMemory) }
-{
-    let numbers = in_groups::<4>(digits)
-        .iter()
-        .map(|d| of_digits(d))
-        .collect(alloc)?;
-    Ok(numbers)
+    #[inline(always)]
+    fn of_digits(digits: &[u8; 4]) -> u32 {
+        u32::from_be_bytes(*digits)
+    }
 }
 
 impl Serialize for u32 {
@@ -101,10 +83,7 @@ impl Deserialize for u32 {
         within: &mut Bounded<R>,
         turns: &mut Turns,
     ) -> Result<Option<Vec<u32>>, Error> {
-        let Some(digits) = read_run::<R, 4>(alloc, within, turns)? else {
-            return Ok(None);
-        };
-        Ok(Some(numbers_of(alloc, &digits)?))
+        read_elements::<u32, R, 4>(alloc, within, turns)
     }
 }
 
@@ -120,10 +99,7 @@ impl DeserializeBytes for u32 {
 
     /// The numbers are read at once.
     fn tls_elements(alloc: Global, bytes: &[u8]) -> Result<Option<Vec<u32>>, Error> {
-        if bytes.len() % 4 != 0 {
-            return Ok(None);
-        }
-        Ok(Some(numbers_of(alloc, bytes)?))
+        elements_of::<u32, 4>(alloc, bytes)
     }
 }
 

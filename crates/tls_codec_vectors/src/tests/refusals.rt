@@ -74,7 +74,7 @@ fn refusals_of_parts(rt: HostRuntime) {
 }
 
 // The engines refuse the bytes, after so many turns.
-fn is_refused_after<T: Deserialize + DeserializeBytes>(
+pub(super) fn is_refused_after<T: Deserialize + DeserializeBytes>(
     rt: &impl Abort,
     alloc: Global,
     bytes: &[u8],

@@ -1,11 +1,13 @@
 //! Lists of numbers, which go at once where their bytes are at hand, and one by one where not.
+use super::NOT_FILLED;
 use super::lists::Drip;
+use super::refusals::is_refused_after;
 use std::alloc::Global;
 use std::process::Abort;
 use std::test::Fail;
 use tls_codec_base::lists::{self, Turns};
 use tls_codec_base::{Deserialize, DeserializeBytes, Serialize, SerializeBytes};
-use tls_codec_wire::U24;
+use tls_codec_wire::{Error, U24};
 
 // The engines write the elements as these bytes, and read them from a front of more, each element by
 // a turn.
@@ -72,8 +74,9 @@ fn runs_of_numbers(rt: HostRuntime) -> Result<(), Fail> {
     let numbers = [
         U24::try_from(0x00_0102usize)?,
         U24::try_from(0x03_0405usize)?,
+        U24::try_from(0x06_07ffusize)?,
     ];
-    is_a_run::<U24>(&rt, alloc, &numbers, &digits[..6])
+    is_a_run::<U24>(&rt, alloc, &numbers, &digits[..9])
 }
 
 // Longer than the groups in which numbers are written.
@@ -82,19 +85,43 @@ fn long_runs_of_numbers(rt: HostRuntime) -> Result<(), Fail> {
     let alloc = rt.alloc();
     for count in [63u16, 64, 65, 128, 300] {
         let mut shorts = Vec::new(alloc);
+        let mut threes = Vec::new(alloc);
         let mut longs = Vec::new(alloc);
         let mut short_digits = Vec::new(alloc);
+        let mut three_digits = Vec::new(alloc);
         let mut long_digits = Vec::new(alloc);
         for number in 0..count {
             let short = number.wrapping_mul(257);
+            let three = U24::try_from(usize::from(short).wrapping_mul(251))?;
             let long = u64::MAX - u64::from(short);
             shorts.push(short)?;
+            threes.push(three)?;
             longs.push(long)?;
             short_digits.extend_from_slice(&short.to_be_bytes())?;
+            three_digits.extend_from_slice(&three.to_be_bytes())?;
             long_digits.extend_from_slice(&long.to_be_bytes())?;
         }
         is_a_run::<u16>(&rt, alloc, &shorts, &short_digits)?;
+        is_a_run::<U24>(&rt, alloc, &threes, &three_digits)?;
         is_a_run::<u64>(&rt, alloc, &longs, &long_digits)?;
     }
     Ok(())
+}
+
+// A length that the numbers don't fill is refused as the loop does it, at the second number.
+#[test]
+fn runs_with_bytes_left_over(rt: HostRuntime) {
+    let alloc = rt.alloc();
+    let bytes = [0; 16];
+    let by = (NOT_FILLED, Error::EndOfStream);
+    for more in 1..8 {
+        is_refused_after::<u64>(&rt, alloc, &bytes, 8 + more, by, 2);
+    }
+    for more in 1..4 {
+        is_refused_after::<u32>(&rt, alloc, &bytes, 4 + more, by, 2);
+    }
+    for more in 1..3 {
+        is_refused_after::<U24>(&rt, alloc, &bytes, 3 + more, by, 2);
+    }
+    is_refused_after::<u16>(&rt, alloc, &bytes, 3, by, 2);
 }
