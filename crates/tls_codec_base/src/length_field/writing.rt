@@ -102,22 +102,49 @@ fn widen_gap(out: &mut Vec<u8>, at: usize, more: usize) -> Result<(), Error>
     if more > isize::MAX as usize - out.len() {
         return Err(Error::InvalidVectorLength);
     }
+    match more {
+        1 => insert_gap(out, at, 1),
+        2 => insert_gap(out, at, 2),
+        _ => insert_gap(out, at, more),
+    }
+}
+
+// The same. By a distance that is a constant, bytes are moved at once.
+#[inline(always)]
+fn insert_gap(out: &mut Vec<u8>, at: usize, width: usize) -> Result<(), Error>
+    requires place { at ≤ vec_len out.old }
+    requires small { width ≤ 8 }
+    ensures ok { OnOk result (FitGap out.old.items out.new.items at 0 width) }
+    ensures kept { OnErr result (out.new.items ≡ out.old.items) }
+    ensures err { IfErr result (λ e. e ≡ OutOfMemory) }
+{
     let empty = [0u8; 8];
-    insert_bytes(out, at, &empty[..more])?;
+    insert_bytes(out, at, &empty[..width])?;
     Ok(())
 }
 
 // Takes so many bytes out of a vector, which stand behind a place.
-#[inline(always)]
 fn remove_bytes(out: &mut Vec<u8>, at: usize, count: usize)
     requires { at + count ≤ vec_len out.old }
     ensures { out.new.items ≡ take at out.old.items ++ drop (at + count) out.old.items }
 {
-    let end = out.len();
-    if count > 0 {
-        out.copy_within(at + count..end, at);
-        out.truncate(end - count);
+    match count {
+        0 => {}
+        1 => cut_out(out, at, 1),
+        2 => cut_out(out, at, 2),
+        _ => cut_out(out, at, count),
     }
+}
+
+// The same. By a distance that is a constant, bytes are moved at once.
+#[inline(always)]
+fn cut_out(out: &mut Vec<u8>, at: usize, count: usize)
+    requires { at + count ≤ vec_len out.old }
+    ensures { out.new.items ≡ take at out.old.items ++ drop (at + count) out.old.items }
+{
+    let end = out.len();
+    out.copy_within(at + count..end, at);
+    out.truncate(end - count);
 }
 
 // Writes a few bytes over those of a vector that stand behind a place. So few are stored by no call.
