@@ -24,6 +24,9 @@ const LIKELY_LENGTH: usize = 64;
 /// need none.
 const MOST_ROOM: usize = 1 << 20;
 
+/// The least room, so that a vector doesn't grow with each of some nested lists.
+const LEAST_ROOM: usize = 64;
+
 /// A gap for a length is left behind at most so many bytes.
 const MOST_BEHIND: usize = 1 << 61;
 
@@ -142,7 +145,7 @@ fn likely_width<F: LengthField, T: Size>(at: usize, count: usize) -> usize
 fn room_for<T: Size>(count: usize) -> usize {
     match T::tls_fixed_len() {
         Some(each) => count.saturating_mul(each),
-        None => count.min(MOST_ROOM),
+        None => count.clamp(LEAST_ROOM, MOST_ROOM),
     }
 }
 

@@ -17,7 +17,7 @@ mod fixed;
 mod variable;
 mod writing;
 
-pub(crate) use writing::{fill_gap, open_gap, write_length};
+pub(crate) use writing::{append_few, fill_gap, open_gap, write_length};
 
 /// What stands before a content and says how many bytes that has.
 ///

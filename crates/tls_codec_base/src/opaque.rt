@@ -10,7 +10,7 @@ ghost use Rattle.tls_codec_base.specs.Decoding.{Reads, Splits};
 ghost use Rattle.tls_codec_base.specs.Encoding.{AppendsForm, Makes, Writes};
 ghost use Rattle.tls_codec_base.specs.Opaque.{OpaqueRefused, OpaqueSourceRefused};
 
-use crate::length_field::{LengthField, write_length};
+use crate::length_field::{LengthField, append_few, write_length};
 use std::alloc::Global;
 use tls_codec_wire::{Error, Sink, Source, read_bytes_bounded, write_all};
 
@@ -50,7 +50,7 @@ pub fn append<F: LengthField>(out: &mut Vec<u8>, content: &[u8]) -> Result<usize
     let (bytes, from) = found;
     let form = &bytes[from..];
     out.reserve(form.len().saturating_add(content.len()))?;
-    out.extend_from_slice(form)?;
+    append_few(out, form)?;
     match out.extend_from_slice(content) {
         Ok(()) => Ok(out.len() - at),
         Err(_) => {

@@ -39,13 +39,31 @@ pub(crate) fn open_gap(out: &mut Vec<u8>, width: usize, room: usize) -> Result<(
 {
     let _ = out.reserve(width.saturating_add(room));
     let empty = [0u8; 8];
-    // So few bytes are stored by no call.
-    match width {
-        1 => out.extend_from_slice(&empty[..1])?,
-        2 => out.extend_from_slice(&empty[..2])?,
-        4 => out.extend_from_slice(&empty[..4])?,
-        _ => out.extend_from_slice(&empty[..width])?,
+    append_few(out, &empty[..width])?;
+    Ok(())
+}
+
+// Appends a few bytes, which are stored by no call.
+#[inline(always)]
+pub(crate) fn append_few(out: &mut Vec<u8>, bytes: &[u8]) -> Result<(), Error>
+    ensures items { out.new.items ≡ (if is_ok result then out.old.items ++ bytes.now else out.old.items) }
+    ensures err { IfErr result (λ e. e ≡ OutOfMemory) }
+{
+    match bytes.len() {
+        1 => append_some(out, &bytes[..1]),
+        2 => append_some(out, &bytes[..2]),
+        4 => append_some(out, &bytes[..4]),
+        _ => append_some(out, bytes),
     }
+}
+
+// Appends bytes.
+#[inline(always)]
+fn append_some(out: &mut Vec<u8>, bytes: &[u8]) -> Result<(), Error>
+    ensures items { out.new.items ≡ (if is_ok result then out.old.items ++ bytes.now else out.old.items) }
+    ensures err { IfErr result (λ e. e ≡ OutOfMemory) }
+{
+    out.extend_from_slice(bytes)?;
     Ok(())
 }
 

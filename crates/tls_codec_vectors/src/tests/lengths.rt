@@ -22,7 +22,8 @@ fn is_spelled<F: LengthField>(
     let mut whole = form.to_vec(alloc)?;
     whole.extend_from_slice(&[0xee])?;
     let (split, rest) = F::split_length(&whole)?;
-    assert_eq!(rt; (split, rest), (length, [0xee].as_slice()));
+    assert_eq!(rt; split, length);
+    assert_eq!(rt; rest, [0xee].as_slice());
     let mut src = whole.as_slice();
     assert_eq!(rt; F::read_length(&mut src), Ok(length));
     assert_eq!(rt; src, [0xee].as_slice());
@@ -76,7 +77,8 @@ fn stand_behind<F: LengthField>(
     twice.extend_from_slice(list)?;
     assert_eq!(rt; out.as_slice(), twice.as_slice());
     let (split, rest) = counted::split::<F, u16>(alloc, &twice)?;
-    assert_eq!(rt; (split.as_slice(), rest), (elements.as_slice(), list));
+    assert_eq!(rt; split.as_slice(), elements.as_slice());
+    assert_eq!(rt; rest, list);
     let mut src = twice.as_slice();
     assert_eq!(rt; counted::read::<F, u16, &[u8]>(alloc, &mut src)?.as_slice(), elements.as_slice());
     assert_eq!(rt; src, list);
@@ -88,7 +90,8 @@ fn stand_behind<F: LengthField>(
     assert_eq!(rt; opaque::write::<F, Vec<u8>>(&mut out, &content), Ok(bytes.len()));
     assert_eq!(rt; opaque::append::<F>(&mut out, &content), Ok(bytes.len()));
     let (split, rest) = opaque::split::<F>(&out)?;
-    assert_eq!(rt; (split, rest), (content.as_slice(), bytes));
+    assert_eq!(rt; split, content.as_slice());
+    assert_eq!(rt; rest, bytes);
     let mut src = out.as_slice();
     assert_eq!(rt; opaque::read::<F, &[u8]>(alloc, &mut src)?.as_slice(), content.as_slice());
     assert_eq!(rt; src, bytes);

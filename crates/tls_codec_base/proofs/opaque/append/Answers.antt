@@ -18,8 +18,8 @@ pub returns-in-Ok-clause-appends : goal.returns-in-Ok-clause-appends
 returns-in-Ok-clause-appends g c =
     let small = are_bytes c.args.content.now (λ i. omega (arith, c.type_inv.content i)) in
     let form = slice_least (IsLeast (λ s. g.F.LengthField.field.spells s _)) c.in-Some.found.0 c.in-Some.found.1 (omega arith) c.in-Some.ensures.0 c.in-Some.ensures.1 in
-    let first = rw c.in_ok-extend_from_slice.was at c.extend_from_slice.ensures.items in
-    let then = rw c.in-Ok.is at c.extend_from_slice-2.ensures.items in
+    let first = rw c.in_ok-append_few.was at c.append_few.ensures.items in
+    let then = rw c.in-Ok.is at c.extend_from_slice.ensures.items in
     rw (← c.reserve.ensures.items) (bytes_appended g.met.F.LengthField.lawful c.args.content.now small _ form first then (omega (arith, c.len.ensures, c.len-at.ensures, ap length c.reserve.ensures.items)))
 
 pub returns-in_err-reserve-clause-too_long : goal.returns-in_err-reserve-clause-too_long
@@ -27,3 +27,9 @@ returns-in_err-reserve-clause-too_long g c long = absurd (omega (arith, long, by
 
 pub returns-in-Ok-clause-too_long : goal.returns-in-Ok-clause-too_long
 returns-in-Ok-clause-too_long g c long = absurd (omega (arith, long, bytes_sum c.args.content.now, g.met.F.LengthField.lawful.below _ _ c.in-Some.ensures.1.spelled))
+
+pub returns-in_err-append_few-clause-too_long : goal.returns-in_err-append_few-clause-too_long
+returns-in_err-append_few-clause-too_long g c long = absurd (omega (arith, long, bytes_sum c.args.content.now, g.met.F.LengthField.lawful.below _ _ c.in-Some.ensures.1.spelled))
+
+pub returns-in-Err-clause-too_long : goal.returns-in-Err-clause-too_long
+returns-in-Err-clause-too_long g c long = absurd (omega (arith, long, bytes_sum c.args.content.now, g.met.F.LengthField.lawful.below _ _ c.in-Some.ensures.1.spelled))
