@@ -79,8 +79,7 @@ pub gap_fits : {a b : List ℕ} {at gap width : ℕ} → FitGap a b at gap width
 gap_fits {a} {b} {at} {gap} {width} p le =
     let first : length (take at a) ≡ at = length-take-le at a le in
     let place : at + width ≡ length (take at a ++ p.between) = omega (arith, first, p.count, length-append (take at a) p.between) in
-    let whole : b ≡ (take at a ++ p.between) ++ drop (at + gap) a = p.held ∙ sym (append_assoc (take at a) p.between (drop (at + gap) a)) in
-    (
+    let whole : b ≡ (take at a ++ p.between) ++ drop (at + gap) a = p.held ∙ sym (append_assoc (take at a) p.between (drop (at + gap) a)) in (
       ap (take at) p.held ∙ ap (λ (n : ℕ). take n (take at a ++ (p.between ++ drop (at + gap) a))) (sym first) ∙ take-append_seam (take at a) (p.between ++ drop (at + gap) a),
       ap (drop (at + width)) whole ∙ ap (λ (n : ℕ). drop n ((take at a ++ p.between) ++ drop (at + gap) a)) place ∙ drop-append_seam (take at a ++ p.between) (drop (at + gap) a),
     )

@@ -69,10 +69,19 @@ fn stand_behind<F: LengthField>(
 ) -> Result<(), Fail> {
     let elements = [1u16, 2];
     assert_eq!(rt; counted::announced_len::<F, u16>(&elements), list.len());
-    assert_eq!(rt; counted::to_vec::<F, u16>(alloc, &elements)?.as_slice(), list);
+    assert_eq!(rt;
+        counted::to_vec::<F, u16>(alloc, &elements)?.as_slice(),
+        list
+    );
     let mut out = Vec::new(alloc);
-    assert_eq!(rt; counted::write::<F, u16, Vec<u8>>(&mut out, &elements), Ok(list.len()));
-    assert_eq!(rt; counted::append::<F, u16>(&mut out, &elements), Ok(list.len()));
+    assert_eq!(rt;
+        counted::write::<F, u16, Vec<u8>>(&mut out, &elements),
+        Ok(list.len())
+    );
+    assert_eq!(rt;
+        counted::append::<F, u16>(&mut out, &elements),
+        Ok(list.len())
+    );
     let mut twice = list.to_vec(alloc)?;
     twice.extend_from_slice(list)?;
     assert_eq!(rt; out.as_slice(), twice.as_slice());
@@ -80,20 +89,29 @@ fn stand_behind<F: LengthField>(
     assert_eq!(rt; split.as_slice(), elements.as_slice());
     assert_eq!(rt; rest, list);
     let mut src = twice.as_slice();
-    assert_eq!(rt; counted::read::<F, u16, &[u8]>(alloc, &mut src)?.as_slice(), elements.as_slice());
+    assert_eq!(rt;
+        counted::read::<F, u16, &[u8]>(alloc, &mut src)?.as_slice(),
+        elements.as_slice()
+    );
     assert_eq!(rt; src, list);
 
     let content = [9, 8];
     assert_eq!(rt; opaque::announced_len::<F>(&content), bytes.len());
     assert_eq!(rt; opaque::to_vec::<F>(alloc, &content)?.as_slice(), bytes);
     let mut out = Vec::new(alloc);
-    assert_eq!(rt; opaque::write::<F, Vec<u8>>(&mut out, &content), Ok(bytes.len()));
+    assert_eq!(rt;
+        opaque::write::<F, Vec<u8>>(&mut out, &content),
+        Ok(bytes.len())
+    );
     assert_eq!(rt; opaque::append::<F>(&mut out, &content), Ok(bytes.len()));
     let (split, rest) = opaque::split::<F>(&out)?;
     assert_eq!(rt; split, content.as_slice());
     assert_eq!(rt; rest, bytes);
     let mut src = out.as_slice();
-    assert_eq!(rt; opaque::read::<F, &[u8]>(alloc, &mut src)?.as_slice(), content.as_slice());
+    assert_eq!(rt;
+        opaque::read::<F, &[u8]>(alloc, &mut src)?.as_slice(),
+        content.as_slice()
+    );
     assert_eq!(rt; src, bytes);
     let mut cut = &bytes[..bytes.len() - 1];
     assert!(rt; opaque::split::<F>(cut) == Err(cut_off));
@@ -108,7 +126,13 @@ fn contents_behind_each_length(rt: HostRuntime) -> Result<(), Fail> {
     stand_behind::<u8>(&rt, alloc, &[4, 0, 1, 0, 2], &[2, 9, 8], ends)?;
     stand_behind::<u16>(&rt, alloc, &[0, 4, 0, 1, 0, 2], &[0, 2, 9, 8], ends)?;
     stand_behind::<U24>(&rt, alloc, &[0, 0, 4, 0, 1, 0, 2], &[0, 0, 2, 9, 8], ends)?;
-    stand_behind::<u32>(&rt, alloc, &[0, 0, 0, 4, 0, 1, 0, 2], &[0, 0, 0, 2, 9, 8], ends)?;
+    stand_behind::<u32>(
+        &rt,
+        alloc,
+        &[0, 0, 0, 4, 0, 1, 0, 2],
+        &[0, 0, 0, 2, 9, 8],
+        ends,
+    )?;
     let not_there = Error::DecodingError("declared content is not there");
     stand_behind::<TlsVarInt>(&rt, alloc, &[4, 0, 1, 0, 2], &[2, 9, 8], not_there)?;
     Ok(())
@@ -127,7 +151,10 @@ fn contents_past_their_length_are_refused(rt: HostRuntime) -> Result<(), Fail> {
     assert!(rt; counted::to_vec::<u8, u8>(alloc, &content) == Err(Error::InvalidVectorLength));
     assert!(rt; opaque::to_vec::<u8>(alloc, &content) == Err(Error::InvalidVectorLength));
     let mut out = [0xaa].to_vec(alloc)?;
-    assert_eq!(rt; counted::write::<u8, u8, Vec<u8>>(&mut out, &content), too_long);
+    assert_eq!(rt;
+        counted::write::<u8, u8, Vec<u8>>(&mut out, &content),
+        too_long
+    );
     assert_eq!(rt; counted::append::<u8, u8>(&mut out, &content), too_long);
     assert_eq!(rt; opaque::write::<u8, Vec<u8>>(&mut out, &content), too_long);
     assert_eq!(rt; opaque::append::<u8>(&mut out, &content), too_long);
@@ -145,7 +172,10 @@ fn lengths_of_each_width_are_put_in_front(rt: HostRuntime) -> Result<(), Fail> {
         (63, [0x40, 0x40, 0x3f, 0].as_slice()),
         (16_381, [0x7f, 0xff, 0x7f, 0xfd, 0].as_slice()),
         (16_382, [0x80, 0x00, 0x40, 0x00, 0x7f, 0xfe, 0].as_slice()),
-        (16_384, [0x80, 0x00, 0x40, 0x04, 0x80, 0x00, 0x40, 0x00, 0].as_slice()),
+        (
+            16_384,
+            [0x80, 0x00, 0x40, 0x04, 0x80, 0x00, 0x40, 0x00, 0].as_slice(),
+        ),
     ] {
         let mut inner = Vec::new(alloc);
         inner.resize(zeros, 0u8)?;
