@@ -1,11 +1,11 @@
 -- Length fields: digits, variable-length integers, and gaps that they are put into.
-use Rattle.std.proofs.Common.{◌≡◌, ℕ, ◌+◌, ◌-◌, ◌^◌, ◌<◌, ◌≤◌, List, ◌++◌, length, take, drop, take-append-drop, Option, None, Some, refl, sym, ap, subst, ◌∙◌, arith, append_assoc, length-append, length-take-le}
+use Rattle.std.proofs.Common.{◌≡◌, ℕ, ◌+◌, ◌-◌, ◌^◌, ◌<◌, ◌≤◌, List, ◌++◌, length, take, drop, take-append-drop, Option, None, Some, sym, ap, subst, ◌∙◌, arith, append_assoc, length-append, length-take-le}
 use Rattle.std.proofs.Math.Nat.{mod-eq_of_lt}
 use Rattle.std.proofs.Math.Seq.{drop-append_seam, take-add, take-append_seam, take-length}
 use Rattle.std.specs.Int.{bytes_high_first}
 use Rattle.tls_codec_wire.specs.Counts.{Counts}
 use Rattle.tls_codec_wire.specs.Digits.{Digits}
-use Rattle.tls_codec_wire.specs.Transfer.{IsShortOf, ReadRefused}
+use Rattle.tls_codec_wire.specs.Transfer.{ReadRefused}
 use Rattle.tls_codec_wire.specs.VarintCalls.{NoVarintBegins, VarintRefused}
 use Rattle.tls_codec_wire.specs.declared.error.Error.{Error}
 use Rattle.tls_codec_wire.specs.declared.error.Error.TheVariants.{DecodingError, EndOfStream, OutOfMemory}
@@ -15,7 +15,7 @@ use Rattle.tls_codec_base.specs.Tree.{Number}
 use Rattle.tls_codec_base.specs.Grammar.{number}
 use Rattle.tls_codec_base.specs.Shortest.{IsLeast}
 use Rattle.tls_codec_base.specs.Decoding.{Begins, GaveSpelling}
-use Rattle.tls_codec_base.specs.Field.{BeginsField, FieldRefused, FilledGap, FitGap, GaveField, Field, NoFieldBegins, NoFieldComes, fixed_field, variable_field}
+use Rattle.tls_codec_base.specs.Field.{BeginsField, FieldRefused, FilledGap, FitGap, GaveField, Field, NoFieldBegins, fixed_field, variable_field}
 use Rattle.tls_codec_base.specs.laws.NumberLaws.{digits_least}
 
 -- ---- k bytes

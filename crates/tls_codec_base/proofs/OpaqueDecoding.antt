@@ -1,5 +1,5 @@
 -- Bytes behind a length field, read from a slice and from a source.
-use Rattle.std.proofs.Common.{◌≡◌, ℕ, ◌<◌, ◌≤◌, ◌^◌, List, ◌++◌, length, take, drop, take-append-drop, get_or, Bool, false, Option, None, Some, inl, inr, refl, sym, ap, subst, ◌∙◌, arith}
+use Rattle.std.proofs.Common.{◌≡◌, ℕ, ◌<◌, List, ◌++◌, length, take, drop, take-append-drop, get_or, Bool, false, Option, None, Some, inl, inr, refl, sym, ap, subst, ◌∙◌, arith}
 use Rattle.tls_codec_wire.specs.Counts.{Counts}
 use Rattle.tls_codec_wire.specs.Device.{GivesFromFront, GivesInOrder, NoCountFalls}
 use Rattle.tls_codec_wire.specs.Digits.{AreBytes}

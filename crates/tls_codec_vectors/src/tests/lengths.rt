@@ -27,7 +27,7 @@ fn is_spelled<F: LengthField>(
     let mut src = whole.as_slice();
     assert_eq!(rt; F::read_length(&mut src), Ok(length));
     assert_eq!(rt; src, [0xee].as_slice());
-    let mut cut = &form[..form.len() - 1];
+    let mut cut = &form[..form.len().saturating_sub(1)];
     assert!(rt; F::split_length(cut) == Err(Error::EndOfStream));
     assert_eq!(rt; F::read_length(&mut cut), Err(Error::EndOfStream));
     Ok(())

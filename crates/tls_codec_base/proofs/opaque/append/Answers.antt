@@ -1,5 +1,4 @@
-use Rattle.std.proofs.Common.{ap, length, arith, inr, refl, ◌∙◌}
-use Rattle.std.proofs.lemmas.Result.{err_from_is_err_and}
+use Rattle.std.proofs.Common.{ap, length, arith, inr, refl}
 use Rattle.tls_codec_wire.proofs.Bytes.{are_bytes}
 use Rattle.tls_codec_base.specs.laws.FormatLaws.{content_length_sum}
 use Rattle.tls_codec_base.specs.Shortest.{IsLeast}
