@@ -1,6 +1,6 @@
 // Numbers in bytes, and what errors of std become.
 use crate::error::Error;
-use crate::quic::{least_width, read_varint, split_varint, write_varint};
+use crate::quic::{least_form, least_width, read_varint, split_varint, write_varint};
 use crate::uint24::U24;
 use crate::varint::TlsVarInt;
 use crate::vlen::{append_length, insert_bytes, insert_length};
@@ -52,6 +52,8 @@ fn a_variable_length_integer_has_its_least_bytes(rt: HostRuntime) -> Result<(), 
         assert_eq!(rt; write_varint(&mut out, n), Ok(bytes.len()), "{number}");
         assert_eq!(rt; out.as_slice(), bytes, "{number}");
         assert_eq!(rt; least_width(number), bytes.len(), "{number}");
+        let (form, at) = least_form(n);
+        assert_eq!(rt; &form[at..], bytes, "{number}");
         let mut src = bytes;
         assert_eq!(rt; read_varint(&mut src), Ok((n, bytes.len())), "{number}");
         assert!(rt; src.is_empty(), "{number}");
