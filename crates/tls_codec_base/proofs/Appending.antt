@@ -28,10 +28,6 @@ cut_off {a} {b} {c} {n} form cut e held = cut ∙ ap (λ (k : ℕ). take k b) e 
 pub whole_appended : {f : Format} {v : Tree} {form old new : List ℕ} {n : ℕ} → IsShortest f.spells form v → new ≡ old ++ form → n ≡ length form → Appended f v old new n
 whole_appended {f} {v} {form} p held count = record { form = form; shortest = p; held = held; count = count }
 
--- no memory
-pub append_no_memory : {f : Format} {v : Tree} {old new : List ℕ} → new ≡ old → AppendRefused f v old new OutOfMemory
-append_no_memory kept = record { kept = kept; cause = inl refl }
-
 -- the form and what stands before it pass the greatest vector
 pub form_too_long : {f : Format} {v : Tree} {form old new : List ℕ} → new ≡ old → IsShortest f.spells form v → 2 ^ 63 ≤ length old + length form → AppendRefused f v old new InvalidVectorLength
 form_too_long {f} {v} {form} kept p long = record {
@@ -255,11 +251,6 @@ module _ {field : Field} (m : MeetsFieldLaws field) {inside : Format} (l : Meets
           ];
         }
     gap_not_filled _ is_sum e o p kept q = absurd q
-
-  -- what is too long behind its gap has a length that is refused
-  pub too_long_behind : (sum : Tree → ℕ) (v : Tree) {a b c : List ℕ} {at gap k : ℕ} → inside.announced v ≡ capped (sum v) → at ≡ length a → OpenedGap a b gap → Appended inside v b c k → field.limit ≤ sum v → field.limit ≤ length c - (at + gap)
-  too_long_behind sum v {a} {b} {c} {at} {gap} {k} is_sum e o p long =
-      omega (arith, e, long, is_sum, m.small, l.spelled.announces p.form v p.shortest, o.count, ap length o.held, length-append a o.gap, ap length p.held, length-append b p.form)
 
 -- what stood before a gap is left of a vector whose bytes before it are as they were
 pub kept_before_gap : {f : Format} {v : Tree} {a b c : List ℕ} (d : List ℕ) {at gap k : ℕ} → at ≡ length a → OpenedGap a b gap → Appended f v b c k → take at d ≡ take at c → take (length a) d ≡ a

@@ -31,25 +31,6 @@ last_digits_least k n small fits =
       number = value-high_first k n ∙ mod-eq_of_lt fits;
     }))
 
-no_digits_begin : (k : ℕ) (x : List ℕ) → length x < k → NoFieldBegins (fixed_field k) x
-no_digits_begin k x short n rest b = omega (arith, short, b.spelled.width, ap length b.whole, length-append b.front rest)
-
-pub digits_not_split : {k : ℕ} {x : List ℕ} {e : Error} → (e ≡ EndOfStream) × (length x < k) → (e ≡ EndOfStream) × NoFieldBegins (fixed_field k) x
-digits_not_split {k} {x} p = (p.0, no_digits_begin k x p.1)
-
-pub digits_begin : {k n : ℕ} {x rest : List ℕ} → Begins (number k) x (Number n) rest → BeginsField (fixed_field k) x n rest
-digits_begin p = record { front = p.front; whole = p.whole; spelled = p.spelled }
-
-pub digits_given : {S : Type 0} {given : S → List ℕ → S → Type 0} {k n : ℕ} {a b : S} → GaveSpelling given (number k) a b (Number n) → GaveField given (fixed_field k) a b n
-digits_given p = record { front = p.front; held = p.held; spelled = p.spelled }
-
-pub digits_not_read : (k : ℕ) (e : Error) (coming : Option (List ℕ)) (old new : Counts) → ReadRefused e k coming old new → FieldRefused (fixed_field k) e coming old new
-digits_not_read k (DecodingError text) coming old new p = p
-digits_not_read k EndOfStream None old new p = tt
-digits_not_read k EndOfStream (Some x) old new p = no_digits_begin k x p
-digits_not_read k OutOfMemory coming old new p = p
-digits_not_read k _ coming old new p = absurd p
-
 -- ---- variable-length integers
 
 no_varint_field : (x : List ℕ) → NoVarintBegins x → NoFieldBegins variable_field x

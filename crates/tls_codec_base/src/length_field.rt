@@ -5,6 +5,7 @@
 //! through calls that are generic over the field: [`counted`](crate::counted) for elements and
 //! [`opaque`](crate::opaque) for bytes.
 ghost use Rattle.std.specs.Prelude.{◌≡◌, ◌≤◌, drop, MatchOption, IfErr, IfOk};
+ghost use Rattle.tls_codec_wire.specs.Counts.{OnlyInterrupted};
 ghost use Rattle.tls_codec_wire.specs.Device.{Gave};
 ghost use Rattle.tls_codec_wire.specs.declared.error.Error.TheVariants.{EndOfStream};
 ghost use Rattle.tls_codec_base.specs.Field.{BeginsField, Field, FieldRefused, GaveField, NoFieldBegins};
@@ -21,14 +22,20 @@ pub(crate) use writing::{append_few, fill_gap, open_gap, write_length};
 
 /// What stands before a content and says how many bytes that has.
 ///
-/// A type of this kind stands for the form of a length; a value of it is never made. A user's own
-/// form of lengths implements it too.
+/// The type stands for the form of a length, and no value of it is made. A user's own form of lengths
+/// implements this too.
+///
+/// ```rust
+/// let mut src = [0u8, 3, 0xaa].as_slice();
+/// assert_eq!(rt; u16::read_length(&mut src), Ok(3));
+/// assert_eq!(u16::width(3), 2);
+/// ```
 pub trait LengthField {
     // Which bytes spell which length, how many of them, and up to where.
     ghost field: { Field };
 
-    /// The number of bytes of the least spelling of a length. What it is of a length that passes the
-    /// greatest one is said by the type: announced lengths tell it.
+    /// The number of bytes of the least spelling of a length. Announced lengths count it also where the
+    /// length passes the greatest one: then it is whatever the field says.
     fn width(length: usize) -> usize
         ensures { result ≡ field.width length };
 
@@ -45,7 +52,8 @@ pub trait LengthField {
     fn read_length<R: Source>(src: &mut R) -> Result<usize, Error>
         ensures gave { Gave R.given src.old src.new }
         ensures ok { IfOk result (λ n. GaveField R.given field src.old src.new n) }
-        ensures refused { IfErr result (λ e. FieldRefused field e (R.coming src.old) (R.counts src.old) (R.counts src.new)) };
+        ensures refused { IfErr result (λ e. FieldRefused field e (R.coming src.old) (R.counts src.old) (R.counts src.new)) }
+        ensures calm { IfOk result (λ _. OnlyInterrupted (R.counts src.old) (R.counts src.new)) };
 
     /// The length that the bytes begin with, and the rest of them.
     ///
@@ -54,8 +62,8 @@ pub trait LengthField {
         ensures ok { IfOk result (λ found. BeginsField field bytes.now found.0 found.1.now) }
         ensures err { IfErr result (λ e. (e ≡ EndOfStream) × NoFieldBegins field bytes.now) };
 
-    /// How a slice is refused that has fewer bytes behind the field than it declares, where these are
-    /// not read one by one.
+    /// How bytes are refused that are fewer than the field before them declares, where they are taken
+    /// at once and not as elements.
     fn cut_off() -> Error
         ensures { field.cut_off result };
 

@@ -3,6 +3,7 @@
 //! Each type's calls go through the four calls on digits here, which know only the width. A
 //! reference to a number is written as the number, and is not read.
 ghost use Rattle.std.specs.Prelude.{◌≡◌, ◌<◌, length, IfErr, IfOk};
+ghost use Rattle.tls_codec_wire.specs.Counts.{OnlyInterrupted};
 ghost use Rattle.tls_codec_wire.specs.Digits.{AreBytes, value};
 ghost use Rattle.tls_codec_wire.specs.Transfer.{ReadRefused};
 ghost use Rattle.tls_codec_wire.specs.declared.error.Error.TheVariants.{EndOfStream, OutOfMemory};
@@ -45,6 +46,7 @@ pub(crate) fn read_digits<R: Source, const K: usize>(bytes: &mut R) -> Result<[u
     ensures width { IfOk result (λ digits. length digits ≡ K) }
     ensures bytes { IfOk result AreBytes }
     ensures named { IfErr result (λ e. ReadRefused e K (R.coming bytes.old) (R.counts bytes.old) (R.counts bytes.new)) }
+    ensures calm { IfOk result (λ _. OnlyInterrupted (R.counts bytes.old) (R.counts bytes.new)) }
 {
     let mut digits = [0u8; K];
     read_exactly(bytes, &mut digits)?;

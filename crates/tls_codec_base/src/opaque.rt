@@ -74,8 +74,8 @@ pub fn to_vec<F: LengthField>(alloc: Global, content: &[u8]) -> Result<Vec<u8>, 
 
 /// The bytes that a front of `whole` spells, and the rest of it. Neither is copied.
 ///
-/// `EndOfStream`: there is no whole length. `DecodingError("declared content is not there")`: fewer
-/// bytes are behind it than it declares.
+/// `EndOfStream`: there is no whole length. Where fewer bytes are behind it than it declares, the
+/// refusal is the field's [`cut_off`](LengthField::cut_off).
 pub fn split<F: LengthField>(whole: &[u8]) -> Result<(&[u8], &[u8]), Error>
     ensures splits { Splits (record (counted_bytes_format F.field) { lean = true }) (λ found. number_trees found.now) whole.now result }
     ensures named { IfErr result (λ e. OpaqueRefused F.field e whole.now) }

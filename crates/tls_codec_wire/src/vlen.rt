@@ -1,7 +1,7 @@
 //! Lengths as variable-length integers (RFC 9000, section 16; RFC 9420, section 2.1.2).
 //!
 //! Every width is read, and the least is written. The greatest length is [`TlsVarInt::MAX`].
-ghost use Rattle.std.specs.Prelude.{◌≡◌, ◌^◌, ◌-◌, ◌<◌, ◌≤◌, ◌⊎◌, ◌+◌, ◌++◌, length, vec_len, take, drop, is_ok, if◌then◌else◌, Some, IfErr, IfOk, OnErr};
+ghost use Rattle.std.specs.Prelude.{◌≡◌, ◌^◌, ◌-◌, ◌<◌, ◌≤◌, ◌⊎◌, ◌+◌, ◌++◌, length, vec_len, take, drop, is_ok, if◌then◌else◌, IfErr, IfOk, OnErr};
 ghost use Rattle.tls_codec_wire.specs.Counts.{NoneFell, OnlyInterrupted};
 ghost use Rattle.tls_codec_wire.specs.Device.{Gave};
 ghost use Rattle.tls_codec_wire.specs.VarintCalls.{BeganVarint, BeginsVarint, GaveVarint, InsertedVarint, InsertRefused, LengthRefused, NoVarintBegins, SentVarint, VarintRefused, least_width};
@@ -66,26 +66,6 @@ pub fn write_length<W: Sink>(sink: &mut W, content_length: usize) -> Result<usiz
         Ok(length) => write_varint(sink, length),
         Err(error) => Err(error),
     }
-}
-
-/// Appends a length in the least number of bytes to a vector, and answers how many.
-///
-/// `InvalidVectorLength`: it is above the greatest length. `OutOfMemory`: there was none. After a
-/// refusal the vector is as it was.
-#[inline(always)]
-pub fn append_length(out: &mut Vec<u8>, content_length: usize) -> Result<usize, Error>
-    ensures ok { IfOk result (SentVarint (Some out.old.items) (Some out.new.items) content_length) }
-    ensures kept { OnErr result (out.new.items ≡ out.old.items) }
-    ensures refused { IfErr result (λ e. (e ≡ OutOfMemory) ⊎ ((e ≡ InvalidVectorLength) × (2 ^ 62 ≤ content_length))) }
-    ensures too_long { 2 ^ 62 ≤ content_length → result ≡ Err InvalidVectorLength }
-{
-    if content_length as u64 > TlsVarInt::MAX {
-        return Err(Error::InvalidVectorLength);
-    }
-    let (bytes, at) = least_form(TlsVarInt::new(content_length as u64));
-    let form = &bytes[at..];
-    out.extend_from_slice(form)?;
-    Ok(form.len())
 }
 
 /// Puts a length in the least number of bytes before the bytes of a vector that it counts, which stand

@@ -1,6 +1,7 @@
 //! Lengths of one to four bytes: `u8`, `u16`, `U24` and `u32` (RFC 8446, section 3.4).
 ghost use Rattle.std.specs.Prelude.{◌≡◌, ◌+◌, ◌≤◌, ◌^◌, drop, length, MatchOption, IfErr, IfOk};
 ghost use Rattle.std.proofs.Common.{arith};
+ghost use Rattle.tls_codec_wire.specs.Counts.{OnlyInterrupted};
 ghost use Rattle.tls_codec_wire.specs.Device.{Gave};
 ghost use Rattle.tls_codec_wire.specs.Digits.{AreBytes, Digits, value};
 ghost use Rattle.tls_codec_wire.specs.declared.error.Error.TheVariants.{EndOfStream};
@@ -158,6 +159,7 @@ fn read_field<R: Source, const K: usize>(src: &mut R) -> Result<[u8; K], Error>
     ensures width { IfOk result (λ digits. length digits ≡ K) }
     ensures bytes { IfOk result AreBytes }
     ensures refused { IfErr result (λ e. FieldRefused (fixed_field K) e (R.coming src.old) (R.counts src.old) (R.counts src.new)) }
+    ensures calm { IfOk result (λ _. OnlyInterrupted (R.counts src.old) (R.counts src.new)) }
 {
     match read_digits(src) {
         Ok(digits) => Ok(digits),

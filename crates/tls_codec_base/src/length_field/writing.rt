@@ -1,6 +1,6 @@
 //! Lengths sent to a sink, appended to a vector, and put before a content that stands there already.
 ghost use Rattle.std.specs.Prelude.{◌≡◌, ◌<◌, ◌≤◌, ◌⊎◌, ◌^◌, ◌+◌, ◌-◌, ◌++◌, length, vec_len, take, drop, is_ok, if◌then◌else◌, IfErr, IfOk, OnErr, OnOk};
-ghost use Rattle.tls_codec_wire.specs.Counts.{NoneFell};
+ghost use Rattle.tls_codec_wire.specs.Counts.{NoneFell, OnlyInterrupted};
 ghost use Rattle.tls_codec_wire.specs.declared.error.Error.TheVariants.{InvalidVectorLength, OutOfMemory};
 ghost use Rattle.tls_codec_base.specs.Field.{BeganField, FieldNotSent, FilledGap, FitGap, GapRefused, OpenedGap, SentField};
 
@@ -17,6 +17,7 @@ pub(crate) fn write_length<F: LengthField, W: Sink>(
     ensures beginning { content_length < F.field.limit → BeganField F.field (W.received sink.old) (W.received sink.new) content_length }
     ensures counts { NoneFell (W.counts sink.old) (W.counts sink.new) }
     ensures refused { IfErr result (λ e. FieldNotSent F.field e content_length (W.counts sink.old) (W.counts sink.new)) }
+    ensures calm { IfOk result (λ _. OnlyInterrupted (W.counts sink.old) (W.counts sink.new)) }
     ensures too_long { F.field.limit ≤ content_length → (result ≡ Err InvalidVectorLength) × (sink.new ≡ sink.old) }
 {
     let Some(found) = F::least_form(content_length) else {
@@ -43,7 +44,7 @@ pub(crate) fn open_gap(out: &mut Vec<u8>, width: usize, room: usize) -> Result<(
     Ok(())
 }
 
-// Appends a few bytes, which are stored by no call.
+// Appends a few bytes. One, two or four are stored by no call.
 #[inline(always)]
 pub(crate) fn append_few(out: &mut Vec<u8>, bytes: &[u8]) -> Result<(), Error>
     ensures items { out.new.items ≡ (if is_ok result then out.old.items ++ bytes.now else out.old.items) }
@@ -80,7 +81,6 @@ pub(crate) fn fill_gap<F: LengthField>(
     ensures ok { IfOk result (λ width. FilledGap F.field out.old.items out.new.items at gap width) }
     ensures kept { OnErr result (take at out.new.items ≡ take at out.old.items) }
     ensures refused { IfErr result (λ e. GapRefused F.field e at (length out.old.items - (at + gap))) }
-    ensures too_long { F.field.limit ≤ length out.old.items - (at + gap) → result ≡ Err InvalidVectorLength }
 {
     let content_length = out.len() - at - gap;
     let Some(found) = F::least_form(content_length) else {
@@ -127,7 +127,7 @@ fn widen_gap(out: &mut Vec<u8>, at: usize, more: usize) -> Result<(), Error>
     }
 }
 
-// The same. By a distance that is a constant, bytes are moved at once.
+// Moves what stands behind a place by so many bytes: at once, where these are a constant.
 #[inline(always)]
 fn insert_gap(out: &mut Vec<u8>, at: usize, width: usize) -> Result<(), Error>
     requires place { at ≤ vec_len out.old }
@@ -154,7 +154,7 @@ fn remove_bytes(out: &mut Vec<u8>, at: usize, count: usize)
     }
 }
 
-// The same. By a distance that is a constant, bytes are moved at once.
+// Takes so many bytes out of a vector, which stand behind a place: at once, where these are a constant.
 #[inline(always)]
 fn cut_out(out: &mut Vec<u8>, at: usize, count: usize)
     requires { at + count ≤ vec_len out.old }
@@ -165,7 +165,8 @@ fn cut_out(out: &mut Vec<u8>, at: usize, count: usize)
     out.truncate(end - count);
 }
 
-// Writes a few bytes over those of a vector that stand behind a place. So few are stored by no call.
+// Writes a few bytes over those of a vector that stand behind a place. One, two or four are stored by
+// no call.
 #[inline(always)]
 fn put_over(out: &mut Vec<u8>, at: usize, form: &[u8])
     requires { at + length form.now ≤ vec_len out.old }

@@ -9,6 +9,3 @@ returns-clause-ok g c =
     let k = c.in-Some.found.1 in
     let form = slice_least (IsLeast (λ s. g.F.LengthField.field.spells s _)) b k (omega arith) c.in-Some.ensures.0 c.in-Some.ensures.1 in
     gap_filled g.F.LengthField.field c.in_ok-fit_gap.ensures.ok (omega (arith, c.requires)) (subst (λ (n : ℕ). IsLeast (λ s. g.F.LengthField.field.spells s n) (take (8 - k) (drop k b))) (omega (arith, c.len.ensures)) form) c.put_over.ensures refl
-
-pub returns-clause-too_long : goal.returns-clause-too_long
-returns-clause-too_long g c long = absurd (omega (arith, long, c.len.ensures, g.met.F.LengthField.lawful.below _ _ c.in-Some.ensures.1.spelled))
