@@ -1,9 +1,9 @@
 //! Bytes behind a length field, whatever the field: the `opaque` of RFC 8446, section 3.4.
 //!
 //! Byte vectors and texts go through the calls here, which move the bytes in bulk.
-ghost use Rattle.std.specs.Prelude.{◌≡◌, true, IfErr};
+ghost use Rattle.std.specs.Prelude.{◌≡◌, ◌⊎◌, [], ◌∷◌, ◌++◌, is_ok, if◌then◌else◌, length, true, IfErr, IfOk, IsOk};
 ghost use Rattle.tls_codec_wire.specs.Digits.{AreBytes};
-ghost use Rattle.tls_codec_wire.specs.declared.error.Error.TheVariants.{InvalidVectorLength};
+ghost use Rattle.tls_codec_wire.specs.declared.error.Error.TheVariants.{InvalidVectorLength, OutOfMemory};
 ghost use Rattle.tls_codec_base.specs.Tree.{number_trees};
 ghost use Rattle.tls_codec_base.specs.Format.{counted_bytes_format};
 ghost use Rattle.tls_codec_base.specs.Decoding.{Reads, Splits};
@@ -85,6 +85,45 @@ pub fn split<F: LengthField>(whole: &[u8]) -> Result<(&[u8], &[u8]), Error>
         return Err(F::cut_off());
     }
     Ok(rest.split_at(length))
+}
+
+/// A copy of the bytes that a front of `whole` spells, and the rest of it, which isn't copied.
+///
+/// `OutOfMemory`: there was none for the copy. Every other refusal is as in [`split`].
+pub fn split_copied<F: LengthField>(
+    alloc: Global,
+    whole: &[u8],
+) -> Result<(Vec<u8>, &[u8]), Error>
+    ensures splits { Splits (counted_bytes_format F.field) (λ content. number_trees content.items) whole.now result }
+    ensures named { IfErr result (λ e. (e ≡ OutOfMemory) ⊎ OpaqueRefused F.field e whole.now) }
+{
+    let (content, rest) = split::<F>(whole)?;
+    let copy = copied(alloc, content)?;
+    Ok((copy, rest))
+}
+
+/// A vector of these bytes.
+///
+/// `OutOfMemory`: there was no memory for it. No bytes ask for none.
+pub fn copied(alloc: Global, content: &[u8]) -> Result<Vec<u8>, Error>
+    ensures ok { IfOk result (λ copy. copy.items ≡ content.now) }
+    ensures err { IfErr result (λ e. e ≡ OutOfMemory) }
+    ensures none { length content.now ≡ 0 → IsOk result }
+{
+    let mut copy = Vec::with_capacity(alloc, content.len())?;
+    copy.extend_from_slice(content)?;
+    Ok(copy)
+}
+
+/// Appends a byte. `OutOfMemory`: the bytes are as they were.
+pub fn push(content: &mut Vec<u8>, byte: u8) -> Result<(), Error>
+    ensures content { content.new.items ≡ (if is_ok result then content.old.items ++ byte ∷ [] else content.old.items) }
+    ensures err { IfErr result (λ e. e ≡ OutOfMemory) }
+{
+    match content.push(byte) {
+        Ok(()) => Ok(()),
+        Err(_) => Err(Error::OutOfMemory),
+    }
 }
 
 /// The bytes that the bytes to come spell. Just their spelling is taken.

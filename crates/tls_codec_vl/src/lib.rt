@@ -9,7 +9,6 @@
 //! - [`laws`]: vectors are compared by their bytes. It does nothing when it runs.
 #![tactic(auto)]
 
-mod contents;
 pub mod laws;
 mod show;
 pub mod vl_byte_slice;

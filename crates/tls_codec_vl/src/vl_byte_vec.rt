@@ -9,7 +9,7 @@ ghost use Rattle.tls_codec_base.specs.Opaque.{OpaqueRefused, OpaqueSourceRefused
 ghost use Rattle.tls_codec_vl.specs.Contents.{vec_bytes_of};
 ghost use Rattle.tls_codec_vl.specs.Shown.{debug_text};
 
-use crate::{contents, show};
+use crate::show;
 use std::alloc::Global;
 use std::fmt;
 use tls_codec_base::{Deserialize, DeserializeBytes, Serialize, SerializeBytes, Size, opaque};
@@ -43,7 +43,7 @@ impl VLByteVec {
         ensures err { IfErr result (λ e. e ≡ OutOfMemory) }
         ensures none { length content.now ≡ 0 → IsOk result }
     {
-        let copy = contents::copied(alloc, content)?;
+        let copy = opaque::copied(alloc, content)?;
         Ok(VLByteVec::new(copy))
     }
 
@@ -78,7 +78,7 @@ impl VLByteVec {
         ensures content { vec_bytes_of self.new ≡ (if is_ok result then vec_bytes_of self.old ++ byte ∷ [] else vec_bytes_of self.old) }
         ensures err { IfErr result (λ e. e ≡ OutOfMemory) }
     {
-        contents::push(&mut self.0, byte)
+        opaque::push(&mut self.0, byte)
     }
 
     /// Takes the last byte, if there is one.
@@ -162,7 +162,7 @@ impl DeserializeBytes for VLByteVec {
     /// `EndOfStream`: there is no whole length. `DecodingError("declared content is not there")`:
     /// fewer bytes are behind it than it declares.
     fn tls_deserialize_bytes(alloc: Global, whole: &[u8]) -> Result<(VLByteVec, &[u8]), Error> {
-        let (copy, rest) = contents::split(alloc, whole)?;
+        let (copy, rest) = opaque::split_copied::<TlsVarInt>(alloc, whole)?;
         Ok((VLByteVec::new(copy), rest))
     }
 }

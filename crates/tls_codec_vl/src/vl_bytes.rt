@@ -9,7 +9,7 @@ ghost use Rattle.tls_codec_base.specs.Opaque.{OpaqueRefused, OpaqueSourceRefused
 ghost use Rattle.tls_codec_vl.specs.Contents.{bytes_of};
 ghost use Rattle.tls_codec_vl.specs.Shown.{debug_text};
 
-use crate::{contents, show};
+use crate::show;
 use std::alloc::Global;
 use std::fmt;
 use tls_codec_base::{Deserialize, DeserializeBytes, Serialize, SerializeBytes, Size, opaque};
@@ -42,7 +42,7 @@ impl VLBytes {
         ensures err { IfErr result (λ e. e ≡ OutOfMemory) }
         ensures none { length content.now ≡ 0 → IsOk result }
     {
-        let copy = contents::copied(alloc, content)?;
+        let copy = opaque::copied(alloc, content)?;
         Ok(VLBytes::new(copy))
     }
 
@@ -77,7 +77,7 @@ impl VLBytes {
         ensures content { bytes_of self.new ≡ (if is_ok result then bytes_of self.old ++ byte ∷ [] else bytes_of self.old) }
         ensures err { IfErr result (λ e. e ≡ OutOfMemory) }
     {
-        contents::push(&mut self.0, byte)
+        opaque::push(&mut self.0, byte)
     }
 
     /// Takes the last byte, if there is one.
@@ -161,7 +161,7 @@ impl DeserializeBytes for VLBytes {
     /// `EndOfStream`: there is no whole length. `DecodingError("declared content is not there")`:
     /// fewer bytes are behind it than it declares.
     fn tls_deserialize_bytes(alloc: Global, whole: &[u8]) -> Result<(VLBytes, &[u8]), Error> {
-        let (copy, rest) = contents::split(alloc, whole)?;
+        let (copy, rest) = opaque::split_copied::<TlsVarInt>(alloc, whole)?;
         Ok((VLBytes::new(copy), rest))
     }
 }
