@@ -1,8 +1,8 @@
 -- Bytes as the content of one-byte numbers.
-use Rattle.std.proofs.Common.{◌≡◌, ℕ, ◌+◌, ◌^◌, ◌<◌, List, [], ◌∷◌, ◌++◌, length, inl, refl, sym, ap, ◌∙◌, arith, length-append}
+use Rattle.std.proofs.Common.{◌≡◌, ◌↔◌, ℕ, ◌+◌, ◌^◌, ◌<◌, List, [], ◌∷◌, ◌++◌, length, inl, refl, sym, ap, subst, ◌∙◌, arith, length-append}
 use Rattle.tls_codec_wire.specs.Digits.{AreBytes, Digits}
 use Rattle.tls_codec_base.specs.Tree.{Tree, Number, Empty, Join, number_trees}
-use Rattle.tls_codec_base.specs.Grammar.{Direction, Reading, Writing, Grammar, Admits, number, content, sized}
+use Rattle.tls_codec_base.specs.Grammar.{Direction, Reading, Writing, Grammar, Admits, Counted, number, content, counted, sized}
 use Rattle.tls_codec_base.specs.Shortest.{IsShortest}
 use Rattle.tls_codec_base.specs.Announced.{capped, content_length, counted_length}
 use Rattle.tls_codec_base.specs.Decoding.{NoneBegins}
@@ -68,3 +68,10 @@ bytes_announced width c fits =
 -- fewer bytes than n don't begin with n bytes
 pub sized_short : (n : ℕ) (inside : Grammar) (x : List ℕ) → length x < n → NoneBegins (sized n inside) x
 sized_short n inside x lt v rest b = omega (arith, ap length b.whole, length-append b.front rest, b.spelled.0)
+
+-- behind a length field, bytes are spelled as the field's spelling of their number, and themselves
+pub bytes_counted : (spells : List ℕ → ℕ → Type 0) (d : Direction) (s c : List ℕ) → AreBytes c → (counted spells (content (number 1)) d s (number_trees c) ↔ Counted spells s (λ u. u ≡ c))
+bytes_counted spells d s c bytes = (
+  λ p. record { count = p.count; inside = p.inside; whole = p.whole; counts = p.counts; is_inside = content_same_bytes d p.inside c p.is_inside },
+  λ p. record { count = p.count; inside = p.inside; whole = p.whole; counts = p.counts; is_inside = subst (λ u. content (number 1) d u (number_trees c)) (sym p.is_inside) (bytes_content d c bytes) },
+)

@@ -1,17 +1,20 @@
 //! The laws of options, products, lists and texts, each from those of its parts, what shortest forms
-//! of lists and of lengths are, and what a source that tells its bytes has left.
+//! of lists and of lengths are, that equal bytes are spelled alike, and what a source that tells its
+//! bytes has left.
 //!
 //! The functions do nothing. Their contracts state the laws, and so are proved.
 ghost use Rattle.std.specs.Prelude.{◌≡◌, ◌↔◌, ℕ, ◌≤◌, ◌^◌, List, [], length};
+ghost use Rattle.tls_codec_wire.specs.Digits.{AreBytes};
 ghost use Rattle.tls_codec_wire.specs.Varint.{Varint};
 ghost use Rattle.tls_codec_wire.specs.VarintCalls.{LeastVarint};
-ghost use Rattle.tls_codec_base.specs.Tree.{Tree, Empty, Join};
+ghost use Rattle.tls_codec_base.specs.Tree.{Tree, Empty, Join, Number, number_trees, trees};
 ghost use Rattle.tls_codec_base.specs.Decoding.{ComesFirst, GaveSpelling};
-ghost use Rattle.tls_codec_base.specs.Format.{fields_format, fixed_list_format, list_format, nothing_format, option_format, text_format};
+ghost use Rattle.tls_codec_base.specs.Format.{counted_bytes_format, counted_list_format, fields_format, fixed_list_format, list_format, nothing_format, number_format, option_format, text_format};
 ghost use Rattle.tls_codec_base.specs.Lawful.{MeetsLaws};
-ghost use Rattle.tls_codec_base.specs.Grammar.{Row, content};
+ghost use Rattle.tls_codec_base.specs.Grammar.{Counted, Direction, Row, content};
 ghost use Rattle.tls_codec_base.specs.Shortest.{IsLeast, IsShortest};
 
+use crate::length_field::LengthField;
 use crate::traits::Size;
 use tls_codec_wire::Source;
 
@@ -36,6 +39,15 @@ pub fn shortest_contents_are_in_a_row<T: Size>()
     ensures none { (form : List ℕ) → IsShortest (content T.format.spells) form Empty ↔ (form ≡ []) }
     ensures more { (form : List ℕ) (v vs : Tree) → IsShortest (content T.format.spells) form (Join v vs)
         ↔ Row form (λ a. IsShortest T.format.spells a v) (λ b. IsShortest (content T.format.spells) b vs) }
+{}
+
+/// Behind one form of length, equal bytes have equal spellings, in whatever type they stand: the
+/// spellings of their number, with the bytes behind them.
+pub fn equal_bytes_have_equal_spellings<F: LengthField>()
+    ensures bytes { (d : Direction) (s contents : List ℕ) → AreBytes contents
+        → ((counted_bytes_format F.field).spells d s (number_trees contents) ↔ Counted F.field.spells s (λ c. c ≡ contents)) }
+    ensures lists { (d : Direction) (s contents : List ℕ) → AreBytes contents
+        → ((counted_list_format F.field (number_format 1)).spells d s (trees Number contents) ↔ Counted F.field.spells s (λ c. c ≡ contents)) }
 {}
 
 /// An integer's spellings of the least width are its shortest ones.

@@ -26,6 +26,14 @@ fn bytes_behind_their_length(rt: HostRuntime) -> Result<(), Fail> {
     let (found, rest) = opaque::split::<TlsVarInt>(&whole)?;
     assert_eq!(rt; found, content.as_slice());
     assert_eq!(rt; rest, [0x99].as_slice());
+    let (mut copy, rest) = opaque::split_copied::<TlsVarInt>(alloc, &whole)?;
+    assert_eq!(rt; copy.as_slice(), content.as_slice());
+    assert_eq!(rt; rest, [0x99].as_slice());
+    assert_eq!(rt; opaque::push(&mut copy, 0x28), Ok(()));
+    assert_eq!(rt;
+        opaque::copied(alloc, &copy)?.as_slice(),
+        [0x0a, 0x14, 0x1e, 0x28].as_slice()
+    );
     let mut src = whole.as_slice();
     assert_eq!(rt;
         opaque::read::<TlsVarInt, &[u8]>(alloc, &mut src)?.as_slice(),
