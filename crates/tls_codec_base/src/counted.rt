@@ -24,7 +24,7 @@ const LIKELY_LENGTH: usize = 64;
 /// need none.
 const MOST_ROOM: usize = 1 << 20;
 
-/// The least room, so that a vector doesn't grow with each of some nested lists.
+/// The least room in an empty vector, so that it doesn't grow with each of some nested lists.
 const LEAST_ROOM: usize = 64;
 
 /// A gap for a length is left behind at most so many bytes.
@@ -90,7 +90,7 @@ fn append_behind_gap<F: LengthField, T: Serialize>(
 {
     let at = out.len();
     let gap = likely_width::<F, T>(at, elements.len());
-    open_gap(out, gap, room_for::<T>(elements.len()))?;
+    open_gap(out, gap, room_for::<T>(at, elements.len()))?;
     lists::append(out, elements)?;
     fill_gap::<F>(out, at, gap)?;
     Ok(out.len() - at)
@@ -121,7 +121,7 @@ fn behind_gap<F: LengthField, T: SerializeBytes>(
 {
     let mut bytes = Vec::new(alloc);
     let gap = likely_width::<F, T>(0, elements.len());
-    open_gap(&mut bytes, gap, room_for::<T>(elements.len()))?;
+    open_gap(&mut bytes, gap, room_for::<T>(0, elements.len()))?;
     lists::append_bytes(alloc, &mut bytes, elements)?;
     fill_gap::<F>(&mut bytes, 0, gap)?;
     Ok(bytes)
@@ -141,11 +141,12 @@ fn likely_width<F: LengthField, T: Size>(at: usize, count: usize) -> usize
     F::width(count.saturating_mul(each)).min(8)
 }
 
-// How much room is asked for at once for so many elements.
-fn room_for<T: Size>(count: usize) -> usize {
+// How much room is asked for at once for so many elements, behind so many bytes.
+fn room_for<T: Size>(at: usize, count: usize) -> usize {
     match T::tls_fixed_len() {
         Some(each) => count.saturating_mul(each),
-        None => count.clamp(LEAST_ROOM, MOST_ROOM),
+        None if at == 0 => count.clamp(LEAST_ROOM, MOST_ROOM),
+        None => count.min(MOST_ROOM),
     }
 }
 
