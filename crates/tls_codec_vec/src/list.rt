@@ -1,0 +1,130 @@
+//! [`TlsVec`], a list of elements, and what is done with it.
+ghost use Rattle.std.specs.Prelude.{◌≡◌, ◌==◌, ◌<◌, [], ◌∷◌, ◌++◌, is_ok, if◌then◌else◌, length, slice_get, slice_index_or, option_copied, IfErr, IfOk, MatchOption};
+ghost use Rattle.std.specs.Fn.{CalledAt};
+ghost use Rattle.std.specs.Iterator.{Drains, IsFinite};
+ghost use Rattle.std.specs.List.{All, remove};
+ghost use Rattle.std.specs.List.Retain.{IsFiltered};
+ghost use Rattle.std.specs.Slice.Iter.{iter_rest};
+ghost use Rattle.tls_codec_wire.specs.declared.error.Error.TheVariants.{OutOfMemory};
+ghost use Rattle.tls_codec_vec.specs.Contents.{elements_of};
+
+use std::alloc::Global;
+use std::marker::PhantomData;
+use std::slice::Iter;
+use tls_codec_base::LengthField;
+use tls_codec_wire::{Error, U24};
+
+#[derive(Drop)]
+#[derive_where(PartialEq, Eq, Hash, Debug; T)]
+pub struct TlsVec<F, T> {
+    vec: Vec<T>,
+    field: PhantomData<F>,
+}
+
+pub type TlsVecU8<T> = TlsVec<u8, T>;
+
+pub type TlsVecU16<T> = TlsVec<u16, T>;
+
+pub type TlsVecU24<T> = TlsVec<U24, T>;
+
+pub type TlsVecU32<T> = TlsVec<u32, T>;
+
+impl<F, T> TlsVec<F, T> {
+    /// These elements, which aren't copied.
+    pub fn new(vec: Vec<T>) -> TlsVec<F, T>
+        ensures { elements_of result ≡ vec.items }
+    {
+        TlsVec {
+            vec,
+            field: PhantomData,
+        }
+    }
+
+    /// No elements. No memory is asked for.
+    pub fn default(alloc: Global) -> TlsVec<F, T>
+        ensures { elements_of result ≡ [] }
+    {
+        TlsVec::new(Vec::new(alloc))
+    }
+
+    /// The number of elements.
+    pub fn len(&self) -> usize
+        ensures { result ≡ length (elements_of self.now) }
+    {
+        self.vec.len()
+    }
+
+    /// Whether there are none.
+    pub fn is_empty(&self) -> bool
+        ensures { result ≡ (length (elements_of self.now) == 0) }
+    {
+        self.vec.is_empty()
+    }
+
+    /// The elements.
+    pub fn as_slice(&self) -> &[T]
+        ensures { result.now ≡ elements_of self.now }
+    {
+        self.vec.as_slice()
+    }
+
+    /// The elements as a vector, which isn't a copy.
+    pub fn into_vec(self) -> Vec<T>
+        ensures { result.items ≡ elements_of self }
+    {
+        self.vec
+    }
+
+    /// The element at a place, if there is one.
+    pub fn get(&self, index: usize) -> Option<&T>
+        ensures { option_copied result ≡ slice_get (elements_of self.now) index }
+    {
+        self.vec.get(index)
+    }
+
+    /// The elements in order.
+    pub fn iter(&self) -> Iter<'_, T>
+        ensures { iter_rest result ≡ elements_of self.now }
+    {
+        self.vec.iter()
+    }
+
+    /// Takes the last element, if there is one.
+    pub fn pop(&mut self) -> Option<T>
+        ensures { MatchOption result ((elements_of self.old ≡ []) × (elements_of self.new ≡ []))
+            (λ element. elements_of self.old ≡ elements_of self.new ++ element ∷ []) }
+    {
+        self.vec.pop()
+    }
+
+    /// Takes the element at a place. Those behind it move one place to the front.
+    pub fn remove(&mut self, index: usize) -> T
+        requires { index < length (elements_of self.old) }
+        ensures value { slice_get (elements_of self.old) index ≡ Some result }
+        ensures rest { elements_of self.new ≡ remove (elements_of self.old) index }
+    {
+        self.vec.remove(index)
+    }
+}
+
+impl<F, T: Drop> TlsVec<F, T> {
+    /// Appends an element. `OutOfMemory`: there was no memory for it, and the list is as it was.
+    pub fn push(&mut self, value: T) -> Result<(), Error>
+        ensures elements { elements_of self.new ≡ (if is_ok result then elements_of self.old ++ value ∷ [] else elements_of self.old) }
+        ensures err { IfErr result (λ e. e ≡ OutOfMemory) }
+    {
+        match self.vec.push(value) {
+            Ok(()) => Ok(()),
+            Err(_) => Err(Error::OutOfMemory),
+        }
+    }
+}
+
+impl<F: LengthField, T> TlsVec<F, T> {
+    /// The number of bytes of the length in front of the elements.
+    pub fn len_len() -> usize
+        ensures { result ≡ F.field.width 0 }
+    {
+        F::width(0)
+    }
+}
