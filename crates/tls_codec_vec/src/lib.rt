@@ -1,13 +1,16 @@
 //! Vectors behind a length of one to four bytes (RFC 8446, section 3.4): the lists of TLS messages.
 //!
-//! A vector is its elements' length in bytes, and then the elements, one behind the other. There is
-//! one type over the length field, [`TlsVec`], and a name of it for each width.
+//! A vector is the number of bytes of its elements, and then the elements in a row. It is one type over
+//! the length field, [`TlsVec`], with a name for each width.
 //!
-//! - [`list`]: [`TlsVec`] and its calls, [`TlsVecU8`], [`TlsVecU16`], [`TlsVecU24`] and [`TlsVecU32`].
-//! - [`coding`]: how it is read and written.
+//! - [`list`]: [`TlsVec`] and its calls, and the names [`TlsVecU8`], [`TlsVecU16`], [`TlsVecU24`] and
+//!   [`TlsVecU32`].
+//! - [`laws`]: vectors are compared by their elements. It does nothing when it runs.
 #![tactic(auto)]
 
 mod coding;
+mod conversions;
+pub mod laws;
 pub mod list;
 
 pub use list::{TlsVec, TlsVecU8, TlsVecU16, TlsVecU24, TlsVecU32};

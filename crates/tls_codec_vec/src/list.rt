@@ -1,18 +1,20 @@
 //! [`TlsVec`], a list of elements, and what is done with it.
 ghost use Rattle.std.specs.Prelude.{◌≡◌, ◌==◌, ◌<◌, [], ◌∷◌, ◌++◌, is_ok, if◌then◌else◌, length, slice_get, slice_index_or, option_copied, IfErr, IfOk, MatchOption};
 ghost use Rattle.std.specs.Fn.{CalledAt};
-ghost use Rattle.std.specs.Iterator.{Drains, IsFinite};
-ghost use Rattle.std.specs.List.{All, remove};
+ghost use Rattle.std.specs.Iterator.{Drains, IsFiniteIterable};
+ghost use Rattle.std.specs.List.{remove};
 ghost use Rattle.std.specs.List.Retain.{IsFiltered};
 ghost use Rattle.std.specs.Slice.Iter.{iter_rest};
 ghost use Rattle.tls_codec_wire.specs.declared.error.Error.TheVariants.{OutOfMemory};
-ghost use Rattle.tls_codec_vec.specs.Contents.{elements_of};
+ghost use Rattle.tls_codec_vec.specs.Contents.{AreCloned, elements_of};
 
 use std::alloc::Global;
 use std::marker::PhantomData;
 use std::slice::Iter;
 use tls_codec_base::LengthField;
 use tls_codec_wire::{Error, U24};
+
+mod indexing;
 
 #[derive(Drop)]
 #[derive_where(PartialEq, Eq, Hash, Debug; T)]
@@ -117,6 +119,52 @@ impl<F, T: Drop> TlsVec<F, T> {
             Ok(()) => Ok(()),
             Err(_) => Err(Error::OutOfMemory),
         }
+    }
+
+    /// Keeps the elements for which the closure answers true, in their order. It is asked once for each
+    /// element, from the first to the last.
+    pub fn retain<P: FnMut(&T) -> bool>(&mut self, f: P)
+        requires { P.IsAlwaysCallable f }
+        ensures { IsFiltered (CalledAt P.FnMut) f (elements_of self.old) (elements_of self.new) }
+    {
+        self.vec.retain(f);
+    }
+
+    /// The elements that an iterator gives. `OutOfMemory`: there was no memory for them, and those that
+    /// it gave are dropped.
+    pub fn try_from_iter<I: IntoIterator<Item = T>>(
+        alloc: Global,
+        iter: I,
+    ) -> Result<TlsVec<F, T>, Error>
+        requires ends { IsFiniteIterable I.into_iter_gives I.IntoIter.can_next I.IntoIter.remaining iter }
+        ensures ok { IfOk result (λ v. (it : I.IntoIter) × I.into_iter_gives iter it × Drains I.IntoIter.next_gives it (elements_of v)) }
+        ensures err { IfErr result (λ e. e ≡ OutOfMemory) }
+    {
+        let vec = Vec::from_iter(alloc, iter)?;
+        Ok(TlsVec::new(vec))
+    }
+}
+
+impl<F, T: Clone> TlsVec<F, T> {
+    /// A clone of each of these elements. `OutOfMemory`: there was no memory for them.
+    pub fn from_slice(alloc: Global, elements: &[T]) -> Result<TlsVec<F, T>, Error>
+        requires { AreCloned T.is_clone elements.now }
+        ensures ok { IfOk result (λ v. elements_of v ≡ elements.now) }
+        ensures err { IfErr result (λ e. e ≡ OutOfMemory) }
+    {
+        let mut vec = Vec::new(alloc);
+        vec.extend_with_clones(elements)?;
+        Ok(TlsVec::new(vec))
+    }
+
+    /// A clone of each element, by the allocator that the list was made with. `OutOfMemory`: there was
+    /// no memory for them.
+    pub fn clone(&self) -> Result<TlsVec<F, T>, Error>
+        requires { AreCloned T.is_clone (elements_of self.now) }
+        ensures ok { IfOk result (λ v. elements_of v ≡ elements_of self.now) }
+        ensures err { IfErr result (λ e. e ≡ OutOfMemory) }
+    {
+        TlsVec::from_slice(*self.vec.allocator(), self.as_slice())
     }
 }
 
