@@ -12,5 +12,7 @@ mod coding;
 mod conversions;
 pub mod laws;
 pub mod list;
+#[cfg(test)]
+mod tests;
 
 pub use list::{TlsVec, TlsVecU8, TlsVecU16, TlsVecU24, TlsVecU32};

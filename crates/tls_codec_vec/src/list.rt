@@ -2,6 +2,7 @@
 ghost use Rattle.std.specs.Prelude.{◌≡◌, ◌==◌, ◌<◌, [], ◌∷◌, ◌++◌, is_ok, if◌then◌else◌, length, slice_get, slice_index_or, option_copied, IfErr, IfOk, MatchOption};
 ghost use Rattle.std.specs.Fn.{CalledAt};
 ghost use Rattle.std.specs.Iterator.{Drains, IsFiniteIterable};
+ghost use Rattle.std.specs.Iterator.Adapters.{IterYieldsInOrder, IterYieldsInReverse};
 ghost use Rattle.std.specs.List.{remove};
 ghost use Rattle.std.specs.List.Retain.{IsFiltered};
 ghost use Rattle.std.specs.Slice.Iter.{iter_rest};
@@ -16,19 +17,34 @@ use tls_codec_wire::{Error, U24};
 
 mod indexing;
 
+/// A list of elements, which are spelled behind the number of their bytes. `F` is the form of that number.
+///
+/// It is compared and hashed as the list is. Nothing keeps it from holding more bytes than `F` can count:
+/// then it is `InvalidVectorLength` from each encoder.
+///
+/// ```rust
+/// let suites = TlsVecU16::from_slice(alloc, &[0x1301u16, 0x1302])?;
+/// let form = suites.tls_serialize_detached(alloc)?;
+/// assert_eq!(rt; form.as_slice(), [0, 4, 0x13, 0x01, 0x13, 0x02].as_slice());
+/// ```
 #[derive(Drop)]
 #[derive_where(PartialEq, Eq, Hash, Debug; T)]
 pub struct TlsVec<F, T> {
     vec: Vec<T>,
+    #[derive_where(skip)]
     field: PhantomData<F>,
 }
 
+/// A list of up to 255 bytes, `<0..2^8-1>` in the presentation language.
 pub type TlsVecU8<T> = TlsVec<u8, T>;
 
+/// A list of up to 65,535 bytes, `<0..2^16-1>`.
 pub type TlsVecU16<T> = TlsVec<u16, T>;
 
+/// A list of up to 16,777,215 bytes, `<0..2^24-1>`.
 pub type TlsVecU24<T> = TlsVec<U24, T>;
 
+/// A list of up to 4,294,967,295 bytes, `<0..2^32-1>`.
 pub type TlsVecU32<T> = TlsVec<u32, T>;
 
 impl<F, T> TlsVec<F, T> {
@@ -86,7 +102,9 @@ impl<F, T> TlsVec<F, T> {
 
     /// The elements in order.
     pub fn iter(&self) -> Iter<'_, T>
-        ensures { iter_rest result ≡ elements_of self.now }
+        ensures rest { iter_rest result ≡ elements_of self.now }
+        ensures runs { IterYieldsInOrder T }
+        ensures runs_back { IterYieldsInReverse T }
     {
         self.vec.iter()
     }
@@ -169,7 +187,7 @@ impl<F, T: Clone> TlsVec<F, T> {
 }
 
 impl<F: LengthField, T> TlsVec<F, T> {
-    /// The number of bytes of the length in front of the elements.
+    /// The number of bytes of the length in front of the elements: 1, 2, 3 or 4 under the names by width.
     pub fn len_len() -> usize
         ensures { result ≡ F.field.width 0 }
     {

@@ -1,0 +1,4 @@
+// Worked values of the four names, by each call.
+mod callers;
+mod calls;
+mod coding;
