@@ -16,6 +16,7 @@ use tls_codec_base::LengthField;
 use tls_codec_wire::{Error, U24};
 
 mod indexing;
+mod show;
 
 /// A list of elements, which are spelled behind the number of their bytes. `F` is the form of that number.
 ///
@@ -28,7 +29,7 @@ mod indexing;
 /// assert_eq!(rt; form.as_slice(), [0, 4, 0x13, 0x01, 0x13, 0x02].as_slice());
 /// ```
 #[derive(Drop)]
-#[derive_where(PartialEq, Eq, Hash, Debug; T)]
+#[derive_where(PartialEq, Eq, Hash; T)]
 pub struct TlsVec<F, T> {
     vec: Vec<T>,
     #[derive_where(skip)]
