@@ -1,7 +1,8 @@
-use Rattle.std.proofs.Common.{◌∙◌}
+use Rattle.std.proofs.Common.{rules}
 use Rattle.tls_codec_vec.proofs.Clones.{appended_same}
 use Rattle.tls_codec_vec.proofs.list.TlsVec.from_slice.Goals as goal
 
 pub returns-clause-ok : goal.returns-clause-ok
 returns-clause-ok g c =
-    c.new.ensures ∙ appended_same g.T.Clone.is_clone _ _ _ c.new-vec.ensures.items c.requires c.in_ok-extend_with_clones.ensures.items
+    let same = appended_same g.T.Clone.is_clone _ _ _ c.new-vec.ensures.items c.requires c.in_ok-extend_with_clones.ensures.items in
+    search rules
