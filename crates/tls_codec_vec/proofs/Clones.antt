@@ -1,9 +1,9 @@
 -- Clones that equal what they were made of.
 use Rattle.std.proofs.Common.{◌≡◌, List, [], ◌∷◌, ◌++◌, suc, refl, ap, ◌∙◌, arith}
 use Rattle.std.specs.List.{AllZip, AppendsClones}
-use Rattle.tls_codec_vec.specs.Contents.{AreCloned}
+use Rattle.tls_codec_vec.specs.Contents.{ClonesAreEqual}
 
-cloned_same : {T : Type 0} (is_clone : T → T → Type 0) (xs ys : List T) → AreCloned is_clone xs → AllZip is_clone xs ys → ys ≡ xs
+cloned_same : {T : Type 0} (is_clone : T → T → Type 0) (xs ys : List T) → ClonesAreEqual is_clone xs → AllZip is_clone xs ys → ys ≡ xs
 cloned_same is_clone [] [] same each = refl
 cloned_same is_clone [] (y ∷ ys) same each = absurd each
 cloned_same is_clone (x ∷ xs) [] same each = absurd each
@@ -13,6 +13,6 @@ cloned_same is_clone (x ∷ xs) (y ∷ ys) same each =
     λ i. first i ∷ others i
 
 -- behind no elements, clones of xs are xs
-pub appended_same : {T : Type 0} (is_clone : T → T → Type 0) (old new xs : List T) → old ≡ [] → AreCloned is_clone xs → AppendsClones is_clone old new xs → new ≡ xs
+pub appended_same : {T : Type 0} (is_clone : T → T → Type 0) (old new xs : List T) → old ≡ [] → ClonesAreEqual is_clone xs → AppendsClones is_clone old new xs → new ≡ xs
 appended_same is_clone old new xs none same clones =
     clones.1 ∙ (ap (λ o. o ++ clones.0) none ∙ cloned_same is_clone xs clones.0 same clones.2)

@@ -12,5 +12,5 @@ abbrev pub with_element : {F T : Type 0} → TlsVec F T → ℕ → T → TlsVec
 with_element v i x = record v { vec = with_item v.vec i x }
 
 -- a clone of each element equals it
-abbrev pub AreCloned : {T : Type 0} → (T → T → Type 0) → List T → Type 0
-AreCloned {T} is_clone elements = All (λ x. (y : T) → is_clone x y → y ≡ x) elements
+abbrev pub ClonesAreEqual : {T : Type 0} → (T → T → Type 0) → List T → Type 0
+ClonesAreEqual {T} is_clone elements = All (λ x. (y : T) → is_clone x y → y ≡ x) elements

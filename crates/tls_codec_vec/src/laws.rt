@@ -1,14 +1,28 @@
-//! Vectors are compared and hashed as the lists of their elements are.
+//! Vectors are spelled as lists behind one to four bytes, and compared and hashed as the lists of their
+//! elements are.
 //!
 //! The functions do nothing. Their contracts state this, and so are proved.
-ghost use Rattle.std.specs.Prelude.{◌≡◌};
+ghost use Rattle.std.specs.Prelude.{◌≡◌, ◌↔◌, ℕ, List};
 ghost use Rattle.std.specs.Cmp.Lexicographic.{pointwise};
 ghost use Rattle.std.specs.Hash as fed;
+ghost use Rattle.tls_codec_base.specs.Tree.{Tree};
+ghost use Rattle.tls_codec_base.specs.Grammar.{Direction, fixed_list};
 ghost use Rattle.tls_codec_vec.specs.Contents.{elements_of};
 ghost use Rattle.tls_codec_vec.specs.declared.list.TlsVec.{TlsVec};
 
 use crate::TlsVec;
 use std::hash::Hash;
+use tls_codec_base::Size;
+use tls_codec_wire::U24;
+
+/// The four names have the spellings of a list whose length has one to four bytes (RFC 8446, section
+/// 3.4).
+pub fn vectors_are_lists_behind_one_to_four_bytes<T: Size>()
+    ensures one { (d : Direction) (b : List ℕ) (v : Tree) → ⟦<TlsVec<u8, T> as Size>⟧.format.spells d b v ↔ fixed_list 1 T.format.spells d b v }
+    ensures two { (d : Direction) (b : List ℕ) (v : Tree) → ⟦<TlsVec<u16, T> as Size>⟧.format.spells d b v ↔ fixed_list 2 T.format.spells d b v }
+    ensures three { (d : Direction) (b : List ℕ) (v : Tree) → ⟦<TlsVec<U24, T> as Size>⟧.format.spells d b v ↔ fixed_list 3 T.format.spells d b v }
+    ensures four { (d : Direction) (b : List ℕ) (v : Tree) → ⟦<TlsVec<u32, T> as Size>⟧.format.spells d b v ↔ fixed_list 4 T.format.spells d b v }
+{}
 
 /// Two vectors are equal where they have as many elements and these are equal, place by place, and are
 /// hashed as the slice of their elements is.

@@ -5,7 +5,7 @@
 //!
 //! - [`list`]: [`TlsVec`] and its calls, and the names [`TlsVecU8`], [`TlsVecU16`], [`TlsVecU24`] and
 //!   [`TlsVecU32`].
-//! - [`laws`]: vectors are compared by their elements. It does nothing when it runs.
+//! - [`laws`]: what vectors are spelled and compared as. It does nothing when it runs.
 #![tactic(auto)]
 
 mod coding;

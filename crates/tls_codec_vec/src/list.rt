@@ -7,7 +7,7 @@ ghost use Rattle.std.specs.List.{remove};
 ghost use Rattle.std.specs.List.Retain.{IsFiltered};
 ghost use Rattle.std.specs.Slice.Iter.{iter_rest};
 ghost use Rattle.tls_codec_wire.specs.declared.error.Error.TheVariants.{OutOfMemory};
-ghost use Rattle.tls_codec_vec.specs.Contents.{AreCloned, elements_of};
+ghost use Rattle.tls_codec_vec.specs.Contents.{ClonesAreEqual, elements_of};
 
 use std::alloc::Global;
 use std::marker::PhantomData;
@@ -167,7 +167,7 @@ impl<F, T: Drop> TlsVec<F, T> {
 impl<F, T: Clone> TlsVec<F, T> {
     /// A clone of each of these elements. `OutOfMemory`: there was no memory for them.
     pub fn from_slice(alloc: Global, elements: &[T]) -> Result<TlsVec<F, T>, Error>
-        requires { AreCloned T.is_clone elements.now }
+        requires { ClonesAreEqual T.is_clone elements.now }
         ensures ok { IfOk result (λ v. elements_of v ≡ elements.now) }
         ensures err { IfErr result (λ e. e ≡ OutOfMemory) }
     {
@@ -179,7 +179,7 @@ impl<F, T: Clone> TlsVec<F, T> {
     /// A clone of each element, by the allocator that the list was made with. `OutOfMemory`: there was
     /// no memory for them.
     pub fn clone(&self) -> Result<TlsVec<F, T>, Error>
-        requires { AreCloned T.is_clone (elements_of self.now) }
+        requires { ClonesAreEqual T.is_clone (elements_of self.now) }
         ensures ok { IfOk result (λ v. elements_of v ≡ elements_of self.now) }
         ensures err { IfErr result (λ e. e ≡ OutOfMemory) }
     {

@@ -1,5 +1,7 @@
 //! The calls that read and write no bytes.
-use crate::laws::vectors_are_compared_by_their_elements;
+use crate::laws::{
+    vectors_are_compared_by_their_elements, vectors_are_lists_behind_one_to_four_bytes,
+};
 use crate::{TlsVecU8, TlsVecU16, TlsVecU24, TlsVecU32};
 use std::hash::{DefaultHasher, Hash, Hasher};
 use std::test::Fail;
@@ -80,6 +82,7 @@ fn hash_of<T: Hash>(value: &T) -> u64 {
 #[test]
 fn lists_are_compared_by_their_elements(rt: HostRuntime) -> Result<(), Fail> {
     vectors_are_compared_by_their_elements::<u8, u16>();
+    vectors_are_lists_behind_one_to_four_bytes::<u16>();
     let alloc = rt.alloc();
     let list = TlsVecU24::from_slice(alloc, &[1u16, 2])?;
     let other = TlsVecU24::from_slice(alloc, &[1u16, 3])?;
