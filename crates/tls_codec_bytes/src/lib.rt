@@ -1,0 +1,15 @@
+//! Byte vectors behind a length of one to four bytes (RFC 8446, section 3.4): `opaque` of TLS 1.3, such
+//! as `opaque session_id<0..32>`.
+//!
+//! Their bytes are moved in bulk. A declared length asks for no memory: room is made as the bytes come.
+//!
+//! - [`bytes`]: [`TlsByteVec`] and its own calls, under a name for each width.
+//! - [`coding`]: how it is written and read.
+//! - [`laws`]: vectors are compared by their bytes. It does nothing when it runs.
+#![tactic(auto)]
+
+pub mod bytes;
+pub mod coding;
+pub mod laws;
+
+pub use bytes::{TlsByteVec, TlsByteVecU8, TlsByteVecU16, TlsByteVecU24, TlsByteVecU32};
