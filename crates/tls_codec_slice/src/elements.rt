@@ -5,7 +5,7 @@ ghost use Rattle.tls_codec_base.specs.Format.{fixed_list_format};
 ghost use Rattle.tls_codec_base.specs.laws.FormatLaws.{fixed_list_meets};
 ghost use Rattle.tls_codec_slice.specs.Contents.{u8_elements_of, u16_elements_of, u24_elements_of, u32_elements_of};
 
-use std::alloc::Global;
+use std::alloc::{AllocError, Global};
 use tls_codec_base::{Serialize, Size, counted};
 use tls_codec_wire::{Error, Sink, U24};
 
@@ -17,8 +17,17 @@ use tls_codec_wire::{Error, Sink, U24};
 /// let count = TlsSliceU8(&[1u16, 2]).tls_serialize(&mut out)?;
 /// assert_eq!(rt; out.as_slice(), [0x04, 0x00, 0x01, 0x00, 0x02].as_slice());
 /// ```
-#[derive(Clone, Copy)]
 pub struct TlsSliceU8<'a, T>(pub &'a [T]);
+
+impl<'a, T> Clone for TlsSliceU8<'a, T> {
+    ghost is_clone = { λ v copy. copy ≡ v };
+
+    fn clone(&self) -> Result<TlsSliceU8<'a, T>, AllocError> {
+        Ok(*self)
+    }
+}
+
+impl<'a, T> Copy for TlsSliceU8<'a, T> {}
 
 impl<'a, T> TlsSliceU8<'a, T> {
     /// The elements.
@@ -90,8 +99,17 @@ impl<'a, T: Serialize> Serialize for &TlsSliceU8<'a, T> {
 }
 
 /// Borrowed elements, behind their length in bytes, which has two bytes.
-#[derive(Clone, Copy)]
 pub struct TlsSliceU16<'a, T>(pub &'a [T]);
+
+impl<'a, T> Clone for TlsSliceU16<'a, T> {
+    ghost is_clone = { λ v copy. copy ≡ v };
+
+    fn clone(&self) -> Result<TlsSliceU16<'a, T>, AllocError> {
+        Ok(*self)
+    }
+}
+
+impl<'a, T> Copy for TlsSliceU16<'a, T> {}
 
 impl<'a, T> TlsSliceU16<'a, T> {
     /// The elements.
@@ -163,8 +181,17 @@ impl<'a, T: Serialize> Serialize for &TlsSliceU16<'a, T> {
 }
 
 /// Borrowed elements, behind their length in bytes, which has three bytes.
-#[derive(Clone, Copy)]
 pub struct TlsSliceU24<'a, T>(pub &'a [T]);
+
+impl<'a, T> Clone for TlsSliceU24<'a, T> {
+    ghost is_clone = { λ v copy. copy ≡ v };
+
+    fn clone(&self) -> Result<TlsSliceU24<'a, T>, AllocError> {
+        Ok(*self)
+    }
+}
+
+impl<'a, T> Copy for TlsSliceU24<'a, T> {}
 
 impl<'a, T> TlsSliceU24<'a, T> {
     /// The elements.
@@ -236,8 +263,17 @@ impl<'a, T: Serialize> Serialize for &TlsSliceU24<'a, T> {
 }
 
 /// Borrowed elements, behind their length in bytes, which has four bytes.
-#[derive(Clone, Copy)]
 pub struct TlsSliceU32<'a, T>(pub &'a [T]);
+
+impl<'a, T> Clone for TlsSliceU32<'a, T> {
+    ghost is_clone = { λ v copy. copy ≡ v };
+
+    fn clone(&self) -> Result<TlsSliceU32<'a, T>, AllocError> {
+        Ok(*self)
+    }
+}
+
+impl<'a, T> Copy for TlsSliceU32<'a, T> {}
 
 impl<'a, T> TlsSliceU32<'a, T> {
     /// The elements.
