@@ -1,5 +1,5 @@
 //! [`TlsByteVec`], bytes that it owns, and its own calls.
-ghost use Rattle.std.specs.Prelude.{◌≡◌, ◌<◌, ◌↔◌, ℕ, [], ◌∷◌, ◌++◌, is_ok, if◌then◌else◌, length, IfErr, IfOk, IsOk, IsTrue, MatchOption, Some, nat_eq, option_copied, slice_get};
+ghost use Rattle.std.specs.Prelude.{◌≡◌, ◌<◌, ◌^◌, ◌↔◌, ℕ, [], ◌∷◌, ◌++◌, is_ok, if◌then◌else◌, length, IfErr, IfOk, IsOk, IsTrue, MatchOption, Some, nat_eq, option_copied, slice_get};
 ghost use Rattle.std.specs.Borrow.{sem};
 ghost use Rattle.std.specs.Cmp.{on_equiv, on_per, partial_equiv_from_equiv};
 ghost use Rattle.std.specs.Cmp.Lexicographic.{nat_list_eq_equiv, pointwise};
@@ -133,7 +133,7 @@ impl<F> TlsByteVec<F> {
     pub fn into_vec(self) -> Vec<u8>
         ensures { result.items ≡ bytes_of self }
     {
-        self.vec
+        Vec::from(self)
     }
 
     /// The byte at a place, if there is one.
@@ -146,10 +146,11 @@ impl<F> TlsByteVec<F> {
     /// The bytes one by one, from either end.
     pub fn iter(&self) -> slice::Iter<'_, u8>
         ensures rest { iter_rest result ≡ bytes_of self.now }
+        ensures bound { length (iter_rest result) < 2 ^ 64 }
         ensures runs { IterYieldsInOrder ℕ }
         ensures runs_back { IterYieldsInReverse ℕ }
     {
-        self.vec.as_slice().iter()
+        self.as_slice().iter()
     }
 
     /// Appends a byte. `OutOfMemory`: there was no memory for it, and the bytes are as they were.

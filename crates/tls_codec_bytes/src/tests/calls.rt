@@ -1,0 +1,104 @@
+// The calls that write and read nothing.
+use crate::laws::byte_vecs_are_compared_by_their_bytes;
+use crate::{TlsByteVec, TlsByteVecU8};
+use std::alloc::Global;
+use std::hash::{DefaultHasher, Hash, Hasher};
+use std::process::Abort;
+use std::test::Fail;
+use tls_codec_base::LengthField;
+use tls_codec_wire::U24;
+
+fn hash_of<T: Hash>(value: &T) -> u64 {
+    let mut state = DefaultHasher::new();
+    value.hash(&mut state);
+    state.finish()
+}
+
+// Calls that change the bytes.
+fn are_changed<F>(rt: &impl Abort, alloc: Global) -> Result<(), Fail> {
+    let mut bytes = TlsByteVec::<F>::default(alloc);
+    assert_eq!(rt; bytes.pop(), None);
+    bytes.push(1)?;
+    bytes.push(2)?;
+    assert_eq!(rt; bytes.pop(), Some(2));
+    assert_eq!(rt; bytes.as_slice(), [1].as_slice());
+
+    let mut bytes = TlsByteVec::<F>::from_slice(alloc, &[5, 6, 7, 8])?;
+    assert_eq!(rt; bytes.remove(1), 6);
+    bytes[2] = 9;
+    assert_eq!(rt; bytes.as_slice(), [5, 7, 9].as_slice());
+    assert_eq!(rt; bytes[2], 9);
+
+    let mut bytes = TlsByteVec::<F>::try_from_iter(alloc, 0..6u8)?;
+    bytes.retain(|byte| *byte != 0 && *byte != 3);
+    assert_eq!(rt; bytes.as_slice(), [1, 2, 4, 5].as_slice());
+    Ok(())
+}
+
+// Calls that only look.
+fn are_seen<F>(rt: &impl Abort, alloc: Global) -> Result<(), Fail> {
+    let bytes = TlsByteVec::<F>::from_slice(alloc, &[5, 6])?;
+    assert_eq!(rt; bytes.len(), 2);
+    assert!(rt; !bytes.is_empty());
+    assert!(rt; TlsByteVec::<F>::default(alloc).is_empty());
+    assert_eq!(rt; bytes.get(1), Some(&6));
+    assert_eq!(rt; bytes.get(2), None);
+    let mut iter = bytes.iter();
+    assert_eq!(rt; iter.next(), Some(&5));
+    assert_eq!(rt; iter.next_back(), Some(&6));
+    assert_eq!(rt; iter.next(), None);
+    let text = format!(in alloc; "{bytes:?}")?;
+    assert_eq!(rt; text.as_str(), "TlsByteVec { vec: [5, 6] }");
+
+    let copy = bytes.clone()?;
+    assert!(rt; copy == bytes);
+    assert_eq!(rt; hash_of(&copy), hash_of(&bytes));
+    assert!(rt; bytes != TlsByteVec::<F>::from_slice(alloc, &[5, 7])?);
+    let content: Vec<u8> = copy.into();
+    assert_eq!(rt; content.as_slice(), [5, 6].as_slice());
+    assert!(rt; TlsByteVec::<F>::from(content) == bytes);
+    assert_eq!(rt; bytes.into_vec().as_slice(), [5, 6].as_slice());
+    Ok(())
+}
+
+#[test]
+fn calls_on_each_width(rt: HostRuntime) -> Result<(), Fail> {
+    let alloc = rt.alloc();
+    are_changed::<u8>(&rt, alloc)?;
+    are_seen::<u8>(&rt, alloc)?;
+    are_changed::<u16>(&rt, alloc)?;
+    are_seen::<u16>(&rt, alloc)?;
+    are_changed::<U24>(&rt, alloc)?;
+    are_seen::<U24>(&rt, alloc)?;
+    are_changed::<u32>(&rt, alloc)?;
+    are_seen::<u32>(&rt, alloc)?;
+    byte_vecs_are_compared_by_their_bytes::<U24>();
+    Ok(())
+}
+
+fn length_length<F: LengthField>() -> usize {
+    TlsByteVec::<F>::len_len()
+}
+
+#[test]
+fn widths_of_lengths(rt: HostRuntime) {
+    assert_eq!(rt; TlsByteVecU8::len_len(), 1);
+    assert_eq!(rt; length_length::<u16>(), 2);
+    assert_eq!(rt; length_length::<U24>(), 3);
+    assert_eq!(rt; length_length::<u32>(), 4);
+}
+
+// It is asked once for each byte, from the first on.
+#[test]
+fn each_byte_is_asked_for_once(rt: HostRuntime) -> Result<(), Fail> {
+    let alloc = rt.alloc();
+    let mut bytes = TlsByteVecU8::from_slice(alloc, &[1, 2, 3])?;
+    let mut asked = 0u32;
+    bytes.retain(|byte| {
+        asked = asked.wrapping_mul(10).wrapping_add(*byte as u32);
+        *byte == 2
+    });
+    assert_eq!(rt; asked, 123);
+    assert_eq!(rt; bytes.as_slice(), [2].as_slice());
+    Ok(())
+}
