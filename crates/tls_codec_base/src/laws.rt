@@ -7,9 +7,9 @@ ghost use Rattle.std.specs.Prelude.{◌≡◌, ◌↔◌, ℕ, ◌≤◌, ◌^�
 ghost use Rattle.tls_codec_wire.specs.Digits.{AreBytes};
 ghost use Rattle.tls_codec_wire.specs.Varint.{Varint};
 ghost use Rattle.tls_codec_wire.specs.VarintCalls.{LeastVarint};
-ghost use Rattle.tls_codec_base.specs.Tree.{Tree, Empty, Join, Number, number_trees, trees};
+ghost use Rattle.tls_codec_base.specs.Tree.{Tree, Empty, Join, number_trees, trees};
 ghost use Rattle.tls_codec_base.specs.Decoding.{ComesFirst, GaveSpelling};
-ghost use Rattle.tls_codec_base.specs.Format.{counted_bytes_format, counted_list_format, fields_format, fixed_list_format, list_format, nothing_format, number_format, option_format, text_format};
+ghost use Rattle.tls_codec_base.specs.Format.{counted_bytes_format, counted_list_format, fields_format, fixed_list_format, list_format, nothing_format, option_format, text_format};
 ghost use Rattle.tls_codec_base.specs.Lawful.{MeetsLaws};
 ghost use Rattle.tls_codec_base.specs.Grammar.{Counted, Direction, Row, content};
 ghost use Rattle.tls_codec_base.specs.Shortest.{IsLeast, IsShortest};
@@ -47,7 +47,7 @@ pub fn equal_bytes_have_equal_spellings<F: LengthField>()
     ensures bytes { (d : Direction) (s contents : List ℕ) → AreBytes contents
         → ((counted_bytes_format F.field).spells d s (number_trees contents) ↔ Counted F.field.spells s (λ c. c ≡ contents)) }
     ensures lists { (d : Direction) (s contents : List ℕ) → AreBytes contents
-        → ((counted_list_format F.field (number_format 1)).spells d s (trees Number contents) ↔ Counted F.field.spells s (λ c. c ≡ contents)) }
+        → ((counted_list_format F.field ⟦<u8 as Size>⟧.format).spells d s (trees ⟦<u8 as Size>⟧.plain contents) ↔ Counted F.field.spells s (λ c. c ≡ contents)) }
 {}
 
 /// An integer's spellings of the least width are its shortest ones.
