@@ -7,8 +7,12 @@ use std::alloc::{AllocError, Global};
 /// A value, or a plain copy, that is timed.
 #[derive(Clone, Copy, PartialEq, Eq, Debug)]
 pub enum Case {
-    /// No codec: bytes copied to a vector of their own.
-    Copy,
+    /// No codec: 64 bytes, copied to a vector of their own.
+    Copy64,
+    /// The same with 4,096 bytes.
+    Copy4096,
+    /// The same with a mebibyte.
+    Copy1048576,
     /// 64 bytes.
     Bytes64,
     /// 4,096 bytes.
@@ -19,6 +23,8 @@ pub enum Case {
     Numbers512,
     /// 65,536 numbers of 16 bits.
     Numbers65536,
+    /// The same behind a length of four bytes.
+    FixedNumbers65536,
     /// 256 lists of 64 numbers of 16 bits.
     Lists,
     /// 64 bytes, moved in bulk.
@@ -27,6 +33,8 @@ pub enum Case {
     Vl4096,
     /// A mebibyte, moved in bulk.
     Vl1048576,
+    /// The same behind a length of four bytes.
+    Fixed1048576,
     /// 1,000 byte vectors of 32 bytes.
     VlLists,
     /// Lists nested eight deep over one byte.
@@ -44,17 +52,21 @@ pub enum Case {
 }
 
 /// The cases, in the order in which they are timed.
-pub const CASES: [Case; 17] = [
-    Case::Copy,
+pub const CASES: [Case; 21] = [
+    Case::Copy64,
+    Case::Copy4096,
+    Case::Copy1048576,
     Case::Bytes64,
     Case::Bytes4096,
     Case::Bytes1048576,
     Case::Numbers512,
     Case::Numbers65536,
+    Case::FixedNumbers65536,
     Case::Lists,
     Case::Vl64,
     Case::Vl4096,
     Case::Vl1048576,
+    Case::Fixed1048576,
     Case::VlLists,
     Case::DeepOne,
     Case::DeepTwo,
@@ -70,16 +82,20 @@ impl Case {
         ensures { result.now ≡ name_of self.now }
     {
         match self {
-            Case::Copy => "copy 1048576",
+            Case::Copy64 => "copy 64",
+            Case::Copy4096 => "copy 4096",
+            Case::Copy1048576 => "copy 1048576",
             Case::Bytes64 => "Vec<u8> 64",
             Case::Bytes4096 => "Vec<u8> 4096",
             Case::Bytes1048576 => "Vec<u8> 1048576",
             Case::Numbers512 => "Vec<u16> 512",
             Case::Numbers65536 => "Vec<u16> 65536",
+            Case::FixedNumbers65536 => "TlsVecU32<u16> 65536",
             Case::Lists => "Vec<Vec<u16>> 256x64",
             Case::Vl64 => "VLBytes 64",
             Case::Vl4096 => "VLBytes 4096",
             Case::Vl1048576 => "VLBytes 1048576",
+            Case::Fixed1048576 => "TlsByteVecU32 1048576",
             Case::VlLists => "Vec<VLBytes> 1000x32",
             Case::DeepOne => "8 deep, one element a level",
             Case::DeepTwo => "8 deep, two elements a level",

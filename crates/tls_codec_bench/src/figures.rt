@@ -2,7 +2,7 @@
 ghost use Rattle.std.specs.Prelude.{◌≡◌, [], length, IfOk};
 ghost use Rattle.tls_codec_base.specs.Shortest.{IsShortest};
 ghost use Rattle.tls_codec_bench.specs.Figures.{BeginsWith, IsLengthOf, IsOfCopy};
-ghost use Rattle.tls_codec_bench.specs.declared.cases.Case.TheVariants.{Copy};
+ghost use Rattle.tls_codec_bench.specs.declared.cases.Case.TheVariants.{Copy1048576, Copy4096, Copy64};
 
 use crate::cases::Case;
 use crate::fault::BenchFault;
@@ -13,6 +13,8 @@ use std::alloc::{AllocError, Global};
 use std::cell::Cell;
 use std::rt::Clock;
 use tls_codec_base::{Deserialize, DeserializeBytes, Serialize};
+use tls_codec_bytes::TlsByteVecU32;
+use tls_codec_vec::TlsVecU32;
 use tls_codec_vl::VLBytes;
 use tls_codec_wire::Error;
 
@@ -47,19 +49,25 @@ pub struct Figures {
 ///
 /// The faults are those of [`time`], and `Memory`.
 pub fn measure<C: Clock>(alloc: Global, clock: &C, case: Case) -> Result<Figures, BenchFault>
-    ensures copy { case ≡ Copy → IfOk result (IsOfCopy 1048576) }
+    ensures least { case ≡ Copy64 → IfOk result (IsOfCopy 64) }
+    ensures page { case ≡ Copy4096 → IfOk result (IsOfCopy 4096) }
+    ensures greatest { case ≡ Copy1048576 → IfOk result (IsOfCopy 1048576) }
 {
     match case {
-        Case::Copy => measure_copy(alloc, clock, 1_048_576),
+        Case::Copy64 => measure_copy(alloc, clock, 64),
+        Case::Copy4096 => measure_copy(alloc, clock, 4096),
+        Case::Copy1048576 => measure_copy(alloc, clock, 1_048_576),
         Case::Bytes64 => measure_codec::<Vec<u8>, C>(alloc, clock, &[64]),
         Case::Bytes4096 => measure_codec::<Vec<u8>, C>(alloc, clock, &[4096]),
         Case::Bytes1048576 => measure_codec::<Vec<u8>, C>(alloc, clock, &[1_048_576]),
         Case::Numbers512 => measure_codec::<Vec<u16>, C>(alloc, clock, &[512]),
         Case::Numbers65536 => measure_codec::<Vec<u16>, C>(alloc, clock, &[65_536]),
+        Case::FixedNumbers65536 => measure_codec::<TlsVecU32<u16>, C>(alloc, clock, &[65_536]),
         Case::Lists => measure_codec::<Vec<Vec<u16>>, C>(alloc, clock, &[256, 64]),
         Case::Vl64 => measure_codec::<VLBytes, C>(alloc, clock, &[64]),
         Case::Vl4096 => measure_codec::<VLBytes, C>(alloc, clock, &[4096]),
         Case::Vl1048576 => measure_codec::<VLBytes, C>(alloc, clock, &[1_048_576]),
+        Case::Fixed1048576 => measure_codec::<TlsByteVecU32, C>(alloc, clock, &[1_048_576]),
         Case::VlLists => measure_codec::<Vec<VLBytes>, C>(alloc, clock, &[1000, 32]),
         Case::DeepOne => measure_codec::<Eight, C>(alloc, clock, &[1; 8]),
         Case::DeepTwo => measure_codec::<Eight, C>(alloc, clock, &[2; 8]),

@@ -1,6 +1,8 @@
 //! Values over the bytes of a noise, so that none is constant.
 use crate::noise::Noise;
 use std::alloc::{AllocError, Global};
+use tls_codec_bytes::TlsByteVec;
+use tls_codec_vec::TlsVec;
 use tls_codec_vl::VLBytes;
 
 /// A type with values that come from a noise.
@@ -42,5 +44,27 @@ impl FromNoise for VLBytes {
     ) -> Result<VLBytes, AllocError> {
         let content = Vec::from_noise(alloc, noise, shape)?;
         Ok(VLBytes::new(content))
+    }
+}
+
+impl<F, T: FromNoise + Drop> FromNoise for TlsVec<F, T> {
+    fn from_noise(
+        alloc: Global,
+        noise: &mut Noise,
+        shape: &[usize],
+    ) -> Result<TlsVec<F, T>, AllocError> {
+        let elements = Vec::from_noise(alloc, noise, shape)?;
+        Ok(TlsVec::new(elements))
+    }
+}
+
+impl<F> FromNoise for TlsByteVec<F> {
+    fn from_noise(
+        alloc: Global,
+        noise: &mut Noise,
+        shape: &[usize],
+    ) -> Result<TlsByteVec<F>, AllocError> {
+        let content = Vec::from_noise(alloc, noise, shape)?;
+        Ok(TlsByteVec::new(content))
     }
 }
