@@ -90,10 +90,7 @@ pub fn split<F: LengthField>(whole: &[u8]) -> Result<(&[u8], &[u8]), Error>
 /// A copy of the bytes that a front of `whole` spells, and the rest of it, which isn't copied.
 ///
 /// `OutOfMemory`: there was none for the copy. Every other refusal is as in [`split`].
-pub fn split_copied<F: LengthField>(
-    alloc: Global,
-    whole: &[u8],
-) -> Result<(Vec<u8>, &[u8]), Error>
+pub fn split_copied<F: LengthField>(alloc: Global, whole: &[u8]) -> Result<(Vec<u8>, &[u8]), Error>
     ensures splits { Splits (counted_bytes_format F.field) (λ content. number_trees content.items) whole.now result }
     ensures named { IfErr result (λ e. (e ≡ OutOfMemory) ⊎ OpaqueRefused F.field e whole.now) }
 {
