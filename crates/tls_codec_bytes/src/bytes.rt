@@ -1,11 +1,6 @@
 //! [`TlsByteVec`], bytes that it owns, and its own calls.
-ghost use Rattle.std.specs.Prelude.{◌≡◌, ◌<◌, ◌^◌, ◌↔◌, ℕ, [], ◌∷◌, ◌++◌, is_ok, if◌then◌else◌, length, IfErr, IfOk, IsOk, IsTrue, MatchOption, Some, nat_eq, option_copied, slice_get};
+ghost use Rattle.std.specs.Prelude.{◌≡◌, ◌<◌, ◌^◌, ◌↔◌, ℕ, [], ◌∷◌, ◌++◌, is_ok, if◌then◌else◌, length, IfErr, IfOk, IsOk, IsTrue, MatchOption, Some, option_copied, slice_get};
 ghost use Rattle.std.specs.Borrow.{sem};
-ghost use Rattle.std.specs.Cmp.{on_equiv, on_per, partial_equiv_from_equiv};
-ghost use Rattle.std.specs.Cmp.Lexicographic.{nat_list_eq_equiv, pointwise};
-ghost use Rattle.std.specs.Cmp.Rules.{hashing};
-ghost use Rattle.std.specs.Hash as fed;
-ghost use Rattle.std.proofs.Common.{rules};
 ghost use Rattle.std.specs.Fn.{CalledAt};
 ghost use Rattle.std.specs.Iterator.{Drains, IsFinite};
 ghost use Rattle.std.specs.Iterator.Adapters.{IterYieldsInOrder, IterYieldsInReverse};
@@ -17,7 +12,6 @@ ghost use Rattle.tls_codec_bytes.specs.Contents.{bytes_of};
 ghost use Rattle.tls_codec_bytes.specs.Lends.{lends_byte};
 
 use std::alloc::Global;
-use std::hash::{Hash, Hasher};
 use std::marker::PhantomData;
 use std::ops::{Index, IndexMut};
 use std::{fmt, slice};
@@ -33,8 +27,10 @@ use tls_codec_wire::{Error, U24};
 /// assert_eq!(rt; id.tls_serialize_detached(alloc)?.as_slice(), [0x00, 0x02, 0x00, 0xaa].as_slice());
 /// ```
 #[derive(Drop)]
+#[derive_where(PartialEq, Eq, Hash)]
 pub struct TlsByteVec<F> {
     vec: Vec<u8>,
+    #[derive_where(skip)]
     field: PhantomData<F>,
 }
 
@@ -235,30 +231,6 @@ impl<F> From<TlsByteVec<F>> for Vec<u8> {
 
     fn from(value: TlsByteVec<F>) -> Vec<u8> {
         value.vec
-    }
-}
-
-impl<F> PartialEq for TlsByteVec<F> {
-    ghost eq = { λ v w. pointwise nat_eq (bytes_of v) (bytes_of w) };
-
-    ghost laws = { on_per bytes_of (partial_equiv_from_equiv nat_list_eq_equiv) };
-
-    fn eq(&self, other: &TlsByteVec<F>) -> bool {
-        self.vec == other.vec
-    }
-}
-
-impl<F> Eq for TlsByteVec<F> {
-    ghost laws = { on_equiv bytes_of nat_list_eq_equiv };
-}
-
-impl<F> Hash for TlsByteVec<F> {
-    ghost hash_input = { λ v. fed.slice fed.u8 (bytes_of v) };
-
-    ghost respects_eq = { Prim.search (hashing, rules) };
-
-    fn hash<H: Hasher>(&self, state: &mut H) {
-        self.vec.hash(state);
     }
 }
 
