@@ -3,16 +3,16 @@ use Rattle.std.proofs.Common.{◌≡◌, ℕ, List, length, Bool, Option, None, 
 use Rattle.tls_codec_wire.specs.Counts.{Counts}
 use Rattle.tls_codec_wire.specs.Digits.{AreBytes, Digits, value}
 use Rattle.tls_codec_wire.specs.declared.error.Error.{Error}
-use Rattle.tls_codec_base.specs.Tree.{Number, number_trees}
-use Rattle.tls_codec_base.specs.Grammar.{Itself, array, number}
-use Rattle.tls_codec_base.specs.Shortest.{IsShortest}
-use Rattle.tls_codec_base.specs.Decoding.{Begins, GaveSpelling, NoneBegins, NoneComes, Refuses, RefusesSource}
+use Rattle.tls_codec_grammar.specs.Tree.{Number, number_trees}
+use Rattle.tls_codec_grammar.specs.Grammar.{Itself, array, number}
+use Rattle.tls_codec_grammar.specs.Shortest.{IsShortest}
+use Rattle.tls_codec_grammar.specs.Decoding.{Begins, GaveSpelling, NoneBegins, NoneComes, Refuses, RefusesSource}
 use Rattle.tls_codec_wire.specs.declared.device.Sink.{Ghosts}
-use Rattle.tls_codec_base.specs.Format.{array_format, number_format}
-use Rattle.tls_codec_base.specs.Encoding.{AppendsForm, Breaks, Sends}
-use Rattle.tls_codec_base.proofs.Appending.{part_refused}
-use Rattle.tls_codec_base.specs.laws.NumberLaws.{digits_least, digits_one, number_trees_one}
-use Rattle.tls_codec_base.proofs.NumberCalls.{own_digits}
+use Rattle.tls_codec_grammar.specs.Format.{array_format, number_format}
+use Rattle.tls_codec_grammar.specs.Encoding.{AppendsForm, Breaks, Sends}
+use Rattle.tls_codec_grammar.proofs.Appending.{part_refused}
+use Rattle.tls_codec_grammar.specs.laws.NumberLaws.{digits_least, digits_one, number_trees_one}
+use Rattle.tls_codec_grammar.proofs.NumberCalls.{own_digits}
 
 module _ (k : ℕ) (a : List ℕ) (width : length a ≡ k) (bytes : AreBytes a) where
   -- digits of the number that they stand for are these bytes

@@ -4,9 +4,9 @@ use Rattle.std.specs.Io.KnownBytes.{Consumes}
 use Rattle.tls_codec_wire.specs.Counts.{Counts}
 use Rattle.tls_codec_wire.specs.Device.{GivesFromFront, NoCountFalls}
 use Rattle.tls_codec_wire.specs.declared.error.Error.{Error}
-use Rattle.tls_codec_base.specs.Tree.{Tree}
-use Rattle.tls_codec_base.specs.Grammar.{Grammar, Reading}
-use Rattle.tls_codec_base.specs.Decoding.{ComesFirst}
+use Rattle.tls_codec_grammar.specs.Tree.{Tree}
+use Rattle.tls_codec_grammar.specs.Grammar.{Grammar, Reading}
+use Rattle.tls_codec_grammar.specs.Decoding.{ComesFirst}
 use Rattle.tls_codec_base.specs.Refusals.{SourceNamedBehind, SourceNames}
 
 -- the bytes that it tells begin with what it gave

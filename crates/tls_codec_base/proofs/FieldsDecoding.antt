@@ -7,14 +7,14 @@ use Rattle.tls_codec_wire.specs.Device.{GivesFromFront, GivesInOrder, GivesNothi
 use Rattle.tls_codec_wire.specs.declared.device.Source.{Ghosts}
 use Rattle.tls_codec_wire.specs.declared.error.Error.{Error}
 use Rattle.tls_codec_wire.proofs.Given.{gave_on}
-use Rattle.tls_codec_base.specs.Tree.{Tree, Empty, Join}
-use Rattle.tls_codec_base.specs.Grammar.{Grammar, Reading, nothing, fields}
-use Rattle.tls_codec_base.specs.Lawful.{IsLawful, MeetsLaws}
-use Rattle.tls_codec_base.specs.Format.{Format, fields_format}
-use Rattle.tls_codec_base.specs.Decoding.{Begins, GaveSpelling, LeavesSource, NoneBegins, NoneComes, Refuses, RefusesSource}
+use Rattle.tls_codec_grammar.specs.Tree.{Tree, Empty, Join}
+use Rattle.tls_codec_grammar.specs.Grammar.{Grammar, Reading, nothing, fields}
+use Rattle.tls_codec_grammar.specs.Lawful.{IsLawful, MeetsLaws}
+use Rattle.tls_codec_grammar.specs.Format.{Format, fields_format}
+use Rattle.tls_codec_grammar.specs.Decoding.{Begins, GaveSpelling, LeavesSource, NoneBegins, NoneComes, Refuses, RefusesSource}
 use Rattle.tls_codec_base.specs.Refusals.{IsSpelling, NamedBehind, SliceNames, SourceNamedBehind, SourceNames}
 use Rattle.tls_codec_base.proofs.Coming.{named_behind}
-use Rattle.tls_codec_base.proofs.Sent.{fault_later, rose_later}
+use Rattle.tls_codec_grammar.proofs.Sent.{fault_later, rose_later}
 
 -- ---- no parts
 

@@ -4,16 +4,16 @@ use Rattle.std.proofs.KnownBytes.{Appends-nil, Appends-trans}
 use Rattle.tls_codec_wire.specs.Counts.{fall_never, stay}
 use Rattle.tls_codec_wire.specs.declared.device.Sink.{Ghosts}
 use Rattle.tls_codec_wire.specs.declared.error.Error.{Error}
-use Rattle.tls_codec_base.specs.Tree.{Tree, Empty, Join}
-use Rattle.tls_codec_base.specs.Grammar.{Writing, nothing, fields}
-use Rattle.tls_codec_base.specs.Shortest.{IsShortest}
-use Rattle.tls_codec_base.specs.Announced.{capped}
-use Rattle.tls_codec_base.specs.Format.{Format, fields_format, nothing_format}
-use Rattle.tls_codec_base.specs.Lawful.{MeetsLaws}
-use Rattle.tls_codec_base.specs.Encoding.{Breaks, Sends}
-use Rattle.tls_codec_base.specs.laws.RowLaws.{least_one}
-use Rattle.tls_codec_base.specs.laws.FieldsLaws.{fields_least}
-use Rattle.tls_codec_base.proofs.Sent.{cause_later}
+use Rattle.tls_codec_grammar.specs.Tree.{Tree, Empty, Join}
+use Rattle.tls_codec_grammar.specs.Grammar.{Writing, nothing, fields}
+use Rattle.tls_codec_grammar.specs.Shortest.{IsShortest}
+use Rattle.tls_codec_grammar.specs.Announced.{capped}
+use Rattle.tls_codec_grammar.specs.Format.{Format, fields_format, nothing_format}
+use Rattle.tls_codec_grammar.specs.Lawful.{MeetsLaws}
+use Rattle.tls_codec_grammar.specs.Encoding.{Breaks, Sends}
+use Rattle.tls_codec_grammar.specs.laws.RowLaws.{least_one}
+use Rattle.tls_codec_grammar.specs.laws.FieldsLaws.{fields_least}
+use Rattle.tls_codec_grammar.proofs.Sent.{cause_later}
 
 -- no bytes are the shortest form of no parts
 pub nothing_form : IsShortest nothing [] Empty

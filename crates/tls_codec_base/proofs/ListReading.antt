@@ -2,12 +2,12 @@
 use Rattle.std.proofs.Common.{◌≡◌, ℕ, ◌+◌, ◌-◌, ◌<◌, ◌≤◌, List, [], ◌∷◌, ◌++◌, length, Bool, false, refl, sym, ap, subst, ◌∙◌, inl, inr, append_assoc, append-nil, arith, length-append}
 use Rattle.std.proofs.lemmas.List.{append_cancel_left, nil_from_length}
 use Rattle.tls_codec_wire.specs.declared.error.Error.{Error}
-use Rattle.tls_codec_base.specs.Tree.{Tree, Empty, Join, trees}
-use Rattle.tls_codec_base.specs.Grammar.{Reading, Grammar, content, sized}
-use Rattle.tls_codec_base.specs.Lawful.{IsLawful}
-use Rattle.tls_codec_base.specs.Decoding.{Begins, NoneBegins, Refuses}
-use Rattle.tls_codec_base.specs.Shortest.{IsHollow}
-use Rattle.tls_codec_base.specs.Format.{Format}
+use Rattle.tls_codec_grammar.specs.Tree.{Tree, Empty, Join, trees}
+use Rattle.tls_codec_grammar.specs.Grammar.{Reading, Grammar, content, sized}
+use Rattle.tls_codec_grammar.specs.Lawful.{IsLawful}
+use Rattle.tls_codec_grammar.specs.Decoding.{Begins, NoneBegins, Refuses}
+use Rattle.tls_codec_grammar.specs.Shortest.{IsHollow}
+use Rattle.tls_codec_grammar.specs.Format.{Format}
 use Rattle.tls_codec_base.specs.Refusals.{Overruns, SliceNames, element_names, elements_names}
 
 -- the front of x is a content of v, and left of n bytes are still to be read

@@ -9,16 +9,16 @@ use Rattle.tls_codec_wire.specs.declared.error.Error.{Error}
 use Rattle.tls_codec_wire.specs.Bounded.{first_bytes, GaveWithin, inner_of, limit_of}
 use Rattle.tls_codec_wire.specs.Counts.{Counts, NoneFell}
 use Rattle.tls_codec_wire.specs.Device.{Gave, GivesFromFront, GivesInOrder, NoCountFalls}
-use Rattle.tls_codec_base.specs.Tree.{Tree, trees}
-use Rattle.tls_codec_base.specs.Grammar.{Reading, Grammar, content, sized}
-use Rattle.tls_codec_base.specs.Lawful.{IsLawful}
-use Rattle.tls_codec_base.specs.Decoding.{GaveSpelling, NoneBegins, NoneComes, RefusesSource}
+use Rattle.tls_codec_grammar.specs.Tree.{Tree, trees}
+use Rattle.tls_codec_grammar.specs.Grammar.{Reading, Grammar, content, sized}
+use Rattle.tls_codec_grammar.specs.Lawful.{IsLawful}
+use Rattle.tls_codec_grammar.specs.Decoding.{GaveSpelling, NoneBegins, NoneComes, RefusesSource}
 use Rattle.tls_codec_base.proofs.ListReading.{ReadSoFar, content_more, next_of, none_if_empty}
-use Rattle.tls_codec_base.specs.Shortest.{IsHollow}
-use Rattle.tls_codec_base.specs.Format.{Format}
+use Rattle.tls_codec_grammar.specs.Shortest.{IsHollow}
+use Rattle.tls_codec_grammar.specs.Format.{Format}
 use Rattle.tls_codec_base.specs.Refusals.{SourceNames, element_source_names, elements_source_names}
 use Rattle.tls_codec_base.proofs.Coming.{named_behind}
-use Rattle.tls_codec_base.proofs.Sent.{fault_later}
+use Rattle.tls_codec_grammar.proofs.Sent.{fault_later}
 
 -- the source gave a content of v, and left of n bytes are still to be read
 pub record GivenSoFar {S : Type 0} (given : S → List ℕ → S → Type 0) (element : Grammar) (old new : S) (n left : ℕ) (v : Tree) : Type 0 where

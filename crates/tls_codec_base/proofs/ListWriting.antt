@@ -6,17 +6,17 @@ use Rattle.std.proofs.KnownBytes.{Appends-trans}
 use Rattle.tls_codec_wire.specs.Counts.{NoneFell, fall_never}
 use Rattle.tls_codec_wire.specs.declared.device.Sink.{Ghosts}
 use Rattle.tls_codec_wire.specs.declared.error.Error.{Error}
-use Rattle.tls_codec_base.specs.Tree.{Tree, Empty, Join, trees}
-use Rattle.tls_codec_base.specs.Grammar.{Grammar, Writing, content}
-use Rattle.tls_codec_base.specs.Shortest.{IsShortest}
-use Rattle.tls_codec_base.specs.Announced.{capped, content_length, content_sum, counted_length}
-use Rattle.tls_codec_base.specs.Format.{Format, content_format, content_refuses}
-use Rattle.tls_codec_base.specs.laws.FormatLaws.{content_length_sum}
-use Rattle.tls_codec_base.specs.Lawful.{MeetsLaws}
-use Rattle.tls_codec_base.specs.Encoding.{Breaks, Sends}
-use Rattle.tls_codec_base.specs.laws.RowLaws.{least_one, row_least}
-use Rattle.tls_codec_base.specs.laws.ListLaws.{Part, capped_counted, content_shortest, part_least}
-use Rattle.tls_codec_base.proofs.Sent.{cause_later}
+use Rattle.tls_codec_grammar.specs.Tree.{Tree, Empty, Join, trees}
+use Rattle.tls_codec_grammar.specs.Grammar.{Grammar, Writing, content}
+use Rattle.tls_codec_grammar.specs.Shortest.{IsShortest}
+use Rattle.tls_codec_grammar.specs.Announced.{capped, content_length, content_sum, counted_length}
+use Rattle.tls_codec_grammar.specs.Format.{Format, content_format, content_refuses}
+use Rattle.tls_codec_grammar.specs.laws.FormatLaws.{content_length_sum}
+use Rattle.tls_codec_grammar.specs.Lawful.{MeetsLaws}
+use Rattle.tls_codec_grammar.specs.Encoding.{Breaks, Sends}
+use Rattle.tls_codec_grammar.specs.laws.RowLaws.{least_one, row_least}
+use Rattle.tls_codec_grammar.specs.laws.ListLaws.{Part, capped_counted, content_shortest, part_least}
+use Rattle.tls_codec_grammar.proofs.Sent.{cause_later}
 
 -- ---- what is left of a slice
 

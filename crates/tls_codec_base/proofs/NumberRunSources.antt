@@ -11,14 +11,14 @@ use Rattle.tls_codec_wire.specs.Counts.{Counts, stay}
 use Rattle.tls_codec_wire.specs.Transfer.{BytesRefused, IsShortOf}
 use Rattle.tls_codec_wire.specs.declared.error.Error.{Error}
 use Rattle.tls_codec_wire.specs.declared.error.Error.TheVariants.{DecodingError, EndOfStream, InvalidVectorLength, OutOfMemory}
-use Rattle.tls_codec_base.specs.Tree.{Empty, Number}
-use Rattle.tls_codec_base.specs.Grammar.{Grammar, Reading, content, number, sized}
-use Rattle.tls_codec_base.specs.Decoding.{AllGiven, NoneComes, RefusesSource}
-use Rattle.tls_codec_base.specs.Format.{number_format}
+use Rattle.tls_codec_grammar.specs.Tree.{Empty, Number}
+use Rattle.tls_codec_grammar.specs.Grammar.{Grammar, Reading, content, number, sized}
+use Rattle.tls_codec_grammar.specs.Decoding.{AllGiven, NoneComes, RefusesSource}
+use Rattle.tls_codec_grammar.specs.Format.{number_format}
 use Rattle.tls_codec_base.specs.Refusals.{elements_source_names}
 use Rattle.tls_codec_base.specs.Runs.{ReadsRun, RefusesRun, number_source_names}
 use Rattle.tls_codec_base.specs.declared.lists.Turns.{Turns}
-use Rattle.tls_codec_base.proofs.ByteContents.{bytes_content}
+use Rattle.tls_codec_grammar.proofs.ByteContents.{bytes_content}
 
 -- fewer bytes than n up to the limit n are no n bytes
 none_short : (n : ℕ) (inside : Grammar) (coming : Option (List ℕ)) → IsShortOf n (option_map (take n) coming) → NoneComes (sized n inside) coming

@@ -4,13 +4,13 @@ use Rattle.std.specs.List.{flat_map}
 use Rattle.std.specs.Simd.{first_chunks}
 use Rattle.tls_codec_wire.specs.Digits.{AreBytes, Digits, value}
 use Rattle.tls_codec_wire.proofs.Bytes.{AreBytes-left}
-use Rattle.tls_codec_base.specs.Tree.{Number, trees}
-use Rattle.tls_codec_base.specs.Grammar.{Reading, Writing, content, number}
-use Rattle.tls_codec_base.specs.Shortest.{IsShortest}
-use Rattle.tls_codec_base.specs.laws.ListLaws.{Part, part_least}
-use Rattle.tls_codec_base.specs.laws.NumberLaws.{digits_least}
-use Rattle.tls_codec_base.specs.laws.RowLaws.{row_least}
-use Rattle.tls_codec_base.proofs.ByteContents.{AreBytes-right}
+use Rattle.tls_codec_grammar.specs.Tree.{Number, trees}
+use Rattle.tls_codec_grammar.specs.Grammar.{Reading, Writing, content, number}
+use Rattle.tls_codec_grammar.specs.Shortest.{IsShortest}
+use Rattle.tls_codec_grammar.specs.laws.ListLaws.{Part, part_least}
+use Rattle.tls_codec_grammar.specs.laws.NumberLaws.{digits_least}
+use Rattle.tls_codec_grammar.specs.laws.RowLaws.{row_least}
+use Rattle.tls_codec_grammar.proofs.ByteContents.{AreBytes-right}
 
 -- ---- read
 

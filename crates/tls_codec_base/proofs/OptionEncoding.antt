@@ -5,16 +5,16 @@ use Rattle.std.proofs.KnownBytes.{Appends-trans}
 use Rattle.tls_codec_wire.specs.Counts.{NoneFell, fall_never}
 use Rattle.tls_codec_wire.specs.declared.device.Sink.{Ghosts}
 use Rattle.tls_codec_wire.specs.declared.error.Error.{Error}
-use Rattle.tls_codec_base.specs.Tree.{Tree, Empty, Join}
-use Rattle.tls_codec_base.specs.Grammar.{Writing, option}
-use Rattle.tls_codec_base.specs.Shortest.{IsShortest}
-use Rattle.tls_codec_base.specs.Announced.{capped}
-use Rattle.tls_codec_base.specs.Format.{Format, option_format}
-use Rattle.tls_codec_base.specs.Lawful.{MeetsLaws}
-use Rattle.tls_codec_base.specs.Encoding.{Breaks, RefusesVector, Sends}
-use Rattle.tls_codec_base.specs.laws.RowLaws.{least_one}
-use Rattle.tls_codec_base.specs.laws.OptionLaws.{option_some}
-use Rattle.tls_codec_base.proofs.Sent.{cause_later}
+use Rattle.tls_codec_grammar.specs.Tree.{Tree, Empty, Join}
+use Rattle.tls_codec_grammar.specs.Grammar.{Writing, option}
+use Rattle.tls_codec_grammar.specs.Shortest.{IsShortest}
+use Rattle.tls_codec_grammar.specs.Announced.{capped}
+use Rattle.tls_codec_grammar.specs.Format.{Format, option_format}
+use Rattle.tls_codec_grammar.specs.Lawful.{MeetsLaws}
+use Rattle.tls_codec_grammar.specs.Encoding.{Breaks, RefusesVector, Sends}
+use Rattle.tls_codec_grammar.specs.laws.RowLaws.{least_one}
+use Rattle.tls_codec_grammar.specs.laws.OptionLaws.{option_some}
+use Rattle.tls_codec_grammar.proofs.Sent.{cause_later}
 
 module _ {payload : Format} (l : MeetsLaws payload) {v : Tree} where
   -- the shortest form of an option with a payload

@@ -5,13 +5,13 @@ use Rattle.tls_codec_wire.specs.Counts.{Counts}
 use Rattle.tls_codec_wire.specs.Device.{GivesFromFront}
 use Rattle.tls_codec_wire.specs.declared.error.Error.{Error}
 use Rattle.tls_codec_wire.specs.declared.error.Error.TheVariants.{TrailingData}
-use Rattle.tls_codec_base.specs.Tree.{number_trees}
-use Rattle.tls_codec_base.specs.Grammar.{Reading, bytes, text}
-use Rattle.tls_codec_base.specs.Decoding.{Begins, GaveSpelling, NoneBegins, NoneComes, Refuses, RefusesSource}
-use Rattle.tls_codec_base.specs.laws.NumberLaws.{number_trees_one}
-use Rattle.tls_codec_base.specs.Opaque.{IsNoText, NoTextComes}
-use Rattle.tls_codec_base.specs.laws.ListLaws.{bytes_lawful}
-use Rattle.tls_codec_base.proofs.ByteContents.{content_bytes}
+use Rattle.tls_codec_grammar.specs.Tree.{number_trees}
+use Rattle.tls_codec_grammar.specs.Grammar.{Reading, bytes, text}
+use Rattle.tls_codec_grammar.specs.Decoding.{Begins, GaveSpelling, NoneBegins, NoneComes, Refuses, RefusesSource}
+use Rattle.tls_codec_grammar.specs.laws.NumberLaws.{number_trees_one}
+use Rattle.tls_codec_grammar.specs.Opaque.{IsNoText, NoTextComes}
+use Rattle.tls_codec_grammar.specs.laws.ListLaws.{bytes_lawful}
+use Rattle.tls_codec_grammar.proofs.ByteContents.{content_bytes}
 use Rattle.tls_codec_base.proofs.TextForms.{text_from_bytes, text_to_bytes}
 
 -- ---- from a slice

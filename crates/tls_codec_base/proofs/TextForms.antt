@@ -1,14 +1,14 @@
 -- The spellings of a text are those of its bytes, which are UTF-8.
 use Rattle.std.proofs.Common.{ℕ, List, Result, Ok, Err, Vec, Global, IsUtf8, inl, inr, sym, subst, arith}
 use Rattle.tls_codec_wire.specs.declared.error.Error.{Error}
-use Rattle.tls_codec_base.specs.Tree.{Tree, number_trees}
-use Rattle.tls_codec_base.specs.Grammar.{Direction, Writing, bytes, text}
-use Rattle.tls_codec_base.specs.Shortest.{IsShortest}
+use Rattle.tls_codec_grammar.specs.Tree.{Tree, number_trees}
+use Rattle.tls_codec_grammar.specs.Grammar.{Direction, Writing, bytes, text}
+use Rattle.tls_codec_grammar.specs.Shortest.{IsShortest}
 use Rattle.tls_codec_wire.specs.declared.device.Sink.{Ghosts}
-use Rattle.tls_codec_base.specs.Format.{bytes_format, text_format}
-use Rattle.tls_codec_base.specs.Encoding.{AppendsForm, Breaks, Makes, Sends, Writes}
-use Rattle.tls_codec_base.proofs.Appending.{part_refused}
-use Rattle.tls_codec_base.proofs.ByteContents.{content_same_bytes}
+use Rattle.tls_codec_grammar.specs.Format.{bytes_format, text_format}
+use Rattle.tls_codec_grammar.specs.Encoding.{AppendsForm, Breaks, Makes, Sends, Writes}
+use Rattle.tls_codec_grammar.proofs.Appending.{part_refused}
+use Rattle.tls_codec_grammar.proofs.ByteContents.{content_same_bytes}
 
 pub text_to_bytes : (d : Direction) (v : Tree) (s : List ℕ) → text d s v → bytes d s v
 text_to_bytes d v s p = record { count = p.count; inside = p.inside; whole = p.whole; counts = p.counts; is_inside = p.is_inside.0 }

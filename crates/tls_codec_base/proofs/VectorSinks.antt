@@ -4,11 +4,11 @@ use Rattle.tls_codec_wire.specs.Counts.{FaultIsCounted, only_shortages}
 use Rattle.tls_codec_wire.specs.Transfer.{WriteRefused}
 use Rattle.tls_codec_wire.specs.declared.error.Error.{Error}
 use Rattle.tls_codec_wire.specs.declared.error.Error.TheVariants.{EncodingError, OutOfMemory}
-use Rattle.tls_codec_base.specs.Tree.{Tree}
-use Rattle.tls_codec_base.specs.Format.{Format}
-use Rattle.tls_codec_base.specs.Shortest.{IsShortest}
-use Rattle.tls_codec_base.specs.Announced.{capped}
-use Rattle.tls_codec_base.specs.Encoding.{Appended, AppendRefused}
+use Rattle.tls_codec_grammar.specs.Tree.{Tree}
+use Rattle.tls_codec_grammar.specs.Format.{Format}
+use Rattle.tls_codec_grammar.specs.Shortest.{IsShortest}
+use Rattle.tls_codec_grammar.specs.Announced.{capped}
+use Rattle.tls_codec_grammar.specs.Encoding.{Appended, AppendRefused}
 
 -- a vector as a sink counts no fault
 no_fault : FaultIsCounted only_shortages only_shortages → ⊥

@@ -5,10 +5,10 @@ use Rattle.std.proofs.lemmas.Bool.{eqb-true, eqb-false}
 use Rattle.tls_codec_wire.specs.Counts.{no_counts}
 use Rattle.tls_codec_wire.specs.declared.error.Error.{Error}
 use Rattle.tls_codec_wire.specs.declared.error.Error.TheVariants.{TrailingData}
-use Rattle.tls_codec_base.specs.Tree.{Tree}
-use Rattle.tls_codec_base.specs.Grammar.{Grammar, Reading}
-use Rattle.tls_codec_base.specs.Lawful.{IsLawful}
-use Rattle.tls_codec_base.specs.Decoding.{Begins, Refuses, RefusesSource, RefusesWhole}
+use Rattle.tls_codec_grammar.specs.Tree.{Tree}
+use Rattle.tls_codec_grammar.specs.Grammar.{Grammar, Reading}
+use Rattle.tls_codec_grammar.specs.Lawful.{IsLawful}
+use Rattle.tls_codec_grammar.specs.Decoding.{Begins, Refuses, RefusesSource, RefusesWhole}
 
 -- ---- what `is_empty` answers
 

@@ -1,15 +1,3 @@
-pub mod Tree
-pub mod Grammar
-pub mod Runs
-pub mod Shortest
-pub mod Announced
-pub mod Errors
-pub mod Field
-pub mod Format
-pub mod Lawful
-pub mod Decoding
-pub mod Encoding
 pub mod Turns
-pub mod Opaque
 pub mod Refusals
-pub mod laws
+pub mod Runs

@@ -5,13 +5,13 @@ use Rattle.tls_codec_wire.specs.Counts.{Counts, NoneFell}
 use Rattle.tls_codec_wire.specs.Transfer.{ReadRefused}
 use Rattle.tls_codec_wire.specs.declared.error.Error.{Error}
 use Rattle.tls_codec_wire.specs.declared.error.Error.TheVariants.{EndOfStream, OutOfMemory}
-use Rattle.tls_codec_base.specs.Tree.{Tree}
-use Rattle.tls_codec_base.specs.Grammar.{Grammar, Reading, content}
-use Rattle.tls_codec_base.specs.Errors.{Says}
-use Rattle.tls_codec_base.specs.Field.{Field, FieldRefused, NoFieldBegins, variable_field}
-use Rattle.tls_codec_base.specs.Format.{Format}
-use Rattle.tls_codec_base.specs.Shortest.{IsHollow}
-use Rattle.tls_codec_base.specs.Decoding.{Begins, Refuses, RefusesSource}
+use Rattle.tls_codec_grammar.specs.Tree.{Tree}
+use Rattle.tls_codec_grammar.specs.Grammar.{Grammar, Reading, content}
+use Rattle.tls_codec_grammar.specs.Errors.{Says}
+use Rattle.tls_codec_grammar.specs.Field.{Field, FieldRefused, NoFieldBegins, variable_field}
+use Rattle.tls_codec_grammar.specs.Format.{Format}
+use Rattle.tls_codec_grammar.specs.Shortest.{IsHollow}
+use Rattle.tls_codec_grammar.specs.Decoding.{Begins, Refuses, RefusesSource}
 
 -- which errors are named, by the bytes
 abbrev pub SliceNames : Type 1

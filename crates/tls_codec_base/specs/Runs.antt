@@ -8,8 +8,8 @@ use Rattle.tls_codec_wire.specs.declared.bounded.Bounded.{Bounded}
 use Rattle.tls_codec_wire.specs.declared.device.Source.{Ghosts}
 use Rattle.tls_codec_wire.specs.declared.error.Error.{Error}
 use Rattle.tls_codec_base.specs.declared.lists.Turns.{Turns}
-use Rattle.tls_codec_base.specs.Format.{content_format, number_format, sized_format}
-use Rattle.tls_codec_base.specs.Decoding.{LeavesSource}
+use Rattle.tls_codec_grammar.specs.Format.{content_format, number_format, sized_format}
+use Rattle.tls_codec_grammar.specs.Decoding.{LeavesSource}
 use Rattle.tls_codec_base.specs.Refusals.{SourceNames, elements_source_names}
 use Rattle.tls_codec_base.specs.Turns.{TurnedBy}
 

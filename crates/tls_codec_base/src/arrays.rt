@@ -5,11 +5,11 @@ ghost use Rattle.std.specs.Prelude.{◌≡◌, ◌<◌, length};
 ghost use Rattle.std.proofs.Common.{arith};
 ghost use Rattle.tls_codec_wire.specs.Transfer.{ReadRefused};
 ghost use Rattle.tls_codec_wire.specs.declared.error.Error.TheVariants.{EndOfStream};
-ghost use Rattle.tls_codec_base.specs.Tree.{number_trees};
-ghost use Rattle.tls_codec_base.specs.Format.{array_format};
-ghost use Rattle.tls_codec_base.specs.laws.FormatLaws.{array_meets};
+ghost use Rattle.tls_codec_grammar.specs.Tree.{number_trees};
+ghost use Rattle.tls_codec_grammar.specs.Format.{array_format};
+ghost use Rattle.tls_codec_grammar.specs.laws.FormatLaws.{array_meets};
 
-use crate::numbers::{append_digits, digits_vector, read_digits, split_digits, write_digits};
+use tls_codec_grammar::digits::{append_digits, digits_vector, read_digits, split_digits, write_digits};
 use crate::traits::{Deserialize, DeserializeBytes, Serialize, SerializeBytes, Size};
 use std::alloc::Global;
 use tls_codec_wire::{Error, Sink, Source};

@@ -1,8 +1,8 @@
 //! `Box<T>`: the spelling of its content. A decoder takes memory for it.
 ghost use Rattle.std.specs.Prelude.{◌≡◌, ◌⊎◌, IfErr, IfOk};
 ghost use Rattle.tls_codec_wire.specs.declared.error.Error.TheVariants.{OutOfMemory};
-ghost use Rattle.tls_codec_base.specs.Format.{with_memory};
-ghost use Rattle.tls_codec_base.specs.laws.FormatLaws.{with_memory_meets};
+ghost use Rattle.tls_codec_grammar.specs.Format.{with_memory};
+ghost use Rattle.tls_codec_grammar.specs.laws.FormatLaws.{with_memory_meets};
 
 use crate::traits::{Deserialize, DeserializeBytes, Serialize, SerializeBytes, Size};
 use std::alloc::Global;

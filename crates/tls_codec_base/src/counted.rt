@@ -4,14 +4,14 @@
 //! of a length field their traits' contracts alone.
 ghost use Rattle.std.specs.Prelude.{◌≡◌, ◌≤◌, ◌⊎◌, length, take, IfErr, IfOk};
 ghost use Rattle.tls_codec_wire.specs.declared.error.Error.TheVariants.{InvalidVectorLength};
-ghost use Rattle.tls_codec_base.specs.Tree.{trees};
-ghost use Rattle.tls_codec_base.specs.Field.{IsSafeGap};
-ghost use Rattle.tls_codec_base.specs.Format.{counted_list_format};
-ghost use Rattle.tls_codec_base.specs.Decoding.{Reads, Splits};
-ghost use Rattle.tls_codec_base.specs.Encoding.{AppendRefused, Appended, AppendsForm, Makes, Writes};
+ghost use Rattle.tls_codec_grammar.specs.Tree.{trees};
+ghost use Rattle.tls_codec_grammar.specs.Field.{IsSafeGap};
+ghost use Rattle.tls_codec_grammar.specs.Format.{counted_list_format};
+ghost use Rattle.tls_codec_grammar.specs.Decoding.{Reads, Splits};
+ghost use Rattle.tls_codec_grammar.specs.Encoding.{AppendRefused, Appended, AppendsForm, Makes, Writes};
 ghost use Rattle.tls_codec_base.specs.Refusals.{counted_list_names, counted_list_source_names};
 
-use crate::length_field::{LengthField, fill_gap, open_gap, write_length};
+use tls_codec_grammar::length_field::{LengthField, fill_gap, open_gap, write_length};
 use crate::lists::{self, Turns, content_len};
 use crate::traits::{Deserialize, DeserializeBytes, Serialize, SerializeBytes, Size};
 use std::alloc::Global;

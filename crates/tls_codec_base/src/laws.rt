@@ -7,14 +7,14 @@ ghost use Rattle.std.specs.Prelude.{◌≡◌, ◌↔◌, ℕ, ◌≤◌, ◌^�
 ghost use Rattle.tls_codec_wire.specs.Digits.{AreBytes};
 ghost use Rattle.tls_codec_wire.specs.Varint.{Varint};
 ghost use Rattle.tls_codec_wire.specs.VarintCalls.{LeastVarint};
-ghost use Rattle.tls_codec_base.specs.Tree.{Tree, Empty, Join, number_trees, trees};
-ghost use Rattle.tls_codec_base.specs.Decoding.{ComesFirst, GaveSpelling};
-ghost use Rattle.tls_codec_base.specs.Format.{counted_bytes_format, counted_list_format, fields_format, fixed_list_format, list_format, nothing_format, option_format, text_format};
-ghost use Rattle.tls_codec_base.specs.Lawful.{MeetsLaws};
-ghost use Rattle.tls_codec_base.specs.Grammar.{Counted, Direction, Row, content};
-ghost use Rattle.tls_codec_base.specs.Shortest.{IsLeast, IsShortest};
+ghost use Rattle.tls_codec_grammar.specs.Tree.{Tree, Empty, Join, number_trees, trees};
+ghost use Rattle.tls_codec_grammar.specs.Decoding.{ComesFirst, GaveSpelling};
+ghost use Rattle.tls_codec_grammar.specs.Format.{counted_bytes_format, counted_list_format, fields_format, fixed_list_format, list_format, nothing_format, option_format, text_format};
+ghost use Rattle.tls_codec_grammar.specs.Lawful.{MeetsLaws};
+ghost use Rattle.tls_codec_grammar.specs.Grammar.{Counted, Direction, Row, content};
+ghost use Rattle.tls_codec_grammar.specs.Shortest.{IsLeast, IsShortest};
 
-use crate::length_field::LengthField;
+use tls_codec_grammar::LengthField;
 use crate::traits::Size;
 use tls_codec_wire::Source;
 

@@ -13,21 +13,16 @@
 //! - [`products`]: `(T, U)`, `(T, U, V)`, `()` and `PhantomData<T>`.
 //! - [`boxes`]: `Box<T>`.
 //! - [`lists`]: the engines that every list goes through. [`vectors`]: `Vec<T>` and `&[T]`.
-//! - [`opaque`]: bytes behind their length, as byte vectors and texts have them. [`texts`]: `String`
-//!   and `&str`.
-//! - [`laws`]: what is lawful if its parts are. [`examples`]: the definitions at work. Neither does
-//!   anything when it runs.
+//! - [`texts`]: `String` and `&str`, by [`opaque`], bytes behind their length.
+//! - [`laws`]: what is lawful if its parts are. It does nothing when it runs.
 #![tactic(auto)]
 
 pub mod arrays;
 pub mod boxes;
 pub mod counted;
-pub mod examples;
 pub mod laws;
-pub mod length_field;
 pub mod lists;
 pub mod numbers;
-pub mod opaque;
 pub mod options;
 pub mod products;
 pub mod texts;
@@ -35,5 +30,5 @@ pub mod traits;
 pub mod varint;
 pub mod vectors;
 
-pub use length_field::LengthField;
+pub use tls_codec_grammar::{LengthField, opaque};
 pub use traits::{Deserialize, DeserializeBytes, Serialize, SerializeBytes, Size};

@@ -3,9 +3,9 @@
 ghost use Rattle.std.specs.Prelude.{◌≡◌, ◌∷◌, IfErr, IfOk};
 ghost use Rattle.tls_codec_wire.specs.declared.error.Error.TheVariants.{OutOfMemory};
 ghost use Rattle.tls_codec_base.specs.Refusals.{option_names, option_source_names};
-ghost use Rattle.tls_codec_base.specs.Tree.{option_plain};
-ghost use Rattle.tls_codec_base.specs.Format.{option_format};
-ghost use Rattle.tls_codec_base.specs.laws.FormatLaws.{option_meets};
+ghost use Rattle.tls_codec_grammar.specs.Tree.{option_plain};
+ghost use Rattle.tls_codec_grammar.specs.Format.{option_format};
+ghost use Rattle.tls_codec_grammar.specs.laws.FormatLaws.{option_meets};
 
 use crate::traits::{Deserialize, DeserializeBytes, Serialize, SerializeBytes, Size};
 use std::alloc::Global;

@@ -1,12 +1,12 @@
 //! `String` and `&str`: the number of UTF-8 bytes as a variable-length integer, then these bytes (the
 //! crate's rule).
 ghost use Rattle.std.specs.Prelude.{string_bytes};
-ghost use Rattle.tls_codec_base.specs.Tree.{number_trees};
-ghost use Rattle.tls_codec_base.specs.Format.{text_format};
-ghost use Rattle.tls_codec_base.specs.laws.FormatLaws.{text_meets};
-ghost use Rattle.tls_codec_base.specs.Opaque.{TextRefused, TextSourceRefused};
+ghost use Rattle.tls_codec_grammar.specs.Tree.{number_trees};
+ghost use Rattle.tls_codec_grammar.specs.Format.{text_format};
+ghost use Rattle.tls_codec_grammar.specs.laws.FormatLaws.{text_meets};
+ghost use Rattle.tls_codec_grammar.specs.Opaque.{TextRefused, TextSourceRefused};
 
-use crate::opaque;
+use tls_codec_grammar::opaque;
 use crate::traits::{Deserialize, DeserializeBytes, Serialize, SerializeBytes, Size};
 use std::alloc::Global;
 use tls_codec_wire::{Error, Sink, Source, TlsVarInt};

@@ -4,13 +4,13 @@ ghost use Rattle.tls_codec_wire.specs.Bounded.{BorrowAlike, inner_of, limit_of};
 ghost use Rattle.tls_codec_wire.specs.Counts.{Counts, no_counts};
 ghost use Rattle.tls_codec_wire.specs.declared.error.Error.{Error};
 ghost use Rattle.tls_codec_wire.specs.declared.error.Error.TheVariants.{InvalidVectorLength, TrailingData};
-ghost use Rattle.tls_codec_base.specs.Tree.{Tree, trees};
-ghost use Rattle.tls_codec_base.specs.Format.{Format};
-ghost use Rattle.tls_codec_base.specs.Lawful.{MeetsLaws};
+ghost use Rattle.tls_codec_grammar.specs.Tree.{Tree, trees};
+ghost use Rattle.tls_codec_grammar.specs.Format.{Format};
+ghost use Rattle.tls_codec_grammar.specs.Lawful.{MeetsLaws};
 ghost use Rattle.tls_codec_base.specs.Refusals.{elements_source_names};
 ghost use Rattle.tls_codec_base.specs.Turns.{TurnedAll};
-ghost use Rattle.tls_codec_base.specs.Decoding.{AllGiven, AllRead, Reads, ReadsWhole, Splits};
-ghost use Rattle.tls_codec_base.specs.Encoding.{AllSent, AppendsForm, Makes, Writes};
+ghost use Rattle.tls_codec_grammar.specs.Decoding.{AllGiven, AllRead, Reads, ReadsWhole, Splits};
+ghost use Rattle.tls_codec_grammar.specs.Encoding.{AllSent, AppendsForm, Makes, Writes};
 
 use crate::lists::Turns;
 use std::alloc::Global;

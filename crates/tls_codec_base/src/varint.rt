@@ -4,9 +4,9 @@ ghost use Rattle.std.specs.Prelude.{◌≡◌};
 ghost use Rattle.tls_codec_wire.specs.VarintCalls.{NoVarintBegins, VarintRefused};
 ghost use Rattle.tls_codec_wire.specs.VarintValue.{number_of};
 ghost use Rattle.tls_codec_wire.specs.declared.error.Error.TheVariants.{EndOfStream};
-ghost use Rattle.tls_codec_base.specs.Tree.{Number};
-ghost use Rattle.tls_codec_base.specs.Format.{varint_format};
-ghost use Rattle.tls_codec_base.specs.laws.FormatLaws.{varint_meets};
+ghost use Rattle.tls_codec_grammar.specs.Tree.{Number};
+ghost use Rattle.tls_codec_grammar.specs.Format.{varint_format};
+ghost use Rattle.tls_codec_grammar.specs.laws.FormatLaws.{varint_meets};
 
 use crate::traits::{Deserialize, DeserializeBytes, Serialize, SerializeBytes, Size};
 use std::alloc::Global;

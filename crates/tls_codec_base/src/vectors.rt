@@ -1,8 +1,8 @@
 //! `Vec<T>`, `&Vec<T>` and `&[T]`: the length of the content in bytes as a variable-length integer,
 //! then the elements (the crate's rule; RFC 9420, section 2.1.2).
-ghost use Rattle.tls_codec_base.specs.Tree.{trees};
-ghost use Rattle.tls_codec_base.specs.Format.{list_format};
-ghost use Rattle.tls_codec_base.specs.laws.FormatLaws.{list_meets};
+ghost use Rattle.tls_codec_grammar.specs.Tree.{trees};
+ghost use Rattle.tls_codec_grammar.specs.Format.{list_format};
+ghost use Rattle.tls_codec_grammar.specs.laws.FormatLaws.{list_meets};
 ghost use Rattle.tls_codec_base.specs.Refusals.{list_names, list_source_names};
 
 use crate::counted;

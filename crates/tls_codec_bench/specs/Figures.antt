@@ -1,9 +1,9 @@
 -- The figures of a case.
 use Rattle.std.specs.Prelude.{◌≡◌, ℕ, List, length}
-use Rattle.tls_codec_base.specs.Tree.{Tree}
-use Rattle.tls_codec_base.specs.Grammar.{Grammar}
-use Rattle.tls_codec_base.specs.Shortest.{IsShortest}
-use Rattle.tls_codec_base.specs.Decoding.{Begins}
+use Rattle.tls_codec_grammar.specs.Tree.{Tree}
+use Rattle.tls_codec_grammar.specs.Grammar.{Grammar}
+use Rattle.tls_codec_grammar.specs.Shortest.{IsShortest}
+use Rattle.tls_codec_grammar.specs.Decoding.{Begins}
 use Rattle.tls_codec_bench.specs.declared.figures.Figures.{Figures}
 
 -- so many bytes are copied, and one figure stands in each column

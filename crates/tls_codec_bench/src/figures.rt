@@ -1,6 +1,6 @@
 //! The figures of a case.
 ghost use Rattle.std.specs.Prelude.{◌≡◌, [], length, IfOk};
-ghost use Rattle.tls_codec_base.specs.Shortest.{IsShortest};
+ghost use Rattle.tls_codec_grammar.specs.Shortest.{IsShortest};
 ghost use Rattle.tls_codec_bench.specs.Figures.{BeginsWith, IsLengthOf, IsOfCopy};
 ghost use Rattle.tls_codec_bench.specs.declared.cases.Case.TheVariants.{Copy1048576, Copy4096, Copy64};
 

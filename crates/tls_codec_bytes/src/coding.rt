@@ -1,10 +1,10 @@
 //! How byte vectors are written and read.
 ghost use Rattle.std.specs.Prelude.{◌≡◌, ◌⊎◌};
 ghost use Rattle.tls_codec_wire.specs.declared.error.Error.TheVariants.{OutOfMemory};
-ghost use Rattle.tls_codec_base.specs.Tree.{number_trees};
-ghost use Rattle.tls_codec_base.specs.Format.{counted_bytes_format};
-ghost use Rattle.tls_codec_base.specs.laws.FormatLaws.{counted_bytes_meets};
-ghost use Rattle.tls_codec_base.specs.Opaque.{OpaqueRefused, OpaqueSourceRefused};
+ghost use Rattle.tls_codec_grammar.specs.Tree.{number_trees};
+ghost use Rattle.tls_codec_grammar.specs.Format.{counted_bytes_format};
+ghost use Rattle.tls_codec_grammar.specs.laws.FormatLaws.{counted_bytes_meets};
+ghost use Rattle.tls_codec_grammar.specs.Opaque.{OpaqueRefused, OpaqueSourceRefused};
 ghost use Rattle.tls_codec_bytes.specs.Contents.{bytes_of};
 
 use crate::TlsByteVec;

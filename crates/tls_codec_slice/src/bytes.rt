@@ -1,9 +1,9 @@
 //! [`TlsByteSliceU8`] to [`TlsByteSliceU32`], borrowed bytes, which are written and not read.
 ghost use Rattle.std.specs.Prelude.{◌≡◌};
 ghost use Rattle.std.proofs.Common.{arith};
-ghost use Rattle.tls_codec_base.specs.Tree.{number_trees};
-ghost use Rattle.tls_codec_base.specs.Format.{fixed_list_format, number_format};
-ghost use Rattle.tls_codec_base.specs.laws.FormatLaws.{fixed_list_meets, number_meets};
+ghost use Rattle.tls_codec_grammar.specs.Tree.{number_trees};
+ghost use Rattle.tls_codec_grammar.specs.Format.{fixed_list_format, number_format};
+ghost use Rattle.tls_codec_grammar.specs.laws.FormatLaws.{fixed_list_meets, number_meets};
 ghost use Rattle.tls_codec_slice.specs.Contents.{u8_bytes_of, u16_bytes_of, u24_bytes_of, u32_bytes_of};
 
 use std::alloc::Global;

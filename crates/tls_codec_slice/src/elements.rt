@@ -1,8 +1,8 @@
 //! [`TlsSliceU8`] to [`TlsSliceU32`], borrowed elements, which are written and not read.
 ghost use Rattle.std.specs.Prelude.{◌≡◌};
-ghost use Rattle.tls_codec_base.specs.Tree.{trees};
-ghost use Rattle.tls_codec_base.specs.Format.{fixed_list_format};
-ghost use Rattle.tls_codec_base.specs.laws.FormatLaws.{fixed_list_meets};
+ghost use Rattle.tls_codec_grammar.specs.Tree.{trees};
+ghost use Rattle.tls_codec_grammar.specs.Format.{fixed_list_format};
+ghost use Rattle.tls_codec_grammar.specs.laws.FormatLaws.{fixed_list_meets};
 ghost use Rattle.tls_codec_slice.specs.Contents.{u8_elements_of, u16_elements_of, u24_elements_of, u32_elements_of};
 
 use std::alloc::{AllocError, Global};

@@ -4,6 +4,7 @@ ghost use Rattle.tls_codec_wire.specs.Counts.{NoneFell, fall_never, stay};
 
 mod appending;
 mod byte_vectors;
+mod digits;
 mod each_call;
 mod families;
 mod lengths;

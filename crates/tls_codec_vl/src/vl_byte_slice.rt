@@ -1,8 +1,8 @@
 //! [`VLByteSlice`], borrowed bytes, which are written and not read.
 ghost use Rattle.std.specs.Prelude.{◌≡◌, codes, Some};
-ghost use Rattle.tls_codec_base.specs.Tree.{number_trees};
-ghost use Rattle.tls_codec_base.specs.Format.{bytes_format};
-ghost use Rattle.tls_codec_base.specs.laws.FormatLaws.{bytes_meets};
+ghost use Rattle.tls_codec_grammar.specs.Tree.{number_trees};
+ghost use Rattle.tls_codec_grammar.specs.Format.{bytes_format};
+ghost use Rattle.tls_codec_grammar.specs.laws.FormatLaws.{bytes_meets};
 ghost use Rattle.tls_codec_vl.specs.Contents.{slice_bytes_of};
 ghost use Rattle.tls_codec_vl.specs.Shown.{debug_text};
 

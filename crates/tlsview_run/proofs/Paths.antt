@@ -5,10 +5,10 @@ use Rattle.tls_codec_wire.specs.Counts.{FaultIsCounted, no_counts}
 use Rattle.tls_codec_wire.specs.Names.{name_of}
 use Rattle.tls_codec_wire.specs.declared.error.Error.{Error}
 use Rattle.tls_codec_wire.specs.declared.error.Error.TheVariants.{OutOfMemory}
-use Rattle.tls_codec_base.specs.Tree.{Tree}
-use Rattle.tls_codec_base.specs.Grammar.{Grammar}
-use Rattle.tls_codec_base.specs.Lawful.{IsLawful}
-use Rattle.tls_codec_base.specs.Decoding.{Begins, Refuses, RefusesSource}
+use Rattle.tls_codec_grammar.specs.Tree.{Tree}
+use Rattle.tls_codec_grammar.specs.Grammar.{Grammar}
+use Rattle.tls_codec_grammar.specs.Lawful.{IsLawful}
+use Rattle.tls_codec_grammar.specs.Decoding.{Begins, Refuses, RefusesSource}
 use Rattle.tlsview_run.specs.View.{ok_line, refused_line, AppendsLeast, IsAcceptance, IsRefusal}
 
 -- a slice counts no fault

@@ -1,7 +1,7 @@
 -- The kinds.
 use Rattle.std.specs.Prelude.{◌≡◌, ℕ, Bool, List, codes}
-use Rattle.tls_codec_base.specs.Tree.{Tree}
-use Rattle.tls_codec_base.specs.Grammar.{Grammar, number, varint, option, triple, list, text, bytes}
+use Rattle.tls_codec_grammar.specs.Tree.{Tree}
+use Rattle.tls_codec_grammar.specs.Grammar.{Grammar, number, varint, option, triple, list, text, bytes}
 use Rattle.tlsview_run.specs.Texts.{number_text, option_text, triple_text, list_text, bytes_text}
 use Rattle.tlsview_run.specs.View.{Views, IsView}
 use Rattle.tlsview_run.specs.declared.kinds.Kind.{Kind}

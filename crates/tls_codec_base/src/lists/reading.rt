@@ -1,9 +1,9 @@
 //! Elements that fill a declared number of bytes, from a slice and from a source.
 ghost use Rattle.std.specs.Prelude.{◌≡◌, [], IfErr, IfOk, IsOkAnd};
 ghost use Rattle.tls_codec_wire.specs.Bounded.{BorrowAlike, inner_of, limit_of};
-ghost use Rattle.tls_codec_base.specs.Tree.{trees};
-ghost use Rattle.tls_codec_base.specs.Format.{content_format, sized_format};
-ghost use Rattle.tls_codec_base.specs.Decoding.{Reads, Splits};
+ghost use Rattle.tls_codec_grammar.specs.Tree.{trees};
+ghost use Rattle.tls_codec_grammar.specs.Format.{content_format, sized_format};
+ghost use Rattle.tls_codec_grammar.specs.Decoding.{Reads, Splits};
 ghost use Rattle.tls_codec_base.specs.Refusals.{elements_names, elements_source_names};
 ghost use Rattle.tls_codec_base.specs.Turns.{TurnedEach};
 

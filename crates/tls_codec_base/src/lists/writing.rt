@@ -1,10 +1,10 @@
 //! Elements in a row, written without a length.
 ghost use Rattle.std.specs.Prelude.{◌≡◌, ◌≤◌, ◌*◌, ◌^◌, IfErr, IfOk};
 ghost use Rattle.tls_codec_wire.specs.declared.error.Error.TheVariants.{InvalidVectorLength};
-ghost use Rattle.tls_codec_base.specs.Tree.{trees};
-ghost use Rattle.tls_codec_base.specs.Announced.{content_sum};
-ghost use Rattle.tls_codec_base.specs.Format.{content_format};
-ghost use Rattle.tls_codec_base.specs.Encoding.{AllAppended, AppendsForm, Writes};
+ghost use Rattle.tls_codec_grammar.specs.Tree.{trees};
+ghost use Rattle.tls_codec_grammar.specs.Announced.{content_sum};
+ghost use Rattle.tls_codec_grammar.specs.Format.{content_format};
+ghost use Rattle.tls_codec_grammar.specs.Encoding.{AllAppended, AppendsForm, Writes};
 
 use crate::traits::{Serialize, SerializeBytes, Size};
 use std::alloc::Global;

@@ -2,9 +2,9 @@
 ghost use Rattle.std.specs.Prelude.{◌≡◌, ◌≤◌, ℕ, length};
 ghost use Rattle.tls_codec_wire.specs.Digits.{Digits, value};
 ghost use Rattle.tls_codec_base.specs.declared.numbers.groups.TheConstants.{GROUP};
-ghost use Rattle.tls_codec_base.specs.Tree.{Number, trees};
-ghost use Rattle.tls_codec_base.specs.Format.{content_format, number_format};
-ghost use Rattle.tls_codec_base.specs.Encoding.{Writes};
+ghost use Rattle.tls_codec_grammar.specs.Tree.{Number, trees};
+ghost use Rattle.tls_codec_grammar.specs.Format.{content_format, number_format};
+ghost use Rattle.tls_codec_grammar.specs.Encoding.{Writes};
 
 use tls_codec_wire::{Error, Sink, write_all};
 

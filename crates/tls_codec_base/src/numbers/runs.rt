@@ -3,17 +3,17 @@ ghost use Rattle.std.specs.Prelude.{◌≡◌, ◌<◌, ◌≤◌, ◌%◌, ◌/
 ghost use Rattle.tls_codec_wire.specs.Bounded.{BorrowAlike, inner_of, limit_of};
 ghost use Rattle.tls_codec_wire.specs.Digits.{value};
 ghost use Rattle.tls_codec_wire.specs.declared.error.Error.TheVariants.{OutOfMemory};
-ghost use Rattle.tls_codec_base.specs.Tree.{Number, trees};
-ghost use Rattle.tls_codec_base.specs.Grammar.{Reading, content, number};
-ghost use Rattle.tls_codec_base.specs.Format.{number_format};
-ghost use Rattle.tls_codec_base.specs.Decoding.{AllGiven, AllRead};
+ghost use Rattle.tls_codec_grammar.specs.Tree.{Number, trees};
+ghost use Rattle.tls_codec_grammar.specs.Grammar.{Reading, content, number};
+ghost use Rattle.tls_codec_grammar.specs.Format.{number_format};
+ghost use Rattle.tls_codec_grammar.specs.Decoding.{AllGiven, AllRead};
 ghost use Rattle.tls_codec_base.specs.Refusals.{elements_source_names};
 ghost use Rattle.tls_codec_base.specs.Turns.{TurnedAll};
 ghost use Rattle.tls_codec_base.specs.Runs.{ReadsRun, number_source_names};
 
 use super::groups::HasDigits;
 use crate::lists::Turns;
-use crate::opaque::see_bytes;
+use tls_codec_grammar::opaque::see_bytes;
 use std::alloc::Global;
 use tls_codec_wire::{Bounded, Error, Source, read_bytes_bounded};
 

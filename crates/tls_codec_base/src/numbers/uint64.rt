@@ -3,13 +3,13 @@ ghost use Rattle.std.specs.Prelude.{◌≡◌, ◌<◌, length};
 ghost use Rattle.std.proofs.Common.{arith};
 ghost use Rattle.tls_codec_wire.specs.Transfer.{ReadRefused};
 ghost use Rattle.tls_codec_wire.specs.declared.error.Error.TheVariants.{EndOfStream};
-ghost use Rattle.tls_codec_base.specs.Tree.{Number};
-ghost use Rattle.tls_codec_base.specs.Format.{number_format};
-ghost use Rattle.tls_codec_base.specs.laws.FormatLaws.{number_meets};
+ghost use Rattle.tls_codec_grammar.specs.Tree.{Number};
+ghost use Rattle.tls_codec_grammar.specs.Format.{number_format};
+ghost use Rattle.tls_codec_grammar.specs.laws.FormatLaws.{number_meets};
 
 use super::groups::{HasDigits, send_run};
 use super::runs::{elements_of, read_elements};
-use super::{append_digits, digits_vector, read_digits, split_digits, write_digits};
+use tls_codec_grammar::digits::{append_digits, digits_vector, read_digits, split_digits, write_digits};
 use crate::lists::Turns;
 use crate::traits::{Deserialize, DeserializeBytes, Serialize, SerializeBytes, Size};
 use std::alloc::Global;

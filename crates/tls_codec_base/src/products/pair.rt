@@ -1,7 +1,7 @@
 //! `(T, U)`: the first part, then the second.
-ghost use Rattle.tls_codec_base.specs.Tree.{Empty, Join};
-ghost use Rattle.tls_codec_base.specs.Format.{pair_format};
-ghost use Rattle.tls_codec_base.specs.laws.FormatLaws.{pair_meets};
+ghost use Rattle.tls_codec_grammar.specs.Tree.{Empty, Join};
+ghost use Rattle.tls_codec_grammar.specs.Format.{pair_format};
+ghost use Rattle.tls_codec_grammar.specs.laws.FormatLaws.{pair_meets};
 ghost use Rattle.tls_codec_base.specs.Refusals.{fields_names, fields_source_names};
 
 use crate::traits::{Deserialize, DeserializeBytes, Serialize, Size};

@@ -1,7 +1,7 @@
 //! `PhantomData<T>`: no parts, and so no bytes. Nothing is asked of `T`.
-ghost use Rattle.tls_codec_base.specs.Tree.{Empty};
-ghost use Rattle.tls_codec_base.specs.Format.{nothing_format};
-ghost use Rattle.tls_codec_base.specs.laws.FormatLaws.{nothing_meets};
+ghost use Rattle.tls_codec_grammar.specs.Tree.{Empty};
+ghost use Rattle.tls_codec_grammar.specs.Format.{nothing_format};
+ghost use Rattle.tls_codec_grammar.specs.laws.FormatLaws.{nothing_meets};
 
 use crate::traits::{Deserialize, DeserializeBytes, Serialize, SerializeBytes, Size};
 use std::alloc::Global;

@@ -1,7 +1,7 @@
 //! `(T, U, V)`: the first part, then the second, then the third.
-ghost use Rattle.tls_codec_base.specs.Tree.{Empty, Join};
-ghost use Rattle.tls_codec_base.specs.Format.{triple_format};
-ghost use Rattle.tls_codec_base.specs.laws.FormatLaws.{triple_meets};
+ghost use Rattle.tls_codec_grammar.specs.Tree.{Empty, Join};
+ghost use Rattle.tls_codec_grammar.specs.Format.{triple_format};
+ghost use Rattle.tls_codec_grammar.specs.laws.FormatLaws.{triple_meets};
 ghost use Rattle.tls_codec_base.specs.Refusals.{fields_names, fields_source_names};
 
 use crate::traits::{Deserialize, DeserializeBytes, Serialize, Size};

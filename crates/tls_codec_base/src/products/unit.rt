@@ -1,7 +1,7 @@
 //! `()`: no parts, and so no bytes.
-ghost use Rattle.tls_codec_base.specs.Tree.{Empty};
-ghost use Rattle.tls_codec_base.specs.Format.{nothing_format};
-ghost use Rattle.tls_codec_base.specs.laws.FormatLaws.{nothing_meets};
+ghost use Rattle.tls_codec_grammar.specs.Tree.{Empty};
+ghost use Rattle.tls_codec_grammar.specs.Format.{nothing_format};
+ghost use Rattle.tls_codec_grammar.specs.laws.FormatLaws.{nothing_meets};
 
 use crate::traits::{Deserialize, DeserializeBytes, Serialize, Size};
 use std::alloc::Global;

@@ -1,7 +1,7 @@
 //! Encoders into one buffer, each size read back, and a type of which no value has a spelling.
 ghost use Rattle.std.specs.Prelude.{◌≡◌, true};
 ghost use Rattle.tls_codec_wire.specs.declared.error.Error.TheVariants.{InvalidInput};
-ghost use Rattle.tls_codec_base.specs.Tree.{Empty};
+ghost use Rattle.tls_codec_grammar.specs.Tree.{Empty};
 
 use super::each_call::{is_read, is_written_alone};
 use std::alloc::Global;

@@ -1,5 +1,5 @@
 use Rattle.std.proofs.Common.{◌≡◌, ◌+◌, ◌∙◌, arith}
-use Rattle.tls_codec_base.specs.Announced.{capped}
+use Rattle.tls_codec_grammar.specs.Announced.{capped}
 use Rattle.tls_codec_base.proofs.ListWriting.{counted_announced, counted_passes}
 use Rattle.tls_codec_base.proofs.counted.announced_len.Goals as goal
 

@@ -1,6 +1,6 @@
 use Rattle.std.proofs.Common.{ℕ, ap, arith, take, ◌∙◌}
-use Rattle.tls_codec_base.specs.laws.FormatLaws.{counted_list_meets}
-use Rattle.tls_codec_base.proofs.Appending.{either_not_appended, too_long_no_form}
+use Rattle.tls_codec_grammar.specs.laws.FormatLaws.{counted_list_meets}
+use Rattle.tls_codec_grammar.proofs.Appending.{either_not_appended, too_long_no_form}
 use Rattle.tls_codec_base.proofs.counted.append.Goals as goal
 
 pub returns-in-Err-clause-appends : goal.returns-in-Err-clause-appends

@@ -1,9 +1,9 @@
 use Rattle.std.proofs.Common.{length, arith, refl}
 use Rattle.std.proofs.lemmas.Result.{err_from_is_err_and}
-use Rattle.tls_codec_base.specs.Field.{IsSafeGap}
-use Rattle.tls_codec_base.specs.Format.{counted_list_format}
-use Rattle.tls_codec_base.specs.laws.FormatLaws.{content_length_sum, content_meets}
-use Rattle.tls_codec_base.proofs.Appending.{counted_appended, empty_made, empty_refused, gap_not_filled, inside_not_appended}
+use Rattle.tls_codec_grammar.specs.Field.{IsSafeGap}
+use Rattle.tls_codec_grammar.specs.Format.{counted_list_format}
+use Rattle.tls_codec_grammar.specs.laws.FormatLaws.{content_length_sum, content_meets}
+use Rattle.tls_codec_grammar.proofs.Appending.{counted_appended, empty_made, empty_refused, gap_not_filled, inside_not_appended}
 use Rattle.tls_codec_base.proofs.counted.behind_gap.Goals as goal
 
 pub returns-in_err-append_bytes : goal.returns-in_err-append_bytes

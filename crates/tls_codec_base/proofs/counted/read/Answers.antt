@@ -2,7 +2,7 @@ use Rattle.std.proofs.Common.{inr}
 use Rattle.std.proofs.lemmas.Result.{err_from_is_err_and}
 use Rattle.tls_codec_wire.proofs.Given.{gave_then}
 use Rattle.tls_codec_base.proofs.Coming.{named_behind}
-use Rattle.tls_codec_base.proofs.CountedDecoding.{count_refused, counted_given, counted_refused}
+use Rattle.tls_codec_grammar.proofs.CountedDecoding.{count_refused, counted_given, counted_refused}
 use Rattle.tls_codec_base.proofs.counted.read.Goals as goal
 
 pub returns-in_err-length-clause-reads : goal.returns-in_err-length-clause-reads

@@ -1,6 +1,6 @@
 use Rattle.std.proofs.Common.{inr}
 use Rattle.std.proofs.lemmas.Result.{err_from_is_err_and}
-use Rattle.tls_codec_base.proofs.CountedDecoding.{count_refuses, counted_begins, counted_refuses}
+use Rattle.tls_codec_grammar.proofs.CountedDecoding.{count_refuses, counted_begins, counted_refuses}
 use Rattle.tls_codec_base.proofs.counted.split.Goals as goal
 
 pub returns-in_err-length-clause-splits : goal.returns-in_err-length-clause-splits

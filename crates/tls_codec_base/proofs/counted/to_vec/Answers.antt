@@ -1,5 +1,5 @@
-use Rattle.tls_codec_base.specs.laws.FormatLaws.{counted_list_meets}
-use Rattle.tls_codec_base.proofs.Appending.{either_no_vector, too_long_no_form}
+use Rattle.tls_codec_grammar.specs.laws.FormatLaws.{counted_list_meets}
+use Rattle.tls_codec_grammar.proofs.Appending.{either_no_vector, too_long_no_form}
 use Rattle.tls_codec_base.proofs.counted.to_vec.Goals as goal
 
 pub returns-in-Err-clause-makes : goal.returns-in-Err-clause-makes

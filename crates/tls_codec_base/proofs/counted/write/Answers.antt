@@ -1,7 +1,7 @@
 use Rattle.std.proofs.Common.{arith, refl, inl}
 use Rattle.std.proofs.lemmas.Result.{err_from_is_err_and}
-use Rattle.tls_codec_base.specs.laws.FormatLaws.{content_meets, counted_list_meets}
-use Rattle.tls_codec_base.proofs.CountedEncoding.{field_breaks_count, field_breaks_inside, field_sends, named_breaks}
+use Rattle.tls_codec_grammar.specs.laws.FormatLaws.{content_meets, counted_list_meets}
+use Rattle.tls_codec_grammar.proofs.CountedEncoding.{field_breaks_count, field_breaks_inside, field_sends, named_breaks}
 use Rattle.tls_codec_base.proofs.ListWriting.{content_announced}
 use Rattle.tls_codec_base.proofs.counted.write.Goals as goal
 

@@ -1,4 +1,4 @@
-use Rattle.tls_codec_base.proofs.ByteContents.{bytes_counted}
+use Rattle.tls_codec_grammar.proofs.ByteContents.{bytes_counted}
 use Rattle.tls_codec_base.proofs.laws.equal_bytes_have_equal_spellings.Goals as goal
 
 pub returns : goal.returns

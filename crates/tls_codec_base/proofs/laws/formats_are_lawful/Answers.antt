@@ -1,4 +1,4 @@
-use Rattle.tls_codec_base.specs.laws.FormatLaws.{fields_meets, fixed_list_meets, list_meets, nothing_meets, option_meets, text_meets}
+use Rattle.tls_codec_grammar.specs.laws.FormatLaws.{fields_meets, fixed_list_meets, list_meets, nothing_meets, option_meets, text_meets}
 use Rattle.tls_codec_base.proofs.laws.formats_are_lawful.Goals as goal
 
 pub returns : goal.returns

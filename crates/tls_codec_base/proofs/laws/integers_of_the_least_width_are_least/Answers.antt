@@ -1,6 +1,6 @@
 use Rattle.std.proofs.Common.{sym}
-use Rattle.tls_codec_base.specs.laws.VarintLaws.{varint_field}
-use Rattle.tls_codec_base.proofs.VarintValues.{least_shortest}
+use Rattle.tls_codec_grammar.specs.laws.VarintLaws.{varint_field}
+use Rattle.tls_codec_grammar.proofs.VarintValues.{least_shortest}
 use Rattle.tls_codec_base.proofs.laws.integers_of_the_least_width_are_least.Goals as goal
 
 pub returns : goal.returns

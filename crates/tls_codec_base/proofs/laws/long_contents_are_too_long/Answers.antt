@@ -1,6 +1,6 @@
 use Rattle.std.proofs.Common.{arith}
-use Rattle.tls_codec_base.specs.laws.FormatLaws.{content_length_sum}
-use Rattle.tls_codec_base.specs.laws.ListLaws.{content_announces}
+use Rattle.tls_codec_grammar.specs.laws.FormatLaws.{content_length_sum}
+use Rattle.tls_codec_grammar.specs.laws.ListLaws.{content_announces}
 use Rattle.tls_codec_base.proofs.laws.long_contents_are_too_long.Goals as goal
 
 pub returns : goal.returns

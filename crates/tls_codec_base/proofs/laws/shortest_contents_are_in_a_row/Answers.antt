@@ -1,5 +1,5 @@
 use Rattle.std.proofs.Common.{sym, ◌∙◌, inl}
-use Rattle.tls_codec_base.specs.laws.ListLaws.{content_in_a_row}
+use Rattle.tls_codec_grammar.specs.laws.ListLaws.{content_in_a_row}
 use Rattle.tls_codec_base.proofs.laws.shortest_contents_are_in_a_row.Goals as goal
 
 pub returns : goal.returns

@@ -1,7 +1,7 @@
 -- The source gave a content of the elements so far, each of which took a turn.
 use Rattle.std.proofs.Common.{◌≡◌, []}
 use Rattle.tls_codec_wire.specs.Bounded.{BorrowAlike, inner_of, limit_of}
-use Rattle.tls_codec_base.specs.Tree.{trees}
+use Rattle.tls_codec_grammar.specs.Tree.{trees}
 use Rattle.tls_codec_base.specs.Turns.{TurnedEach}
 use Rattle.tls_codec_base.proofs.ListSources.{GivenSoFar}
 use Rattle.tls_codec_base.proofs.lists.reading.each_within.Given as goal

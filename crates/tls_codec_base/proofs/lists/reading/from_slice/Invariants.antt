@@ -1,6 +1,6 @@
 -- The front of the bytes is a content of the elements so far, each of which took a turn.
 use Rattle.std.proofs.Common.{◌≡◌, []}
-use Rattle.tls_codec_base.specs.Tree.{trees}
+use Rattle.tls_codec_grammar.specs.Tree.{trees}
 use Rattle.tls_codec_base.specs.Turns.{TurnedEach}
 use Rattle.tls_codec_base.proofs.ListReading.{ReadSoFar}
 use Rattle.tls_codec_base.proofs.lists.reading.from_slice.Given as goal

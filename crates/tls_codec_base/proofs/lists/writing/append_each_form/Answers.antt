@@ -1,7 +1,7 @@
 use Rattle.std.proofs.Common.{ap, arith, refl}
 use Rattle.std.proofs.Math.ListN.{drop_of_length-le}
-use Rattle.tls_codec_base.specs.Tree.{trees}
-use Rattle.tls_codec_base.proofs.Appending.{appended_all, appended_more, appended_none, next_not_appended}
+use Rattle.tls_codec_grammar.specs.Tree.{trees}
+use Rattle.tls_codec_base.proofs.PartsAppending.{appended_all, appended_more, appended_none, next_not_appended}
 use Rattle.tls_codec_base.proofs.ListWriting.{trees_drop}
 use Rattle.tls_codec_base.proofs.lists.writing.append_each_form.Goals as goal
 

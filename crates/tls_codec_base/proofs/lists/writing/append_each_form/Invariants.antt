@@ -1,6 +1,6 @@
 use Rattle.std.proofs.Common.{drop}
-use Rattle.tls_codec_base.specs.Tree.{trees}
-use Rattle.tls_codec_base.proofs.Appending.{AppendedSoFar}
+use Rattle.tls_codec_grammar.specs.Tree.{trees}
+use Rattle.tls_codec_base.proofs.PartsAppending.{AppendedSoFar}
 use Rattle.tls_codec_base.proofs.lists.writing.append_each_form.Given as goal
 
 abbrev pub invariant-loop-element : goal.invariant-loop-element

@@ -1,6 +1,6 @@
 use Rattle.std.proofs.Common.{arith, refl}
 use Rattle.std.proofs.lemmas.Result.{err_from_is_err_and}
-use Rattle.tls_codec_base.proofs.Appending.{form_too_long, vector_not_appended, whole_appended}
+use Rattle.tls_codec_grammar.proofs.Appending.{form_too_long, vector_not_appended, whole_appended}
 use Rattle.tls_codec_base.proofs.lists.writing.append_form.Goals as goal
 
 pub returns-in_err-form : goal.returns-in_err-form

@@ -1,6 +1,6 @@
 use Rattle.std.proofs.Common.{◌≡◌, ◌+◌, ◌<◌, ◌^◌, drop}
-use Rattle.tls_codec_base.specs.Tree.{trees}
-use Rattle.tls_codec_base.specs.Announced.{content_sum}
+use Rattle.tls_codec_grammar.specs.Tree.{trees}
+use Rattle.tls_codec_grammar.specs.Announced.{content_sum}
 use Rattle.tls_codec_base.proofs.lists.writing.sum_of_lengths.Given as goal
 
 -- the sum so far and that of what is left are the sum of all

@@ -1,7 +1,7 @@
 use Rattle.std.proofs.Common.{ap}
 use Rattle.std.proofs.Math.ListN.{drop_of_length-le}
 use Rattle.std.proofs.lemmas.Result.{err_from_is_err_and}
-use Rattle.tls_codec_base.specs.Tree.{trees}
+use Rattle.tls_codec_grammar.specs.Tree.{trees}
 use Rattle.tls_codec_base.proofs.ListWriting.{sent_all, sent_breaks, sent_more, trees_drop}
 use Rattle.tls_codec_base.proofs.lists.writing.write_each.Goals as goal
 

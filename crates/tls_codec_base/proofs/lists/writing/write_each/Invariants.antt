@@ -1,5 +1,5 @@
 use Rattle.std.proofs.Common.{drop}
-use Rattle.tls_codec_base.specs.Tree.{trees}
+use Rattle.tls_codec_grammar.specs.Tree.{trees}
 use Rattle.tls_codec_base.proofs.ListWriting.{SentSoFar}
 use Rattle.tls_codec_base.proofs.lists.writing.write_each.Given as goal
 

@@ -1,11 +1,11 @@
 use Rattle.std.proofs.Common.{arith}
 use Rattle.std.proofs.lemmas.Result.{err_from_is_err_and}
-use Rattle.tls_codec_base.specs.Tree.{Number, trees}
-use Rattle.tls_codec_base.specs.Grammar.{content, number}
-use Rattle.tls_codec_base.specs.Shortest.{IsShortest}
-use Rattle.tls_codec_base.specs.Format.{content_format, number_format}
+use Rattle.tls_codec_grammar.specs.Tree.{Number, trees}
+use Rattle.tls_codec_grammar.specs.Grammar.{content, number}
+use Rattle.tls_codec_grammar.specs.Shortest.{IsShortest}
+use Rattle.tls_codec_grammar.specs.Format.{content_format, number_format}
 use Rattle.tls_codec_base.proofs.NumberRuns.{digits_in_a_row}
-use Rattle.tls_codec_base.proofs.Sent.{breaks_whole}
+use Rattle.tls_codec_grammar.proofs.Sent.{breaks_whole}
 use Rattle.tls_codec_base.proofs.numbers.groups.send_group.Goals as goal
 
 pub returns-in_err-write_all : goal.returns-in_err-write_all

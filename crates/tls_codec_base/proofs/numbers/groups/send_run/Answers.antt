@@ -1,7 +1,7 @@
 use Rattle.std.proofs.Common.{ap, arith, rules}
 use Rattle.std.proofs.lemmas.Result.{err_from_is_err_and}
-use Rattle.tls_codec_base.specs.Tree.{Number, trees}
-use Rattle.tls_codec_base.specs.laws.FormatLaws.{number_meets}
+use Rattle.tls_codec_grammar.specs.Tree.{Number, trees}
+use Rattle.tls_codec_grammar.specs.laws.FormatLaws.{number_meets}
 use Rattle.tls_codec_base.proofs.ListWriting.{first_breaks, sent_all, sent_first, trees_none}
 use Rattle.tls_codec_base.proofs.numbers.groups.send_run.Goals as goal
 

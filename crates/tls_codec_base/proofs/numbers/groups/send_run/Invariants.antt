@@ -1,6 +1,6 @@
 use Rattle.std.proofs.Common.{length}
-use Rattle.tls_codec_base.specs.Tree.{Number, trees}
-use Rattle.tls_codec_base.specs.Format.{number_format}
+use Rattle.tls_codec_grammar.specs.Tree.{Number, trees}
+use Rattle.tls_codec_grammar.specs.Format.{number_format}
 use Rattle.tls_codec_base.proofs.ListWriting.{SentSoFar}
 use Rattle.tls_codec_base.proofs.numbers.groups.send_run.Given as goal
 

@@ -1,5 +1,5 @@
 use Rattle.std.proofs.Common.{arith}
-use Rattle.tls_codec_base.proofs.Appending.{option_appended, option_not_appended}
+use Rattle.tls_codec_base.proofs.PartsAppending.{option_appended, option_not_appended}
 use Rattle.tls_codec_base.proofs.options.OptionSerialize.tls_serialize_into.Goals as goal
 
 pub returns-in-Ok-clause-appends : goal.returns-in-Ok-clause-appends

@@ -1,5 +1,5 @@
 use Rattle.std.proofs.lemmas.Result.{err_from_is_err_and}
-use Rattle.tls_codec_base.proofs.Appending.{empty_made, empty_refused}
+use Rattle.tls_codec_grammar.proofs.Appending.{empty_made, empty_refused}
 use Rattle.tls_codec_base.proofs.traits.Serialize.tls_serialize_detached.Goals as goal
 
 pub returns-in_err-tls_serialize_into-clause-makes : goal.returns-in_err-tls_serialize_into-clause-makes

@@ -1,5 +1,5 @@
 use Rattle.std.proofs.Common.{arith}
-use Rattle.tls_codec_base.proofs.Appending.{cut_off}
+use Rattle.tls_codec_grammar.proofs.Appending.{cut_off}
 use Rattle.tls_codec_base.proofs.VectorSinks.{write_not_appended, written_appended}
 use Rattle.tls_codec_base.proofs.traits.Serialize.tls_serialize_into.Goals as goal
 

@@ -1,4 +1,4 @@
-use Rattle.tls_codec_base.proofs.VarintValues.{varint_writes}
+use Rattle.tls_codec_grammar.proofs.VarintValues.{varint_writes}
 use Rattle.tls_codec_base.proofs.varint.TlsVarIntSerialize.tls_serialize.Goals as goal
 
 pub returns-clause-writes : goal.returns-clause-writes

@@ -1,7 +1,7 @@
-use Rattle.tls_codec_base.specs.Tree.{Number}
-use Rattle.tls_codec_base.specs.Grammar.{number}
-use Rattle.tls_codec_base.specs.Decoding.{GaveSpelling}
-use Rattle.tls_codec_base.proofs.NumberCalls.{at_digits}
+use Rattle.tls_codec_grammar.specs.Tree.{Number}
+use Rattle.tls_codec_grammar.specs.Grammar.{number}
+use Rattle.tls_codec_grammar.specs.Decoding.{GaveSpelling}
+use Rattle.tls_codec_grammar.proofs.NumberCalls.{at_digits}
 use Rattle.tls_codec_base.proofs.numbers.uint64.U64Deserialize.tls_deserialize.Goals as goal
 
 pub returns-clause-reads : goal.returns-clause-reads

@@ -1,7 +1,7 @@
-use Rattle.tls_codec_base.specs.Tree.{Number}
-use Rattle.tls_codec_base.specs.Grammar.{number}
-use Rattle.tls_codec_base.specs.Decoding.{Begins}
-use Rattle.tls_codec_base.proofs.NumberCalls.{at_digits}
+use Rattle.tls_codec_grammar.specs.Tree.{Number}
+use Rattle.tls_codec_grammar.specs.Grammar.{number}
+use Rattle.tls_codec_grammar.specs.Decoding.{Begins}
+use Rattle.tls_codec_grammar.proofs.NumberCalls.{at_digits}
 use Rattle.tls_codec_base.proofs.numbers.uint64.U64DeserializeBytes.tls_deserialize_bytes.Goals as goal
 
 pub returns-clause-splits : goal.returns-clause-splits

@@ -1,8 +1,8 @@
 use Rattle.std.proofs.Common.{arith, ℕ, List, subst, sym}
 use Rattle.tls_codec_wire.proofs.Bytes.{are_bytes}
-use Rattle.tls_codec_base.specs.Tree.{number_trees}
-use Rattle.tls_codec_base.specs.Grammar.{Reading, content, number}
-use Rattle.tls_codec_base.proofs.ByteContents.{bytes_content}
+use Rattle.tls_codec_grammar.specs.Tree.{number_trees}
+use Rattle.tls_codec_grammar.specs.Grammar.{Reading, content, number}
+use Rattle.tls_codec_grammar.proofs.ByteContents.{bytes_content}
 use Rattle.tls_codec_base.proofs.numbers.uint8.U8DeserializeBytes.tls_elements.Goals as goal
 
 pub returns : goal.returns

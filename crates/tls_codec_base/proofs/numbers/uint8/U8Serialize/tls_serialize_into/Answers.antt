@@ -1,6 +1,6 @@
 use Rattle.std.proofs.Common.{arith, refl}
-use Rattle.tls_codec_base.proofs.Appending.{whole_appended}
-use Rattle.tls_codec_base.proofs.NumberCalls.{byte_shortest}
+use Rattle.tls_codec_grammar.proofs.Appending.{whole_appended}
+use Rattle.tls_codec_grammar.proofs.NumberCalls.{byte_shortest}
 use Rattle.tls_codec_base.proofs.numbers.uint8.U8Serialize.tls_serialize_into.Goals as goal
 
 pub returns-in-Ok-clause-appends : goal.returns-in-Ok-clause-appends

@@ -1,9 +1,9 @@
 use Rattle.std.proofs.Common.{arith}
 use Rattle.std.proofs.lemmas.Result.{err_from_is_err_and}
 use Rattle.tls_codec_wire.proofs.Bytes.{are_bytes}
-use Rattle.tls_codec_base.specs.Format.{content_format, number_format}
-use Rattle.tls_codec_base.proofs.ByteContents.{bytes_shortest}
-use Rattle.tls_codec_base.proofs.Sent.{breaks_whole}
+use Rattle.tls_codec_grammar.specs.Format.{content_format, number_format}
+use Rattle.tls_codec_grammar.proofs.ByteContents.{bytes_shortest}
+use Rattle.tls_codec_grammar.proofs.Sent.{breaks_whole}
 use Rattle.tls_codec_base.proofs.numbers.uint8.U8Size.tls_send_elements.Goals as goal
 
 pub returns-in_err-write_all : goal.returns-in_err-write_all

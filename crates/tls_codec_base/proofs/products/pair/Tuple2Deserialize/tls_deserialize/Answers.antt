@@ -1,6 +1,6 @@
 use Rattle.std.proofs.Common.{inr}
 use Rattle.std.proofs.lemmas.Result.{err_from_is_err_and}
-use Rattle.tls_codec_base.specs.Format.{fields_format, nothing_format}
+use Rattle.tls_codec_grammar.specs.Format.{fields_format, nothing_format}
 use Rattle.tls_codec_base.proofs.FieldsDecoding.{fields_given, fields_leaves_first, fields_leaves_others, nothing_given, others_named_source}
 use Rattle.tls_codec_base.proofs.products.pair.Tuple2Deserialize.tls_deserialize.Goals as goal
 

@@ -1,8 +1,8 @@
 use Rattle.std.proofs.Common.{arith}
 use Rattle.std.proofs.lemmas.Result.{err_from_is_err_and}
-use Rattle.tls_codec_base.specs.laws.FormatLaws.{fields_meets, nothing_meets}
+use Rattle.tls_codec_grammar.specs.laws.FormatLaws.{fields_meets, nothing_meets}
 use Rattle.tls_codec_base.proofs.FieldsEncoding.{fields_breaks_first, fields_breaks_others, fields_sends, nothing_sends}
-use Rattle.tls_codec_base.proofs.Sent.{sends_count}
+use Rattle.tls_codec_grammar.proofs.Sent.{sends_count}
 use Rattle.tls_codec_base.proofs.products.triple.Tuple3Serialize.tls_serialize.Goals as goal
 
 pub returns-in_err-first-clause-writes : goal.returns-in_err-first-clause-writes

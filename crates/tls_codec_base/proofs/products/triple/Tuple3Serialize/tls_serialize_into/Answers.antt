@@ -1,7 +1,8 @@
 use Rattle.std.proofs.Common.{◌∙◌, refl, arith}
 use Rattle.std.proofs.lemmas.Result.{err_from_is_err_and}
-use Rattle.tls_codec_base.specs.laws.FormatLaws.{fields_meets, nothing_meets}
-use Rattle.tls_codec_base.proofs.Appending.{appended_behind, appended_size, cut_off, fields_appended, first_not_appended, nothing_appended, others_not_appended}
+use Rattle.tls_codec_grammar.specs.laws.FormatLaws.{fields_meets, nothing_meets}
+use Rattle.tls_codec_grammar.proofs.Appending.{cut_off}
+use Rattle.tls_codec_base.proofs.PartsAppending.{appended_behind, appended_size, fields_appended, first_not_appended, nothing_appended, others_not_appended}
 use Rattle.tls_codec_base.proofs.products.triple.Tuple3Serialize.tls_serialize_into.Goals as goal
 
 pub returns-in_err-first-clause-appends : goal.returns-in_err-first-clause-appends

@@ -1,0 +1,167 @@
+-- What is appended to a vector, and why nothing is.
+use Rattle.std.proofs.Common.{◌≡◌, ℕ, ◌+◌, ◌-◌, ◌≤◌, ◌^◌, ◌⊎◌, List, [], ◌++◌, length, take, drop, inl, inr, refl, sym, ap, subst, ◌∙◌, append_assoc, length-append, arith}
+use Rattle.std.proofs.Math.Seq.{drop-append_seam, take-append_seam}
+use Rattle.tls_codec_wire.specs.declared.error.Error.{Error}
+use Rattle.tls_codec_wire.specs.declared.error.Error.TheVariants.{InvalidVectorLength, OutOfMemory}
+use Rattle.tls_codec_grammar.specs.Tree.{Tree}
+use Rattle.tls_codec_grammar.specs.Grammar.{Writing}
+use Rattle.tls_codec_grammar.specs.Shortest.{IsLeast, IsShortest}
+use Rattle.tls_codec_grammar.specs.Announced.{capped}
+use Rattle.tls_codec_grammar.specs.Field.{Field, FilledGap, GapRefused, IsSafeGap, OpenedGap}
+use Rattle.tls_codec_grammar.specs.Format.{Format, counted_format}
+use Rattle.tls_codec_grammar.specs.Lawful.{MeetsFieldLaws, MeetsLaws, MeetsLawsInside}
+use Rattle.tls_codec_grammar.specs.Encoding.{Appended, AppendRefused, PassesVectorBehind, RefusesVector}
+use Rattle.tls_codec_grammar.specs.laws.RowLaws.{least_one}
+use Rattle.tls_codec_grammar.specs.laws.ListLaws.{counted_least}
+use Rattle.tls_codec_grammar.proofs.CountedEncoding.{counted_split}
+
+-- what was appended is cut off
+pub cut_off : {a b c : List ℕ} {n : ℕ} (form : List ℕ) → c ≡ take n b → n ≡ length a → b ≡ a ++ form → c ≡ a
+cut_off {a} {b} {c} {n} form cut e held = cut ∙ ap (λ (k : ℕ). take k b) e ∙ ap (take (length a)) held ∙ take-append_seam a form
+
+-- a form that is appended in one piece
+pub whole_appended : {f : Format} {v : Tree} {form old new : List ℕ} {n : ℕ} → IsShortest f.spells form v → new ≡ old ++ form → n ≡ length form → Appended f v old new n
+whole_appended {f} {v} {form} p held count = record { form = form; shortest = p; held = held; count = count }
+
+-- the form and what stands before it pass the greatest vector
+pub form_too_long : {f : Format} {v : Tree} {form old new : List ℕ} → new ≡ old → IsShortest f.spells form v → 2 ^ 63 ≤ length old + length form → AppendRefused f v old new InvalidVectorLength
+form_too_long {f} {v} {form} kept p long = record {
+  kept = kept;
+  cause = inr (inr (refl, λ s q. omega (arith, long, ap length (least_one (λ u. f.spells Writing u v) s form q p))));
+}
+
+-- a part is refused: what its format names for it the whole's names for the whole, whose shortest forms are no shorter
+-- than the part's behind what stands before it
+pub part_refused : {part : Format} {v : Tree} {b c : List ℕ} {e : Error} (whole : Format) (w : Tree) (a d : List ℕ) → AppendRefused part v b c e → d ≡ a → (part.refuses v e → whole.refuses w e)
+    → ((s : List ℕ) → IsShortest whole.spells s w → (x : List ℕ) × IsShortest part.spells x v × (length b + length x ≤ length a + length s)) → AppendRefused whole w a d e
+part_refused whole w a d p kept named forms = record {
+  kept = kept;
+  cause = elim p.cause [
+    | inl memory ↦ inl memory
+    | inr (inl refused) ↦ inr (inl (named refused))
+    | inr (inr long) ↦ inr (inr (
+      long.0,
+      λ s q.
+          let x = forms s q in
+          omega (arith, long.1 x.0 x.1, x.2),
+    ))
+  ];
+}
+
+-- ---- vectors of their own
+
+-- nothing is appended where no vector is made
+pub vector_not_appended : {f : Format} {v : Tree} {old new : List ℕ} {e : Error} → new ≡ old → RefusesVector f v e → AppendRefused f v old new e
+vector_not_appended kept p = record {
+  kept = kept;
+  cause = elim p.cause [
+    | inl memory ↦ inl memory
+    | inr (inl named) ↦ inr (inl named)
+    | inr (inr long) ↦ inr (inr (long.0, λ s q. omega (arith, long.1 s q)))
+  ];
+}
+
+-- what an empty vector then holds, and why it is none
+pub empty_made : (f : Format) {v : Tree} {a b : List ℕ} {n : ℕ} → a ≡ [] → Appended f v a b n → IsShortest f.spells b v
+empty_made f {v} {a} {b} {n} e p = subst (λ (u : List ℕ). IsShortest f.spells u v) (sym (p.held ∙ ap (λ (u : List ℕ). u ++ p.form) e)) p.shortest
+
+pub empty_refused : {f : Format} {v : Tree} {a b : List ℕ} {e : Error} → a ≡ [] → AppendRefused f v a b e → RefusesVector f v e
+empty_refused h p = record {
+  cause = elim p.cause [
+    | inl memory ↦ inl memory
+    | inr (inl named) ↦ inr (inl named)
+    | inr (inr long) ↦ inr (inr (long.0, λ s q. omega (arith, ap length h, long.1 s q)))
+  ];
+}
+
+-- ---- what stands behind its length
+
+-- what is too long has no form
+pub too_long_no_form : {f : Format} {v : Tree} {form : List ℕ} → MeetsLaws f → f.too_long v → IsShortest f.spells form v → ⊥
+too_long_no_form {f} {v} {form} l long p = l.unspelled v InvalidVectorLength (l.long v long) form p.spelled
+
+-- where a refusal names what it is named for, or that the value is too long, it is one of the format
+pub either_not_appended : {f : Format} {v : Tree} {a b d : List ℕ} {e refused : Error} → MeetsLaws f → AppendRefused f v a b e → d ≡ b → (refused ≡ e) ⊎ ((refused ≡ InvalidVectorLength) × f.too_long v) → AppendRefused f v a d refused
+either_not_appended {f} {v} {a} {b} {d} l p same (inl e) = record { kept = same ∙ p.kept; cause = subst (λ (u : Error). (u ≡ OutOfMemory) ⊎ (f.refuses v u ⊎ ((u ≡ InvalidVectorLength) × PassesVectorBehind (length a) f.spells v))) (sym e) p.cause }
+either_not_appended {f} {v} {a} {b} {d} l p same (inr long) = record { kept = same ∙ p.kept; cause = inr (inl (subst (f.refuses v) (sym long.0) (l.long v long.1))) }
+
+pub either_no_vector : {f : Format} {v : Tree} {e refused : Error} → MeetsLaws f → RefusesVector f v e → (refused ≡ e) ⊎ ((refused ≡ InvalidVectorLength) × f.too_long v) → RefusesVector f v refused
+either_no_vector {f} {v} l p (inl same) = subst (RefusesVector f v) (sym same) p
+either_no_vector {f} {v} l p (inr long) = record { cause = inr (inl (subst (f.refuses v) (sym long.0) (l.long v long.1))) }
+
+module _ {field : Field} (m : MeetsFieldLaws field) {inside : Format} (l : MeetsLawsInside inside) where
+  module _ {sum : Tree → ℕ} {v : Tree} where
+    -- the length stands in the gap before the inside
+    pub counted_appended : {a b c d : List ℕ} {at gap k width n : ℕ} → at ≡ length a → OpenedGap a b gap → Appended inside v b c k → FilledGap field c d at gap width → n ≡ length d - at → Appended (counted_format field sum inside) v a d n
+    counted_appended {a} {b} {c} {d} {at} {gap} {k} {width} {n} e o p q h =
+        let place : at + gap ≡ length b = omega (arith, e, o.count, ap length o.held, length-append a o.gap) in
+        let size : length c - (at + gap) ≡ length p.form = omega (arith, place, ap length p.held, length-append b p.form) in
+        let least : IsLeast (λ t. field.spells t (length p.form)) q.form = subst (λ (j : ℕ). IsLeast (λ t. field.spells t j) q.form) size q.least in
+        let behind : drop (at + gap) c ≡ p.form = ap (λ (j : ℕ). drop j c) place ∙ ap (drop (length b)) p.held ∙ drop-append_seam b p.form in
+        let whole : c ≡ a ++ (o.gap ++ p.form) = p.held ∙ ap (λ (u : List ℕ). u ++ p.form) o.held ∙ append_assoc a o.gap p.form in
+        let held : d ≡ a ++ (q.form ++ p.form) = q.held ∙ ap (λ (u : List ℕ). u ++ (q.form ++ drop (at + gap) c)) (cut_off (o.gap ++ p.form) refl e whole) ∙ ap (λ (u : List ℕ). a ++ (q.form ++ u)) behind in
+        record {
+          form = q.form ++ p.form;
+          shortest = counted_least field.spells field.width m.counts inside.spells q.form p.form v least p.shortest;
+          held = held;
+          count = omega (arith, h, e, ap length held, length-append a (q.form ++ p.form));
+        }
+
+    -- the inside is refused behind its gap
+    pub inside_not_appended : {a b c d : List ℕ} {gap : ℕ} {e : Error} → OpenedGap a b gap → IsSafeGap (length a) gap → AppendRefused inside v b c e → d ≡ a → AppendRefused (counted_format field sum inside) v a d e
+    inside_not_appended {a} {b} {c} {d} {gap} {e} o safe p kept = record {
+      kept = kept;
+      cause = elim p.cause [
+        | inl memory ↦ inl memory
+        | inr (inl named) ↦ inr (inl (inr named))
+        | inr (inr long) ↦ inr (inr (
+          long.0,
+          λ s q.
+              let h = counted_split m l s q in
+              let below = m.below h.1 (length h.0) h.4.spelled in
+              let more = long.1 h.0 h.3 in
+              elim safe [
+                | inl none ↦ omega (arith, more, none, o.count, ap length o.held, length-append a o.gap, ap length h.2, length-append h.1 h.0)
+                | inr small ↦ absurd (omega (arith, more, below, m.small, small, o.count, ap length o.held, length-append a o.gap))
+              ],
+        ))
+      ];
+    }
+
+    -- its length is refused
+    pub count_not_appended : {a d c : List ℕ} {e : Error} → inside.announced v ≡ capped (sum v) → IsShortest inside.spells c v → d ≡ a → (e ≡ OutOfMemory) ⊎ ((e ≡ InvalidVectorLength) × (field.limit ≤ length c)) → AppendRefused (counted_format field sum inside) v a d e
+    count_not_appended {a} {d} {c} {e} is_sum p kept q = record {
+      kept = kept;
+      cause = elim q [
+        | inl memory ↦ inl memory
+        | inr long ↦ inr (inl (inl (long.0, omega (arith, long.1, is_sum, l.spelled.announces c v p))))
+      ];
+    }
+
+    -- the same for the length that is put into the gap
+    pub gap_not_filled : {a b c d : List ℕ} {at gap k : ℕ} (e : Error) → inside.announced v ≡ capped (sum v) → at ≡ length a → OpenedGap a b gap → Appended inside v b c k → d ≡ a → GapRefused field e at (length c - (at + gap)) → AppendRefused (counted_format field sum inside) v a d e
+    gap_not_filled OutOfMemory is_sum e o p kept q = record { kept = kept; cause = inl refl }
+    gap_not_filled {a} {b} {c} {d} {at} {gap} {k} InvalidVectorLength is_sum e o p kept q =
+        let size : length c - (at + gap) ≡ length p.form = omega (arith, e, o.count, ap length o.held, length-append a o.gap, ap length p.held, length-append b p.form) in
+        record {
+          kept = kept;
+          cause = elim q [
+            | inl long ↦ inr (inl (inl (refl, omega (arith, size, long, is_sum, l.spelled.announces p.form v p.shortest))))
+            | inr passes ↦ inr (inr (
+              refl,
+              λ s r.
+                  let h = counted_split m l s r in
+                  let same : h.0 ≡ p.form = least_one (λ u. inside.spells Writing u v) h.0 p.form h.3 p.shortest in
+                  let width = m.counts.measures h.1 (length h.0) h.4 in
+                  let wide : field.width (length c - (at + gap)) ≡ field.width (length h.0) = ap field.width (size ∙ ap length (sym same)) in
+                  omega (arith, passes, wide, width, e, size, ap length same, ap length h.2, length-append h.1 h.0),
+            ))
+          ];
+        }
+    gap_not_filled _ is_sum e o p kept q = absurd q
+
+-- what stood before a gap is left of a vector whose bytes before it are as they were
+pub kept_before_gap : {f : Format} {v : Tree} {a b c : List ℕ} (d : List ℕ) {at gap k : ℕ} → at ≡ length a → OpenedGap a b gap → Appended f v b c k → take at d ≡ take at c → take (length a) d ≡ a
+kept_before_gap {f} {v} {a} {b} {c} d {at} e o p same =
+    let whole : c ≡ a ++ (o.gap ++ p.form) = p.held ∙ ap (λ (u : List ℕ). u ++ p.form) o.held ∙ append_assoc a o.gap p.form in
+    ap (λ (n : ℕ). take n d) (sym e) ∙ same ∙ cut_off (o.gap ++ p.form) refl e whole

@@ -1,0 +1,107 @@
+-- Length fields: digits, variable-length integers, and gaps that they are put into.
+use Rattle.std.proofs.Common.{◌≡◌, ℕ, ◌+◌, ◌-◌, ◌^◌, ◌<◌, ◌≤◌, List, ◌++◌, length, take, drop, take-append-drop, Option, None, Some, sym, ap, subst, ◌∙◌, arith, append_assoc, length-append, length-take-le}
+use Rattle.std.proofs.Math.Nat.{mod-eq_of_lt}
+use Rattle.std.proofs.Math.Seq.{drop-append_seam, take-add, take-append_seam, take-length}
+use Rattle.std.specs.Int.{bytes_high_first}
+use Rattle.tls_codec_wire.specs.Counts.{Counts}
+use Rattle.tls_codec_wire.specs.Digits.{Digits}
+use Rattle.tls_codec_wire.specs.Transfer.{ReadRefused}
+use Rattle.tls_codec_wire.specs.VarintCalls.{NoVarintBegins, VarintRefused}
+use Rattle.tls_codec_wire.specs.declared.error.Error.{Error}
+use Rattle.tls_codec_wire.specs.declared.error.Error.TheVariants.{DecodingError, EndOfStream, OutOfMemory}
+use Rattle.tls_codec_wire.proofs.BigEndian.{AreBytes-high_first, length-high_first, value-high_first}
+use Rattle.tls_codec_wire.proofs.VarintForms.{drop-high_first}
+use Rattle.tls_codec_grammar.specs.Tree.{Number}
+use Rattle.tls_codec_grammar.specs.Grammar.{number}
+use Rattle.tls_codec_grammar.specs.Shortest.{IsLeast}
+use Rattle.tls_codec_grammar.specs.Decoding.{Begins, GaveSpelling}
+use Rattle.tls_codec_grammar.specs.Field.{BeginsField, FieldRefused, FilledGap, FitGap, GaveField, Field, NoFieldBegins, fixed_field, variable_field}
+use Rattle.tls_codec_grammar.specs.laws.NumberLaws.{digits_least}
+
+-- ---- k bytes
+
+-- the last k bytes of a number that fits them spell it
+pub last_digits_least : (k n : ℕ) → k ≤ 8 → n < 256 ^ k → IsLeast (λ s. Digits k s n) (drop (8 - k) (bytes_high_first 8 n))
+last_digits_least k n small fits =
+    let eight : 8 ≡ 8 - k + k = omega (arith, small) in
+    let last : drop (8 - k) (bytes_high_first 8 n) ≡ bytes_high_first k n = ap (λ (j : ℕ). drop (8 - k) (bytes_high_first j n)) eight ∙ drop-high_first (8 - k) k n in
+    subst (λ (b : List ℕ). IsLeast (λ s. Digits k s n) b) (sym last) (digits_least k (bytes_high_first k n) n (record {
+      width = length-high_first k n;
+      bytes = AreBytes-high_first k n;
+      number = value-high_first k n ∙ mod-eq_of_lt fits;
+    }))
+
+-- ---- variable-length integers
+
+no_varint_field : (x : List ℕ) → NoVarintBegins x → NoFieldBegins variable_field x
+no_varint_field x none n rest b = none n rest (record { front = b.front; whole = b.whole; spelled = b.spelled })
+
+pub varint_not_split : {x : List ℕ} {e : Error} → (e ≡ EndOfStream) × NoVarintBegins x → (e ≡ EndOfStream) × NoFieldBegins variable_field x
+varint_not_split {x} p = (p.0, no_varint_field x p.1)
+
+pub varint_not_read : (e : Error) (coming : Option (List ℕ)) (old new : Counts) → VarintRefused e coming old new → FieldRefused variable_field e coming old new
+varint_not_read (DecodingError text) coming old new p = p
+varint_not_read EndOfStream None old new p = tt
+varint_not_read EndOfStream (Some x) old new p = no_varint_field x p
+varint_not_read OutOfMemory coming old new p = p
+varint_not_read _ coming old new p = absurd p
+
+-- ---- gaps
+
+-- a form as the slice of an array that it ends
+pub slice_least : (P : List ℕ → Type 0) (b : List ℕ) (k : ℕ) → length b ≡ 8 → k ≤ 8 → P (drop k b) → P (take (8 - k) (drop k b))
+slice_least P b k width le p =
+    let parts = length-append (take k b) (drop k b) in
+    let size : length (drop k b) ≡ 8 - k = omega (arith, width, parts, ap length (take-append-drop k b), length-take-le k b (omega (arith, width, le))) in
+    subst P (sym (ap (λ (n : ℕ). take n (drop k b)) (sym size) ∙ take-length (drop k b))) p
+
+-- what stands before and behind a gap that was made to fit
+pub gap_fits : {a b : List ℕ} {at gap width : ℕ} → FitGap a b at gap width → at ≤ length a → (take at b ≡ take at a) × (drop (at + width) b ≡ drop (at + gap) a)
+gap_fits {a} {b} {at} {gap} {width} p le =
+    let first : length (take at a) ≡ at = length-take-le at a le in
+    let place : at + width ≡ length (take at a ++ p.between) = omega (arith, first, p.count, length-append (take at a) p.between) in
+    let whole : b ≡ (take at a ++ p.between) ++ drop (at + gap) a = p.held ∙ sym (append_assoc (take at a) p.between (drop (at + gap) a)) in (
+      ap (take at) p.held ∙ ap (λ (n : ℕ). take n (take at a ++ (p.between ++ drop (at + gap) a))) (sym first) ∙ take-append_seam (take at a) (p.between ++ drop (at + gap) a),
+      ap (drop (at + width)) whole ∙ ap (λ (n : ℕ). drop n ((take at a ++ p.between) ++ drop (at + gap) a)) place ∙ drop-append_seam (take at a ++ p.between) (drop (at + gap) a),
+    )
+
+-- the field is written over it
+pub gap_filled : {a b c form : List ℕ} {at gap width : ℕ} (field : Field) → FitGap a b at gap (length form) → at ≤ length a → IsLeast (λ s. field.spells s (length a - (at + gap))) form → c ≡ take at b ++ (form ++ drop (at + length form) b) → width ≡ length form → FilledGap field a c at gap width
+gap_filled {a} {b} {c} {form} {at} {gap} {width} field p le least held count =
+    let fits = gap_fits p le in
+    record {
+      form = form;
+      least = least;
+      held = held ∙ ap (λ (u : List ℕ). u ++ (form ++ drop (at + length form) b)) fits.0 ∙ ap (λ (u : List ℕ). take at a ++ (form ++ u)) fits.1;
+      count = count;
+    }
+
+-- the first bytes behind a place
+part_behind : (at w : ℕ) (a : List ℕ) → at + w ≤ length a → (take (at + w) a ≡ take at a ++ take w (drop at a)) × (length (take w (drop at a)) ≡ w)
+part_behind at w a le =
+    let parts = length-append (take at a) (drop at a) in
+    let rest : w ≤ length (drop at a) = omega (arith, le, parts, ap length (take-append-drop at a), length-take-le at a (omega (arith, le))) in
+    (take-add at w a, length-take-le w (drop at a) rest)
+
+-- bytes more stand behind it
+pub gap_widened : {a b : List ℕ} {at gap more width : ℕ} → FitGap a b (at + gap) 0 more → at + gap ≤ length a → width ≡ gap + more → FitGap a b at gap width
+gap_widened {a} {b} {at} {gap} {more} {width} p le e =
+    let part = part_behind at gap a le in
+    let zero_more : at + gap + 0 ≡ at + gap = omega arith in
+    record {
+      between = take gap (drop at a) ++ p.between;
+      held = p.held ∙ ap (λ (n : ℕ). take (at + gap) a ++ (p.between ++ drop n a)) zero_more ∙ ap (λ (u : List ℕ). u ++ (p.between ++ drop (at + gap) a)) part.0
+          ∙ append_assoc (take at a) (take gap (drop at a)) (p.between ++ drop (at + gap) a) ∙ ap (λ (u : List ℕ). take at a ++ u) (sym (append_assoc (take gap (drop at a)) p.between (drop (at + gap) a)));
+      count = omega (arith, e, p.count, part.1, length-append (take gap (drop at a)) p.between);
+    }
+
+-- its last bytes were taken out
+pub gap_narrowed : {a b : List ℕ} {at gap width : ℕ} (less : ℕ) → b ≡ take (at + width) a ++ drop (at + width + less) a → at + gap ≤ length a → gap ≡ width + less → FitGap a b at gap width
+gap_narrowed {a} {b} {at} {gap} {width} less held le e =
+    let part = part_behind at width a (omega (arith, le, e)) in
+    let place : at + width + less ≡ at + gap = omega (arith, e) in
+    record {
+      between = take width (drop at a);
+      held = held ∙ ap (λ (n : ℕ). take (at + width) a ++ drop n a) place ∙ ap (λ (u : List ℕ). u ++ drop (at + gap) a) part.0 ∙ append_assoc (take at a) (take width (drop at a)) (drop (at + gap) a);
+      count = part.1;
+    }

@@ -1,0 +1,11 @@
+pub mod Appending
+pub mod ByteContents
+pub mod CountedDecoding
+pub mod CountedEncoding
+pub mod LengthFields
+pub mod NumberCalls
+pub mod OpaqueDecoding
+pub mod OpaqueEncoding
+pub mod Sent
+pub mod VarintValues
+pub mod WorkedExamples

@@ -1,0 +1,34 @@
+use Rattle.std.proofs.Common.{ap, length, arith, inr, refl}
+use Rattle.tls_codec_wire.proofs.Bytes.{are_bytes}
+use Rattle.tls_codec_grammar.specs.laws.FormatLaws.{content_length_sum}
+use Rattle.tls_codec_grammar.specs.Shortest.{IsLeast}
+use Rattle.tls_codec_grammar.proofs.Appending.{count_not_appended}
+use Rattle.tls_codec_grammar.proofs.ByteContents.{bytes_shortest}
+use Rattle.tls_codec_grammar.proofs.LengthFields.{slice_least}
+use Rattle.tls_codec_grammar.proofs.OpaqueEncoding.{byte_contents_meet, bytes_appended, bytes_sum}
+use Rattle.tls_codec_grammar.proofs.opaque.append.Goals as goal
+
+pub returns-in_default-clause-appends : goal.returns-in_default-clause-appends
+returns-in_default-clause-appends g c =
+    let shortest = bytes_shortest _ (are_bytes c.args.content.now (λ i. omega (arith, c.type_inv.content i))) in
+    count_not_appended g.met.F.LengthField.lawful byte_contents_meet (content_length_sum _ _) shortest refl (inr (refl, c.in_default.ensures))
+
+pub returns-in-Ok-clause-appends : goal.returns-in-Ok-clause-appends
+returns-in-Ok-clause-appends g c =
+    let small = are_bytes c.args.content.now (λ i. omega (arith, c.type_inv.content i)) in
+    let form = slice_least (IsLeast (λ s. g.F.LengthField.field.spells s _)) c.in-Some.found.0 c.in-Some.found.1 (omega arith) c.in-Some.ensures.0 c.in-Some.ensures.1 in
+    let first = rw c.in_ok-append_few.was at c.append_few.ensures.items in
+    let then = rw c.in-Ok.is at c.extend_from_slice.ensures.items in
+    rw (← c.reserve.ensures.items) (bytes_appended g.met.F.LengthField.lawful c.args.content.now small _ form first then (omega (arith, c.len.ensures, c.len-at.ensures, ap length c.reserve.ensures.items)))
+
+pub returns-in_err-reserve-clause-too_long : goal.returns-in_err-reserve-clause-too_long
+returns-in_err-reserve-clause-too_long g c long = absurd (omega (arith, long, bytes_sum c.args.content.now, g.met.F.LengthField.lawful.below _ _ c.in-Some.ensures.1.spelled))
+
+pub returns-in-Ok-clause-too_long : goal.returns-in-Ok-clause-too_long
+returns-in-Ok-clause-too_long g c long = absurd (omega (arith, long, bytes_sum c.args.content.now, g.met.F.LengthField.lawful.below _ _ c.in-Some.ensures.1.spelled))
+
+pub returns-in_err-append_few-clause-too_long : goal.returns-in_err-append_few-clause-too_long
+returns-in_err-append_few-clause-too_long g c long = absurd (omega (arith, long, bytes_sum c.args.content.now, g.met.F.LengthField.lawful.below _ _ c.in-Some.ensures.1.spelled))
+
+pub returns-in-Err-clause-too_long : goal.returns-in-Err-clause-too_long
+returns-in-Err-clause-too_long g c long = absurd (omega (arith, long, bytes_sum c.args.content.now, g.met.F.LengthField.lawful.below _ _ c.in-Some.ensures.1.spelled))

@@ -1,0 +1,108 @@
+-- What decoders answer.
+use Rattle.std.specs.Prelude.{◌≡◌, ◌≢◌, ◌<◌, ◌⊎◌, ℕ, List, ◌++◌, length, Bool, false, Option, None, Some, Result, Ok, Err, Vec, ⊤}
+use Rattle.std.specs.Global.{Global}
+use Rattle.tls_codec_wire.specs.Counts.{Counts, FaultIsCounted, RoseBy}
+use Rattle.std.specs.Borrow.{Bor}
+use Rattle.tls_codec_wire.specs.Device.{Gave}
+use Rattle.tls_codec_wire.specs.Bounded.{inner_of, limit_of}
+use Rattle.tls_codec_wire.specs.declared.bounded.Bounded.{Bounded}
+use Rattle.tls_codec_wire.specs.declared.device.Source.{Ghosts}
+use Rattle.tls_codec_wire.specs.declared.error.Error.{Error}
+use Rattle.tls_codec_wire.specs.declared.error.Error.TheVariants.{OutOfMemory, TrailingData}
+use Rattle.tls_codec_grammar.specs.Tree.{Tree, trees}
+use Rattle.tls_codec_grammar.specs.Grammar.{Grammar, Reading, content, sized}
+use Rattle.tls_codec_grammar.specs.Format.{Format, content_format, sized_format}
+
+-- ---- from a slice
+
+-- x begins with a spelling of v, leaving rest
+pub record Begins (spells : Grammar) (x : List ℕ) (v : Tree) (rest : List ℕ) : Type 0 where
+  pub front : List ℕ
+  pub whole : x ≡ front ++ rest
+  pub spelled : spells Reading front v
+
+-- no front of x is a spelling
+abbrev pub NoneBegins : Grammar → List ℕ → Type 0
+NoneBegins spells x = (v : Tree) (rest : List ℕ) → Begins spells x v rest → ⊥
+
+-- why x is refused: no front of it is a spelling, or there was no memory, for which a lean type never asks. That bytes
+-- are left behind a spelling is no cause.
+pub record Refuses (spells : Grammar) (lean : Bool) (x : List ℕ) (e : Error) : Type 0 where
+  pub cause : NoneBegins spells x ⊎ (e ≡ OutOfMemory)
+  pub memory : e ≡ OutOfMemory → lean ≡ false
+  pub not_trailing : e ≢ TrailingData
+
+-- ---- all of a slice
+
+-- x as a whole is no spelling
+abbrev pub NoneSpelled : Grammar → List ℕ → Type 0
+NoneSpelled spells x = (v : Tree) → spells Reading x v → ⊥
+
+-- why x is refused as a whole: it is no spelling, or there was no memory, for which a lean type never asks. Where a
+-- spelling is followed by a byte more, and nowhere else, that is what is answered, or that there was no memory.
+pub record RefusesWhole (spells : Grammar) (lean : Bool) (x : List ℕ) (e : Error) : Type 0 where
+  pub cause : NoneSpelled spells x ⊎ (e ≡ OutOfMemory)
+  pub memory : e ≡ OutOfMemory → lean ≡ false
+  pub trailing : (v : Tree) (rest : List ℕ) → Begins spells x v rest → 0 < length rest → (e ≡ TrailingData) ⊎ (e ≡ OutOfMemory)
+  pub left : e ≡ TrailingData → (v : Tree) × (rest : List ℕ) × Begins spells x v rest × (0 < length rest)
+
+-- ---- from a source
+
+-- the source gave just a spelling of v
+pub record GaveSpelling {S : Type 0} (given : S → List ℕ → S → Type 0) (spells : Grammar) (old new : S) (v : Tree) : Type 0 where
+  pub front : List ℕ
+  pub held : given old front new
+  pub spelled : spells Reading front v
+
+-- the bytes that were to come, where they are told, begin with a spelling of v, and the rest is to come now
+abbrev pub ComesFirst : Grammar → Option (List ℕ) → Tree → Option (List ℕ) → Type 0
+ComesFirst spells None v new = ⊤
+ComesFirst spells (Some x) v None = ⊥
+ComesFirst spells (Some x) v (Some rest) = Begins spells x v rest
+
+-- no front of the bytes to come, where they are told, is a spelling
+abbrev pub NoneComes : Grammar → Option (List ℕ) → Type 0
+NoneComes spells None = ⊤
+NoneComes spells (Some x) = NoneBegins spells x
+
+-- why a source is refused: no front of what is to come is a spelling, a fault of the source was counted, or there
+-- was no memory, which a lean type answers only where the source had none
+pub record RefusesSource (spells : Grammar) (lean : Bool) (coming : Option (List ℕ)) (old new : Counts) (e : Error) : Type 0 where
+  pub cause : NoneComes spells coming ⊎ (FaultIsCounted old new ⊎ (e ≡ OutOfMemory))
+  pub memory : e ≡ OutOfMemory → (lean ≡ false) ⊎ RoseBy 1 old.shortages new.shortages
+  pub not_trailing : e ≢ TrailingData
+
+-- ---- the decoders, by what they answer
+
+-- from a source, of which just a spelling is taken
+pub record LeavesSource {S : Type 0} (f : Format) (source : Ghosts S) (old new : S) (e : Error) : Type 0 where
+  pub gave : Gave source.given old new
+  pub refused : RefusesSource f.spells f.lean (source.coming old) (source.counts old) (source.counts new) e
+
+abbrev pub Reads : {T S : Type 0} → Format → (T → Tree) → Ghosts S → S → S → Result T Error → Type 0
+Reads f plain source old new (Ok v) = GaveSpelling source.given f.spells old new (plain v)
+Reads f plain source old new (Err e) = LeavesSource f source old new e
+
+-- from a slice, with the rest of it
+abbrev pub Splits : {T : Type 0} → Format → (T → Tree) → List ℕ → Result (T × Bor (List ℕ)) Error → Type 0
+Splits f plain x (Ok found) = Begins f.spells x (plain found.0) found.1.now
+Splits f plain x (Err e) = Refuses f.spells f.lean x e
+
+-- from all of a slice
+abbrev pub ReadsWhole : {T : Type 0} → Format → (T → Tree) → List ℕ → Result T Error → Type 0
+ReadsWhole f plain x (Ok v) = f.spells Reading x (plain v)
+ReadsWhole f plain x (Err e) = RefusesWhole f.spells f.lean x e
+
+-- ---- elements at once
+
+-- elements that all of some bytes spell in a row, or none, of which nothing is said; or there was no memory
+abbrev pub AllRead : {T : Type 0} → Format → (T → Tree) → List ℕ → Result (Option (Vec T Global)) Error → Type 0
+AllRead f plain x (Ok (Some elements)) = content f.spells Reading x (trees plain elements.items)
+AllRead f plain x (Ok None) = ⊤
+AllRead f plain x (Err e) = e ≡ OutOfMemory
+
+-- elements that a source gave up to its limit; or none, and nothing was taken
+abbrev pub AllGiven : {T S : Type 0} → Format → (T → Tree) → Ghosts S → Bounded S → Bounded S → Result (Option (Vec T Global)) Error → Type 0
+AllGiven f plain source old new (Ok (Some elements)) = GaveSpelling source.given (sized (limit_of old) (content f.spells)) (inner_of old) (inner_of new) (trees plain elements.items)
+AllGiven f plain source old new (Ok None) = new ≡ old
+AllGiven f plain source old new (Err e) = LeavesSource (sized_format (limit_of old) (content_format f)) source (inner_of old) (inner_of new) e

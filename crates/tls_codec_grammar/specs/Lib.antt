@@ -1,0 +1,12 @@
+pub mod Tree
+pub mod Grammar
+pub mod Shortest
+pub mod Announced
+pub mod Errors
+pub mod Field
+pub mod Format
+pub mod Lawful
+pub mod Decoding
+pub mod Encoding
+pub mod Opaque
+pub mod laws

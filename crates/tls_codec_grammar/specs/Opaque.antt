@@ -1,0 +1,45 @@
+-- Why bytes and texts behind a length field are refused.
+use Rattle.std.specs.Prelude.{◌≡◌, ◌⊎◌, List, ℕ, codes, Option, None, Some, IsUtf8, ⊤}
+use Rattle.tls_codec_wire.specs.Counts.{Counts}
+use Rattle.tls_codec_wire.specs.Transfer.{IsReadFailure}
+use Rattle.tls_codec_wire.specs.declared.error.Error.{Error}
+use Rattle.tls_codec_wire.specs.declared.error.Error.TheVariants.{DecodingError, EndOfStream, OutOfMemory}
+use Rattle.tls_codec_grammar.specs.Tree.{number_trees}
+use Rattle.tls_codec_grammar.specs.Errors.{Says}
+use Rattle.tls_codec_grammar.specs.Field.{Field, IsCutOff, NoFieldBegins, variable_field}
+use Rattle.tls_codec_grammar.specs.Format.{counted_bytes_format}
+use Rattle.tls_codec_grammar.specs.Grammar.{bytes}
+use Rattle.tls_codec_grammar.specs.Decoding.{Begins, NoneComes}
+
+-- why bytes are not read from a slice: no length begins it, or it is cut off
+abbrev pub OpaqueRefused : Field → Error → List ℕ → Type 0
+OpaqueRefused field e x = ((e ≡ EndOfStream) × NoFieldBegins field x) ⊎ (field.cut_off e × IsCutOff field x)
+
+-- why they are not read from a source: they are not to come, it failed, or there was no memory
+abbrev pub OpaqueSourceRefused : Field → Error → Option (List ℕ) → Counts → Counts → Type 0
+OpaqueSourceRefused field EndOfStream coming old new = NoneComes (counted_bytes_format field).spells coming
+OpaqueSourceRefused field (DecodingError text) coming old new = IsReadFailure text old new
+OpaqueSourceRefused field OutOfMemory coming old new = ⊤
+OpaqueSourceRefused field _ coming old new = ⊥
+
+-- x begins with bytes behind their length that are no UTF-8
+pub record IsNoText (x : List ℕ) : Type 0 where
+  pub content : List ℕ
+  pub rest : List ℕ
+  pub begins : Begins bytes x (number_trees content) rest
+  pub invalid : IsUtf8 content → ⊥
+
+-- why a text is not read from a slice
+abbrev pub TextRefused : Error → List ℕ → Type 0
+TextRefused e x =
+    (e ≡ OutOfMemory) ⊎ (OpaqueRefused variable_field e x ⊎ (Says (codes "invalid utf8") e × IsNoText x))
+
+-- the bytes to come, where they are told, are no UTF-8
+abbrev pub NoTextComes : Option (List ℕ) → Type 0
+NoTextComes None = ⊤
+NoTextComes (Some x) = IsNoText x
+
+-- why a text is not read from a source
+abbrev pub TextSourceRefused : Error → Option (List ℕ) → Counts → Counts → Type 0
+TextSourceRefused e coming old new =
+    OpaqueSourceRefused variable_field e coming old new ⊎ (Says (codes "invalid utf8") e × NoTextComes coming)

@@ -1,0 +1,164 @@
+-- The laws of formats, from those of their parts.
+use Rattle.std.proofs.Common.{◌≡◌, ℕ, List, ◌^◌, ◌<◌, ◌≤◌, length, codes, refl, inl, inr, arith}
+use Rattle.tls_codec_wire.specs.declared.error.Error.{Error}
+use Rattle.tls_codec_wire.specs.declared.error.Error.TheVariants.{DecodingError, OutOfMemory, TrailingData}
+use Rattle.tls_codec_grammar.specs.Tree.{Tree, Number, Empty, Join}
+use Rattle.tls_codec_grammar.specs.Grammar.{Writing, Grammar, option, fields, content}
+use Rattle.tls_codec_grammar.specs.Shortest.{HasNoSpelling, IsShortest}
+use Rattle.tls_codec_grammar.specs.laws.RowLaws.{row_length}
+use Rattle.tls_codec_grammar.specs.Announced.{capped, content_length, content_sum}
+use Rattle.tls_codec_grammar.specs.Format.{Format, atom, number_format, array_format, varint_format, with_memory, option_format, option_refuses, nothing_format, fields_format, fields_refuses, pair_format, triple_format, content_format, content_refuses, utf8_format, counted_format, list_format, fixed_list_format, bytes_format, text_format, counted_list_format, counted_bytes_format}
+use Rattle.tls_codec_grammar.specs.Errors.{Says}
+use Rattle.tls_codec_grammar.specs.Field.{Field, fixed_field, variable_field}
+use Rattle.tls_codec_grammar.specs.Lawful.{IsLengthField, IsLawful, MeetsFieldLaws, MeetsLaws, MeetsLawsInside}
+use Rattle.tls_codec_grammar.specs.laws.NumberLaws.{digits_below, digits_field, array_lawful, number_lawful}
+use Rattle.tls_codec_grammar.specs.laws.OptionLaws.{option_lawful}
+use Rattle.tls_codec_grammar.specs.laws.FieldsLaws.{nothing_lawful, fields_lawful}
+use Rattle.tls_codec_grammar.specs.laws.VarintLaws.{varint_field, varint_fits, varint_lawful}
+use Rattle.tls_codec_grammar.specs.laws.ListLaws.{Part, bytes_one, content_shortest, part_least, content_lawful, counted_lawful, counted_parts, utf8_lawful}
+
+-- ---- atoms, options and products
+
+-- a format that names no error
+pub atom_meets : {spells : Grammar} {announced : Tree → ℕ} → IsLawful spells announced → MeetsLaws (atom spells announced)
+atom_meets l = record { spelled = l; unspelled = λ v e p. absurd p; not_memory = λ v p. p; long = λ v p. absurd p }
+
+pub number_meets : (k : ℕ) → k < 2 ^ 64 → MeetsLaws (number_format k)
+number_meets k small = atom_meets (number_lawful k small)
+
+pub array_meets : (k : ℕ) → k < 2 ^ 64 → MeetsLaws (array_format k)
+array_meets k small = atom_meets (array_lawful k small)
+
+pub varint_meets : MeetsLaws varint_format
+varint_meets = atom_meets varint_lawful
+
+pub with_memory_meets : {f : Format} → MeetsLaws f → MeetsLaws (with_memory f)
+with_memory_meets l = record { spelled = l.spelled; unspelled = l.unspelled; not_memory = l.not_memory; long = l.long }
+
+pub option_meets : {payload : Format} → MeetsLaws payload → MeetsLaws (option_format payload)
+option_meets {payload} l = record { spelled = option_lawful _ _ l.spelled; unspelled = unspelled; not_memory = not_memory; long = λ v p. absurd p }
+  where
+    unspelled : (v : Tree) (e : Error) → option_refuses payload.refuses v e → HasNoSpelling (option payload.spells) v
+    unspelled (Join v Empty) e p s q = l.unspelled v e p q.0 q.2
+    unspelled _ e p s q = absurd search
+
+    not_memory : (v : Tree) → option_refuses payload.refuses v OutOfMemory → ⊥
+    not_memory (Join v Empty) p = l.not_memory v p
+    not_memory _ p = absurd search
+
+pub nothing_meets : MeetsLaws nothing_format
+nothing_meets = atom_meets nothing_lawful
+
+pub fields_meets : {first others : Format} → MeetsLaws first → MeetsLaws others → MeetsLaws (fields_format first others)
+fields_meets {first} {others} l m = record { spelled = fields_lawful _ _ _ _ l.spelled m.spelled; unspelled = unspelled; not_memory = not_memory; long = λ v p. absurd p }
+  where
+    unspelled : (v : Tree) (e : Error) → fields_refuses first.refuses others.refuses v e → HasNoSpelling (fields first.spells others.spells) v
+    unspelled (Join v vs) e (inl p) s q = l.unspelled v e p q.front q.first
+    unspelled (Join v vs) e (inr p) s q = m.unspelled vs e p q.rest q.second
+    unspelled _ e p s q = absurd search
+
+    not_memory : (v : Tree) → fields_refuses first.refuses others.refuses v OutOfMemory → ⊥
+    not_memory (Join v vs) (inl p) = l.not_memory v p
+    not_memory (Join v vs) (inr p) = m.not_memory vs p
+    not_memory _ p = absurd search
+
+pub pair_meets : {first second : Format} → MeetsLaws first → MeetsLaws second → MeetsLaws (pair_format first second)
+pair_meets l m = fields_meets l (fields_meets m nothing_meets)
+
+pub triple_meets : {first second third : Format} → MeetsLaws first → MeetsLaws second → MeetsLaws third → MeetsLaws (triple_format first second third)
+triple_meets l m n = fields_meets l (fields_meets m (fields_meets n nothing_meets))
+
+-- ---- what stands behind a length field
+
+pub content_meets : {element : Format} → MeetsLaws element → MeetsLawsInside (content_format element)
+content_meets {element} l = record { spelled = content_lawful _ _ l.spelled; unspelled = unspelled; not_memory = not_memory }
+  where
+    unspelled : (v : Tree) (e : Error) → content_refuses element.refuses v e → HasNoSpelling (content element.spells) v
+    unspelled (Join v vs) e (inl p) s q = l.unspelled v e p q.front q.first.0
+    unspelled (Join v vs) e (inr p) s q = unspelled vs e p q.rest q.second
+    unspelled _ e p s q = absurd search
+
+    not_memory : (v : Tree) → content_refuses element.refuses v OutOfMemory → ⊥
+    not_memory (Join v vs) (inl p) = l.not_memory v p
+    not_memory (Join v vs) (inr p) = not_memory vs p
+    not_memory _ p = absurd search
+
+pub utf8_meets : MeetsLawsInside utf8_format
+utf8_meets =
+    let l = content_meets (number_meets 1 (omega arith)) in
+    record { spelled = utf8_lawful; unspelled = λ v e p s q. l.unspelled v e p s q.0; not_memory = l.not_memory }
+
+-- the announced length of a content is the sum, where that is no greater
+pub content_length_sum : (f : Tree → ℕ) (v : Tree) → content_length f v ≡ capped (content_sum f v)
+content_length_sum f (Number n) = omega arith
+content_length_sum f Empty = omega arith
+content_length_sum f (Join v vs) = omega (arith, content_length_sum f vs)
+
+-- ---- what a length field counts
+
+module _ {element : Format} (l : MeetsLaws element) where
+  -- the announced lengths of elements add up to no more than the shortest content
+  pub sum_fits : (c : List ℕ) (v : Tree) → IsShortest (content element.spells) c v → content_sum element.announced v ≤ length c
+  sum_fits c (Join v vs) p =
+      let a = l.spelled.shortest p.spelled.front v p.spelled.first.0 in
+      let b = content_shortest element.spells element.announced l.spelled p.spelled.rest vs p.spelled.second in
+      let n = row_length (Part element.spells Writing v) (λ u. content element.spells Writing u vs) c a.0 b.0 p (part_least element.spells a.0 v a.1) b.1 in
+      omega (arith, n, l.spelled.announces a.0 v a.1, sum_fits b.0 vs b.1)
+  sum_fits c _ p = omega arith
+
+-- the laws of length fields
+pub variable_field_meets : MeetsFieldLaws variable_field
+variable_field_meets = record { counts = varint_field; below = varint_fits; small = omega arith; cut = λ e p. (λ h. cut_memory e p h, λ h. cut_trailing e p h) }
+  where
+    cut_memory : (e : Error) → Says (codes "declared content is not there") e → e ≡ OutOfMemory → ⊥
+    cut_memory (DecodingError text) p h = absurd cc
+    cut_memory _ p h = absurd p
+
+    cut_trailing : (e : Error) → Says (codes "declared content is not there") e → e ≡ TrailingData → ⊥
+    cut_trailing (DecodingError text) p h = absurd cc
+    cut_trailing _ p h = absurd p
+
+pub fixed_field_meets : (k : ℕ) → 256 ^ k ≤ 2 ^ 62 → MeetsFieldLaws (fixed_field k)
+fixed_field_meets k small = record { counts = digits_field k; below = digits_below k; small = small; cut = λ e p. (λ h. cc, λ h. cc) }
+
+-- a length field and what it counts, where no field holds the limit
+counted_meets : (field : Field) {sum : Tree → ℕ} {inside : Format} → IsLengthField field.spells field.width → ((a : List ℕ) (n : ℕ) → field.spells a n → n < field.limit)
+    → MeetsLawsInside inside → ((c : List ℕ) (v : Tree) → IsShortest inside.spells c v → sum v ≤ length c) → MeetsLaws (counted_format field sum inside)
+counted_meets field {sum} {inside} m below l fits = record {
+  spelled = counted_lawful field.spells field.width m inside.spells inside.announced l.spelled;
+  unspelled = λ v e p s q. elim p [
+    | inl long ↦
+        let parts = counted_parts field.spells field.width m inside.spells inside.announced l.spelled s v q in
+        omega (arith, long.1, fits parts.0 v parts.2, below parts.1 (length parts.0) parts.3.spelled)
+    | inr named ↦ l.unspelled v e named q.inside q.is_inside
+  ];
+  not_memory = λ v p. elim p [
+    | inl long ↦ let h = long.0 in absurd cc
+    | inr named ↦ l.not_memory v named
+  ];
+  long = λ v p. inl (refl, p);
+}
+
+-- ---- lists, bytes and texts
+
+pub counted_list_meets : {field : Field} {element : Format} → MeetsFieldLaws field → MeetsLaws element → MeetsLaws (counted_list_format field element)
+counted_list_meets {field} m l = counted_meets field m.counts m.below (content_meets l) (sum_fits l)
+
+pub list_meets : {element : Format} → MeetsLaws element → MeetsLaws (list_format element)
+list_meets l = counted_list_meets variable_field_meets l
+
+-- whose width may be any
+pub fixed_list_meets : (k : ℕ) {element : Format} → MeetsLaws element → MeetsLaws (fixed_list_format k element)
+fixed_list_meets k l = counted_meets (fixed_field k) (digits_field k) (digits_below k) (content_meets l) (sum_fits l)
+
+pub counted_bytes_meets : {field : Field} → MeetsFieldLaws field → MeetsLaws (counted_bytes_format field)
+counted_bytes_meets m = counted_list_meets m (number_meets 1 (omega arith))
+
+pub bytes_meets : MeetsLaws bytes_format
+bytes_meets = counted_bytes_meets variable_field_meets
+
+pub text_meets : MeetsLaws text_format
+text_meets =
+    let byte = number_meets 1 (omega arith) in
+    counted_meets variable_field varint_field varint_fits utf8_meets
+    (λ c v p. sum_fits byte c v (record { spelled = p.spelled.0; least = λ t q. inl (bytes_one v t c q p.spelled.0) }))

@@ -1,0 +1,42 @@
+//! A variable-length integer as a length (RFC 9420, section 2.1.2).
+ghost use Rattle.tls_codec_grammar.specs.Field.{variable_field};
+ghost use Rattle.tls_codec_grammar.specs.laws.FormatLaws.{variable_field_meets};
+
+use super::LengthField;
+use tls_codec_wire::quic::{self, least_width};
+use tls_codec_wire::{Error, Source, TlsVarInt, vlen};
+
+const NOT_THERE: Error = Error::DecodingError("declared content is not there");
+
+impl LengthField for TlsVarInt {
+    ghost field = { variable_field };
+
+    /// It is 0 where the length passes the greatest one.
+    fn width(length: usize) -> usize {
+        least_width(length as u64)
+    }
+
+    #[inline(always)]
+    fn least_form(length: usize) -> Option<([u8; 8], usize)> {
+        match TlsVarInt::try_from(length as u64) {
+            Ok(number) => Some(quic::least_form(number)),
+            Err(_) => None,
+        }
+    }
+
+    fn read_length<R: Source>(src: &mut R) -> Result<usize, Error> {
+        let (length, _) = vlen::read_length(src)?;
+        Ok(length)
+    }
+
+    fn split_length(bytes: &[u8]) -> Result<(usize, &[u8]), Error> {
+        let (length, rest) = vlen::split_length(bytes)?;
+        Ok((length, rest))
+    }
+
+    fn cut_off() -> Error {
+        NOT_THERE
+    }
+
+    ghost lawful = { variable_field_meets };
+}

@@ -1,0 +1,196 @@
+//! Lengths sent to a sink, appended to a vector, and put before a content that stands there already.
+ghost use Rattle.std.specs.Prelude.{◌≡◌, ◌<◌, ◌≤◌, ◌⊎◌, ◌^◌, ◌+◌, ◌-◌, ◌++◌, length, vec_len, take, drop, is_ok, if◌then◌else◌, IfErr, IfOk, OnErr, OnOk};
+ghost use Rattle.tls_codec_wire.specs.Counts.{NoneFell, OnlyInterrupted};
+ghost use Rattle.tls_codec_wire.specs.declared.error.Error.TheVariants.{InvalidVectorLength, OutOfMemory};
+ghost use Rattle.tls_codec_grammar.specs.Field.{BeganField, FieldNotSent, FilledGap, FitGap, GapRefused, OpenedGap, SentField};
+
+use super::LengthField;
+use tls_codec_wire::vlen::insert_bytes;
+use tls_codec_wire::{Error, Sink, write_all};
+
+/// Sends the least spelling of a length, and answers how many bytes that is.
+///
+/// `InvalidVectorLength`: it passes the greatest length, and nothing was sent. Every other refusal is the
+/// sink's, as in [`write_all`].
+pub fn write_length<F: LengthField, W: Sink>(
+    sink: &mut W,
+    content_length: usize,
+) -> Result<usize, Error>
+    ensures ok { IfOk result (SentField F.field (W.received sink.old) (W.received sink.new) content_length) }
+    ensures beginning { content_length < F.field.limit → BeganField F.field (W.received sink.old) (W.received sink.new) content_length }
+    ensures counts { NoneFell (W.counts sink.old) (W.counts sink.new) }
+    ensures refused { IfErr result (λ e. FieldNotSent F.field e content_length (W.counts sink.old) (W.counts sink.new)) }
+    ensures calm { IfOk result (λ _. OnlyInterrupted (W.counts sink.old) (W.counts sink.new)) }
+    ensures too_long { F.field.limit ≤ content_length → (result ≡ Err InvalidVectorLength) × (sink.new ≡ sink.old) }
+{
+    let Some(found) = F::least_form(content_length) else {
+        return Err(Error::InvalidVectorLength);
+    };
+    let (bytes, at) = found;
+    let form = &bytes[at..];
+    write_all(sink, form)?;
+    Ok(form.len())
+}
+
+/// Leaves a gap of so many bytes for a length that isn't known yet, and asks for room for so many more
+/// behind it, which may be refused. `OutOfMemory`: there was none for the gap, and the bytes are as they
+/// were.
+#[inline(always)]
+pub fn open_gap(out: &mut Vec<u8>, width: usize, room: usize) -> Result<(), Error>
+    requires { width ≤ 8 }
+    ensures ok { OnOk result (OpenedGap out.old.items out.new.items width) }
+    ensures kept { OnErr result (out.new.items ≡ out.old.items) }
+    ensures err { IfErr result (λ e. e ≡ OutOfMemory) }
+{
+    let _ = out.reserve(width.saturating_add(room));
+    let empty = [0u8; 8];
+    append_few(out, &empty[..width])?;
+    Ok(())
+}
+
+// Appends a few bytes. One, two or four are stored by no call.
+#[inline(always)]
+pub(crate) fn append_few(out: &mut Vec<u8>, bytes: &[u8]) -> Result<(), Error>
+    ensures items { out.new.items ≡ (if is_ok result then out.old.items ++ bytes.now else out.old.items) }
+    ensures err { IfErr result (λ e. e ≡ OutOfMemory) }
+{
+    match bytes.len() {
+        1 => append_some(out, &bytes[..1]),
+        2 => append_some(out, &bytes[..2]),
+        4 => append_some(out, &bytes[..4]),
+        _ => append_some(out, bytes),
+    }
+}
+
+// Appends bytes.
+#[inline(always)]
+fn append_some(out: &mut Vec<u8>, bytes: &[u8]) -> Result<(), Error>
+    ensures items { out.new.items ≡ (if is_ok result then out.old.items ++ bytes.now else out.old.items) }
+    ensures err { IfErr result (λ e. e ≡ OutOfMemory) }
+{
+    out.extend_from_slice(bytes)?;
+    Ok(())
+}
+
+/// Puts the least spelling of the number of bytes behind a gap in its place, and answers how many bytes
+/// that is. These bytes are moved only where the gap has another width.
+///
+/// `InvalidVectorLength`: they are more than the greatest length, or the vector would pass
+/// `isize::MAX` bytes. `OutOfMemory`: there was none for a wider length. After a refusal the bytes
+/// before the gap are as they were.
+pub fn fill_gap<F: LengthField>(
+    out: &mut Vec<u8>,
+    at: usize,
+    gap: usize,
+) -> Result<usize, Error>
+    requires { at + gap ≤ vec_len out.old }
+    ensures ok { IfOk result (λ width. FilledGap F.field out.old.items out.new.items at gap width) }
+    ensures kept { OnErr result (take at out.new.items ≡ take at out.old.items) }
+    ensures refused { IfErr result (λ e. GapRefused F.field e at (length out.old.items - (at + gap))) }
+{
+    let content_length = out.len() - at - gap;
+    let Some(found) = F::least_form(content_length) else {
+        return Err(Error::InvalidVectorLength);
+    };
+    let (bytes, from) = found;
+    let form = &bytes[from..];
+    fit_gap(out, at, gap, form.len())?;
+    put_over(out, at, form);
+    Ok(form.len())
+}
+
+// Makes a gap as wide as this, and moves what stands behind it.
+fn fit_gap(out: &mut Vec<u8>, at: usize, gap: usize, width: usize) -> Result<(), Error>
+    requires place { at + gap ≤ vec_len out.old }
+    requires small { width ≤ 8 }
+    ensures ok { OnOk result (FitGap out.old.items out.new.items at gap width) }
+    ensures kept { OnErr result (out.new.items ≡ out.old.items) }
+    ensures err { IfErr result (λ e. (e ≡ OutOfMemory) ⊎ ((e ≡ InvalidVectorLength) × (2 ^ 63 ≤ length out.old.items - gap + width))) }
+{
+    if width <= gap {
+        remove_bytes(out, at + width, gap - width);
+        return Ok(());
+    }
+    widen_gap(out, at + gap, width - gap)?;
+    Ok(())
+}
+
+// Moves what stands behind a place by so many bytes.
+fn widen_gap(out: &mut Vec<u8>, at: usize, more: usize) -> Result<(), Error>
+    requires place { at ≤ vec_len out.old }
+    requires small { more ≤ 8 }
+    ensures ok { OnOk result (FitGap out.old.items out.new.items at 0 more) }
+    ensures kept { OnErr result (out.new.items ≡ out.old.items) }
+    ensures err { IfErr result (λ e. (e ≡ OutOfMemory) ⊎ ((e ≡ InvalidVectorLength) × (2 ^ 63 ≤ length out.old.items + more))) }
+{
+    if more > isize::MAX as usize - out.len() {
+        return Err(Error::InvalidVectorLength);
+    }
+    match more {
+        1 => insert_gap(out, at, 1),
+        2 => insert_gap(out, at, 2),
+        _ => insert_gap(out, at, more),
+    }
+}
+
+// Moves what stands behind a place by so many bytes: at once, where these are a constant.
+#[inline(always)]
+fn insert_gap(out: &mut Vec<u8>, at: usize, width: usize) -> Result<(), Error>
+    requires place { at ≤ vec_len out.old }
+    requires small { width ≤ 8 }
+    ensures ok { OnOk result (FitGap out.old.items out.new.items at 0 width) }
+    ensures kept { OnErr result (out.new.items ≡ out.old.items) }
+    ensures err { IfErr result (λ e. e ≡ OutOfMemory) }
+{
+    let empty = [0u8; 8];
+    insert_bytes(out, at, &empty[..width])?;
+    Ok(())
+}
+
+// Takes so many bytes out of a vector, which stand behind a place.
+fn remove_bytes(out: &mut Vec<u8>, at: usize, count: usize)
+    requires { at + count ≤ vec_len out.old }
+    ensures { out.new.items ≡ take at out.old.items ++ drop (at + count) out.old.items }
+{
+    match count {
+        0 => {}
+        1 => cut_out(out, at, 1),
+        2 => cut_out(out, at, 2),
+        _ => cut_out(out, at, count),
+    }
+}
+
+// Takes so many bytes out of a vector, which stand behind a place: at once, where these are a constant.
+#[inline(always)]
+fn cut_out(out: &mut Vec<u8>, at: usize, count: usize)
+    requires { at + count ≤ vec_len out.old }
+    ensures { out.new.items ≡ take at out.old.items ++ drop (at + count) out.old.items }
+{
+    let end = out.len();
+    out.copy_within(at + count..end, at);
+    out.truncate(end - count);
+}
+
+// Writes a few bytes over those of a vector that stand behind a place. One, two or four are stored by
+// no call.
+#[inline(always)]
+fn put_over(out: &mut Vec<u8>, at: usize, form: &[u8])
+    requires { at + length form.now ≤ vec_len out.old }
+    ensures { out.new.items ≡ take at out.old.items ++ (form.now ++ drop (at + length form.now) out.old.items) }
+{
+    match form.len() {
+        1 => overwrite(out, at, &form[..1]),
+        2 => overwrite(out, at, &form[..2]),
+        4 => overwrite(out, at, &form[..4]),
+        _ => overwrite(out, at, form),
+    }
+}
+
+// Writes bytes over those of a vector that stand behind a place.
+#[inline(always)]
+fn overwrite(out: &mut Vec<u8>, at: usize, bytes: &[u8])
+    requires { at + length bytes.now ≤ vec_len out.old }
+    ensures { out.new.items ≡ take at out.old.items ++ (bytes.now ++ drop (at + length bytes.now) out.old.items) }
+{
+    out[at..at + bytes.len()].copy_from_slice(bytes);
+}

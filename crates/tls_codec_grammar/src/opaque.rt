@@ -1,0 +1,144 @@
+//! Bytes behind a length field, whatever the field: the `opaque` of RFC 8446, section 3.4.
+//!
+//! Byte vectors and texts go through the calls here, which move the bytes in bulk.
+ghost use Rattle.std.specs.Prelude.{◌≡◌, ◌⊎◌, [], ◌∷◌, ◌++◌, is_ok, if◌then◌else◌, length, true, IfErr, IfOk, IsOk};
+ghost use Rattle.tls_codec_wire.specs.Digits.{AreBytes};
+ghost use Rattle.tls_codec_wire.specs.declared.error.Error.TheVariants.{InvalidVectorLength, OutOfMemory};
+ghost use Rattle.tls_codec_grammar.specs.Tree.{number_trees};
+ghost use Rattle.tls_codec_grammar.specs.Format.{counted_bytes_format};
+ghost use Rattle.tls_codec_grammar.specs.Decoding.{Reads, Splits};
+ghost use Rattle.tls_codec_grammar.specs.Encoding.{AppendsForm, Makes, Writes};
+ghost use Rattle.tls_codec_grammar.specs.Opaque.{OpaqueRefused, OpaqueSourceRefused};
+
+use crate::length_field::{LengthField, append_few, write_length};
+use std::alloc::Global;
+use tls_codec_wire::{Error, Sink, Source, read_bytes_bounded, write_all};
+
+/// The announced length of some bytes: their number, and the width of it, saturated at `usize::MAX`.
+pub fn announced_len<F: LengthField>(content: &[u8]) -> usize
+    ensures { result ≡ (counted_bytes_format F.field).announced (number_trees content.now) }
+{
+    let length = content.len();
+    F::width(length).saturating_add(length)
+}
+
+/// Sends the shortest form of some bytes, and answers how many bytes that is.
+///
+/// `InvalidVectorLength`: there are more bytes than the greatest length, and nothing was sent. Every
+/// other refusal is the sink's, as in `write_all`.
+pub fn write<F: LengthField, W: Sink>(sink: &mut W, content: &[u8]) -> Result<usize, Error>
+    ensures writes { Writes (counted_bytes_format F.field) (number_trees content.now) W.Sink sink.old sink.new result }
+    ensures too_long { (counted_bytes_format F.field).too_long (number_trees content.now) → (result ≡ Err InvalidVectorLength) × (sink.new ≡ sink.old) }
+{
+    let width = write_length::<F, W>(sink, content.len())?;
+    write_all(sink, content)?;
+    Ok(width.saturating_add(content.len()))
+}
+
+/// Appends the shortest form of some bytes to a vector, and answers how many bytes that is.
+///
+/// `InvalidVectorLength`: there are more bytes than the greatest length. `OutOfMemory`: there was none.
+/// After a refusal the vector's bytes are those from before.
+pub fn append<F: LengthField>(out: &mut Vec<u8>, content: &[u8]) -> Result<usize, Error>
+    ensures appends { AppendsForm (counted_bytes_format F.field) (number_trees content.now) out.old.items out.new.items result }
+    ensures too_long { (counted_bytes_format F.field).too_long (number_trees content.now) → result ≡ Err InvalidVectorLength }
+{
+    let at = out.len();
+    let Some(found) = F::least_form(content.len()) else {
+        return Err(Error::InvalidVectorLength);
+    };
+    let (bytes, from) = found;
+    let form = &bytes[from..];
+    out.reserve(form.len().saturating_add(content.len()))?;
+    append_few(out, form)?;
+    match out.extend_from_slice(content) {
+        Ok(()) => Ok(out.len() - at),
+        Err(_) => {
+            out.truncate(at);
+            Err(Error::OutOfMemory)
+        }
+    }
+}
+
+/// The shortest form of some bytes.
+///
+/// `InvalidVectorLength`: there are more bytes than the greatest length.
+pub fn to_vec<F: LengthField>(alloc: Global, content: &[u8]) -> Result<Vec<u8>, Error>
+    ensures makes { Makes (counted_bytes_format F.field) (number_trees content.now) result }
+    ensures too_long { (counted_bytes_format F.field).too_long (number_trees content.now) → result ≡ Err InvalidVectorLength }
+{
+    let mut form = Vec::new(alloc);
+    append::<F>(&mut form, content)?;
+    Ok(form)
+}
+
+/// The bytes that a front of `whole` spells, and the rest of it. Neither is copied.
+///
+/// `EndOfStream`: there is no whole length. Where fewer bytes are behind it than it declares, the
+/// refusal is the field's [`cut_off`](LengthField::cut_off).
+pub fn split<F: LengthField>(whole: &[u8]) -> Result<(&[u8], &[u8]), Error>
+    ensures splits { Splits (record (counted_bytes_format F.field) { lean = true }) (λ found. number_trees found.now) whole.now result }
+    ensures named { IfErr result (λ e. OpaqueRefused F.field e whole.now) }
+{
+    let (length, rest) = F::split_length(whole)?;
+    if rest.len() < length {
+        return Err(F::cut_off());
+    }
+    Ok(rest.split_at(length))
+}
+
+/// A copy of the bytes that a front of `whole` spells, and the rest of it, which isn't copied.
+///
+/// `OutOfMemory`: there was none for the copy. Every other refusal is as in [`split`].
+pub fn split_copied<F: LengthField>(alloc: Global, whole: &[u8]) -> Result<(Vec<u8>, &[u8]), Error>
+    ensures splits { Splits (counted_bytes_format F.field) (λ content. number_trees content.items) whole.now result }
+    ensures named { IfErr result (λ e. (e ≡ OutOfMemory) ⊎ OpaqueRefused F.field e whole.now) }
+{
+    let (content, rest) = split::<F>(whole)?;
+    let copy = copied(alloc, content)?;
+    Ok((copy, rest))
+}
+
+/// A vector of these bytes.
+///
+/// `OutOfMemory`: there was no memory for it. No bytes ask for none.
+pub fn copied(alloc: Global, content: &[u8]) -> Result<Vec<u8>, Error>
+    ensures ok { IfOk result (λ copy. copy.items ≡ content.now) }
+    ensures err { IfErr result (λ e. e ≡ OutOfMemory) }
+    ensures none { length content.now ≡ 0 → IsOk result }
+{
+    let mut copy = Vec::with_capacity(alloc, content.len())?;
+    copy.extend_from_slice(content)?;
+    Ok(copy)
+}
+
+/// Appends a byte. `OutOfMemory`: the bytes are as they were.
+pub fn push(content: &mut Vec<u8>, byte: u8) -> Result<(), Error>
+    ensures content { content.new.items ≡ (if is_ok result then content.old.items ++ byte ∷ [] else content.old.items) }
+    ensures err { IfErr result (λ e. e ≡ OutOfMemory) }
+{
+    match content.push(byte) {
+        Ok(()) => Ok(()),
+        Err(_) => Err(Error::OutOfMemory),
+    }
+}
+
+/// The bytes that the bytes to come spell. Just their spelling is taken.
+///
+/// Room is asked for as they come. `EndOfStream`: there is no whole length, or fewer bytes come than
+/// it declares. `DecodingError("read failed")` and `OutOfMemory` are as in `read_bytes_bounded`.
+pub fn read<F: LengthField, R: Source>(alloc: Global, src: &mut R) -> Result<Vec<u8>, Error>
+    ensures reads { Reads (counted_bytes_format F.field) (λ content. number_trees content.items) R.Source src.old src.new result }
+    ensures named { IfErr result (λ e. OpaqueSourceRefused F.field e (R.coming src.old) (R.counts src.old) (R.counts src.new)) }
+{
+    let length = F::read_length(src)?;
+    let content = read_bytes_bounded(alloc, src, length)?;
+    see_bytes(&content);
+    Ok(content)
+}
+
+/// Does nothing. What a slice refers to is known to be bytes; of a vector's items that isn't known
+/// before.
+pub fn see_bytes(_content: &[u8])
+    ensures { AreBytes _content.now }
+{}

@@ -1,0 +1,51 @@
+//! Calls on digits, and lengths that are sent or put into a gap, as encoders of one's own use them.
+use std::test::Fail;
+use tls_codec_base::LengthField;
+use tls_codec_grammar::digits::{
+    append_digits, digits_vector, read_digits, split_digits, write_digits,
+};
+use tls_codec_grammar::length_field::{fill_gap, open_gap, write_length};
+use tls_codec_wire::{Error, TlsVarInt, U24};
+
+#[test]
+fn digits_by_each_call(rt: HostRuntime) -> Result<(), Fail> {
+    let alloc = rt.alloc();
+    let digits = [0x01, 0x03, 0x9d];
+    let mut whole = digits_vector(alloc, &digits)?;
+    assert_eq!(rt; append_digits(&mut whole, &[0xee]), Ok(1));
+    assert_eq!(rt; write_digits(&mut whole, &digits), Ok(3));
+    assert_eq!(rt; whole.as_slice(), [0x01, 0x03, 0x9d, 0xee, 0x01, 0x03, 0x9d].as_slice());
+    let (split, rest) = split_digits::<3>(&whole)?;
+    assert_eq!(rt; split, digits);
+    assert_eq!(rt; rest, [0xee, 0x01, 0x03, 0x9d].as_slice());
+    let mut src = whole.as_slice();
+    let read: [u8; 3] = read_digits(&mut src)?;
+    assert_eq!(rt; read, digits);
+    assert_eq!(rt; src, rest);
+    assert!(rt; split_digits::<8>(&whole) == Err(Error::EndOfStream));
+    Ok(())
+}
+
+// The bytes 9, 8 behind their length, which is put into a gap of two bytes, and sent by itself.
+fn is_put<F: LengthField>(rt: &HostRuntime, form: &[u8]) -> Result<(), Fail> {
+    let mut out = [0xaa].to_vec(rt.alloc())?;
+    open_gap(&mut out, 2, 2)?;
+    out.extend_from_slice(&[9, 8])?;
+    assert_eq!(rt; fill_gap::<F>(&mut out, 1, 2), Ok(form.len()));
+    let mut sent = [0xaa].to_vec(rt.alloc())?;
+    assert_eq!(rt; write_length::<F, Vec<u8>>(&mut sent, 2), Ok(form.len()));
+    assert_eq!(rt; &sent[1..], form);
+    sent.extend_from_slice(&[9, 8])?;
+    assert_eq!(rt; out, sent);
+    Ok(())
+}
+
+#[test]
+fn lengths_are_put_into_their_gap(rt: HostRuntime) -> Result<(), Fail> {
+    is_put::<u8>(&rt, &[2])?;
+    is_put::<u16>(&rt, &[0, 2])?;
+    is_put::<U24>(&rt, &[0, 0, 2])?;
+    is_put::<u32>(&rt, &[0, 0, 0, 2])?;
+    is_put::<TlsVarInt>(&rt, &[2])?;
+    Ok(())
+}
