@@ -9,9 +9,11 @@ ghost use Rattle.tls_codec_grammar.specs.Tree.{number_trees};
 ghost use Rattle.tls_codec_grammar.specs.Format.{array_format};
 ghost use Rattle.tls_codec_grammar.specs.laws.FormatLaws.{array_meets};
 
-use tls_codec_grammar::digits::{append_digits, digits_vector, read_digits, split_digits, write_digits};
 use crate::traits::{Deserialize, DeserializeBytes, Serialize, SerializeBytes, Size};
 use std::alloc::Global;
+use tls_codec_grammar::digits::{
+    append_digits, digits_vector, read_digits, split_digits, write_digits,
+};
 use tls_codec_wire::{Error, Sink, Source};
 
 impl<const LEN: usize> Size for [u8; LEN] {

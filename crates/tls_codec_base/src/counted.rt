@@ -11,10 +11,10 @@ ghost use Rattle.tls_codec_grammar.specs.Decoding.{Reads, Splits};
 ghost use Rattle.tls_codec_grammar.specs.Encoding.{AppendRefused, Appended, AppendsForm, Makes, Writes};
 ghost use Rattle.tls_codec_base.specs.Refusals.{counted_list_names, counted_list_source_names};
 
-use tls_codec_grammar::length_field::{LengthField, fill_gap, open_gap, write_length};
 use crate::lists::{self, Turns, content_len};
 use crate::traits::{Deserialize, DeserializeBytes, Serialize, SerializeBytes, Size};
 use std::alloc::Global;
+use tls_codec_grammar::length_field::{LengthField, fill_gap, open_gap, write_length};
 use tls_codec_wire::{Error, Sink, Source};
 
 /// How many bytes an element likely has, where elements have no one width.

@@ -14,8 +14,8 @@ ghost use Rattle.tls_codec_grammar.specs.Lawful.{MeetsLaws};
 ghost use Rattle.tls_codec_grammar.specs.Grammar.{Counted, Direction, Row, content};
 ghost use Rattle.tls_codec_grammar.specs.Shortest.{IsLeast, IsShortest};
 
-use tls_codec_grammar::LengthField;
 use crate::traits::Size;
+use tls_codec_grammar::LengthField;
 use tls_codec_wire::Source;
 
 /// Formats of options, products and lists meet the laws, if those of their parts do.

@@ -6,9 +6,9 @@ ghost use Rattle.tls_codec_grammar.specs.Format.{text_format};
 ghost use Rattle.tls_codec_grammar.specs.laws.FormatLaws.{text_meets};
 ghost use Rattle.tls_codec_grammar.specs.Opaque.{TextRefused, TextSourceRefused};
 
-use tls_codec_grammar::opaque;
 use crate::traits::{Deserialize, DeserializeBytes, Serialize, SerializeBytes, Size};
 use std::alloc::Global;
+use tls_codec_grammar::opaque;
 use tls_codec_wire::{Error, Sink, Source, TlsVarInt};
 
 const INVALID_UTF8: Error = Error::DecodingError("invalid utf8");

@@ -5,17 +5,13 @@ use Rattle.std.proofs.Math.Seq.{drop-append_seam, take-add, take-append_seam, ta
 use Rattle.std.specs.Int.{bytes_high_first}
 use Rattle.tls_codec_wire.specs.Counts.{Counts}
 use Rattle.tls_codec_wire.specs.Digits.{Digits}
-use Rattle.tls_codec_wire.specs.Transfer.{ReadRefused}
 use Rattle.tls_codec_wire.specs.VarintCalls.{NoVarintBegins, VarintRefused}
 use Rattle.tls_codec_wire.specs.declared.error.Error.{Error}
 use Rattle.tls_codec_wire.specs.declared.error.Error.TheVariants.{DecodingError, EndOfStream, OutOfMemory}
 use Rattle.tls_codec_wire.proofs.BigEndian.{AreBytes-high_first, length-high_first, value-high_first}
 use Rattle.tls_codec_wire.proofs.VarintForms.{drop-high_first}
-use Rattle.tls_codec_grammar.specs.Tree.{Number}
-use Rattle.tls_codec_grammar.specs.Grammar.{number}
 use Rattle.tls_codec_grammar.specs.Shortest.{IsLeast}
-use Rattle.tls_codec_grammar.specs.Decoding.{Begins, GaveSpelling}
-use Rattle.tls_codec_grammar.specs.Field.{BeginsField, FieldRefused, FilledGap, FitGap, GaveField, Field, NoFieldBegins, fixed_field, variable_field}
+use Rattle.tls_codec_grammar.specs.Field.{FieldRefused, FilledGap, FitGap, Field, NoFieldBegins, variable_field}
 use Rattle.tls_codec_grammar.specs.laws.NumberLaws.{digits_least}
 
 -- ---- k bytes

@@ -13,8 +13,8 @@ ghost use Rattle.tls_codec_base.specs.Runs.{ReadsRun, number_source_names};
 
 use super::groups::HasDigits;
 use crate::lists::Turns;
-use tls_codec_grammar::opaque::see_bytes;
 use std::alloc::Global;
+use tls_codec_grammar::opaque::see_bytes;
 use tls_codec_wire::{Bounded, Error, Source, read_bytes_bounded};
 
 // The digits of all numbers of K bytes that a source may still give, where it has them at hand; else

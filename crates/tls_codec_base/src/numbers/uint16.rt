@@ -9,10 +9,12 @@ ghost use Rattle.tls_codec_grammar.specs.laws.FormatLaws.{number_meets};
 
 use super::groups::{HasDigits, send_run};
 use super::runs::{elements_of, read_elements};
-use tls_codec_grammar::digits::{append_digits, digits_vector, read_digits, split_digits, write_digits};
 use crate::lists::Turns;
 use crate::traits::{Deserialize, DeserializeBytes, Serialize, SerializeBytes, Size};
 use std::alloc::Global;
+use tls_codec_grammar::digits::{
+    append_digits, digits_vector, read_digits, split_digits, write_digits,
+};
 use tls_codec_wire::{Bounded, Error, Sink, Source};
 
 impl Size for u16 {

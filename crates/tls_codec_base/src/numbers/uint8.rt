@@ -8,10 +8,10 @@ ghost use Rattle.tls_codec_grammar.specs.Format.{number_format};
 ghost use Rattle.tls_codec_grammar.specs.laws.FormatLaws.{number_meets};
 
 use super::runs::read_run;
-use tls_codec_grammar::digits::{digits_vector, read_digits, split_digits, write_digits};
 use crate::lists::Turns;
 use crate::traits::{Deserialize, DeserializeBytes, Serialize, SerializeBytes, Size};
 use std::alloc::Global;
+use tls_codec_grammar::digits::{digits_vector, read_digits, split_digits, write_digits};
 use tls_codec_wire::{Bounded, Error, Sink, Source, write_all};
 
 impl Size for u8 {

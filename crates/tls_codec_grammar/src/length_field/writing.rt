@@ -78,11 +78,7 @@ fn append_some(out: &mut Vec<u8>, bytes: &[u8]) -> Result<(), Error>
 /// `InvalidVectorLength`: they are more than the greatest length, or the vector would pass
 /// `isize::MAX` bytes. `OutOfMemory`: there was none for a wider length. After a refusal the bytes
 /// before the gap are as they were.
-pub fn fill_gap<F: LengthField>(
-    out: &mut Vec<u8>,
-    at: usize,
-    gap: usize,
-) -> Result<usize, Error>
+pub fn fill_gap<F: LengthField>(out: &mut Vec<u8>, at: usize, gap: usize) -> Result<usize, Error>
     requires { at + gap ≤ vec_len out.old }
     ensures ok { IfOk result (λ width. FilledGap F.field out.old.items out.new.items at gap width) }
     ensures kept { OnErr result (take at out.new.items ≡ take at out.old.items) }

@@ -14,7 +14,10 @@ fn digits_by_each_call(rt: HostRuntime) -> Result<(), Fail> {
     let mut whole = digits_vector(alloc, &digits)?;
     assert_eq!(rt; append_digits(&mut whole, &[0xee]), Ok(1));
     assert_eq!(rt; write_digits(&mut whole, &digits), Ok(3));
-    assert_eq!(rt; whole.as_slice(), [0x01, 0x03, 0x9d, 0xee, 0x01, 0x03, 0x9d].as_slice());
+    assert_eq!(rt;
+        whole.as_slice(),
+        [0x01, 0x03, 0x9d, 0xee, 0x01, 0x03, 0x9d].as_slice()
+    );
     let (split, rest) = split_digits::<3>(&whole)?;
     assert_eq!(rt; split, digits);
     assert_eq!(rt; rest, [0xee, 0x01, 0x03, 0x9d].as_slice());
