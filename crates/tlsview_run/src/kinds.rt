@@ -5,6 +5,8 @@ ghost use Rattle.tlsview_run.specs.Kinds.{IsNamed, IsViewBy, NamesNoKind};
 use crate::fault::ViewFault;
 use crate::view::{View, view_of};
 use std::alloc::Global;
+use tls_codec_bytes::TlsByteVecU32;
+use tls_codec_vec::TlsVecU8;
 use tls_codec_vl::VLBytes;
 use tls_codec_wire::TlsVarInt;
 
@@ -31,6 +33,10 @@ pub enum Kind {
     VlBytes,
     /// `Vec<VLBytes>`.
     VecVlBytes,
+    /// `TlsVecU8<u16>`.
+    VecU8U16,
+    /// `TlsByteVecU32`.
+    ByteVecU32,
 }
 
 impl Kind {
@@ -49,6 +55,8 @@ impl Kind {
             "mixed" => Some(Kind::Mixed),
             "vlbytes" => Some(Kind::VlBytes),
             "vec-vlbytes" => Some(Kind::VecVlBytes),
+            "vecu8-u16" => Some(Kind::VecU8U16),
+            "bytevecu32" => Some(Kind::ByteVecU32),
             _ => None,
         }
     }
@@ -69,6 +77,8 @@ impl Kind {
             Kind::Mixed => view_of::<(u8, Vec<u16>, Option<String>)>(alloc, bytes),
             Kind::VlBytes => view_of::<VLBytes>(alloc, bytes),
             Kind::VecVlBytes => view_of::<Vec<VLBytes>>(alloc, bytes),
+            Kind::VecU8U16 => view_of::<TlsVecU8<u16>>(alloc, bytes),
+            Kind::ByteVecU32 => view_of::<TlsByteVecU32>(alloc, bytes),
         }
     }
 }

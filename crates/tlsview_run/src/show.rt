@@ -4,7 +4,9 @@ ghost use Rattle.tls_codec_grammar.specs.Tree.{Tree, trees, number_trees};
 ghost use Rattle.tlsview_run.specs.Texts.{bytes_text, elements_text, hex_or_dash, list_text, number_text, option_text, triple_text};
 
 use std::alloc::{AllocError, Global};
-use tls_codec_base::{Deserialize, DeserializeBytes, Serialize};
+use tls_codec_base::{Deserialize, DeserializeBytes, LengthField, Serialize};
+use tls_codec_bytes::TlsByteVec;
+use tls_codec_vec::TlsVec;
 use tls_codec_vl::VLBytes;
 use tls_codec_wire::TlsVarInt;
 
@@ -78,6 +80,14 @@ impl<T: Show> Show for Vec<T> {
     }
 }
 
+impl<F: LengthField, T: Show> Show for TlsVec<F, T> {
+    ghost text = { list_text T.text };
+
+    fn show(&self, alloc: Global, out: &mut String) -> Result<(), AllocError> {
+        push_list(alloc, out, self.as_slice())
+    }
+}
+
 /// Its UTF-8 is shown.
 impl Show for String {
     ghost text = { bytes_text };
@@ -88,6 +98,14 @@ impl Show for String {
 }
 
 impl Show for VLBytes {
+    ghost text = { bytes_text };
+
+    fn show(&self, alloc: Global, out: &mut String) -> Result<(), AllocError> {
+        push_hex(alloc, out, self.as_slice())
+    }
+}
+
+impl<F: LengthField> Show for TlsByteVec<F> {
     ghost text = { bytes_text };
 
     fn show(&self, alloc: Global, out: &mut String) -> Result<(), AllocError> {

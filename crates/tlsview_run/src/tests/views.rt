@@ -105,6 +105,18 @@ fn byte_vectors_are_shown(rt: HostRuntime) -> Result<(), Fail> {
         ("vec-vlbytes", "03 40 01 AA", "[aa]", "-", "0201aa"),
         ("vec-vlbytes", "0401aa01bb", "[aa,bb]", "-", "0401aa01bb"),
         ("vec-vlbytes", "40020161ee", "[61]", "ee", "020161"),
+        ("vecu8-u16", "00ee", "[]", "ee", "00"),
+        ("vecu8-u16", "020001", "[1]", "-", "020001"),
+        ("vecu8-u16", "02b24d", "[45645]", "-", "02b24d"),
+        ("bytevecu32", "00000000", "-", "-", "00000000"),
+        ("bytevecu32", "0000000100", "00", "-", "0000000100"),
+        (
+            "vecu8-u16",
+            "04000300527d",
+            "[3,82]",
+            "7d",
+            "0400030052",
+        ),
     ] {
         let lines = accepted(rt.alloc(), value, rest, least)?;
         let (outcome, out) = run_on(rt.alloc(), kind, text.as_bytes());
@@ -211,6 +223,11 @@ fn bytes_without_a_spelling_are_refused(rt: HostRuntime) -> Result<(), Fail> {
         ("vec-vlbytes", "0102", wrong, ended),
         ("vec-vlbytes", "0140", ended, ended),
         ("vec-vlbytes", "0301aa01bb", wrong, ended),
+        ("vecu8-u16", "04c8", ended, ended),
+        ("vecu8-u16", "016768", wrong, ended),
+        ("vecu8-u16", "403f00", ended, ended),
+        ("bytevecu32", "01aa", ended, ended),
+        ("bytevecu32", "000000ff7524ee40442635", ended, ended),
         ("mixed", "07", ended, ended),
         ("mixed", "070002", wrong, wrong),
         ("mixed", "07000101", wrong, ended),
