@@ -51,27 +51,6 @@ slice_least P b k width le p =
     let size : length (drop k b) ≡ 8 - k = omega (arith, width, parts, ap length (take-append-drop k b), length-take-le k b (omega (arith, width, le))) in
     subst P (sym (ap (λ (n : ℕ). take n (drop k b)) (sym size) ∙ take-length (drop k b))) p
 
--- what stands before and behind a gap that was made to fit
-pub gap_fits : {a b : List ℕ} {at gap width : ℕ} → FitGap a b at gap width → at ≤ length a → (take at b ≡ take at a) × (drop (at + width) b ≡ drop (at + gap) a)
-gap_fits {a} {b} {at} {gap} {width} p le =
-    let first : length (take at a) ≡ at = length-take-le at a le in
-    let place : at + width ≡ length (take at a ++ p.between) = omega (arith, first, p.count, length-append (take at a) p.between) in
-    let whole : b ≡ (take at a ++ p.between) ++ drop (at + gap) a = p.held ∙ sym (append_assoc (take at a) p.between (drop (at + gap) a)) in (
-      ap (take at) p.held ∙ ap (λ (n : ℕ). take n (take at a ++ (p.between ++ drop (at + gap) a))) (sym first) ∙ take-append_seam (take at a) (p.between ++ drop (at + gap) a),
-      ap (drop (at + width)) whole ∙ ap (λ (n : ℕ). drop n ((take at a ++ p.between) ++ drop (at + gap) a)) place ∙ drop-append_seam (take at a ++ p.between) (drop (at + gap) a),
-    )
-
--- the field is written over it
-pub gap_filled : {a b c form : List ℕ} {at gap width : ℕ} (field : Field) → FitGap a b at gap (length form) → at ≤ length a → IsLeast (λ s. field.spells s (length a - (at + gap))) form → c ≡ take at b ++ (form ++ drop (at + length form) b) → width ≡ length form → FilledGap field a c at gap width
-gap_filled {a} {b} {c} {form} {at} {gap} {width} field p le least held count =
-    let fits = gap_fits p le in
-    record {
-      form = form;
-      least = least;
-      held = held ∙ ap (λ (u : List ℕ). u ++ (form ++ drop (at + length form) b)) fits.0 ∙ ap (λ (u : List ℕ). take at a ++ (form ++ u)) fits.1;
-      count = count;
-    }
-
 -- the first bytes behind a place
 part_behind : (at w : ℕ) (a : List ℕ) → at + w ≤ length a → (take (at + w) a ≡ take at a ++ take w (drop at a)) × (length (take w (drop at a)) ≡ w)
 part_behind at w a le =

@@ -51,13 +51,8 @@ pub fn append<F: LengthField>(out: &mut Vec<u8>, content: &[u8]) -> Result<usize
     let form = &bytes[from..];
     out.reserve(form.len().saturating_add(content.len()))?;
     append_few(out, form)?;
-    match out.extend_from_slice(content) {
-        Ok(()) => Ok(out.len() - at),
-        Err(_) => {
-            out.truncate(at);
-            Err(Error::OutOfMemory)
-        }
-    }
+    out.extend_from_slice(content)?;
+    Ok(out.len() - at)
 }
 
 /// The shortest form of some bytes.

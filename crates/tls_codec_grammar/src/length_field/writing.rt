@@ -1,5 +1,5 @@
 //! Lengths sent to a sink, appended to a vector, and put before a content that stands there already.
-ghost use Rattle.std.specs.Prelude.{◌≡◌, ◌<◌, ◌≤◌, ◌⊎◌, ◌^◌, ◌+◌, ◌-◌, ◌++◌, length, vec_len, take, drop, is_ok, if◌then◌else◌, IfErr, IfOk, OnErr, OnOk};
+ghost use Rattle.std.specs.Prelude.{◌≡◌, ◌<◌, ◌≤◌, ◌⊎◌, ◌^◌, ◌+◌, ◌-◌, [], ◌∷◌, ◌++◌, length, vec_len, vec_capacity, take, drop, is_ok, if◌then◌else◌, IfErr, IfOk, OnErr, OnOk};
 ghost use Rattle.tls_codec_wire.specs.Counts.{NoneFell, OnlyInterrupted};
 ghost use Rattle.tls_codec_wire.specs.declared.error.Error.TheVariants.{InvalidVectorLength, OutOfMemory};
 ghost use Rattle.tls_codec_grammar.specs.Field.{BeganField, FieldNotSent, FilledGap, FitGap, GapRefused, OpenedGap, SentField};
@@ -52,13 +52,27 @@ pub fn open_gap(out: &mut Vec<u8>, width: usize, room: usize) -> Result<(), Erro
 #[inline(always)]
 pub(crate) fn append_few(out: &mut Vec<u8>, bytes: &[u8]) -> Result<(), Error>
     ensures items { out.new.items ≡ (if is_ok result then out.old.items ++ bytes.now else out.old.items) }
+    ensures room { vec_capacity out.old ≤ vec_capacity out.new }
     ensures err { IfErr result (λ e. e ≡ OutOfMemory) }
 {
     match bytes.len() {
-        1 => append_some(out, &bytes[..1]),
+        1 => append_one(out, bytes[0]),
         2 => append_some(out, &bytes[..2]),
         4 => append_some(out, &bytes[..4]),
         _ => append_some(out, bytes),
+    }
+}
+
+// Appends a byte.
+#[inline(always)]
+fn append_one(out: &mut Vec<u8>, byte: u8) -> Result<(), Error>
+    ensures items { out.new.items ≡ (if is_ok result then out.old.items ++ byte ∷ [] else out.old.items) }
+    ensures room { vec_capacity out.old ≤ vec_capacity out.new }
+    ensures err { IfErr result (λ e. e ≡ OutOfMemory) }
+{
+    match out.push(byte) {
+        Ok(()) => Ok(()),
+        Err(_) => Err(Error::OutOfMemory),
     }
 }
 
@@ -66,6 +80,7 @@ pub(crate) fn append_few(out: &mut Vec<u8>, bytes: &[u8]) -> Result<(), Error>
 #[inline(always)]
 fn append_some(out: &mut Vec<u8>, bytes: &[u8]) -> Result<(), Error>
     ensures items { out.new.items ≡ (if is_ok result then out.old.items ++ bytes.now else out.old.items) }
+    ensures room { vec_capacity out.old ≤ vec_capacity out.new }
     ensures err { IfErr result (λ e. e ≡ OutOfMemory) }
 {
     out.extend_from_slice(bytes)?;
@@ -78,6 +93,7 @@ fn append_some(out: &mut Vec<u8>, bytes: &[u8]) -> Result<(), Error>
 /// `InvalidVectorLength`: they are more than the greatest length, or the vector would pass
 /// `isize::MAX` bytes. `OutOfMemory`: there was none for a wider length. After a refusal the bytes
 /// before the gap are as they were.
+#[inline(always)]
 pub fn fill_gap<F: LengthField>(out: &mut Vec<u8>, at: usize, gap: usize) -> Result<usize, Error>
     requires { at + gap ≤ vec_len out.old }
     ensures ok { IfOk result (λ width. FilledGap F.field out.old.items out.new.items at gap width) }
@@ -90,9 +106,24 @@ pub fn fill_gap<F: LengthField>(out: &mut Vec<u8>, at: usize, gap: usize) -> Res
     };
     let (bytes, from) = found;
     let form = &bytes[from..];
-    fit_gap(out, at, gap, form.len())?;
-    put_over(out, at, form);
+    fill_with(out, at, gap, form)?;
     Ok(form.len())
+}
+
+// Puts these bytes in the place of a gap, and moves what stands behind it where they are not as many.
+#[inline(always)]
+fn fill_with(out: &mut Vec<u8>, at: usize, gap: usize, form: &[u8]) -> Result<(), Error>
+    requires place { at + gap ≤ vec_len out.old }
+    requires small { length form.now ≤ 8 }
+    ensures ok { OnOk result (out.new.items ≡ take at out.old.items ++ (form.now ++ drop (at + gap) out.old.items)) }
+    ensures kept { OnErr result (out.new.items ≡ out.old.items) }
+    ensures err { IfErr result (λ e. (e ≡ OutOfMemory) ⊎ ((e ≡ InvalidVectorLength) × (2 ^ 63 ≤ length out.old.items - gap + length form.now))) }
+{
+    if form.len() != gap {
+        fit_gap(out, at, gap, form.len())?;
+    }
+    put_over(out, at, form);
+    Ok(())
 }
 
 // Makes a gap as wide as this, and moves what stands behind it.
@@ -150,7 +181,9 @@ fn remove_bytes(out: &mut Vec<u8>, at: usize, count: usize)
 {
     match count {
         0 => {}
-        1 => cut_out(out, at, 1),
+        1 => {
+            let _ = out.remove(at);
+        }
         2 => cut_out(out, at, 2),
         _ => cut_out(out, at, count),
     }
