@@ -6,15 +6,24 @@
 //!
 //! - [`vl_bytes`]: [`VLBytes`]. [`vl_byte_vec`]: [`VLByteVec`], which is the same under another name.
 //! - [`vl_byte_slice`]: [`VLByteSlice`], borrowed bytes, which are written and not read.
+//! - [`zeroize`]: [`Zeroize`], values that empty themselves.
+//! - [`secret_vl_bytes`]: [`SecretVLBytes`], a [`VLBytes`] that is cleared when it is dropped.
+//!   [`secret_vl_byte_vec`]: [`SecretVLByteVec`], which is the same under another name.
 //! - [`laws`]: vectors are compared by their bytes. It does nothing when it runs.
 #![tactic(auto)]
 
 pub mod laws;
+pub mod secret_vl_byte_vec;
+pub mod secret_vl_bytes;
 mod show;
 pub mod vl_byte_slice;
 pub mod vl_byte_vec;
 pub mod vl_bytes;
+pub mod zeroize;
 
+pub use secret_vl_byte_vec::SecretVLByteVec;
+pub use secret_vl_bytes::SecretVLBytes;
 pub use vl_byte_slice::VLByteSlice;
 pub use vl_byte_vec::VLByteVec;
 pub use vl_bytes::VLBytes;
+pub use zeroize::Zeroize;

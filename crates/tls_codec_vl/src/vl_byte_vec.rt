@@ -9,7 +9,7 @@ ghost use Rattle.tls_codec_grammar.specs.Opaque.{OpaqueRefused, OpaqueSourceRefu
 ghost use Rattle.tls_codec_vl.specs.Contents.{vec_bytes_of};
 ghost use Rattle.tls_codec_vl.specs.Shown.{debug_text};
 
-use crate::show;
+use crate::{Zeroize, show};
 use std::alloc::Global;
 use std::fmt;
 use tls_codec_base::{Deserialize, DeserializeBytes, Serialize, SerializeBytes, Size, opaque};
@@ -111,6 +111,14 @@ impl fmt::Debug for VLByteVec {
 
     fn fmt<W: fmt::Write>(&self, f: &mut fmt::Formatter<W>) -> fmt::Result {
         show::debug("VLByteVec", self.as_slice(), f)
+    }
+}
+
+impl Zeroize for VLByteVec {
+    ghost cleared = { λ v. vec_bytes_of v ≡ [] };
+
+    fn zeroize(&mut self) {
+        self.0.zeroize();
     }
 }
 

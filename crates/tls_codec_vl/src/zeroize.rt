@@ -1,0 +1,74 @@
+//! [`Zeroize`]: values that empty themselves.
+ghost use Rattle.std.specs.Prelude.{◌≡◌, [], replicate};
+
+/// A value that can be cleared in place, as key material is before it is let go.
+///
+/// What "cleared" is, each type says: an integer is 0, an array holds zeros, a list is empty, and each of
+/// its elements was cleared before. A type of one's own names its own.
+///
+/// Nothing is promised of memory that was freed, nor of copies that were made before.
+///
+/// ```rust
+/// let mut key = [7u8; 3];
+/// key.zeroize();
+/// assert_eq!(rt; key, [0, 0, 0]);
+/// ```
+pub trait Zeroize: Drop {
+    ghost cleared: { Self → Type 0 };
+
+    /// Clears the value.
+    fn zeroize(&mut self)
+        ensures { cleared self.new };
+}
+
+impl Zeroize for u8 {
+    ghost cleared = { λ number. number ≡ 0 };
+
+    fn zeroize(&mut self) {
+        *self = 0;
+    }
+}
+
+impl Zeroize for u16 {
+    ghost cleared = { λ number. number ≡ 0 };
+
+    fn zeroize(&mut self) {
+        *self = 0;
+    }
+}
+
+impl Zeroize for u32 {
+    ghost cleared = { λ number. number ≡ 0 };
+
+    fn zeroize(&mut self) {
+        *self = 0;
+    }
+}
+
+impl Zeroize for u64 {
+    ghost cleared = { λ number. number ≡ 0 };
+
+    fn zeroize(&mut self) {
+        *self = 0;
+    }
+}
+
+impl<const LEN: usize> Zeroize for [u8; LEN] {
+    ghost cleared = { λ bytes. bytes ≡ replicate LEN 0 };
+
+    fn zeroize(&mut self) {
+        self.fill(0);
+    }
+}
+
+impl<T: Zeroize> Zeroize for Vec<T> {
+    ghost cleared = { λ list. list.items ≡ [] };
+
+    /// Clears each element, from the first to the last, and then the list is emptied.
+    fn zeroize(&mut self) {
+        for element in self.iter_mut() {
+            element.zeroize();
+        }
+        self.clear();
+    }
+}
