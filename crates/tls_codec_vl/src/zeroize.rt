@@ -1,5 +1,6 @@
 //! [`Zeroize`]: values that empty themselves.
 ghost use Rattle.std.specs.Prelude.{◌≡◌, [], replicate};
+ghost use Rattle.std.specs.List.{All};
 
 /// A value that can be cleared in place, as key material is before it is let go.
 ///
@@ -66,9 +67,16 @@ impl<T: Zeroize> Zeroize for Vec<T> {
 
     /// Clears each element, from the first to the last, and then the list is emptied.
     fn zeroize(&mut self) {
-        for element in self.iter_mut() {
-            element.zeroize();
-        }
+        clear_each(self.as_mut_slice());
         self.clear();
+    }
+}
+
+// Clears each element, from the first to the last.
+fn clear_each<T: Zeroize>(elements: &mut [T])
+    ensures { All T.cleared elements.new }
+{
+    for element in elements.iter_mut() {
+        element.zeroize();
     }
 }
