@@ -1,0 +1,33 @@
+//! Secret vectors are spelled as lists behind one to four bytes, and compared and hashed as the lists of their
+//! elements are.
+//!
+//! The functions do nothing. Their contracts state this, and so are proved.
+ghost use Rattle.std.specs.Prelude.{◌≡◌, ◌↔◌, ℕ, List};
+ghost use Rattle.std.specs.Cmp.Lexicographic.{pointwise};
+ghost use Rattle.std.specs.Hash as fed;
+ghost use Rattle.tls_codec_base.specs.Tree.{Tree};
+ghost use Rattle.tls_codec_base.specs.Grammar.{Direction, fixed_list};
+ghost use Rattle.tls_codec_secret.specs.Contents.{elements_of};
+ghost use Rattle.tls_codec_secret.specs.declared.list.SecretTlsVec.{SecretTlsVec};
+
+use crate::SecretTlsVec;
+use std::hash::Hash;
+use tls_codec_base::Size;
+use tls_codec_vl::Zeroize;
+use tls_codec_wire::U24;
+
+/// The four names have the spellings of a list whose length has one to four bytes (RFC 8446, section
+/// 3.4).
+pub fn secret_vectors_are_lists_behind_one_to_four_bytes<T: Size + Zeroize>()
+    ensures one { (d : Direction) (b : List ℕ) (v : Tree) → ⟦<SecretTlsVec<u8, T> as Size>⟧.format.spells d b v ↔ fixed_list 1 T.format.spells d b v }
+    ensures two { (d : Direction) (b : List ℕ) (v : Tree) → ⟦<SecretTlsVec<u16, T> as Size>⟧.format.spells d b v ↔ fixed_list 2 T.format.spells d b v }
+    ensures three { (d : Direction) (b : List ℕ) (v : Tree) → ⟦<SecretTlsVec<U24, T> as Size>⟧.format.spells d b v ↔ fixed_list 3 T.format.spells d b v }
+    ensures four { (d : Direction) (b : List ℕ) (v : Tree) → ⟦<SecretTlsVec<u32, T> as Size>⟧.format.spells d b v ↔ fixed_list 4 T.format.spells d b v }
+{}
+
+/// Two secret vectors are equal where they have as many elements and these are equal, place by place, and are
+/// hashed as the slice of their elements is.
+pub fn secret_vectors_are_compared_by_their_elements<F, T: Eq + Hash + Zeroize>()
+    ensures equal { (x y : SecretTlsVec F T) → ⟦<SecretTlsVec<F, T> as PartialEq>⟧.eq x y ≡ pointwise T.eq (elements_of x) (elements_of y) }
+    ensures hashed { (x : SecretTlsVec F T) → ⟦<SecretTlsVec<F, T> as Hash>⟧.hash_input x ≡ fed.slice T.hash_input (elements_of x) }
+{}

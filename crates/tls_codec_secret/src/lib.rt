@@ -1,0 +1,14 @@
+//! Vectors of key material behind a length of one to four bytes (RFC 8446, section 3.4): the lists of
+//! `tls_codec_vec`, which clear their elements when they are dropped.
+//!
+//! - [`list`]: [`SecretTlsVec`] and its calls, and the names [`SecretTlsVecU8`], [`SecretTlsVecU16`],
+//!   [`SecretTlsVecU24`] and [`SecretTlsVecU32`].
+//! - [`laws`]: what vectors are spelled and compared as. It does nothing when it runs.
+#![tactic(auto)]
+
+mod coding;
+mod conversions;
+pub mod laws;
+pub mod list;
+
+pub use list::{SecretTlsVec, SecretTlsVecU8, SecretTlsVecU16, SecretTlsVecU24, SecretTlsVecU32};

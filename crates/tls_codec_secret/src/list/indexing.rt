@@ -1,0 +1,31 @@
+//! `v[i]`, to read and to write.
+ghost use Rattle.std.specs.Prelude.{◌≡◌, ◌<◌, length, slice_index_or};
+ghost use Rattle.std.specs.Borrow.{sem};
+ghost use Rattle.tls_codec_secret.specs.Contents.{elements_of};
+ghost use Rattle.tls_codec_secret.specs.Lending.{LendsElement};
+
+use super::SecretTlsVec;
+use std::ops::{Index, IndexMut};
+use tls_codec_vl::Zeroize;
+
+impl<F, T: Zeroize> Index<usize> for SecretTlsVec<F, T> {
+    type Output = T;
+
+    ghost can_index = { λ v i. i < length (elements_of v) };
+
+    ghost index_gives = { λ v i x. x ≡ slice_index_or (elements_of v) i x };
+
+    fn index(&self, index: usize) -> &T {
+        &self.as_slice()[index]
+    }
+}
+
+impl<F, T: Zeroize> IndexMut<usize> for SecretTlsVec<F, T> {
+    fn index_mut(&mut self, index: usize) -> &mut T
+        requires { index < length (elements_of self.old) }
+        ensures* writes_back { sem 𝓛 (LendsElement F.row T.row self.entry index result) }
+        ensures value { result.now ≡ slice_index_or (elements_of self.old) index result.now }
+    {
+        &mut self.vec[index]
+    }
+}
