@@ -22,9 +22,9 @@ mod show;
 
 /// A list of key material, which is spelled behind the number of its bytes. `F` is the form of that number.
 ///
-/// Dropping it clears each element, from the first to the last, and then drops them. The elements leave it
-/// as they are by [`into_vec`](SecretTlsVec::into_vec), `pop`, `remove` and the conversion to a `Vec`; then
-/// it is for their owner to clear them.
+/// Dropping it clears each element, and then drops them. The elements leave it as they are by
+/// [`into_vec`](SecretTlsVec::into_vec), `pop`, `remove` and the conversion to a `Vec`; then it is for their
+/// owner to clear them.
 ///
 /// It is compared and hashed as the list is. Nothing keeps it from holding more bytes than `F` can count:
 /// then it is `InvalidVectorLength` from each encoder. **`{:?}` prints its elements.** An encoder's output
@@ -58,7 +58,7 @@ pub type SecretTlsVecU32<T> = SecretTlsVec<u32, T>;
 impl<F, T: Zeroize> Zeroize for SecretTlsVec<F, T> {
     ghost cleared = { λ v. elements_of v ≡ [] };
 
-    /// Clears each element, from the first to the last, and then the list is emptied.
+    /// Clears each element, and then the list is emptied.
     fn zeroize(&mut self) {
         self.vec.zeroize();
     }

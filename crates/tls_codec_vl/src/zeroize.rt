@@ -26,7 +26,7 @@ impl Zeroize for u8 {
     ghost cleared = { λ number. number ≡ 0 };
 
     fn zeroize(&mut self) {
-        *self = 0;
+        *self = 0u8;
     }
 }
 
@@ -34,7 +34,7 @@ impl Zeroize for u16 {
     ghost cleared = { λ number. number ≡ 0 };
 
     fn zeroize(&mut self) {
-        *self = 0;
+        *self = 0u16;
     }
 }
 
@@ -42,7 +42,7 @@ impl Zeroize for u32 {
     ghost cleared = { λ number. number ≡ 0 };
 
     fn zeroize(&mut self) {
-        *self = 0;
+        *self = 0u32;
     }
 }
 
@@ -50,7 +50,7 @@ impl Zeroize for u64 {
     ghost cleared = { λ number. number ≡ 0 };
 
     fn zeroize(&mut self) {
-        *self = 0;
+        *self = 0u64;
     }
 }
 
@@ -65,14 +65,14 @@ impl<const LEN: usize> Zeroize for [u8; LEN] {
 impl<T: Zeroize> Zeroize for Vec<T> {
     ghost cleared = { λ list. list.items ≡ [] };
 
-    /// Clears each element, from the first to the last, and then the list is emptied.
+    /// Clears each element, and then the list is emptied.
     fn zeroize(&mut self) {
         clear_each(self.as_mut_slice());
         self.clear();
     }
 }
 
-// Clears each element, from the first to the last.
+// Clears each element.
 fn clear_each<T: Zeroize>(elements: &mut [T])
     ensures { All T.cleared elements.new }
 {

@@ -1,0 +1,76 @@
+//! The calls that read and write no bytes.
+use super::each_call::hash_of;
+use crate::laws::{
+    secret_vectors_are_compared_by_their_elements,
+    secret_vectors_are_lists_behind_one_to_four_bytes,
+};
+use crate::{SecretTlsVecU8, SecretTlsVecU16, SecretTlsVecU24, SecretTlsVecU32};
+use std::test::Fail;
+
+#[test]
+fn lengths_of_the_four_names(rt: HostRuntime) {
+    assert_eq!(rt; SecretTlsVecU8::<u16>::len_len(), 1);
+    assert_eq!(rt; SecretTlsVecU16::<u16>::len_len(), 2);
+    assert_eq!(rt; SecretTlsVecU24::<u16>::len_len(), 3);
+    assert_eq!(rt; SecretTlsVecU32::<u16>::len_len(), 4);
+}
+
+#[test]
+fn elements_come_and_leave(rt: HostRuntime) -> Result<(), Fail> {
+    let alloc = rt.alloc();
+    let mut list = SecretTlsVecU24::default(alloc);
+    assert!(rt; list.is_empty());
+    for element in [5u16, 6, 7, 8] {
+        list.push(element)?;
+    }
+    assert_eq!(rt; list.len(), 4);
+    assert_eq!(rt; list.remove(1), 6);
+    assert_eq!(rt; (list.get(1), list.get(3)), (Some(&7), None));
+    list[0] = 9;
+    assert_eq!(rt; (list[0], list[1]), (9, 7));
+    let mut asked = 0u8;
+    list.retain(|element| {
+        asked = asked.saturating_add(1);
+        *element > 7
+    });
+    assert_eq!(rt; asked, 3);
+    assert_eq!(rt; list.as_slice(), [9, 8].as_slice());
+    let mut sum = 0u16;
+    for element in list.iter() {
+        sum = sum.wrapping_add(*element);
+    }
+    assert_eq!(rt; sum, 17);
+    assert_eq!(rt;
+        (list.pop(), list.pop(), list.pop()),
+        (Some(8), Some(9), None)
+    );
+    Ok(())
+}
+
+#[test]
+fn lists_become_vectors_and_back(rt: HostRuntime) -> Result<(), Fail> {
+    let alloc = rt.alloc();
+    let list = SecretTlsVecU8::new([1u16, 2].to_vec(alloc)?);
+    let copy = list.clone()?;
+    assert_eq!(rt; list.into_vec().as_slice(), [1, 2].as_slice());
+    let elements: Vec<u16> = copy.into();
+    let back = SecretTlsVecU8::from(elements);
+    let given = SecretTlsVecU8::try_from_iter(alloc, [1u16, 2])?;
+    assert!(rt; back == given);
+    Ok(())
+}
+
+#[test]
+fn lists_are_compared_by_their_elements(rt: HostRuntime) -> Result<(), Fail> {
+    secret_vectors_are_compared_by_their_elements::<u8, u16>();
+    secret_vectors_are_lists_behind_one_to_four_bytes::<u16>();
+    let alloc = rt.alloc();
+    let list = SecretTlsVecU32::from_slice(alloc, &[1u16, 2])?;
+    let other = SecretTlsVecU32::from_slice(alloc, &[1u16, 3])?;
+    assert!(rt; list != other);
+    assert!(rt; list == list.clone()?);
+    assert_eq!(rt; hash_of(&list), hash_of(&[1u16, 2].to_vec(alloc)?));
+    let text = format!(in alloc; "{list:?}")?;
+    assert_eq!(rt; text.as_str(), "SecretTlsVec { vec: [1, 2] }");
+    Ok(())
+}
