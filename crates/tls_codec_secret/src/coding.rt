@@ -1,7 +1,7 @@
 //! How a secret vector is read and written: the length of the content in bytes by its field, then the elements.
-ghost use Rattle.tls_codec_base.specs.Tree.{trees};
-ghost use Rattle.tls_codec_base.specs.Format.{counted_list_format};
-ghost use Rattle.tls_codec_base.specs.laws.FormatLaws.{counted_list_meets};
+ghost use Rattle.tls_codec_grammar.specs.Tree.{trees};
+ghost use Rattle.tls_codec_grammar.specs.Format.{counted_list_format};
+ghost use Rattle.tls_codec_grammar.specs.laws.FormatLaws.{counted_list_meets};
 ghost use Rattle.tls_codec_base.specs.Refusals.{counted_list_names, counted_list_source_names};
 ghost use Rattle.tls_codec_secret.specs.Contents.{elements_of};
 

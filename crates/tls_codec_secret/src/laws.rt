@@ -5,8 +5,8 @@
 ghost use Rattle.std.specs.Prelude.{◌≡◌, ◌↔◌, ℕ, List};
 ghost use Rattle.std.specs.Cmp.Lexicographic.{pointwise};
 ghost use Rattle.std.specs.Hash as fed;
-ghost use Rattle.tls_codec_base.specs.Tree.{Tree};
-ghost use Rattle.tls_codec_base.specs.Grammar.{Direction, fixed_list};
+ghost use Rattle.tls_codec_grammar.specs.Tree.{Tree};
+ghost use Rattle.tls_codec_grammar.specs.Grammar.{Direction, fixed_list};
 ghost use Rattle.tls_codec_secret.specs.Contents.{elements_of};
 ghost use Rattle.tls_codec_secret.specs.declared.list.SecretTlsVec.{SecretTlsVec};
 
