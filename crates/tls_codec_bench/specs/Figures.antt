@@ -1,9 +1,5 @@
 -- The figures of a case.
-use Rattle.std.specs.Prelude.{◌≡◌, ℕ, List, length}
-use Rattle.tls_codec_grammar.specs.Tree.{Tree}
-use Rattle.tls_codec_grammar.specs.Grammar.{Grammar}
-use Rattle.tls_codec_grammar.specs.Shortest.{IsShortest}
-use Rattle.tls_codec_grammar.specs.Decoding.{Begins}
+use Rattle.std.specs.Prelude.{◌≡◌, ℕ}
 use Rattle.tls_codec_bench.specs.declared.figures.Figures.{Figures}
 
 -- so many bytes are copied, and one figure stands in each column
@@ -11,14 +7,3 @@ pub record IsOfCopy (count : ℕ) (figures : Figures) : Type 0 where
   pub bytes : figures.bytes ≡ count
   pub slice : figures.slice ≡ figures.encode
   pub reader : figures.reader ≡ figures.encode
-
--- x begins with a spelling of v
-pub record BeginsWith (spells : Grammar) (x : List ℕ) (v : Tree) : Type 0 where
-  pub rest : List ℕ
-  pub begins : Begins spells x v rest
-
--- the shortest form of v has n bytes
-pub record IsLengthOf (spells : Grammar) (v : Tree) (n : ℕ) : Type 0 where
-  pub form : List ℕ
-  pub shortest : IsShortest spells form v
-  pub count : n ≡ length form

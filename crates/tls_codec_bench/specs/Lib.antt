@@ -1,4 +1,1 @@
-pub mod Names
-pub mod Noise
-pub mod Median
 pub mod Figures

@@ -1,22 +1,21 @@
 //! The figures of a case.
-ghost use Rattle.std.specs.Prelude.{◌≡◌, [], length, IfOk};
-ghost use Rattle.tls_codec_grammar.specs.Shortest.{IsShortest};
-ghost use Rattle.tls_codec_bench.specs.Figures.{BeginsWith, IsLengthOf, IsOfCopy};
-ghost use Rattle.tls_codec_bench.specs.declared.cases.Case.TheVariants.{Copy1048576, Copy4096, Copy64};
+ghost use Rattle.std.specs.Prelude.{◌≡◌, IfOk};
+ghost use Rattle.tls_codec_bench.specs.Figures.{IsOfCopy};
+ghost use Rattle.tls_codec_timing.specs.declared.cases.Case.TheVariants.{Copy1048576, Copy4096, Copy64};
 
-use crate::cases::Case;
-use crate::fault::BenchFault;
-use crate::noise::Noise;
-use crate::timing::time;
-use crate::values::FromNoise;
-use std::alloc::{AllocError, Global};
+use std::alloc::Global;
 use std::cell::Cell;
 use std::rt::Clock;
 use tls_codec_base::{Deserialize, DeserializeBytes, Serialize};
 use tls_codec_bytes::TlsByteVecU32;
+use tls_codec_timing::calls::{copy, copy_into, decode_reader, decode_slice, encode, encode_into};
+use tls_codec_timing::cases::Case;
+use tls_codec_timing::fault::BenchFault;
+use tls_codec_timing::noise::Noise;
+use tls_codec_timing::timing::time;
+use tls_codec_timing::values::FromNoise;
 use tls_codec_vec::TlsVecU32;
 use tls_codec_vl::VLBytes;
-use tls_codec_wire::Error;
 
 // Lists, one in the other, so many deep.
 type Two = Vec<Vec<u8>>;
@@ -120,74 +119,4 @@ where
         slice,
         reader,
     })
-}
-
-// The calls that are timed. None is inlined, so that each builds what it answers.
-
-#[inline(never)]
-fn copy(alloc: Global, bytes: &[u8]) -> Result<Vec<u8>, AllocError>
-    ensures { IfOk result (λ copied. copied.items ≡ bytes.now) }
-{
-    let mut copied = Vec::with_capacity(alloc, bytes.len())?;
-    copied.extend_from_slice(bytes)?;
-    Ok(copied)
-}
-
-#[inline(never)]
-fn copy_into(alloc: Global, bytes: &[u8], reused: &Cell<Vec<u8>>) -> Result<usize, AllocError>
-    ensures { IfOk result (λ count. count ≡ length bytes.now) }
-{
-    let mut out = emptied(alloc, reused);
-    let copied = out.extend_from_slice(bytes);
-    let count = out.len();
-    reused.set(out);
-    copied?;
-    Ok(count)
-}
-
-#[inline(never)]
-fn encode<T: Serialize>(alloc: Global, value: &T) -> Result<Vec<u8>, Error>
-    ensures { IfOk result (λ form. IsShortest T.format.spells form.items (T.plain value.now)) }
-{
-    value.tls_serialize_detached(alloc)
-}
-
-#[inline(never)]
-fn encode_into<T: Serialize>(
-    alloc: Global,
-    value: &T,
-    reused: &Cell<Vec<u8>>,
-) -> Result<usize, Error>
-    ensures { IfOk result (IsLengthOf T.format.spells (T.plain value.now)) }
-{
-    let mut out = emptied(alloc, reused);
-    let written = value.tls_serialize_into(&mut out);
-    reused.set(out);
-    written
-}
-
-#[inline(never)]
-fn decode_slice<T: DeserializeBytes>(alloc: Global, bytes: &[u8]) -> Result<T, Error>
-    ensures { IfOk result (λ value. BeginsWith T.format.spells bytes.now (T.plain value)) }
-{
-    let (value, _) = T::tls_deserialize_bytes(alloc, bytes)?;
-    Ok(value)
-}
-
-#[inline(never)]
-fn decode_reader<T: Deserialize>(alloc: Global, bytes: &[u8]) -> Result<T, Error>
-    ensures { IfOk result (λ value. BeginsWith T.format.spells bytes.now (T.plain value)) }
-{
-    let mut left = bytes;
-    let value = T::tls_deserialize(alloc, &mut left)?;
-    Ok(value)
-}
-
-// The vector in the cell, emptied; an empty one stands in the cell in its place.
-fn emptied(alloc: Global, reused: &Cell<Vec<u8>>) -> Vec<u8>
-    ensures { result.items ≡ [] }
-{
-    let mut out = reused.replace(Vec::new(alloc));
-    out.clear();
-    out
 }

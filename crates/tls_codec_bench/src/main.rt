@@ -6,27 +6,18 @@
 //! `tls_deserialize_bytes` and of `tls_deserialize` over a slice, with tabs between. A figure is the median of 15 batches of at least 20 milliseconds. With any other
 //! argument it ends with status 1.
 //!
-//! - [`cases`]: the cases and their names. [`figures`]: the figures of a case.
-//! - [`values`]: the values, over the numbers of a [`noise`].
-//! - [`timing`]: how long a call takes. [`median`]: the middle one of the batches.
-//! - [`fault`]: [`BenchFault`](fault::BenchFault), why nothing is timed.
+//! [`figures`] has the figures of a case; what it is timed by stands in `tls_codec_timing`.
 #![tactic(auto)]
 
-mod cases;
-mod fault;
 mod figures;
-mod median;
-mod noise;
 #[cfg(test)]
 mod tests;
-mod timing;
-mod values;
 
-use cases::{CASES, names};
-use fault::BenchFault;
 use figures::measure;
 use std::env;
 use std::rt::Clock;
+use tls_codec_timing::cases::{CASES, names};
+use tls_codec_timing::fault::BenchFault;
 
 fn main(rt: HostRuntime) -> Result<(), BenchFault> {
     let words: Vec<String> = env::args(&rt)?.collect(rt.alloc())?;

@@ -1,6 +1,6 @@
 //! What is timed.
 ghost use Rattle.std.specs.Prelude.{◌≡◌, IfOk, string_bytes};
-ghost use Rattle.tls_codec_bench.specs.Names.{name_of, names_of};
+ghost use Rattle.tls_codec_timing.specs.Names.{name_of, names_of};
 
 use std::alloc::{AllocError, Global};
 

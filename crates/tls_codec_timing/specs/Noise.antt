@@ -1,6 +1,6 @@
 -- Numbers that look random.
 use Rattle.std.specs.Prelude.{ℕ, ◌*◌, ◌/◌, ◌%◌, ◌^◌, bit_xor}
-use Rattle.tls_codec_bench.specs.declared.noise.Noise.{Noise}
+use Rattle.tls_codec_timing.specs.declared.noise.Noise.{Noise}
 
 -- the generator's state
 abbrev pub state_of : Noise → ℕ

@@ -1,6 +1,6 @@
 use Rattle.std.proofs.Common.{rules, ◌≡◌, length}
 use Rattle.std.proofs.lemmas.List.Sorted.{IsNonDecreasingBy-from_sort}
-use Rattle.tls_codec_bench.proofs.median.median.Goals as goal
+use Rattle.tls_codec_timing.proofs.median.median.Goals as goal
 
 pub returns : goal.returns
 returns c =

@@ -1,6 +1,6 @@
 //! Numbers that look random, and are the same in each run.
 ghost use Rattle.std.specs.Prelude.{◌≡◌};
-ghost use Rattle.tls_codec_bench.specs.Noise.{state_of, shifted};
+ghost use Rattle.tls_codec_timing.specs.Noise.{state_of, shifted};
 
 /// Marsaglia's xorshift generator of 64 bits, with the shifts 13, 7 and 17.
 #[derive(Drop)]

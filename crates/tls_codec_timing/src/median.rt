@@ -1,5 +1,5 @@
 //! The median of the batches.
-ghost use Rattle.tls_codec_bench.specs.Median.{IsMedian};
+ghost use Rattle.tls_codec_timing.specs.Median.{IsMedian};
 
 /// How many batches a figure is taken from, an odd number.
 pub const BATCHES: usize = 15;

@@ -1,6 +1,6 @@
 //! Why nothing is timed.
 ghost use Rattle.std.specs.Prelude.{◌≡◌};
-ghost use Rattle.tls_codec_bench.specs.declared.fault.BenchFault.TheVariants.{Memory, Outside};
+ghost use Rattle.tls_codec_timing.specs.declared.fault.BenchFault.TheVariants.{Memory, Outside};
 
 use std::alloc::AllocError;
 use std::io;

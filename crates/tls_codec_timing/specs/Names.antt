@@ -1,7 +1,7 @@
 -- What the cases are called.
 use Rattle.std.specs.Prelude.{ℕ, List, [], ◌∷◌, ◌++◌, codes}
-use Rattle.tls_codec_bench.specs.declared.cases.Case.{Case}
-use Rattle.tls_codec_bench.specs.declared.cases.Case.TheVariants.{Copy64, Copy4096, Copy1048576, Bytes64, Bytes4096, Bytes1048576, Numbers512, Numbers65536, FixedNumbers65536, Lists, Vl64, Vl4096, Vl1048576, Fixed1048576, VlLists, DeepOne, DeepTwo, Deep2, Deep4, Deep8, Deep16}
+use Rattle.tls_codec_timing.specs.declared.cases.Case.{Case}
+use Rattle.tls_codec_timing.specs.declared.cases.Case.TheVariants.{Copy64, Copy4096, Copy1048576, Bytes64, Bytes4096, Bytes1048576, Numbers512, Numbers65536, FixedNumbers65536, Lists, Vl64, Vl4096, Vl1048576, Fixed1048576, VlLists, DeepOne, DeepTwo, Deep2, Deep4, Deep8, Deep16}
 
 abbrev pub name_of : Case → List ℕ
 name_of Copy64 = codes "copy 64"

@@ -1,0 +1,4 @@
+pub mod Names
+pub mod Noise
+pub mod Median
+pub mod Calls

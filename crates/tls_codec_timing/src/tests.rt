@@ -1,0 +1,120 @@
+// What no clause says: that calls succeed, and figures by a clock that is known.
+use crate::calls::{copy, copy_into, decode_reader, decode_slice, encode, encode_into};
+use crate::cases::{Case, names};
+use crate::fault::BenchFault;
+use crate::median::median;
+use crate::noise::Noise;
+use crate::timing::time;
+use crate::values::FromNoise;
+use std::alloc::AllocError;
+use std::cell::Cell;
+use std::io;
+use std::io::ErrorKind;
+use std::rt::Clock;
+use std::test::Fail;
+use std::time::Duration;
+
+// A clock that goes on by so many milliseconds each time it is read.
+#[derive(Drop)]
+struct Ticks {
+    step: u64,
+    read: Cell<u64>,
+}
+
+impl Ticks {
+    fn new(step: u64) -> Ticks {
+        Ticks {
+            step,
+            read: Cell::new(0),
+        }
+    }
+}
+
+impl Clock for Ticks {
+    fn monotonic(&self) -> io::Result<Duration> {
+        let now = self.read.get().saturating_add(self.step);
+        self.read.set(now);
+        Ok(Duration::from_millis(now))
+    }
+
+    fn since_1970(&self) -> io::Result<Duration> {
+        self.monotonic()
+    }
+}
+
+#[test]
+fn each_name_stands_on_a_line(rt: HostRuntime) -> Result<(), Fail> {
+    let text = names(rt.alloc(), &[Case::Lists, Case::DeepOne])?;
+    assert_eq!(rt;
+        text.as_str(),
+        "Vec<Vec<u16>> 256x64\n8 deep, one element a level\n"
+    );
+    assert_eq!(rt; Case::Numbers512.name(), "Vec<u16> 512");
+    Ok(())
+}
+
+// The first numbers of Marsaglia's example, computed by another program.
+#[test]
+fn a_noise_has_the_numbers_of_its_generator(rt: HostRuntime) {
+    let mut noise = Noise::new();
+    for number in [
+        8_748_534_153_485_358_512,
+        3_040_900_993_826_735_515,
+        3_453_997_556_048_239_312,
+    ] {
+        assert_eq!(rt; noise.number(), number);
+    }
+}
+
+#[test]
+fn a_value_has_the_shape_that_is_asked_for(rt: HostRuntime) -> Result<(), Fail> {
+    let noise = &mut Noise::new();
+    let value = Vec::<Vec<u8>>::from_noise(rt.alloc(), noise, &[2, 3])?;
+    assert_eq!(rt; value.len(), 2);
+    for inner in &value {
+        assert_eq!(rt; inner.len(), 3);
+    }
+    assert_eq!(rt; value[0].as_slice(), [176u8, 155, 208].as_slice());
+    let numbers = Vec::<u16>::from_noise(rt.alloc(), &mut Noise::new(), &[1])?;
+    assert_eq!(rt; numbers.as_slice(), [5552u16].as_slice());
+    Ok(())
+}
+
+#[test]
+fn the_median_is_the_middle_one(rt: HostRuntime) {
+    assert_eq!(rt;
+        median([9, 1, 8, 2, 7, 3, 6, 4, 5, 20, 21, 22, 23, 24, 25]),
+        8
+    );
+    assert_eq!(rt; median([5; 15]), 5);
+}
+
+#[test]
+fn a_call_takes_its_part_of_a_batch(rt: HostRuntime) {
+    assert!(rt; matches!(time(&Ticks::new(1), || true), Ok(1_000_000)));
+    assert!(rt; matches!(time(&Ticks::new(25), || true), Ok(25_000_000)));
+    assert!(rt; matches!(time(&Ticks::new(1), || false), Err(BenchFault::Refused)));
+    assert!(rt; matches!(time(&Ticks::new(0), || true), Err(BenchFault::Clock)));
+}
+
+#[test]
+fn errors_of_std_are_faults(rt: HostRuntime) {
+    assert!(rt; matches!(BenchFault::from(AllocError), BenchFault::Memory));
+    let failed = io::Error::from(ErrorKind::PermissionDenied);
+    assert!(rt; matches!(BenchFault::from(failed), BenchFault::Outside(_)));
+}
+
+#[test]
+fn the_calls_that_are_timed(rt: HostRuntime) -> Result<(), Fail> {
+    let alloc = rt.alloc();
+    let reused = Cell::new(Vec::new(alloc));
+    let form = encode(alloc, &Some(7u16))?;
+    assert_eq!(rt; form.as_slice(), [1u8, 0, 7].as_slice());
+    assert_eq!(rt; encode_into(alloc, &Some(7u16), &reused), Ok(3));
+    assert_eq!(rt; copy(alloc, &form)?, form);
+    assert_eq!(rt; copy_into(alloc, &form, &reused)?, 3);
+    assert_eq!(rt; reused.into_inner(), form);
+    assert_eq!(rt; decode_slice::<Option<u16>>(alloc, &form), Ok(Some(7)));
+    assert_eq!(rt; decode_reader::<Option<u16>>(alloc, &form), Ok(Some(7)));
+    Ok(())
+}
