@@ -1,7 +1,7 @@
 -- Length fields: digits, variable-length integers, and gaps that they are put into.
 use Rattle.std.proofs.Common.{◌≡◌, ℕ, ◌+◌, ◌-◌, ◌^◌, ◌<◌, ◌≤◌, List, ◌++◌, length, take, drop, take-append-drop, Option, None, Some, sym, ap, subst, ◌∙◌, arith, append_assoc, length-append, length-take-le}
 use Rattle.std.proofs.Math.Nat.{mod-eq_of_lt}
-use Rattle.std.proofs.Math.Seq.{drop-append_seam, take-add, take-append_seam, take-length}
+use Rattle.std.proofs.Math.Seq.{take-add, take-length}
 use Rattle.std.specs.Int.{bytes_high_first}
 use Rattle.tls_codec_wire.specs.Counts.{Counts}
 use Rattle.tls_codec_wire.specs.Digits.{Digits}
@@ -11,7 +11,7 @@ use Rattle.tls_codec_wire.specs.declared.error.Error.TheVariants.{DecodingError,
 use Rattle.tls_codec_wire.proofs.BigEndian.{AreBytes-high_first, length-high_first, value-high_first}
 use Rattle.tls_codec_wire.proofs.VarintForms.{drop-high_first}
 use Rattle.tls_codec_grammar.specs.Shortest.{IsLeast}
-use Rattle.tls_codec_grammar.specs.Field.{FieldRefused, FilledGap, FitGap, Field, NoFieldBegins, variable_field}
+use Rattle.tls_codec_grammar.specs.Field.{FieldRefused, FitGap, NoFieldBegins, variable_field}
 use Rattle.tls_codec_grammar.specs.laws.NumberLaws.{digits_least}
 
 -- ---- k bytes

@@ -1,5 +1,5 @@
 -- Bytes that are sent behind a length field.
-use Rattle.std.proofs.Common.{◌≡◌, ℕ, ◌+◌, ◌-◌, List, [], ◌∷◌, ◌++◌, length, length-append, append_assoc, ap, ◌∙◌, refl, arith}
+use Rattle.std.proofs.Common.{◌≡◌, ℕ, ◌+◌, List, [], ◌∷◌, ◌++◌, length, length-append, refl, arith}
 use Rattle.std.specs.Io.KnownBytes.{Appends}
 use Rattle.tls_codec_wire.specs.Counts.{NoneFell}
 use Rattle.tls_codec_wire.specs.Device.{Received}
@@ -46,10 +46,10 @@ module _ {field : Field} (m : MeetsFieldLaws field) (c : List ℕ) (small : AreB
         field_breaks_inside m byte_contents_meet (bytes_length c) p fell (breaks_whole (content_format (number_format 1)) _ c (bytes_shortest c small) sink mid new e received refused later)
 
   -- bytes behind their length, in a vector
-  pub bytes_appended : {old mid new : List ℕ} (form : List ℕ) → IsLeast (λ s. field.spells s (length c)) form → {n : ℕ} → mid ≡ old ++ form → new ≡ mid ++ c → n ≡ length new - length old → Appended (counted_bytes_format field) (number_trees c) old new n
-  bytes_appended {old} {mid} {new} form least {n} first then count = record {
+  pub bytes_appended : {old new : List ℕ} (form : List ℕ) → IsLeast (λ s. field.spells s (length c)) form → {n : ℕ} → new ≡ old ++ (form ++ c) → n ≡ length form + length c → Appended (counted_bytes_format field) (number_trees c) old new n
+  bytes_appended {old} {new} form least {n} held count = record {
     form = form ++ c;
     shortest = counted_least field.spells field.width m.counts (content (number 1)) form c (number_trees c) least (bytes_shortest c small);
-    held = then ∙ ap (λ (u : List ℕ). u ++ c) first ∙ append_assoc old form c;
-    count = omega (arith, count, length-append form c, ap length first, length-append old form, ap length then, length-append mid c);
+    held = held;
+    count = omega (arith, count, length-append form c);
   }

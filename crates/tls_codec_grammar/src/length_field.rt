@@ -18,7 +18,7 @@ mod fixed;
 mod variable;
 mod writing;
 
-pub(crate) use writing::append_few;
+pub(crate) use writing::append_both;
 pub use writing::{fill_gap, open_gap, write_length};
 
 /// What stands before a content and says how many bytes that has.

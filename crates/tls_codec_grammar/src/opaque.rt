@@ -10,7 +10,7 @@ ghost use Rattle.tls_codec_grammar.specs.Decoding.{Reads, Splits};
 ghost use Rattle.tls_codec_grammar.specs.Encoding.{AppendsForm, Makes, Writes};
 ghost use Rattle.tls_codec_grammar.specs.Opaque.{OpaqueRefused, OpaqueSourceRefused};
 
-use crate::length_field::{LengthField, append_few, write_length};
+use crate::length_field::{LengthField, append_both, write_length};
 use std::alloc::Global;
 use tls_codec_wire::{Error, Sink, Source, read_bytes_bounded, write_all};
 
@@ -43,16 +43,13 @@ pub fn append<F: LengthField>(out: &mut Vec<u8>, content: &[u8]) -> Result<usize
     ensures appends { AppendsForm (counted_bytes_format F.field) (number_trees content.now) out.old.items out.new.items result }
     ensures too_long { (counted_bytes_format F.field).too_long (number_trees content.now) → result ≡ Err InvalidVectorLength }
 {
-    let at = out.len();
     let Some(found) = F::least_form(content.len()) else {
         return Err(Error::InvalidVectorLength);
     };
     let (bytes, from) = found;
     let form = &bytes[from..];
-    out.reserve(form.len().saturating_add(content.len()))?;
-    append_few(out, form)?;
-    out.extend_from_slice(content)?;
-    Ok(out.len() - at)
+    append_both(out, form, content)?;
+    Ok(form.len() + content.len())
 }
 
 /// The shortest form of some bytes.

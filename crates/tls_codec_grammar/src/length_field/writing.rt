@@ -5,6 +5,7 @@ ghost use Rattle.tls_codec_wire.specs.declared.error.Error.TheVariants.{InvalidV
 ghost use Rattle.tls_codec_grammar.specs.Field.{BeganField, FieldNotSent, FilledGap, FitGap, GapRefused, OpenedGap, SentField};
 
 use super::LengthField;
+use std::alloc::AllocError;
 use tls_codec_wire::vlen::insert_bytes;
 use tls_codec_wire::{Error, Sink, write_all};
 
@@ -33,58 +34,66 @@ pub fn write_length<F: LengthField, W: Sink>(
 }
 
 /// Leaves a gap of so many bytes for a length that isn't known yet, and asks for room for so many more
-/// behind it, which may be refused. `OutOfMemory`: there was none for the gap, and the bytes are as they
+/// behind it, which may be refused. An error: there was no memory for the gap, and the bytes are as they
 /// were.
 #[inline(always)]
-pub fn open_gap(out: &mut Vec<u8>, width: usize, room: usize) -> Result<(), Error>
+pub fn open_gap(out: &mut Vec<u8>, width: usize, room: usize) -> Result<(), AllocError>
     requires { width ≤ 8 }
     ensures ok { OnOk result (OpenedGap out.old.items out.new.items width) }
     ensures kept { OnErr result (out.new.items ≡ out.old.items) }
-    ensures err { IfErr result (λ e. e ≡ OutOfMemory) }
 {
     let _ = out.reserve(width.saturating_add(room));
     let empty = [0u8; 8];
-    append_few(out, &empty[..width])?;
-    Ok(())
+    append_few(out, &empty[..width])
+}
+
+// Appends a few bytes and then others, and asks for room once. One, two or four are stored by no call.
+#[inline(always)]
+pub(crate) fn append_both(out: &mut Vec<u8>, few: &[u8], bytes: &[u8]) -> Result<(), AllocError>
+    ensures { out.new.items ≡ (if is_ok result then out.old.items ++ (few.now ++ bytes.now) else out.old.items) }
+{
+    match few.len() {
+        1 => append_with_room(out, &few[..1], bytes),
+        2 => append_with_room(out, &few[..2], bytes),
+        4 => append_with_room(out, &few[..4], bytes),
+        _ => append_with_room(out, few, bytes),
+    }
+}
+
+// Appends a few bytes and then others, and asks for room once.
+#[inline(always)]
+fn append_with_room(out: &mut Vec<u8>, few: &[u8], bytes: &[u8]) -> Result<(), AllocError>
+    ensures { out.new.items ≡ (if is_ok result then out.old.items ++ (few.now ++ bytes.now) else out.old.items) }
+{
+    out.reserve(few.len().saturating_add(bytes.len()))?;
+    append_few(out, few)?;
+    out.extend_from_slice(bytes)
 }
 
 // Appends a few bytes. One, two or four are stored by no call.
 #[inline(always)]
-pub(crate) fn append_few(out: &mut Vec<u8>, bytes: &[u8]) -> Result<(), Error>
+fn append_few(out: &mut Vec<u8>, bytes: &[u8]) -> Result<(), AllocError>
     ensures items { out.new.items ≡ (if is_ok result then out.old.items ++ bytes.now else out.old.items) }
     ensures room { vec_capacity out.old ≤ vec_capacity out.new }
-    ensures err { IfErr result (λ e. e ≡ OutOfMemory) }
 {
     match bytes.len() {
         1 => append_one(out, bytes[0]),
-        2 => append_some(out, &bytes[..2]),
-        4 => append_some(out, &bytes[..4]),
-        _ => append_some(out, bytes),
+        2 => out.extend_from_slice(&bytes[..2]),
+        4 => out.extend_from_slice(&bytes[..4]),
+        _ => out.extend_from_slice(bytes),
     }
 }
 
 // Appends a byte.
 #[inline(always)]
-fn append_one(out: &mut Vec<u8>, byte: u8) -> Result<(), Error>
+fn append_one(out: &mut Vec<u8>, byte: u8) -> Result<(), AllocError>
     ensures items { out.new.items ≡ (if is_ok result then out.old.items ++ byte ∷ [] else out.old.items) }
     ensures room { vec_capacity out.old ≤ vec_capacity out.new }
-    ensures err { IfErr result (λ e. e ≡ OutOfMemory) }
 {
     match out.push(byte) {
         Ok(()) => Ok(()),
-        Err(_) => Err(Error::OutOfMemory),
+        Err(_) => Err(AllocError),
     }
-}
-
-// Appends bytes.
-#[inline(always)]
-fn append_some(out: &mut Vec<u8>, bytes: &[u8]) -> Result<(), Error>
-    ensures items { out.new.items ≡ (if is_ok result then out.old.items ++ bytes.now else out.old.items) }
-    ensures room { vec_capacity out.old ≤ vec_capacity out.new }
-    ensures err { IfErr result (λ e. e ≡ OutOfMemory) }
-{
-    out.extend_from_slice(bytes)?;
-    Ok(())
 }
 
 /// Puts the least spelling of the number of bytes behind a gap in its place, and answers how many bytes

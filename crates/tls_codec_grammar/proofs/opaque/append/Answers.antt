@@ -1,4 +1,4 @@
-use Rattle.std.proofs.Common.{◌-◌, ap, length, length-append, take, drop, arith, inr, refl}
+use Rattle.std.proofs.Common.{arith, inr, refl}
 use Rattle.tls_codec_wire.proofs.Bytes.{are_bytes}
 use Rattle.tls_codec_grammar.specs.laws.FormatLaws.{content_length_sum}
 use Rattle.tls_codec_grammar.specs.Shortest.{IsLeast}
@@ -17,25 +17,10 @@ pub returns-clause-appends : goal.returns-clause-appends
 returns-clause-appends g c =
     let small = are_bytes c.args.content.now (λ i. omega (arith, c.type_inv.content i)) in
     let form = slice_least (IsLeast (λ s. g.F.LengthField.field.spells s _)) c.in-Some.found.0 c.in-Some.found.1 (omega arith) c.in-Some.ensures.0 c.in-Some.ensures.1 in
-    let first = rw c.in_ok-append_few.was at c.append_few.ensures.items in
-    let then = rw c.in_ok-extend_from_slice.was at c.extend_from_slice.ensures.items in
-    rw (← c.reserve.ensures.items) (bytes_appended g.met.F.LengthField.lawful c.args.content.now small _ form first then (omega (arith, c.len.ensures, c.len-at.ensures, ap length c.reserve.ensures.items)))
+    bytes_appended g.met.F.LengthField.lawful c.args.content.now small _ form (rw c.in_ok-append_both.was at c.append_both.ensures) refl
 
-pub returns-in_err-extend_from_slice-clause-appends : goal.returns-in_err-extend_from_slice-clause-appends
-returns-in_err-extend_from_slice-clause-appends g c =
-    let k = c.in-Some.found.1 in
-    let first = rw c.in_ok-append_few.was at c.append_few.ensures.items in
-    let size = length-append c.reserve.new.self.items (take (8 - k) (drop k c.in-Some.found.0)) in
-    absurd (omega (arith, c.in_ok-reserve.ensures.ok, c.append_few.ensures.room, c.in_err-extend_from_slice.ensures.full, ap length first, size))
-
-pub returns-in_err-reserve-clause-too_long : goal.returns-in_err-reserve-clause-too_long
-returns-in_err-reserve-clause-too_long g c long = absurd (omega (arith, long, bytes_sum c.args.content.now, g.met.F.LengthField.lawful.below _ _ c.in-Some.ensures.1.spelled))
-
-pub returns-in_err-append_few-clause-too_long : goal.returns-in_err-append_few-clause-too_long
-returns-in_err-append_few-clause-too_long g c long = absurd (omega (arith, long, bytes_sum c.args.content.now, g.met.F.LengthField.lawful.below _ _ c.in-Some.ensures.1.spelled))
-
-pub returns-in_err-extend_from_slice-clause-too_long : goal.returns-in_err-extend_from_slice-clause-too_long
-returns-in_err-extend_from_slice-clause-too_long g c long = absurd (omega (arith, long, bytes_sum c.args.content.now, g.met.F.LengthField.lawful.below _ _ c.in-Some.ensures.1.spelled))
+pub returns-in_err-append_both-clause-too_long : goal.returns-in_err-append_both-clause-too_long
+returns-in_err-append_both-clause-too_long g c long = absurd (omega (arith, long, bytes_sum c.args.content.now, g.met.F.LengthField.lawful.below _ _ c.in-Some.ensures.1.spelled))
 
 pub returns-clause-too_long : goal.returns-clause-too_long
 returns-clause-too_long g c long = absurd (omega (arith, long, bytes_sum c.args.content.now, g.met.F.LengthField.lawful.below _ _ c.in-Some.ensures.1.spelled))
