@@ -1,13 +1,27 @@
-//! Byte vectors are compared and hashed as the lists of their bytes are.
+//! Byte vectors are spelled as bytes behind one to four bytes, and compared and hashed as the lists of
+//! their bytes are.
 //!
-//! The function does nothing. Its contract states this, and so is proved.
-ghost use Rattle.std.specs.Prelude.{◌≡◌, ◌↔◌, IsTrue};
+//! The functions do nothing. Their contracts state this, and so are proved.
+ghost use Rattle.std.specs.Prelude.{◌≡◌, ◌↔◌, ℕ, IsTrue, List};
 ghost use Rattle.std.specs.Hash as fed;
+ghost use Rattle.tls_codec_base.specs.Tree.{Tree};
+ghost use Rattle.tls_codec_base.specs.Grammar.{Direction, fixed_list, number};
 ghost use Rattle.tls_codec_bytes.specs.Contents.{bytes_of};
 ghost use Rattle.tls_codec_bytes.specs.declared.bytes.TlsByteVec.{TlsByteVec};
 
 use crate::TlsByteVec;
 use std::hash::Hash;
+use tls_codec_base::Size;
+use tls_codec_wire::U24;
+
+/// The four names have the spellings of a list of bytes whose length has one to four bytes (RFC 8446,
+/// section 3.4).
+pub fn byte_vecs_are_bytes_behind_one_to_four_bytes()
+    ensures one { (d : Direction) (b : List ℕ) (v : Tree) → ⟦<TlsByteVec<u8> as Size>⟧.format.spells d b v ↔ fixed_list 1 (number 1) d b v }
+    ensures two { (d : Direction) (b : List ℕ) (v : Tree) → ⟦<TlsByteVec<u16> as Size>⟧.format.spells d b v ↔ fixed_list 2 (number 1) d b v }
+    ensures three { (d : Direction) (b : List ℕ) (v : Tree) → ⟦<TlsByteVec<U24> as Size>⟧.format.spells d b v ↔ fixed_list 3 (number 1) d b v }
+    ensures four { (d : Direction) (b : List ℕ) (v : Tree) → ⟦<TlsByteVec<u32> as Size>⟧.format.spells d b v ↔ fixed_list 4 (number 1) d b v }
+{}
 
 /// Two byte vectors are equal where their bytes are, and are hashed as the slice of their bytes is,
 /// whatever the length field.

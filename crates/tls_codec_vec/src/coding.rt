@@ -39,7 +39,9 @@ impl<F: LengthField, T: Serialize> Serialize for TlsVec<F, T> {
 impl<F: LengthField, T: Deserialize> Deserialize for TlsVec<F, T> {
     ghost names = { counted_list_source_names F.field T.format T.names };
 
-    /// `EndOfStream`: there is no whole length. Every other refusal is that of the elements.
+    /// `EndOfStream`: there is no whole length, or an element passes the end that it declares.
+    /// `DecodingError("vector element consumed 0 bytes")`: an element takes no byte. Every other refusal
+    /// is an element's, the source's or want of memory.
     fn tls_deserialize<R: Source>(alloc: Global, bytes: &mut R) -> Result<TlsVec<F, T>, Error> {
         let elements = counted::read::<F, T, R>(alloc, bytes)?;
         Ok(TlsVec::new(elements))
@@ -49,7 +51,9 @@ impl<F: LengthField, T: Deserialize> Deserialize for TlsVec<F, T> {
 impl<F: LengthField, T: DeserializeBytes> DeserializeBytes for TlsVec<F, T> {
     ghost names = { counted_list_names F.field T.format T.names };
 
-    /// `EndOfStream`: there is no whole length. Every other refusal is that of the elements.
+    /// `EndOfStream`: there is no whole length. `DecodingError("elements do not fill the declared length")`:
+    /// an element passes the end that it declares. `DecodingError("vector element consumed 0 bytes")`: an
+    /// element takes no byte. Every other refusal is an element's or want of memory.
     fn tls_deserialize_bytes(alloc: Global, bytes: &[u8]) -> Result<(TlsVec<F, T>, &[u8]), Error> {
         let (elements, rest) = counted::split::<F, T>(alloc, bytes)?;
         Ok((TlsVec::new(elements), rest))

@@ -1,5 +1,5 @@
 //! [`TlsVec`], a list of elements, and what is done with it.
-ghost use Rattle.std.specs.Prelude.{◌≡◌, ◌==◌, ◌<◌, [], ◌∷◌, ◌++◌, is_ok, if◌then◌else◌, length, slice_get, slice_index_or, option_copied, IfErr, IfOk, MatchOption};
+ghost use Rattle.std.specs.Prelude.{◌≡◌, ◌==◌, ◌<◌, ◌^◌, [], ◌∷◌, ◌++◌, is_ok, if◌then◌else◌, length, slice_get, slice_index_or, option_copied, IfErr, IfOk, MatchOption};
 ghost use Rattle.std.specs.Fn.{CalledAt};
 ghost use Rattle.std.specs.Iterator.{Drains, IsFiniteIterable};
 ghost use Rattle.std.specs.Iterator.Adapters.{IterYieldsInOrder, IterYieldsInReverse};
@@ -101,9 +101,10 @@ impl<F, T> TlsVec<F, T> {
         self.vec.get(index)
     }
 
-    /// The elements in order.
+    /// The elements one by one, from either end.
     pub fn iter(&self) -> Iter<'_, T>
         ensures rest { iter_rest result ≡ elements_of self.now }
+        ensures bound { length (iter_rest result) < 2 ^ 64 }
         ensures runs { IterYieldsInOrder T }
         ensures runs_back { IterYieldsInReverse T }
     {
@@ -118,7 +119,8 @@ impl<F, T> TlsVec<F, T> {
         self.vec.pop()
     }
 
-    /// Takes the element at a place. Those behind it move one place to the front.
+    /// Takes the element at a place, which is below [`len`](TlsVec::len). Those behind it move one place
+    /// to the front.
     pub fn remove(&mut self, index: usize) -> T
         requires { index < length (elements_of self.old) }
         ensures value { slice_get (elements_of self.old) index ≡ Some result }
@@ -129,7 +131,8 @@ impl<F, T> TlsVec<F, T> {
 }
 
 impl<F, T: Drop> TlsVec<F, T> {
-    /// Appends an element. `OutOfMemory`: there was no memory for it, and the list is as it was.
+    /// Appends an element. `OutOfMemory`: there was no memory for it, the list is as it was, and the
+    /// element is dropped.
     pub fn push(&mut self, value: T) -> Result<(), Error>
         ensures elements { elements_of self.new ≡ (if is_ok result then elements_of self.old ++ value ∷ [] else elements_of self.old) }
         ensures err { IfErr result (λ e. e ≡ OutOfMemory) }
@@ -149,8 +152,8 @@ impl<F, T: Drop> TlsVec<F, T> {
         self.vec.retain(f);
     }
 
-    /// The elements that an iterator gives. `OutOfMemory`: there was no memory for them, and those that
-    /// it gave are dropped.
+    /// The elements that an iterator gives, in its order. It has to end. `OutOfMemory`: there was no
+    /// memory for them, and those that it gave are dropped.
     pub fn try_from_iter<I: IntoIterator<Item = T>>(
         alloc: Global,
         iter: I,

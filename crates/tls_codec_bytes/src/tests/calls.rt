@@ -1,5 +1,7 @@
 // The calls that write and read nothing.
-use crate::laws::byte_vecs_are_compared_by_their_bytes;
+use crate::laws::{
+    byte_vecs_are_bytes_behind_one_to_four_bytes, byte_vecs_are_compared_by_their_bytes,
+};
 use crate::{TlsByteVec, TlsByteVecU8};
 use std::alloc::Global;
 use std::hash::{DefaultHasher, Hash, Hasher};
@@ -73,6 +75,7 @@ fn calls_on_each_width(rt: HostRuntime) -> Result<(), Fail> {
     are_changed::<u32>(&rt, alloc)?;
     are_seen::<u32>(&rt, alloc)?;
     byte_vecs_are_compared_by_their_bytes::<U24>();
+    byte_vecs_are_bytes_behind_one_to_four_bytes();
     Ok(())
 }
 

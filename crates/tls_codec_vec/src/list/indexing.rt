@@ -14,12 +14,14 @@ impl<F, T> Index<usize> for TlsVec<F, T> {
 
     ghost index_gives = { λ v i x. x ≡ slice_index_or (elements_of v) i x };
 
+    /// The place is below [`len`](TlsVec::len).
     fn index(&self, index: usize) -> &T {
         &self.as_slice()[index]
     }
 }
 
 impl<F, T> IndexMut<usize> for TlsVec<F, T> {
+    /// The place is below [`len`](TlsVec::len).
     fn index_mut(&mut self, index: usize) -> &mut T
         requires { index < length (elements_of self.old) }
         ensures* writes_back { sem 𝓛 (LendsElement F.row T.row self.entry index result) }

@@ -58,6 +58,8 @@ fn elements_come(rt: HostRuntime) -> Result<(), Fail> {
     assert_eq!(rt; sum, 10);
     let given = TlsVecU24::try_from_iter(alloc, [4u16, 6])?;
     assert!(rt; given == list);
+    let none = TlsVecU24::<u16>::from_slice(alloc, &[])?;
+    assert!(rt; none.clone()?.is_empty());
     Ok(())
 }
 

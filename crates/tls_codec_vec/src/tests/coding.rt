@@ -30,7 +30,8 @@ fn is_written<V: Serialize>(
     Ok(())
 }
 
-// Both paths read the value of a front of the bytes, and leave so many of them.
+// Both paths read the value of a front of the bytes, and leave so many of them. Where they leave none, the
+// exact forms read it too.
 fn is_read<V: Deserialize + DeserializeBytes + PartialEq>(
     rt: &impl Abort,
     alloc: Global,
@@ -45,6 +46,10 @@ fn is_read<V: Deserialize + DeserializeBytes + PartialEq>(
     let found = V::tls_deserialize(alloc, &mut source)?;
     assert!(rt; found == *value);
     assert_eq!(rt; source.len(), left);
+    if left == 0 {
+        assert!(rt; V::tls_deserialize_exact_bytes(alloc, bytes)? == *value);
+        assert!(rt; V::tls_deserialize_exact(alloc, bytes)? == *value);
+    }
     Ok(())
 }
 
