@@ -7,7 +7,8 @@ ghost use Rattle.std.specs.List.{All};
 /// What "cleared" is, each type says: an integer is 0, an array holds zeros, a list is empty, and each of
 /// its elements was cleared before. A type of one's own names its own.
 ///
-/// Nothing is promised of memory that was freed, nor of copies that were made before.
+/// Nothing is promised of memory that was freed, since the compiler may leave out stores that nothing reads,
+/// nor of copies that were made before.
 ///
 /// ```rust
 /// let mut key = [7u8; 3];
@@ -15,6 +16,7 @@ ghost use Rattle.std.specs.List.{All};
 /// assert_eq!(rt; key, [0, 0, 0]);
 /// ```
 pub trait Zeroize: Drop {
+    // What holds of a value that was cleared.
     ghost cleared: { Self → Type 0 };
 
     /// Clears the value.
