@@ -6,6 +6,7 @@ pub mod Errors
 pub mod Field
 pub mod Format
 pub mod Lawful
+pub mod Tagged
 pub mod Decoding
 pub mod Encoding
 pub mod Opaque

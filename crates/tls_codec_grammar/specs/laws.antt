@@ -6,3 +6,4 @@ pub mod FieldsLaws
 pub mod VarintLaws
 pub mod ListLaws
 pub mod FormatLaws
+pub mod TaggedLaws
