@@ -35,7 +35,7 @@ fields_begins {first} {others} {x} {v} {r} {vs} {rest} p q = record {
 
 module _ (first others : Grammar) where
   -- where no first part begins, no product does
-  none_at_first : (x : List ℕ) → NoneBegins first x → NoneBegins (fields first others) x
+  pub none_at_first : (x : List ℕ) → NoneBegins first x → NoneBegins (fields first others) x
   none_at_first x none (Join v vs) rest b = none v (b.spelled.rest ++ rest) (record {
     front = b.spelled.front;
     whole = b.whole ∙ ap (λ (u : List ℕ). u ++ rest) b.spelled.whole ∙ append_assoc b.spelled.front b.spelled.rest rest;
@@ -92,7 +92,7 @@ fields_given {S} {given} {first} {others} {a} {b} {c} {v} {vs} order p q = recor
 }
 
 module _ (first others : Grammar) where
-  none_comes_at_first : (coming : Option (List ℕ)) → NoneComes first coming → NoneComes (fields first others) coming
+  pub none_comes_at_first : (coming : Option (List ℕ)) → NoneComes first coming → NoneComes (fields first others) coming
   none_comes_at_first None none = tt
   none_comes_at_first (Some x) none = none_at_first first others x none
 

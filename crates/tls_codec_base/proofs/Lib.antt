@@ -9,7 +9,10 @@ pub mod NumberRunSources
 pub mod NumberRuns
 pub mod OptionDecoding
 pub mod OptionEncoding
+pub mod OwnMessages
 pub mod PartsAppending
+pub mod TaggedDecoding
+pub mod TaggedEncoding
 pub mod TextDecoding
 pub mod TextForms
 pub mod VectorSinks

@@ -1,3 +1,5 @@
 pub mod Turns
 pub mod Refusals
 pub mod Runs
+pub mod TaggedNames
+pub mod OwnMessages

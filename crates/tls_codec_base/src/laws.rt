@@ -3,7 +3,7 @@
 //! bytes has left.
 //!
 //! The functions do nothing. Their contracts state the laws, and so are proved.
-ghost use Rattle.std.specs.Prelude.{◌≡◌, ◌↔◌, ℕ, ◌≤◌, ◌^◌, List, [], length};
+ghost use Rattle.std.specs.Prelude.{◌≡◌, ◌↔◌, ℕ, ◌<◌, ◌≤◌, ◌^◌, List, [], length};
 ghost use Rattle.tls_codec_wire.specs.Digits.{AreBytes};
 ghost use Rattle.tls_codec_wire.specs.Varint.{Varint};
 ghost use Rattle.tls_codec_wire.specs.VarintCalls.{LeastVarint};
@@ -11,6 +11,7 @@ ghost use Rattle.tls_codec_grammar.specs.Tree.{Tree, Empty, Join, number_trees, 
 ghost use Rattle.tls_codec_grammar.specs.Decoding.{ComesFirst, GaveSpelling};
 ghost use Rattle.tls_codec_grammar.specs.Format.{counted_bytes_format, counted_list_format, fields_format, fixed_list_format, list_format, nothing_format, option_format, text_format};
 ghost use Rattle.tls_codec_grammar.specs.Lawful.{MeetsLaws};
+ghost use Rattle.tls_codec_grammar.specs.Tagged.{no_variant, tagged_format, variant};
 ghost use Rattle.tls_codec_grammar.specs.Grammar.{Counted, Direction, Row, content};
 ghost use Rattle.tls_codec_grammar.specs.Shortest.{IsLeast, IsShortest};
 
@@ -18,7 +19,7 @@ use crate::traits::Size;
 use tls_codec_grammar::LengthField;
 use tls_codec_wire::Source;
 
-/// Formats of options, products and lists meet the laws, if those of their parts do.
+/// Formats of options, products, lists and choices with a tag meet the laws, if those of their parts do.
 pub fn formats_are_lawful<T: Size, U: Size>()
     ensures options { MeetsLaws (option_format T.format) }
     ensures none { MeetsLaws nothing_format }
@@ -26,6 +27,7 @@ pub fn formats_are_lawful<T: Size, U: Size>()
     ensures lists { MeetsLaws (list_format T.format) }
     ensures fixed { (k : ℕ) → MeetsLaws (fixed_list_format k T.format) }
     ensures texts { MeetsLaws text_format }
+    ensures choices { (k m n : ℕ) → k < 2 ^ 64 → MeetsLaws (tagged_format k (variant m T.format (variant n U.format no_variant))) }
 {}
 
 /// Where the elements of a list all have shortest forms that together pass a length of 62 bits, the

@@ -11,7 +11,7 @@
 //! - [`arrays`]: `[u8; LEN]`.
 //! - [`options`]: `Option<T>`.
 //! - [`products`]: `(T, U)`, `(T, U, V)`, `()` and `PhantomData<T>`.
-//! - [`boxes`]: `Box<T>`.
+//! - [`boxes`]: `Box<T>`. [`lent`]: [`Lent`], a value that is lent, for messages of one's own.
 //! - [`lists`]: the engines that every list goes through. [`vectors`]: `Vec<T>` and `&[T]`.
 //! - [`texts`]: `String` and `&str`, by [`opaque`], bytes behind their length.
 //! - [`laws`]: what is lawful if its parts are. It does nothing when it runs.
@@ -21,6 +21,7 @@ pub mod arrays;
 pub mod boxes;
 pub mod counted;
 pub mod laws;
+pub mod lent;
 pub mod lists;
 pub mod numbers;
 pub mod options;
@@ -30,5 +31,6 @@ pub mod traits;
 pub mod varint;
 pub mod vectors;
 
+pub use lent::Lent;
 pub use tls_codec_grammar::{LengthField, opaque};
 pub use traits::{Deserialize, DeserializeBytes, Serialize, SerializeBytes, Size};

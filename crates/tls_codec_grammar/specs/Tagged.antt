@@ -1,13 +1,15 @@
 -- A tag, and behind it the parts of the variant that has it (RFC 8446, section 3.8).
-use Rattle.std.specs.Prelude.{◌≡◌, ◌+◌, ◌==◌, ◌&&◌, ℕ, Bool, true, false}
+use Rattle.std.specs.Prelude.{◌≡◌, ◌+◌, ◌==◌, ◌&&◌, ◌||◌, ℕ, List, Bool, true, false}
 use Rattle.tls_codec_wire.specs.declared.error.Error.{Error}
-use Rattle.tls_codec_grammar.specs.Tree.{Tree, Number, Empty, Join}
-use Rattle.tls_codec_grammar.specs.Grammar.{Grammar, number, fields}
+use Rattle.tls_codec_grammar.specs.Tree.{Tree, Number, Join}
+use Rattle.tls_codec_grammar.specs.Grammar.{Direction, Grammar, number, fields}
 use Rattle.tls_codec_grammar.specs.Announced.{capped}
 use Rattle.tls_codec_grammar.specs.Format.{Format, atom}
 use Rattle.tls_codec_grammar.specs.Lawful.{MeetsLaws}
 
 pub record Variants : Type 1 where
+  -- which tags there are
+  pub has : ℕ → Bool
   -- what stands behind each tag
   pub parts : ℕ → Format
   -- decoders take no memory, whatever the tag is
@@ -19,7 +21,7 @@ no_format = atom (λ d b v. ⊥) (λ v. 0)
 
 -- no variant has the tag
 abbrev pub no_variant : Variants
-no_variant = record { parts = λ tag. no_format; lean = true }
+no_variant = record { has = λ tag. false; parts = λ tag. no_format; lean = true }
 
 abbrev pub either_format : Bool → Format → Format → Format
 either_format true these those = these
@@ -27,7 +29,11 @@ either_format false these those = those
 
 -- the variant of this tag has these parts, and what stands behind another tag is told by the others
 abbrev pub variant : ℕ → Format → Variants → Variants
-variant own parts others = record { parts = λ tag. either_format (tag == own) parts (others.parts tag); lean = parts.lean && others.lean }
+variant own parts others = record {
+  has = λ tag. (tag == own) || others.has tag;
+  parts = λ tag. either_format (tag == own) parts (others.parts tag);
+  lean = parts.lean && others.lean;
+}
 
 -- a value is the list of its tag, as a number, and of its parts
 abbrev pub tagged : ℕ → Variants → Grammar
@@ -53,7 +59,9 @@ tagged_format k variants = record {
   too_long = λ v. ⊥;
 }
 
--- what stands behind each tag meets the laws, and no decoder takes memory if all are to take none
+-- The laws of variants: what stands behind each tag meets the laws; no bytes stand behind a tag that isn't there; and
+-- where decoders of one variant take memory, not all of them take none.
 pub record MeetVariantLaws (variants : Variants) : Type 0 where
   pub parts : (tag : ℕ) → MeetsLaws (variants.parts tag)
+  pub unknown : (tag : ℕ) → variants.has tag ≡ false → (d : Direction) (s : List ℕ) (v : Tree) → (variants.parts tag).spells d s v → ⊥
   pub memory : (tag : ℕ) → (variants.parts tag).lean ≡ false → variants.lean ≡ false

@@ -1,15 +1,15 @@
 -- The laws of choices with a tag, from those of each variant's parts.
-use Rattle.std.proofs.Common.{◌≡◌, ℕ, ◌<◌, ◌^◌, List, ◌++◌, length, Bool, true, false, ◌&&◌, sym, ap, subst, refl, inr, ◌∙◌, append_assoc}
+use Rattle.std.proofs.Common.{◌≡◌, ℕ, ◌<◌, ◌^◌, List, ◌++◌, length, Bool, true, false, ◌&&◌, ◌||◌, sym, ap, subst, refl, ◌∙◌, append_assoc}
 use Rattle.std.specs.Prelude.{◌==◌}
 use Rattle.tls_codec_wire.specs.declared.error.Error.{Error}
 use Rattle.tls_codec_wire.specs.declared.error.Error.TheVariants.{OutOfMemory}
 use Rattle.tls_codec_grammar.specs.Tree.{Tree, Number, Join}
-use Rattle.tls_codec_grammar.specs.Grammar.{Reading, Writing, number, fields}
+use Rattle.tls_codec_grammar.specs.Grammar.{Direction, Reading, Writing, number, fields}
 use Rattle.tls_codec_grammar.specs.Shortest.{HasNoSpelling, IsShortest, IsFull}
 use Rattle.tls_codec_grammar.specs.Announced.{capped, fields_length}
 use Rattle.tls_codec_grammar.specs.Format.{Format}
 use Rattle.tls_codec_grammar.specs.Lawful.{IsLawful, MeetsLaws}
-use Rattle.tls_codec_grammar.specs.Tagged.{MeetVariantLaws, Variants, no_format, no_variant, either_format, variant, tagged, tagged_format, tagged_length, tagged_refuses}
+use Rattle.tls_codec_grammar.specs.Tagged.{MeetVariantLaws, Variants, no_variant, either_format, variant, tagged, tagged_format, tagged_length, tagged_refuses}
 use Rattle.tls_codec_grammar.specs.laws.NumberLaws.{number_lawful}
 use Rattle.tls_codec_grammar.specs.laws.FieldsLaws.{fields_lawful}
 use Rattle.tls_codec_grammar.specs.laws.FormatLaws.{atom_meets}
@@ -25,12 +25,17 @@ no_variant_meets = record {
     full = λ s v p t q. absurd p;
     announces = λ s v p. absurd p.spelled;
   });
+  unknown = λ tag h d s v p. p;
   memory = λ tag h. h;
 }
 
 either_meets : (b : Bool) (these those : Format) → MeetsLaws these → MeetsLaws those → MeetsLaws (either_format b these those)
 either_meets true these those l m = l
 either_meets false these those l m = m
+
+neither_spelled : (b c : Bool) (these those : Format) (d : Direction) (s : List ℕ) (v : Tree) → (c ≡ false → those.spells d s v → ⊥) → (b || c) ≡ false → (either_format b these those).spells d s v → ⊥
+neither_spelled true c these those d s v none h p = absurd cc
+neither_spelled false c these those d s v none h p = none h p
 
 these_take_memory : (a b : Bool) → a ≡ false → (a && b) ≡ false
 these_take_memory a b e = ap (λ (u : Bool). u && b) e
@@ -47,6 +52,7 @@ either_takes_memory false these those lean f h = those_take_memory these.lean le
 pub variant_meets : (own : ℕ) {parts : Format} {others : Variants} → MeetsLaws parts → MeetVariantLaws others → MeetVariantLaws (variant own parts others)
 variant_meets own {parts} {others} l m = record {
   parts = λ tag. either_meets (tag == own) parts (others.parts tag) l (m.parts tag);
+  unknown = λ tag h d s v p. neither_spelled (tag == own) (others.has tag) parts (others.parts tag) d s v (λ e. m.unknown tag e d s v) h p;
   memory = λ tag h. either_takes_memory (tag == own) parts (others.parts tag) others.lean (m.memory tag) h;
 }
 

@@ -1,4 +1,5 @@
 use Rattle.tls_codec_grammar.specs.laws.FormatLaws.{fields_meets, fixed_list_meets, list_meets, nothing_meets, option_meets, text_meets}
+use Rattle.tls_codec_grammar.specs.laws.TaggedLaws.{no_variant_meets, tagged_meets, variant_meets}
 use Rattle.tls_codec_base.proofs.laws.formats_are_lawful.Goals as goal
 
 pub returns : goal.returns
@@ -9,4 +10,5 @@ returns g c = record {
   lists = list_meets g.met.T.Size.lawful;
   fixed = λ k. fixed_list_meets k g.met.T.Size.lawful;
   texts = text_meets;
+  choices = λ k m n small. tagged_meets k small (variant_meets m g.met.T.Size.lawful (variant_meets n g.met.U.Size.lawful no_variant_meets));
 }

@@ -1,0 +1,35 @@
+-- The words by which a message of one's own says what it stands for and which bytes spell it, and the laws that it cites:
+-- one for each field of a struct, and one for each variant of an enum.
+use Rattle.std.proofs.Common.{ℕ, arith}
+use Rattle.tls_codec_grammar.specs.laws.FormatLaws.{number_meets}
+pub use Rattle.tls_codec_grammar.specs.Tree.{Tree, Number, Empty, Join, trees, number_trees, option_plain}
+pub use Rattle.tls_codec_grammar.specs.Format.{Format, number_format, varint_format, array_format, with_memory, option_format, nothing_format, fields_format, list_format, fixed_list_format, bytes_format, text_format}
+pub use Rattle.tls_codec_grammar.specs.Tagged.{MeetVariantLaws, Variants, no_variant, variant, tagged_format}
+pub use Rattle.tls_codec_grammar.specs.Lawful.{MeetsLaws}
+pub use Rattle.tls_codec_grammar.specs.laws.FormatLaws.{array_meets, varint_meets, with_memory_meets, option_meets, nothing_meets, fields_meets, list_meets, fixed_list_meets, bytes_meets, text_meets}
+pub use Rattle.tls_codec_grammar.specs.laws.TaggedLaws.{no_variant_meets, variant_meets, tagged_meets}
+pub use Rattle.tls_codec_base.specs.TaggedNames.{no_variant_names, no_variant_source_names, nothing_names, nothing_source_names, tagged_names, tagged_source_names, variant_names, variant_source_names}
+
+-- bytes behind a length of k bytes (RFC 8446, section 3.4)
+abbrev pub fixed_bytes_format : ℕ → Format
+fixed_bytes_format k = fixed_list_format k (number_format 1)
+
+-- ---- laws of numbers, and of bytes behind a length of k bytes
+
+pub u8_meets : MeetsLaws (number_format 1)
+u8_meets = number_meets 1 (omega arith)
+
+pub u16_meets : MeetsLaws (number_format 2)
+u16_meets = number_meets 2 (omega arith)
+
+pub u24_meets : MeetsLaws (number_format 3)
+u24_meets = number_meets 3 (omega arith)
+
+pub u32_meets : MeetsLaws (number_format 4)
+u32_meets = number_meets 4 (omega arith)
+
+pub u64_meets : MeetsLaws (number_format 8)
+u64_meets = number_meets 8 (omega arith)
+
+pub fixed_bytes_meets : (k : ℕ) → MeetsLaws (fixed_bytes_format k)
+fixed_bytes_meets k = fixed_list_meets k u8_meets

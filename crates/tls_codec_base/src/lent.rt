@@ -1,0 +1,37 @@
+//! [`Lent`], a value of any type that is written as it is.
+use crate::traits::{Serialize, SerializeBytes, Size};
+use std::alloc::Global;
+use tls_codec_wire::{Error, Sink};
+
+/// A value that is lent: it is written as the value itself is, so that a message is written as the
+/// tuple of its parts.
+#[derive(Drop)]
+pub struct Lent<'a, T>(pub &'a T);
+
+impl<'a, T: Size> Size for Lent<'a, T> {
+    ghost plain = { λ v. T.plain v.0.now };
+
+    ghost format = { T.format };
+
+    fn tls_serialized_len(&self) -> usize {
+        self.0.tls_serialized_len()
+    }
+
+    ghost lawful = { T.lawful };
+}
+
+impl<'a, T: Serialize> Serialize for Lent<'a, T> {
+    fn tls_serialize<W: Sink>(&self, writer: &mut W) -> Result<usize, Error> {
+        self.0.tls_serialize(writer)
+    }
+
+    fn tls_serialize_into(&self, out: &mut Vec<u8>) -> Result<usize, Error> {
+        self.0.tls_serialize_into(out)
+    }
+}
+
+impl<'a, T: SerializeBytes> SerializeBytes for Lent<'a, T> {
+    fn tls_serialize_bytes(&self, alloc: Global) -> Result<Vec<u8>, Error> {
+        self.0.tls_serialize_bytes(alloc)
+    }
+}
