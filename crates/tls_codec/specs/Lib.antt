@@ -1,0 +1,2 @@
+pub mod Contents
+pub use Rattle.tls_codec_base.specs.OwnMessages

@@ -1,0 +1,29 @@
+//! The presentation language of TLS (RFC 8446, section 3), and the variable-length vectors of MLS
+//! (RFC 9420, section 2.1.2): every name that a user needs, in one place.
+//!
+//! - The traits: [`Size`], [`Serialize`], [`SerializeBytes`], [`Deserialize`], [`DeserializeBytes`].
+//!   They stand for integers, arrays, options, pairs and triples, boxes, vectors and texts of `std`.
+//! - What bytes come from and go to: [`Source`], [`Sink`], [`Bounded`], [`Outside`]; and the [`Error`]
+//!   that each call names.
+//! - [`U24`] and [`TlsVarInt`], numbers of three bytes and of one to eight.
+//! - Byte vectors behind a variable-length length: [`VLBytes`], [`VLByteVec`], [`VLByteSlice`].
+//! - Vectors behind a length of one to four bytes: [`TlsVecU8`] and siblings; of bytes
+//!   [`TlsByteVecU8`] and siblings; wrappers of slices [`TlsSliceU8`], [`TlsByteSliceU8`] and siblings.
+//! - [`vlen`]: lengths as variable-length integers. [`lists`]: the engines that every list goes through.
+//! - [`Lent`]: a value that is lent, by which messages of one's own are written.
+#![tactic(auto)]
+
+pub use tls_codec_base::{
+    Deserialize, DeserializeBytes, LengthField, Lent, Serialize, SerializeBytes, Size, lists,
+};
+pub use tls_codec_bytes::{TlsByteVec, TlsByteVecU8, TlsByteVecU16, TlsByteVecU24, TlsByteVecU32};
+pub use tls_codec_slice::{
+    TlsByteSliceU8, TlsByteSliceU16, TlsByteSliceU24, TlsByteSliceU32, TlsSliceU8, TlsSliceU16,
+    TlsSliceU24, TlsSliceU32,
+};
+pub use tls_codec_vec::{TlsVec, TlsVecU8, TlsVecU16, TlsVecU24, TlsVecU32};
+pub use tls_codec_vl::{VLByteSlice, VLByteVec, VLBytes};
+pub use tls_codec_wire::{
+    Bounded, Error, Fault, Fill, Outside, Sink, Source, TlsVarInt, U24, read_bytes_bounded,
+    read_exactly, vlen, write_all,
+};

@@ -1,0 +1,62 @@
+//! [`Leaf`], a code and a name.
+ghost use Rattle.tls_codec_messages.specs.Messages.{leaf_format, leaf_meets, leaf_plain};
+
+use std::alloc::Global;
+use tls_codec::{
+    Deserialize, DeserializeBytes, Error, Lent, Serialize, Sink, Size, Source, VLBytes,
+};
+
+/// A code of two bytes and a name behind a variable-length length, in a row.
+///
+/// ```rust
+/// let name = VLBytes::from_array(alloc, &[0x07])?;
+/// let leaf = Leaf { code: 1, name };
+/// assert_eq!(rt; leaf.tls_serialize_detached(alloc)?.as_slice(), [0x00, 0x01, 0x01, 0x07].as_slice());
+/// ```
+#[derive(PartialEq, Drop)]
+pub struct Leaf {
+    pub code: u16,
+    pub name: VLBytes,
+}
+
+impl Size for Leaf {
+    ghost plain = { leaf_plain };
+
+    ghost format = { leaf_format };
+
+    fn tls_serialized_len(&self) -> usize {
+        (Lent(&self.code), Lent(&self.name)).tls_serialized_len()
+    }
+
+    ghost lawful = { leaf_meets };
+}
+
+impl Serialize for Leaf {
+    fn tls_serialize<W: Sink>(&self, writer: &mut W) -> Result<usize, Error> {
+        (Lent(&self.code), Lent(&self.name)).tls_serialize(writer)
+    }
+
+    fn tls_serialize_into(&self, out: &mut Vec<u8>) -> Result<usize, Error> {
+        (Lent(&self.code), Lent(&self.name)).tls_serialize_into(out)
+    }
+}
+
+impl Deserialize for Leaf {
+    ghost names = { ⟦<(u16, VLBytes) as Deserialize>⟧.names };
+
+    /// Every refusal is that of a field.
+    fn tls_deserialize<R: Source>(alloc: Global, src: &mut R) -> Result<Leaf, Error> {
+        let (code, name) = <(u16, VLBytes)>::tls_deserialize(alloc, src)?;
+        Ok(Leaf { code, name })
+    }
+}
+
+impl DeserializeBytes for Leaf {
+    ghost names = { ⟦<(u16, VLBytes) as DeserializeBytes>⟧.names };
+
+    /// Every refusal is that of a field.
+    fn tls_deserialize_bytes(alloc: Global, whole: &[u8]) -> Result<(Leaf, &[u8]), Error> {
+        let ((code, name), rest) = <(u16, VLBytes)>::tls_deserialize_bytes(alloc, whole)?;
+        Ok((Leaf { code, name }, rest))
+    }
+}

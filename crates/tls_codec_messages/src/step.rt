@@ -1,0 +1,112 @@
+//! [`Step`], a tag and what its variant has behind it.
+ghost use Rattle.tls_codec_messages.specs.Messages.{step_format, step_meets, step_plain};
+ghost use Rattle.tls_codec.specs.OwnMessages.{no_variant_names, no_variant_source_names, nothing_names, nothing_source_names, tagged_names, tagged_source_names, variant_names, variant_source_names};
+
+use std::alloc::Global;
+use tls_codec::{Deserialize, DeserializeBytes, Error, Lent, Serialize, Sink, Size, Source};
+
+const PING: u8 = 0;
+
+const NOTE: u8 = 1;
+
+const JUMP: u8 = 2;
+
+/// What to do next: the tag 0, the tag 1 and a text behind a variable-length length, or the tag 2 and a
+/// number of four bytes.
+///
+/// ```rust
+/// let bytes = Step::Jump(5).tls_serialize_detached(alloc)?;
+/// assert_eq!(rt; bytes.as_slice(), [0x02, 0x00, 0x00, 0x00, 0x05].as_slice());
+/// ```
+#[derive(PartialEq, Drop)]
+pub enum Step {
+    Ping,
+    Note(String),
+    Jump(u32),
+}
+
+impl Size for Step {
+    ghost plain = { step_plain };
+
+    ghost format = { step_format };
+
+    fn tls_serialized_len(&self) -> usize {
+        match self {
+            Step::Ping => 1,
+            Step::Note(text) => (NOTE, Lent(text)).tls_serialized_len(),
+            Step::Jump(to) => (JUMP, Lent(to)).tls_serialized_len(),
+        }
+    }
+
+    ghost lawful = { step_meets };
+}
+
+impl Serialize for Step {
+    fn tls_serialize<W: Sink>(&self, writer: &mut W) -> Result<usize, Error> {
+        match self {
+            Step::Ping => PING.tls_serialize(writer),
+            Step::Note(text) => (NOTE, Lent(text)).tls_serialize(writer),
+            Step::Jump(to) => (JUMP, Lent(to)).tls_serialize(writer),
+        }
+    }
+
+    fn tls_serialize_into(&self, out: &mut Vec<u8>) -> Result<usize, Error> {
+        match self {
+            Step::Ping => PING.tls_serialize_into(out),
+            Step::Note(text) => (NOTE, Lent(text)).tls_serialize_into(out),
+            Step::Jump(to) => (JUMP, Lent(to)).tls_serialize_into(out),
+        }
+    }
+}
+
+impl Deserialize for Step {
+    ghost names = { tagged_source_names 1
+        (variant_source_names 0 nothing_source_names
+        (variant_source_names 1 ⟦<String as Deserialize>⟧.names
+        (variant_source_names 2 ⟦<u32 as Deserialize>⟧.names
+        no_variant_source_names))) };
+
+    /// `UnknownValue`: no step has the tag. `EndOfStream`: no byte comes for it. Every other refusal is
+    /// that of what is behind it.
+    fn tls_deserialize<R: Source>(alloc: Global, src: &mut R) -> Result<Step, Error> {
+        let tag = u8::tls_deserialize(alloc, src)?;
+        match tag {
+            PING => Ok(Step::Ping),
+            NOTE => {
+                let text = String::tls_deserialize(alloc, src)?;
+                Ok(Step::Note(text))
+            }
+            JUMP => {
+                let to = u32::tls_deserialize(alloc, src)?;
+                Ok(Step::Jump(to))
+            }
+            _ => Err(Error::UnknownValue(u64::from(tag))),
+        }
+    }
+}
+
+impl DeserializeBytes for Step {
+    ghost names = { tagged_names 1
+        (variant_names 0 nothing_names
+        (variant_names 1 ⟦<String as DeserializeBytes>⟧.names
+        (variant_names 2 ⟦<u32 as DeserializeBytes>⟧.names
+        no_variant_names))) };
+
+    /// `UnknownValue`: no step has the tag. `EndOfStream`: there is no byte for it. Every other refusal
+    /// is that of what is behind it.
+    fn tls_deserialize_bytes(alloc: Global, whole: &[u8]) -> Result<(Step, &[u8]), Error> {
+        let (tag, rest) = u8::tls_deserialize_bytes(alloc, whole)?;
+        match tag {
+            PING => Ok((Step::Ping, rest)),
+            NOTE => {
+                let (text, rest) = String::tls_deserialize_bytes(alloc, rest)?;
+                Ok((Step::Note(text), rest))
+            }
+            JUMP => {
+                let (to, rest) = u32::tls_deserialize_bytes(alloc, rest)?;
+                Ok((Step::Jump(to), rest))
+            }
+            _ => Err(Error::UnknownValue(u64::from(tag))),
+        }
+    }
+}
