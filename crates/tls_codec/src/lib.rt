@@ -9,6 +9,8 @@
 //! - Byte vectors behind a variable-length length: [`VLBytes`], [`VLByteVec`], [`VLByteSlice`].
 //! - Vectors behind a length of one to four bytes: [`TlsVecU8`] and siblings; of bytes
 //!   [`TlsByteVecU8`] and siblings; wrappers of slices [`TlsSliceU8`], [`TlsByteSliceU8`] and siblings.
+//! - Key material that is cleared when it is dropped: [`SecretVLBytes`], [`SecretVLByteVec`],
+//!   [`SecretTlsVecU8`] and siblings, and [`Zeroize`].
 //! - [`vlen`]: lengths as variable-length integers. [`lists`]: the engines that every list goes through.
 //! - [`Lent`]: a value that is lent, by which messages of one's own are written.
 #![tactic(auto)]
@@ -17,12 +19,17 @@ pub use tls_codec_base::{
     Deserialize, DeserializeBytes, LengthField, Lent, Serialize, SerializeBytes, Size, lists,
 };
 pub use tls_codec_bytes::{TlsByteVec, TlsByteVecU8, TlsByteVecU16, TlsByteVecU24, TlsByteVecU32};
+pub use tls_codec_secret::{
+    SecretTlsVec, SecretTlsVecU8, SecretTlsVecU16, SecretTlsVecU24, SecretTlsVecU32,
+};
 pub use tls_codec_slice::{
     TlsByteSliceU8, TlsByteSliceU16, TlsByteSliceU24, TlsByteSliceU32, TlsSliceU8, TlsSliceU16,
     TlsSliceU24, TlsSliceU32,
 };
 pub use tls_codec_vec::{TlsVec, TlsVecU8, TlsVecU16, TlsVecU24, TlsVecU32};
-pub use tls_codec_vl::{VLByteSlice, VLByteVec, VLBytes};
+pub use tls_codec_vl::{
+    SecretVLByteVec, SecretVLBytes, VLByteSlice, VLByteVec, VLBytes, Zeroize,
+};
 pub use tls_codec_wire::{
     Bounded, Error, Fault, Fill, Outside, Sink, Source, TlsVarInt, U24, read_bytes_bounded,
     read_exactly, vlen, write_all,

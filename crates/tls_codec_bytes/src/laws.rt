@@ -4,8 +4,8 @@
 //! The functions do nothing. Their contracts state this, and so are proved.
 ghost use Rattle.std.specs.Prelude.{◌≡◌, ◌↔◌, ℕ, IsTrue, List};
 ghost use Rattle.std.specs.Hash as fed;
-ghost use Rattle.tls_codec_base.specs.Tree.{Tree};
-ghost use Rattle.tls_codec_base.specs.Grammar.{Direction, fixed_list, number};
+ghost use Rattle.tls_codec_grammar.specs.Tree.{Tree};
+ghost use Rattle.tls_codec_grammar.specs.Grammar.{Direction, fixed_list, number};
 ghost use Rattle.tls_codec_bytes.specs.Contents.{bytes_of};
 ghost use Rattle.tls_codec_bytes.specs.declared.bytes.TlsByteVec.{TlsByteVec};
 
