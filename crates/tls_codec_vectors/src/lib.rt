@@ -1,8 +1,20 @@
-//! Worked values of the public types, by each call: the bytes that each encoder writes of them, what
-//! each decoder reads from bytes, and what it refuses.
+//! Messages of a user's own, proved to be as lawful as the types that they are made of.
 //!
-//! It has tests alone, which stand above the libraries so that none of those is proved twice.
+//! They stand on [`tls_codec`] alone. A struct is read as the tuple of its fields and written as the
+//! tuple of its lent fields, and nothing of that is proved by hand. An enum reads its tag and then what
+//! the tag's variant has; each variant has a line of proof to a call.
+//!
+//! - [`leaf`]: [`Leaf`], a struct of two fields.
+//! - [`step`]: [`Step`], an enum with a tag of one byte.
+//! - [`log`]: [`Log`], a struct of the two.
 #![tactic(auto)]
 
+pub mod leaf;
+pub mod log;
+pub mod step;
 #[cfg(test)]
 mod tests;
+
+pub use leaf::Leaf;
+pub use log::Log;
+pub use step::Step;

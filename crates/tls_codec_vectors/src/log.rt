@@ -1,5 +1,5 @@
 //! [`Log`], of other messages.
-ghost use Rattle.tls_codec_messages.specs.Messages.{log_format, log_meets, log_plain};
+ghost use Rattle.tls_codec_vectors.specs.Messages.{log_format, log_meets, log_plain};
 
 use crate::{Leaf, Step};
 use std::alloc::Global;

@@ -1,5 +1,5 @@
 //! [`Leaf`], a code and a name.
-ghost use Rattle.tls_codec_messages.specs.Messages.{leaf_format, leaf_meets, leaf_plain};
+ghost use Rattle.tls_codec_vectors.specs.Messages.{leaf_format, leaf_meets, leaf_plain};
 
 use std::alloc::Global;
 use tls_codec::{

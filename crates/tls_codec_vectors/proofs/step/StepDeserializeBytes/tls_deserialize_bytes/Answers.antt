@@ -1,8 +1,8 @@
 use Rattle.std.proofs.Common.{rules}
 use Rattle.tls_codec.specs.OwnMessages.{u8_meets}
 use Rattle.tls_codec.proofs.OwnMessages.{part_begins, part_refuses, tagged_begins, tagged_named, tagged_refuses_unknown, tagged_splits}
-use Rattle.tls_codec_messages.specs.Messages.{step_variants_meet}
-use Rattle.tls_codec_messages.proofs.step.StepDeserializeBytes.tls_deserialize_bytes.Goals as goal
+use Rattle.tls_codec_vectors.specs.Messages.{step_variants_meet}
+use Rattle.tls_codec_vectors.proofs.step.StepDeserializeBytes.tls_deserialize_bytes.Goals as goal
 
 pub returns-in_err-text-in-1-clause-splits : goal.returns-in_err-text-in-1-clause-splits
 returns-in_err-text-in-1-clause-splits c = tagged_splits u8_meets step_variants_meet _ _ _ c.from_residual-in_err-text-in-1.ensures.1 c.in_ok-tag.ensures.splits c.in-1.is (part_refuses c.in_err-text-in-1.ensures.splits)

@@ -1,5 +1,5 @@
 //! [`Step`], a tag and what its variant has behind it.
-ghost use Rattle.tls_codec_messages.specs.Messages.{step_format, step_meets, step_plain};
+ghost use Rattle.tls_codec_vectors.specs.Messages.{step_format, step_meets, step_plain};
 ghost use Rattle.tls_codec.specs.OwnMessages.{no_variant_names, no_variant_source_names, nothing_names, nothing_source_names, tagged_names, tagged_source_names, variant_names, variant_source_names};
 
 use std::alloc::Global;

@@ -1,8 +1,8 @@
 use Rattle.std.proofs.Common.{rules}
 use Rattle.tls_codec.specs.OwnMessages.{u8_meets}
 use Rattle.tls_codec.proofs.OwnMessages.{part_given, part_leaves, tagged_given, tagged_leaves_unknown, tagged_named_source, tagged_reads, unknown_named_source}
-use Rattle.tls_codec_messages.specs.Messages.{step_variants_meet}
-use Rattle.tls_codec_messages.proofs.step.StepDeserialize.tls_deserialize.Goals as goal
+use Rattle.tls_codec_vectors.specs.Messages.{step_variants_meet}
+use Rattle.tls_codec_vectors.proofs.step.StepDeserialize.tls_deserialize.Goals as goal
 
 pub returns-in_err-text-in-1-clause-reads : goal.returns-in_err-text-in-1-clause-reads
 returns-in_err-text-in-1-clause-reads g c =
