@@ -57,8 +57,8 @@ impl<'a, T: Serialize> Serialize for TlsSliceU8<'a, T> {
         counted::write::<u8, T, W>(writer, self.0)
     }
 
-    /// `InvalidVectorLength`: the elements have more than 255 bytes. Every other refusal is an
-    /// element's or want of memory.
+    /// `InvalidVectorLength`: the elements have more than 255 bytes, or the vector would pass
+    /// `isize::MAX` bytes. Every other refusal is an element's or want of memory.
     fn tls_serialize_into(&self, out: &mut Vec<u8>) -> Result<usize, Error> {
         counted::append::<u8, T>(out, self.0)
     }
@@ -139,8 +139,8 @@ impl<'a, T: Serialize> Serialize for TlsSliceU16<'a, T> {
         counted::write::<u16, T, W>(writer, self.0)
     }
 
-    /// `InvalidVectorLength`: the elements have more than 65,535 bytes. Every other refusal is an
-    /// element's or want of memory.
+    /// `InvalidVectorLength`: the elements have more than 65,535 bytes, or the vector would pass
+    /// `isize::MAX` bytes. Every other refusal is an element's or want of memory.
     fn tls_serialize_into(&self, out: &mut Vec<u8>) -> Result<usize, Error> {
         counted::append::<u16, T>(out, self.0)
     }
@@ -221,8 +221,8 @@ impl<'a, T: Serialize> Serialize for TlsSliceU24<'a, T> {
         counted::write::<U24, T, W>(writer, self.0)
     }
 
-    /// `InvalidVectorLength`: the elements have more than 16,777,215 bytes. Every other refusal is an
-    /// element's or want of memory.
+    /// `InvalidVectorLength`: the elements have more than 16,777,215 bytes, or the vector would pass
+    /// `isize::MAX` bytes. Every other refusal is an element's or want of memory.
     fn tls_serialize_into(&self, out: &mut Vec<u8>) -> Result<usize, Error> {
         counted::append::<U24, T>(out, self.0)
     }
@@ -303,8 +303,8 @@ impl<'a, T: Serialize> Serialize for TlsSliceU32<'a, T> {
         counted::write::<u32, T, W>(writer, self.0)
     }
 
-    /// `InvalidVectorLength`: the elements have more than 4,294,967,295 bytes. Every other refusal is an
-    /// element's or want of memory.
+    /// `InvalidVectorLength`: the elements have more than 4,294,967,295 bytes, or the vector would pass
+    /// `isize::MAX` bytes. Every other refusal is an element's or want of memory.
     fn tls_serialize_into(&self, out: &mut Vec<u8>) -> Result<usize, Error> {
         counted::append::<u32, T>(out, self.0)
     }
