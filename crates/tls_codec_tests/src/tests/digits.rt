@@ -1,4 +1,6 @@
 //! Calls on digits, and lengths that are sent or put into a gap, as encoders of one's own use them.
+use std::alloc::Global;
+use std::process::Abort;
 use std::test::Fail;
 use tls_codec_base::LengthField;
 use tls_codec_grammar::digits::{
@@ -30,12 +32,12 @@ fn digits_by_each_call(rt: HostRuntime) -> Result<(), Fail> {
 }
 
 // The bytes 9, 8 behind their length, which is put into a gap of two bytes, and sent by itself.
-fn is_put<F: LengthField>(rt: &HostRuntime, form: &[u8]) -> Result<(), Fail> {
-    let mut out = [0xaa].to_vec(rt.alloc())?;
+fn is_put<F: LengthField>(rt: &impl Abort, alloc: Global, form: &[u8]) -> Result<(), Fail> {
+    let mut out = [0xaa].to_vec(alloc)?;
     open_gap(&mut out, 2, 2)?;
     out.extend_from_slice(&[9, 8])?;
     assert_eq!(rt; fill_gap::<F>(&mut out, 1, 2), Ok(form.len()));
-    let mut sent = [0xaa].to_vec(rt.alloc())?;
+    let mut sent = [0xaa].to_vec(alloc)?;
     assert_eq!(rt; write_length::<F, Vec<u8>>(&mut sent, 2), Ok(form.len()));
     assert_eq!(rt; &sent[1..], form);
     sent.extend_from_slice(&[9, 8])?;
@@ -45,10 +47,11 @@ fn is_put<F: LengthField>(rt: &HostRuntime, form: &[u8]) -> Result<(), Fail> {
 
 #[test]
 fn lengths_are_put_into_their_gap(rt: HostRuntime) -> Result<(), Fail> {
-    is_put::<u8>(&rt, &[2])?;
-    is_put::<u16>(&rt, &[0, 2])?;
-    is_put::<U24>(&rt, &[0, 0, 2])?;
-    is_put::<u32>(&rt, &[0, 0, 0, 2])?;
-    is_put::<TlsVarInt>(&rt, &[2])?;
+    let alloc = rt.alloc();
+    is_put::<u8>(&rt, alloc, &[2])?;
+    is_put::<u16>(&rt, alloc, &[0, 2])?;
+    is_put::<U24>(&rt, alloc, &[0, 0, 2])?;
+    is_put::<u32>(&rt, alloc, &[0, 0, 0, 2])?;
+    is_put::<TlsVarInt>(&rt, alloc, &[2])?;
     Ok(())
 }
