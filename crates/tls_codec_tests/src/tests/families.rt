@@ -1,10 +1,13 @@
-//! Equal contents in vectors, byte vectors and wrappers of slices.
+//! Vectors, byte vectors and wrappers of slices behind a length of one to four bytes, together with other
+//! crates' types.
+use super::each_call::{is_read_whole, is_written};
 use std::alloc::{AllocError, Global};
 use std::test::Fail;
 use tls_codec_base::{DeserializeBytes, Serialize};
 use tls_codec_bytes::TlsByteVecU16;
 use tls_codec_slice::{TlsByteSliceU16, TlsSliceU16};
-use tls_codec_vec::TlsVecU16;
+use tls_codec_vec::{TlsVecU8, TlsVecU16};
+use tls_codec_vl::VLBytes;
 
 // So many bytes.
 fn filled(alloc: Global, count: usize) -> Result<Vec<u8>, AllocError> {
@@ -37,4 +40,13 @@ fn equal_contents_are_spelled_alike(rt: HostRuntime) -> Result<(), Fail> {
         form.as_slice()
     );
     Ok(())
+}
+
+// A length within the list may be wider than the least, in which it is written.
+#[test]
+fn a_wide_element_is_written_in_the_least(rt: HostRuntime) -> Result<(), Fail> {
+    let alloc = rt.alloc();
+    let list = TlsVecU8::new(vec![in alloc; VLBytes::from_array(alloc, &[0xaa])?]?);
+    is_read_whole(&rt, alloc, &[0x03, 0x40, 0x01, 0xaa], &list)?;
+    is_written(&rt, alloc, &list, &[0x02, 0x01, 0xaa])
 }
