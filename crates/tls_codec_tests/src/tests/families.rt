@@ -44,7 +44,7 @@ fn equal_contents_are_spelled_alike(rt: HostRuntime) -> Result<(), Fail> {
 
 // A length within the list may be wider than the least, in which it is written.
 #[test]
-fn a_wide_element_is_written_in_the_least(rt: HostRuntime) -> Result<(), Fail> {
+fn a_wide_length_within_a_list_is_read(rt: HostRuntime) -> Result<(), Fail> {
     let alloc = rt.alloc();
     let list = TlsVecU8::new(vec![in alloc; VLBytes::from_array(alloc, &[0xaa])?]?);
     is_read_whole(&rt, alloc, &[0x03, 0x40, 0x01, 0xaa], &list)?;
