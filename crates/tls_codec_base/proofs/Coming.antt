@@ -15,7 +15,7 @@ comes_first spells None new front v took spelled = tt
 comes_first spells (Some x) None front v took spelled = absurd took
 comes_first spells (Some x) (Some rest) front v took spelled = record { front = front; whole = took; spelled = spelled }
 
--- what is named behind a front that it gave
+-- what is named behind a prefix that it gave
 pub named_behind : {S : Type 0} {given : S → List ℕ → S → Type 0} {Front : List ℕ → Type 0} {a b : S} {front : List ℕ} {after : Counts} {e : Error} (names : SourceNames) (coming : S → Option (List ℕ)) (counts : S → Counts) → GivesFromFront given coming → NoCountFalls given counts
     → given a front b → Front front → names (coming b) (counts b) after e → SourceNamedBehind Front names (coming a) (counts a) after e
 named_behind {S} {given} {Front} {a} {b} {front} names coming counts from_front falls held is_front named = record {

@@ -1,3 +1,3 @@
--- The lemmas that the answers of an enum of one's own cite.
+-- The lemmas that the returns of an enum of one's own cite.
 pub use Rattle.tls_codec_base.proofs.TaggedDecoding.{part_begins, part_given, part_leaves, part_refuses, tagged_begins, tagged_given, tagged_leaves_unknown, tagged_named, tagged_named_source, tagged_reads, tagged_refuses_unknown, tagged_splits, unknown_named_source}
 pub use Rattle.tls_codec_base.proofs.TaggedEncoding.{alone_appends, alone_writes, tagged_appends, tagged_makes, tagged_writes}

@@ -10,7 +10,7 @@ use Rattle.tls_codec_grammar.specs.Grammar.{Grammar, Reading}
 use Rattle.tls_codec_grammar.specs.Lawful.{IsLawful}
 use Rattle.tls_codec_grammar.specs.Decoding.{Begins, Refuses, RefusesSource, RefusesWhole}
 
--- ---- what `is_empty` answers
+-- ---- what `is_empty` returns
 
 nothing_left : (x : List ℕ) → length x ≡ 0 → x ≡ []
 nothing_left [] e = refl

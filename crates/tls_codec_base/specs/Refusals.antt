@@ -29,7 +29,7 @@ part_names part names x e = Refuses part.spells part.lean x e × names x e
 abbrev pub part_source_names : Format → SourceNames → SourceNames
 part_source_names part names coming old new e = RefusesSource part.spells part.lean coming old new e × names coming old new e
 
--- ---- what is named behind a front
+-- ---- what is named behind a prefix
 
 -- x has such a front, and the error is one that is named of the rest
 pub record NamedBehind (Front : List ℕ → Type 0) (names : SliceNames) (x : List ℕ) (e : Error) : Type 0 where

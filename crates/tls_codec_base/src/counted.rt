@@ -41,7 +41,7 @@ pub fn announced_len<F: LengthField, T: Size>(elements: &[T]) -> usize
     }
 }
 
-/// Sends a list's shortest form, and answers how many bytes that is, saturated at `usize::MAX`.
+/// Sends a list's shortest form, and returns how many bytes that is, saturated at `usize::MAX`.
 ///
 /// `InvalidVectorLength`: the elements have more bytes than the greatest length, and nothing was sent.
 /// Every other refusal is an element's or the sink's.
@@ -58,10 +58,10 @@ pub fn write<F: LengthField, T: Serialize, W: Sink>(
     Ok(sent.saturating_add(width))
 }
 
-/// Appends a list's shortest form to a vector, and answers how many bytes that is.
+/// Appends a list's shortest form to a vector, and returns how many bytes that is.
 ///
 /// `InvalidVectorLength`: the elements have more bytes than the greatest length, or the vector would
-/// pass `isize::MAX` bytes. Every other refusal is an element's or want of memory. After a refusal the
+/// pass `isize::MAX` bytes. Every other refusal is an element's, or `OutOfMemory`. After a refusal the
 /// vector's bytes are those from before.
 pub fn append<F: LengthField, T: Serialize>(
     out: &mut Vec<u8>,

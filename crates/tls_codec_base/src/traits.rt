@@ -41,7 +41,7 @@ pub trait Size {
         None
     }
 
-    /// Sends the elements' shortest forms in a row, and answers how many bytes that is, saturated at
+    /// Sends the elements' shortest forms in a row, and returns how many bytes that is, saturated at
     /// `usize::MAX`; none and nothing is sent where such elements are sent one by one.
     ///
     /// Provided; a type of fixed width may do it at once, and every list then goes through here.
@@ -56,13 +56,13 @@ pub trait Size {
 
 /// A type that is written to a sink.
 pub trait Serialize: Size {
-    /// Appends the value's shortest form to what the sink has received, and answers how many bytes
+    /// Appends the value's shortest form to what the sink has received, and returns how many bytes
     /// that is, saturated at `usize::MAX`.
     fn tls_serialize<W: Sink>(&self, writer: &mut W) -> Result<usize, Error>
         ensures writes { Writes Self.format (Self.plain self.now) W.Sink writer.old writer.new result }
         ensures too_long { Self.format.too_long (Self.plain self.now) → (result ≡ Err InvalidVectorLength) × (writer.new ≡ writer.old) };
 
-    /// Appends the value's shortest form to a vector, and answers how many bytes that is. After a
+    /// Appends the value's shortest form to a vector, and returns how many bytes that is. After a
     /// refusal the vector's bytes are those from before.
     fn tls_serialize_into(&self, out: &mut Vec<u8>) -> Result<usize, Error>
         ensures appends { AppendsForm Self.format (Self.plain self.now) out.old.items out.new.items result }

@@ -30,7 +30,7 @@ impl<T: Serialize> Serialize for Vec<T> {
     }
 
     /// `InvalidVectorLength`: the elements have more bytes than the greatest length, or the vector
-    /// would pass `isize::MAX` bytes. Every other refusal is an element's or want of memory.
+    /// would pass `isize::MAX` bytes. Every other refusal is an element's, or `OutOfMemory`.
     fn tls_serialize_into(&self, out: &mut Vec<u8>) -> Result<usize, Error> {
         counted::append::<TlsVarInt, T>(out, self.as_slice())
     }

@@ -175,7 +175,7 @@ impl<F> TlsByteVec<F> {
         self.vec.remove(index)
     }
 
-    /// Keeps the bytes at which `keep` answers true, in their order. It is asked once for each byte,
+    /// Keeps the bytes at which `keep` returns true, in their order. It is asked once for each byte,
     /// from the first on.
     pub fn retain<K: FnMut(&u8) -> bool>(&mut self, keep: K)
         requires { K.IsAlwaysCallable keep }

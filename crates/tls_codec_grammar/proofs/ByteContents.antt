@@ -8,7 +8,7 @@ use Rattle.tls_codec_grammar.specs.Announced.{capped, content_length, counted_le
 use Rattle.tls_codec_grammar.specs.Decoding.{NoneBegins}
 use Rattle.tls_codec_grammar.specs.laws.NumberLaws.{number_trees_one}
 
--- what is behind a front of bytes is bytes
+-- what is behind a prefix of bytes is bytes
 pub AreBytes-right : (a b : List ℕ) → AreBytes (a ++ b) → AreBytes b
 AreBytes-right [] b h = h
 AreBytes-right (x ∷ xs) b h = AreBytes-right xs b h.1

@@ -1,4 +1,4 @@
--- What the calls on digits answer, over the width.
+-- What the calls on digits return, over the width.
 use Rattle.std.proofs.Common.{◌≡◌, ℕ, suc, ◌-◌, ◌<◌, ◌≤◌, List, [], ◌∷◌, ◌++◌, length, take, drop, take-append-drop, length-take-le, get_or, refl, sym, ap, subst, ◌∙◌, arith}
 use Rattle.std.specs.Int.{byte_worth, sum_through}
 use Rattle.tls_codec_wire.proofs.Bytes.{are_bytes, AreBytes-left}

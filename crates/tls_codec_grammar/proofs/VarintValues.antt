@@ -1,4 +1,4 @@
--- What calls on variable-length integers answer, as values of a type.
+-- What calls on variable-length integers return, as values of a type.
 use Rattle.std.proofs.Common.{◌≡◌, ℕ, List, Option, None, Some, Result, Ok, Err, true, inl, inr, refl, sym, subst, arith}
 use Rattle.std.specs.Prelude.{IfErr, IfOk}
 use Rattle.std.specs.Borrow.{Bor}
@@ -24,7 +24,7 @@ none_begins : (x : List ℕ) → NoVarintBegins x → NoneBegins varint x
 none_begins x none (Number n) rest b = none n rest (record { front = b.front; whole = b.whole; spelled = b.spelled })
 none_begins x none _ rest b = absurd b.spelled
 
--- what a front of the bytes is as a number it is as a value
+-- what a prefix of the bytes is as a number it is as a value
 pub varint_splits : {T : Type 0} (number : T → ℕ) (x : List ℕ) (r : Result (T × Bor (List ℕ)) Error) → IfOk r (λ found. BeginsVarint x (number found.0) found.1.now) → IfErr r (λ e. (e ≡ EndOfStream) × NoVarintBegins x) → Splits varint_format (λ n. Number (number n)) x r
 varint_splits number x (Ok found) ok err = record { front = ok.front; whole = ok.whole; spelled = ok.spelled }
 varint_splits number x (Err e) ok err = record { cause = inl (none_begins x err.1); memory = λ h. absurd (let ends = err.0 in cc); not_trailing = λ h. let ends = err.0 in cc }

@@ -1,4 +1,4 @@
--- What decoders answer.
+-- What decoders return.
 use Rattle.std.specs.Prelude.{◌≡◌, ◌≢◌, ◌<◌, ◌⊎◌, ℕ, List, ◌++◌, length, Bool, false, Option, None, Some, Result, Ok, Err, Vec, ⊤}
 use Rattle.std.specs.Global.{Global}
 use Rattle.tls_codec_wire.specs.Counts.{Counts, FaultIsCounted, RoseBy}
@@ -21,11 +21,11 @@ pub record Begins (spells : Grammar) (x : List ℕ) (v : Tree) (rest : List ℕ)
   pub whole : x ≡ front ++ rest
   pub spelled : spells Reading front v
 
--- no front of x is a spelling
+-- no prefix of x is a spelling
 abbrev pub NoneBegins : Grammar → List ℕ → Type 0
 NoneBegins spells x = (v : Tree) (rest : List ℕ) → Begins spells x v rest → ⊥
 
--- why x is refused: no front of it is a spelling, or there was no memory, for which a lean type never asks. That bytes
+-- why x is refused: no prefix of it is a spelling, or there was no memory, for which a lean type never asks. That bytes
 -- are left behind a spelling is no cause.
 pub record Refuses (spells : Grammar) (lean : Bool) (x : List ℕ) (e : Error) : Type 0 where
   pub cause : NoneBegins spells x ⊎ (e ≡ OutOfMemory)
@@ -39,7 +39,7 @@ abbrev pub NoneSpelled : Grammar → List ℕ → Type 0
 NoneSpelled spells x = (v : Tree) → spells Reading x v → ⊥
 
 -- why x is refused as a whole: it is no spelling, or there was no memory, for which a lean type never asks. Where a
--- spelling is followed by a byte more, and nowhere else, that is what is answered, or that there was no memory.
+-- spelling is followed by a byte more, and nowhere else, that is what is returned, or that there was no memory.
 pub record RefusesWhole (spells : Grammar) (lean : Bool) (x : List ℕ) (e : Error) : Type 0 where
   pub cause : NoneSpelled spells x ⊎ (e ≡ OutOfMemory)
   pub memory : e ≡ OutOfMemory → lean ≡ false
@@ -60,19 +60,19 @@ ComesFirst spells None v new = ⊤
 ComesFirst spells (Some x) v None = ⊥
 ComesFirst spells (Some x) v (Some rest) = Begins spells x v rest
 
--- no front of the bytes to come, where they are told, is a spelling
+-- no prefix of the bytes to come, where they are told, is a spelling
 abbrev pub NoneComes : Grammar → Option (List ℕ) → Type 0
 NoneComes spells None = ⊤
 NoneComes spells (Some x) = NoneBegins spells x
 
--- why a source is refused: no front of what is to come is a spelling, a fault of the source was counted, or there
--- was no memory, which a lean type answers only where the source had none
+-- why a source is refused: no prefix of what is to come is a spelling, a fault of the source was counted, or there
+-- was no memory, which a lean type returns only where the source had none
 pub record RefusesSource (spells : Grammar) (lean : Bool) (coming : Option (List ℕ)) (old new : Counts) (e : Error) : Type 0 where
   pub cause : NoneComes spells coming ⊎ (FaultIsCounted old new ⊎ (e ≡ OutOfMemory))
   pub memory : e ≡ OutOfMemory → (lean ≡ false) ⊎ RoseBy 1 old.shortages new.shortages
   pub not_trailing : e ≢ TrailingData
 
--- ---- the decoders, by what they answer
+-- ---- the decoders, by what they return
 
 -- from a source, of which just a spelling is taken
 pub record LeavesSource {S : Type 0} (f : Format) (source : Ghosts S) (old new : S) (e : Error) : Type 0 where

@@ -38,7 +38,7 @@ pub record BeginsField (field : Field) (x : List ℕ) (n : ℕ) (rest : List ℕ
   pub whole : x ≡ front ++ rest
   pub spelled : field.spells front n
 
--- no front of x is a spelling
+-- no prefix of x is a spelling
 abbrev pub NoFieldBegins : Field → List ℕ → Type 0
 NoFieldBegins field x = (n : ℕ) (rest : List ℕ) → BeginsField field x n rest → ⊥
 
@@ -57,7 +57,7 @@ pub record GaveField {S : Type 0} (given : Gives S) (field : Field) (old new : S
   pub held : given old front new
   pub spelled : field.spells front n
 
--- no front of the bytes to come, where they are told, is a spelling
+-- no prefix of the bytes to come, where they are told, is a spelling
 abbrev pub NoFieldComes : Field → Option (List ℕ) → Type 0
 NoFieldComes field None = ⊤
 NoFieldComes field (Some x) = NoFieldBegins field x

@@ -45,7 +45,7 @@ pub record MeetsFieldLaws (field : Field) : Type 0 where
   pub small : field.limit ≤ 2 ^ 62
   pub cut : (e : Error) → field.cut_off e → (e ≢ OutOfMemory) × (e ≢ TrailingData)
 
--- The laws of a format: those of its spellings; what it refuses has no spelling; want of memory isn't among the errors
+-- The laws of a format: those of its spellings; what it refuses has no spelling; `OutOfMemory` isn't among the errors
 -- that it names; what is refused before anything is sent is `InvalidVectorLength`.
 pub record MeetsLaws (f : Format) : Type 0 where
   pub spelled : IsLawful f.spells f.announced

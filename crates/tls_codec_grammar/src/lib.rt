@@ -1,5 +1,5 @@
 //! What the formats of the TLS presentation language are (RFC 8446, section 3): which bytes spell
-//! which value, which laws a format meets, and what decoders and encoders of it answer.
+//! which value, which laws a format meets, and what decoders and encoders of it return.
 //!
 //! The definitions stand in `specs`. The calls here need no trait of a value: they know the width of
 //! a number, or the form of a length.

@@ -22,7 +22,7 @@ pub fn announced_len<F: LengthField>(content: &[u8]) -> usize
     F::width(length).saturating_add(length)
 }
 
-/// Sends the shortest form of some bytes, and answers how many bytes that is.
+/// Sends the shortest form of some bytes, and returns how many bytes that is.
 ///
 /// `InvalidVectorLength`: there are more bytes than the greatest length, and nothing was sent. Every
 /// other refusal is the sink's, as in `write_all`.
@@ -35,7 +35,7 @@ pub fn write<F: LengthField, W: Sink>(sink: &mut W, content: &[u8]) -> Result<us
     Ok(width.saturating_add(content.len()))
 }
 
-/// Appends the shortest form of some bytes to a vector, and answers how many bytes that is.
+/// Appends the shortest form of some bytes to a vector, and returns how many bytes that is.
 ///
 /// `InvalidVectorLength`: there are more bytes than the greatest length. `OutOfMemory`: there was none.
 /// After a refusal the vector's bytes are those from before.
@@ -64,7 +64,7 @@ pub fn to_vec<F: LengthField>(alloc: Global, content: &[u8]) -> Result<Vec<u8>, 
     Ok(form)
 }
 
-/// The bytes that a front of `whole` spells, and the rest of it. Neither is copied.
+/// The bytes that a prefix of `whole` spells, and the rest of it. Neither is copied.
 ///
 /// `EndOfStream`: there is no whole length. Where fewer bytes are behind it than it declares, the
 /// refusal is the field's [`cut_off`](LengthField::cut_off).
@@ -79,7 +79,7 @@ pub fn split<F: LengthField>(whole: &[u8]) -> Result<(&[u8], &[u8]), Error>
     Ok(rest.split_at(length))
 }
 
-/// A copy of the bytes that a front of `whole` spells, and the rest of it, which isn't copied.
+/// A copy of the bytes that a prefix of `whole` spells, and the rest of it, which isn't copied.
 ///
 /// `OutOfMemory`: there was none for the copy. Every other refusal is as in [`split`].
 pub fn split_copied<F: LengthField>(alloc: Global, whole: &[u8]) -> Result<(Vec<u8>, &[u8]), Error>

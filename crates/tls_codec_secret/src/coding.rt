@@ -31,7 +31,7 @@ impl<F: LengthField, T: Serialize + Zeroize> Serialize for SecretTlsVec<F, T> {
     }
 
     /// `InvalidVectorLength`: the elements have more bytes than the greatest length, or the vector
-    /// would pass `isize::MAX` bytes. Every other refusal is an element's or want of memory.
+    /// would pass `isize::MAX` bytes. Every other refusal is an element's, or `OutOfMemory`.
     fn tls_serialize_into(&self, out: &mut Vec<u8>) -> Result<usize, Error> {
         counted::append::<F, T>(out, self.as_slice())
     }

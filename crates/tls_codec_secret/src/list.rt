@@ -164,7 +164,7 @@ impl<F, T: Zeroize> SecretTlsVec<F, T> {
         }
     }
 
-    /// Keeps the elements for which the closure answers true, in their order. It is asked once for each
+    /// Keeps the elements for which the closure returns true, in their order. It is asked once for each
     /// element, from the first to the last. The others are dropped, and aren't cleared before.
     pub fn retain<P: FnMut(&T) -> bool>(&mut self, f: P)
         requires { P.IsAlwaysCallable f }

@@ -58,7 +58,7 @@ impl<'a, T: Serialize> Serialize for TlsSliceU8<'a, T> {
     }
 
     /// `InvalidVectorLength`: the elements have more than 255 bytes, or the vector would pass
-    /// `isize::MAX` bytes. Every other refusal is an element's or want of memory.
+    /// `isize::MAX` bytes. Every other refusal is an element's, or `OutOfMemory`.
     fn tls_serialize_into(&self, out: &mut Vec<u8>) -> Result<usize, Error> {
         counted::append::<u8, T>(out, self.0)
     }
@@ -140,7 +140,7 @@ impl<'a, T: Serialize> Serialize for TlsSliceU16<'a, T> {
     }
 
     /// `InvalidVectorLength`: the elements have more than 65,535 bytes, or the vector would pass
-    /// `isize::MAX` bytes. Every other refusal is an element's or want of memory.
+    /// `isize::MAX` bytes. Every other refusal is an element's, or `OutOfMemory`.
     fn tls_serialize_into(&self, out: &mut Vec<u8>) -> Result<usize, Error> {
         counted::append::<u16, T>(out, self.0)
     }
@@ -222,7 +222,7 @@ impl<'a, T: Serialize> Serialize for TlsSliceU24<'a, T> {
     }
 
     /// `InvalidVectorLength`: the elements have more than 16,777,215 bytes, or the vector would pass
-    /// `isize::MAX` bytes. Every other refusal is an element's or want of memory.
+    /// `isize::MAX` bytes. Every other refusal is an element's, or `OutOfMemory`.
     fn tls_serialize_into(&self, out: &mut Vec<u8>) -> Result<usize, Error> {
         counted::append::<U24, T>(out, self.0)
     }
@@ -304,7 +304,7 @@ impl<'a, T: Serialize> Serialize for TlsSliceU32<'a, T> {
     }
 
     /// `InvalidVectorLength`: the elements have more than 4,294,967,295 bytes, or the vector would pass
-    /// `isize::MAX` bytes. Every other refusal is an element's or want of memory.
+    /// `isize::MAX` bytes. Every other refusal is an element's, or `OutOfMemory`.
     fn tls_serialize_into(&self, out: &mut Vec<u8>) -> Result<usize, Error> {
         counted::append::<u32, T>(out, self.0)
     }

@@ -20,7 +20,7 @@ const MOST_ROUNDS: u32 = 1_000_000;
 
 /// The nanoseconds that a call takes: the median of the batches.
 ///
-/// The call answers whether it succeeded. `Refused`: it didn't. `Clock`: the clock stands still.
+/// The call returns whether it succeeded. `Refused`: it didn't. `Clock`: the clock stands still.
 pub fn time<C: Clock, F: Fn() -> bool>(clock: &C, call: F) -> Result<u64, BenchFault>
     requires { F.IsAlwaysCallable call }
 {

@@ -30,7 +30,7 @@ impl<F: LengthField, T: Serialize> Serialize for TlsVec<F, T> {
     }
 
     /// `InvalidVectorLength`: the elements have more bytes than the greatest length, or the vector
-    /// would pass `isize::MAX` bytes. Every other refusal is an element's or want of memory.
+    /// would pass `isize::MAX` bytes. Every other refusal is an element's, or `OutOfMemory`.
     fn tls_serialize_into(&self, out: &mut Vec<u8>) -> Result<usize, Error> {
         counted::append::<F, T>(out, self.as_slice())
     }
@@ -41,7 +41,7 @@ impl<F: LengthField, T: Deserialize> Deserialize for TlsVec<F, T> {
 
     /// `EndOfStream`: there is no whole length, or an element passes the end that it declares.
     /// `DecodingError("vector element consumed 0 bytes")`: an element takes no byte. Every other refusal
-    /// is an element's, the source's or want of memory.
+    /// is an element's, the source's or it ran out of memory.
     fn tls_deserialize<R: Source>(alloc: Global, bytes: &mut R) -> Result<TlsVec<F, T>, Error> {
         let elements = counted::read::<F, T, R>(alloc, bytes)?;
         Ok(TlsVec::new(elements))
@@ -53,7 +53,7 @@ impl<F: LengthField, T: DeserializeBytes> DeserializeBytes for TlsVec<F, T> {
 
     /// `EndOfStream`: there is no whole length. `DecodingError("elements do not fill the declared length")`:
     /// an element passes the end that it declares. `DecodingError("vector element consumed 0 bytes")`: an
-    /// element takes no byte. Every other refusal is an element's or want of memory.
+    /// element takes no byte. Every other refusal is an element's, or `OutOfMemory`.
     fn tls_deserialize_bytes(alloc: Global, bytes: &[u8]) -> Result<(TlsVec<F, T>, &[u8]), Error> {
         let (elements, rest) = counted::split::<F, T>(alloc, bytes)?;
         Ok((TlsVec::new(elements), rest))

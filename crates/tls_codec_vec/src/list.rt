@@ -143,7 +143,7 @@ impl<F, T: Drop> TlsVec<F, T> {
         }
     }
 
-    /// Keeps the elements for which the closure answers true, in their order. It is asked once for each
+    /// Keeps the elements for which the closure returns true, in their order. It is asked once for each
     /// element, from the first to the last.
     pub fn retain<P: FnMut(&T) -> bool>(&mut self, f: P)
         requires { P.IsAlwaysCallable f }

@@ -6,7 +6,7 @@ pub are_bytes : (b : List ℕ) → ((i : ℕ) → get_or b i 0 < 256) → AreByt
 are_bytes [] small = tt
 are_bytes (b ∷ bs) small = (small 0, are_bytes bs (λ i. small (suc i)))
 
--- a front of bytes
+-- a prefix of bytes
 pub AreBytes-left : (a b : List ℕ) → AreBytes (a ++ b) → AreBytes a
 AreBytes-left [] b h = tt
 AreBytes-left (x ∷ xs) b h = (h.0, AreBytes-left xs b h.1)

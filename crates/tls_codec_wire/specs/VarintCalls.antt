@@ -1,4 +1,4 @@
--- What calls on variable-length integers answer.
+-- What calls on variable-length integers return.
 use Rattle.std.specs.Prelude.{◌≡◌, ℕ, ◌*◌, ◌-◌, ◌^◌, ◌<◌, ◌≤◌, ◌+◌, ◌⊎◌, List, ◌++◌, length, take, drop, nat_lt, if◌then◌else◌, Option, None, Some, ⊤}
 use Rattle.std.specs.Io.KnownBytes.{Appends}
 use Rattle.tls_codec_wire.specs.Counts.{Counts, RoseBy}
@@ -16,7 +16,7 @@ pub record BeginsVarint (x : List ℕ) (n : ℕ) (rest : List ℕ) : Type 0 wher
   pub whole : x ≡ front ++ rest
   pub spelled : Varint front n
 
--- no front of x is a spelling
+-- no prefix of x is a spelling
 abbrev pub NoVarintBegins : List ℕ → Type 0
 NoVarintBegins x = (n : ℕ) (rest : List ℕ) → BeginsVarint x n rest → ⊥
 
@@ -27,7 +27,7 @@ pub record GaveVarint {S : Type 0} (given : Gives S) (old new : S) (n width : �
   pub spelled : Varint front n
   pub count : width ≡ length front
 
--- no front of the bytes to come, where they are told, is a spelling
+-- no prefix of the bytes to come, where they are told, is a spelling
 abbrev pub NoVarintComes : Option (List ℕ) → Type 0
 NoVarintComes None = ⊤
 NoVarintComes (Some x) = NoVarintBegins x

@@ -44,7 +44,7 @@ pub trait Source {
     // Between these two states the source has given these bytes, and nothing else.
     ghost given: { Self → List ℕ → Self → Type 0 };
 
-    /// Fills a front of the buffer with the next bytes, and answers how many. It is 0 for a buffer
+    /// Fills a prefix of the buffer with the next bytes, and returns how many. It is 0 for a buffer
     /// with room only at the end of the bytes. Behind a fault nothing was taken.
     fn pull(&mut self, into: &mut [u8]) -> Result<usize, Fault>
         ensures bound { IfOk result (λ n. n ≤ length into.new) }
@@ -63,7 +63,7 @@ pub trait Source {
     /// Fills the whole buffer with the next bytes, where it has as many at hand in memory.
     ///
     /// A number is read by one such call, in place of a loop over [`pull`](Source::pull). A source
-    /// that doesn't know what it has answers `Unknown`.
+    /// that doesn't know what it has returns `Unknown`.
     fn fill_at_hand(&mut self, _into: &mut [u8]) -> Fill
         ensures filled { result ≡ Full → given self.old _into.new self.new }
         ensures too_few { result ≡ TooFew → IsShortOf (length _into.old) (coming self.old) × (self.new ≡ self.old) }
@@ -74,7 +74,7 @@ pub trait Source {
     }
 
     /// Puts the next bytes behind those of a vector, as many as it has room for and `most` at most,
-    /// and answers how many. It never grows the vector. It is 0 for a vector with room only at the
+    /// and returns how many. It never grows the vector. It is 0 for a vector with room only at the
     /// end of the bytes. Behind a fault nothing was taken.
     ///
     /// A source that has its bytes in memory writes its own, which copies them once.
@@ -110,7 +110,7 @@ pub trait Sink {
     // How often it failed, was interrupted and had no memory.
     ghost counts: { Self → Counts };
 
-    /// Takes a front of the piece, and answers how many bytes. No byte of a nonempty piece is a
+    /// Takes a prefix of the piece, and returns how many bytes. No byte of a nonempty piece is a
     /// failure, and is counted as one. Behind a fault nothing was received.
     fn give(&mut self, bytes: &[u8]) -> Result<usize, Fault>
         ensures bound { IfOk result (λ n. n ≤ length bytes.now) }

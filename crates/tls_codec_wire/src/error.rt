@@ -20,7 +20,7 @@ pub enum Error {
     EncodingError(&'static str),
     /// A list's content passes its length field, or a vector would pass `isize::MAX` bytes.
     InvalidVectorLength,
-    /// Never answered; kept for users of the Rust crate.
+    /// Never returned; kept for users of the Rust crate.
     InvalidWriteLength(&'static str),
     /// A slice has another length than the array it was to become.
     InvalidInput,

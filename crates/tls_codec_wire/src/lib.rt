@@ -1,8 +1,8 @@
-//! What moves bytes under a TLS codec: the errors it answers, the devices that bytes come from and
+//! What moves bytes under a TLS codec: the errors it returns, the devices that bytes come from and
 //! go to, and the two calls that move a piece whole.
 //!
 //! The layer above relies on one thing: [`read_exactly`] and [`write_all`] move a piece whole, or a
-//! beginning of it and then answer a named error that is tied to a count of the device or to bytes
+//! beginning of it and then return a named error that is tied to a count of the device or to bytes
 //! that aren't there.
 //!
 //! - [`error`]: [`Error`], what a codec refuses.

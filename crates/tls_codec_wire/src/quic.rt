@@ -53,7 +53,7 @@ pub fn split_varint(bytes: &[u8]) -> Result<(TlsVarInt, &[u8]), Error>
     Ok((number_from(*first % 64, digits), rest))
 }
 
-/// Sends the least spelling of a number, and answers how many bytes that is.
+/// Sends the least spelling of a number, and returns how many bytes that is.
 ///
 /// Every refusal is the sink's, as in [`write_all`].
 pub fn write_varint<W: Sink>(sink: &mut W, n: TlsVarInt) -> Result<usize, Error>

@@ -110,7 +110,7 @@ pub fn write_all<W: Sink>(sink: &mut W, bytes: &[u8]) -> Result<(), Error>
 }
 
 // How many interruptions in a row there are after a fault that is tried again; else the error that it is,
-// which is `failed` for all but want of memory.
+// which is `failed` for all but running out of memory.
 #[inline(always)]
 pub(crate) fn after_fault(fault: Fault, row: u8, failed: Error) -> Result<u8, Error>
     ensures ok { IfOk result (λ next. (fault ≡ Interrupted) × (row < MOST_INTERRUPTIONS) × (next ≡ row + 1)) }

@@ -44,7 +44,7 @@ pub fn split_length(bytes: &[u8]) -> Result<(usize, &[u8]), Error>
     Ok((length.value() as usize, rest))
 }
 
-/// Sends a length in the least number of bytes, and answers how many.
+/// Sends a length in the least number of bytes, and returns how many.
 ///
 /// `InvalidVectorLength`: it is above the greatest length, and nothing was sent. Every other refusal
 /// is the sink's, as in [`write_all`](crate::write_all).
@@ -69,7 +69,7 @@ pub fn write_length<W: Sink>(sink: &mut W, content_length: usize) -> Result<usiz
 }
 
 /// Puts a length in the least number of bytes before the bytes of a vector that it counts, which stand
-/// behind `at`, and answers how many bytes it has.
+/// behind `at`, and returns how many bytes it has.
 ///
 /// `InvalidVectorLength`: these are more bytes than the greatest length, or the vector would pass
 /// `isize::MAX` bytes. `OutOfMemory`: there was none. After a refusal the vector is as it was.

@@ -1,4 +1,4 @@
--- What the two paths answer for the same bytes.
+-- What the two paths return for the same bytes.
 use Rattle.std.proofs.Common.{◌≡◌, ◌≢◌, ℕ, List, [], ◌++◌, Bool, Some, inl, inr, refl, sym, ap, ◌∙◌, codes, arith}
 use Rattle.std.proofs.lemmas.List.{append_cancel_left}
 use Rattle.tls_codec_wire.specs.Counts.{FaultIsCounted, no_counts}

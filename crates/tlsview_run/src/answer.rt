@@ -7,7 +7,7 @@ use crate::run::run;
 use std::alloc::Global;
 use tls_codec_wire::{Sink, Source, write_all};
 
-/// Runs the kind that the words name, sends the line of a refusal, and answers the exit status.
+/// Runs the kind that the words name, sends the line of a refusal, and returns the exit status.
 ///
 /// The words are the program's name and its arguments, or why there are none. A line that the sink
 /// refuses is not sent again, and the status stays.
@@ -43,7 +43,7 @@ fn only_argument(words: &Result<Vec<String>, ViewFault>) -> Result<&str, ViewFau
     }
 }
 
-/// Sends the line of a run that is refused, and answers the exit status.
+/// Sends the line of a run that is refused, and returns the exit status.
 fn end<W: Sink>(outcome: Result<bool, ViewFault>, out: &mut W) -> u8
     ensures told { TellsLine W.Sink out.old out.new (line_of outcome) }
     ensures status { result ≡ status_of outcome }

@@ -1,7 +1,7 @@
 //! `tlsview KIND` shows how bytes are read as a value of one type.
 //!
 //! It reads a hex text from standard input to its end, drops the tabs, line feeds, carriage returns
-//! and spaces in it, and prints what each of the two decoders answers for the bytes, and the
+//! and spaces in it, and prints what each of the two decoders returns for the bytes, and the
 //! value's shortest form:
 //!
 //! ```text

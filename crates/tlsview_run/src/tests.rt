@@ -18,7 +18,7 @@ fn run_on(alloc: Global, kind: &str, mut text: &[u8]) -> (Result<bool, ViewFault
     (outcome, out)
 }
 
-// No contract can say that memory is there: this fails for a run that always answers that it isn't.
+// No contract can say that memory is there: this fails for a run that always says that it isn't.
 #[test]
 fn run_always_memory(rt: HostRuntime) {
     let (outcome, out) = run_on(rt.alloc(), "option-u16", b"010007ee\n");

@@ -18,7 +18,7 @@ pub struct View {
     pub accepted: bool,
 }
 
-/// Reads a value by both paths, and shows what each of them answers.
+/// Reads a value by both paths, and shows what each of them returns.
 ///
 /// `Memory` is an `OutOfMemory` of either path, or memory that the lines ask for.
 pub fn view_of<T: Show>(alloc: Global, bytes: &[u8]) -> Result<View, ViewFault>

@@ -21,7 +21,7 @@ const NOT_FILLED: Error = Error::DecodingError("elements do not fill the declare
 /// Each element is read from all that is left of the bytes. Its own refusal is handed on.
 /// `DecodingError("vector element consumed 0 bytes")`: an element's spelling is empty.
 /// `DecodingError("elements do not fill the declared length")`: an element passes the declared end.
-/// With `length` 0 there is no element, no turn and no want of memory.
+/// With `length` 0 there is no element, no turn and no need of memory.
 pub fn from_slice<'a, T: DeserializeBytes>(
     alloc: Global,
     bytes: &'a [u8],
@@ -67,7 +67,7 @@ pub fn from_slice<'a, T: DeserializeBytes>(
 /// Each element is read from a source that ends where the list does. Its own refusal is handed on,
 /// which is `EndOfStream` where it passes the declared end.
 /// `DecodingError("vector element consumed 0 bytes")`: an element's spelling is empty. With `length`
-/// 0 there is no element, no turn and no want of memory, and the source isn't asked.
+/// 0 there is no element, no turn and no need of memory, and the source isn't asked.
 pub fn from_reader<T: Deserialize, R: Source>(
     alloc: Global,
     src: &mut R,

@@ -53,7 +53,7 @@ fn sum_of_lengths<T: Size>(elements: &[T]) -> Result<usize, Error>
     Ok(sum)
 }
 
-/// Sends the elements' shortest forms in a row, without a length, and answers how many bytes that
+/// Sends the elements' shortest forms in a row, without a length, and returns how many bytes that
 /// is, saturated at `usize::MAX`.
 ///
 /// ```rust
@@ -82,7 +82,7 @@ fn write_each<T: Serialize, W: Sink>(sink: &mut W, elements: &[T]) -> Result<usi
     Ok(sent)
 }
 
-/// Appends the elements' shortest forms in a row, without a length, and answers how many bytes that
+/// Appends the elements' shortest forms in a row, without a length, and returns how many bytes that
 /// is.
 ///
 /// A refusal is an element's, and leaves the vector's bytes as they were.
@@ -130,7 +130,7 @@ fn append_each<T: Serialize>(out: &mut Vec<u8>, elements: &[T]) -> Result<usize,
     Ok(out.len() - at)
 }
 
-/// Appends the elements' shortest forms in a row, each made by `tls_serialize_bytes`, and answers how
+/// Appends the elements' shortest forms in a row, each made by `tls_serialize_bytes`, and returns how
 /// many bytes that is.
 ///
 /// A refusal is an element's, or `InvalidVectorLength` where the vector would pass `isize::MAX` bytes.
@@ -166,7 +166,7 @@ fn append_each_form<T: SerializeBytes>(
     Ok(out.len() - at)
 }
 
-// Appends the shortest form of one element, and answers how many bytes that is.
+// Appends the shortest form of one element, and returns how many bytes that is.
 fn append_form<T: SerializeBytes>(
     alloc: Global,
     out: &mut Vec<u8>,

@@ -26,7 +26,7 @@ pub(crate) trait HasDigits<const K: usize>: Drop {
         ensures { number result ≡ value digits.now };
 }
 
-// Sends the numbers' digits in a row, and answers how many bytes that is, saturated at `usize::MAX`.
+// Sends the numbers' digits in a row, and returns how many bytes that is, saturated at `usize::MAX`.
 //
 // A width is at most that of `u64`, so that memory has an array of a group's digits.
 pub(crate) fn send_run<T: HasDigits<K>, W: Sink, const K: usize>(

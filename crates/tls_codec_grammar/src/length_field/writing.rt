@@ -9,7 +9,7 @@ use std::alloc::AllocError;
 use tls_codec_wire::vlen::insert_bytes;
 use tls_codec_wire::{Error, Sink, write_all};
 
-/// Sends the least spelling of a length, and answers how many bytes that is.
+/// Sends the least spelling of a length, and returns how many bytes that is.
 ///
 /// `InvalidVectorLength`: it passes the greatest length, and nothing was sent. Every other refusal is the
 /// sink's, as in [`write_all`].
@@ -96,7 +96,7 @@ fn append_one(out: &mut Vec<u8>, byte: u8) -> Result<(), AllocError>
     }
 }
 
-/// Puts the least spelling of the number of bytes behind a gap in its place, and answers how many bytes
+/// Puts the least spelling of the number of bytes behind a gap in its place, and returns how many bytes
 /// that is. These bytes are moved only where the gap has another width.
 ///
 /// `InvalidVectorLength`: they are more than the greatest length, or the vector would pass

@@ -30,7 +30,7 @@ pub(super) fn is_written<V: Serialize>(
     Ok(())
 }
 
-// Both paths read the value of a front of the bytes, and leave the rest.
+// Both paths read the value of a prefix of the bytes, and leave the rest.
 pub(super) fn is_read<V: Deserialize + DeserializeBytes + PartialEq>(
     rt: &impl Abort,
     alloc: Global,

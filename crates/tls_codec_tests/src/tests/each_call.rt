@@ -43,7 +43,7 @@ pub(super) fn is_written_alone<T: Serialize + SerializeBytes>(
     Ok(())
 }
 
-// Both paths read the value of a front of the bytes, and leave the rest.
+// Both paths read the value of a prefix of the bytes, and leave the rest.
 pub(super) fn is_read<T: Deserialize + DeserializeBytes + PartialEq>(
     rt: &impl Abort,
     alloc: Global,

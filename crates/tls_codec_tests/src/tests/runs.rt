@@ -9,7 +9,7 @@ use tls_codec_base::lists::{self, Turns};
 use tls_codec_base::{Deserialize, DeserializeBytes, Serialize, SerializeBytes};
 use tls_codec_wire::{Error, U24};
 
-// The engines write the elements as these bytes, and read them from a front of more, each element by
+// The engines write the elements as these bytes, and read them from a prefix of more, each element by
 // a turn.
 fn is_a_run<T: Serialize + SerializeBytes + Deserialize + DeserializeBytes + PartialEq>(
     rt: &impl Abort,

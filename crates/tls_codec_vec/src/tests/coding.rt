@@ -30,7 +30,7 @@ fn is_written<V: Serialize>(
     Ok(())
 }
 
-// Both paths read the value of a front of the bytes, and leave so many of them. Where they leave none, the
+// Both paths read the value of a prefix of the bytes, and leave so many of them. Where they leave none, the
 // exact forms read it too.
 fn is_read<V: Deserialize + DeserializeBytes + PartialEq>(
     rt: &impl Abort,

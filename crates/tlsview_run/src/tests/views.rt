@@ -110,13 +110,7 @@ fn byte_vectors_are_shown(rt: HostRuntime) -> Result<(), Fail> {
         ("vecu8-u16", "02b24d", "[45645]", "-", "02b24d"),
         ("bytevecu32", "00000000", "-", "-", "00000000"),
         ("bytevecu32", "0000000100", "00", "-", "0000000100"),
-        (
-            "vecu8-u16",
-            "04000300527d",
-            "[3,82]",
-            "7d",
-            "0400030052",
-        ),
+        ("vecu8-u16", "04000300527d", "[3,82]", "7d", "0400030052"),
     ] {
         let lines = accepted(rt.alloc(), value, rest, least)?;
         let (outcome, out) = run_on(rt.alloc(), kind, text.as_bytes());
