@@ -7,6 +7,8 @@ use Rattle.tls_codec_wire.specs.Digits.{Digits}
 use Rattle.tls_codec_wire.specs.Varint.{Varint}
 use Rattle.tls_codec_grammar.specs.Tree.{Tree, Number, Empty, Join}
 use Rattle.tls_codec_grammar.specs.Grammar.{Direction, Reading, Writing, number, option, content, fixed_list, list, text, nothing}
+use Rattle.tls_codec_grammar.specs.Format.{fields_format, nothing_format, number_format}
+use Rattle.tls_codec_grammar.specs.Tagged.{no_variant, tagged, variant}
 use Rattle.tls_codec_grammar.specs.Shortest.{IsLeast, IsShortest}
 use Rattle.tls_codec_wire.specs.VarintCalls.{least_width}
 use Rattle.tls_codec_grammar.specs.laws.NumberLaws.{digits_one}
@@ -22,6 +24,21 @@ pub some_spelled_once : (s : List ℕ) → option (number 2) Writing s (Join (Nu
 some_spelled_once s p =
     let e = digits_one 2 p.0 (0 ∷ 7 ∷ []) 7 p.2 (record { width = refl; bytes = (omega arith, (omega arith, tt)); number = refl }) in
     p.1 ∙ ap (λ (u : List ℕ). 1 ∷ u) e
+
+-- no variant has the tag 3
+pub no_other_tag : (d : Direction) (s : List ℕ) (v : Tree) → tagged 1 (variant 2 (fields_format (number_format 2) nothing_format) no_variant) d (3 ∷ s) v → ⊥
+no_other_tag d s (Join (Number tag) vs) p = go p.front p.whole p.first
+  where
+    other : tag ≡ 3 → ⊥
+    other three = subst (λ (m : ℕ). ((variant 2 (fields_format (number_format 2) nothing_format) no_variant).parts m).spells d p.rest vs) three p.second
+
+    go : (front : List ℕ) → 3 ∷ s ≡ front ++ p.rest → Digits 1 front tag → ⊥
+    go [] w c = absurd (omega (arith, c.width))
+    go (b ∷ []) w c =
+        let three : 3 ≡ b = cc in
+        other (omega (arith, three, c.number))
+    go (b ∷ c1 ∷ cs) w c = absurd (omega (arith, c.width))
+no_other_tag d s _ p = absurd search
 
 -- a content of two-byte numbers has evenly many bytes
 pub content_even : (d : Direction) (c : List ℕ) (v : Tree) → content (number 2) d c v → (m : ℕ) × (length c ≡ 2 * m)

@@ -2,6 +2,8 @@
 ghost use Rattle.std.specs.Prelude.{◌≡◌, ℕ, List, [], ◌∷◌, ◌++◌};
 ghost use Rattle.tls_codec_grammar.specs.Tree.{Tree, Number, Empty, Join, number_trees};
 ghost use Rattle.tls_codec_grammar.specs.Grammar.{Direction, Reading, Writing, array, content, fixed_list, list, nothing, number, option, pair, text, varint};
+ghost use Rattle.tls_codec_grammar.specs.Format.{fields_format, nothing_format, number_format};
+ghost use Rattle.tls_codec_grammar.specs.Tagged.{no_variant, tagged, variant};
 ghost use Rattle.tls_codec_grammar.specs.Shortest.{HasNoSpelling, IsFull, IsHollow, IsShortest};
 
 /// Does nothing: its contract states the examples, and so they are proved.
@@ -13,6 +15,8 @@ pub fn examples()
     ensures some { option (number 2) Reading (0x01 ∷ 0x00 ∷ 0x07 ∷ []) (Join (Number 7) Empty) }
     ensures some_spelled_once { (s : List ℕ) → option (number 2) Writing s (Join (Number 7) Empty) → s ≡ 0x01 ∷ 0x00 ∷ 0x07 ∷ [] }
     ensures no_third_option { (d : Direction) (s : List ℕ) (v : Tree) → option (number 2) d (0x02 ∷ s) v → ⊥ }
+    ensures tag_and_its_part { tagged 1 (variant 2 (fields_format (number_format 2) nothing_format) no_variant) Reading (0x02 ∷ 0x00 ∷ 0x07 ∷ []) (Join (Number 2) (Join (Number 7) Empty)) }
+    ensures no_other_tag { (d : Direction) (s : List ℕ) (v : Tree) → tagged 1 (variant 2 (fields_format (number_format 2) nothing_format) no_variant) d (0x03 ∷ s) v → ⊥ }
     ensures pair_with_option { pair (number 1) (option (number 2)) Reading (0x05 ∷ 0x01 ∷ 0x01 ∷ 0x02 ∷ []) (Join (Number 5) (Join (Join (Number 258) Empty) Empty)) }
     ensures fixed_list_of_two { fixed_list 1 (number 2) Reading (0x04 ∷ 0x00 ∷ 0x01 ∷ 0x00 ∷ 0x02 ∷ []) (Join (Number 1) (Join (Number 2) Empty)) }
     ensures no_half_element { (d : Direction) (front rest : List ℕ) (v : Tree) → fixed_list 1 (number 2) d front v → front ++ rest ≡ 0x03 ∷ 0x00 ∷ 0x01 ∷ 0x00 ∷ 0x02 ∷ [] → ⊥ }

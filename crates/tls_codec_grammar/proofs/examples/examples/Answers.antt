@@ -1,6 +1,6 @@
 use Rattle.std.proofs.Common.{rules, [], ◌∷◌, refl, arith}
 use Rattle.tls_codec_grammar.specs.laws.NumberLaws.{digits_below}
-use Rattle.tls_codec_grammar.proofs.WorkedExamples.{one_byte_varint, some_spelled_once, no_half_element, two_byte_character, surrogate_is_no_text, shortest_list, shortest_list_of_nothing, nothing_is_no_element}
+use Rattle.tls_codec_grammar.proofs.WorkedExamples.{one_byte_varint, some_spelled_once, no_other_tag, no_half_element, two_byte_character, surrogate_is_no_text, shortest_list, shortest_list_of_nothing, nothing_is_no_element}
 use Rattle.tls_codec_grammar.proofs.examples.examples.Goals as goal
 
 pub returns-clause-number_too_great : goal.returns-clause-number_too_great
@@ -11,6 +11,24 @@ returns-clause-shortest_varint c = one_byte_varint 37 (omega arith)
 
 pub returns-clause-some_spelled_once : goal.returns-clause-some_spelled_once
 returns-clause-some_spelled_once c = some_spelled_once
+
+pub returns-clause-tag_and_its_part : goal.returns-clause-tag_and_its_part
+returns-clause-tag_and_its_part c = record {
+  front = 2 ∷ [];
+  rest = 0 ∷ 7 ∷ [];
+  whole = refl;
+  first = record { width = refl; bytes = (omega arith, tt); number = refl };
+  second = record {
+    front = 0 ∷ 7 ∷ [];
+    rest = [];
+    whole = refl;
+    first = record { width = refl; bytes = (omega arith, (omega arith, tt)); number = refl };
+    second = refl;
+  };
+}
+
+pub returns-clause-no_other_tag : goal.returns-clause-no_other_tag
+returns-clause-no_other_tag c = no_other_tag
 
 pub returns-clause-pair_with_option : goal.returns-clause-pair_with_option
 returns-clause-pair_with_option c = record {
