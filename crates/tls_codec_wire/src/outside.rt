@@ -36,6 +36,35 @@ impl<X> Outside<X> {
         }
     }
 
+    /// The reader or writer inside. Whatever it has given or taken, it stands just behind that.
+    pub fn into_inner(self) -> X
+        ensures { result ≡ wrapped self }
+    {
+        self.inner
+    }
+
+    /// How many calls failed: by an error of no kind that the other two count, or as a write that took no
+    /// byte of some. It stays at `u64::MAX`.
+    pub fn failures(&self) -> u64
+        ensures { result ≡ (counts_of self.now).failures }
+    {
+        self.failures
+    }
+
+    /// How many calls an error of kind `Interrupted` ended. It stays at `u64::MAX`.
+    pub fn interruptions(&self) -> u64
+        ensures { result ≡ (counts_of self.now).interruptions }
+    {
+        self.interruptions
+    }
+
+    /// How many calls an error of kind `OutOfMemory` ended. It stays at `u64::MAX`.
+    pub fn shortages(&self) -> u64
+        ensures { result ≡ (counts_of self.now).shortages }
+    {
+        self.shortages
+    }
+
     // Counts an error by its kind. A count stays at its greatest value.
     fn count(&mut self, kind: ErrorKind) -> Fault
         ensures fault { result ≡ fault_of kind }

@@ -195,18 +195,19 @@ impl Write for Failing {
     }
 }
 
-// Fails at its first call, by an error of this kind, and then gives the byte 5 each time.
+// Fails at its first calls, by an error of each of these kinds, and then gives the byte 5 each time.
 #[derive(Drop)]
-pub struct FailingOnce {
-    pub kind: ErrorKind,
-    pub reads: u64,
+pub struct FailingFirst<'a> {
+    pub kinds: &'a [ErrorKind],
+    pub reads: usize,
 }
 
-impl Read for FailingOnce {
+impl<'a> Read for FailingFirst<'a> {
     fn read(&mut self, buf: &mut [u8]) -> io::Result<usize> {
+        let kind = self.kinds.get(self.reads);
         self.reads = self.reads.saturating_add(1);
-        if self.reads == 1 {
-            return Err(io::Error::from(self.kind));
+        if let Some(kind) = kind {
+            return Err(io::Error::from(*kind));
         }
         if buf.is_empty() {
             return Ok(0);

@@ -1,5 +1,5 @@
 // A fault is returned at once, and no call is made behind it, nor behind the end.
-use super::devices::{ENDED, FailingOnce, Fives, Keeper, Plan};
+use super::devices::{ENDED, FailingFirst, Fives, Keeper, Plan};
 use crate::device::{Fault, Source};
 use crate::error::Error;
 use crate::gather::read_bytes_bounded;
@@ -81,17 +81,23 @@ fn the_end_is_asked_for_once(rt: HostRuntime) {
 
 #[test]
 fn a_reader_outside_is_read_once_a_pull(rt: HostRuntime) {
-    for (kind, fault) in [
-        (ErrorKind::Interrupted, Fault::Interrupted),
-        (ErrorKind::OutOfMemory, Fault::NoMemory),
-        (ErrorKind::PermissionDenied, Fault::Failed),
-    ] {
-        let mut reader = FailingOnce { kind, reads: 0 };
-        let mut src = Outside::new(&mut reader);
-        let mut into = [0; 2];
+    let kinds = [
+        ErrorKind::Interrupted,
+        ErrorKind::OutOfMemory,
+        ErrorKind::PermissionDenied,
+    ];
+    let reader = FailingFirst {
+        kinds: &kinds,
+        reads: 0,
+    };
+    let mut src = Outside::new(reader);
+    let mut into = [0; 2];
+    for fault in [Fault::Interrupted, Fault::NoMemory, Fault::Failed] {
         assert_eq!(rt; src.pull(&mut into), Err(fault));
-        assert_eq!(rt; src.pull(&mut into), Ok(1));
-        assert_eq!(rt; into, [5, 0]);
-        assert_eq!(rt; reader.reads, 2);
     }
+    assert_eq!(rt; src.pull(&mut into), Ok(1));
+    assert_eq!(rt; into, [5, 0]);
+    let counts = (src.interruptions(), src.shortages(), src.failures());
+    assert_eq!(rt; counts, (1, 1, 1));
+    assert_eq!(rt; src.into_inner().reads, 4);
 }
