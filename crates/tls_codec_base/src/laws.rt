@@ -1,19 +1,21 @@
-//! The laws of options, products, lists and texts, each from those of its parts, what shortest forms
-//! of lists and of lengths are, that equal bytes are spelled alike, and what a source that tells its
-//! bytes has left.
+//! The laws of options, products, lists and texts, each from those of its parts; what they come to for
+//! spellings and shortest forms; what shortest forms of lists and of lengths are, that equal bytes are
+//! spelled alike, and what a source that tells its bytes has left.
 //!
 //! The functions do nothing. Their contracts state the laws, and so are proved.
-ghost use Rattle.std.specs.Prelude.{◌≡◌, ◌↔◌, ℕ, ◌<◌, ◌≤◌, ◌^◌, List, [], length};
+ghost use Rattle.std.specs.Prelude.{◌≡◌, ◌↔◌, ℕ, ◌<◌, ◌≤◌, ◌^◌, List, [], ◌++◌, length};
+ghost use Rattle.tls_codec_wire.specs.Device.{IsBeginning};
 ghost use Rattle.tls_codec_wire.specs.Digits.{AreBytes};
 ghost use Rattle.tls_codec_wire.specs.Varint.{Varint};
 ghost use Rattle.tls_codec_wire.specs.VarintCalls.{LeastVarint};
 ghost use Rattle.tls_codec_grammar.specs.Tree.{Tree, Empty, Join, number_trees, trees};
-ghost use Rattle.tls_codec_grammar.specs.Decoding.{ComesFirst, GaveSpelling};
+ghost use Rattle.tls_codec_grammar.specs.Decoding.{ComesFirst, GaveSpelling, NoneBegins};
 ghost use Rattle.tls_codec_grammar.specs.Format.{counted_bytes_format, counted_list_format, fields_format, fixed_list_format, list_format, nothing_format, option_format, text_format};
 ghost use Rattle.tls_codec_grammar.specs.Lawful.{MeetsLaws};
 ghost use Rattle.tls_codec_grammar.specs.Tagged.{no_variant, tagged_format, variant};
-ghost use Rattle.tls_codec_grammar.specs.Grammar.{Counted, Direction, Row, content};
-ghost use Rattle.tls_codec_grammar.specs.Shortest.{IsLeast, IsShortest};
+ghost use Rattle.tls_codec_grammar.specs.Grammar.{Counted, Direction, Reading, Row, content};
+ghost use Rattle.tls_codec_grammar.specs.Shortest.{IsFull, IsLeast, IsShortest};
+ghost use Rattle.tls_codec_grammar.specs.Spelled.{BeginsWithOne, EachHasNonemptySpelling, FitTogether, HasReadingSpelling};
 
 use crate::traits::Size;
 use tls_codec_grammar::LengthField;
@@ -28,6 +30,39 @@ pub fn formats_are_lawful<T: Size, U: Size>()
     ensures fixed { (k : ℕ) → MeetsLaws (fixed_list_format k T.format) }
     ensures texts { MeetsLaws text_format }
     ensures choices { (k m n : ℕ) → k < 2 ^ 64 → MeetsLaws (tagged_format k (variant m T.format (variant n U.format no_variant))) }
+{}
+
+/// No spelling of a type is a proper prefix of another, and bytes spell one value at most.
+pub fn spellings_are_prefix_free<T: Size>()
+    ensures prefix { (s t : List ℕ) (v w : Tree) → T.format.spells Reading s v → T.format.spells Reading t w → IsBeginning s t → s ≡ t }
+    ensures value { (s : List ℕ) (v w : Tree) → T.format.spells Reading s v → T.format.spells Reading s w → v ≡ w }
+{}
+
+/// A list has a spelling just where each of its elements has one that isn't empty, and their shortest
+/// forms together have a number of bytes that its length field can hold.
+pub fn lists_are_spelled_where_their_elements_fit<F: LengthField, T: Size>()
+    ensures { (v : Tree) → HasReadingSpelling (counted_list_format F.field T.format).spells v
+        ↔ (EachHasNonemptySpelling T.format.spells v × FitTogether T.format.spells F.field.limit v) }
+{}
+
+/// The shortest form of a full value, whatever is behind it, begins with just one spelling, which is of
+/// that value and leaves what is behind.
+pub fn shortest_forms_are_read_back<T: Size>()
+    ensures { (form rest : List ℕ) (v : Tree) → IsShortest T.format.spells form v → IsFull T.format.spells v → BeginsWithOne T.format.spells (form ++ rest) v rest }
+{}
+
+/// A proper prefix of the shortest form of a full value begins with no spelling. So what a sink has received
+/// of it that failed before the end is refused by both decoders.
+pub fn forms_cut_short_have_no_spelling<T: Size>()
+    ensures { (part form : List ℕ) (v : Tree) → IsShortest T.format.spells form v → IsFull T.format.spells v → IsBeginning part form → length part < length form → NoneBegins T.format.spells part }
+{}
+
+/// Of all spellings of a value, by which it is read or written, its shortest form has the fewest bytes,
+/// and no other has as few. A value with a spelling has one.
+pub fn shortest_forms_have_the_fewest_bytes<T: Size>()
+    ensures there { (d : Direction) (s : List ℕ) (v : Tree) → T.format.spells d s v → (form : List ℕ) × IsShortest T.format.spells form v }
+    ensures fewest { (d : Direction) (s form : List ℕ) (v : Tree) → T.format.spells d s v → IsShortest T.format.spells form v → length form ≤ length s }
+    ensures alone { (d : Direction) (s form : List ℕ) (v : Tree) → T.format.spells d s v → IsShortest T.format.spells form v → length form ≡ length s → form ≡ s }
 {}
 
 /// Where the elements of a list all have shortest forms that together pass a length of 62 bits, the

@@ -38,9 +38,10 @@ pub record IsLengthField (field : List ℕ → ℕ → Type 0) (width : ℕ → 
   pub monotone : (a b : List ℕ) (m n : ℕ) → IsLeast (λ t. field t m) a → field b n → m ≤ n → length a ≤ length b
   pub measures : (a : List ℕ) (m : ℕ) → IsLeast (λ t. field t m) a → width m ≡ length a
 
--- The laws of a length field with its limit, which memory can't pass.
+-- The laws of a length field with its limit, which memory can't pass: each number below it has a spelling, and no other.
 pub record MeetsFieldLaws (field : Field) : Type 0 where
   pub counts : IsLengthField field.spells field.width
+  pub each : (n : ℕ) → n < field.limit → (b : List ℕ) × field.spells b n
   pub below : (b : List ℕ) (n : ℕ) → field.spells b n → n < field.limit
   pub small : field.limit ≤ 2 ^ 62
   pub cut : (e : Error) → field.cut_off e → (e ≢ OutOfMemory) × (e ≢ TrailingData)

@@ -9,5 +9,6 @@ pub mod Lawful
 pub mod Tagged
 pub mod Decoding
 pub mod Encoding
+pub mod Spelled
 pub mod Opaque
 pub mod laws

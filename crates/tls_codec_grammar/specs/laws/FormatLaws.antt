@@ -11,10 +11,10 @@ use Rattle.tls_codec_grammar.specs.Format.{Format, atom, number_format, array_fo
 use Rattle.tls_codec_grammar.specs.Errors.{Says}
 use Rattle.tls_codec_grammar.specs.Field.{Field, fixed_field, variable_field}
 use Rattle.tls_codec_grammar.specs.Lawful.{IsLengthField, IsLawful, MeetsFieldLaws, MeetsLaws, MeetsLawsInside}
-use Rattle.tls_codec_grammar.specs.laws.NumberLaws.{digits_below, digits_field, array_lawful, number_lawful}
+use Rattle.tls_codec_grammar.specs.laws.NumberLaws.{digits_below, digits_field, to_digits, to_digits_digits, array_lawful, number_lawful}
 use Rattle.tls_codec_grammar.specs.laws.OptionLaws.{option_lawful}
 use Rattle.tls_codec_grammar.specs.laws.FieldsLaws.{nothing_lawful, fields_lawful}
-use Rattle.tls_codec_grammar.specs.laws.VarintLaws.{varint_field, varint_fits, varint_lawful}
+use Rattle.tls_codec_grammar.specs.laws.VarintLaws.{varint_field, varint_fits, varint_lawful, varint_least}
 use Rattle.tls_codec_grammar.specs.laws.ListLaws.{Part, bytes_one, content_shortest, part_least, content_lawful, counted_lawful, counted_parts, utf8_lawful}
 
 -- ---- atoms, options and products
@@ -108,7 +108,7 @@ module _ {element : Format} (l : MeetsLaws element) where
 
 -- the laws of length fields
 pub variable_field_meets : MeetsFieldLaws variable_field
-variable_field_meets = record { counts = varint_field; below = varint_fits; small = omega arith; cut = λ e p. (λ h. cut_memory e p h, λ h. cut_trailing e p h) }
+variable_field_meets = record { counts = varint_field; each = λ n lt. let h = varint_least n lt in (h.0, h.1.spelled); below = varint_fits; small = omega arith; cut = λ e p. (λ h. cut_memory e p h, λ h. cut_trailing e p h) }
   where
     cut_memory : (e : Error) → Says (codes "declared content is not there") e → e ≡ OutOfMemory → ⊥
     cut_memory (DecodingError text) p h = absurd cc
@@ -119,7 +119,7 @@ variable_field_meets = record { counts = varint_field; below = varint_fits; smal
     cut_trailing _ p h = absurd p
 
 pub fixed_field_meets : (k : ℕ) → 256 ^ k ≤ 2 ^ 62 → MeetsFieldLaws (fixed_field k)
-fixed_field_meets k small = record { counts = digits_field k; below = digits_below k; small = small; cut = λ e p. (λ h. cc, λ h. cc) }
+fixed_field_meets k small = record { counts = digits_field k; each = λ n lt. (to_digits k n, to_digits_digits k n lt); below = digits_below k; small = small; cut = λ e p. (λ h. cc, λ h. cc) }
 
 -- a length field and what it counts, where no field holds the limit
 counted_meets : (field : Field) {sum : Tree → ℕ} {inside : Format} → IsLengthField field.spells field.width → ((a : List ℕ) (n : ℕ) → field.spells a n → n < field.limit)
