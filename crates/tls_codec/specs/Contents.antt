@@ -1,5 +1,13 @@
 -- What vectors hold, as lists: of bytes behind a variable-length length and behind one of one to four bytes, and of
--- elements.
-pub use Rattle.tls_codec_vl.specs.Contents.{bytes_of}
+-- elements; and the types of these vectors.
+pub use Rattle.tls_codec_vl.specs.Contents.{bytes_of, vec_bytes_of, secret_bytes_of, secret_vec_bytes_of}
 pub use Rattle.tls_codec_bytes.specs.Contents.{bytes_of as fixed_bytes_of}
 pub use Rattle.tls_codec_vec.specs.Contents.{elements_of}
+pub use Rattle.tls_codec_secret.specs.Contents.{elements_of as secret_elements_of}
+pub use Rattle.tls_codec_vl.specs.declared.vl_bytes.VLBytes.{VLBytes}
+pub use Rattle.tls_codec_vl.specs.declared.vl_byte_vec.VLByteVec.{VLByteVec}
+pub use Rattle.tls_codec_vl.specs.declared.secret_vl_bytes.SecretVLBytes.{SecretVLBytes}
+pub use Rattle.tls_codec_vl.specs.declared.secret_vl_byte_vec.SecretVLByteVec.{SecretVLByteVec}
+pub use Rattle.tls_codec_bytes.specs.declared.bytes.TlsByteVec.{TlsByteVec}
+pub use Rattle.tls_codec_vec.specs.declared.list.TlsVec.{TlsVec}
+pub use Rattle.tls_codec_secret.specs.declared.list.SecretTlsVec.{SecretTlsVec}

@@ -7,8 +7,10 @@
 //! - [`leaf`]: [`Leaf`], a struct of two fields.
 //! - [`step`]: [`Step`], an enum with a tag of one byte.
 //! - [`log`]: [`Log`], a struct of the two.
+//! - [`laws`]: equality, hash and order of the vectors that messages are made of.
 #![tactic(auto)]
 
+pub mod laws;
 pub mod leaf;
 pub mod log;
 pub mod step;
