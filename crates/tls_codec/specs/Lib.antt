@@ -1,2 +1,3 @@
 pub mod Contents
+pub mod Devices
 pub use Rattle.tls_codec_base.specs.OwnMessages

@@ -8,15 +8,26 @@
 //! - [`step`]: [`Step`], an enum with a tag of one byte.
 //! - [`log`]: [`Log`], a struct of the two.
 //! - [`laws`]: equality, hash and order of the vectors that messages are made of.
+//!
+//! Beside them stand devices for tests, which show how a device of one's own is proved:
+//!
+//! - [`drip`]: [`Drip`], a source of one byte a call. [`trickle`]: [`Trickle`], such a sink.
+//! - [`failing`]: [`Failing`], a device of which some calls fail.
 #![tactic(auto)]
 
+pub mod drip;
+pub mod failing;
 pub mod laws;
 pub mod leaf;
 pub mod log;
 pub mod step;
 #[cfg(test)]
 mod tests;
+pub mod trickle;
 
+pub use drip::Drip;
+pub use failing::Failing;
 pub use leaf::Leaf;
 pub use log::Log;
 pub use step::Step;
+pub use trickle::Trickle;

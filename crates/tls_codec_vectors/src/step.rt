@@ -1,4 +1,5 @@
 //! [`Step`], a tag and what its variant has behind it.
+ghost use Rattle.std.specs.Prelude.{◌≡◌};
 ghost use Rattle.tls_codec_vectors.specs.Messages.{step_format, step_meets, step_plain};
 ghost use Rattle.tls_codec.specs.OwnMessages.{no_variant_names, no_variant_source_names, nothing_names, nothing_source_names, tagged_names, tagged_source_names, variant_names, variant_source_names};
 
@@ -10,6 +11,13 @@ const PING: u8 = 0;
 const NOTE: u8 = 1;
 
 const JUMP: u8 = 2;
+
+// The refusal of a tag that no step has.
+fn unknown(tag: u8) -> Error
+    ensures { result ≡ Error.UnknownValue tag }
+{
+    Error::UnknownValue(u64::from(tag))
+}
 
 /// What to do next: the tag 0, the tag 1 and a text behind a variable-length length, or the tag 2 and a
 /// number of four bytes.
@@ -80,7 +88,7 @@ impl Deserialize for Step {
                 let to = u32::tls_deserialize(alloc, src)?;
                 Ok(Step::Jump(to))
             }
-            _ => Err(Error::UnknownValue(u64::from(tag))),
+            _ => Err(unknown(tag)),
         }
     }
 }
@@ -106,7 +114,7 @@ impl DeserializeBytes for Step {
                 let (to, rest) = u32::tls_deserialize_bytes(alloc, rest)?;
                 Ok((Step::Jump(to), rest))
             }
-            _ => Err(Error::UnknownValue(u64::from(tag))),
+            _ => Err(unknown(tag)),
         }
     }
 }

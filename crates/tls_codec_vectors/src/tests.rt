@@ -1,4 +1,8 @@
-// Rows of the messages, by each call.
+//! Rows of the messages by each call, of the devices, and of bytes and devices that fail.
+mod devices;
+mod drips;
+mod lying_lengths;
+
 use crate::{Leaf, Log, Step};
 use std::alloc::Global;
 use std::process::Abort;
@@ -6,6 +10,21 @@ use std::test::Fail;
 use tls_codec::{
     Deserialize, DeserializeBytes, Error, Serialize, Size, TlsByteVecU8, TlsVecU16, VLBytes,
 };
+
+// The worked log.
+const LOG: [u8; 14] = [1, 0xab, 0, 4, 0, 1, 1, 7, 1, 2, 0, 0, 0, 5];
+
+// A number, a list and a text.
+const MIXED: [u8; 10] = [7, 4, 0, 1, 0, 2, 1, 2, 0xc3, 0xa9];
+
+fn worked_log(alloc: Global) -> Result<Log, Fail> {
+    let name = VLBytes::from_array(alloc, &[7])?;
+    Ok(Log {
+        id: TlsByteVecU8::from_slice(alloc, &[0xab])?,
+        leaves: TlsVecU16::new(Vec::from_array(alloc, [Leaf { code: 1, name }])?),
+        last: Some(Step::Jump(5)),
+    })
+}
 
 // The value is announced and written as these bytes, also behind what a vector has, and both paths read
 // it of them with a byte behind, which they leave.
@@ -86,14 +105,7 @@ fn logs(rt: HostRuntime) -> Result<(), Fail> {
         last: None,
     };
     is_spelled(&rt, alloc, &empty, &[0, 0, 0, 0])?;
-    let name = VLBytes::from_array(alloc, &[7])?;
-    let log = Log {
-        id: TlsByteVecU8::from_slice(alloc, &[0xab])?,
-        leaves: TlsVecU16::new(Vec::from_array(alloc, [Leaf { code: 1, name }])?),
-        last: Some(Step::Jump(5)),
-    };
-    let bytes = [1, 0xab, 0, 4, 0, 1, 1, 7, 1, 2, 0, 0, 0, 5];
-    is_spelled(&rt, alloc, &log, &bytes)?;
+    is_spelled(&rt, alloc, &worked_log(alloc)?, &LOG)?;
     is_refused::<Log>(&rt, alloc, &[0, 0, 2, 0], Error::EndOfStream);
     is_refused::<Log>(&rt, alloc, &[0, 0, 0, 1, 7], Error::UnknownValue(7));
     Ok(())

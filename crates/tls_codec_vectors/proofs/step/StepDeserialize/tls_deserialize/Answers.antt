@@ -30,9 +30,9 @@ returns-in_ok-to-in-2-clause-reads g c =
     tagged_given u8_meets step_variants_meet source.gives_in_order c.in_ok-tag.ensures.reads c.in-2.is (part_given source.gives_in_order source.gives_nothing c.in_ok-to-in-2.ensures.reads)
 
 pub returns-in_default-clause-reads : goal.returns-in_default-clause-reads
-returns-in_default-clause-reads g c = tagged_leaves_unknown u8_meets step_variants_meet g.met.R.Source.gives_from_front c.in_ok-tag.ensures.reads (search rules)
+returns-in_default-clause-reads g c = let is = c.unknown.ensures in rw is (tagged_leaves_unknown u8_meets step_variants_meet g.met.R.Source.gives_from_front c.in_ok-tag.ensures.reads (search rules))
 
 pub returns-in_default-clause-named : goal.returns-in_default-clause-named
 returns-in_default-clause-named g c =
     let source = g.met.R.Source in
-    unknown_named_source _ _ _ source.gives_from_front source.no_count_falls c.in_ok-tag.ensures.reads (search rules)
+    let is = c.unknown.ensures in rw is (unknown_named_source _ _ _ source.gives_from_front source.no_count_falls c.in_ok-tag.ensures.reads (search rules))

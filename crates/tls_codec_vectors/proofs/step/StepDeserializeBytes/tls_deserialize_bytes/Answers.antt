@@ -20,4 +20,4 @@ pub returns-in_ok-to-in-2-clause-splits : goal.returns-in_ok-to-in-2-clause-spli
 returns-in_ok-to-in-2-clause-splits c = tagged_begins u8_meets step_variants_meet c.in_ok-tag.ensures.splits c.in-2.is (part_begins c.in_ok-to-in-2.ensures.splits)
 
 pub returns-in_default-clause-splits : goal.returns-in_default-clause-splits
-returns-in_default-clause-splits c = tagged_refuses_unknown u8_meets step_variants_meet c.in_ok-tag.ensures.splits (search rules)
+returns-in_default-clause-splits c = let is = c.unknown.ensures in rw is (tagged_refuses_unknown u8_meets step_variants_meet c.in_ok-tag.ensures.splits (search rules))

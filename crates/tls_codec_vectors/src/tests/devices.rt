@@ -1,0 +1,103 @@
+//! Devices that move one byte a call, and fail.
+use super::{LOG, worked_log};
+use crate::{Drip, Failing, Log, Trickle};
+use std::test::Fail;
+use tls_codec::{Deserialize, DeserializeBytes, Error, Fault, Serialize, TlsByteVecU16, write_all};
+
+const READ_FAILED: Error = Error::DecodingError("read failed");
+
+const WRITE_FAILED: Error = Error::EncodingError("write failed");
+
+#[test]
+fn a_trickle_appends(rt: HostRuntime) -> Result<(), Fail> {
+    let alloc = rt.alloc();
+    let mut sink = Trickle::new(vec![in alloc; 0u8; 32]?);
+    write_all(&mut sink, &[0, 1, 2])?;
+    let mut whole = vec![in alloc; 0u8; 32]?;
+    whole.extend_from_slice(&[0, 1, 2])?;
+    assert_eq!(rt; sink.into_inner().as_slice(), whole.as_slice());
+    Ok(())
+}
+
+// Behind the bytes of the log no call is made, so that a fault at the fifteenth never comes.
+#[test]
+fn a_log_from_a_source_that_fails(rt: HostRuntime) -> Result<(), Fail> {
+    let alloc = rt.alloc();
+    let log = worked_log(alloc)?;
+    for (fault, times, error) in [
+        (Fault::Failed, 1, Some(READ_FAILED)),
+        (Fault::NoMemory, 1, Some(Error::OutOfMemory)),
+        (Fault::Interrupted, 16, None),
+        (Fault::Interrupted, 17, Some(READ_FAILED)),
+    ] {
+        for at in 1..16u64 {
+            let mut source = Failing::new(Drip::new(&LOG), at, times, fault);
+            let found = Log::tls_deserialize(alloc, &mut source);
+            let counted = (
+                source.failures(),
+                source.interruptions(),
+                source.shortages(),
+            );
+            let came = if at < 15 { times } else { 0 };
+            let counts = match fault {
+                Fault::Failed => (came, 0, 0),
+                Fault::Interrupted => (0, came, 0),
+                Fault::NoMemory => (0, 0, came),
+            };
+            assert_eq!(rt; counted, counts, "at {at}");
+            match found {
+                Ok(found) => assert!(rt; found == log && (at == 15 || error.is_none()), "at {at}"),
+                Err(found) => assert_eq!(rt; Some(found), error, "at {at}"),
+            }
+        }
+    }
+    Ok(())
+}
+
+#[test]
+fn a_log_into_a_sink_that_fails(rt: HostRuntime) -> Result<(), Fail> {
+    let alloc = rt.alloc();
+    let log = worked_log(alloc)?;
+    for (fault, error) in [
+        (Fault::Failed, WRITE_FAILED),
+        (Fault::NoMemory, Error::OutOfMemory),
+    ] {
+        for sent in 0..14 {
+            let trickle = Trickle::new(Vec::new(alloc));
+            let mut sink = Failing::new(trickle, sent as u64 + 1, 1, fault);
+            assert_eq!(rt; log.tls_serialize(&mut sink), Err(error));
+            let received = sink.into_inner().into_inner();
+            assert_eq!(rt; received.as_slice(), &LOG[..sent]);
+            assert!(rt; Log::tls_deserialize_bytes(alloc, received.as_slice()).is_err());
+            let mut source = received.as_slice();
+            assert!(rt; Log::tls_deserialize(alloc, &mut source).is_err());
+        }
+    }
+    Ok(())
+}
+
+#[test]
+fn a_pair_into_a_sink_that_fails_at_its_fourth_call(rt: HostRuntime) -> Result<(), Fail> {
+    let alloc = rt.alloc();
+    let mut sink = Failing::new(Trickle::new(Vec::new(alloc)), 4, 1, Fault::Failed);
+    let pair = (1u8, TlsByteVecU16::from_slice(alloc, &[9, 8])?);
+    assert_eq!(rt; pair.tls_serialize(&mut sink), Err(WRITE_FAILED));
+    let received = sink.into_inner().into_inner();
+    assert_eq!(rt; received.as_slice(), [1, 0, 2].as_slice());
+    Ok(())
+}
+
+#[test]
+fn a_number_behind_interruptions(rt: HostRuntime) {
+    let alloc = rt.alloc();
+    for (times, number) in [(16, Ok(5)), (17, Err(READ_FAILED))] {
+        let mut source = Failing::new([5u8].as_slice(), 1, times, Fault::Interrupted);
+        assert_eq!(rt; u8::tls_deserialize(alloc, &mut source), number);
+        assert_eq!(rt; source.interruptions(), times);
+    }
+    let inner = Failing::new(Drip::new(&[0, 7]), 2, 16, Fault::Interrupted);
+    let mut outer = Failing::new(inner, 1, 16, Fault::Interrupted);
+    assert_eq!(rt; u16::tls_deserialize(alloc, &mut outer), Ok(7));
+    assert_eq!(rt; outer.interruptions(), 16);
+    assert_eq!(rt; outer.into_inner().interruptions(), 16);
+}
