@@ -1,6 +1,7 @@
-//! Rows of the messages by each call, of the devices, and of bytes and devices that fail.
+//! Rows of the messages by each call, of the devices, of bytes and devices that fail, and of the laws.
 mod devices;
 mod drips;
+mod laws;
 mod lying_lengths;
 
 use crate::{Leaf, Log, Step};

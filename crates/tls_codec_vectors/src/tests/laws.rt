@@ -1,0 +1,139 @@
+// What the laws say, seen at messages and at vectors.
+use crate::laws::{
+    byte_vectors_are_ordered_as_lists_of_bytes, equal_byte_vectors_have_equal_hashes,
+    equal_secret_vectors_have_equal_hashes, equal_vectors_have_equal_hashes,
+};
+use crate::{Leaf, Log};
+use std::hash::{DefaultHasher, Hash, Hasher};
+use std::process::Abort;
+use std::test::Fail;
+use tls_codec::laws::{
+    equal_bytes_have_equal_spellings, forms_cut_short_have_no_spelling,
+    lists_are_spelled_where_their_elements_fit, shortest_forms_are_read_back,
+    shortest_forms_have_the_fewest_bytes, spellings_are_prefix_free,
+};
+use tls_codec::{
+    Deserialize, DeserializeBytes, Error, SecretTlsVecU8, SecretVLBytes, Serialize, TlsByteVecU16,
+    TlsVecU8, TlsVecU16, VLByteVec, VLBytes,
+};
+
+#[test]
+fn no_prefix_of_a_log_is_read(rt: HostRuntime) {
+    spellings_are_prefix_free::<Log>();
+    forms_cut_short_have_no_spelling::<Log>();
+    let alloc = rt.alloc();
+    let log = [1, 0xab, 0, 4, 0, 1, 1, 7, 1, 2, 0, 0, 0, 5];
+    for end in 0..log.len() {
+        let mut source = &log[..end];
+        assert!(rt; Log::tls_deserialize(alloc, &mut source).is_err());
+        assert!(rt; Log::tls_deserialize_bytes(alloc, &log[..end]).is_err());
+    }
+    assert!(rt; Log::tls_deserialize_exact_bytes(alloc, &log).is_ok());
+}
+
+// A name's length may have one, two, four or eight bytes.
+#[test]
+fn each_spelling_of_a_leaf_is_read_and_the_shortest_written(rt: HostRuntime) -> Result<(), Fail> {
+    shortest_forms_are_read_back::<Leaf>();
+    shortest_forms_have_the_fewest_bytes::<Leaf>();
+    let alloc = rt.alloc();
+    let form = [0, 1, 1, 7].as_slice();
+    for spelling in [
+        form,
+        &[0, 1, 0x40, 1, 7],
+        &[0, 1, 0x80, 0, 0, 1, 7],
+        &[0, 1, 0xc0, 0, 0, 0, 0, 0, 0, 1, 7],
+    ] {
+        let leaf = Leaf::tls_deserialize_exact_bytes(alloc, spelling)?;
+        assert_eq!(rt; leaf.tls_serialize_detached(alloc)?.as_slice(), form);
+    }
+    let (_, rest) = Leaf::tls_deserialize_bytes(alloc, &[0, 1, 1, 7, 0, 1, 1, 7])?;
+    assert_eq!(rt; rest, form);
+    Ok(())
+}
+
+// At most 255 bytes stand behind one byte of length. Units are written as no bytes, which are read as an
+// empty list.
+#[test]
+fn lists_that_fit_are_written_and_read(rt: HostRuntime) -> Result<(), Fail> {
+    lists_are_spelled_where_their_elements_fit::<u8, u16>();
+    let alloc = rt.alloc();
+    let list = TlsVecU8::new(vec![in alloc; 7u16; 127]?);
+    let form = list.tls_serialize_detached(alloc)?;
+    assert_eq!(rt; form.len(), 255);
+    assert!(rt; TlsVecU8::tls_deserialize_exact_bytes(alloc, &form)? == list);
+    let long = TlsVecU8::new(vec![in alloc; 7u16; 128]?);
+    assert_eq!(rt;
+        long.tls_serialize_detached(alloc).err(),
+        Some(Error::InvalidVectorLength)
+    );
+    let units = TlsVecU8::new(vec![in alloc; (); 2]?);
+    assert_eq!(rt;
+        units.tls_serialize_detached(alloc)?.as_slice(),
+        [0].as_slice()
+    );
+    assert!(rt; TlsVecU8::<()>::tls_deserialize_exact_bytes(alloc, &[0])?.is_empty());
+    Ok(())
+}
+
+#[test]
+fn equal_bytes_are_written_alike(rt: HostRuntime) -> Result<(), Fail> {
+    equal_bytes_have_equal_spellings::<u16>();
+    let alloc = rt.alloc();
+    let bytes = TlsByteVecU16::from_slice(alloc, &[5, 6])?;
+    let list = TlsVecU16::from_slice(alloc, &[5u8, 6])?;
+    let form = [0, 2, 5, 6].as_slice();
+    assert_eq!(rt; bytes.tls_serialize_detached(alloc)?.as_slice(), form);
+    assert_eq!(rt; list.tls_serialize_detached(alloc)?.as_slice(), form);
+    Ok(())
+}
+
+fn hash_of<T: Hash>(value: &T) -> u64 {
+    let mut state = DefaultHasher::new();
+    value.hash(&mut state);
+    state.finish()
+}
+
+fn are_alike<T: Eq + Hash>(rt: &impl Abort, one: &T, other: &T) {
+    assert!(rt; one == other);
+    assert_eq!(rt; hash_of(one), hash_of(other));
+}
+
+// One of each pair grew element by element.
+#[test]
+fn equal_vectors_are_hashed_alike(rt: HostRuntime) -> Result<(), Fail> {
+    equal_vectors_have_equal_hashes::<u8, VLBytes>();
+    equal_secret_vectors_have_equal_hashes::<u8, u16>();
+    equal_byte_vectors_have_equal_hashes::<u16>();
+    let alloc = rt.alloc();
+    let mut list = TlsVecU8::from_slice(alloc, &[1u16])?;
+    list.push(2)?;
+    are_alike(&rt, &list, &TlsVecU8::from_slice(alloc, &[1, 2])?);
+    let mut secret = SecretTlsVecU8::from_slice(alloc, &[1u16])?;
+    secret.push(2)?;
+    are_alike(&rt, &secret, &SecretTlsVecU8::from_slice(alloc, &[1, 2])?);
+    let mut bytes = VLBytes::from_slice(alloc, &[1])?;
+    bytes.push(2)?;
+    are_alike(&rt, &bytes, &VLBytes::from_slice(alloc, &[1, 2])?);
+    let mut secret = SecretVLBytes::from_slice(alloc, &[1])?;
+    secret.push(2)?;
+    are_alike(&rt, &secret, &SecretVLBytes::from_slice(alloc, &[1, 2])?);
+    Ok(())
+}
+
+// The first byte in which they differ decides, and else the shorter one is less.
+#[test]
+fn byte_vectors_have_the_order_of_their_bytes(rt: HostRuntime) -> Result<(), Fail> {
+    byte_vectors_are_ordered_as_lists_of_bytes();
+    let alloc = rt.alloc();
+    for (low, high) in [
+        ([].as_slice(), [0].as_slice()),
+        (&[0], &[0, 0]),
+        (&[0, 0xff], &[1]),
+        (&[1, 0], &[1, 1]),
+    ] {
+        assert!(rt; VLBytes::from_slice(alloc, low)? < VLBytes::from_slice(alloc, high)?);
+        assert!(rt; VLByteVec::from_slice(alloc, low)? < VLByteVec::from_slice(alloc, high)?);
+    }
+    Ok(())
+}
