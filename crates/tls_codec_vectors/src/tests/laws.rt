@@ -8,8 +8,10 @@ use std::hash::{DefaultHasher, Hash, Hasher};
 use std::process::Abort;
 use std::test::Fail;
 use tls_codec::laws::{
-    equal_bytes_have_equal_spellings, forms_cut_short_have_no_spelling,
-    lists_are_spelled_where_their_elements_fit, shortest_forms_are_read_back,
+    equal_bytes_have_equal_spellings, formats_are_lawful, forms_cut_short_have_no_spelling,
+    integers_of_the_least_width_are_least, just_the_rest_is_to_come,
+    lists_are_spelled_where_their_elements_fit, long_contents_are_too_long,
+    shortest_contents_are_in_a_row, shortest_forms_are_read_back,
     shortest_forms_have_the_fewest_bytes, spellings_are_prefix_free,
 };
 use tls_codec::{
@@ -21,6 +23,7 @@ use tls_codec::{
 fn no_prefix_of_a_log_is_read(rt: HostRuntime) {
     spellings_are_prefix_free::<Log>();
     forms_cut_short_have_no_spelling::<Log>();
+    formats_are_lawful::<Leaf, Log>();
     let alloc = rt.alloc();
     let log = [1, 0xab, 0, 4, 0, 1, 1, 7, 1, 2, 0, 0, 0, 5];
     for end in 0..log.len() {
@@ -36,6 +39,8 @@ fn no_prefix_of_a_log_is_read(rt: HostRuntime) {
 fn each_spelling_of_a_leaf_is_read_and_the_shortest_written(rt: HostRuntime) -> Result<(), Fail> {
     shortest_forms_are_read_back::<Leaf>();
     shortest_forms_have_the_fewest_bytes::<Leaf>();
+    integers_of_the_least_width_are_least();
+    just_the_rest_is_to_come::<Leaf, &[u8]>();
     let alloc = rt.alloc();
     let form = [0, 1, 1, 7].as_slice();
     for spelling in [
@@ -57,6 +62,8 @@ fn each_spelling_of_a_leaf_is_read_and_the_shortest_written(rt: HostRuntime) -> 
 #[test]
 fn lists_that_fit_are_written_and_read(rt: HostRuntime) -> Result<(), Fail> {
     lists_are_spelled_where_their_elements_fit::<u8, u16>();
+    shortest_contents_are_in_a_row::<u16>();
+    long_contents_are_too_long::<u16>();
     let alloc = rt.alloc();
     let list = TlsVecU8::new(vec![in alloc; 7u16; 127]?);
     let form = list.tls_serialize_detached(alloc)?;
