@@ -1,3 +1,4 @@
 pub mod Contents
+pub mod Calls
 pub mod Devices
 pub use Rattle.tls_codec_base.specs.OwnMessages

@@ -1,0 +1,37 @@
+//! `guide [FILE]` reads an extension of MLS from a file, or from standard input, and writes its shortest form to
+//! standard output.
+//!
+//! It is a program as a user of `tls_codec` writes it; docs/GUIDE.md goes through it.
+//!
+//! - [`extension`]: [`Extension`](extension::Extension), a message of one's own.
+//! - [`rewrite`]: [`rewrite`](rewrite::rewrite), from any source to any sink.
+//! - [`chained`]: [`Chained`](chained::Chained), a source of one's own.
+#![tactic(auto)]
+
+pub mod chained;
+pub mod extension;
+pub mod rewrite;
+#[cfg(test)]
+mod tests;
+
+use rewrite::rewrite;
+use std::env;
+use std::fs::File;
+use tls_codec::{Error, Outside};
+
+fn main(rt: HostRuntime) -> Result<(), Error> {
+    let alloc = rt.alloc();
+    let mut output = Outside::new(rt.stdout());
+    let words: Vec<String> = env::args(&rt)?.collect(alloc)?;
+    match words.as_slice() {
+        [_program, path] => {
+            let mut input = Outside::new(File::open(&rt, path.as_str())?);
+            rewrite(alloc, &mut input, &mut output)?;
+        }
+        _ => {
+            let mut input = Outside::new(rt.stdin());
+            rewrite(alloc, &mut input, &mut output)?;
+        }
+    }
+    Ok(())
+}

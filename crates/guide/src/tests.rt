@@ -1,0 +1,32 @@
+// What no contract says: that the calls succeed, over a source that ends anywhere within the message.
+use crate::chained::Chained;
+use crate::rewrite::rewrite;
+use std::test::Fail;
+use tls_codec::Error;
+
+#[test]
+fn an_extension_is_rewritten(rt: HostRuntime) -> Result<(), Fail> {
+    let alloc = rt.alloc();
+    // The length has two bytes where one would do.
+    let bytes = [0, 1, 0x40, 3, 0x61, 0x62, 0x63, 0xee];
+    for at in 0..bytes.len() {
+        let (first, second) = bytes.split_at(at);
+        let mut out = Vec::new(alloc);
+        assert_eq!(rt;
+            rewrite(alloc, &mut Chained::new(first, second), &mut out),
+            Ok(6)
+        );
+        assert_eq!(rt; out.as_slice(), [0, 1, 3, 0x61, 0x62, 0x63].as_slice());
+        let mut out = Vec::new(alloc);
+        let cut_off = if at < 7 {
+            Err(Error::EndOfStream)
+        } else {
+            Ok(6)
+        };
+        assert_eq!(rt;
+            rewrite(alloc, &mut Chained::new(first, &[]), &mut out),
+            cut_off
+        );
+    }
+    Ok(())
+}

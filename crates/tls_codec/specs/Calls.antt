@@ -1,0 +1,6 @@
+-- What calls return, and what contracts see of the sources and sinks that they are given: for contracts of one's own.
+pub use Rattle.tls_codec_wire.specs.declared.device.Sink.{Ghosts as SinkGhosts}
+pub use Rattle.tls_codec_wire.specs.declared.device.Source.{Ghosts as SourceGhosts}
+pub use Rattle.tls_codec_wire.specs.declared.error.Error.{Error}
+pub use Rattle.tls_codec_grammar.specs.Decoding.{LeavesSource, Reads, ReadsWhole, Splits}
+pub use Rattle.tls_codec_grammar.specs.Encoding.{AppendsForm, Makes, Writes}
