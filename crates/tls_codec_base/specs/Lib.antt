@@ -1,3 +1,4 @@
+pub mod WholeElements
 pub mod Turns
 pub mod Refusals
 pub mod Runs

@@ -1,5 +1,5 @@
 -- Numbers of one width in a row, read at once.
-use Rattle.std.specs.Prelude.{◌≡◌, ◌%◌, ◌/◌, ℕ, List, length, Option, None, Some, Result, Ok, Err, Vec}
+use Rattle.std.specs.Prelude.{◌≡◌, ◌%◌, ℕ, List, length, Option, None, Some, Result, Ok, Err, Vec}
 use Rattle.std.specs.Global.{Global}
 use Rattle.tls_codec_wire.specs.Bounded.{inner_of, limit_of}
 use Rattle.tls_codec_wire.specs.Digits.{AreBytes}
@@ -7,31 +7,30 @@ use Rattle.tls_codec_wire.specs.Transfer.{ReadRefused}
 use Rattle.tls_codec_wire.specs.declared.bounded.Bounded.{Bounded}
 use Rattle.tls_codec_wire.specs.declared.device.Source.{Ghosts}
 use Rattle.tls_codec_wire.specs.declared.error.Error.{Error}
-use Rattle.tls_codec_base.specs.declared.lists.Turns.{Turns}
 use Rattle.tls_codec_grammar.specs.Format.{content_format, number_format, sized_format}
 use Rattle.tls_codec_grammar.specs.Decoding.{LeavesSource}
 use Rattle.tls_codec_base.specs.Refusals.{SourceNames, elements_source_names}
-use Rattle.tls_codec_base.specs.Turns.{TurnedBy}
+use Rattle.tls_codec_base.specs.Turns.{RefusedAtOnce}
 
 -- which errors a number of k bytes names
 abbrev pub number_source_names : ℕ → SourceNames
 number_source_names k coming old new e = ReadRefused e k coming old new
 
--- the source gave these bytes up to its limit: whole numbers of k bytes, each of which took a turn
-pub record GaveRun {S : Type 0} (k : ℕ) (source : Ghosts S) (old new : Bounded S) (before after : Turns) (digits : List ℕ) : Type 0 where
+-- the source gave these bytes up to its limit: whole numbers of k bytes
+pub record GaveRun {S : Type 0} (k : ℕ) (source : Ghosts S) (old new : Bounded S) (digits : List ℕ) : Type 0 where
   pub held : source.given (inner_of old) digits (inner_of new)
   pub fills : length digits ≡ limit_of old
   pub whole : length digits % k ≡ 0
   pub bytes : AreBytes digits
-  pub turned : TurnedBy (length digits / k) before after
 
 -- why it didn't
 pub record RefusesRun {S : Type 0} (k : ℕ) (source : Ghosts S) (old new : Bounded S) (e : Error) : Type 0 where
   pub leaves : LeavesSource (sized_format (limit_of old) (content_format (number_format k))) source (inner_of old) (inner_of new) e
   pub named : elements_source_names (number_format k) (number_source_names k) (limit_of old) (source.coming (inner_of old)) (source.counts (inner_of old)) (source.counts (inner_of new)) e
+  pub at_once : RefusedAtOnce (source.coming (inner_of old)) (source.counts (inner_of old)) (source.counts (inner_of new)) e
 
 -- the bytes that fill what a source may still give; or none, and nothing was taken
-abbrev pub ReadsRun : {S : Type 0} → ℕ → Ghosts S → Bounded S → Bounded S → Turns → Turns → Result (Option (Vec ℕ Global)) Error → Type 0
-ReadsRun k source old new before after (Ok (Some digits)) = GaveRun k source old new before after digits.items
-ReadsRun k source old new before after (Ok None) = (new ≡ old) × (after ≡ before)
-ReadsRun k source old new before after (Err e) = RefusesRun k source old new e
+abbrev pub ReadsRun : {S : Type 0} → ℕ → Ghosts S → Bounded S → Bounded S → Result (Option (Vec ℕ Global)) Error → Type 0
+ReadsRun k source old new (Ok (Some digits)) = GaveRun k source old new digits.items
+ReadsRun k source old new (Ok None) = new ≡ old
+ReadsRun k source old new (Err e) = RefusesRun k source old new e

@@ -1,7 +1,12 @@
 -- How often a list engine tried to read an element.
-use Rattle.std.specs.Prelude.{◌≡◌, ℕ, ◌+◌, ◌-◌, ◌^◌, List, length, min, Option, None, Some, Result, Ok, Err, Vec, ⊤}
+use Rattle.std.specs.Prelude.{◌≡◌, ◌≤◌, ◌⊎◌, ℕ, ◌+◌, ◌-◌, ◌^◌, List, length, min, take, Option, None, Some, Result, Ok, Err, Vec, ⊤}
 use Rattle.std.specs.Global.{Global}
+use Rattle.tls_codec_wire.specs.Counts.{Counts, FaultIsCounted}
+use Rattle.tls_codec_wire.specs.Device.{Gives}
 use Rattle.tls_codec_wire.specs.declared.error.Error.{Error}
+use Rattle.tls_codec_wire.specs.declared.error.Error.TheVariants.{OutOfMemory}
+use Rattle.tls_codec_grammar.specs.Grammar.{Grammar}
+use Rattle.tls_codec_base.specs.WholeElements.{WholeElements}
 use Rattle.tls_codec_base.specs.declared.lists.Turns.{Turns}
 
 -- the count
@@ -16,8 +21,53 @@ TurnedBy n old new = turns_of new ≡ min (turns_of old + n) (2 ^ 64 - 1)
 abbrev pub TurnedEach : {T : Type 0} → List T → Turns → Turns → Type 0
 TurnedEach xs old new = TurnedBy (length xs) old new
 
--- so they were for elements that were read at once, and where there are none, none was added
+-- n turns were added, or fewer
+pub record TurnedAtMost (n : ℕ) (old new : Turns) : Type 0 where
+  pub more : turns_of old ≤ turns_of new
+  pub most : turns_of new ≤ turns_of old + n
+
+-- ---- elements at once
+
+-- elements that are read at once take a turn each; where there are none, or they are refused, none was added
 abbrev pub TurnedAll : {T : Type 0} → Turns → Turns → Result (Option (Vec T Global)) Error → Type 0
 TurnedAll old new (Ok (Some elements)) = TurnedEach elements.items old new
 TurnedAll old new (Ok None) = new ≡ old
-TurnedAll old new (Err e) = ⊤
+TurnedAll old new (Err e) = new ≡ old
+
+-- it ran out of memory, or a fault was counted
+abbrev pub MemoryOrFault : Counts → Counts → Error → Type 0
+MemoryOrFault before after e = (e ≡ OutOfMemory) ⊎ FaultIsCounted before after
+
+-- where the bytes to come are told, elements are refused at once for no other cause
+abbrev pub RefusedAtOnce : Option (List ℕ) → Counts → Counts → Error → Type 0
+RefusedAtOnce None before after e = ⊤
+RefusedAtOnce (Some x) before after e = MemoryOrFault before after e
+
+-- ---- refused lists
+
+-- a list was refused that was to fill the bytes x: one turn more was added than x has whole elements, or at most that
+-- where it is excused
+pub record TurnedPast (spells : Grammar) (x : List ℕ) (Excused : Type 0) (old new : Turns) : Type 0 where
+  pub at_most : (m : ℕ) → WholeElements spells m x → TurnedAtMost (m + 1) old new
+  pub exactly : Excused ⊎ ((m : ℕ) × WholeElements spells m x × TurnedBy (m + 1) old new)
+
+-- from a slice x, of which it was to fill the first n bytes: excused where it ran out of memory
+abbrev pub TurnedRefused : Grammar → ℕ → List ℕ → Turns → Turns → Error → Type 0
+TurnedRefused spells n x old new e = TurnedPast spells (take n x) (e ≡ OutOfMemory) old new
+
+-- from a source, where the bytes to come are told: excused where a fault was counted, too
+abbrev pub SourceTurnedRefused : Grammar → ℕ → Option (List ℕ) → Counts → Counts → Turns → Turns → Error → Type 0
+SourceTurnedRefused spells n None before after old new e = ⊤
+SourceTurnedRefused spells n (Some x) before after old new e = TurnedPast spells (take n x) (MemoryOrFault before after e) old new
+
+-- ---- at most
+
+-- at most one turn more was added than the smaller of n and the number of the bytes x
+abbrev pub TurnedWithin : ℕ → List ℕ → Turns → Turns → Type 0
+TurnedWithin n x old new = TurnedAtMost (min n (length x) + 1) old new
+
+-- the same of bytes that the source gave, which gave nothing else
+pub record TurnedWithinGiven {S : Type 0} (given : Gives S) (n : ℕ) (a b : S) (old new : Turns) : Type 0 where
+  pub bytes : List ℕ
+  pub held : given a bytes b
+  pub within : TurnedWithin n bytes old new

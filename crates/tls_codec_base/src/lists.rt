@@ -5,14 +5,17 @@
 ghost use Rattle.std.specs.Prelude.{◌≡◌, ◌<◌, ◌^◌};
 
 mod reading;
+mod whole;
 mod writing;
 
 pub use reading::{from_reader, from_slice};
+pub use whole::whole_elements_are_one_number;
 pub use writing::{append, append_bytes, content_len, write};
 
 /// How often a list engine tried to read an element.
 ///
-/// It grows by one with each attempt, also with one that is refused, up to `u64::MAX`.
+/// It grows by one with each attempt, also with one that is refused, up to `u64::MAX`; with elements
+/// that are read at once, by their number.
 ///
 /// ```rust
 /// let mut turns = Turns::new();

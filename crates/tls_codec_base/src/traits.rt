@@ -8,7 +8,7 @@ ghost use Rattle.tls_codec_grammar.specs.Tree.{Tree, trees};
 ghost use Rattle.tls_codec_grammar.specs.Format.{Format};
 ghost use Rattle.tls_codec_grammar.specs.Lawful.{MeetsLaws};
 ghost use Rattle.tls_codec_base.specs.Refusals.{elements_source_names};
-ghost use Rattle.tls_codec_base.specs.Turns.{TurnedAll};
+ghost use Rattle.tls_codec_base.specs.Turns.{RefusedAtOnce, TurnedAll};
 ghost use Rattle.tls_codec_grammar.specs.Decoding.{AllGiven, AllRead, Reads, ReadsWhole, Splits};
 ghost use Rattle.tls_codec_grammar.specs.Encoding.{AllSent, AppendsForm, Makes, Writes};
 
@@ -126,7 +126,8 @@ pub trait Deserialize: Size + Drop {
     /// The elements that fill what a source may still give, each of which is a turn; none, and nothing
     /// is taken, where such elements are read one by one.
     ///
-    /// Provided; a type of fixed width may do it at once, and every list then goes through here.
+    /// Provided; a type of fixed width may do it at once, and every list then goes through here. It
+    /// leaves to the engine what is refused for the bytes that come.
     fn tls_read_elements<R: Source>(
         _alloc: Global,
         within: &mut Bounded<R>,
@@ -137,6 +138,7 @@ pub trait Deserialize: Size + Drop {
         ensures named { IfErr result (elements_source_names Self.format names (limit_of within.old)
             (R.coming (inner_of within.old)) (R.counts (inner_of within.old)) (R.counts (inner_of within.new))) }
         ensures turned { TurnedAll turns.old turns.new result }
+        ensures at_once { IfErr result (RefusedAtOnce (R.coming (inner_of within.old)) (R.counts (inner_of within.old)) (R.counts (inner_of within.new))) }
     {
         Ok(None)
     }

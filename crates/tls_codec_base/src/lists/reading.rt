@@ -5,7 +5,7 @@ ghost use Rattle.tls_codec_grammar.specs.Tree.{trees};
 ghost use Rattle.tls_codec_grammar.specs.Format.{content_format, sized_format};
 ghost use Rattle.tls_codec_grammar.specs.Decoding.{Reads, Splits};
 ghost use Rattle.tls_codec_base.specs.Refusals.{elements_names, elements_source_names};
-ghost use Rattle.tls_codec_base.specs.Turns.{TurnedEach};
+ghost use Rattle.tls_codec_base.specs.Turns.{SourceTurnedRefused, TurnedEach, TurnedRefused, TurnedWithin, TurnedWithinGiven};
 
 use crate::lists::Turns;
 use crate::traits::{Deserialize, DeserializeBytes};
@@ -31,6 +31,8 @@ pub fn from_slice<'a, T: DeserializeBytes>(
     ensures splits { Splits (sized_format length (content_format T.format)) (λ elements. trees T.plain elements.items) bytes.now result }
     ensures named { IfErr result (elements_names T.format T.names length bytes.now) }
     ensures turned { IfOk result (λ found. TurnedEach found.0.items turns.old turns.new) }
+    ensures refused { IfErr result (TurnedRefused T.format.spells length bytes.now turns.old turns.new) }
+    ensures bounded { TurnedWithin length bytes.now turns.old turns.new }
     ensures nothing_asked { length ≡ 0 → IsOkAnd result (λ found. (found.0.items ≡ []) × (found.1.now ≡ bytes.now)) × (turns.new ≡ turns.old) }
 {
     if length > 0 && length <= bytes.len() {
@@ -77,6 +79,8 @@ pub fn from_reader<T: Deserialize, R: Source>(
     ensures reads { Reads (sized_format length (content_format T.format)) (λ elements. trees T.plain elements.items) R.Source src.old src.new result }
     ensures named { IfErr result (elements_source_names T.format T.names length (R.coming src.old) (R.counts src.old) (R.counts src.new)) }
     ensures turned { IfOk result (λ elements. TurnedEach elements.items turns.old turns.new) }
+    ensures refused { IfErr result (SourceTurnedRefused T.format.spells length (R.coming src.old) (R.counts src.old) (R.counts src.new) turns.old turns.new) }
+    ensures bounded { TurnedWithinGiven R.given length src.old src.new turns.old turns.new }
     ensures nothing_asked { length ≡ 0 → IsOkAnd result (λ elements. elements.items ≡ []) × (src.new ≡ src.old) × (turns.new ≡ turns.old) }
 {
     let mut within = Bounded::new(src, length as u64);
@@ -95,6 +99,9 @@ fn elements_within<T: Deserialize, R: Source>(
     ensures named { IfErr result (elements_source_names T.format T.names (limit_of within.old)
         (R.coming (inner_of within.old)) (R.counts (inner_of within.old)) (R.counts (inner_of within.new))) }
     ensures turned { IfOk result (λ elements. TurnedEach elements.items turns.old turns.new) }
+    ensures refused { IfErr result (SourceTurnedRefused T.format.spells (limit_of within.old) (R.coming (inner_of within.old))
+        (R.counts (inner_of within.old)) (R.counts (inner_of within.new)) turns.old turns.new) }
+    ensures bounded { TurnedWithinGiven R.given (limit_of within.old) (inner_of within.old) (inner_of within.new) turns.old turns.new }
     ensures nothing_asked { limit_of within.old ≡ 0 → IsOkAnd result (λ elements. elements.items ≡ []) × (inner_of within.new ≡ inner_of within.old) × (turns.new ≡ turns.old) }
 {
     if within.limit() > 0 {
@@ -117,6 +124,9 @@ fn each_within<T: Deserialize, R: Source>(
     ensures named { IfErr result (elements_source_names T.format T.names (limit_of within.old)
         (R.coming (inner_of within.old)) (R.counts (inner_of within.old)) (R.counts (inner_of within.new))) }
     ensures turned { IfOk result (λ elements. TurnedEach elements.items turns.old turns.new) }
+    ensures refused { IfErr result (SourceTurnedRefused T.format.spells (limit_of within.old) (R.coming (inner_of within.old))
+        (R.counts (inner_of within.old)) (R.counts (inner_of within.new)) turns.old turns.new) }
+    ensures bounded { TurnedWithinGiven R.given (limit_of within.old) (inner_of within.old) (inner_of within.new) turns.old turns.new }
     ensures nothing_asked { limit_of within.old ≡ 0 → IsOkAnd result (λ elements. elements.items ≡ []) × (inner_of within.new ≡ inner_of within.old) × (turns.new ≡ turns.old) }
 {
     let mut elements = Vec::new(alloc);

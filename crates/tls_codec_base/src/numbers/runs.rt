@@ -8,7 +8,7 @@ ghost use Rattle.tls_codec_grammar.specs.Grammar.{Reading, content, number};
 ghost use Rattle.tls_codec_grammar.specs.Format.{number_format};
 ghost use Rattle.tls_codec_grammar.specs.Decoding.{AllGiven, AllRead};
 ghost use Rattle.tls_codec_base.specs.Refusals.{elements_source_names};
-ghost use Rattle.tls_codec_base.specs.Turns.{TurnedAll};
+ghost use Rattle.tls_codec_base.specs.Turns.{RefusedAtOnce, TurnedAll};
 ghost use Rattle.tls_codec_base.specs.Runs.{ReadsRun, number_source_names};
 
 use super::groups::HasDigits;
@@ -22,11 +22,10 @@ use tls_codec_wire::{Bounded, Error, Source, read_bytes_bounded};
 pub(crate) fn read_run<R: Source, const K: usize>(
     alloc: Global,
     within: &mut Bounded<R>,
-    turns: &mut Turns,
 ) -> Result<Option<Vec<u8>>, Error>
     requires { 0 < K }
     ensures same { BorrowAlike within.old within.new }
-    ensures run { ReadsRun K R.Source within.old within.new turns.old turns.new result }
+    ensures run { ReadsRun K R.Source within.old within.new result }
 {
     let size = within.at_hand().len();
     if size == 0 || size % K != 0 || within.limit() != size as u64 {
@@ -34,7 +33,6 @@ pub(crate) fn read_run<R: Source, const K: usize>(
     }
     let digits = read_bytes_bounded(alloc, within, size)?;
     see_bytes(&digits);
-    turns.turn_by(size / K);
     Ok(Some(digits))
 }
 
@@ -88,9 +86,12 @@ pub(crate) fn read_elements<T: HasDigits<K>, R: Source, const K: usize>(
     ensures named { IfErr result (elements_source_names (number_format K) (number_source_names K) (limit_of within.old)
         (R.coming (inner_of within.old)) (R.counts (inner_of within.old)) (R.counts (inner_of within.new))) }
     ensures turned { TurnedAll turns.old turns.new result }
+    ensures at_once { IfErr result (RefusedAtOnce (R.coming (inner_of within.old)) (R.counts (inner_of within.old)) (R.counts (inner_of within.new))) }
 {
-    let Some(digits) = read_run::<R, K>(alloc, within, turns)? else {
+    let Some(digits) = read_run::<R, K>(alloc, within)? else {
         return Ok(None);
     };
-    Ok(Some(numbers_of::<T, K>(alloc, &digits)?))
+    let numbers = numbers_of::<T, K>(alloc, &digits)?;
+    turns.turn_by(numbers.len());
+    Ok(Some(numbers))
 }

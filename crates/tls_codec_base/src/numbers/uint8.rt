@@ -73,7 +73,11 @@ impl Deserialize for u8 {
         within: &mut Bounded<R>,
         turns: &mut Turns,
     ) -> Result<Option<Vec<u8>>, Error> {
-        read_run::<R, 1>(alloc, within, turns)
+        let Some(bytes) = read_run::<R, 1>(alloc, within)? else {
+            return Ok(None);
+        };
+        turns.turn_by(bytes.len());
+        Ok(Some(bytes))
     }
 }
 

@@ -1,6 +1,7 @@
 use Rattle.std.proofs.Common.{rules, ◌≡◌, ◌∙◌, ◌++◌, ◌∷◌, [], arith, ap, inl, inr, length, length-append, refl, sym}
 use Rattle.std.proofs.lemmas.Result.{err_from_is_err_and}
 use Rattle.tls_codec_base.proofs.ListSources.{element_named_source, element_refused_source, gave_attempt, given_empty, given_more, none_if_empty_source}
+use Rattle.tls_codec_base.proofs.Turns.{refused_turned_given, turned_within_attempt, turned_within_given, why_refused}
 use Rattle.tls_codec_base.proofs.lists.reading.each_within.Goals as goal
 
 pub returns-in_err-element-clause-reads : goal.returns-in_err-element-clause-reads
@@ -56,3 +57,31 @@ returns-then-limit-before-clause-named g c =
     let source = g.met.R.Source in
     let same = c.limit-before.ensures in
     element_named_source g.T.Size.format g.T.Deserialize.names _ _ source.gives_from_front source.no_count_falls c.elements.invariant.read (omega (arith, c.limit.ensures)) (inr (refl, given_empty c.in_ok-element.ensures.reads (omega (arith, same, c.limit-in-elements.ensures, c.if-limit-before.true))))
+
+pub returns-in_err-element-clause-refused : goal.returns-in_err-element-clause-refused
+returns-in_err-element-clause-refused g c =
+    let source = g.met.R.Source in
+    let p = err_from_is_err_and c.from_residual.result c.from_residual.ensures.1 in
+    rw (p.1, p.2) (refused_turned_given _ _ g.met.T.Size.lawful.spelled _ _ source.gives_from_front source.no_count_falls g.T.Size.plain _ _ c.elements.within c.elements.elements.items _ _ _ _ c.elements.invariant.read (omega (arith, c.elements.invariant.turned, c.turn.ensures)) (why_refused c.in_err-element.ensures.reads.refused))
+
+pub returns-then-limit-before-clause-refused : goal.returns-then-limit-before-clause-refused
+returns-then-limit-before-clause-refused g c =
+    let source = g.met.R.Source in
+    refused_turned_given _ _ g.met.T.Size.lawful.spelled _ _ source.gives_from_front source.no_count_falls g.T.Size.plain _ _ c.elements.within c.elements.elements.items _ _ _ _ c.elements.invariant.read (omega (arith, c.elements.invariant.turned, c.turn.ensures)) (inr (inl (given_empty c.in_ok-element.ensures.reads (omega (arith, c.limit-before.ensures, c.limit-in-elements.ensures, c.if-limit-before.true)))))
+
+pub returns-then-is_err-clause-refused : goal.returns-then-is_err-clause-refused
+returns-then-is_err-clause-refused g c =
+    let source = g.met.R.Source in
+    refused_turned_given _ _ g.met.T.Size.lawful.spelled _ _ source.gives_from_front source.no_count_falls g.T.Size.plain _ _ c.elements.within c.elements.elements.items _ _ _ _ c.elements.invariant.read (omega (arith, c.elements.invariant.turned, c.turn.ensures)) (inl (inl refl))
+
+pub returns-in_err-element-clause-bounded : goal.returns-in_err-element-clause-bounded
+returns-in_err-element-clause-bounded g c = turned_within_attempt g.T.Size.plain g.met.R.Source.gives_in_order c.elements.elements.items 1 c.elements.invariant.read (c.in_err-element.ensures.reads.gave) (omega (arith, c.elements.invariant.turned, c.turn.ensures)) (omega arith)
+
+pub returns-then-limit-before-clause-bounded : goal.returns-then-limit-before-clause-bounded
+returns-then-limit-before-clause-bounded g c = turned_within_attempt g.T.Size.plain g.met.R.Source.gives_in_order c.elements.elements.items 1 c.elements.invariant.read (record { bytes = c.in_ok-element.ensures.reads.front; held = c.in_ok-element.ensures.reads.held }) (omega (arith, c.elements.invariant.turned, c.turn.ensures)) (omega arith)
+
+pub returns-then-is_err-clause-bounded : goal.returns-then-is_err-clause-bounded
+returns-then-is_err-clause-bounded g c = turned_within_attempt g.T.Size.plain g.met.R.Source.gives_in_order c.elements.elements.items 1 c.elements.invariant.read (record { bytes = c.in_ok-element.ensures.reads.front; held = c.in_ok-element.ensures.reads.held }) (omega (arith, c.elements.invariant.turned, c.turn.ensures)) (omega arith)
+
+pub returns-clause-bounded : goal.returns-clause-bounded
+returns-clause-bounded g c = turned_within_given g.T.Size.plain c.elements.elements.items 0 c.elements.invariant.read (omega (arith, c.elements.invariant.turned)) (omega arith)

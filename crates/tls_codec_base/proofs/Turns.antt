@@ -1,0 +1,131 @@
+-- Turns of lists that are refused, and how many there are at most.
+use Rattle.std.proofs.Common.{◌≡◌, Bool, ℕ, ◌+◌, ◌≤◌, ◌⊎◌, List, ◌++◌, length, take, Option, None, Some, inl, inr, sym, ap, subst, ◌∙◌, arith, length-append}
+use Rattle.std.proofs.Math.Seq.{take-append-add}
+use Rattle.std.specs.Io.KnownBytes.{Consumes}
+use Rattle.std.specs.Prelude.{option_map, Ok, Vec}
+use Rattle.std.specs.Global.{Global}
+use Rattle.tls_codec_wire.specs.Bounded.{GaveWithin, first_bytes, inner_of, limit_of}
+use Rattle.tls_codec_wire.specs.Counts.{Counts, NoneFell}
+use Rattle.tls_codec_wire.specs.Device.{Gave, Gives, GivesFromFront, GivesInOrder, NoCountFalls}
+use Rattle.tls_codec_wire.specs.declared.bounded.Bounded.{Bounded}
+use Rattle.tls_codec_wire.specs.declared.device.Source.{Ghosts}
+use Rattle.tls_codec_wire.specs.declared.error.Error.{Error}
+use Rattle.tls_codec_wire.specs.declared.error.Error.TheVariants.{OutOfMemory}
+use Rattle.tls_codec_grammar.specs.Tree.{Tree, trees}
+use Rattle.tls_codec_grammar.specs.Grammar.{Grammar, Reading, content, sized}
+use Rattle.tls_codec_grammar.specs.Lawful.{IsLawful}
+use Rattle.tls_codec_grammar.specs.Decoding.{AllGiven, AllRead, GaveSpelling, NoneComes, Refuses, RefusesSource}
+use Rattle.tls_codec_grammar.specs.Format.{Format}
+use Rattle.tls_codec_grammar.specs.Shortest.{IsHollow}
+use Rattle.tls_codec_grammar.proofs.Sent.{fault_later}
+use Rattle.tls_codec_base.specs.WholeElements.{NoElementBegins}
+use Rattle.tls_codec_base.specs.Turns.{MemoryOrFault, SourceTurnedRefused, TurnedAll, TurnedAtMost, TurnedBy, TurnedEach, TurnedPast, TurnedWithin, TurnedWithinGiven}
+use Rattle.tls_codec_base.specs.declared.lists.Turns.{Turns}
+use Rattle.tls_codec_base.proofs.ListReading.{ReadSoFar}
+use Rattle.tls_codec_base.proofs.ListSources.{GivenSoFar}
+use Rattle.tls_codec_base.proofs.WholeElements.{content_has_bytes, content_is_whole, none_behind_hollow, none_in_fewer, none_of_none, whole_are_most}
+
+-- so many turns and no more
+at_most : {k n : ℕ} {old new : Turns} → TurnedBy k old new → k ≤ n → TurnedAtMost n old new
+at_most {k} {n} {old} {new} turned le = record { more = omega (arith, turned, old.fits); most = omega (arith, turned, le) }
+
+-- the first n bytes are what was read, and those that are left
+taken : (front rest : List ℕ) (n left : ℕ) → length front + left ≡ n → take n (front ++ rest) ≡ front ++ take left rest
+taken front rest n left fills = ap (λ (k : ℕ). take k (front ++ rest)) (sym fills) ∙ take-append-add front rest left
+
+module _ (element : Grammar) (f : Tree → ℕ) (l : IsLawful element f) where
+  -- behind some elements the list is refused where no other one begins, or it is excused
+  turned_past : {T : Type 0} (plain : T → Tree) (front tail : List ℕ) (xs : List T) {Excused : Type 0} {old new : Turns} → content element Reading front (trees plain xs) → TurnedBy (length xs + 1) old new → Excused ⊎ NoElementBegins element tail
+      → TurnedPast element (front ++ tail) Excused old new
+  turned_past plain front tail xs spelled turned cause = record {
+    at_most = λ m w. at_most turned (omega (arith, whole_are_most element f l plain front tail xs m spelled w));
+    exactly = elim cause [
+      | inl excuse ↦ inl excuse
+      | inr none ↦ inr (length xs, content_is_whole plain element front tail xs spelled none, turned)
+    ];
+  }
+
+  -- from a slice
+  pub refused_turned : {T : Type 0} (plain : T → Tree) {x : List ℕ} {n left : ℕ} (xs : List T) {rest : List ℕ} {Excused : Type 0} {old new : Turns} → ReadSoFar element x n left (trees plain xs) rest → TurnedBy (length xs + 1) old new → Excused ⊎ NoElementBegins element (take left rest)
+      → TurnedPast element (take n x) Excused old new
+  refused_turned plain {x} {n} {left} xs {rest} {Excused} {old} {new} p turned cause =
+      let first : take n x ≡ p.front ++ take left rest = ap (take n) p.whole ∙ taken p.front rest n left p.fills in
+      subst (λ (u : List ℕ). TurnedPast element u Excused old new) (sym first) (turned_past plain p.front (take left rest) xs p.spelled turned cause)
+
+  -- from a source
+  refused_turned_source : {T : Type 0} (plain : T → Tree) (coming behind : Option (List ℕ)) (front : List ℕ) (n left : ℕ) (xs : List T) (before after : Counts) (e : Error) (old new : Turns) → Consumes coming behind front → length front + left ≡ n → content element Reading front (trees plain xs) → TurnedBy (length xs + 1) old new
+      → MemoryOrFault before after e ⊎ (IsHollow element ⊎ NoneComes element (option_map (take left) behind)) → SourceTurnedRefused element n coming before after old new e
+  refused_turned_source plain None behind front n left xs before after e old new took fills spelled turned cause = tt
+  refused_turned_source plain (Some x) None front n left xs before after e old new took fills spelled turned cause = absurd took
+  refused_turned_source plain (Some x) (Some rest) front n left xs before after e old new took fills spelled turned cause =
+      refused_turned plain xs (record { front = front; whole = took; fills = fills; spelled = spelled }) turned (elim cause [
+        | inl excuse ↦ inl excuse
+        | inr (inl hollow) ↦ inr (none_behind_hollow element f l (take left rest) hollow)
+        | inr (inr none) ↦ inr (none_of_none none)
+      ])
+
+  module _ {S : Type 0} {given : Gives S} (coming : S → Option (List ℕ)) (counts : S → Counts) (from_front : GivesFromFront given coming) (falls : NoCountFalls given counts) where
+    -- behind some elements the source gives no other one, or the list is excused
+    pub refused_turned_given : {T : Type 0} (plain : T → Tree) (start : S) (n : ℕ) (a : Bounded S) (xs : List T) (after : Counts) (e : Error) (old new : Turns) → GivenSoFar given element start (inner_of a) n (limit_of a) (trees plain xs) → TurnedBy (length xs + 1) old new
+        → MemoryOrFault (counts (inner_of a)) after e ⊎ (IsHollow element ⊎ NoneComes element (first_bytes coming a)) → SourceTurnedRefused element n (coming start) (counts start) after old new e
+    refused_turned_given plain start n a xs after e old new p turned cause =
+        let fell : NoneFell (counts start) (counts (inner_of a)) = falls start p.front (inner_of a) p.held in
+        refused_turned_source plain (coming start) (coming (inner_of a)) p.front n (limit_of a) xs (counts start) after e old new (from_front start p.front (inner_of a) p.held) p.fills p.spelled turned (elim cause [
+          | inl (inl memory) ↦ inl (inl memory)
+          | inl (inr fault) ↦ inl (inr (fault_later (counts start) (counts (inner_of a)) after fell fault))
+          | inr none ↦ inr none
+        ])
+
+-- why a source is refused
+pub why_refused : {element : Grammar} {lean : Bool} {coming : Option (List ℕ)} {before after : Counts} {e : Error} → RefusesSource element lean coming before after e → MemoryOrFault before after e ⊎ (IsHollow element ⊎ NoneComes element coming)
+why_refused r = elim r.cause [
+  | inl none ↦ inr (inr none)
+  | inr (inl fault) ↦ inl (inr fault)
+  | inr (inr memory) ↦ inl (inl memory)
+]
+
+-- or a slice
+pub why_slice_refused : {element : Grammar} {lean : Bool} {x : List ℕ} {e : Error} (left : ℕ) → Refuses element lean x e → (e ≡ OutOfMemory) ⊎ NoElementBegins element (take left x)
+why_slice_refused {element} {lean} {x} left r = elim r.cause [
+  | inl none ↦ inr (none_in_fewer element left x (none_of_none none))
+  | inr memory ↦ inl memory
+]
+
+-- ---- bounds
+
+-- each element that was read has a byte
+pub turned_within : {T : Type 0} (plain : T → Tree) {element : Grammar} {x : List ℕ} {n left : ℕ} (xs : List T) (more : ℕ) {rest : List ℕ} {old new : Turns} → ReadSoFar element x n left (trees plain xs) rest → TurnedBy (length xs + more) old new → more ≤ 1 → TurnedWithin n x old new
+turned_within plain {element} {x} {n} {left} xs more {rest} p turned le =
+    at_most turned (omega (arith, le, content_has_bytes plain element p.front xs p.spelled, p.fills, ap length p.whole, length-append p.front rest))
+
+-- so has each of those that were read at once
+pub at_once_within : {T : Type 0} (f : Format) (plain : T → Tree) (front x : List ℕ) {n : ℕ} (found : Option (Vec T Global)) (elements : Vec T Global) {old new : Turns} → AllRead f plain front (Ok found) → found ≡ Some elements → length front ≡ n → n ≤ length x → TurnedBy (length elements.items) old new → TurnedWithin n x old new
+at_once_within {T} f plain front x found elements p e width fits turned =
+    let spelled : content f.spells Reading front (trees plain elements.items) = subst (λ (o : Option (Vec T Global)). AllRead f plain front (Ok o)) e p in
+    at_most turned (omega (arith, content_has_bytes plain f.spells front elements.items spelled, width, fits))
+
+-- and of those that a source gave
+pub turned_within_given : {T : Type 0} (plain : T → Tree) {S : Type 0} {given : Gives S} {element : Grammar} {start mid : S} {n left : ℕ} (xs : List T) (more : ℕ) {old new : Turns} → GivenSoFar given element start mid n left (trees plain xs) → TurnedBy (length xs + more) old new → more ≤ 1 → TurnedWithinGiven given n start mid old new
+turned_within_given plain {S} {given} {element} {start} {mid} {n} {left} xs more p turned le = record {
+  bytes = p.front;
+  held = p.held;
+  within = at_most turned (omega (arith, le, content_has_bytes plain element p.front xs p.spelled, p.fills));
+}
+
+-- at once, too
+pub at_once_within_given : {T S : Type 0} (f : Format) (plain : T → Tree) (source : Ghosts S) (a b : Bounded S) (found : Option (Vec T Global)) (elements : Vec T Global) {old new : Turns} → AllGiven f plain source a b (Ok found) → found ≡ Some elements → TurnedAll old new (Ok found)
+    → TurnedWithinGiven source.given (limit_of a) (inner_of a) (inner_of b) old new
+at_once_within_given {T} {S} f plain source a b found elements {old} {new} p e all =
+    let turned : TurnedEach elements.items old new = subst (λ (o : Option (Vec T Global)). TurnedAll old new (Ok o)) e all in
+    let gave : GaveSpelling source.given (sized (limit_of a) (content f.spells)) (inner_of a) (inner_of b) (trees plain elements.items) = subst (λ (o : Option (Vec T Global)). AllGiven f plain source a b (Ok o)) e p in
+    let so_far : GivenSoFar source.given f.spells (inner_of a) (inner_of b) (limit_of a) 0 (trees plain elements.items) = record { front = gave.front; held = gave.held; fills = omega (arith, gave.spelled.0); spelled = gave.spelled.1 } in
+    turned_within_given plain elements.items 0 so_far (omega (arith, turned)) (omega arith)
+
+-- and with the attempt at an element more
+pub turned_within_attempt : {T : Type 0} (plain : T → Tree) {S : Type 0} {given : Gives S} → GivesInOrder given → {element : Grammar} {start : S} {n : ℕ} {a b : Bounded S} (xs : List T) (more : ℕ) {old new : Turns} → GivenSoFar given element start (inner_of a) n (limit_of a) (trees plain xs) → Gave (GaveWithin given) a b → TurnedBy (length xs + more) old new → more ≤ 1
+    → TurnedWithinGiven given n start (inner_of b) old new
+turned_within_attempt plain {S} {given} order {element} {start} {n} {a} {b} xs more p q turned le = record {
+  bytes = p.front ++ q.bytes;
+  held = order start p.front (inner_of a) q.bytes (inner_of b) p.held q.held.held;
+  within = at_most turned (omega (arith, le, content_has_bytes plain element p.front xs p.spelled, p.fills, length-append p.front q.bytes));
+}
