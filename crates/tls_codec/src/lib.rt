@@ -30,6 +30,6 @@ pub use tls_codec_slice::{
 pub use tls_codec_vec::{TlsVec, TlsVecU8, TlsVecU16, TlsVecU24, TlsVecU32};
 pub use tls_codec_vl::{SecretVLByteVec, SecretVLBytes, VLByteSlice, VLByteVec, VLBytes, Zeroize};
 pub use tls_codec_wire::{
-    Bounded, Error, Fault, Fill, Outside, Sink, Source, TlsVarInt, U24, read_bytes_bounded,
-    read_exactly, vlen, write_all,
+    Bounded, Error, Fault, Fill, MOST_INTERRUPTIONS, Outside, Sink, Source, TlsVarInt, U24,
+    read_bytes_bounded, read_exactly, vlen, write_all,
 };

@@ -3,8 +3,8 @@ use Rattle.std.specs.Prelude.{◌≡◌, ◌<◌, ◌≤◌, ℕ, ◌+◌, Bool,
 use Rattle.std.specs.Io.KnownBytes.{IsAtEnd}
 use Rattle.hex.specs.Hex.{decode_of}
 use Rattle.hex.specs.declared.error.FromHexError.{FromHexError}
-use Rattle.tls_codec_wire.specs.Counts.{Counts, FaultIsCounted, OnlyInterrupted}
-use Rattle.tls_codec_wire.specs.declared.device.Source.{Ghosts}
+use Rattle.tls_codec.specs.Counts.{Counts, FaultIsCounted, OnlyInterrupted}
+use Rattle.tls_codec.specs.Source.{Ghosts}
 use Rattle.tlsview_run.specs.declared.fault.ViewFault.{ViewFault}
 use Rattle.tlsview_run.specs.declared.fault.ViewFault.TheVariants.{Long, Read, Hex, Memory}
 

@@ -1,11 +1,12 @@
 -- The kinds.
 use Rattle.std.specs.Prelude.{◌≡◌, ℕ, Bool, List, codes}
-use Rattle.tls_codec_grammar.specs.Tree.{Tree}
-use Rattle.tls_codec_grammar.specs.Grammar.{Grammar, number, varint, option, triple, list, fixed_list, text, bytes}
-use Rattle.tlsview_run.specs.Texts.{number_text, option_text, triple_text, list_text, bytes_text}
+use Rattle.tls_codec.specs.Tree.{Tree}
+use Rattle.tls_codec.specs.Grammar.{Grammar, number, varint, option, triple, list, fixed_list, text, bytes}
+use Rattle.tlsview_run.specs.Texts.{number_text, option_text, triple_text, list_text, bytes_text, leaf_text, step_text, log_text}
+use Rattle.tls_codec_vectors.specs.Messages.{leaf_format, step_format, log_format}
 use Rattle.tlsview_run.specs.View.{Views, IsView}
 use Rattle.tlsview_run.specs.declared.kinds.Kind.{Kind}
-use Rattle.tlsview_run.specs.declared.kinds.Kind.TheVariants.{U16, VarInt, OptionU16, VecU8, VecU16, VecVecU16, String, Mixed, VlBytes, VecVlBytes, VecU8U16, ByteVecU32}
+use Rattle.tlsview_run.specs.declared.kinds.Kind.TheVariants.{U16, VarInt, OptionU16, VecU8, VecU16, VecVecU16, String, Mixed, VlBytes, VecVlBytes, VecU8U16, ByteVecU32, Leaf, Step, Log}
 
 -- The table of kinds: something is said of a kind's name, the grammar of its type, and the text of a value.
 abbrev pub OfKind : Kind → (List ℕ → Grammar → (Tree → List ℕ) → Type 0) → Type 0
@@ -21,6 +22,9 @@ OfKind VlBytes Said = Said (codes "vlbytes") bytes bytes_text
 OfKind VecVlBytes Said = Said (codes "vec-vlbytes") (list bytes) (list_text bytes_text)
 OfKind VecU8U16 Said = Said (codes "vecu8-u16") (fixed_list 1 (number 2)) (list_text number_text)
 OfKind ByteVecU32 Said = Said (codes "bytevecu32") (fixed_list 4 (number 1)) bytes_text
+OfKind Leaf Said = Said (codes "leaf") leaf_format.spells leaf_text
+OfKind Step Said = Said (codes "step") step_format.spells step_text
+OfKind Log Said = Said (codes "log") log_format.spells log_text
 
 -- this is the kind's name
 abbrev pub IsNamed : Kind → List ℕ → Type 0

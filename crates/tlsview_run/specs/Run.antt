@@ -1,10 +1,10 @@
 -- What a run reads and prints.
 use Rattle.std.specs.Prelude.{◌≡◌, ◌⊎◌, ℕ, Bool, List, Result, Ok, Err}
 use Rattle.std.specs.Io.KnownBytes.{Appends}
-use Rattle.tls_codec_wire.specs.Counts.{Counts, FaultIsCounted, OnlyInterrupted, RoseBy}
-use Rattle.tls_codec_wire.specs.Device.{Received}
-use Rattle.tls_codec_wire.specs.declared.device.Sink.{Ghosts as SinkGhosts}
-use Rattle.tls_codec_wire.specs.declared.device.Source.{Ghosts as SourceGhosts}
+use Rattle.tls_codec.specs.Counts.{Counts, FaultIsCounted, OnlyInterrupted, RoseBy}
+use Rattle.tls_codec.specs.Device.{Received}
+use Rattle.tls_codec.specs.Sink.{Ghosts as SinkGhosts}
+use Rattle.tls_codec.specs.Source.{Ghosts as SourceGhosts}
 use Rattle.tlsview_run.specs.Input.{GaveAll, StandsFor, IsNoHex, WhyNoText}
 use Rattle.tlsview_run.specs.Kinds.{IsViewOf, NamesKind, NamesNoKind}
 use Rattle.tlsview_run.specs.declared.fault.ViewFault.{ViewFault}

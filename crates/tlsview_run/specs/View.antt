@@ -1,12 +1,12 @@
 -- What is printed of some bytes.
 use Rattle.std.specs.Prelude.{◌≡◌, ◌≢◌, ℕ, Bool, true, false, List, [], ◌∷◌, ◌++◌, codes}
-use Rattle.tls_codec_wire.specs.Names.{name_of}
-use Rattle.tls_codec_wire.specs.declared.error.Error.{Error}
-use Rattle.tls_codec_wire.specs.declared.error.Error.TheVariants.{OutOfMemory}
-use Rattle.tls_codec_grammar.specs.Tree.{Tree}
-use Rattle.tls_codec_grammar.specs.Grammar.{Grammar}
-use Rattle.tls_codec_grammar.specs.Shortest.{IsShortest}
-use Rattle.tls_codec_grammar.specs.Decoding.{Begins, NoneBegins}
+use Rattle.tls_codec.specs.Names.{name_of}
+use Rattle.tls_codec.specs.Error.{Error}
+use Rattle.tls_codec.specs.Error.TheVariants.{OutOfMemory}
+use Rattle.tls_codec.specs.Tree.{Tree}
+use Rattle.tls_codec.specs.Grammar.{Grammar}
+use Rattle.tls_codec.specs.Shortest.{IsShortest}
+use Rattle.tls_codec.specs.Decoding.{Begins, NoneBegins}
 use Rattle.tlsview_run.specs.Texts.{hex_or_dash}
 
 -- ---- lines

@@ -5,7 +5,7 @@ ghost use Rattle.tlsview_run.specs.Endings.{Answers, argument_of, line_of, statu
 use crate::fault::ViewFault;
 use crate::run::run;
 use std::alloc::Global;
-use tls_codec_wire::{Sink, Source, write_all};
+use tls_codec::{Sink, Source, write_all};
 
 /// Runs the kind that the words name, sends the line of a refusal, and returns the exit status.
 ///

@@ -1,14 +1,14 @@
 //! Reading the input, and the bytes that its text stands for.
 ghost use Rattle.std.specs.Prelude.{◌≡◌, ◌<◌, ◌≤◌, [], length, take, IfOk, IfErr, OnOk, OnErr};
 ghost use Rattle.std.specs.Io.KnownBytes.{IsAtEnd};
-ghost use Rattle.tls_codec_wire.specs.Counts.{OnlyInterrupted};
-ghost use Rattle.tls_codec_wire.specs.Device.{Gave};
+ghost use Rattle.tls_codec.specs.Counts.{OnlyInterrupted};
+ghost use Rattle.tls_codec.specs.Device.{Gave};
 ghost use Rattle.tlsview_run.specs.Input.{GaveAll, StandsFor, WhyNoBytes, WhyNoPiece, WhyNoText};
 
 use crate::fault::ViewFault;
 use hex::FromHexError;
 use std::alloc::Global;
-use tls_codec_wire::{Fault, MOST_INTERRUPTIONS, Source};
+use tls_codec::{Fault, MOST_INTERRUPTIONS, Source};
 
 /// The greatest number of bytes that an input may have.
 const LONGEST: usize = 1_048_576;

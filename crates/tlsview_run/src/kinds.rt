@@ -5,10 +5,8 @@ ghost use Rattle.tlsview_run.specs.Kinds.{IsNamed, IsViewBy, NamesNoKind};
 use crate::fault::ViewFault;
 use crate::view::{View, view_of};
 use std::alloc::Global;
-use tls_codec_bytes::TlsByteVecU32;
-use tls_codec_vec::TlsVecU8;
-use tls_codec_vl::VLBytes;
-use tls_codec_wire::TlsVarInt;
+use tls_codec::{TlsByteVecU32, TlsVarInt, TlsVecU8, VLBytes};
+use tls_codec_vectors::{Leaf, Log, Step};
 
 /// A kind.
 #[derive(Clone, Copy)]
@@ -37,6 +35,12 @@ pub enum Kind {
     VecU8U16,
     /// `TlsByteVecU32`.
     ByteVecU32,
+    /// [`Leaf`].
+    Leaf,
+    /// [`Step`].
+    Step,
+    /// [`Log`].
+    Log,
 }
 
 impl Kind {
@@ -57,6 +61,9 @@ impl Kind {
             "vec-vlbytes" => Some(Kind::VecVlBytes),
             "vecu8-u16" => Some(Kind::VecU8U16),
             "bytevecu32" => Some(Kind::ByteVecU32),
+            "leaf" => Some(Kind::Leaf),
+            "step" => Some(Kind::Step),
+            "log" => Some(Kind::Log),
             _ => None,
         }
     }
@@ -79,6 +86,9 @@ impl Kind {
             Kind::VecVlBytes => view_of::<Vec<VLBytes>>(alloc, bytes),
             Kind::VecU8U16 => view_of::<TlsVecU8<u16>>(alloc, bytes),
             Kind::ByteVecU32 => view_of::<TlsByteVecU32>(alloc, bytes),
+            Kind::Leaf => view_of::<Leaf>(alloc, bytes),
+            Kind::Step => view_of::<Step>(alloc, bytes),
+            Kind::Log => view_of::<Log>(alloc, bytes),
         }
     }
 }

@@ -45,7 +45,7 @@ use std::env;
 use std::env::Env;
 use std::io::{ErrorKind, Read, Write};
 use std::process::ExitCode;
-use tls_codec_wire::Outside;
+use tls_codec::Outside;
 
 /// All of `main`: its arguments are those of the process.
 pub fn program<E: Env + AllocGlobal, R: Read + Drop, W: Write + Drop>(

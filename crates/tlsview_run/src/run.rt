@@ -1,13 +1,13 @@
 //! A run, from an input to a sink.
-ghost use Rattle.tls_codec_wire.specs.Counts.{NoneFell};
-ghost use Rattle.tls_codec_wire.specs.Device.{Gave};
+ghost use Rattle.tls_codec.specs.Counts.{NoneFell};
+ghost use Rattle.tls_codec.specs.Device.{Gave};
 ghost use Rattle.tlsview_run.specs.Run.{Runs};
 
 use crate::fault::ViewFault;
 use crate::input::{decode, read_text};
 use crate::kinds::Kind;
 use std::alloc::Global;
-use tls_codec_wire::{Sink, Source, write_all};
+use tls_codec::{Sink, Source, write_all};
 
 /// Reads the input, and prints the view of the bytes that it stands for, by the type of a kind.
 ///

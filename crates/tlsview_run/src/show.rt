@@ -1,14 +1,13 @@
 //! How values are printed.
 ghost use Rattle.std.specs.Prelude.{◌≡◌, ℕ, List, ◌++◌, OnOk, string_bytes};
-ghost use Rattle.tls_codec_grammar.specs.Tree.{Tree, trees, number_trees};
-ghost use Rattle.tlsview_run.specs.Texts.{bytes_text, elements_text, hex_or_dash, list_text, number_text, option_text, triple_text};
+ghost use Rattle.tls_codec.specs.Tree.{Tree, Empty, Join, trees, number_trees};
+ghost use Rattle.tlsview_run.specs.Texts.{bytes_text, elements_text, hex_or_dash, leaf_text, list_text, log_text, number_text, option_text, step_text, triple_text};
 
 use std::alloc::{AllocError, Global};
-use tls_codec_base::{Deserialize, DeserializeBytes, LengthField, Serialize};
-use tls_codec_bytes::TlsByteVec;
-use tls_codec_vec::TlsVec;
-use tls_codec_vl::VLBytes;
-use tls_codec_wire::TlsVarInt;
+use tls_codec::{
+    Deserialize, DeserializeBytes, LengthField, Serialize, TlsByteVec, TlsVarInt, TlsVec, VLBytes,
+};
+use tls_codec_vectors::{Leaf, Log, Step};
 
 /// A type whose values a view prints.
 pub trait Show: Serialize + Deserialize + DeserializeBytes {
@@ -24,11 +23,19 @@ impl Show for u8 {
     ghost text = { number_text };
 
     fn show(&self, alloc: Global, out: &mut String) -> Result<(), AllocError> {
-        u16::from(*self).show(alloc, out)
+        u32::from(*self).show(alloc, out)
     }
 }
 
 impl Show for u16 {
+    ghost text = { number_text };
+
+    fn show(&self, alloc: Global, out: &mut String) -> Result<(), AllocError> {
+        u32::from(*self).show(alloc, out)
+    }
+}
+
+impl Show for u32 {
     ghost text = { number_text };
 
     fn show(&self, _alloc: Global, out: &mut String) -> Result<(), AllocError> {
@@ -62,13 +69,7 @@ impl<T: Show, U: Show, V: Show> Show for (T, U, V) {
     ghost text = { triple_text T.text U.text V.text };
 
     fn show(&self, alloc: Global, out: &mut String) -> Result<(), AllocError> {
-        out.push('(')?;
-        self.0.show(alloc, out)?;
-        out.push(',')?;
-        self.1.show(alloc, out)?;
-        out.push(',')?;
-        self.2.show(alloc, out)?;
-        out.push(')')
+        push_triple(alloc, out, &self.0, &self.1, &self.2)
     }
 }
 
@@ -111,6 +112,64 @@ impl<F: LengthField> Show for TlsByteVec<F> {
     fn show(&self, alloc: Global, out: &mut String) -> Result<(), AllocError> {
         push_hex(alloc, out, self.as_slice())
     }
+}
+
+impl Show for Leaf {
+    ghost text = { leaf_text };
+
+    fn show(&self, alloc: Global, out: &mut String) -> Result<(), AllocError> {
+        out.push('(')?;
+        self.code.show(alloc, out)?;
+        out.push(',')?;
+        self.name.show(alloc, out)?;
+        out.push(')')
+    }
+}
+
+impl Show for Step {
+    ghost text = { step_text };
+
+    fn show(&self, alloc: Global, out: &mut String) -> Result<(), AllocError> {
+        match self {
+            Step::Ping => out.push_str("ping"),
+            Step::Note(text) => {
+                out.push_str("note ")?;
+                text.show(alloc, out)
+            }
+            Step::Jump(to) => {
+                out.push_str("jump ")?;
+                to.show(alloc, out)
+            }
+        }
+    }
+}
+
+impl Show for Log {
+    ghost text = { log_text };
+
+    fn show(&self, alloc: Global, out: &mut String) -> Result<(), AllocError> {
+        push_triple(alloc, out, &self.id, &self.leaves, &self.last)
+    }
+}
+
+/// Appends the texts of three parts, with commas between them, in parentheses.
+fn push_triple<T: Show, U: Show, V: Show>(
+    alloc: Global,
+    out: &mut String,
+    first: &T,
+    second: &U,
+    third: &V,
+) -> Result<(), AllocError>
+    ensures { OnOk result (string_bytes out.new ≡ string_bytes out.old
+        ++ triple_text T.text U.text V.text (Join (T.plain first.now) (Join (U.plain second.now) (Join (V.plain third.now) Empty)))) }
+{
+    out.push('(')?;
+    first.show(alloc, out)?;
+    out.push(',')?;
+    second.show(alloc, out)?;
+    out.push(',')?;
+    third.show(alloc, out)?;
+    out.push(')')
 }
 
 /// Appends the text of a list.

@@ -9,7 +9,7 @@ use devices::{Narrow, Trickle};
 use std::alloc::Global;
 use std::io::ErrorKind;
 use std::test::Fail;
-use tls_codec_wire::Outside;
+use tls_codec::Outside;
 
 // The outcome of a run over a text in memory, and what was printed.
 fn run_on(alloc: Global, kind: &str, mut text: &[u8]) -> (Result<bool, ViewFault>, Vec<u8>) {

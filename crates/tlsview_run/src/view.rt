@@ -1,13 +1,13 @@
 //! The lines that are printed of some bytes.
 ghost use Rattle.std.specs.Prelude.{◌≡◌, ◌≢◌, ◌++◌, IfOk, IfErr, OnOk, codes, string_bytes};
-ghost use Rattle.tls_codec_wire.specs.Names.{name_of};
-ghost use Rattle.tls_codec_wire.specs.declared.error.Error.TheVariants.{OutOfMemory};
+ghost use Rattle.tls_codec.specs.Names.{name_of};
+ghost use Rattle.tls_codec.specs.Error.TheVariants.{OutOfMemory};
 ghost use Rattle.tlsview_run.specs.View.{AppendsLeast, IsView, ok_line, refused_line};
 
 use crate::fault::ViewFault;
 use crate::show::{Show, push_hex};
 use std::alloc::{AllocError, Global};
-use tls_codec_wire::Error;
+use tls_codec::Error;
 
 /// The lines that are printed of some bytes.
 #[derive(Drop)]

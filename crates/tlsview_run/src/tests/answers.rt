@@ -5,7 +5,7 @@ use crate::fault::ViewFault;
 use std::alloc::{AllocError, Global};
 use std::io::ErrorKind;
 use std::test::Fail;
-use tls_codec_wire::Outside;
+use tls_codec::Outside;
 
 // The words of a process, the program's name first.
 fn words_of(alloc: Global, words: &[&str]) -> Result<Vec<String>, AllocError> {

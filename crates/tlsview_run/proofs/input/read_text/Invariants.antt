@@ -1,6 +1,6 @@
 -- What came stands in the text.
 use Rattle.std.proofs.Common.{length, ◌+◌, ◌-◌, ◌≤◌}
-use Rattle.tls_codec_wire.specs.Counts.{OnlyInterrupted}
+use Rattle.tls_codec.specs.Counts.{OnlyInterrupted}
 use Rattle.tlsview_run.specs.Input.{longest}
 use Rattle.tlsview_run.proofs.input.read_text.Given as goal
 
