@@ -1,6 +1,8 @@
--- What vectors hold, as lists: of bytes behind a variable-length length and behind one of one to four bytes, and of
--- elements; and the types of these vectors.
-pub use Rattle.tls_codec_vl.specs.Contents.{bytes_of, vec_bytes_of, secret_bytes_of, secret_vec_bytes_of}
+-- What values hold: the numbers of `U24` and `TlsVarInt`; lists of bytes, behind a variable-length length and behind one of
+-- one to four bytes; lists of elements; and the types of these vectors.
+pub use Rattle.tls_codec_wire.specs.Uint24.{number_of as uint24_of}
+pub use Rattle.tls_codec_wire.specs.VarintValue.{number_of as varint_of}
+pub use Rattle.tls_codec_vl.specs.Contents.{bytes_of, vec_bytes_of, slice_bytes_of, secret_bytes_of, secret_vec_bytes_of}
 pub use Rattle.tls_codec_bytes.specs.Contents.{bytes_of as fixed_bytes_of}
 pub use Rattle.tls_codec_vec.specs.Contents.{elements_of}
 pub use Rattle.tls_codec_secret.specs.Contents.{elements_of as secret_elements_of}
