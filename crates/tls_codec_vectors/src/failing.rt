@@ -1,7 +1,7 @@
 //! [`Failing`], a device of which some calls in a row return a fault.
 ghost use Rattle.std.specs.Prelude.{◌≡◌, ◌<◌, ◌≤◌, ◌↔◌, IsTrue, length, IfOk};
 ghost use Rattle.std.specs.Io.KnownBytes.{Appends, IsAtEnd};
-ghost use Rattle.tls_codec.specs.Devices.{FaultRaises, GiveIsCounted, PullIsCounted, bytes_moved, no_counts};
+ghost use Rattle.tls_codec.specs.Devices.{GiveIsCounted, PullIsCounted, bytes_moved, no_counts};
 ghost use Rattle.tls_codec_vectors.specs.Devices.{Called, FailsAsPlanned, FailsNext, GaveBehind, IsPlanned, calls_of, counts_with, gives_in_order_behind, gives_nothing_behind, inner_of, no_count_falls_behind, own_counts, plan_of};
 
 use tls_codec::{Fault, Sink, Source};

@@ -1,5 +1,5 @@
 //! What each type makes of bytes that come one a call.
-use super::{LOG, worked_log};
+use super::{LOG, MIXED, worked_log};
 use crate::{Drip, Leaf, Log, Step};
 use std::alloc::Global;
 use std::process::Abort;
@@ -103,7 +103,7 @@ fn bytes_and_texts(rt: HostRuntime) -> Result<(), Fail> {
     is_refused::<String>(&rt, alloc, &[3, 0xed, 0xa0, 0x80], no_text);
     let numbers = Vec::from_array(alloc, [1u16, 2])?;
     let mixed = (7u8, numbers, Some(String::from_str(alloc, "é")?));
-    is_dripped(&rt, alloc, &super::MIXED, &mixed, &[])?;
+    is_dripped(&rt, alloc, &MIXED, &mixed, &[])?;
     Ok(())
 }
 
