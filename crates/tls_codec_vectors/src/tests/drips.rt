@@ -84,6 +84,12 @@ fn bytes_and_texts(rt: HostRuntime) -> Result<(), Fail> {
         &Vec::from_array(alloc, [bytes])?,
         &[],
     )?;
+    is_refused::<Vec<VLBytes>>(
+        &rt,
+        alloc,
+        &[2, 5, 0xaa, 0xbb, 0xcc, 0xdd, 0xee],
+        Error::EndOfStream,
+    );
     is_refused::<VLBytes>(&rt, alloc, &[5, 1, 2], Error::EndOfStream);
     is_refused::<VLBytes>(
         &rt,
