@@ -1,1 +1,2 @@
 pub mod Guide
+pub mod Aad

@@ -6,8 +6,10 @@
 //! - [`extension`]: [`Extension`](extension::Extension), a message of one's own.
 //! - [`rewrite`]: [`rewrite`](rewrite::rewrite), from any source to any sink.
 //! - [`chained`]: [`Chained`](chained::Chained), a source of one's own.
+//! - [`aad`]: [`PrivateContentAad`](aad::PrivateContentAad), a message of four fields.
 #![tactic(auto)]
 
+pub mod aad;
 pub mod chained;
 pub mod extension;
 pub mod rewrite;

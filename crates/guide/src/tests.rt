@@ -1,8 +1,9 @@
 // What no contract says: that the calls succeed, over a source that ends anywhere within the message.
+use crate::aad::PrivateContentAad;
 use crate::chained::Chained;
 use crate::rewrite::rewrite;
 use std::test::Fail;
-use tls_codec::Error;
+use tls_codec::{Error, Serialize, Size, VLBytes};
 
 #[test]
 fn an_extension_is_rewritten(rt: HostRuntime) -> Result<(), Fail> {
@@ -28,5 +29,23 @@ fn an_extension_is_rewritten(rt: HostRuntime) -> Result<(), Fail> {
             cut_off
         );
     }
+    Ok(())
+}
+
+#[test]
+fn four_fields_are_written_in_a_row(rt: HostRuntime) -> Result<(), Fail> {
+    let alloc = rt.alloc();
+    let aad = PrivateContentAad {
+        group_id: VLBytes::from_array(alloc, &[0x0a, 0x14])?,
+        epoch: 5,
+        content_type: 1,
+        authenticated_data: VLBytes::from_array(alloc, &[])?,
+    };
+    let bytes = [2, 0x0a, 0x14, 0, 0, 0, 0, 0, 0, 0, 5, 1, 0];
+    assert_eq!(rt; aad.tls_serialized_len(), bytes.len());
+    assert_eq!(rt;
+        aad.tls_serialize_detached(alloc)?.as_slice(),
+        bytes.as_slice()
+    );
     Ok(())
 }
