@@ -1,6 +1,7 @@
 pub mod Contents
 pub mod Calls
 pub mod Devices
+pub mod Errors
 pub use Rattle.tls_codec_base.specs.OwnMessages
 -- Definitions and declared types of the crates below, which contracts of a crate above cite.
 pub use Rattle.tls_codec_wire.specs.Counts
