@@ -11,7 +11,5 @@
 pub mod bytes;
 pub mod coding;
 pub mod laws;
-#[cfg(test)]
-mod tests;
 
 pub use bytes::{TlsByteVec, TlsByteVecU8, TlsByteVecU16, TlsByteVecU24, TlsByteVecU32};

@@ -10,7 +10,5 @@ mod coding;
 mod conversions;
 pub mod laws;
 pub mod list;
-#[cfg(test)]
-mod tests;
 
 pub use list::{SecretTlsVec, SecretTlsVecU8, SecretTlsVecU16, SecretTlsVecU24, SecretTlsVecU32};

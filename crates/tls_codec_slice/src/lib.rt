@@ -9,8 +9,6 @@
 
 pub mod bytes;
 pub mod elements;
-#[cfg(test)]
-mod tests;
 
 pub use bytes::{TlsByteSliceU8, TlsByteSliceU16, TlsByteSliceU24, TlsByteSliceU32};
 pub use elements::{TlsSliceU8, TlsSliceU16, TlsSliceU24, TlsSliceU32};

@@ -12,7 +12,5 @@ mod coding;
 mod conversions;
 pub mod laws;
 pub mod list;
-#[cfg(test)]
-mod tests;
 
 pub use list::{TlsVec, TlsVecU8, TlsVecU16, TlsVecU24, TlsVecU32};

@@ -1,13 +1,12 @@
 //! Encoders into one buffer, each size read back, and a type of which no value has a spelling.
 ghost use Rattle.std.specs.Prelude.{◌≡◌, true};
-ghost use Rattle.tls_codec_wire.specs.declared.error.Error.TheVariants.{InvalidInput};
-ghost use Rattle.tls_codec_grammar.specs.Tree.{Empty};
+ghost use Rattle.tls_codec.specs.Errors.{InvalidInput};
+ghost use Rattle.tls_codec.specs.OwnMessages.{Empty};
 
-use super::each_call::{is_read, is_written_alone};
+use super::each_call::is_spelled_alone;
 use std::alloc::Global;
 use std::test::Fail;
-use tls_codec_base::{Serialize, SerializeBytes, Size, lists, opaque};
-use tls_codec_wire::{Error, Sink, TlsVarInt};
+use tls_codec::{Error, Serialize, SerializeBytes, Sink, Size, lists};
 
 // No bytes spell it, and more are announced than there are.
 #[derive(Drop)]
@@ -112,11 +111,7 @@ fn engines_append(rt: HostRuntime) -> Result<(), Fail> {
         lists::append_bytes(rt.alloc(), &mut out, &[Some(3u8), None]),
         Ok(3)
     );
-    assert_eq!(rt; opaque::append::<TlsVarInt>(&mut out, &[9, 8]), Ok(3));
-    assert_eq!(rt;
-        out.as_slice(),
-        [0xee, 0, 1, 0, 2, 1, 3, 0, 2, 9, 8].as_slice()
-    );
+    assert_eq!(rt; out.as_slice(), [0xee, 0, 1, 0, 2, 1, 3, 0].as_slice());
     Ok(())
 }
 
@@ -129,12 +124,10 @@ fn each_size_is_read_back(rt: HostRuntime) -> Result<(), Fail> {
         let width = if size < 64 { 1 } else { 2 };
         let form = bytes.tls_serialize_detached(alloc)?;
         assert_eq!(rt; form.len(), width + size);
-        is_written_alone(&rt, alloc, &bytes, &form)?;
-        is_read(&rt, alloc, &form, &bytes, &[])?;
+        is_spelled_alone(&rt, alloc, &bytes, &form)?;
         let form = text.tls_serialize_detached(alloc)?;
         assert_eq!(rt; form.len(), width + size);
-        is_written_alone(&rt, alloc, &text, &form)?;
-        is_read(&rt, alloc, &form, &text, &[])?;
+        is_spelled_alone(&rt, alloc, &text, &form)?;
         bytes.push(7u8)?;
         text.push('x')?;
     }

@@ -1,5 +1,6 @@
 //! Byte vectors as messages spell them, and the calls of each type.
 mod calls;
 mod lists;
+mod secrets;
 mod sizes;
 mod spellings;

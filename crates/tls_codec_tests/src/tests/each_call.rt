@@ -1,9 +1,21 @@
 //! What each call makes of a value or of bytes.
-use std::alloc::Global;
+use super::devices::Drip;
+use std::alloc::{AllocError, Global};
+use std::hash::{DefaultHasher, Hash, Hasher};
 use std::process::Abort;
 use std::test::Fail;
-use tls_codec_base::{Deserialize, DeserializeBytes, Serialize, SerializeBytes};
-use tls_codec_wire::Error;
+use tls_codec::{Deserialize, DeserializeBytes, Error, Serialize, SerializeBytes};
+
+// So many bytes of one value.
+pub(super) fn filled(alloc: Global, count: usize, byte: u8) -> Result<Vec<u8>, AllocError> {
+    vec![in alloc; byte; count]
+}
+
+pub(super) fn hash_of<T: Hash>(value: &T) -> u64 {
+    let mut state = DefaultHasher::new();
+    value.hash(&mut state);
+    state.finish()
+}
 
 // The value is announced and written as these bytes, also behind what a vector has.
 pub(super) fn is_written<T: Serialize>(
@@ -43,7 +55,43 @@ pub(super) fn is_written_alone<T: Serialize + SerializeBytes>(
     Ok(())
 }
 
-// Both paths read the value of a prefix of the bytes, and leave the rest.
+// Each encoder refuses the value as too long, with so much announced. A sink receives these bytes, and a
+// vector that is appended to is as it was.
+pub(super) fn is_too_long<T: Serialize>(
+    rt: &impl Abort,
+    alloc: Global,
+    value: &T,
+    announced: usize,
+    sent: &[u8],
+) -> Result<(), Fail> {
+    assert_eq!(rt; value.tls_serialized_len(), announced);
+    let too_long = Some(Error::InvalidVectorLength);
+    let mut received = Vec::new(alloc);
+    assert_eq!(rt; value.tls_serialize(&mut received).err(), too_long);
+    assert_eq!(rt; received.as_slice(), sent);
+    let mut out = [0xaa, 0xbb].to_vec(alloc)?;
+    assert_eq!(rt; value.tls_serialize_into(&mut out).err(), too_long);
+    assert_eq!(rt; out.as_slice(), [0xaa, 0xbb].as_slice());
+    assert_eq!(rt; value.tls_serialize_detached(alloc).err(), too_long);
+    Ok(())
+}
+
+// The same, also to a vector of its own.
+pub(super) fn is_too_long_alone<T: Serialize + SerializeBytes>(
+    rt: &impl Abort,
+    alloc: Global,
+    value: &T,
+    announced: usize,
+    sent: &[u8],
+) -> Result<(), Fail> {
+    is_too_long(rt, alloc, value, announced, sent)?;
+    let alone = value.tls_serialize_bytes(alloc).err();
+    assert_eq!(rt; alone, Some(Error::InvalidVectorLength));
+    Ok(())
+}
+
+// Both paths read the value of a prefix of the bytes, and leave the rest; also where a source gives one
+// byte a pull.
 pub(super) fn is_read<T: Deserialize + DeserializeBytes + PartialEq>(
     rt: &impl Abort,
     alloc: Global,
@@ -58,10 +106,14 @@ pub(super) fn is_read<T: Deserialize + DeserializeBytes + PartialEq>(
     let found = T::tls_deserialize(alloc, &mut source)?;
     assert!(rt; found == *value);
     assert_eq!(rt; source, rest);
+    let mut drip = Drip::new(bytes);
+    let found = T::tls_deserialize(alloc, &mut drip)?;
+    assert!(rt; found == *value);
+    assert_eq!(rt; drip.left(), rest);
     Ok(())
 }
 
-// Each decoder reads the value from these bytes, and leaves none.
+// Each decoder reads the value from these bytes, and leaves none. The exact forms refuse a byte behind them.
 pub(super) fn is_read_whole<T: Deserialize + DeserializeBytes + PartialEq>(
     rt: &impl Abort,
     alloc: Global,
@@ -71,10 +123,37 @@ pub(super) fn is_read_whole<T: Deserialize + DeserializeBytes + PartialEq>(
     is_read(rt, alloc, bytes, value, &[])?;
     assert!(rt; T::tls_deserialize_exact_bytes(alloc, bytes)? == *value);
     assert!(rt; T::tls_deserialize_exact(alloc, bytes)? == *value);
+    let mut longer = bytes.to_vec(alloc)?;
+    longer.push(0xee)?;
+    is_read(rt, alloc, &longer, value, &[0xee])?;
+    let trailing = Some(Error::TrailingData);
+    let refused = T::tls_deserialize_exact_bytes(alloc, &longer).err();
+    assert_eq!(rt; refused, trailing);
+    let refused = T::tls_deserialize_exact(alloc, &longer).err();
+    assert_eq!(rt; refused, trailing);
     Ok(())
 }
 
-// Both paths refuse the bytes with this error.
+// The value is written as these bytes, and each decoder reads it of them.
+pub(super) fn is_spelled<T: Serialize + Deserialize + DeserializeBytes + PartialEq>(
+    rt: &impl Abort,
+    alloc: Global,
+    value: &T,
+    bytes: &[u8],
+) -> Result<(), Fail> {
+    is_written(rt, alloc, value, bytes)?;
+    is_read_whole(rt, alloc, bytes, value)
+}
+
+// The same, also to a vector of its own.
+pub(super) fn is_spelled_alone<
+    T: Serialize + SerializeBytes + Deserialize + DeserializeBytes + PartialEq,
+>(rt: &impl Abort, alloc: Global, value: &T, bytes: &[u8]) -> Result<(), Fail> {
+    is_written_alone(rt, alloc, value, bytes)?;
+    is_read_whole(rt, alloc, bytes, value)
+}
+
+// Each decoder refuses the bytes with this error.
 pub(super) fn is_refused<T: Deserialize + DeserializeBytes>(
     rt: &impl Abort,
     alloc: Global,
@@ -84,7 +163,7 @@ pub(super) fn is_refused<T: Deserialize + DeserializeBytes>(
     is_refused_by_each::<T>(rt, alloc, bytes, error, error);
 }
 
-// The two paths refuse the bytes, each with its error.
+// Each decoder refuses the bytes, with the error of its path.
 pub(super) fn is_refused_by_each<T: Deserialize + DeserializeBytes>(
     rt: &impl Abort,
     alloc: Global,
@@ -92,13 +171,15 @@ pub(super) fn is_refused_by_each<T: Deserialize + DeserializeBytes>(
     by_slice: Error,
     by_reader: Error,
 ) {
-    assert_eq!(rt;
-        T::tls_deserialize_bytes(alloc, bytes).err(),
-        Some(by_slice)
-    );
+    let refused = T::tls_deserialize_bytes(alloc, bytes).err();
+    assert_eq!(rt; refused, Some(by_slice));
+    let refused = T::tls_deserialize_exact_bytes(alloc, bytes).err();
+    assert_eq!(rt; refused, Some(by_slice));
     let mut source = bytes;
-    assert_eq!(rt;
-        T::tls_deserialize(alloc, &mut source).err(),
-        Some(by_reader)
-    );
+    let refused = T::tls_deserialize(alloc, &mut source).err();
+    assert_eq!(rt; refused, Some(by_reader));
+    let refused = T::tls_deserialize_exact(alloc, bytes).err();
+    assert_eq!(rt; refused, Some(by_reader));
+    let refused = T::tls_deserialize(alloc, &mut Drip::new(bytes)).err();
+    assert_eq!(rt; refused, Some(by_reader));
 }

@@ -1,45 +1,49 @@
-//! Vectors, byte vectors and wrappers of slices behind a length of one to four bytes, together with other
-//! crates' types.
-use super::each_call::{is_read_whole, is_written};
-use std::alloc::{AllocError, Global};
-use std::test::Fail;
-use tls_codec_base::{DeserializeBytes, Serialize};
-use tls_codec_bytes::TlsByteVecU16;
-use tls_codec_slice::{TlsByteSliceU16, TlsSliceU16};
-use tls_codec_vec::{TlsVecU8, TlsVecU16};
-use tls_codec_vl::VLBytes;
+//! Vectors, byte vectors and wrappers of slices behind a length of one to four bytes, and secrets of the
+//! same lengths.
+mod bytes;
+mod callers;
+mod secrets;
+mod slices;
+mod vectors;
 
-// So many bytes.
-fn filled(alloc: Global, count: usize) -> Result<Vec<u8>, AllocError> {
-    vec![in alloc; 0x4d; count]
+use super::each_call::{filled, is_read_whole, is_spelled, is_written, is_written_alone};
+use std::alloc::Global;
+use std::process::Abort;
+use std::test::Fail;
+use tls_codec::{
+    SecretTlsVecU8, SecretTlsVecU16, SecretTlsVecU24, SecretTlsVecU32, Serialize, TlsByteSliceU16,
+    TlsByteSliceU24, TlsByteVecU8, TlsByteVecU16, TlsByteVecU24, TlsByteVecU32, TlsSliceU16,
+    TlsSliceU24, TlsVecU8, TlsVecU16, TlsVecU24, TlsVecU32, VLBytes,
+};
+
+#[test]
+fn lengths_of_lengths(rt: HostRuntime) {
+    assert_eq!(rt; TlsVecU8::<u16>::len_len(), 1);
+    assert_eq!(rt; TlsVecU16::<u16>::len_len(), 2);
+    assert_eq!(rt; TlsVecU24::<u16>::len_len(), 3);
+    assert_eq!(rt; TlsVecU32::<u16>::len_len(), 4);
+    assert_eq!(rt; TlsByteVecU8::len_len(), 1);
+    assert_eq!(rt; TlsByteVecU16::len_len(), 2);
+    assert_eq!(rt; TlsByteVecU24::len_len(), 3);
+    assert_eq!(rt; TlsByteVecU32::len_len(), 4);
+    assert_eq!(rt; SecretTlsVecU8::<u16>::len_len(), 1);
+    assert_eq!(rt; SecretTlsVecU16::<u16>::len_len(), 2);
+    assert_eq!(rt; SecretTlsVecU24::<u16>::len_len(), 3);
+    assert_eq!(rt; SecretTlsVecU32::<u16>::len_len(), 4);
 }
 
 #[test]
 fn equal_contents_are_spelled_alike(rt: HostRuntime) -> Result<(), Fail> {
     let alloc = rt.alloc();
-    let content = filled(alloc, 65_535)?;
-    let form = TlsByteSliceU16(&content).tls_serialize_detached(alloc)?;
-    assert_eq!(rt; form.len(), 65_537);
-    assert_eq!(rt; &form[..3], [0xff, 0xff, 0x4d].as_slice());
-    let bytes = TlsByteVecU16::tls_deserialize_exact_bytes(alloc, &form)?;
-    assert_eq!(rt; bytes.as_slice(), content.as_slice());
-    assert_eq!(rt;
-        bytes.tls_serialize_detached(alloc)?.as_slice(),
-        form.as_slice()
-    );
-    let list = <TlsVecU16<u8>>::tls_deserialize_exact_bytes(alloc, &form)?;
-    assert_eq!(rt; list.as_slice(), content.as_slice());
-    assert_eq!(rt;
-        list.tls_serialize_detached(alloc)?.as_slice(),
-        form.as_slice()
-    );
-    assert_eq!(rt;
-        TlsSliceU16(list.as_slice())
-            .tls_serialize_detached(alloc)?
-            .as_slice(),
-        form.as_slice()
-    );
-    Ok(())
+    let content = filled(alloc, 65_535, 0x4d)?;
+    let mut form = [0xff, 0xff].to_vec(alloc)?;
+    form.extend_from_slice(&content)?;
+    is_written(&rt, alloc, &TlsByteSliceU16(&content), &form)?;
+    is_written(&rt, alloc, &TlsSliceU16(content.as_slice()), &form)?;
+    let bytes = TlsByteVecU16::from_slice(alloc, &content)?;
+    is_written_alone(&rt, alloc, &bytes, &form)?;
+    is_read_whole(&rt, alloc, &form, &bytes)?;
+    is_spelled(&rt, alloc, &TlsVecU16::new(content), &form)
 }
 
 // A length within the list may be wider than the least, in which it is written.
@@ -49,4 +53,51 @@ fn a_wide_length_within_a_list_is_read(rt: HostRuntime) -> Result<(), Fail> {
     let list = TlsVecU8::new(vec![in alloc; VLBytes::from_array(alloc, &[0xaa])?]?);
     is_read_whole(&rt, alloc, &[0x03, 0x40, 0x01, 0xaa], &list)?;
     is_written(&rt, alloc, &list, &[0x02, 0x01, 0xaa])
+}
+
+// A number, four bytes behind a length of two, and three behind one of three, in one vector.
+fn are_written_in_a_row(
+    rt: &impl Abort,
+    alloc: Global,
+    four: &impl Serialize,
+    three: &impl Serialize,
+) -> Result<(), Fail> {
+    let whole = [1, 0, 4, 0x4d, 0x58, 1, 0x63, 0, 0, 3, 0xff, 0x2a, 0x49];
+    let mut sent = Vec::new(alloc);
+    assert_eq!(rt; 1u8.tls_serialize(&mut sent), Ok(1));
+    assert_eq!(rt; four.tls_serialize(&mut sent), Ok(6));
+    assert_eq!(rt; three.tls_serialize(&mut sent), Ok(6));
+    assert_eq!(rt; sent.as_slice(), whole.as_slice());
+    let mut appended = Vec::new(alloc);
+    assert_eq!(rt; 1u8.tls_serialize_into(&mut appended), Ok(1));
+    assert_eq!(rt; four.tls_serialize_into(&mut appended), Ok(6));
+    assert_eq!(rt; three.tls_serialize_into(&mut appended), Ok(6));
+    assert_eq!(rt; appended.as_slice(), whole.as_slice());
+    Ok(())
+}
+
+#[test]
+fn several_contents_in_one_vector(rt: HostRuntime) -> Result<(), Fail> {
+    let alloc = rt.alloc();
+    let (four, three) = ([77u8, 88, 1, 99], [255u8, 42, 73]);
+    are_written_in_a_row(
+        &rt,
+        alloc,
+        &TlsVecU16::from_slice(alloc, &four)?,
+        &TlsVecU24::from_slice(alloc, &three)?,
+    )?;
+    are_written_in_a_row(
+        &rt,
+        alloc,
+        &TlsByteVecU16::from_slice(alloc, &four)?,
+        &TlsByteVecU24::from_slice(alloc, &three)?,
+    )?;
+    are_written_in_a_row(
+        &rt,
+        alloc,
+        &SecretTlsVecU16::from_slice(alloc, &four)?,
+        &SecretTlsVecU24::from_slice(alloc, &three)?,
+    )?;
+    are_written_in_a_row(&rt, alloc, &TlsSliceU16(&four), &TlsByteSliceU24(&three))?;
+    are_written_in_a_row(&rt, alloc, &TlsByteSliceU16(&four), &TlsSliceU24(&three))
 }

@@ -1,55 +1,15 @@
 //! Lists behind a variable-length length, and the engines.
-ghost use Rattle.std.specs.Prelude.{◌≡◌, ◌++◌, Some};
-ghost use Rattle.std.specs.Prelude.{refl};
-ghost use Rattle.std.proofs.Common.{rules};
-ghost use Rattle.std.proofs.lemmas.Grind.{common_steps};
-ghost use Rattle.tls_codec_wire.specs.Counts.{no_counts, stay};
-
-use super::each_call::{is_read, is_refused, is_refused_by_each, is_written, is_written_alone};
-use super::{NO_BYTES, NOT_FILLED};
+use super::devices::Drip;
+use super::each_call::{
+    is_read_whole, is_refused, is_refused_by_each, is_spelled, is_spelled_alone, is_written,
+    is_written_alone,
+};
+use super::{NO_BYTES, NOT_FILLED, NOT_THERE};
 use std::alloc::Global;
 use std::process::Abort;
 use std::test::Fail;
-use tls_codec_base::lists::{self, Turns};
-use tls_codec_base::{Deserialize, SerializeBytes};
-use tls_codec_wire::{Error, Fault, Source};
-
-// Gives its bytes one a call.
-#[derive(Drop)]
-pub(super) struct Drip<'a> {
-    bytes: &'a [u8],
-}
-
-impl<'a> Drip<'a> {
-    pub(super) fn new(bytes: &'a [u8]) -> Drip<'a> {
-        Drip { bytes }
-    }
-
-    pub(super) fn left(&self) -> &'a [u8] {
-        self.bytes
-    }
-}
-
-impl Source for Drip<'_> {
-    ghost coming = { λ s. Some s.bytes.now };
-
-    ghost counts = { λ _. no_counts };
-
-    ghost given = { λ a g b. a.bytes.now ≡ g ++ b.bytes.now };
-
-    fn pull(&mut self, into: &mut [u8]) -> Result<usize, Fault> {
-        let most = into.len().min(1);
-        self.bytes.pull(&mut into[..most])
-    }
-
-    ghost gives_nothing = { λ s. refl };
-
-    ghost gives_in_order = { λ a xs b ys c p q. Prim.search (rules, common_steps) };
-
-    ghost gives_from_front = { λ a xs b p. p };
-
-    ghost no_count_falls = { λ a xs b p. stay no_counts };
-}
+use tls_codec::lists::{self, Turns};
+use tls_codec::{Deserialize, DeserializeBytes, Error, SerializeBytes, VLBytes};
 
 // The value is announced and written as these bytes, to a vector of its own.
 fn is_a_vector<T: SerializeBytes>(
@@ -67,14 +27,12 @@ fn is_a_vector<T: SerializeBytes>(
 #[test]
 fn lists_of_numbers(rt: HostRuntime) -> Result<(), Fail> {
     let alloc = rt.alloc();
-    let bytes = [4, 0, 1, 0, 2, 0xee];
-    let mut numbers = Vec::new(alloc);
-    numbers.extend_from_slice(&[1u16, 2])?;
-    is_written_alone(&rt, alloc, &numbers, &bytes[..5])?;
-    is_written_alone(&rt, alloc, &numbers.as_slice(), &bytes[..5])?;
-    is_read(&rt, alloc, &bytes, &numbers, &[0xee])?;
-    is_a_vector::<&Vec<u16>>(&rt, alloc, &&numbers, &bytes[..5])?;
-    is_read(&rt, alloc, &[0], &Vec::<u16>::new(alloc), &[])?;
+    let bytes = [4, 0, 1, 0, 2];
+    let numbers = [1u16, 2].to_vec(alloc)?;
+    is_spelled_alone(&rt, alloc, &numbers, &bytes)?;
+    is_written_alone(&rt, alloc, &numbers.as_slice(), &bytes)?;
+    is_a_vector::<&Vec<u16>>(&rt, alloc, &&numbers, &bytes)?;
+    is_read_whole(&rt, alloc, &[0], &Vec::<u16>::new(alloc))?;
     is_refused::<Vec<u16>>(&rt, alloc, &[3, 0, 1, 0], Error::EndOfStream);
     is_refused::<Vec<u16>>(&rt, alloc, &[], Error::EndOfStream);
     is_refused_by_each::<Vec<u16>>(&rt, alloc, &[3, 0, 1, 0, 2], NOT_FILLED, Error::EndOfStream);
@@ -84,15 +42,12 @@ fn lists_of_numbers(rt: HostRuntime) -> Result<(), Fail> {
 #[test]
 fn lists_of_bytes_and_options(rt: HostRuntime) -> Result<(), Fail> {
     let alloc = rt.alloc();
-    let mut bytes = Vec::new(alloc);
-    bytes.extend_from_slice(&[1u8, 2])?;
+    let bytes = [1u8, 2].to_vec(alloc)?;
     is_a_vector::<&Vec<u8>>(&rt, alloc, &&bytes, &[2, 1, 2])?;
-    let mut options = Vec::new(alloc);
-    options.extend_from_slice(&[Some(9u8), None])?;
-    is_written_alone(&rt, alloc, &options, &[3, 1, 9, 0])?;
-    let mut one = Vec::new(alloc);
-    one.extend_from_slice(&[0xaau8])?;
-    is_read(&rt, alloc, &[0xc0, 0, 0, 0, 0, 0, 0, 1, 0xaa], &one, &[])?;
+    let options = [Some(9u8), None].to_vec(alloc)?;
+    is_spelled_alone(&rt, alloc, &options, &[3, 1, 9, 0])?;
+    let one = [0xaau8].to_vec(alloc)?;
+    is_read_whole(&rt, alloc, &[0xc0, 0, 0, 0, 0, 0, 0, 1, 0xaa], &one)?;
     is_written_alone(&rt, alloc, &one, &[1, 0xaa])?;
     Ok(())
 }
@@ -100,11 +55,10 @@ fn lists_of_bytes_and_options(rt: HostRuntime) -> Result<(), Fail> {
 #[test]
 fn lists_of_elements_without_bytes(rt: HostRuntime) -> Result<(), Fail> {
     let alloc = rt.alloc();
-    let mut units = Vec::new(alloc);
-    units.extend_from_slice(&[(), ()])?;
+    let units = [(), ()].to_vec(alloc)?;
     is_written(&rt, alloc, &units, &[0])?;
     is_written(&rt, alloc, &units.as_slice(), &[0])?;
-    is_read(&rt, alloc, &[0], &Vec::<()>::new(alloc), &[])?;
+    is_read_whole(&rt, alloc, &[0], &Vec::<()>::new(alloc))?;
     is_refused::<Vec<()>>(&rt, alloc, &[1], NO_BYTES);
     let mut turns = Turns::new();
     let refused = lists::from_slice::<()>(alloc, &[0xff], 1, &mut turns);
@@ -114,23 +68,32 @@ fn lists_of_elements_without_bytes(rt: HostRuntime) -> Result<(), Fail> {
 }
 
 // A list and a text in a product.
-fn mixed(alloc: Global) -> Result<(u8, Vec<u16>, Option<String>), Fail> {
-    let mut numbers = Vec::new(alloc);
-    numbers.extend_from_slice(&[1u16, 2])?;
-    let mut text = String::new(alloc);
-    text.push_str("é")?;
-    Ok((7, numbers, Some(text)))
+type Mixed = (u8, Vec<u16>, Option<String>);
+
+fn mixed(alloc: Global) -> Result<Mixed, Fail> {
+    let text = String::from_str(alloc, "é")?;
+    Ok((7, [1u16, 2].to_vec(alloc)?, Some(text)))
 }
 
 #[test]
 fn lists_in_products(rt: HostRuntime) -> Result<(), Fail> {
-    let value = mixed(rt.alloc())?;
+    let alloc = rt.alloc();
     let bytes = [7, 4, 0, 1, 0, 2, 1, 2, 0xc3, 0xa9];
-    is_written(&rt, rt.alloc(), &value, &bytes)?;
-    let mut numbers = Vec::new(rt.alloc());
-    numbers.extend_from_slice(&[1u16, 2])?;
-    is_written(&rt, rt.alloc(), &(7u8, numbers, Some("é")), &bytes)?;
-    is_read(&rt, rt.alloc(), &bytes, &value, &[])
+    is_spelled(&rt, alloc, &mixed(alloc)?, &bytes)?;
+    let numbers = [1u16, 2].to_vec(alloc)?;
+    is_written(&rt, alloc, &(7u8, numbers, Some("é")), &bytes)
+}
+
+// A proper prefix is refused, and not for what is behind a value.
+#[test]
+fn prefixes_of_a_product_are_refused(rt: HostRuntime) {
+    let alloc = rt.alloc();
+    let bytes = [7, 4, 0, 1, 0, 2, 1, 2, 0xc3, 0xa9];
+    let ends = Error::EndOfStream;
+    for size in 0..10usize {
+        let by_slice = if size < 8 { ends } else { NOT_THERE };
+        is_refused_by_each::<Mixed>(&rt, alloc, &bytes[..size], by_slice, ends);
+    }
 }
 
 // A decoder that fills a buffer ahead takes the last byte.
@@ -143,7 +106,38 @@ fn lists_in_lists_one_byte_a_pull(rt: HostRuntime) -> Result<(), Fail> {
     assert_eq!(rt; lists[0].as_slice(), [1].as_slice());
     assert_eq!(rt; lists[1].as_slice(), [2].as_slice());
     assert_eq!(rt; source.left(), [0xee].as_slice());
+    is_spelled_alone(&rt, rt.alloc(), &lists, &bytes[..7])
+}
+
+// Eight lists, each in another.
+type Deep = Vec<Vec<Vec<Vec<Vec<Vec<Vec<Vec<u8>>>>>>>>;
+
+// No other lists are written as these bytes.
+#[test]
+fn lists_eight_deep(rt: HostRuntime) -> Result<(), Fail> {
+    let alloc = rt.alloc();
+    let bytes = [8, 7, 6, 5, 4, 3, 2, 1, 5];
+    let lists = Deep::tls_deserialize_exact_bytes(alloc, &bytes)?;
+    is_spelled_alone(&rt, alloc, &lists, &bytes)?;
+    let ends = Error::EndOfStream;
+    for (wrong, by_slice) in [
+        ([7, 7, 6, 5, 4, 3, 2, 1, 5], NOT_FILLED),
+        ([9, 7, 6, 5, 4, 3, 2, 1, 5], ends),
+    ] {
+        is_refused_by_each::<Deep>(&rt, alloc, &wrong, by_slice, ends);
+    }
     Ok(())
+}
+
+#[test]
+fn bytes_past_the_end_of_their_list(rt: HostRuntime) {
+    is_refused_by_each::<Vec<VLBytes>>(
+        &rt,
+        rt.alloc(),
+        &[2, 5, 0xaa, 0xbb, 0xcc, 0xdd, 0xee],
+        NOT_FILLED,
+        Error::EndOfStream,
+    );
 }
 
 #[test]

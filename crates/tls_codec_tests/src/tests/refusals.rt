@@ -1,57 +1,10 @@
 //! What parts refuse, handed on by what they are parts of, and what the list engines count then.
-ghost use Rattle.std.specs.Prelude.{None};
-ghost use Rattle.tls_codec_wire.specs.Counts.{NoneFell, fall_never, stay};
-
 use super::each_call::is_refused;
 use super::{NO_BYTES, NOT_FILLED, OTHER_TAG};
 use std::alloc::Global;
 use std::process::Abort;
-use tls_codec_base::lists::{self, Turns};
-use tls_codec_base::{Deserialize, DeserializeBytes};
-use tls_codec_wire::{Error, Fault, Source};
-
-// Gives its bytes, and then fails.
-#[derive(Drop)]
-struct Torn<'a> {
-    bytes: &'a [u8],
-    failures: u64,
-}
-
-impl Source for Torn<'_> {
-    ghost coming = { λ _. None };
-
-    ghost counts = { λ s. record { failures = s.failures; interruptions = 0; shortages = 0 } };
-
-    ghost given = { λ a g b. NoneFell (record { failures = a.failures; interruptions = 0; shortages = 0 })
-        (record { failures = b.failures; interruptions = 0; shortages = 0 }) };
-
-    fn pull(&mut self, into: &mut [u8]) -> Result<usize, Fault> {
-        if self.bytes.is_empty() {
-            self.failures = self.failures.saturating_add(1);
-            return Err(Fault::Failed);
-        }
-        self.bytes.pull(into)
-    }
-
-    ghost gives_nothing = { λ s. stay _ };
-
-    ghost gives_in_order = { λ a xs b ys c p q. fall_never p q };
-
-    ghost gives_from_front = { λ a xs b p. tt };
-
-    ghost no_count_falls = { λ a xs b p. p };
-}
-
-#[test]
-fn a_source_that_fails_in_a_list(rt: HostRuntime) {
-    for bytes in [[].as_slice(), &[4], &[4, 0], &[4, 0, 1, 0]] {
-        let mut source = Torn { bytes, failures: 0 };
-        assert_eq!(rt;
-            <Vec<u16>>::tls_deserialize(rt.alloc(), &mut source).err(),
-            Some(Error::DecodingError("read failed"))
-        );
-    }
-}
+use tls_codec::lists::{self, Turns};
+use tls_codec::{Deserialize, DeserializeBytes, Error};
 
 #[test]
 fn refusals_of_parts(rt: HostRuntime) {
@@ -63,14 +16,6 @@ fn refusals_of_parts(rt: HostRuntime) {
     is_refused::<Box<Option<u8>>>(&rt, alloc, &[2], OTHER_TAG);
     is_refused::<Option<Option<u8>>>(&rt, alloc, &[1, 2], OTHER_TAG);
     is_refused::<Vec<Option<u8>>>(&rt, alloc, &[1, 2], OTHER_TAG);
-    assert_eq!(rt;
-        <Option<u8>>::tls_deserialize_exact(alloc, &[2]),
-        Err(OTHER_TAG)
-    );
-    assert_eq!(rt;
-        <Option<u8>>::tls_deserialize_exact_bytes(alloc, &[2]),
-        Err(OTHER_TAG)
-    );
 }
 
 // The engines refuse the bytes, after so many turns.

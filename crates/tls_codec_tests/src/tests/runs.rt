@@ -1,13 +1,12 @@
 //! Lists of numbers, which go at once where their bytes are at hand, and one by one where not.
 use super::NOT_FILLED;
-use super::lists::Drip;
+use super::devices::Drip;
 use super::refusals::is_refused_after;
 use std::alloc::Global;
 use std::process::Abort;
 use std::test::Fail;
-use tls_codec_base::lists::{self, Turns};
-use tls_codec_base::{Deserialize, DeserializeBytes, Serialize, SerializeBytes};
-use tls_codec_wire::{Error, U24};
+use tls_codec::lists::{self, Turns};
+use tls_codec::{Deserialize, DeserializeBytes, Error, Serialize, SerializeBytes, U24};
 
 // The engines write the elements as these bytes, and read them from a prefix of more, each element by
 // a turn.

@@ -1,13 +1,7 @@
 //! The calls that read and write nothing.
-use std::hash::{DefaultHasher, Hash, Hasher};
+use crate::tests::each_call::hash_of;
 use std::test::Fail;
-use tls_codec_vl::{VLByteSlice, VLByteVec, VLBytes};
-
-fn hash_of<T: Hash>(value: &T) -> u64 {
-    let mut state = DefaultHasher::new();
-    value.hash(&mut state);
-    state.finish()
-}
+use tls_codec::{VLByteSlice, VLByteVec, VLBytes};
 
 // Each call of a type with bytes of its own.
 macro_rules! owned_calls {

@@ -1,8 +1,7 @@
 //! Lists of byte vectors, and bytes behind others.
-use crate::tests::each_call::{is_read_whole, is_written_alone};
+use crate::tests::each_call::{is_read_whole, is_spelled_alone, is_written_alone};
 use std::test::Fail;
-use tls_codec_base::Serialize;
-use tls_codec_vl::VLBytes;
+use tls_codec::VLBytes;
 
 #[test]
 fn a_wide_element_is_written_in_the_least(rt: HostRuntime) -> Result<(), Fail> {
@@ -16,22 +15,11 @@ fn a_wide_element_is_written_in_the_least(rt: HostRuntime) -> Result<(), Fail> {
 fn a_list_of_64_elements(rt: HostRuntime) -> Result<(), Fail> {
     let alloc = rt.alloc();
     let mut list = Vec::new(alloc);
+    let mut form = [0x40, 0x80].to_vec(alloc)?;
     for _at in 0..64 {
         list.push(VLBytes::from_array(alloc, &[0x07])?)?;
+        form.extend_from_slice(&[0x01, 0x07])?;
     }
-    let mut out = Vec::new(alloc);
-    assert_eq!(rt; list.tls_serialize_into(&mut out)?, 130);
-    assert_eq!(rt; out.len(), 130);
-    assert!(rt; out.as_slice().starts_with(&[0x40, 0x80, 0x01, 0x07]));
-    Ok(())
-}
-
-#[test]
-fn bytes_behind_others(rt: HostRuntime) -> Result<(), Fail> {
-    let alloc = rt.alloc();
-    let mut out = vec![in alloc; 0xee]?;
-    let bytes = VLBytes::from_array(alloc, &[0x0a, 0x14, 0x1e])?;
-    assert_eq!(rt; bytes.tls_serialize_into(&mut out)?, 4);
-    assert_eq!(rt; out.as_slice(), [0xee, 0x03, 0x0a, 0x14, 0x1e].as_slice());
-    Ok(())
+    assert_eq!(rt; form.len(), 130);
+    is_spelled_alone(&rt, alloc, &list, &form)
 }

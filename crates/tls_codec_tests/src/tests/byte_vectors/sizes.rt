@@ -1,8 +1,8 @@
 //! Each size to 300, by each call that writes, reads or copies.
-use crate::tests::each_call::{is_read_whole, is_written_alone};
+use crate::tests::each_call::is_spelled_alone;
 use std::alloc::{AllocError, Global};
 use std::test::Fail;
-use tls_codec_vl::{VLByteVec, VLBytes};
+use tls_codec::{VLByteVec, VLBytes};
 
 // The bytes 0, 1, 2 and so on, so many.
 fn counted(alloc: Global, size: usize) -> Result<Vec<u8>, AllocError> {
@@ -37,8 +37,7 @@ macro_rules! bytes_of_a_size {
         let form = spelled(alloc, &content)?;
         let mut owned = $Owned::from_slice(alloc, &content)?;
         assert_eq!(&$rt; owned.as_slice(), content.as_slice());
-        is_written_alone(&$rt, alloc, &owned, &form)?;
-        is_read_whole(&$rt, alloc, &form, &owned)?;
+        is_spelled_alone(&$rt, alloc, &owned, &form)?;
         let copy = owned.clone()?;
         assert_eq!(&$rt; copy.as_slice(), content.as_slice());
         owned.push(0xee)?;

@@ -1,20 +1,10 @@
 //! What is written and read, and what is refused.
-use crate::tests::each_call::{is_read, is_refused_by_each};
-use std::alloc::{AllocError, Global};
+use crate::tests::NOT_THERE;
+use crate::tests::each_call::{filled, is_read_whole, is_refused_by_each};
+use std::alloc::Global;
 use std::process::Abort;
 use std::test::Fail;
-use tls_codec_base::{Serialize, SerializeBytes};
-use tls_codec_vl::{VLByteSlice, VLByteVec, VLBytes};
-use tls_codec_wire::Error;
-
-const NOT_THERE: Error = Error::DecodingError("declared content is not there");
-
-// So many bytes of one value.
-fn filled(alloc: Global, count: usize, byte: u8) -> Result<Vec<u8>, AllocError> {
-    let mut content = Vec::new(alloc);
-    content.resize(count, byte)?;
-    Ok(content)
-}
+use tls_codec::{Error, Serialize, SerializeBytes, VLByteSlice, VLByteVec, VLBytes};
 
 // The value is announced and written in so many bytes, which begin with these.
 fn begins<T: Serialize>(
@@ -79,23 +69,21 @@ fn long_bytes(rt: HostRuntime) -> Result<(), Fail> {
     let front = [0x80, 0x01, 0x00, 0x00, 0x4d].as_slice();
     begins_alone(&rt, alloc, &owned, front, 65_540)?;
     let form = owned.tls_serialize_bytes(alloc)?;
-    is_read(&rt, alloc, &form, &owned, &[])?;
+    is_read_whole(&rt, alloc, &form, &owned)?;
     let owned = VLByteVec::new(filled(alloc, 65_536, 0x4d)?);
     begins_alone(&rt, alloc, &owned, front, 65_540)?;
-    is_read(&rt, alloc, &form, &owned, &[])?;
+    is_read_whole(&rt, alloc, &form, &owned)?;
     Ok(())
 }
 
 #[test]
 fn a_wide_length_is_read(rt: HostRuntime) -> Result<(), Fail> {
     let alloc = rt.alloc();
-    let bytes = [0x40, 0x03, 0x0a, 0x14, 0x1e, 0xff];
+    let bytes = [0x40, 0x03, 0x0a, 0x14, 0x1e];
     let owned = VLBytes::from_array(alloc, &[0x0a, 0x14, 0x1e])?;
-    is_read(&rt, alloc, &bytes[..5], &owned, &[])?;
-    is_read(&rt, alloc, &bytes, &owned, &[0xff])?;
+    is_read_whole(&rt, alloc, &bytes, &owned)?;
     let owned = VLByteVec::from_array(alloc, &[0x0a, 0x14, 0x1e])?;
-    is_read(&rt, alloc, &bytes[..5], &owned, &[])?;
-    is_read(&rt, alloc, &bytes, &owned, &[0xff])?;
+    is_read_whole(&rt, alloc, &bytes, &owned)?;
     Ok(())
 }
 

@@ -1,57 +1,10 @@
-// Worked values: the bytes of each wrapper, and what is refused.
-use crate::{
+//! `TlsSliceU8` to `TlsByteSliceU32`: the bytes of each wrapper, and what is refused.
+use crate::tests::each_call::{filled, is_too_long, is_written};
+use std::test::Fail;
+use tls_codec::{
     TlsByteSliceU8, TlsByteSliceU16, TlsByteSliceU24, TlsByteSliceU32, TlsSliceU8, TlsSliceU16,
     TlsSliceU24, TlsSliceU32,
 };
-use std::alloc::{AllocError, Global};
-use std::process::Abort;
-use std::test::Fail;
-use tls_codec_base::{Serialize, counted, opaque};
-use tls_codec_wire::Error;
-
-// So many bytes of one value.
-fn filled(alloc: Global, count: usize, byte: u8) -> Result<Vec<u8>, AllocError> {
-    let mut content = Vec::new(alloc);
-    content.resize(count, byte)?;
-    Ok(content)
-}
-
-// The value is announced and written as these bytes, also behind what a vector has.
-fn is_written<T: Serialize>(
-    rt: &impl Abort,
-    alloc: Global,
-    value: &T,
-    bytes: &[u8],
-) -> Result<(), Fail> {
-    assert_eq!(rt; value.tls_serialized_len(), bytes.len());
-    assert_eq!(rt; value.tls_serialize_detached(alloc)?.as_slice(), bytes);
-    let mut out = [0xee].to_vec(alloc)?;
-    assert_eq!(rt; value.tls_serialize(&mut out)?, bytes.len());
-    assert_eq!(rt; value.tls_serialize_into(&mut out)?, bytes.len());
-    let mut twice = [0xee].to_vec(alloc)?;
-    twice.extend_from_slice(bytes)?;
-    twice.extend_from_slice(bytes)?;
-    assert_eq!(rt; out.as_slice(), twice.as_slice());
-    Ok(())
-}
-
-// The value is refused as too long with nothing sent; so much is announced of it.
-fn is_too_long<T: Serialize>(
-    rt: &impl Abort,
-    alloc: Global,
-    value: &T,
-    announced: usize,
-) -> Result<(), Fail> {
-    assert_eq!(rt; value.tls_serialized_len(), announced);
-    let too_long = Some(Error::InvalidVectorLength);
-    let mut out = [0xaa, 0xbb].to_vec(alloc)?;
-    assert_eq!(rt; value.tls_serialize(&mut out).err(), too_long);
-    assert_eq!(rt; out.as_slice(), [0xaa, 0xbb].as_slice());
-    assert_eq!(rt; value.tls_serialize_into(&mut out).err(), too_long);
-    assert_eq!(rt; out.as_slice(), [0xaa, 0xbb].as_slice());
-    assert_eq!(rt; value.tls_serialize_detached(alloc).err(), too_long);
-    Ok(())
-}
 
 #[test]
 fn elements_behind_each_width(rt: HostRuntime) -> Result<(), Fail> {
@@ -117,33 +70,22 @@ fn lists_within_a_list(rt: HostRuntime) -> Result<(), Fail> {
 }
 
 #[test]
-fn many_bytes_are_read_back(rt: HostRuntime) -> Result<(), Fail> {
-    let alloc = rt.alloc();
-    let content = filled(alloc, 65_535, 0x4d)?;
-    let form = TlsByteSliceU16(&content).tls_serialize_detached(alloc)?;
-    assert_eq!(rt; form.len(), 65_537);
-    let (found, rest) = opaque::split::<u16>(&form)?;
-    assert_eq!(rt; found, content.as_slice());
-    assert_eq!(rt; rest, [].as_slice());
-    let (found, rest) = counted::split::<u16, u8>(alloc, &form)?;
-    assert_eq!(rt; found.as_slice(), content.as_slice());
-    assert_eq!(rt; rest, [].as_slice());
-    let alike = TlsSliceU16(content.as_slice()).tls_serialize_detached(alloc)?;
-    assert_eq!(rt; alike.as_slice(), form.as_slice());
-    Ok(())
-}
-
-#[test]
 fn more_than_the_length_counts(rt: HostRuntime) -> Result<(), Fail> {
     let alloc = rt.alloc();
     let content = filled(alloc, 256, 7)?;
-    is_too_long(&rt, alloc, &TlsSliceU8(content.as_slice()), 257)?;
-    is_too_long(&rt, alloc, &TlsByteSliceU8(&content), 257)?;
+    is_too_long(&rt, alloc, &TlsSliceU8(content.as_slice()), 257, &[])?;
+    is_too_long(&rt, alloc, &TlsByteSliceU8(&content), 257, &[])?;
     let content = filled(alloc, 65_536, 7)?;
-    is_too_long(&rt, alloc, &TlsSliceU16(content.as_slice()), 65_538)?;
-    is_too_long(&rt, alloc, &TlsByteSliceU16(&content), 65_538)?;
+    is_too_long(&rt, alloc, &TlsSliceU16(content.as_slice()), 65_538, &[])?;
+    is_too_long(&rt, alloc, &TlsByteSliceU16(&content), 65_538, &[])?;
     let content = filled(alloc, 16_777_216, 7)?;
-    is_too_long(&rt, alloc, &TlsSliceU24(content.as_slice()), 16_777_219)?;
-    is_too_long(&rt, alloc, &TlsByteSliceU24(&content), 16_777_219)?;
+    is_too_long(
+        &rt,
+        alloc,
+        &TlsSliceU24(content.as_slice()),
+        16_777_219,
+        &[],
+    )?;
+    is_too_long(&rt, alloc, &TlsByteSliceU24(&content), 16_777_219, &[])?;
     Ok(())
 }

@@ -1,18 +1,7 @@
 //! The calls that read and write no bytes.
-use crate::laws::{
-    vectors_are_compared_by_their_elements, vectors_are_lists_behind_one_to_four_bytes,
-};
-use crate::{TlsVecU8, TlsVecU16, TlsVecU24, TlsVecU32};
-use std::hash::{DefaultHasher, Hash, Hasher};
+use crate::tests::each_call::hash_of;
 use std::test::Fail;
-
-#[test]
-fn lengths_of_the_four_names(rt: HostRuntime) {
-    assert_eq!(rt; TlsVecU8::<u16>::len_len(), 1);
-    assert_eq!(rt; TlsVecU16::<u16>::len_len(), 2);
-    assert_eq!(rt; TlsVecU24::<u16>::len_len(), 3);
-    assert_eq!(rt; TlsVecU32::<u16>::len_len(), 4);
-}
+use tls_codec::{TlsVecU8, TlsVecU16, TlsVecU24, TlsVecU32};
 
 #[test]
 fn elements_leave(rt: HostRuntime) -> Result<(), Fail> {
@@ -75,16 +64,8 @@ fn lists_become_vectors_and_back(rt: HostRuntime) -> Result<(), Fail> {
     Ok(())
 }
 
-fn hash_of<T: Hash>(value: &T) -> u64 {
-    let mut state = DefaultHasher::new();
-    value.hash(&mut state);
-    state.finish()
-}
-
 #[test]
 fn lists_are_compared_by_their_elements(rt: HostRuntime) -> Result<(), Fail> {
-    vectors_are_compared_by_their_elements::<u8, u16>();
-    vectors_are_lists_behind_one_to_four_bytes::<u16>();
     let alloc = rt.alloc();
     let list = TlsVecU24::from_slice(alloc, &[1u16, 2])?;
     let other = TlsVecU24::from_slice(alloc, &[1u16, 3])?;

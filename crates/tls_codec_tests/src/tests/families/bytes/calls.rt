@@ -1,20 +1,9 @@
-// The calls that write and read nothing.
-use crate::laws::{
-    byte_vecs_are_bytes_behind_one_to_four_bytes, byte_vecs_are_compared_by_their_bytes,
-};
-use crate::{TlsByteVec, TlsByteVecU8};
+//! The calls that write and read nothing.
+use crate::tests::each_call::hash_of;
 use std::alloc::Global;
-use std::hash::{DefaultHasher, Hash, Hasher};
 use std::process::Abort;
 use std::test::Fail;
-use tls_codec_base::LengthField;
-use tls_codec_wire::U24;
-
-fn hash_of<T: Hash>(value: &T) -> u64 {
-    let mut state = DefaultHasher::new();
-    value.hash(&mut state);
-    state.finish()
-}
+use tls_codec::{TlsByteVec, TlsByteVecU8, U24};
 
 // Calls that change the bytes.
 fn are_changed<F>(rt: &impl Abort, alloc: Global) -> Result<(), Fail> {
@@ -74,21 +63,7 @@ fn calls_on_each_width(rt: HostRuntime) -> Result<(), Fail> {
     are_seen::<U24>(&rt, alloc)?;
     are_changed::<u32>(&rt, alloc)?;
     are_seen::<u32>(&rt, alloc)?;
-    byte_vecs_are_compared_by_their_bytes::<U24>();
-    byte_vecs_are_bytes_behind_one_to_four_bytes();
     Ok(())
-}
-
-fn length_length<F: LengthField>() -> usize {
-    TlsByteVec::<F>::len_len()
-}
-
-#[test]
-fn widths_of_lengths(rt: HostRuntime) {
-    assert_eq!(rt; TlsByteVecU8::len_len(), 1);
-    assert_eq!(rt; length_length::<u16>(), 2);
-    assert_eq!(rt; length_length::<U24>(), 3);
-    assert_eq!(rt; length_length::<u32>(), 4);
 }
 
 // It is asked once for each byte, from the first on.

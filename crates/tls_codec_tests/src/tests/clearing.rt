@@ -1,11 +1,12 @@
 //! What is cleared, and when.
 ghost use Rattle.std.specs.Prelude.{⊤};
 
-use crate::{SecretTlsVecU8, SecretTlsVecU16, SecretTlsVecU24, SecretTlsVecU32};
 use std::alloc::Global;
 use std::cell::Cell;
 use std::test::Fail;
-use tls_codec_vl::{VLByteVec, VLBytes, Zeroize};
+use tls_codec::{
+    SecretTlsVecU8, SecretTlsVecU16, SecretTlsVecU24, SecretTlsVecU32, VLByteVec, VLBytes, Zeroize,
+};
 
 // An element that counts how often it was cleared.
 #[derive(Drop)]

@@ -1,19 +1,7 @@
 //! The calls that read and write no bytes.
-use super::each_call::hash_of;
-use crate::laws::{
-    secret_vectors_are_compared_by_their_elements,
-    secret_vectors_are_lists_behind_one_to_four_bytes,
-};
-use crate::{SecretTlsVecU8, SecretTlsVecU16, SecretTlsVecU24, SecretTlsVecU32};
+use crate::tests::each_call::hash_of;
 use std::test::Fail;
-
-#[test]
-fn lengths_of_the_four_names(rt: HostRuntime) {
-    assert_eq!(rt; SecretTlsVecU8::<u16>::len_len(), 1);
-    assert_eq!(rt; SecretTlsVecU16::<u16>::len_len(), 2);
-    assert_eq!(rt; SecretTlsVecU24::<u16>::len_len(), 3);
-    assert_eq!(rt; SecretTlsVecU32::<u16>::len_len(), 4);
-}
+use tls_codec::{SecretTlsVecU8, SecretTlsVecU24, SecretTlsVecU32};
 
 #[test]
 fn elements_come_and_leave(rt: HostRuntime) -> Result<(), Fail> {
@@ -62,8 +50,6 @@ fn lists_become_vectors_and_back(rt: HostRuntime) -> Result<(), Fail> {
 
 #[test]
 fn lists_are_compared_by_their_elements(rt: HostRuntime) -> Result<(), Fail> {
-    secret_vectors_are_compared_by_their_elements::<u8, u16>();
-    secret_vectors_are_lists_behind_one_to_four_bytes::<u16>();
     let alloc = rt.alloc();
     let list = SecretTlsVecU32::from_slice(alloc, &[1u16, 2])?;
     let other = SecretTlsVecU32::from_slice(alloc, &[1u16, 3])?;

@@ -1,11 +1,10 @@
 //! What a caller's own contract says of a list, by those of the calls.
 ghost use Rattle.std.specs.Prelude.{◌≡◌, ◌<◌, ◌≤◌, nat_lt, filter, length, slice_set, IfOk};
-ghost use Rattle.tls_codec_vec.specs.Contents.{elements_of};
+ghost use Rattle.tls_codec.specs.Contents.{elements_of};
 
-use crate::{TlsVecU8, TlsVecU16, TlsVecU24, TlsVecU32};
 use std::alloc::Global;
 use std::test::Fail;
-use tls_codec_wire::Error;
+use tls_codec::{Error, TlsVecU8, TlsVecU16, TlsVecU24, TlsVecU32};
 
 fn widths() -> (usize, usize, usize, usize)
     ensures { result ≡ (1, 2, 3, 4) }

@@ -1,17 +1,15 @@
 //! `SecretVLBytes` and `SecretVLByteVec`.
-use super::each_call::{hash_of, is_all, is_read, is_refused, is_written};
+use crate::tests::NOT_THERE;
+use crate::tests::each_call::{
+    hash_of, is_read_whole, is_refused, is_refused_by_each, is_spelled, is_written,
+};
 use std::alloc::Global;
 use std::hash::Hash;
 use std::process::Abort;
 use std::test::Fail;
-use tls_codec_base::{Deserialize, DeserializeBytes, Serialize};
-use tls_codec_vl::laws::{
-    secret_vl_byte_vecs_are_compared_by_their_bytes, secret_vl_bytes_are_compared_by_their_bytes,
+use tls_codec::{
+    Deserialize, DeserializeBytes, Error, SecretVLByteVec, SecretVLBytes, Serialize, Zeroize,
 };
-use tls_codec_vl::{SecretVLByteVec, SecretVLBytes, Zeroize};
-use tls_codec_wire::Error;
-
-const NOT_THERE: Error = Error::DecodingError("declared content is not there");
 
 // Each call of a secret that reads and writes nothing.
 macro_rules! secret_calls {
@@ -74,19 +72,16 @@ fn is_coded<S: PartialEq + Serialize + Deserialize + DeserializeBytes + Drop>(
     alloc: Global,
     secret: &S,
 ) -> Result<(), Fail> {
-    is_written(rt, alloc, secret, &[2, 0x00, 0xff])?;
-    is_read(rt, alloc, &[2, 0x00, 0xff, 0xee], secret, &[0xee])?;
-    is_read(rt, alloc, &[0x40, 2, 0x00, 0xff], secret, &[])?;
-    is_all(rt, alloc, &[2, 0x00, 0xff], secret)?;
+    is_spelled(rt, alloc, secret, &[2, 0x00, 0xff])?;
+    is_read_whole(rt, alloc, &[0x40, 2, 0x00, 0xff], secret)?;
     let ends = Error::EndOfStream;
-    is_refused::<S>(rt, alloc, &[5, 1, 2], NOT_THERE, ends);
-    is_refused::<S>(rt, alloc, &[], ends, ends);
+    is_refused_by_each::<S>(rt, alloc, &[5, 1, 2], NOT_THERE, ends);
+    is_refused::<S>(rt, alloc, &[], ends);
     Ok(())
 }
 
 #[test]
 fn contents_of_secret_vl_bytes(rt: HostRuntime) -> Result<(), Fail> {
-    secret_vl_bytes_are_compared_by_their_bytes();
     let alloc = rt.alloc();
     let low = SecretVLBytes::from_slice(alloc, &[0x00, 0xff])?;
     let high = SecretVLBytes::from_array(alloc, &[0x01])?;
@@ -97,7 +92,6 @@ fn contents_of_secret_vl_bytes(rt: HostRuntime) -> Result<(), Fail> {
 
 #[test]
 fn contents_of_secret_vl_byte_vec(rt: HostRuntime) -> Result<(), Fail> {
-    secret_vl_byte_vecs_are_compared_by_their_bytes();
     let alloc = rt.alloc();
     let low = SecretVLByteVec::from_slice(alloc, &[0x00, 0xff])?;
     let high = SecretVLByteVec::from_array(alloc, &[0x01])?;

@@ -1,0 +1,131 @@
+//! Elements and bytes behind each length.
+use std::alloc::Global;
+use std::process::Abort;
+use std::test::Fail;
+use tls_codec_base::{LengthField, counted, opaque};
+use tls_codec_wire::{Error, TlsVarInt, U24};
+
+// The elements 1 and 2 as `u16`, and as bytes the content 9, 8, are this behind their length.
+fn stand_behind<F: LengthField>(
+    rt: &impl Abort,
+    alloc: Global,
+    list: &[u8],
+    bytes: &[u8],
+    cut_off: Error,
+) -> Result<(), Fail> {
+    let elements = [1u16, 2];
+    assert_eq!(rt; counted::announced_len::<F, u16>(&elements), list.len());
+    assert_eq!(rt;
+        counted::to_vec::<F, u16>(alloc, &elements)?.as_slice(),
+        list
+    );
+    let mut out = Vec::new(alloc);
+    assert_eq!(rt;
+        counted::write::<F, u16, Vec<u8>>(&mut out, &elements),
+        Ok(list.len())
+    );
+    assert_eq!(rt;
+        counted::append::<F, u16>(&mut out, &elements),
+        Ok(list.len())
+    );
+    let mut twice = list.to_vec(alloc)?;
+    twice.extend_from_slice(list)?;
+    assert_eq!(rt; out.as_slice(), twice.as_slice());
+    let (split, rest) = counted::split::<F, u16>(alloc, &twice)?;
+    assert_eq!(rt; split.as_slice(), elements.as_slice());
+    assert_eq!(rt; rest, list);
+    let mut src = twice.as_slice();
+    assert_eq!(rt;
+        counted::read::<F, u16, &[u8]>(alloc, &mut src)?.as_slice(),
+        elements.as_slice()
+    );
+    assert_eq!(rt; src, list);
+
+    let content = [9, 8];
+    assert_eq!(rt; opaque::announced_len::<F>(&content), bytes.len());
+    assert_eq!(rt; opaque::to_vec::<F>(alloc, &content)?.as_slice(), bytes);
+    let mut out = Vec::new(alloc);
+    assert_eq!(rt;
+        opaque::write::<F, Vec<u8>>(&mut out, &content),
+        Ok(bytes.len())
+    );
+    assert_eq!(rt; opaque::append::<F>(&mut out, &content), Ok(bytes.len()));
+    let (split, rest) = opaque::split::<F>(&out)?;
+    assert_eq!(rt; split, content.as_slice());
+    assert_eq!(rt; rest, bytes);
+    let mut src = out.as_slice();
+    assert_eq!(rt;
+        opaque::read::<F, &[u8]>(alloc, &mut src)?.as_slice(),
+        content.as_slice()
+    );
+    assert_eq!(rt; src, bytes);
+    let mut cut = &bytes[..bytes.len() - 1];
+    assert!(rt; opaque::split::<F>(cut) == Err(cut_off));
+    assert!(rt; opaque::read::<F, &[u8]>(alloc, &mut cut) == Err(Error::EndOfStream));
+    Ok(())
+}
+
+#[test]
+fn contents_behind_each_length(rt: HostRuntime) -> Result<(), Fail> {
+    let alloc = rt.alloc();
+    let ends = Error::EndOfStream;
+    stand_behind::<u8>(&rt, alloc, &[4, 0, 1, 0, 2], &[2, 9, 8], ends)?;
+    stand_behind::<u16>(&rt, alloc, &[0, 4, 0, 1, 0, 2], &[0, 2, 9, 8], ends)?;
+    stand_behind::<U24>(&rt, alloc, &[0, 0, 4, 0, 1, 0, 2], &[0, 0, 2, 9, 8], ends)?;
+    stand_behind::<u32>(
+        &rt,
+        alloc,
+        &[0, 0, 0, 4, 0, 1, 0, 2],
+        &[0, 0, 0, 2, 9, 8],
+        ends,
+    )?;
+    let not_there = Error::DecodingError("declared content is not there");
+    stand_behind::<TlsVarInt>(&rt, alloc, &[4, 0, 1, 0, 2], &[2, 9, 8], not_there)?;
+    Ok(())
+}
+
+#[test]
+fn contents_past_their_length_are_refused(rt: HostRuntime) -> Result<(), Fail> {
+    let alloc = rt.alloc();
+    let mut content = Vec::new(alloc);
+    content.resize(255, 7u8)?;
+    let whole = counted::to_vec::<u8, u8>(alloc, &content)?;
+    assert_eq!(rt; (whole.len(), whole[0]), (256, 0xff));
+    content.extend_from_slice(&[7])?;
+    let too_long = Err(Error::InvalidVectorLength);
+    assert_eq!(rt; counted::announced_len::<u8, u8>(&content), 257);
+    assert!(rt; counted::to_vec::<u8, u8>(alloc, &content) == Err(Error::InvalidVectorLength));
+    assert!(rt; opaque::to_vec::<u8>(alloc, &content) == Err(Error::InvalidVectorLength));
+    let mut out = [0xaa].to_vec(alloc)?;
+    assert_eq!(rt;
+        counted::write::<u8, u8, Vec<u8>>(&mut out, &content),
+        too_long
+    );
+    assert_eq!(rt; counted::append::<u8, u8>(&mut out, &content), too_long);
+    assert_eq!(rt; opaque::write::<u8, Vec<u8>>(&mut out, &content), too_long);
+    assert_eq!(rt; opaque::append::<u8>(&mut out, &content), too_long);
+    assert_eq!(rt; out.as_slice(), [0xaa].as_slice());
+    Ok(())
+}
+
+// A length in more bytes than the least is read too.
+#[test]
+fn bytes_are_copied_from_behind_a_wide_length(rt: HostRuntime) -> Result<(), Fail> {
+    let alloc = rt.alloc();
+    let content = [0x0a, 0x14, 0x1e];
+    let whole = [0x40, 0x03, 0x0a, 0x14, 0x1e, 0x99];
+    let (found, rest) = opaque::split::<TlsVarInt>(&whole)?;
+    assert_eq!(rt; found, content.as_slice());
+    assert_eq!(rt; rest, [0x99].as_slice());
+    let (mut copy, rest) = opaque::split_copied::<TlsVarInt>(alloc, &whole)?;
+    assert_eq!(rt; copy.as_slice(), content.as_slice());
+    assert_eq!(rt; rest, [0x99].as_slice());
+    assert_eq!(rt; opaque::push(&mut copy, 0x28), Ok(()));
+    let longer = opaque::copied(alloc, &copy)?;
+    assert_eq!(rt; longer.as_slice(), [0x0a, 0x14, 0x1e, 0x28].as_slice());
+    let mut src = whole.as_slice();
+    let read = opaque::read::<TlsVarInt, &[u8]>(alloc, &mut src)?;
+    assert_eq!(rt; read.as_slice(), content.as_slice());
+    assert_eq!(rt; src, [0x99].as_slice());
+    Ok(())
+}
