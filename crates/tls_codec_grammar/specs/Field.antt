@@ -22,7 +22,7 @@ pub record Field : Type 1 where
   -- which errors name a slice that has fewer bytes behind the field than it declares, where bytes are not read one by one
   pub cut_off : Error → Type 0
 
--- a variable-length integer (the crate's rule; RFC 9420, section 2.1.2)
+-- a variable-length integer of any width (the crate's rule; RFC 9420, section 2.1.2, admits the least alone)
 abbrev pub variable_field : Field
 variable_field = record { spells = Varint; width = least_width; limit = 2 ^ 62; cut_off = Says (codes "declared content is not there") }
 

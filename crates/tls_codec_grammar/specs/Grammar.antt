@@ -103,7 +103,7 @@ counted field inside d b v = Counted field b (λ c. inside d c v)
 abbrev pub sized : ℕ → Grammar → Grammar
 sized n inside d c v = (length c ≡ n) × inside d c v
 
--- a list behind a variable-length length (the crate's rule; RFC 9420, section 2.1.2)
+-- a list behind a variable-length length of any width (the crate's rule; RFC 9420, section 2.1.2, admits the least alone)
 abbrev pub list : Grammar → Grammar
 list element = counted Varint (content element)
 

@@ -1,5 +1,5 @@
 //! Length fields: what stands before a content and says how many bytes that has (RFC 8446, section
-//! 3.4; RFC 9420, section 2.1.2).
+//! 3.4; RFC 9420, section 2.1.2, which admits the least width alone).
 //!
 //! [`TlsVarInt`] is one, and so are `u8`, `u16`, `U24` and `u32`. What stands behind a length goes
 //! through calls that are generic over the field: [`opaque`](crate::opaque) for bytes, and `counted` of

@@ -1,6 +1,7 @@
 //! Lengths as variable-length integers (RFC 9000, section 16; RFC 9420, section 2.1.2).
 //!
-//! Every width is read, and the least is written. The greatest length is [`TlsVarInt::MAX`].
+//! Every width is read, though the latter admits the least alone, and the least is written. The
+//! greatest length is [`TlsVarInt::MAX`].
 ghost use Rattle.std.specs.Prelude.{◌≡◌, ◌^◌, ◌-◌, ◌<◌, ◌≤◌, ◌+◌, ◌++◌, length, vec_len, take, drop, is_ok, if◌then◌else◌, IfErr, IfOk, OnErr};
 ghost use Rattle.tls_codec_wire.specs.Counts.{NoneFell, OnlyInterrupted};
 ghost use Rattle.tls_codec_wire.specs.Device.{Gave};

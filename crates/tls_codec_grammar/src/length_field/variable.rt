@@ -1,4 +1,4 @@
-//! A variable-length integer as a length (RFC 9420, section 2.1.2).
+//! A variable-length integer of any width as a length (RFC 9420, section 2.1.2, admits the least).
 ghost use Rattle.tls_codec_grammar.specs.Field.{variable_field};
 ghost use Rattle.tls_codec_grammar.specs.laws.FormatLaws.{variable_field_meets};
 
