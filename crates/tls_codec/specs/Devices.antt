@@ -1,4 +1,5 @@
--- What contracts say of a device of one's own: its counts, what it gives and what it receives.
-pub use Rattle.tls_codec_wire.specs.Counts.{Counts, NoneFell, count_limit, fall_never, no_counts, only_shortages, raised, stay}
-pub use Rattle.tls_codec_wire.specs.Device.{FaultRaises, GiveIsCounted, Gives, GivesFromFront, GivesInOrder, GivesNothing, NoCountFalls, PullIsCounted, bytes_moved}
+-- For sources and sinks, one's own and others': their counts and faults, what they give and what they receive.
+pub use Rattle.tls_codec_wire.specs.Counts.{Counts, FaultIsCounted, NoneFell, OnlyInterrupted, RoseBy, calm_falls_never, calm_goes_on, calm_stays, count_limit, fall_never, no_counts, only_shortages, raised, stay}
+pub use Rattle.tls_codec_wire.specs.Device.{FaultRaises, Gave, GiveIsCounted, Gives, GivesFromFront, GivesInOrder, GivesNothing, IsAtHand, IsBeginning, NoCountFalls, PullIsCounted, PulledOnto, Received, bytes_moved}
 pub use Rattle.tls_codec_wire.specs.declared.device.Fault.{Fault}
+pub use Rattle.tls_codec_wire.specs.declared.device.Fault.TheVariants.{Failed, Interrupted, NoMemory}

@@ -1,6 +1,6 @@
 -- Bytes as values.
 use Rattle.std.proofs.Common.{◌≡◌, ℕ, List, [], ◌∷◌, map, refl, ap}
-use Rattle.tls_codec.specs.Tree.{number_trees}
+use Rattle.tls_codec.specs.OwnMessages.{number_trees}
 use Rattle.tlsview_run.specs.Texts.{number_in, parts}
 
 -- the numbers in what bytes stand for are the bytes

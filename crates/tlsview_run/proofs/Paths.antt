@@ -1,14 +1,11 @@
 -- What the two paths return for the same bytes.
 use Rattle.std.proofs.Common.{◌≡◌, ◌≢◌, ℕ, List, [], ◌++◌, Bool, Some, inl, inr, refl, sym, ap, ◌∙◌, codes, arith}
 use Rattle.std.proofs.lemmas.List.{append_cancel_left}
-use Rattle.tls_codec.specs.Counts.{FaultIsCounted, no_counts}
-use Rattle.tls_codec.specs.Names.{name_of}
-use Rattle.tls_codec.specs.Error.{Error}
-use Rattle.tls_codec.specs.Error.TheVariants.{OutOfMemory}
-use Rattle.tls_codec.specs.Tree.{Tree}
-use Rattle.tls_codec.specs.Grammar.{Grammar}
-use Rattle.tls_codec.specs.Lawful.{IsLawful}
-use Rattle.tls_codec.specs.Decoding.{Begins, Refuses, RefusesSource}
+use Rattle.tls_codec.specs.OwnMessages.{Tree}
+use Rattle.tls_codec.specs.Calls.{Error}
+use Rattle.tls_codec.specs.Devices.{FaultIsCounted, no_counts}
+use Rattle.tls_codec.specs.Errors.{OutOfMemory, name_of}
+use Rattle.tls_codec.specs.Spellings.{Grammar, IsLawful, Begins, Refuses, RefusesSource}
 use Rattle.tlsview_run.specs.View.{ok_line, refused_line, AppendsLeast, IsAcceptance, IsRefusal}
 
 -- a slice counts no fault

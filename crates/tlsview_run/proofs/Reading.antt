@@ -1,9 +1,7 @@
 -- What an input gave.
 use Rattle.std.proofs.Common.{ℕ, List, [], ◌++◌, Option, Some, None, ap, ◌∙◌, subst, append-nil, arith}
 use Rattle.std.specs.Io.KnownBytes.{Consumes, IsAtEnd}
-use Rattle.tls_codec.specs.Counts.{Counts, OnlyInterrupted}
-use Rattle.tls_codec.specs.Device.{Gives, GivesInOrder, FaultRaises}
-use Rattle.tls_codec.specs.Fault.TheVariants.{Interrupted}
+use Rattle.tls_codec.specs.Devices.{Counts, FaultRaises, Gives, GivesInOrder, Interrupted, OnlyInterrupted}
 use Rattle.tlsview_run.specs.Input.{IsWhole}
 
 -- a source at its end gave all that was to come

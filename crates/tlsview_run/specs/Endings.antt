@@ -2,10 +2,8 @@
 use Rattle.std.specs.Prelude.{◌≡◌, ◌⊎◌, ℕ, Bool, true, false, List, [], ◌∷◌, ◌++◌, map, codes, Result, Ok, Err, Vec, String, string_bytes}
 use Rattle.std.specs.Global.{Global}
 use Rattle.std.specs.Io.KnownBytes.{Appends}
-use Rattle.tls_codec.specs.Counts.{OnlyInterrupted}
-use Rattle.tls_codec.specs.Device.{Received}
-use Rattle.tls_codec.specs.Sink.{Ghosts as SinkGhosts}
-use Rattle.tls_codec.specs.Source.{Ghosts as SourceGhosts}
+use Rattle.tls_codec.specs.Calls.{SinkGhosts, SourceGhosts}
+use Rattle.tls_codec.specs.Devices.{OnlyInterrupted, Received}
 use Rattle.tlsview_run.specs.Run.{Runs, SinkIsToBlame}
 use Rattle.tlsview_run.specs.View.{line_feed}
 use Rattle.tlsview_run.specs.declared.fault.ViewFault.{ViewFault}

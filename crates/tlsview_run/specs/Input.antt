@@ -3,8 +3,8 @@ use Rattle.std.specs.Prelude.{◌≡◌, ◌<◌, ◌≤◌, ℕ, ◌+◌, Bool,
 use Rattle.std.specs.Io.KnownBytes.{IsAtEnd}
 use Rattle.hex.specs.Hex.{decode_of}
 use Rattle.hex.specs.declared.error.FromHexError.{FromHexError}
-use Rattle.tls_codec.specs.Counts.{Counts, FaultIsCounted, OnlyInterrupted}
-use Rattle.tls_codec.specs.Source.{Ghosts}
+use Rattle.tls_codec.specs.Calls.{SourceGhosts}
+use Rattle.tls_codec.specs.Devices.{Counts, FaultIsCounted, OnlyInterrupted}
 use Rattle.tlsview_run.specs.declared.fault.ViewFault.{ViewFault}
 use Rattle.tlsview_run.specs.declared.fault.ViewFault.TheVariants.{Long, Read, Hex, Memory}
 
@@ -49,7 +49,7 @@ IsTooLong None = ⊤
 IsTooLong (Some coming) = longest < length coming
 
 -- the input gave just this text, all of it, and is at its end; nothing but interruptions was counted
-pub record GaveAll {S : Type 0} (source : Ghosts S) (old new : S) (text : List ℕ) : Type 0 where
+pub record GaveAll {S : Type 0} (source : SourceGhosts S) (old new : S) (text : List ℕ) : Type 0 where
   pub held : source.given old text new
   pub at_end : IsAtEnd (source.coming new)
   pub whole : IsWhole (source.coming old) text
@@ -57,7 +57,7 @@ pub record GaveAll {S : Type 0} (source : Ghosts S) (old new : S) (text : List �
   pub calm : OnlyInterrupted (source.counts old) (source.counts new)
 
 -- the input gave one byte more than an input may have
-pub record GaveTooMuch {S : Type 0} (source : Ghosts S) (old new : S) : Type 0 where
+pub record GaveTooMuch {S : Type 0} (source : SourceGhosts S) (old new : S) : Type 0 where
   pub text : List ℕ
   pub held : source.given old text new
   pub size : length text ≡ longest + 1
@@ -65,7 +65,7 @@ pub record GaveTooMuch {S : Type 0} (source : Ghosts S) (old new : S) : Type 0 w
   pub calm : OnlyInterrupted (source.counts old) (source.counts new)
 
 -- why no text is read
-abbrev pub WhyNoText : {S : Type 0} → Ghosts S → S → S → ViewFault → Type 0
+abbrev pub WhyNoText : {S : Type 0} → SourceGhosts S → S → S → ViewFault → Type 0
 WhyNoText source old new Long = GaveTooMuch source old new
 WhyNoText source old new Read = FaultIsCounted (source.counts old) (source.counts new)
 WhyNoText source old new Memory = ⊤

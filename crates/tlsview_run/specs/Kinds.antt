@@ -1,7 +1,7 @@
 -- The kinds.
 use Rattle.std.specs.Prelude.{◌≡◌, ℕ, Bool, List, codes}
-use Rattle.tls_codec.specs.Tree.{Tree}
-use Rattle.tls_codec.specs.Grammar.{Grammar, number, varint, option, triple, list, fixed_list, text, bytes}
+use Rattle.tls_codec.specs.OwnMessages.{Tree}
+use Rattle.tls_codec.specs.Spellings.{Grammar, number, varint, option, triple, list, fixed_list, text, bytes}
 use Rattle.tlsview_run.specs.Texts.{number_text, option_text, triple_text, list_text, bytes_text, leaf_text, step_text, log_text}
 use Rattle.tls_codec_vectors.specs.Messages.{leaf_format, step_format, log_format}
 use Rattle.tlsview_run.specs.View.{Views, IsView}

@@ -1,10 +1,8 @@
 -- What a run reads and prints.
 use Rattle.std.specs.Prelude.{◌≡◌, ◌⊎◌, ℕ, Bool, List, Result, Ok, Err}
 use Rattle.std.specs.Io.KnownBytes.{Appends}
-use Rattle.tls_codec.specs.Counts.{Counts, FaultIsCounted, OnlyInterrupted, RoseBy}
-use Rattle.tls_codec.specs.Device.{Received}
-use Rattle.tls_codec.specs.Sink.{Ghosts as SinkGhosts}
-use Rattle.tls_codec.specs.Source.{Ghosts as SourceGhosts}
+use Rattle.tls_codec.specs.Calls.{SinkGhosts, SourceGhosts}
+use Rattle.tls_codec.specs.Devices.{Counts, FaultIsCounted, OnlyInterrupted, Received, RoseBy}
 use Rattle.tlsview_run.specs.Input.{GaveAll, StandsFor, IsNoHex, WhyNoText}
 use Rattle.tlsview_run.specs.Kinds.{IsViewOf, NamesKind, NamesNoKind}
 use Rattle.tlsview_run.specs.declared.fault.ViewFault.{ViewFault}

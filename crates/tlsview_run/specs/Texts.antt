@@ -2,7 +2,7 @@
 use Rattle.std.specs.Prelude.{ℕ, zero, suc, List, [], ◌∷◌, ◌++◌, map, codes, decimal}
 use Rattle.std.specs.List.{join_by}
 use Rattle.hex.specs.Hex.{encode_lower}
-use Rattle.tls_codec.specs.Tree.{Tree, Number, Empty, Join}
+use Rattle.tls_codec.specs.OwnMessages.{Tree, Number, Empty, Join}
 
 -- the hex of some bytes, and `-` for none
 abbrev pub hex_or_dash : List ℕ → List ℕ

@@ -1,12 +1,9 @@
 -- What is printed of some bytes.
 use Rattle.std.specs.Prelude.{◌≡◌, ◌≢◌, ℕ, Bool, true, false, List, [], ◌∷◌, ◌++◌, codes}
-use Rattle.tls_codec.specs.Names.{name_of}
-use Rattle.tls_codec.specs.Error.{Error}
-use Rattle.tls_codec.specs.Error.TheVariants.{OutOfMemory}
-use Rattle.tls_codec.specs.Tree.{Tree}
-use Rattle.tls_codec.specs.Grammar.{Grammar}
-use Rattle.tls_codec.specs.Shortest.{IsShortest}
-use Rattle.tls_codec.specs.Decoding.{Begins, NoneBegins}
+use Rattle.tls_codec.specs.OwnMessages.{Tree}
+use Rattle.tls_codec.specs.Calls.{Error}
+use Rattle.tls_codec.specs.Errors.{OutOfMemory, name_of}
+use Rattle.tls_codec.specs.Spellings.{Grammar, IsShortest, Begins, NoneBegins}
 use Rattle.tlsview_run.specs.Texts.{hex_or_dash}
 
 -- ---- lines

@@ -1,8 +1,7 @@
 //! Reading the input, and the bytes that its text stands for.
 ghost use Rattle.std.specs.Prelude.{◌≡◌, ◌<◌, ◌≤◌, [], length, take, IfOk, IfErr, OnOk, OnErr};
 ghost use Rattle.std.specs.Io.KnownBytes.{IsAtEnd};
-ghost use Rattle.tls_codec.specs.Counts.{OnlyInterrupted};
-ghost use Rattle.tls_codec.specs.Device.{Gave};
+ghost use Rattle.tls_codec.specs.Devices.{Gave, OnlyInterrupted};
 ghost use Rattle.tlsview_run.specs.Input.{GaveAll, StandsFor, WhyNoBytes, WhyNoPiece, WhyNoText};
 
 use crate::fault::ViewFault;

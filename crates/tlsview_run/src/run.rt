@@ -1,6 +1,5 @@
 //! A run, from an input to a sink.
-ghost use Rattle.tls_codec.specs.Counts.{NoneFell};
-ghost use Rattle.tls_codec.specs.Device.{Gave};
+ghost use Rattle.tls_codec.specs.Devices.{Gave, NoneFell};
 ghost use Rattle.tlsview_run.specs.Run.{Runs};
 
 use crate::fault::ViewFault;

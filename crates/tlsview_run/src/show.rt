@@ -1,6 +1,6 @@
 //! How values are printed.
 ghost use Rattle.std.specs.Prelude.{◌≡◌, ℕ, List, ◌++◌, OnOk, string_bytes};
-ghost use Rattle.tls_codec.specs.Tree.{Tree, Empty, Join, trees, number_trees};
+ghost use Rattle.tls_codec.specs.OwnMessages.{Tree, Empty, Join, trees, number_trees};
 ghost use Rattle.tlsview_run.specs.Texts.{bytes_text, elements_text, hex_or_dash, leaf_text, list_text, log_text, number_text, option_text, step_text, triple_text};
 
 use std::alloc::{AllocError, Global};

@@ -1,7 +1,6 @@
 //! The lines that are printed of some bytes.
 ghost use Rattle.std.specs.Prelude.{◌≡◌, ◌≢◌, ◌++◌, IfOk, IfErr, OnOk, codes, string_bytes};
-ghost use Rattle.tls_codec.specs.Names.{name_of};
-ghost use Rattle.tls_codec.specs.Error.TheVariants.{OutOfMemory};
+ghost use Rattle.tls_codec.specs.Errors.{OutOfMemory, name_of};
 ghost use Rattle.tlsview_run.specs.View.{AppendsLeast, IsView, ok_line, refused_line};
 
 use crate::fault::ViewFault;

@@ -3,7 +3,7 @@ ghost use Rattle.std.specs.Prelude.{◌≡◌, ◌++◌, None, Some};
 ghost use Rattle.std.specs.Prelude.{refl};
 ghost use Rattle.std.proofs.Common.{rules};
 ghost use Rattle.std.proofs.lemmas.Grind.{common_steps};
-ghost use Rattle.tls_codec.specs.Counts.{NoneFell, fall_never, no_counts, stay};
+ghost use Rattle.tls_codec.specs.Devices.{NoneFell, fall_never, no_counts, stay};
 
 use tls_codec::{Fault, Sink, Source};
 

@@ -1,6 +1,6 @@
 -- Nothing was given so far, and each call was an interruption.
 use Rattle.std.proofs.Common.{[]}
-use Rattle.tls_codec.specs.Counts.{OnlyInterrupted, RoseBy}
+use Rattle.tls_codec.specs.Devices.{OnlyInterrupted, RoseBy}
 use Rattle.tlsview_run.proofs.input.next_piece.Given as goal
 
 abbrev pub invariant-loop-row : goal.invariant-loop-row

@@ -1,6 +1,6 @@
 use Rattle.std.proofs.Common.{arith, ap, Ok, length-take}
 use Rattle.tls_codec.proofs.Given.{gave_both}
-use Rattle.tls_codec.specs.Counts.{calm_goes_on}
+use Rattle.tls_codec.specs.Devices.{calm_goes_on}
 use Rattle.tlsview_run.proofs.Reading.{all_given, gave_no_more}
 use Rattle.tlsview_run.proofs.input.read_text.Goals as goal
 

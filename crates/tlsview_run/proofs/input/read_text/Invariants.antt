@@ -1,6 +1,6 @@
 -- What came stands in the text.
 use Rattle.std.proofs.Common.{length, ◌+◌, ◌-◌, ◌≤◌}
-use Rattle.tls_codec.specs.Counts.{OnlyInterrupted}
+use Rattle.tls_codec.specs.Devices.{OnlyInterrupted}
 use Rattle.tlsview_run.specs.Input.{longest}
 use Rattle.tlsview_run.proofs.input.read_text.Given as goal
 

@@ -1,6 +1,6 @@
 -- What is shown and what is left are the whole.
 use Rattle.std.proofs.Common.{◌≡◌, ℕ, List, ◌++◌, flat_map, codes, string_bytes, drop}
-use Rattle.tls_codec.specs.Tree.{Tree, trees}
+use Rattle.tls_codec.specs.OwnMessages.{Tree, trees}
 use Rattle.tlsview_run.specs.Texts.{parts}
 use Rattle.tlsview_run.proofs.show.push_elements.Given as goal
 
