@@ -1,6 +1,6 @@
 pub mod Input
 pub mod Texts
 pub mod View
-pub mod Run
 pub mod Kinds
+pub mod Run
 pub mod Endings

@@ -4,22 +4,23 @@ use Rattle.std.specs.Io.KnownBytes.{Appends}
 use Rattle.tls_codec.specs.Calls.{SinkGhosts, SourceGhosts}
 use Rattle.tls_codec.specs.Devices.{Counts, FaultIsCounted, OnlyInterrupted, Received, RoseBy}
 use Rattle.tlsview_run.specs.Input.{GaveAll, StandsFor, IsNoHex, WhyNoText}
-use Rattle.tlsview_run.specs.Kinds.{IsViewOf, NamesKind, NamesNoKind}
+use Rattle.tlsview_run.specs.Kinds.{kinds, FirstNamed}
+use Rattle.tlsview_run.specs.View.{Views, IsView}
 use Rattle.tlsview_run.specs.declared.fault.ViewFault.{ViewFault}
 use Rattle.tlsview_run.specs.declared.fault.ViewFault.TheVariants.{Kind, Hex, Write}
 
 -- the lines are a view of the bytes that the input, read whole, stands for
-pub record ViewsInput {S : Type 0} (kind : List ℕ) (source : SourceGhosts S) (old new : S) (accepted : Bool) (lines : List ℕ) : Type 0 where
+pub record ViewsInput {S : Type 0} (views : Views) (source : SourceGhosts S) (old new : S) (accepted : Bool) (lines : List ℕ) : Type 0 where
   pub text : List ℕ
   pub bytes : List ℕ
   pub read : GaveAll source old new text
   pub decoded : StandsFor text bytes
-  pub view : IsViewOf kind bytes accepted lines
+  pub view : views bytes accepted lines
 
 -- the sink received just such lines, and counted nothing but interruptions
-pub record SentView {S T : Type 0} (kind : List ℕ) (source : SourceGhosts S) (sink : SinkGhosts T) (old new : S) (before after : T) (accepted : Bool) : Type 0 where
+pub record SentView {S T : Type 0} (views : Views) (source : SourceGhosts S) (sink : SinkGhosts T) (old new : S) (before after : T) (accepted : Bool) : Type 0 where
   pub lines : List ℕ
-  pub viewed : ViewsInput kind source old new accepted lines
+  pub viewed : ViewsInput views source old new accepted lines
   pub sent : Appends (sink.received before) (sink.received after) lines
   pub calm : OnlyInterrupted (sink.counts before) (sink.counts after)
 
@@ -28,10 +29,10 @@ abbrev pub SinkIsToBlame : Counts → Counts → Type 0
 SinkIsToBlame old new = FaultIsCounted old new ⊎ RoseBy 1 old.shortages new.shortages
 
 -- the sink received a beginning of such lines, and is to blame
-pub record BrokeOff {S T : Type 0} (kind : List ℕ) (source : SourceGhosts S) (sink : SinkGhosts T) (old new : S) (before after : T) : Type 0 where
+pub record BrokeOff {S T : Type 0} (views : Views) (source : SourceGhosts S) (sink : SinkGhosts T) (old new : S) (before after : T) : Type 0 where
   pub accepted : Bool
   pub lines : List ℕ
-  pub viewed : ViewsInput kind source old new accepted lines
+  pub viewed : ViewsInput views source old new accepted lines
   pub received : Received (sink.received before) (sink.received after) lines
   pub blame : SinkIsToBlame (sink.counts before) (sink.counts after)
 
@@ -46,9 +47,20 @@ abbrev pub WhyNoView : {S : Type 0} → SourceGhosts S → S → S → ViewFault
 WhyNoView source old new Hex = GaveNoHex source old new
 WhyNoView source old new fault = WhyNoText source old new fault
 
--- what a run of this kind does
+-- what a run does that prints by these views
+abbrev pub RunsBy : {S T : Type 0} → Views → SourceGhosts S → SinkGhosts T → S → S → T → T → Result Bool ViewFault → Type 0
+RunsBy views source sink old new before after (Ok accepted) = SentView views source sink old new before after accepted
+RunsBy views source sink old new before after (Err Write) = BrokeOff views source sink old new before after
+RunsBy views source sink old new before after (Err fault) = WhyNoView source old new fault × (after ≡ before)
+
+-- what a run does where there is no such kind
+pub record RefusesKind {S T : Type 0} (old new : S) (before after : T) (result : Result Bool ViewFault) : Type 0 where
+  pub refused : result ≡ Err Kind
+  pub unread : new ≡ old
+  pub unsent : after ≡ before
+
+-- what a run of the kind of this name does
 abbrev pub Runs : {S T : Type 0} → List ℕ → SourceGhosts S → SinkGhosts T → S → S → T → T → Result Bool ViewFault → Type 0
-Runs kind source sink old new before after (Ok accepted) = SentView kind source sink old new before after accepted
-Runs kind source sink old new before after (Err Write) = BrokeOff kind source sink old new before after
-Runs kind source sink old new before after (Err Kind) = NamesNoKind kind × (new ≡ old) × (after ≡ before)
-Runs kind source sink old new before after (Err fault) = NamesKind kind × WhyNoView source old new fault × (after ≡ before)
+Runs name source sink old new before after result = FirstNamed kinds name
+    (λ kind. RunsBy (IsView kind.spells kind.shows) source sink old new before after result)
+    (RefusesKind old new before after result)

@@ -20,8 +20,7 @@
 //! arguments are programs of the same text.
 //!
 //! - [`answer`]: [`answer`](answer::answer), the program over its words, any input and any sink.
-//! - [`run`]: [`run`](run::run), of one kind.
-//! - [`kinds`]: [`Kind`](kinds::Kind), the table of kinds.
+//! - [`run`]: [`run`](run::run), of one kind, and what types the kinds are.
 //! - [`input`]: reading the text, and the bytes that it stands for.
 //! - [`view`]: the lines that are printed of some bytes.
 //! - [`show`]: [`Show`](show::Show), the text of a value.
@@ -33,7 +32,6 @@ ghost use Rattle.std.specs.Prelude.{◌≡◌, ◌⊎◌, IfErr};
 pub mod answer;
 pub mod fault;
 pub mod input;
-pub mod kinds;
 pub mod run;
 pub mod show;
 #[cfg(test)]
