@@ -6,6 +6,8 @@ use std::rt::Clock;
 use std::test::Fail;
 use std::time::Duration;
 use tls_codec_timing::cases::CASES;
+use tls_codec_timing::fault::BenchFault;
+use tls_codec_timing::timing::time;
 
 // A clock that goes on by so many milliseconds each time it is read.
 #[derive(Drop)]
@@ -33,6 +35,14 @@ impl Clock for Ticks {
     fn since_1970(&self) -> io::Result<Duration> {
         self.monotonic()
     }
+}
+
+#[test]
+fn a_call_takes_its_part_of_a_batch(rt: HostRuntime) {
+    assert!(rt; matches!(time(&Ticks::new(1), || true), Ok(1_000_000)));
+    assert!(rt; matches!(time(&Ticks::new(25), || true), Ok(25_000_000)));
+    assert!(rt; matches!(time(&Ticks::new(1), || false), Err(BenchFault::Refused)));
+    assert!(rt; matches!(time(&Ticks::new(0), || true), Err(BenchFault::Clock)));
 }
 
 #[test]

@@ -2,15 +2,12 @@
 mod appending;
 mod byte_vectors;
 mod clearing;
-mod devices;
 mod each_call;
 mod engines;
-mod failing;
 mod families;
 mod lengths;
 mod lists;
 mod numbers;
-mod pieces;
 mod plain;
 mod refusals;
 mod runs;
@@ -27,5 +24,3 @@ const NOT_FILLED: Error = Error::DecodingError("elements do not fill the declare
 const NOT_THERE: Error = Error::DecodingError("declared content is not there");
 
 const INVALID_UTF8: Error = Error::DecodingError("invalid utf8");
-
-const READ_FAILED: Error = Error::DecodingError("read failed");

@@ -1,46 +1,15 @@
-// What no clause says: that calls succeed, and figures by a clock that is known.
+// What no clause says: that calls succeed, and which numbers and values come. `tls_codec_bench` tests `timing`.
 use crate::calls::{copy, copy_into, decode_reader, decode_slice, encode, encode_into};
 use crate::cases::{Case, names};
 use crate::fault::BenchFault;
 use crate::median::median;
 use crate::noise::Noise;
-use crate::timing::time;
 use crate::values::FromNoise;
 use std::alloc::AllocError;
 use std::cell::Cell;
 use std::io;
 use std::io::ErrorKind;
-use std::rt::Clock;
 use std::test::Fail;
-use std::time::Duration;
-
-// A clock that goes on by so many milliseconds each time it is read.
-#[derive(Drop)]
-struct Ticks {
-    step: u64,
-    read: Cell<u64>,
-}
-
-impl Ticks {
-    fn new(step: u64) -> Ticks {
-        Ticks {
-            step,
-            read: Cell::new(0),
-        }
-    }
-}
-
-impl Clock for Ticks {
-    fn monotonic(&self) -> io::Result<Duration> {
-        let now = self.read.get().saturating_add(self.step);
-        self.read.set(now);
-        Ok(Duration::from_millis(now))
-    }
-
-    fn since_1970(&self) -> io::Result<Duration> {
-        self.monotonic()
-    }
-}
 
 #[test]
 fn each_name_stands_on_a_line(rt: HostRuntime) -> Result<(), Fail> {
@@ -87,14 +56,6 @@ fn the_median_is_the_middle_one(rt: HostRuntime) {
         8
     );
     assert_eq!(rt; median([5; 15]), 5);
-}
-
-#[test]
-fn a_call_takes_its_part_of_a_batch(rt: HostRuntime) {
-    assert!(rt; matches!(time(&Ticks::new(1), || true), Ok(1_000_000)));
-    assert!(rt; matches!(time(&Ticks::new(25), || true), Ok(25_000_000)));
-    assert!(rt; matches!(time(&Ticks::new(1), || false), Err(BenchFault::Refused)));
-    assert!(rt; matches!(time(&Ticks::new(0), || true), Err(BenchFault::Clock)));
 }
 
 #[test]

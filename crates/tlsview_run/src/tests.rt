@@ -1,15 +1,12 @@
 // What no clause says: printed texts of worked inputs, that calls succeed, and how runs and the program end.
 mod answers;
-mod devices;
+mod failing;
 mod views;
 
 use crate::fault::ViewFault;
 use crate::run::run;
-use devices::{Narrow, Trickle};
 use std::alloc::Global;
-use std::io::ErrorKind;
 use std::test::Fail;
-use tls_codec::Outside;
 
 // The outcome of a run over a text in memory, and what was printed.
 fn run_on(alloc: Global, kind: &str, mut text: &[u8]) -> (Result<bool, ViewFault>, Vec<u8>) {
@@ -91,76 +88,4 @@ fn an_input_has_a_greatest_length(rt: HostRuntime) -> Result<(), Fail> {
         assert_eq!(rt; out.len(), printed, "{length} bytes");
     }
     Ok(())
-}
-
-#[test]
-fn a_run_ends_as_its_input_does(rt: HostRuntime) {
-    for (text, interruptions, end, answer) in [
-        (
-            "",
-            0,
-            Some(ErrorKind::PermissionDenied),
-            Err(ViewFault::Read),
-        ),
-        (
-            "0007",
-            0,
-            Some(ErrorKind::PermissionDenied),
-            Err(ViewFault::Read),
-        ),
-        (
-            "0007",
-            0,
-            Some(ErrorKind::Interrupted),
-            Err(ViewFault::Read),
-        ),
-        (
-            "0007",
-            0,
-            Some(ErrorKind::OutOfMemory),
-            Err(ViewFault::Memory),
-        ),
-        (
-            "zz",
-            0,
-            Some(ErrorKind::PermissionDenied),
-            Err(ViewFault::Read),
-        ),
-        ("0007", 17, None, Err(ViewFault::Read)),
-        ("0007", 16, None, Ok(true)),
-        ("0007", 0, None, Ok(true)),
-    ] {
-        let mut input = Outside::new(Trickle::new(text.as_bytes(), interruptions, end));
-        let mut out = Vec::new(rt.alloc());
-        let outcome = run(rt.alloc(), "u16", &mut input, &mut out);
-        assert_eq!(rt;
-            outcome,
-            answer,
-            "{text} behind {interruptions} interruptions"
-        );
-        let lines = "slice ok 7 rest -\nreader ok 7 rest -\nleast 0007\n";
-        let printed = if answer.is_ok() { lines } else { "" };
-        assert_eq!(rt; out.as_slice(), printed.as_bytes());
-    }
-}
-
-#[test]
-fn a_sink_that_fails_has_a_beginning(rt: HostRuntime) {
-    for (room, end, received) in [
-        (3, ErrorKind::PermissionDenied, "sli"),
-        (0, ErrorKind::PermissionDenied, ""),
-        (27, ErrorKind::OutOfMemory, "slice ok some 7 rest ee\nrea"),
-        (5, ErrorKind::Interrupted, "slice"),
-    ] {
-        let mut input = b"010007ee\n".as_slice();
-        let mut out = Narrow::new(Vec::new(rt.alloc()), room, end);
-        let outcome = run(
-            rt.alloc(),
-            "option-u16",
-            &mut input,
-            &mut Outside::new(&mut out),
-        );
-        assert_eq!(rt; outcome, Err(ViewFault::Write));
-        assert_eq!(rt; out.taken.as_slice(), received.as_bytes());
-    }
 }

@@ -1,10 +1,12 @@
 //! What each call makes of a value or of bytes.
-use super::devices::Drip;
 use std::alloc::{AllocError, Global};
 use std::hash::{DefaultHasher, Hash, Hasher};
 use std::process::Abort;
 use std::test::Fail;
-use tls_codec::{Deserialize, DeserializeBytes, Error, Serialize, SerializeBytes};
+use tls_codec::{
+    Deserialize, DeserializeBytes, Error, Serialize, SerializeBytes, Source, read_bytes_bounded,
+};
+use tls_codec_vectors::Drip;
 
 // So many bytes of one value.
 pub(super) fn filled(alloc: Global, count: usize, byte: u8) -> Result<Vec<u8>, AllocError> {
@@ -90,6 +92,19 @@ pub(super) fn is_too_long_alone<T: Serialize + SerializeBytes>(
     Ok(())
 }
 
+// Just these bytes are still to come.
+pub(super) fn is_left<R: Source>(
+    rt: &impl Abort,
+    alloc: Global,
+    source: &mut R,
+    rest: &[u8],
+) -> Result<(), Fail> {
+    let left = read_bytes_bounded(alloc, source, rest.len())?;
+    assert_eq!(rt; left.as_slice(), rest);
+    assert_eq!(rt; source.pull(&mut [0]), Ok(0));
+    Ok(())
+}
+
 // Both paths read the value of a prefix of the bytes, and leave the rest; also where a source gives one
 // byte a pull.
 pub(super) fn is_read<T: Deserialize + DeserializeBytes + PartialEq>(
@@ -109,8 +124,7 @@ pub(super) fn is_read<T: Deserialize + DeserializeBytes + PartialEq>(
     let mut drip = Drip::new(bytes);
     let found = T::tls_deserialize(alloc, &mut drip)?;
     assert!(rt; found == *value);
-    assert_eq!(rt; drip.left(), rest);
-    Ok(())
+    is_left(rt, alloc, &mut drip, rest)
 }
 
 // Each decoder reads the value from these bytes, and leaves none. The exact forms refuse a byte behind them.

@@ -1,7 +1,6 @@
 //! Lists behind a variable-length length, and the engines.
-use super::devices::Drip;
 use super::each_call::{
-    is_read_whole, is_refused, is_refused_by_each, is_spelled, is_spelled_alone, is_written,
+    is_left, is_read_whole, is_refused, is_refused_by_each, is_spelled, is_spelled_alone, is_written,
     is_written_alone,
 };
 use super::{NO_BYTES, NOT_FILLED, NOT_THERE};
@@ -10,6 +9,7 @@ use std::process::Abort;
 use std::test::Fail;
 use tls_codec::lists::{self, Turns};
 use tls_codec::{Deserialize, DeserializeBytes, Error, SerializeBytes, VLBytes};
+use tls_codec_vectors::Drip;
 
 // The value is announced and written as these bytes, to a vector of its own.
 fn is_a_vector<T: SerializeBytes>(
@@ -105,7 +105,7 @@ fn lists_in_lists_one_byte_a_pull(rt: HostRuntime) -> Result<(), Fail> {
     assert_eq!(rt; lists.len(), 2);
     assert_eq!(rt; lists[0].as_slice(), [1].as_slice());
     assert_eq!(rt; lists[1].as_slice(), [2].as_slice());
-    assert_eq!(rt; source.left(), [0xee].as_slice());
+    is_left(&rt, rt.alloc(), &mut source, &[0xee])?;
     is_spelled_alone(&rt, rt.alloc(), &lists, &bytes[..7])
 }
 

@@ -1,12 +1,13 @@
 //! Lists of numbers, which go at once where their bytes are at hand, and one by one where not.
 use super::NOT_FILLED;
-use super::devices::Drip;
+use super::each_call::is_left;
 use super::refusals::is_refused_after;
 use std::alloc::Global;
 use std::process::Abort;
 use std::test::Fail;
 use tls_codec::lists::{self, Turns};
 use tls_codec::{Deserialize, DeserializeBytes, Error, Serialize, SerializeBytes, U24};
+use tls_codec_vectors::Drip;
 
 // The engines write the elements as these bytes, and read them from a prefix of more, each element by
 // a turn.
@@ -39,7 +40,7 @@ fn is_a_run<T: Serialize + SerializeBytes + Deserialize + DeserializeBytes + Par
     let mut drip = Drip::new(&sent);
     let found = lists::from_reader::<T, Drip>(alloc, &mut drip, bytes.len(), &mut turns)?;
     assert!(rt; found.as_slice() == elements);
-    assert_eq!(rt; drip.left(), [0xee].as_slice());
+    is_left(rt, alloc, &mut drip, &[0xee])?;
     assert_eq!(rt; turns.count(), (elements.len() as u64).saturating_mul(3));
     Ok(())
 }

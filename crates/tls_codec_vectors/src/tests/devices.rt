@@ -55,6 +55,15 @@ fn a_log_from_a_source_that_fails(rt: HostRuntime) -> Result<(), Fail> {
 }
 
 #[test]
+fn a_list_from_a_source_that_fails(rt: HostRuntime) {
+    for at in 1..6u64 {
+        let mut source = Failing::new(Drip::new(&[4, 0, 1, 0, 2]), at, 1, Fault::Failed);
+        let refused = <Vec<u16>>::tls_deserialize(rt.alloc(), &mut source).err();
+        assert_eq!(rt; refused, Some(READ_FAILED), "at {at}");
+    }
+}
+
+#[test]
 fn a_log_into_a_sink_that_fails(rt: HostRuntime) -> Result<(), Fail> {
     let alloc = rt.alloc();
     let log = worked_log(alloc)?;
@@ -76,19 +85,27 @@ fn a_log_into_a_sink_that_fails(rt: HostRuntime) -> Result<(), Fail> {
     Ok(())
 }
 
+// Each of these rows has the first call that fails, how many do, and the error. A byte came by each call before.
 #[test]
-fn a_pair_into_a_sink_that_fails_at_its_fourth_call(rt: HostRuntime) -> Result<(), Fail> {
+fn a_pair_into_a_sink_that_fails(rt: HostRuntime) -> Result<(), Fail> {
     let alloc = rt.alloc();
-    let mut sink = Failing::new(Trickle::new(Vec::new(alloc)), 4, 1, Fault::Failed);
     let pair = (1u8, TlsByteVecU16::from_slice(alloc, &[9, 8])?);
-    assert_eq!(rt; pair.tls_serialize(&mut sink), Err(WRITE_FAILED));
-    let received = sink.into_inner().into_inner();
-    assert_eq!(rt; received.as_slice(), [1, 0, 2].as_slice());
+    for (at, times, fault, error) in [
+        (4, 1, Fault::Failed, WRITE_FAILED),
+        (5, 17, Fault::Interrupted, WRITE_FAILED),
+        (3, 1, Fault::NoMemory, Error::OutOfMemory),
+    ] {
+        let mut sink = Failing::new(Trickle::new(Vec::new(alloc)), at, times, fault);
+        assert_eq!(rt; pair.tls_serialize(&mut sink), Err(error));
+        let received = sink.into_inner().into_inner();
+        assert_eq!(rt; received.as_slice(), &[1, 0, 2, 9, 8][..at as usize - 1]);
+    }
     Ok(())
 }
 
+// They are counted in a row, and a byte that came begins another one.
 #[test]
-fn a_number_behind_interruptions(rt: HostRuntime) {
+fn interruptions_over_whole_call(rt: HostRuntime) {
     let alloc = rt.alloc();
     for (times, number) in [(16, Ok(5)), (17, Err(READ_FAILED))] {
         let mut source = Failing::new([5u8].as_slice(), 1, times, Fault::Interrupted);

@@ -10,6 +10,7 @@ use crate::gather::read_bytes_bounded;
 use crate::transfer::read_exactly;
 use crate::vlen::{read_length, split_length, write_length};
 use std::alloc::Global;
+use std::process::Abort;
 use std::test::Fail;
 
 // Has so many bytes left, and notes whether a vector had more room for them than the greater of 4,096
@@ -49,23 +50,23 @@ impl Source for RoomWatcher {
     ghost no_count_falls = { λ a xs b p. stay no_counts };
 }
 
-// Reads two bytes within a limit of two, and then one more.
-fn read_two<R: Source>(src: &mut R) -> ([u8; 2], Result<(), Error>) {
-    let mut first = Bounded::new(src, 2);
-    let mut into = [0; 2];
-    let _ = read_exactly(&mut first, &mut into);
-    (into, read_exactly(&mut first, &mut [0]))
+// Two bytes are read within a limit of two, and none behind them.
+fn are_two_bytes<R: Source>(rt: &impl Abort, src: &mut R) {
+    let mut inner = Bounded::new(src, 2);
+    let mut bytes = [0; 2];
+    assert_eq!(rt; read_exactly(&mut inner, &mut bytes), Ok(()));
+    assert_eq!(rt; bytes, [1, 2]);
+    assert_eq!(rt; read_exactly(&mut inner, &mut [0]), Err(Error::EndOfStream));
 }
 
-// Does so within a limit of three, and reads the byte behind the inner limit. The limit that was left
-// before that byte, and the byte.
-fn read_three<R: Source>(src: &mut R) -> ([u8; 2], Result<(), Error>, u64, [u8; 1]) {
-    let mut first = Bounded::new(src, 3);
-    let (into, more) = read_two(&mut first);
-    let left = first.limit();
-    let mut next = [0; 1];
-    let _ = read_exactly(&mut first, &mut next);
-    (into, more, left, next)
+// They are read so within a limit of three, of which one is left, and the byte behind them too.
+fn are_three_bytes<R: Source>(rt: &impl Abort, src: &mut R) {
+    let mut outer = Bounded::new(src, 3);
+    are_two_bytes(rt, &mut outer);
+    assert_eq!(rt; outer.limit(), 1);
+    let mut byte = [0];
+    assert_eq!(rt; read_exactly(&mut outer, &mut byte), Ok(()));
+    assert_eq!(rt; byte, [3]);
 }
 
 // Gathers two bytes within a limit of two.
@@ -78,11 +79,7 @@ fn gather_two<R: Source>(alloc: Global, src: &mut R) -> Result<Vec<u8>, Error> {
 #[test]
 fn a_limit_within_a_limit(rt: HostRuntime) {
     let mut src = [1, 2, 3, 4].as_slice();
-    let (into, more, left, next) = read_three(&mut src);
-    assert_eq!(rt; into, [1, 2]);
-    assert_eq!(rt; more, Err(Error::EndOfStream));
-    assert_eq!(rt; left, 1);
-    assert_eq!(rt; next, [3]);
+    are_three_bytes(&rt, &mut src);
     assert_eq!(rt; src, [4].as_slice());
 }
 
@@ -119,16 +116,27 @@ fn bytes_are_gathered(rt: HostRuntime) -> Result<(), Fail> {
     let bytes = read_bytes_bounded(rt.alloc(), &mut src, 2)?;
     assert_eq!(rt; bytes.as_slice(), [1, 2].as_slice());
     assert_eq!(rt; src, [3].as_slice());
-    let short = read_bytes_bounded(rt.alloc(), &mut src, 2);
-    assert_eq!(rt; short.err(), Some(Error::EndOfStream));
-    let mut src = [1].as_slice();
-    let long = read_bytes_bounded(rt.alloc(), &mut src, usize::MAX);
-    assert_eq!(rt; long.err(), Some(Error::InvalidVectorLength));
-    assert_eq!(rt; src, [1].as_slice());
     let mut src = [1, 2, 3].as_slice();
     let first = gather_two(rt.alloc(), &mut src)?;
     assert_eq!(rt; first.as_slice(), [1, 2].as_slice());
     Ok(())
+}
+
+// A vector has at most `isize::MAX` bytes. Where it can't hold so many, none are taken.
+#[test]
+fn bytes_that_are_not_there_are_refused(rt: HostRuntime) {
+    let most = isize::MAX as usize;
+    for (length, error, left) in [
+        (4, Error::EndOfStream, 0),
+        (most, Error::EndOfStream, 0),
+        (most + 1, Error::InvalidVectorLength, 3),
+        (usize::MAX, Error::InvalidVectorLength, 3),
+    ] {
+        let mut src = [1, 2, 3].as_slice();
+        let refused = read_bytes_bounded(rt.alloc(), &mut src, length).err();
+        assert_eq!(rt; refused, Some(error), "{length} bytes");
+        assert_eq!(rt; src.len(), left, "{length} bytes");
+    }
 }
 
 #[test]
@@ -162,32 +170,31 @@ fn bytes_are_gathered_between_interruptions(rt: HostRuntime) -> Result<(), Fail>
 }
 
 #[test]
-fn a_length_is_read_in_every_width(rt: HostRuntime) -> Result<(), Fail> {
-    let bytes = [0x40, 0x25, 0x07];
-    let mut src = bytes.as_slice();
-    assert_eq!(rt; read_length(&mut src), Ok((37, 2)));
-    assert_eq!(rt; src, [0x07].as_slice());
-    let (length, rest) = split_length(&bytes)?;
-    assert_eq!(rt; length, 37);
-    assert_eq!(rt; rest, [0x07].as_slice());
-    assert_eq!(rt; split_length(&[0xc0]).err(), Some(Error::EndOfStream));
-    Ok(())
+fn a_length_is_read_in_each_width(rt: HostRuntime) {
+    for (bytes, length, width) in [
+        ([0x25, 0xee].as_slice(), 37, 1),
+        (&[0x40, 0x25, 0xee], 37, 2),
+        (&[0x80, 0, 0, 0x25, 0xee], 37, 4),
+        (&[0xc0, 0, 0, 0, 0x40, 0, 0, 0, 0xee], 1_073_741_824, 8),
+    ] {
+        let rest = [0xee].as_slice();
+        let mut src = bytes;
+        assert_eq!(rt; read_length(&mut src), Ok((length, width)));
+        assert_eq!(rt; src, rest);
+        assert_eq!(rt; split_length(bytes), Ok((length, rest)));
+        let mut cut = &bytes[..width - 1];
+        assert_eq!(rt; split_length(cut), Err(Error::EndOfStream));
+        assert_eq!(rt; read_length(&mut cut), Err(Error::EndOfStream));
+    }
 }
 
 #[test]
 fn a_length_is_written_in_the_least_width(rt: HostRuntime) {
+    let too_long = Err(Error::InvalidVectorLength);
     for (length, answer, bytes) in [
         (64, Ok(2), [0x40, 0x40].as_slice()),
-        (
-            1_073_741_824,
-            Ok(8),
-            [0xc0, 0, 0, 0, 0x40, 0, 0, 0].as_slice(),
-        ),
-        (
-            4_611_686_018_427_387_904,
-            Err(Error::InvalidVectorLength),
-            [].as_slice(),
-        ),
+        (1_073_741_824, Ok(8), &[0xc0, 0, 0, 0, 0x40, 0, 0, 0]),
+        (4_611_686_018_427_387_904, too_long, &[]),
     ] {
         let mut out = Vec::new(rt.alloc());
         assert_eq!(rt; write_length(&mut out, length), answer);

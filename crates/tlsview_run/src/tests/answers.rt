@@ -1,11 +1,10 @@
 // How the program ends: its status, and what went out.
-use super::devices::{Narrow, Stumbling, Trickle};
 use crate::answer::answer;
 use crate::fault::ViewFault;
 use std::alloc::{AllocError, Global};
-use std::io::ErrorKind;
 use std::test::Fail;
-use tls_codec::Outside;
+use tls_codec::Fault;
+use tls_codec_vectors::{Drip, Failing, Trickle};
 
 // The words of a process, the program's name first.
 fn words_of(alloc: Global, words: &[&str]) -> Result<Vec<String>, AllocError> {
@@ -65,18 +64,20 @@ fn a_program_without_words_says_why(rt: HostRuntime) {
     }
 }
 
-// Each of these rows has an input's text, the error at its end, and what is printed.
+// Each of these rows has an input's text, the first call that fails, how many do, and what is printed.
+// Later calls work, and aren't made.
 #[test]
 fn a_program_says_how_its_input_failed(rt: HostRuntime) -> Result<(), Fail> {
-    for (text, end, printed) in [
-        ("", ErrorKind::PermissionDenied, "error read\n"),
-        ("0007", ErrorKind::PermissionDenied, "error read\n"),
-        ("zz", ErrorKind::PermissionDenied, "error read\n"),
-        ("0007", ErrorKind::Interrupted, "error read\n"),
-        ("0007", ErrorKind::OutOfMemory, "error memory\n"),
+    for (text, at, times, fault, printed) in [
+        ("0007", 1, 1, Fault::Failed, "error read\n"),
+        ("0007", 5, 1, Fault::Failed, "error read\n"),
+        ("zz", 3, 1, Fault::Failed, "error read\n"),
+        ("0007", 5, 17, Fault::Interrupted, "error read\n"),
+        ("0007", 1, 1, Fault::NoMemory, "error memory\n"),
+        ("0007", 5, 1, Fault::NoMemory, "error memory\n"),
     ] {
         let words = words_of(rt.alloc(), &["tlsview", "u16"])?;
-        let mut input = Outside::new(Trickle::new(text.as_bytes(), 0, Some(end)));
+        let mut input = Failing::new(Drip::new(text.as_bytes()), at, times, fault);
         let mut out = Vec::new(rt.alloc());
         assert_eq!(rt; answer(rt.alloc(), Ok(words), &mut input, &mut out), 2);
         assert_eq!(rt; out.as_slice(), printed.as_bytes(), "{text}");
@@ -84,55 +85,24 @@ fn a_program_says_how_its_input_failed(rt: HostRuntime) -> Result<(), Fail> {
     Ok(())
 }
 
-// Each of these rows has a kind, how many bytes the sink takes, the error behind them, and what it took.
+// Each of these rows has a kind, the first call of the sink that fails, how many do, and what it received.
+// Later calls work, and nothing is said behind a failed write.
 #[test]
 fn a_program_ends_as_its_sink_does(rt: HostRuntime) -> Result<(), Fail> {
-    for (kind, room, end, received) in [
-        ("u16", 0, ErrorKind::PermissionDenied, ""),
-        ("u16", 3, ErrorKind::PermissionDenied, "sli"),
-        ("u16", 20, ErrorKind::OutOfMemory, "slice ok 7 rest -\nre"),
-        ("u16", 5, ErrorKind::Interrupted, "slice"),
-        ("u99", 0, ErrorKind::PermissionDenied, ""),
-        ("u99", 6, ErrorKind::OutOfMemory, "error "),
+    for (kind, at, times, fault, received) in [
+        ("u16", 1, 1, Fault::Failed, ""),
+        ("u16", 4, 1, Fault::Failed, "sli"),
+        ("u16", 21, 1, Fault::NoMemory, "slice ok 7 rest -\nre"),
+        ("u16", 6, 17, Fault::Interrupted, "slice"),
+        ("u99", 1, 1, Fault::Failed, ""),
+        ("u99", 7, 1, Fault::NoMemory, "error "),
     ] {
         let words = words_of(rt.alloc(), &["tlsview", kind])?;
         let mut input = b"0007\n".as_slice();
-        let mut out = Narrow::new(Vec::new(rt.alloc()), room, end);
-        let status = answer(
-            rt.alloc(),
-            Ok(words),
-            &mut input,
-            &mut Outside::new(&mut out),
-        );
-        assert_eq!(rt; status, 2);
-        assert_eq!(rt; out.taken.as_slice(), received.as_bytes());
-    }
-    Ok(())
-}
-
-// A device that fails once, and then works: the program takes no second try, and says nothing behind
-// a failed write.
-#[test]
-fn one_failure_is_enough(rt: HostRuntime) -> Result<(), Fail> {
-    for (end, printed) in [
-        (ErrorKind::PermissionDenied, "error read\n"),
-        (ErrorKind::OutOfMemory, "error memory\n"),
-    ] {
-        let words = words_of(rt.alloc(), &["tlsview", "u16"])?;
-        let text = Trickle::new(b"0007", 0, None);
-        let mut input = Outside::new(Stumbling::new(text, end));
-        let mut out = Vec::new(rt.alloc());
+        let mut out = Failing::new(Trickle::new(Vec::new(rt.alloc())), at, times, fault);
         assert_eq!(rt; answer(rt.alloc(), Ok(words), &mut input, &mut out), 2);
-        assert_eq!(rt; out.as_slice(), printed.as_bytes());
-    }
-    for kind in ["u16", "u99"] {
-        let words = words_of(rt.alloc(), &["tlsview", kind])?;
-        let mut input = b"0007".as_slice();
-        let mut taken = Narrow::new(Vec::new(rt.alloc()), 100, ErrorKind::PermissionDenied);
-        let mut out = Outside::new(Stumbling::new(&mut taken, ErrorKind::PermissionDenied));
-        assert_eq!(rt; answer(rt.alloc(), Ok(words), &mut input, &mut out), 2);
-        drop(out);
-        assert!(rt; taken.taken.is_empty());
+        let printed = out.into_inner().into_inner();
+        assert_eq!(rt; printed.as_slice(), received.as_bytes());
     }
     Ok(())
 }
