@@ -1,22 +1,19 @@
 //! Rows of the messages by each call, of the devices, of bytes and devices that fail, and of the laws.
 mod devices;
-mod drips;
 mod laws;
 mod lying_lengths;
 
-use crate::{Leaf, Log, Step};
+use crate::{Drip, Leaf, Log, Step};
 use std::alloc::Global;
 use std::process::Abort;
 use std::test::Fail;
 use tls_codec::{
-    Deserialize, DeserializeBytes, Error, Serialize, Size, TlsByteVecU8, TlsVecU16, VLBytes,
+    Deserialize, DeserializeBytes, Error, Serialize, Size, Source, TlsByteVecU8, TlsVecU16,
+    VLBytes, read_bytes_bounded,
 };
 
 // The worked log.
 const LOG: [u8; 14] = [1, 0xab, 0, 4, 0, 1, 1, 7, 1, 2, 0, 0, 0, 5];
-
-// A number, a list and a text.
-const MIXED: [u8; 10] = [7, 4, 0, 1, 0, 2, 1, 2, 0xc3, 0xa9];
 
 fn worked_log(alloc: Global) -> Result<Log, Fail> {
     let name = VLBytes::from_array(alloc, &[7])?;
@@ -28,7 +25,7 @@ fn worked_log(alloc: Global) -> Result<Log, Fail> {
 }
 
 // The value is announced and written as these bytes, also behind what a vector has, and both paths read
-// it of them with a byte behind, which they leave.
+// it of them with a byte behind, which they leave; also where the bytes come one a call.
 fn is_spelled<T: Serialize + Deserialize + DeserializeBytes + PartialEq>(
     rt: &impl Abort,
     alloc: Global,
@@ -52,10 +49,16 @@ fn is_spelled<T: Serialize + Deserialize + DeserializeBytes + PartialEq>(
     let found = T::tls_deserialize(alloc, &mut source)?;
     assert!(rt; found == *value);
     assert_eq!(rt; source, [0xee].as_slice());
+    let mut drip = Drip::new(&longer);
+    let found = T::tls_deserialize(alloc, &mut drip)?;
+    assert!(rt; found == *value);
+    let left = read_bytes_bounded(alloc, &mut drip, 1)?;
+    assert_eq!(rt; left.as_slice(), [0xee].as_slice());
+    assert_eq!(rt; drip.pull(&mut [0]), Ok(0));
     Ok(())
 }
 
-// Both paths refuse these bytes by this name.
+// Both paths refuse these bytes by this name, also where they come one a call.
 fn is_refused<T: Deserialize + DeserializeBytes>(
     rt: &impl Abort,
     alloc: Global,
@@ -65,6 +68,8 @@ fn is_refused<T: Deserialize + DeserializeBytes>(
     assert_eq!(rt; T::tls_deserialize_bytes(alloc, bytes).err(), Some(error));
     let mut source = bytes;
     assert_eq!(rt; T::tls_deserialize(alloc, &mut source).err(), Some(error));
+    let mut drip = Drip::new(bytes);
+    assert_eq!(rt; T::tls_deserialize(alloc, &mut drip).err(), Some(error));
 }
 
 #[test]

@@ -1,7 +1,7 @@
 //! Lists behind a variable-length length, and the engines.
 use super::each_call::{
-    is_left, is_read_whole, is_refused, is_refused_by_each, is_spelled, is_spelled_alone, is_written,
-    is_written_alone,
+    is_left, is_read_whole, is_refused, is_refused_by_each, is_spelled, is_spelled_alone,
+    is_written, is_written_alone,
 };
 use super::{NO_BYTES, NOT_FILLED, NOT_THERE};
 use std::alloc::Global;

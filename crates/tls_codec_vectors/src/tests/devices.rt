@@ -2,7 +2,9 @@
 use super::{LOG, worked_log};
 use crate::{Drip, Failing, Log, Trickle};
 use std::test::Fail;
-use tls_codec::{Deserialize, DeserializeBytes, Error, Fault, Serialize, TlsByteVecU16, write_all};
+use tls_codec::{
+    Deserialize, DeserializeBytes, Error, Fault, Serialize, TlsByteVecU16, vlen, write_all,
+};
 
 const READ_FAILED: Error = Error::DecodingError("read failed");
 
@@ -17,6 +19,12 @@ fn a_trickle_appends(rt: HostRuntime) -> Result<(), Fail> {
     whole.extend_from_slice(&[0, 1, 2])?;
     assert_eq!(rt; sink.into_inner().as_slice(), whole.as_slice());
     Ok(())
+}
+
+#[test]
+fn a_length_one_byte_a_call(rt: HostRuntime) {
+    let mut source = Drip::new(&[0x40, 0x25]);
+    assert_eq!(rt; vlen::read_length(&mut source), Ok((37, 2)));
 }
 
 // Behind the bytes of the log no call is made, so that a fault at the fifteenth never comes.

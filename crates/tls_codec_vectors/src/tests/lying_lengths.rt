@@ -1,9 +1,12 @@
 //! Bytes that end before the lengths in them say.
-use super::{LOG, MIXED};
+use super::LOG;
 use crate::Log;
 use std::alloc::Global;
 use std::process::Abort;
 use tls_codec::{Deserialize, DeserializeBytes, Error};
+
+// A number, a list and a text.
+const MIXED: [u8; 10] = [7, 4, 0, 1, 0, 2, 1, 2, 0xc3, 0xa9];
 
 // It is a refusal, and doesn't say that a value was there.
 fn is_refusal(error: Option<Error>) -> bool {
