@@ -4,7 +4,8 @@ use std::alloc::Global;
 use std::process::Abort;
 use std::test::Fail;
 use tls_codec::{
-    Deserialize, DeserializeBytes, Error, Serialize, SerializeBytes, TlsByteVecU8, TlsVecU16, VLBytes,
+    Deserialize, DeserializeBytes, Error, Serialize, SerializeBytes, TlsByteVecU8, TlsVecU16,
+    VLBytes,
 };
 use tls_codec_vectors::{Leaf, Log, Step};
 
@@ -127,7 +128,11 @@ fn bytes_are_written(rt: HostRuntime) -> Result<(), Fail> {
     ] {
         let bytes = VLBytes::new(tried!(filled(alloc, count))?);
         let form = tried!(bytes.tls_serialize_bytes(alloc))?;
-        assert_eq!(rt; form.strip_prefix(length), Some(bytes.as_slice()), "{count} bytes");
+        assert_eq!(rt;
+            form.strip_prefix(length),
+            Some(bytes.as_slice()),
+            "{count} bytes"
+        );
     }
     Ok(())
 }

@@ -4,7 +4,8 @@ use std::alloc::Global;
 use std::process::Abort;
 use std::test::Fail;
 use tls_codec::{
-    Error, SecretTlsVec, SecretVLByteVec, SecretVLBytes, TlsByteVec, TlsVec, U24, VLByteVec, VLBytes,
+    Error, SecretTlsVec, SecretVLByteVec, SecretVLBytes, TlsByteVec, TlsVec, U24, VLByteVec,
+    VLBytes,
 };
 
 // The bytes 1, 2, 3 are copied from a slice, made as `$made` says, cloned, and the last of them is pushed.
@@ -122,20 +123,35 @@ fn vl_bytes(rt: HostRuntime) -> Result<(), Fail> {
 #[test]
 fn vl_byte_vec(rt: HostRuntime) -> Result<(), Fail> {
     let alloc = rt.alloc();
-    owned_calls!(&rt, alloc, VLByteVec, VLByteVec::from_array(alloc, &[1, 2, 3]));
+    owned_calls!(
+        &rt,
+        alloc,
+        VLByteVec,
+        VLByteVec::from_array(alloc, &[1, 2, 3])
+    );
     Ok(())
 }
 
 #[test]
 fn secret_vl_bytes(rt: HostRuntime) -> Result<(), Fail> {
     let alloc = rt.alloc();
-    owned_calls!(&rt, alloc, SecretVLBytes, SecretVLBytes::from_array(alloc, &[1, 2, 3]));
+    owned_calls!(
+        &rt,
+        alloc,
+        SecretVLBytes,
+        SecretVLBytes::from_array(alloc, &[1, 2, 3])
+    );
     Ok(())
 }
 
 #[test]
 fn secret_vl_byte_vec(rt: HostRuntime) -> Result<(), Fail> {
     let alloc = rt.alloc();
-    owned_calls!(&rt, alloc, SecretVLByteVec, SecretVLByteVec::from_array(alloc, &[1, 2, 3]));
+    owned_calls!(
+        &rt,
+        alloc,
+        SecretVLByteVec,
+        SecretVLByteVec::from_array(alloc, &[1, 2, 3])
+    );
     Ok(())
 }

@@ -2,7 +2,8 @@
 use std::alloc::Global;
 use std::test::Fail;
 use tls_codec::Error;
-use tlsview_run::{fault::ViewFault, run::run};
+use tlsview_run::fault::ViewFault;
+use tlsview_run::run::run;
 
 #[test]
 fn a_view(rt: HostRuntime) -> Result<(), Fail> {
