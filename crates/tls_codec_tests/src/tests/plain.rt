@@ -21,6 +21,8 @@ fn numbers(rt: HostRuntime) -> Result<(), Fail> {
     is_refused::<U24>(&rt, alloc, &bytes[..2], Error::EndOfStream);
     is_refused::<u32>(&rt, alloc, &bytes[..3], Error::EndOfStream);
     is_refused::<u64>(&rt, alloc, &bytes[..7], Error::EndOfStream);
+    assert_eq!(rt; U24::try_from(16_777_216), Err(Error::LibraryError));
+    assert_eq!(rt; usize::from(U24::MAX), 16_777_215);
     Ok(())
 }
 
