@@ -11,6 +11,7 @@ mod numbers;
 mod plain;
 mod refusals;
 mod runs;
+mod sizes;
 mod texts;
 
 use tls_codec::Error;

@@ -1,9 +1,8 @@
-//! Encoders into one buffer, each size read back, and a type of which no value has a spelling.
+//! Encoders into one buffer, and a type of which no value has a spelling.
 ghost use Rattle.std.specs.Prelude.{◌≡◌, true};
 ghost use Rattle.tls_codec.specs.Errors.{InvalidInput};
 ghost use Rattle.tls_codec.specs.OwnMessages.{Empty};
 
-use super::each_call::is_spelled_alone;
 use std::alloc::Global;
 use std::test::Fail;
 use tls_codec::{Error, Serialize, SerializeBytes, Sink, Size, lists};
@@ -112,24 +111,5 @@ fn engines_append(rt: HostRuntime) -> Result<(), Fail> {
         Ok(3)
     );
     assert_eq!(rt; out.as_slice(), [0xee, 0, 1, 0, 2, 1, 3, 0].as_slice());
-    Ok(())
-}
-
-#[test]
-fn each_size_is_read_back(rt: HostRuntime) -> Result<(), Fail> {
-    let alloc = rt.alloc();
-    let mut bytes = Vec::new(alloc);
-    let mut text = String::new(alloc);
-    for size in 0..=300usize {
-        let width = if size < 64 { 1 } else { 2 };
-        let form = bytes.tls_serialize_detached(alloc)?;
-        assert_eq!(rt; form.len(), width + size);
-        is_spelled_alone(&rt, alloc, &bytes, &form)?;
-        let form = text.tls_serialize_detached(alloc)?;
-        assert_eq!(rt; form.len(), width + size);
-        is_spelled_alone(&rt, alloc, &text, &form)?;
-        bytes.push(7u8)?;
-        text.push('x')?;
-    }
     Ok(())
 }

@@ -2,5 +2,4 @@
 mod calls;
 mod lists;
 mod secrets;
-mod sizes;
 mod spellings;

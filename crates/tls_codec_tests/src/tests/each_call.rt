@@ -105,9 +105,8 @@ pub(super) fn is_left<R: Source>(
     Ok(())
 }
 
-// Both paths read the value of a prefix of the bytes, and leave the rest; also where a source gives one
-// byte a pull.
-pub(super) fn is_read<T: Deserialize + DeserializeBytes + PartialEq>(
+// Both paths read the value of a prefix of the bytes, which are in memory, and leave the rest.
+pub(super) fn is_read_at_once<T: Deserialize + DeserializeBytes + PartialEq>(
     rt: &impl Abort,
     alloc: Global,
     bytes: &[u8],
@@ -121,6 +120,18 @@ pub(super) fn is_read<T: Deserialize + DeserializeBytes + PartialEq>(
     let found = T::tls_deserialize(alloc, &mut source)?;
     assert!(rt; found == *value);
     assert_eq!(rt; source, rest);
+    Ok(())
+}
+
+// The same, also where a source gives one byte a pull.
+pub(super) fn is_read<T: Deserialize + DeserializeBytes + PartialEq>(
+    rt: &impl Abort,
+    alloc: Global,
+    bytes: &[u8],
+    value: &T,
+    rest: &[u8],
+) -> Result<(), Fail> {
+    is_read_at_once(rt, alloc, bytes, value, rest)?;
     let mut drip = Drip::new(bytes);
     let found = T::tls_deserialize(alloc, &mut drip)?;
     assert!(rt; found == *value);

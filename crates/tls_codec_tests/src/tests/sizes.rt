@@ -1,0 +1,209 @@
+//! Each size to 600, and great ones, by each call that writes, reads or copies so many bytes.
+mod families;
+
+use super::each_call::{filled, is_read, is_read_at_once, is_written, is_written_alone};
+use std::alloc::{AllocError, Global};
+use std::process::Abort;
+use std::test::Fail;
+use tls_codec::{
+    Deserialize, DeserializeBytes, SecretVLByteVec, SecretVLBytes, Serialize, SerializeBytes,
+    VLByteVec, VLBytes,
+};
+
+const GREATEST: usize = 1_048_576;
+
+// Takes each size to 600, and the great ones, none above the most.
+fn each_size<P: Fn(usize) -> Result<(), Fail>>(most: usize, holds: P) -> Result<(), Fail>
+    requires { P.IsAlwaysCallable holds }
+{
+    for size in 0..=most.min(600) {
+        holds(size)?;
+    }
+    for size in [16_383, 16_384, 65_535, 65_536, GREATEST] {
+        if size <= most {
+            holds(size)?;
+        }
+    }
+    Ok(())
+}
+
+// The content behind its length: one byte below 64, two that begin with the bits 01 below 16,384, and
+// from there four that begin with 10.
+fn spelled(alloc: Global, content: &[u8]) -> Result<Vec<u8>, AllocError> {
+    let [.., top, high, middle, low] = content.len().to_be_bytes();
+    let mut form = match content.len() {
+        0..64 => [low].to_vec(alloc)?,
+        64..16_384 => [0x40 | middle, low].to_vec(alloc)?,
+        _ => [0x80 | top, high, middle, low].to_vec(alloc)?,
+    };
+    form.extend_from_slice(content)?;
+    Ok(form)
+}
+
+// Each decoder reads the value from these bytes. One byte a pull takes long where they are many.
+fn is_read_back<T: Deserialize + DeserializeBytes + PartialEq>(
+    rt: &impl Abort,
+    alloc: Global,
+    value: &T,
+    bytes: &[u8],
+) -> Result<(), Fail> {
+    if bytes.len() < 1_000 {
+        is_read(rt, alloc, bytes, value, &[])?;
+    } else {
+        is_read_at_once(rt, alloc, bytes, value, &[])?;
+    }
+    assert!(rt; T::tls_deserialize_exact_bytes(alloc, bytes)? == *value);
+    assert!(rt; T::tls_deserialize_exact(alloc, bytes)? == *value);
+    Ok(())
+}
+
+// A copy has the whole content, and a byte is put behind it.
+macro_rules! is_copied_and_grows {
+    ($rt:expr, $owned:ident, $content:ident) => {
+        let copy = $owned.clone()?;
+        assert_eq!($rt; copy.as_slice(), $content.as_slice());
+        $owned.push(0x62)?;
+        assert_eq!($rt; $owned.as_slice().split_last(), Some((&0x62, $content.as_slice())));
+    };
+}
+
+use is_copied_and_grows;
+
+// What a byte vector does with so many bytes.
+macro_rules! byte_vector {
+    ($rt:ident, $Owned:ident, $is_written:ident) => {
+        each_size(GREATEST, |size| {
+            let content = filled($rt.alloc(), size, 0x61)?;
+            let form = spelled($rt.alloc(), &content)?;
+            let mut owned = $Owned::from_slice($rt.alloc(), &content)?;
+            $is_written(&$rt, $rt.alloc(), &owned, &form)?;
+            is_read_back(&$rt, $rt.alloc(), &owned, &form)?;
+            is_copied_and_grows!(&$rt, owned, content);
+            Ok(())
+        })
+    };
+}
+
+#[test]
+fn sizes_of_vl_bytes(rt: HostRuntime) -> Result<(), Fail> {
+    byte_vector!(rt, VLBytes, is_written_alone)
+}
+
+#[test]
+fn sizes_of_vl_byte_vec(rt: HostRuntime) -> Result<(), Fail> {
+    byte_vector!(rt, VLByteVec, is_written_alone)
+}
+
+#[test]
+fn sizes_of_secret_vl_bytes(rt: HostRuntime) -> Result<(), Fail> {
+    byte_vector!(rt, SecretVLBytes, is_written)
+}
+
+#[test]
+fn sizes_of_secret_vl_byte_vec(rt: HostRuntime) -> Result<(), Fail> {
+    byte_vector!(rt, SecretVLByteVec, is_written)
+}
+
+#[test]
+fn sizes_of_vectors(rt: HostRuntime) -> Result<(), Fail> {
+    let alloc = rt.alloc();
+    each_size(GREATEST, |size| {
+        let content = filled(alloc, size, 0x61)?;
+        let form = spelled(alloc, &content)?;
+        let mut list = content.as_slice().to_vec(alloc)?;
+        is_written_alone(&rt, alloc, &list, &form)?;
+        is_read_back(&rt, alloc, &list, &form)?;
+        is_copied_and_grows!(&rt, list, content);
+        Ok(())
+    })
+}
+
+#[test]
+fn sizes_of_texts(rt: HostRuntime) -> Result<(), Fail> {
+    let alloc = rt.alloc();
+    each_size(GREATEST, |size| {
+        let mut text = String::new(alloc);
+        for _at in 0..size {
+            text.push('a')?;
+        }
+        let form = spelled(alloc, &filled(alloc, size, b'a')?)?;
+        is_written_alone(&rt, alloc, &text, &form)?;
+        is_read_back(&rt, alloc, &text, &form)
+    })
+}
+
+// So many byte vectors without a byte, and what they are spelled as.
+fn empty_vectors(alloc: Global, count: usize) -> Result<(Vec<VLBytes>, Vec<u8>), AllocError> {
+    let mut list = Vec::new(alloc);
+    for _at in 0..count {
+        list.push(VLBytes::new(Vec::new(alloc)))?;
+    }
+    let form = spelled(alloc, &filled(alloc, count, 0)?)?;
+    Ok((list, form))
+}
+
+#[test]
+fn sizes_of_lists_of_empty_vectors(rt: HostRuntime) -> Result<(), Fail> {
+    let alloc = rt.alloc();
+    each_size(65_536, |size| {
+        let made = empty_vectors(alloc, size)?;
+        let (list, form) = made;
+        is_written_alone(&rt, alloc, &list, &form)?;
+        is_read_back(&rt, alloc, &list, &form)
+    })
+}
+
+// The greatest list of them, by one call a test, since each takes long.
+#[test]
+fn many_empty_vectors_are_sent(rt: HostRuntime) -> Result<(), Fail> {
+    let made = empty_vectors(rt.alloc(), GREATEST)?;
+    let (list, form) = made;
+    let mut received = Vec::new(rt.alloc());
+    assert_eq!(rt; list.tls_serialize(&mut received)?, form.len());
+    assert!(rt; received == form);
+    Ok(())
+}
+
+#[test]
+fn many_empty_vectors_are_appended(rt: HostRuntime) -> Result<(), Fail> {
+    let made = empty_vectors(rt.alloc(), GREATEST)?;
+    let (list, form) = made;
+    let mut out = Vec::new(rt.alloc());
+    assert_eq!(rt; list.tls_serialize_into(&mut out)?, form.len());
+    assert!(rt; out == form);
+    Ok(())
+}
+
+#[test]
+fn many_empty_vectors_are_detached(rt: HostRuntime) -> Result<(), Fail> {
+    let made = empty_vectors(rt.alloc(), GREATEST)?;
+    let (list, form) = made;
+    assert!(rt; list.tls_serialize_detached(rt.alloc())? == form);
+    Ok(())
+}
+
+#[test]
+fn many_empty_vectors_are_a_vector(rt: HostRuntime) -> Result<(), Fail> {
+    let made = empty_vectors(rt.alloc(), GREATEST)?;
+    let (list, form) = made;
+    assert!(rt; list.tls_serialize_bytes(rt.alloc())? == form);
+    Ok(())
+}
+
+#[test]
+fn many_empty_vectors_are_split(rt: HostRuntime) -> Result<(), Fail> {
+    let made = empty_vectors(rt.alloc(), GREATEST)?;
+    let (list, form) = made;
+    let found = <Vec<VLBytes>>::tls_deserialize_exact_bytes(rt.alloc(), &form)?;
+    assert!(rt; found == list);
+    Ok(())
+}
+
+#[test]
+fn many_empty_vectors_are_read(rt: HostRuntime) -> Result<(), Fail> {
+    let made = empty_vectors(rt.alloc(), GREATEST)?;
+    let (list, form) = made;
+    let found = <Vec<VLBytes>>::tls_deserialize_exact(rt.alloc(), &form)?;
+    assert!(rt; found == list);
+    Ok(())
+}

@@ -1,0 +1,95 @@
+//! Those behind a length of one to four bytes.
+use super::{GREATEST, each_size, is_copied_and_grows, is_read_back};
+use crate::tests::each_call::{filled, is_written, is_written_alone};
+use std::alloc::{AllocError, Global};
+use std::process::Abort;
+use std::test::Fail;
+use tls_codec::{LengthField, SecretTlsVec, TlsByteVec, TlsVec, U24};
+
+// The content behind its length of so many bytes.
+fn spelled(alloc: Global, width: usize, content: &[u8]) -> Result<Vec<u8>, AllocError> {
+    let length = content.len().to_be_bytes();
+    let mut form = length[8usize.saturating_sub(width)..].to_vec(alloc)?;
+    form.extend_from_slice(content)?;
+    Ok(form)
+}
+
+// What a list of bytes does with so many of them, behind a length of so many bytes.
+macro_rules! list_of_bytes {
+    ($rt:ident, $alloc:ident, $Owned:ty, $is_written:ident, $width:ident, $most:ident) => {
+        each_size($most, |size| {
+            let content = filled($alloc, size, 0x61)?;
+            let form = spelled($alloc, $width, &content)?;
+            let mut owned = <$Owned>::from_slice($alloc, &content)?;
+            $is_written($rt, $alloc, &owned, &form)?;
+            is_read_back($rt, $alloc, &owned, &form)?;
+            let given = <$Owned>::try_from_iter($alloc, content.iter().copied())?;
+            assert!($rt; given == owned);
+            is_copied_and_grows!($rt, owned, content);
+            Ok(())
+        })
+    };
+}
+
+fn byte_vectors<F: LengthField>(
+    rt: &impl Abort,
+    alloc: Global,
+    width: usize,
+    most: usize,
+) -> Result<(), Fail> {
+    list_of_bytes!(rt, alloc, TlsByteVec<F>, is_written_alone, width, most)
+}
+
+fn lists<F: LengthField>(
+    rt: &impl Abort,
+    alloc: Global,
+    width: usize,
+    most: usize,
+) -> Result<(), Fail> {
+    list_of_bytes!(rt, alloc, TlsVec<F, u8>, is_written, width, most)
+}
+
+fn secrets<F: LengthField>(
+    rt: &impl Abort,
+    alloc: Global,
+    width: usize,
+    most: usize,
+) -> Result<(), Fail> {
+    list_of_bytes!(rt, alloc, SecretTlsVec<F, u8>, is_written, width, most)
+}
+
+#[test]
+fn sizes_of_byte_vectors(rt: HostRuntime) -> Result<(), Fail> {
+    byte_vectors::<u8>(&rt, rt.alloc(), 1, 255)?;
+    byte_vectors::<u16>(&rt, rt.alloc(), 2, 65_535)?;
+    byte_vectors::<U24>(&rt, rt.alloc(), 3, GREATEST)
+}
+
+#[test]
+fn sizes_of_byte_vectors_behind_four_bytes(rt: HostRuntime) -> Result<(), Fail> {
+    byte_vectors::<u32>(&rt, rt.alloc(), 4, GREATEST)
+}
+
+#[test]
+fn sizes_of_lists(rt: HostRuntime) -> Result<(), Fail> {
+    lists::<u8>(&rt, rt.alloc(), 1, 255)?;
+    lists::<u16>(&rt, rt.alloc(), 2, 65_535)?;
+    lists::<U24>(&rt, rt.alloc(), 3, GREATEST)
+}
+
+#[test]
+fn sizes_of_lists_behind_four_bytes(rt: HostRuntime) -> Result<(), Fail> {
+    lists::<u32>(&rt, rt.alloc(), 4, GREATEST)
+}
+
+#[test]
+fn sizes_of_secrets(rt: HostRuntime) -> Result<(), Fail> {
+    secrets::<u8>(&rt, rt.alloc(), 1, 255)?;
+    secrets::<u16>(&rt, rt.alloc(), 2, 65_535)?;
+    secrets::<U24>(&rt, rt.alloc(), 3, GREATEST)
+}
+
+#[test]
+fn sizes_of_secrets_behind_four_bytes(rt: HostRuntime) -> Result<(), Fail> {
+    secrets::<u32>(&rt, rt.alloc(), 4, GREATEST)
+}
