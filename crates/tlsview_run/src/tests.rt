@@ -95,12 +95,11 @@ fn an_input_has_a_greatest_length(rt: HostRuntime) -> Result<(), Fail> {
 fn a_list_of_each_size_is_read(rt: HostRuntime) -> Result<(), Fail> {
     for size in 0..=600usize {
         let [.., high, low] = size.to_be_bytes();
-        let front = if size < 64 {
-            [low].as_slice()
+        let mut form = if size < 64 {
+            [low].to_vec(rt.alloc())?
         } else {
-            &[0x40 | high, low]
+            [0x40 | high, low].to_vec(rt.alloc())?
         };
-        let mut form = front.to_vec(rt.alloc())?;
         form.extend_from_slice(&vec![in rt.alloc(); 0x61; size]?)?;
         let text = hex::encode(rt.alloc(), &form)?;
         let (outcome, _) = run_on(rt.alloc(), "vec-u8", text.as_bytes());
