@@ -40,14 +40,14 @@ fn spelled(alloc: Global, content: &[u8]) -> Result<Vec<u8>, AllocError> {
     Ok(form)
 }
 
-// Each decoder reads the value from these bytes. One byte a pull takes long where they are many.
+// Each decoder reads the value from these bytes, few of them also one byte a pull, which takes long.
 fn is_read_back<T: Deserialize + DeserializeBytes + PartialEq>(
     rt: &impl Abort,
     alloc: Global,
     value: &T,
     bytes: &[u8],
 ) -> Result<(), Fail> {
-    if bytes.len() < 1_000 {
+    if bytes.len() < 300 {
         is_read(rt, alloc, bytes, value, &[])?;
     } else {
         is_read_at_once(rt, alloc, bytes, value, &[])?;
