@@ -53,8 +53,7 @@ pub enum Case {
 
 /// The cases, in the order in which they are timed.
 ///
-/// Those of a mebibyte come last: once an allocator has given and taken back so many bytes, it takes longer
-/// for a vector of 4,096, whoever asks.
+/// Those of a mebibyte come last: a byte vector of 4,096 was written more slowly behind them.
 pub const CASES: [Case; 21] = [
     Case::Copy64,
     Case::Copy4096,

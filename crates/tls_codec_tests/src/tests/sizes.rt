@@ -12,19 +12,18 @@ use tls_codec::{
 
 const GREATEST: usize = 1_048_576;
 
-// Takes each size to 600, and the great ones, none above the most.
-fn each_size<P: Fn(usize) -> Result<(), Fail>>(most: usize, holds: P) -> Result<(), Fail>
-    requires { P.IsAlwaysCallable holds }
-{
+// Each size to 600, and the great ones, none above the most.
+fn sizes_to(alloc: Global, most: usize) -> Result<Vec<usize>, AllocError> {
+    let mut sizes = Vec::new(alloc);
     for size in 0..=most.min(600) {
-        holds(size)?;
+        sizes.push(size)?;
     }
-    for size in [16_383, 16_384, 65_535, 65_536, GREATEST] {
-        if size <= most {
-            holds(size)?;
+    for great in [16_383, 16_384, 65_535, 65_536, GREATEST] {
+        if great <= most {
+            sizes.push(great)?;
         }
     }
-    Ok(())
+    Ok(sizes)
 }
 
 // The content behind its length: one byte below 64, two that begin with the bits 01 below 16,384, and
@@ -72,64 +71,74 @@ use is_copied_and_grows;
 // What a byte vector does with so many bytes.
 macro_rules! byte_vector {
     ($rt:ident, $Owned:ident, $is_written:ident) => {
-        each_size(GREATEST, |size| {
+        for size in sizes_to($rt.alloc(), GREATEST)? {
             let content = filled($rt.alloc(), size, 0x61)?;
             let form = spelled($rt.alloc(), &content)?;
             let mut owned = $Owned::from_slice($rt.alloc(), &content)?;
             $is_written(&$rt, $rt.alloc(), &owned, &form)?;
             is_read_back(&$rt, $rt.alloc(), &owned, &form)?;
             is_copied_and_grows!(&$rt, owned, content);
-            Ok(())
-        })
+        }
     };
 }
 
 #[test]
 fn sizes_of_vl_bytes(rt: HostRuntime) -> Result<(), Fail> {
-    byte_vector!(rt, VLBytes, is_written_alone)
+    byte_vector!(rt, VLBytes, is_written_alone);
+    Ok(())
 }
 
 #[test]
 fn sizes_of_vl_byte_vec(rt: HostRuntime) -> Result<(), Fail> {
-    byte_vector!(rt, VLByteVec, is_written_alone)
+    byte_vector!(rt, VLByteVec, is_written_alone);
+    Ok(())
 }
 
 #[test]
 fn sizes_of_secret_vl_bytes(rt: HostRuntime) -> Result<(), Fail> {
-    byte_vector!(rt, SecretVLBytes, is_written)
+    byte_vector!(rt, SecretVLBytes, is_written);
+    Ok(())
 }
 
 #[test]
 fn sizes_of_secret_vl_byte_vec(rt: HostRuntime) -> Result<(), Fail> {
-    byte_vector!(rt, SecretVLByteVec, is_written)
+    byte_vector!(rt, SecretVLByteVec, is_written);
+    Ok(())
 }
 
 #[test]
 fn sizes_of_vectors(rt: HostRuntime) -> Result<(), Fail> {
     let alloc = rt.alloc();
-    each_size(GREATEST, |size| {
+    for size in sizes_to(alloc, GREATEST)? {
         let content = filled(alloc, size, 0x61)?;
         let form = spelled(alloc, &content)?;
         let mut list = content.as_slice().to_vec(alloc)?;
         is_written_alone(&rt, alloc, &list, &form)?;
         is_read_back(&rt, alloc, &list, &form)?;
         is_copied_and_grows!(&rt, list, content);
-        Ok(())
-    })
+    }
+    Ok(())
+}
+
+// A text of so many bytes.
+fn text_of(alloc: Global, size: usize) -> Result<String, AllocError> {
+    let mut text = String::new(alloc);
+    for _at in 0..size {
+        text.push('a')?;
+    }
+    Ok(text)
 }
 
 #[test]
 fn sizes_of_texts(rt: HostRuntime) -> Result<(), Fail> {
     let alloc = rt.alloc();
-    each_size(GREATEST, |size| {
-        let mut text = String::new(alloc);
-        for _at in 0..size {
-            text.push('a')?;
-        }
-        let form = spelled(alloc, &filled(alloc, size, b'a')?)?;
+    for size in sizes_to(alloc, GREATEST)? {
+        let text = text_of(alloc, size)?;
+        let form = spelled(alloc, text.as_bytes())?;
         is_written_alone(&rt, alloc, &text, &form)?;
-        is_read_back(&rt, alloc, &text, &form)
-    })
+        is_read_back(&rt, alloc, &text, &form)?;
+    }
+    Ok(())
 }
 
 // So many byte vectors without a byte, and what they are spelled as.
@@ -145,21 +154,23 @@ fn empty_vectors(alloc: Global, count: usize) -> Result<(Vec<VLBytes>, Vec<u8>),
 #[test]
 fn empty_vectors_are_written(rt: HostRuntime) -> Result<(), Fail> {
     let alloc = rt.alloc();
-    each_size(65_536, |size| {
+    for size in sizes_to(alloc, 65_536)? {
         let made = empty_vectors(alloc, size)?;
         let (list, form) = made;
-        is_written_alone(&rt, alloc, &list, &form)
-    })
+        is_written_alone(&rt, alloc, &list, &form)?;
+    }
+    Ok(())
 }
 
 #[test]
 fn empty_vectors_are_read(rt: HostRuntime) -> Result<(), Fail> {
     let alloc = rt.alloc();
-    each_size(65_536, |size| {
+    for size in sizes_to(alloc, 65_536)? {
         let made = empty_vectors(alloc, size)?;
         let (list, form) = made;
-        is_read_back(&rt, alloc, &list, &form)
-    })
+        is_read_back(&rt, alloc, &list, &form)?;
+    }
+    Ok(())
 }
 
 // The greatest list of them, by one call a test, since each takes long.

@@ -1,5 +1,5 @@
 //! Those behind a length of one to four bytes.
-use super::{GREATEST, each_size, is_copied_and_grows, is_read_back};
+use super::{GREATEST, is_copied_and_grows, is_read_back, sizes_to};
 use crate::tests::each_call::{filled, is_written, is_written_alone};
 use std::alloc::{AllocError, Global};
 use std::process::Abort;
@@ -17,7 +17,7 @@ fn spelled(alloc: Global, width: usize, content: &[u8]) -> Result<Vec<u8>, Alloc
 // What a list of bytes does with so many of them, behind a length of so many bytes.
 macro_rules! list_of_bytes {
     ($rt:ident, $alloc:ident, $Owned:ty, $is_written:ident, $width:ident, $most:ident) => {
-        each_size($most, |size| {
+        for size in sizes_to($alloc, $most)? {
             let content = filled($alloc, size, 0x61)?;
             let form = spelled($alloc, $width, &content)?;
             let mut owned = <$Owned>::from_slice($alloc, &content)?;
@@ -26,8 +26,7 @@ macro_rules! list_of_bytes {
             let given = <$Owned>::try_from_iter($alloc, content.iter().copied())?;
             assert!($rt; given == owned);
             is_copied_and_grows!($rt, owned, content);
-            Ok(())
-        })
+        }
     };
 }
 
@@ -37,7 +36,8 @@ fn byte_vectors<F: LengthField>(
     width: usize,
     most: usize,
 ) -> Result<(), Fail> {
-    list_of_bytes!(rt, alloc, TlsByteVec<F>, is_written_alone, width, most)
+    list_of_bytes!(rt, alloc, TlsByteVec<F>, is_written_alone, width, most);
+    Ok(())
 }
 
 fn lists<F: LengthField>(
@@ -46,7 +46,8 @@ fn lists<F: LengthField>(
     width: usize,
     most: usize,
 ) -> Result<(), Fail> {
-    list_of_bytes!(rt, alloc, TlsVec<F, u8>, is_written, width, most)
+    list_of_bytes!(rt, alloc, TlsVec<F, u8>, is_written, width, most);
+    Ok(())
 }
 
 fn secrets<F: LengthField>(
@@ -55,7 +56,8 @@ fn secrets<F: LengthField>(
     width: usize,
     most: usize,
 ) -> Result<(), Fail> {
-    list_of_bytes!(rt, alloc, SecretTlsVec<F, u8>, is_written, width, most)
+    list_of_bytes!(rt, alloc, SecretTlsVec<F, u8>, is_written, width, most);
+    Ok(())
 }
 
 #[test]
