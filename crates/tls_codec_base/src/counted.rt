@@ -20,12 +20,8 @@ use tls_codec_wire::{Error, Sink, Source};
 /// How many bytes an element likely has, where elements have no one width.
 const LIKELY_LENGTH: usize = 64;
 
-/// For how many elements of no one width room is asked for at once, a byte for each: those of no bytes
-/// need none.
-const MOST_ROOM: usize = 1 << 20;
-
-/// The least room in an empty vector, so that it doesn't grow with each of some nested lists.
-const LEAST_ROOM: usize = 64;
+/// For how many bytes of elements of no one width room is asked for at once: those of no bytes need none.
+const MOST_ROOM: usize = 1 << 16;
 
 /// A gap for a length is left behind at most so many bytes.
 const MOST_BEHIND: usize = 1 << 61;
@@ -137,15 +133,21 @@ fn likely_width<F: LengthField, T: Size>(at: usize, count: usize) -> usize
     if at > MOST_BEHIND {
         return 0;
     }
-    let each = T::tls_fixed_len().unwrap_or(LIKELY_LENGTH);
-    F::width(count.saturating_mul(each)).min(8)
+    // Where the number is a constant, so is its width.
+    let width = match T::tls_fixed_len() {
+        Some(each) => F::width(count.saturating_mul(each)),
+        None if count == 0 => F::width(0),
+        None if count < 256 => F::width(LIKELY_LENGTH),
+        None => F::width(count.saturating_mul(LIKELY_LENGTH)),
+    };
+    width.min(8)
 }
 
 // How much room is asked for at once for so many elements, behind so many bytes.
 fn room_for<T: Size>(at: usize, count: usize) -> usize {
     match T::tls_fixed_len() {
         Some(each) => count.saturating_mul(each),
-        None if at == 0 => count.clamp(LEAST_ROOM, MOST_ROOM),
+        None if at == 0 => count.saturating_mul(LIKELY_LENGTH).min(MOST_ROOM),
         None => count.min(MOST_ROOM),
     }
 }

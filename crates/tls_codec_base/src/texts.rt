@@ -94,6 +94,7 @@ impl Serialize for &str {
 
     /// `InvalidVectorLength`: there are more bytes than the greatest length. `OutOfMemory`: there was
     /// none.
+    #[inline(always)]
     fn tls_serialize_into(&self, out: &mut Vec<u8>) -> Result<usize, Error> {
         opaque::append::<TlsVarInt>(out, self.as_bytes())
     }

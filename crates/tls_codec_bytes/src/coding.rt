@@ -35,6 +35,7 @@ impl<F: LengthField> Serialize for TlsByteVec<F> {
 
     /// `InvalidVectorLength`: there are more bytes than the length field counts. `OutOfMemory`: there
     /// was none.
+    #[inline(always)]
     fn tls_serialize_into(&self, out: &mut Vec<u8>) -> Result<usize, Error> {
         opaque::append::<F>(out, self.as_slice())
     }

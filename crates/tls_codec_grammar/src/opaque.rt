@@ -39,6 +39,7 @@ pub fn write<F: LengthField, W: Sink>(sink: &mut W, content: &[u8]) -> Result<us
 ///
 /// `InvalidVectorLength`: there are more bytes than the greatest length. `OutOfMemory`: there was none.
 /// After a refusal the vector's bytes are those from before.
+#[inline(always)]
 pub fn append<F: LengthField>(out: &mut Vec<u8>, content: &[u8]) -> Result<usize, Error>
     ensures appends { AppendsForm (counted_bytes_format F.field) (number_trees content.now) out.old.items out.new.items result }
     ensures too_long { (counted_bytes_format F.field).too_long (number_trees content.now) → result ≡ Err InvalidVectorLength }

@@ -50,6 +50,7 @@ impl<'a> Serialize for TlsByteSliceU8<'a> {
     }
 
     /// `InvalidVectorLength`: there are more than 255 bytes. `OutOfMemory`: there was none.
+    #[inline(always)]
     fn tls_serialize_into(&self, out: &mut Vec<u8>) -> Result<usize, Error> {
         opaque::append::<u8>(out, self.0)
     }
@@ -122,6 +123,7 @@ impl<'a> Serialize for TlsByteSliceU16<'a> {
     }
 
     /// `InvalidVectorLength`: there are more than 65,535 bytes. `OutOfMemory`: there was none.
+    #[inline(always)]
     fn tls_serialize_into(&self, out: &mut Vec<u8>) -> Result<usize, Error> {
         opaque::append::<u16>(out, self.0)
     }
@@ -194,6 +196,7 @@ impl<'a> Serialize for TlsByteSliceU24<'a> {
     }
 
     /// `InvalidVectorLength`: there are more than 16,777,215 bytes. `OutOfMemory`: there was none.
+    #[inline(always)]
     fn tls_serialize_into(&self, out: &mut Vec<u8>) -> Result<usize, Error> {
         opaque::append::<U24>(out, self.0)
     }
@@ -266,6 +269,7 @@ impl<'a> Serialize for TlsByteSliceU32<'a> {
     }
 
     /// `InvalidVectorLength`: there are more than 4,294,967,295 bytes. `OutOfMemory`: there was none.
+    #[inline(always)]
     fn tls_serialize_into(&self, out: &mut Vec<u8>) -> Result<usize, Error> {
         opaque::append::<u32>(out, self.0)
     }

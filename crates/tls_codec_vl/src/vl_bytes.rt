@@ -142,6 +142,7 @@ impl Serialize for VLBytes {
 
     /// `InvalidVectorLength`: there are more bytes than the greatest length. `OutOfMemory`: there was
     /// none.
+    #[inline(always)]
     fn tls_serialize_into(&self, out: &mut Vec<u8>) -> Result<usize, Error> {
         opaque::append::<TlsVarInt>(out, self.as_slice())
     }

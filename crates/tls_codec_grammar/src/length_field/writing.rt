@@ -42,7 +42,7 @@ pub fn open_gap(out: &mut Vec<u8>, width: usize, room: usize) -> Result<(), Allo
     ensures ok { OnOk result (OpenedGap out.old.items out.new.items width) }
     ensures kept { OnErr result (out.new.items ≡ out.old.items) }
 {
-    let _ = out.reserve(width.saturating_add(room));
+    let _ = make_room(out, width.saturating_add(room));
     let empty = [0u8; 8];
     append_few(out, &empty[..width])
 }
@@ -65,9 +65,21 @@ pub(crate) fn append_both(out: &mut Vec<u8>, few: &[u8], bytes: &[u8]) -> Result
 fn append_with_room(out: &mut Vec<u8>, few: &[u8], bytes: &[u8]) -> Result<(), AllocError>
     ensures { out.new.items ≡ (if is_ok result then out.old.items ++ (few.now ++ bytes.now) else out.old.items) }
 {
-    out.reserve(few.len().saturating_add(bytes.len()))?;
+    make_room(out, few.len().saturating_add(bytes.len()))?;
     append_few(out, few)?;
     out.extend_from_slice(bytes)
+}
+
+// Asks for room for so many more bytes. A vector that has none yet gets just as much, and this is no call.
+#[inline(always)]
+fn make_room(out: &mut Vec<u8>, more: usize) -> Result<(), AllocError>
+    ensures items { out.new.items ≡ out.old.items }
+    ensures room { OnOk result (vec_len out.new + more ≤ vec_capacity out.new) }
+{
+    if out.capacity() == 0 {
+        return out.reserve_exact(more);
+    }
+    out.reserve(more)
 }
 
 // Appends a few bytes. One, two or four are stored by no call.
@@ -119,9 +131,27 @@ pub fn fill_gap<F: LengthField>(out: &mut Vec<u8>, at: usize, gap: usize) -> Res
     Ok(form.len())
 }
 
-// Puts these bytes in the place of a gap, and moves what stands behind it where they are not as many.
+// Puts these bytes in the place of a gap, and moves what stands behind it where they are not as many. One,
+// two or four are stored by no call.
 #[inline(always)]
 fn fill_with(out: &mut Vec<u8>, at: usize, gap: usize, form: &[u8]) -> Result<(), Error>
+    requires place { at + gap ≤ vec_len out.old }
+    requires small { length form.now ≤ 8 }
+    ensures ok { OnOk result (out.new.items ≡ take at out.old.items ++ (form.now ++ drop (at + gap) out.old.items)) }
+    ensures kept { OnErr result (out.new.items ≡ out.old.items) }
+    ensures err { IfErr result (λ e. (e ≡ OutOfMemory) ⊎ ((e ≡ InvalidVectorLength) × (2 ^ 63 ≤ length out.old.items - gap + length form.now))) }
+{
+    match form.len() {
+        1 => fit_and_put(out, at, gap, &form[..1]),
+        2 => fit_and_put(out, at, gap, &form[..2]),
+        4 => fit_and_put(out, at, gap, &form[..4]),
+        _ => fit_and_put(out, at, gap, form),
+    }
+}
+
+// The same, whatever their number.
+#[inline(always)]
+fn fit_and_put(out: &mut Vec<u8>, at: usize, gap: usize, form: &[u8]) -> Result<(), Error>
     requires place { at + gap ≤ vec_len out.old }
     requires small { length form.now ≤ 8 }
     ensures ok { OnOk result (out.new.items ≡ take at out.old.items ++ (form.now ++ drop (at + gap) out.old.items)) }
@@ -131,11 +161,12 @@ fn fill_with(out: &mut Vec<u8>, at: usize, gap: usize, form: &[u8]) -> Result<()
     if form.len() != gap {
         fit_gap(out, at, gap, form.len())?;
     }
-    put_over(out, at, form);
+    overwrite(out, at, form);
     Ok(())
 }
 
 // Makes a gap as wide as this, and moves what stands behind it.
+#[inline(always)]
 fn fit_gap(out: &mut Vec<u8>, at: usize, gap: usize, width: usize) -> Result<(), Error>
     requires place { at + gap ≤ vec_len out.old }
     requires small { width ≤ 8 }
@@ -207,21 +238,6 @@ fn cut_out(out: &mut Vec<u8>, at: usize, count: usize)
     let end = out.len();
     out.copy_within(at + count..end, at);
     out.truncate(end - count);
-}
-
-// Writes a few bytes over those of a vector that stand behind a place. One, two or four are stored by
-// no call.
-#[inline(always)]
-fn put_over(out: &mut Vec<u8>, at: usize, form: &[u8])
-    requires { at + length form.now ≤ vec_len out.old }
-    ensures { out.new.items ≡ take at out.old.items ++ (form.now ++ drop (at + length form.now) out.old.items) }
-{
-    match form.len() {
-        1 => overwrite(out, at, &form[..1]),
-        2 => overwrite(out, at, &form[..2]),
-        4 => overwrite(out, at, &form[..4]),
-        _ => overwrite(out, at, form),
-    }
 }
 
 // Writes bytes over those of a vector that stand behind a place.
