@@ -134,7 +134,7 @@ fn sizes_of_texts(rt: HostRuntime) -> Result<(), Fail> {
     let alloc = rt.alloc();
     for size in sizes_to(alloc, GREATEST)? {
         let text = text_of(alloc, size)?;
-        let form = spelled(alloc, text.as_bytes())?;
+        let form = spelled(alloc, &filled(alloc, size, b'a')?)?;
         is_written_alone(&rt, alloc, &text, &form)?;
         is_read_back(&rt, alloc, &text, &form)?;
     }
