@@ -8,8 +8,7 @@ use tls_codec::{Error, Serialize, Size, VLBytes};
 #[test]
 fn an_extension_is_rewritten(rt: HostRuntime) -> Result<(), Fail> {
     let alloc = rt.alloc();
-    // The length has two bytes where one would do.
-    let bytes = [0, 1, 0x40, 3, 0x61, 0x62, 0x63, 0xee];
+    let bytes = [0, 1, 3, 0x61, 0x62, 0x63, 0xee];
     for at in 0..bytes.len() {
         let (first, second) = bytes.split_at(at);
         let mut out = Vec::new(alloc);
@@ -19,7 +18,7 @@ fn an_extension_is_rewritten(rt: HostRuntime) -> Result<(), Fail> {
         );
         assert_eq!(rt; out.as_slice(), [0, 1, 3, 0x61, 0x62, 0x63].as_slice());
         let mut out = Vec::new(alloc);
-        let cut_off = if at < 7 {
+        let cut_off = if at < 6 {
             Err(Error::EndOfStream)
         } else {
             Ok(6)

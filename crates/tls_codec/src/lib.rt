@@ -1,6 +1,5 @@
 //! The presentation language of TLS (RFC 8446, section 3), and the variable-length vectors of MLS
-//! (RFC 9420, section 2.1.2): every name that a user needs, in one place. Wider than least lengths are
-//! read, which that section forbids.
+//! (RFC 9420, section 2.1.2): every name that a user needs, in one place.
 //!
 //! - The traits: [`Size`], [`Serialize`], [`SerializeBytes`], [`Deserialize`], [`DeserializeBytes`].
 //!   They stand for integers, arrays, options, pairs and triples, boxes, vectors and texts of `std`.

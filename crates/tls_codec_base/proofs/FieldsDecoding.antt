@@ -14,7 +14,7 @@ use Rattle.tls_codec_grammar.specs.Format.{Format, fields_format}
 use Rattle.tls_codec_grammar.specs.Decoding.{Begins, GaveSpelling, LeavesSource, NoneBegins, NoneComes, Refuses, RefusesSource}
 use Rattle.tls_codec_base.specs.Refusals.{IsSpelling, NamedBehind, SliceNames, SourceNamedBehind, SourceNames}
 use Rattle.tls_codec_base.proofs.Coming.{named_behind}
-use Rattle.tls_codec_grammar.proofs.Sent.{fault_later, rose_later}
+use Rattle.tls_codec_wire.proofs.Later.{fault_later, rose_later}
 
 -- ---- no parts
 

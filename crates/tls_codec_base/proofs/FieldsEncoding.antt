@@ -11,9 +11,10 @@ use Rattle.tls_codec_grammar.specs.Announced.{capped}
 use Rattle.tls_codec_grammar.specs.Format.{Format, fields_format, nothing_format}
 use Rattle.tls_codec_grammar.specs.Lawful.{MeetsLaws}
 use Rattle.tls_codec_grammar.specs.Encoding.{Breaks, Sends}
+use Rattle.tls_codec_grammar.specs.laws.AloneLaws.{alone_shortest}
 use Rattle.tls_codec_grammar.specs.laws.RowLaws.{least_one}
 use Rattle.tls_codec_grammar.specs.laws.FieldsLaws.{fields_least}
-use Rattle.tls_codec_grammar.proofs.Sent.{cause_later}
+use Rattle.tls_codec_wire.proofs.Later.{cause_later}
 
 -- no bytes are the shortest form of no parts
 pub nothing_form : IsShortest nothing [] Empty
@@ -26,10 +27,7 @@ module _ {first others : Format} {v vs : Tree} where
   -- the shortest form of a product is those of its first part and of the others
   pub fields_form : MeetsLaws first → MeetsLaws others → (s : List ℕ) → IsShortest (fields first.spells others.spells) s (Join v vs)
       → (x : List ℕ) × (y : List ℕ) × (s ≡ x ++ y) × IsShortest first.spells x v × IsShortest others.spells y vs
-  fields_form l m s p =
-      let x = l.spelled.shortest p.spelled.front v p.spelled.first in
-      let y = m.spelled.shortest p.spelled.rest vs p.spelled.second in
-      (x.0, y.0, least_one (λ u. fields first.spells others.spells Writing u (Join v vs)) s (x.0 ++ y.0) p (fields_least first.spells others.spells v vs x.0 y.0 x.1 y.1), x.1, y.1)
+  fields_form l m s p = (p.spelled.front, p.spelled.rest, p.spelled.whole, alone_shortest l.spelled p.spelled.front v p.spelled.first, alone_shortest m.spelled p.spelled.rest vs p.spelled.second)
 
   module _ {S : Type 0} {sink : Ghosts S} where
     pub fields_sends : {a b c : S} {j k : ℕ} → Sends first v sink a b j → Sends others vs sink b c k → Sends (fields_format first others) (Join v vs) sink a c (capped (j + k))

@@ -18,7 +18,7 @@ use Rattle.tls_codec_grammar.specs.Shortest.{IsHollow}
 use Rattle.tls_codec_grammar.specs.Format.{Format}
 use Rattle.tls_codec_base.specs.Refusals.{SourceNames, element_source_names, elements_source_names}
 use Rattle.tls_codec_base.proofs.Coming.{named_behind}
-use Rattle.tls_codec_grammar.proofs.Sent.{fault_later}
+use Rattle.tls_codec_wire.proofs.Later.{fault_later}
 
 -- the source gave a content of v, and left of n bytes are still to be read
 pub record GivenSoFar {S : Type 0} (given : S → List ℕ → S → Type 0) (element : Grammar) (old new : S) (n left : ℕ) (v : Tree) : Type 0 where

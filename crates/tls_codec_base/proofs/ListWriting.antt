@@ -14,9 +14,9 @@ use Rattle.tls_codec_grammar.specs.Format.{Format, content_format, content_refus
 use Rattle.tls_codec_grammar.specs.laws.FormatLaws.{content_length_sum}
 use Rattle.tls_codec_grammar.specs.Lawful.{MeetsLaws}
 use Rattle.tls_codec_grammar.specs.Encoding.{Breaks, Sends}
-use Rattle.tls_codec_grammar.specs.laws.RowLaws.{least_one, row_least}
-use Rattle.tls_codec_grammar.specs.laws.ListLaws.{Part, capped_counted, content_shortest, part_least}
-use Rattle.tls_codec_grammar.proofs.Sent.{cause_later}
+use Rattle.tls_codec_grammar.specs.laws.RowLaws.{least_one}
+use Rattle.tls_codec_grammar.specs.laws.ListLaws.{capped_counted, content_in_a_row}
+use Rattle.tls_codec_wire.proofs.Later.{cause_later}
 
 -- ---- what is left of a slice
 
@@ -76,21 +76,19 @@ pub record NextForm (element : Grammar) (all x vs : Tree) (form s : List ℕ) : 
 
 module _ {element : Format} (l : MeetsLaws element) where
   join_least : (x vs : Tree) (s c : List ℕ) → IsShortest element.spells s x → IsShortest (content element.spells) c vs → IsShortest (content element.spells) (s ++ c) (Join x vs)
-  join_least x vs s c p q = row_least (Part element.spells Writing x) (λ u. content element.spells Writing u vs) s c (part_least element.spells s x p) q
+  join_least x vs s c p q = (content_in_a_row element.spells element.announced l.spelled (s ++ c) x vs).1 (record { front = s; rest = c; whole = refl; first = p; second = q })
 
   pub next_form : {all left x vs : Tree} {form : List ℕ} → FormSoFar element all left form → left ≡ Join x vs → (s : List ℕ) → IsShortest (content element.spells) s all → NextForm element.spells all x vs form s
   next_form {all} {left} {x} {vs} {form} p e s q =
       let behind = p.back s q in
       let c : IsShortest (content element.spells) behind.0 (Join x vs) = subst (λ (u : Tree). IsShortest (content element.spells) behind.0 u) e behind.2 in
-      let a = l.spelled.shortest c.spelled.front x c.spelled.first.0 in
-      let b = content_shortest element.spells element.announced l.spelled c.spelled.rest vs c.spelled.second in
-      let same : behind.0 ≡ a.0 ++ b.0 = least_one (λ u. content element.spells Writing u (Join x vs)) behind.0 (a.0 ++ b.0) c (join_least x vs a.0 b.0 a.1 b.1) in
+      let row = (content_in_a_row element.spells element.announced l.spelled behind.0 x vs).0 c in
       record {
-        next = a.0;
-        others = b.0;
-        whole = behind.1 ∙ ap (λ (u : List ℕ). form ++ u) same;
-        next_shortest = a.1;
-        others_shortest = b.1;
+        next = row.front;
+        others = row.rest;
+        whole = behind.1 ∙ ap (λ (u : List ℕ). form ++ u) row.whole;
+        next_shortest = row.first;
+        others_shortest = row.second;
       }
 
   pub form_more : {all left x vs : Tree} {form more : List ℕ} → FormSoFar element all left form → left ≡ Join x vs → IsShortest element.spells more x → FormSoFar element all vs (form ++ more)

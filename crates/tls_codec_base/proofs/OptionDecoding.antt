@@ -5,7 +5,7 @@ use Rattle.tls_codec_wire.specs.Counts.{Counts, NoneFell}
 use Rattle.tls_codec_wire.specs.Device.{GivesInOrder}
 use Rattle.tls_codec_wire.specs.declared.error.Error.{Error}
 use Rattle.tls_codec_wire.specs.declared.error.Error.TheVariants.{DecodingError}
-use Rattle.tls_codec_grammar.proofs.Sent.{fault_later, rose_later}
+use Rattle.tls_codec_wire.proofs.Later.{fault_later, rose_later}
 use Rattle.tls_codec_grammar.specs.Tree.{Tree, Empty, Join}
 use Rattle.tls_codec_grammar.specs.Grammar.{Grammar, option}
 use Rattle.tls_codec_grammar.specs.Decoding.{Begins, NoneBegins, NoneComes, GaveSpelling, Refuses, RefusesSource}

@@ -6,22 +6,20 @@ use Rattle.tls_codec_wire.specs.Counts.{NoneFell, fall_never}
 use Rattle.tls_codec_wire.specs.declared.device.Sink.{Ghosts}
 use Rattle.tls_codec_wire.specs.declared.error.Error.{Error}
 use Rattle.tls_codec_grammar.specs.Tree.{Tree, Empty, Join}
-use Rattle.tls_codec_grammar.specs.Grammar.{Writing, option}
+use Rattle.tls_codec_grammar.specs.Grammar.{option}
 use Rattle.tls_codec_grammar.specs.Shortest.{IsShortest}
 use Rattle.tls_codec_grammar.specs.Announced.{capped}
 use Rattle.tls_codec_grammar.specs.Format.{Format, option_format}
 use Rattle.tls_codec_grammar.specs.Lawful.{MeetsLaws}
 use Rattle.tls_codec_grammar.specs.Encoding.{Breaks, RefusesVector, Sends}
-use Rattle.tls_codec_grammar.specs.laws.RowLaws.{least_one}
+use Rattle.tls_codec_grammar.specs.laws.AloneLaws.{alone_shortest}
 use Rattle.tls_codec_grammar.specs.laws.OptionLaws.{option_some}
-use Rattle.tls_codec_grammar.proofs.Sent.{cause_later}
+use Rattle.tls_codec_wire.proofs.Later.{cause_later}
 
 module _ {payload : Format} (l : MeetsLaws payload) {v : Tree} where
   -- the shortest form of an option with a payload
   pub some_form : (s : List ℕ) → IsShortest (option payload.spells) s (Join v Empty) → (x : List ℕ) × (s ≡ 1 ∷ x) × IsShortest payload.spells x v
-  some_form s p =
-      let x = l.spelled.shortest p.spelled.0 v p.spelled.2 in
-      (x.0, least_one (λ u. option payload.spells Writing u (Join v Empty)) s (1 ∷ x.0) p (option_some payload.spells v x.0 x.1), x.1)
+  some_form s p = (p.spelled.0, p.spelled.1, alone_shortest l.spelled p.spelled.0 v p.spelled.2)
 
   module _ {S : Type 0} {sink : Ghosts S} where
     pub option_sends : {a b c : S} {k n : ℕ} → Appends (sink.received a) (sink.received b) (1 ∷ []) → NoneFell (sink.counts a) (sink.counts b) → Sends payload v sink b c k → n ≡ capped (k + 1) → Sends (option_format payload) (Join v Empty) sink a c n

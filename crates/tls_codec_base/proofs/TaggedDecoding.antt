@@ -17,7 +17,7 @@ use Rattle.tls_codec_grammar.specs.Format.{Format, fields_format, nothing_format
 use Rattle.tls_codec_grammar.specs.Lawful.{MeetsLaws}
 use Rattle.tls_codec_grammar.specs.Decoding.{Begins, GaveSpelling, LeavesSource, NoneBegins, NoneComes, Reads, Refuses, Splits}
 use Rattle.tls_codec_grammar.specs.Tagged.{MeetVariantLaws, Variants, tagged, tagged_format}
-use Rattle.tls_codec_grammar.proofs.Sent.{fault_later, rose_later}
+use Rattle.tls_codec_wire.proofs.Later.{fault_later, rose_later}
 use Rattle.tls_codec_base.specs.Refusals.{SliceNames, SourceNames}
 use Rattle.tls_codec_base.proofs.Coming.{named_behind}
 use Rattle.tls_codec_base.proofs.FieldsDecoding.{fields_begins, fields_given, none_at_first, none_comes_at_first, nothing_begins, nothing_given}

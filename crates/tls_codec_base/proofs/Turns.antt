@@ -17,7 +17,7 @@ use Rattle.tls_codec_grammar.specs.Lawful.{IsLawful}
 use Rattle.tls_codec_grammar.specs.Decoding.{AllGiven, AllRead, GaveSpelling, NoneComes, Refuses, RefusesSource}
 use Rattle.tls_codec_grammar.specs.Format.{Format}
 use Rattle.tls_codec_grammar.specs.Shortest.{IsHollow}
-use Rattle.tls_codec_grammar.proofs.Sent.{fault_later}
+use Rattle.tls_codec_wire.proofs.Later.{fault_later}
 use Rattle.tls_codec_base.specs.WholeElements.{NoElementBegins}
 use Rattle.tls_codec_base.specs.Turns.{MemoryOrFault, SourceTurnedRefused, TurnedAll, TurnedAtMost, TurnedBy, TurnedEach, TurnedPast, TurnedWithin, TurnedWithinGiven}
 use Rattle.tls_codec_base.specs.declared.lists.Turns.{Turns}

@@ -2,13 +2,14 @@
 use Rattle.std.specs.Prelude.{◌≡◌, ◌<◌, ◌+◌, ◌⊎◌, ℕ, List, [], ◌∷◌, ◌++◌, length, take, codes, Option, option_map}
 use Rattle.std.specs.Io.KnownBytes.{Consumes}
 use Rattle.tls_codec_wire.specs.Counts.{Counts, NoneFell}
+use Rattle.tls_codec_wire.specs.Numbers.{NumberNotRead}
 use Rattle.tls_codec_wire.specs.Transfer.{ReadRefused}
 use Rattle.tls_codec_wire.specs.declared.error.Error.{Error}
 use Rattle.tls_codec_wire.specs.declared.error.Error.TheVariants.{EndOfStream, OutOfMemory}
 use Rattle.tls_codec_grammar.specs.Tree.{Tree}
 use Rattle.tls_codec_grammar.specs.Grammar.{Grammar, Reading, content}
 use Rattle.tls_codec_grammar.specs.Errors.{Says}
-use Rattle.tls_codec_grammar.specs.Field.{Field, FieldRefused, NoFieldBegins, variable_field}
+use Rattle.tls_codec_grammar.specs.Field.{Field, variable_field}
 use Rattle.tls_codec_grammar.specs.Format.{Format}
 use Rattle.tls_codec_grammar.specs.Shortest.{IsHollow}
 use Rattle.tls_codec_grammar.specs.Decoding.{Begins, Refuses, RefusesSource}
@@ -133,15 +134,15 @@ elements_source_names element names n coming old new e =
     (e ≡ OutOfMemory)
     ⊎ ((left : ℕ) × SourceNamedBehind (IsRun element.spells n left) (element_source_names element names left) coming old new e)
 
--- from a slice: no length begins it, or behind a length the elements are refused
+-- from a slice: the length is refused, or behind a length the elements are refused
 abbrev pub counted_list_names : Field → Format → SliceNames → SliceNames
 counted_list_names field element names x e =
-    ((e ≡ EndOfStream) × NoFieldBegins field x) ⊎ ((n : ℕ) × NamedBehind (λ s. field.spells s n) (elements_names element names n) x e)
+    field.refuses x e ⊎ ((n : ℕ) × NamedBehind (λ s. field.spells s n) (elements_names element names n) x e)
 
 -- from a source: the length isn't read, or behind it the elements are refused
 abbrev pub counted_list_source_names : Field → Format → SourceNames → SourceNames
 counted_list_source_names field element names coming old new e =
-    FieldRefused field e coming old new
+    NumberNotRead field.refuses e coming old new
     ⊎ ((n : ℕ) × SourceNamedBehind (λ s. field.spells s n) (elements_source_names element names n) coming old new e)
 
 -- the same of lists behind a variable-length integer

@@ -160,7 +160,7 @@ fn first_refusal<F: LengthField, T: Size>(elements: &[T], error: Error) -> Error
     let Ok(length) = content_len(elements) else {
         return Error::InvalidVectorLength;
     };
-    if F::least_form(length).is_none() {
+    if F::form(length).is_none() {
         return Error::InvalidVectorLength;
     }
     error
@@ -168,7 +168,7 @@ fn first_refusal<F: LengthField, T: Size>(elements: &[T], error: Error) -> Error
 
 /// The list that the bytes to come spell. Just its spelling is taken.
 ///
-/// `EndOfStream`: there is no whole length. Every other refusal is that of
+/// The length is refused as in [`LengthField::read_length`]. Every other refusal is that of
 /// [`lists::from_reader`](crate::lists::from_reader).
 pub fn read<F: LengthField, T: Deserialize, R: Source>(
     alloc: Global,
@@ -184,7 +184,7 @@ pub fn read<F: LengthField, T: Deserialize, R: Source>(
 
 /// The list that the bytes begin with, and the rest of them, which isn't copied.
 ///
-/// `EndOfStream`: there is no whole length. Every other refusal is that of
+/// The length is refused as in [`LengthField::split_length`]. Every other refusal is that of
 /// [`lists::from_slice`](crate::lists::from_slice).
 pub fn split<F: LengthField, T: DeserializeBytes>(
     alloc: Global,

@@ -1,25 +1,26 @@
 //! The laws of options, products, lists and texts, each from those of its parts; what they come to for
-//! spellings and shortest forms; what shortest forms of lists and of lengths are, that equal bytes are
-//! spelled alike, and what a source that tells its bytes has left.
+//! spellings and shortest forms; what shortest forms of lists are, that equal bytes are spelled alike,
+//! and what a source that tells its bytes has left.
 //!
 //! The functions do nothing. Their contracts state the laws, and so are proved.
-ghost use Rattle.std.specs.Prelude.{◌≡◌, ◌↔◌, ℕ, ◌<◌, ◌≤◌, ◌^◌, List, [], ◌++◌, length};
+ghost use Rattle.std.specs.Prelude.{◌≡◌, ◌↔◌, ℕ, ◌<◌, ◌≤◌, ◌^◌, List, [], ◌++◌, length, Vec};
+ghost use Rattle.std.specs.Global.{Global};
+ghost use Rattle.std.specs.Io.KnownBytes.{Appends};
 ghost use Rattle.tls_codec_wire.specs.Device.{IsBeginning};
 ghost use Rattle.tls_codec_wire.specs.Digits.{AreBytes};
-ghost use Rattle.tls_codec_wire.specs.Varint.{Varint};
-ghost use Rattle.tls_codec_wire.specs.VarintCalls.{LeastVarint};
 ghost use Rattle.tls_codec_grammar.specs.Tree.{Tree, Empty, Join, number_trees, trees};
-ghost use Rattle.tls_codec_grammar.specs.Decoding.{ComesFirst, GaveSpelling, NoneBegins};
+ghost use Rattle.tls_codec_grammar.specs.Decoding.{Begins, ComesFirst, GaveSpelling, NoneBegins};
+ghost use Rattle.tls_codec_grammar.specs.Encoding.{AppendsForm, Makes, Writes};
 ghost use Rattle.tls_codec_grammar.specs.Format.{counted_bytes_format, counted_list_format, fields_format, fixed_list_format, list_format, nothing_format, option_format, text_format};
 ghost use Rattle.tls_codec_grammar.specs.Lawful.{MeetsLaws};
 ghost use Rattle.tls_codec_grammar.specs.Tagged.{no_variant, tagged_format, variant};
 ghost use Rattle.tls_codec_grammar.specs.Grammar.{Counted, Direction, Reading, Row, content};
-ghost use Rattle.tls_codec_grammar.specs.Shortest.{IsFull, IsLeast, IsShortest};
+ghost use Rattle.tls_codec_grammar.specs.Shortest.{IsFull, IsShortest};
 ghost use Rattle.tls_codec_grammar.specs.Spelled.{BeginsWithOne, EachHasNonemptySpelling, FitTogether, HasReadingSpelling};
 
 use crate::traits::Size;
 use tls_codec_grammar::LengthField;
-use tls_codec_wire::Source;
+use tls_codec_wire::{Sink, Source};
 
 /// Formats of options, products, lists and choices with a tag meet the laws, if those of their parts do.
 pub fn formats_are_lawful<T: Size, U: Size>()
@@ -57,18 +58,24 @@ pub fn forms_cut_short_have_no_spelling<T: Size>()
     ensures { (part form : List ℕ) (v : Tree) → IsShortest T.format.spells form v → IsFull T.format.spells v → IsBeginning part form → length part < length form → NoneBegins T.format.spells part }
 {}
 
-/// Of all spellings of a value, by which it is read or written, its shortest form has the fewest bytes,
-/// and no other has as few. A value with a spelling has one.
-pub fn shortest_forms_have_the_fewest_bytes<T: Size>()
-    ensures there { (d : Direction) (s : List ℕ) (v : Tree) → T.format.spells d s v → (form : List ℕ) × IsShortest T.format.spells form v }
-    ensures fewest { (d : Direction) (s form : List ℕ) (v : Tree) → T.format.spells d s v → IsShortest T.format.spells form v → length form ≤ length s }
-    ensures alone { (d : Direction) (s form : List ℕ) (v : Tree) → T.format.spells d s v → IsShortest T.format.spells form v → length form ≡ length s → form ≡ s }
+/// Whatever spells a value, in either direction, is its shortest form: there is no other spelling.
+pub fn spellings_are_shortest_forms<T: Size>()
+    ensures { (d : Direction) (s : List ℕ) (v : Tree) → T.format.spells d s v → IsShortest T.format.spells s v }
 {}
 
-/// Where the elements of a list all have shortest forms that together pass a length of 62 bits, the
-/// list is refused before anything of it is sent.
-pub fn long_contents_are_too_long<T: Size>()
-    ensures { (form : List ℕ) (v : Tree) → IsShortest (content T.format.spells) form v → 2 ^ 62 ≤ length form → (list_format T.format).too_long v }
+/// Bytes that were read are the encoding of the value that was read: whatever encoder writes that value
+/// again writes just these bytes.
+pub fn what_was_read_is_written_again<T: Size, R: Source, W: Sink>()
+    ensures given { (old new : R) (form : List ℕ) (v : Tree) → GaveSpelling R.given T.format.spells old new v → IsShortest T.format.spells form v → R.given old form new }
+    ensures made { (x rest : List ℕ) (v : Tree) (bytes : Vec ℕ Global) → Begins T.format.spells x v rest → Makes T.format v (Ok bytes) → x ≡ bytes.items ++ rest }
+    ensures appended { (x rest old new : List ℕ) (v : Tree) (n : ℕ) (b : Begins T.format.spells x v rest) → AppendsForm T.format v old new (Ok n) → new ≡ old ++ b.front }
+    ensures sent { (x rest : List ℕ) (v : Tree) (old new : W) (n : ℕ) (b : Begins T.format.spells x v rest) → Writes T.format v W.Sink old new (Ok n) → Appends (W.received old) (W.received new) b.front }
+{}
+
+/// Where the elements of a list all have shortest forms that together pass its length field, the list is
+/// refused before anything of it is sent.
+pub fn long_contents_are_too_long<F: LengthField, T: Size>()
+    ensures { (form : List ℕ) (v : Tree) → IsShortest (content T.format.spells) form v → F.field.limit ≤ length form → (counted_list_format F.field T.format).too_long v }
 {}
 
 /// The shortest content is the elements' shortest forms in a row.
@@ -85,11 +92,6 @@ pub fn equal_bytes_have_equal_spellings<F: LengthField>()
         → ((counted_bytes_format F.field).spells d s (number_trees contents) ↔ Counted F.field.spells s (λ c. c ≡ contents)) }
     ensures lists { (d : Direction) (s contents : List ℕ) → AreBytes contents
         → ((counted_list_format F.field ⟦<u8 as Size>⟧.format).spells d s (trees ⟦<u8 as Size>⟧.plain contents) ↔ Counted F.field.spells s (λ c. c ≡ contents)) }
-{}
-
-/// An integer's spellings of the least width are its shortest ones.
-pub fn integers_of_the_least_width_are_least()
-    ensures { (form : List ℕ) (n : ℕ) → LeastVarint form n ↔ IsLeast (λ t. Varint t n) form }
 {}
 
 /// Where a source tells its bytes and has given just a spelling, the bytes that were to come begin

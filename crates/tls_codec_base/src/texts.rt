@@ -47,6 +47,7 @@ impl Deserialize for String {
     ghost names = { λ coming old new e. TextSourceRefused e coming old new };
 
     /// `EndOfStream`: there is no whole length, or fewer bytes come than it declares.
+    /// `InvalidVectorLength`: the length has more bytes than it needs, or more than 30 bits.
     /// `DecodingError("invalid utf8")`: the bytes are no text.
     fn tls_deserialize<R: Source>(alloc: Global, bytes: &mut R) -> Result<String, Error> {
         let content = opaque::read::<TlsVarInt, R>(alloc, bytes)?;
@@ -60,6 +61,7 @@ impl Deserialize for String {
 impl DeserializeBytes for String {
     ghost names = { λ x e. TextRefused e x };
 
+    /// `InvalidVectorLength`: the length has more bytes than it needs, or more than 30 bits.
     /// `EndOfStream`: there is no whole length. `DecodingError("declared content is not there")`:
     /// fewer bytes are behind it than it declares. `DecodingError("invalid utf8")`: the bytes are no
     /// text.

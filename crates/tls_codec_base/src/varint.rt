@@ -1,9 +1,9 @@
-//! `TlsVarInt`, the variable-length integer (RFC 9000, section 16). Every width is read, and the
-//! least is written.
-ghost use Rattle.std.specs.Prelude.{◌≡◌};
-ghost use Rattle.tls_codec_wire.specs.VarintCalls.{NoVarintBegins, VarintRefused};
+//! `TlsVarInt`, the variable-length integer in its least width (RFC 9000, section 16; RFC 9420, section
+//! 2.1.2).
+ghost use Rattle.std.specs.Prelude.{◌^◌};
+ghost use Rattle.tls_codec_wire.specs.Numbers.{NumberNotRead};
+ghost use Rattle.tls_codec_wire.specs.VarintCalls.{RefusesBelow};
 ghost use Rattle.tls_codec_wire.specs.VarintValue.{number_of};
-ghost use Rattle.tls_codec_wire.specs.declared.error.Error.TheVariants.{EndOfStream};
 ghost use Rattle.tls_codec_grammar.specs.Tree.{Number};
 ghost use Rattle.tls_codec_grammar.specs.Format.{varint_format};
 ghost use Rattle.tls_codec_grammar.specs.laws.FormatLaws.{varint_meets};
@@ -38,19 +38,21 @@ impl SerializeBytes for TlsVarInt {
 }
 
 impl Deserialize for TlsVarInt {
-    ghost names = { λ coming old new e. VarintRefused e coming old new };
+    ghost names = { λ coming old new e. NumberNotRead (RefusesBelow (2 ^ 62)) e coming old new };
 
-    /// `EndOfStream`: fewer bytes come than the first one says, or none.
+    /// `EndOfStream`: fewer bytes come than the first one asks for, or none. `InvalidVectorLength`: these
+    /// are more than the number needs.
     fn tls_deserialize<R: Source>(_alloc: Global, bytes: &mut R) -> Result<TlsVarInt, Error> {
-        let (n, _) = read_varint(bytes)?;
+        let n = read_varint(bytes)?;
         Ok(n)
     }
 }
 
 impl DeserializeBytes for TlsVarInt {
-    ghost names = { λ x e. (e ≡ EndOfStream) × NoVarintBegins x };
+    ghost names = { RefusesBelow (2 ^ 62) };
 
-    /// `EndOfStream`: there are fewer bytes than the first one says, or none.
+    /// `EndOfStream`: there are fewer bytes than the first one asks for, or none. `InvalidVectorLength`:
+    /// these are more than the number needs.
     fn tls_deserialize_bytes(_alloc: Global, bytes: &[u8]) -> Result<(TlsVarInt, &[u8]), Error> {
         split_varint(bytes)
     }

@@ -1,5 +1,5 @@
 //! `Vec<T>`, `&Vec<T>` and `&[T]`: the length of the content in bytes as a variable-length integer,
-//! then the elements (the crate's rule; RFC 9420, section 2.1.2, admits the least width alone).
+//! then the elements (RFC 9420, section 2.1.2).
 ghost use Rattle.tls_codec_grammar.specs.Tree.{trees};
 ghost use Rattle.tls_codec_grammar.specs.Format.{list_format};
 ghost use Rattle.tls_codec_grammar.specs.laws.FormatLaws.{list_meets};

@@ -5,14 +5,14 @@ use Rattle.tls_codec_wire.specs.declared.error.Error.{Error}
 use Rattle.tls_codec_wire.specs.declared.error.Error.TheVariants.{InvalidVectorLength, OutOfMemory}
 use Rattle.tls_codec_grammar.specs.Tree.{Tree}
 use Rattle.tls_codec_grammar.specs.Grammar.{Writing}
-use Rattle.tls_codec_grammar.specs.Shortest.{IsLeast, IsShortest}
+use Rattle.tls_codec_grammar.specs.Shortest.{IsShortest}
 use Rattle.tls_codec_grammar.specs.Announced.{capped}
 use Rattle.tls_codec_grammar.specs.Field.{Field, FilledGap, GapRefused, IsSafeGap, OpenedGap}
 use Rattle.tls_codec_grammar.specs.Format.{Format, counted_format}
 use Rattle.tls_codec_grammar.specs.Lawful.{MeetsFieldLaws, MeetsLaws, MeetsLawsInside}
 use Rattle.tls_codec_grammar.specs.Encoding.{Appended, AppendRefused, PassesVectorBehind, RefusesVector}
 use Rattle.tls_codec_grammar.specs.laws.RowLaws.{least_one}
-use Rattle.tls_codec_grammar.specs.laws.ListLaws.{counted_least}
+use Rattle.tls_codec_grammar.specs.laws.ListLaws.{counted_shortest}
 use Rattle.tls_codec_grammar.proofs.CountedEncoding.{counted_split}
 
 -- what was appended is cut off
@@ -96,13 +96,13 @@ module _ {field : Field} (m : MeetsFieldLaws field) {inside : Format} (l : Meets
     counted_appended {a} {b} {c} {d} {at} {gap} {k} {width} {n} e o p q h =
         let place : at + gap ≡ length b = omega (arith, e, o.count, ap length o.held, length-append a o.gap) in
         let size : length c - (at + gap) ≡ length p.form = omega (arith, place, ap length p.held, length-append b p.form) in
-        let least : IsLeast (λ t. field.spells t (length p.form)) q.form = subst (λ (j : ℕ). IsLeast (λ t. field.spells t j) q.form) size q.least in
+        let counts : field.spells q.form (length p.form) = subst (field.spells q.form) size q.spelled in
         let behind : drop (at + gap) c ≡ p.form = ap (λ (j : ℕ). drop j c) place ∙ ap (drop (length b)) p.held ∙ drop-append_seam b p.form in
         let whole : c ≡ a ++ (o.gap ++ p.form) = p.held ∙ ap (λ (u : List ℕ). u ++ p.form) o.held ∙ append_assoc a o.gap p.form in
         let held : d ≡ a ++ (q.form ++ p.form) = q.held ∙ ap (λ (u : List ℕ). u ++ (q.form ++ drop (at + gap) c)) (cut_off (o.gap ++ p.form) refl e whole) ∙ ap (λ (u : List ℕ). a ++ (q.form ++ u)) behind in
         record {
           form = q.form ++ p.form;
-          shortest = counted_least field.spells field.width m.counts inside.spells q.form p.form v least p.shortest;
+          shortest = counted_shortest field.spells field.width m.counts inside.spells inside.announced l.spelled q.form p.form v counts p.shortest.spelled;
           held = held;
           count = omega (arith, h, e, ap length held, length-append a (q.form ++ p.form));
         }
@@ -118,7 +118,7 @@ module _ {field : Field} (m : MeetsFieldLaws field) {inside : Format} (l : Meets
           long.0,
           λ s q.
               let h = counted_split m l s q in
-              let below = m.below h.1 (length h.0) h.4.spelled in
+              let below = m.below h.1 (length h.0) h.4 in
               let more = long.1 h.0 h.3 in
               elim safe [
                 | inl none ↦ omega (arith, more, none, o.count, ap length o.held, length-append a o.gap, ap length h.2, length-append h.1 h.0)
@@ -134,7 +134,7 @@ module _ {field : Field} (m : MeetsFieldLaws field) {inside : Format} (l : Meets
       kept = kept;
       cause = elim q [
         | inl memory ↦ inl memory
-        | inr long ↦ inr (inl (inl (long.0, omega (arith, long.1, is_sum, l.spelled.announces c v p))))
+        | inr long ↦ inr (inl (inl (long.0, omega (arith, long.1, is_sum, l.spelled.announces c v p.spelled))))
       ];
     }
 
@@ -146,7 +146,7 @@ module _ {field : Field} (m : MeetsFieldLaws field) {inside : Format} (l : Meets
         record {
           kept = kept;
           cause = elim q [
-            | inl long ↦ inr (inl (inl (refl, omega (arith, size, long, is_sum, l.spelled.announces p.form v p.shortest))))
+            | inl long ↦ inr (inl (inl (refl, omega (arith, size, long, is_sum, l.spelled.announces p.form v p.shortest.spelled))))
             | inr passes ↦ inr (inr (
               refl,
               λ s r.

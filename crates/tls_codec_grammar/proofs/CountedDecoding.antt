@@ -4,19 +4,20 @@ use Rattle.std.proofs.lemmas.List.{append_cancel_left}
 use Rattle.std.specs.Io.KnownBytes.{Consumes}
 use Rattle.tls_codec_wire.specs.Counts.{Counts, NoneFell}
 use Rattle.tls_codec_wire.specs.Device.{GivesFromFront, GivesInOrder, NoCountFalls}
+use Rattle.tls_codec_wire.specs.Numbers.{BeginsNumber, GaveNumber, NoNumberBegins, NumberNotRead}
 use Rattle.tls_codec_wire.specs.declared.error.Error.{Error}
-use Rattle.tls_codec_wire.specs.declared.error.Error.TheVariants.{DecodingError, EndOfStream, OutOfMemory}
 use Rattle.tls_codec_grammar.specs.Tree.{Tree}
 use Rattle.tls_codec_grammar.specs.Grammar.{Grammar, counted, sized}
-use Rattle.tls_codec_grammar.specs.Field.{BeginsField, Field, FieldRefused, GaveField, NoFieldBegins, NoFieldComes}
+use Rattle.tls_codec_grammar.specs.Field.{Field}
 use Rattle.tls_codec_grammar.specs.Lawful.{MeetsFieldLaws}
 use Rattle.tls_codec_grammar.specs.Decoding.{Begins, GaveSpelling, NoneBegins, NoneComes, Refuses, RefusesSource}
-use Rattle.tls_codec_grammar.proofs.Sent.{fault_later, rose_later}
+use Rattle.tls_codec_grammar.proofs.NumberRefusals.{number_refused, number_refuses}
+use Rattle.tls_codec_wire.proofs.Later.{fault_later, rose_later}
 
 module _ {field : Field} (m : MeetsFieldLaws field) (inside : Grammar) where
   -- ---- from a slice
 
-  pub counted_begins : {x behind : List ℕ} {n : ℕ} {v : Tree} {rest : List ℕ} → BeginsField field x n behind → Begins (sized n inside) behind v rest → Begins (counted field.spells inside) x v rest
+  pub counted_begins : {x behind : List ℕ} {n : ℕ} {v : Tree} {rest : List ℕ} → BeginsNumber field.spells x n behind → Begins (sized n inside) behind v rest → Begins (counted field.spells inside) x v rest
   counted_begins {x} {behind} {n} {v} {rest} p b = record {
     front = p.front ++ b.front;
     whole = p.whole ∙ ap (λ (u : List ℕ). p.front ++ u) b.whole ∙ sym (append_assoc p.front b.front rest);
@@ -24,7 +25,7 @@ module _ {field : Field} (m : MeetsFieldLaws field) (inside : Grammar) where
   }
 
   -- where no length begins, nothing counted does
-  pub counted_none_at_count : (x : List ℕ) → NoFieldBegins field x → NoneBegins (counted field.spells inside) x
+  pub counted_none_at_count : (x : List ℕ) → NoNumberBegins field.spells x → NoneBegins (counted field.spells inside) x
   counted_none_at_count x none v rest b =
       let p = b.spelled in
       none (length p.inside) (p.inside ++ rest) (record { front = p.count; whole = b.whole ∙ ap (λ (u : List ℕ). u ++ rest) p.whole ∙ append_assoc p.count p.inside rest; spelled = p.counts })
@@ -38,7 +39,7 @@ module _ {field : Field} (m : MeetsFieldLaws field) (inside : Grammar) where
       let left : behind ≡ p.inside ++ rest = append_cancel_left a behind (p.inside ++ rest) (whole ∙ ap (λ (u : List ℕ). u ++ (p.inside ++ rest)) (sym same.0)) in
       none v rest (record { front = p.inside; whole = left; spelled = (sym same.1, p.is_inside) })
 
-  pub counted_refuses : {x behind : List ℕ} {n : ℕ} {lean : Bool} {e : Error} → BeginsField field x n behind → Refuses (sized n inside) lean behind e → Refuses (counted field.spells inside) lean x e
+  pub counted_refuses : {x behind : List ℕ} {n : ℕ} {lean : Bool} {e : Error} → BeginsNumber field.spells x n behind → Refuses (sized n inside) lean behind e → Refuses (counted field.spells inside) lean x e
   counted_refuses {x} {behind} {n} {lean} {e} p r = record {
     cause = elim r.cause [
       | inl none ↦ inl (counted_none_at_inside x behind n p.front p.whole p.spelled none)
@@ -50,7 +51,7 @@ module _ {field : Field} (m : MeetsFieldLaws field) (inside : Grammar) where
 
   -- ---- from a source
 
-  pub counted_given : {S : Type 0} {given : S → List ℕ → S → Type 0} {a b c : S} {n : ℕ} {v : Tree} → GivesInOrder given → GaveField given field a b n → GaveSpelling given (sized n inside) b c v → GaveSpelling given (counted field.spells inside) a c v
+  pub counted_given : {S : Type 0} {given : S → List ℕ → S → Type 0} {a b c : S} {n : ℕ} {v : Tree} → GivesInOrder given → GaveNumber given field.spells a b n → GaveSpelling given (sized n inside) b c v → GaveSpelling given (counted field.spells inside) a c v
   counted_given {S} {given} {a} {b} {c} {n} {v} order p q = record {
     front = p.front ++ q.front;
     held = order a p.front b q.front c p.held q.held;
@@ -63,7 +64,7 @@ module _ {field : Field} (m : MeetsFieldLaws field) (inside : Grammar) where
   counted_none_comes_at_inside (Some x) (Some behind) n front took f none = counted_none_at_inside x behind n front took f none
 
   pub counted_refused : {S : Type 0} {given : S → List ℕ → S → Type 0} {a b : S} {n : ℕ} {lean : Bool} {after : Counts} {e : Error} (coming : S → Option (List ℕ)) (counts : S → Counts) → GivesFromFront given coming → NoCountFalls given counts
-      → GaveField given field a b n → RefusesSource (sized n inside) lean (coming b) (counts b) after e → RefusesSource (counted field.spells inside) lean (coming a) (counts a) after e
+      → GaveNumber given field.spells a b n → RefusesSource (sized n inside) lean (coming b) (counts b) after e → RefusesSource (counted field.spells inside) lean (coming a) (counts a) after e
   counted_refused {S} {given} {a} {b} {n} {lean} {after} {e} coming counts from_front falls p r =
       let took : Consumes (coming a) (coming b) p.front = from_front a p.front b p.held in
       let fell : NoneFell (counts a) (counts b) = falls a p.front b p.held in
@@ -82,15 +83,9 @@ module _ {field : Field} (m : MeetsFieldLaws field) (inside : Grammar) where
 
   -- ---- the field is refused
 
-  pub count_none_comes : (coming : Option (List ℕ)) → NoFieldComes field coming → NoneComes (counted field.spells inside) coming
-  count_none_comes None none = tt
-  count_none_comes (Some x) none = counted_none_at_count x none
+  -- the field is refused where the bytes begin with no length
+  pub count_refuses : {lean : Bool} (x : List ℕ) (e : Error) → field.refuses x e → Refuses (counted field.spells inside) lean x e
+  count_refuses = number_refuses (λ x e p. counted_none_at_count x (m.none x e p)) m.named
 
-  pub count_refuses : {lean : Bool} {x : List ℕ} {e : Error} → (e ≡ EndOfStream) × NoFieldBegins field x → Refuses (counted field.spells inside) lean x e
-  count_refuses {lean} {x} {e} p = record { cause = inl (counted_none_at_count x p.1); memory = λ h. absurd (let ends = p.0 in cc); not_trailing = λ h. let ends = p.0 in cc }
-
-  pub count_refused : {lean : Bool} (e : Error) (coming : Option (List ℕ)) (old new : Counts) → FieldRefused field e coming old new → RefusesSource (counted field.spells inside) lean coming old new e
-  count_refused {lean} (DecodingError text) coming old new p = record { cause = inr (inl p.1); memory = λ h. absurd cc; not_trailing = λ h. cc }
-  count_refused {lean} EndOfStream coming old new p = record { cause = inl (count_none_comes coming p); memory = λ h. absurd cc; not_trailing = λ h. cc }
-  count_refused {lean} OutOfMemory coming old new p = record { cause = inr (inr refl); memory = λ h. inr p; not_trailing = λ h. cc }
-  count_refused {lean} _ coming old new p = absurd p
+  pub count_refused : {lean : Bool} (e : Error) (coming : Option (List ℕ)) (old new : Counts) → NumberNotRead field.refuses e coming old new → RefusesSource (counted field.spells inside) lean coming old new e
+  count_refused = number_refused (λ x e p. counted_none_at_count x (m.none x e p)) m.named

@@ -6,20 +6,21 @@ use Rattle.std.proofs.KnownBytes.{Appends-nil, Appends-trans}
 use Rattle.tls_codec_wire.specs.Counts.{Counts, NoneFell, fall_never, stay}
 use Rattle.tls_codec_wire.specs.declared.device.Sink.{Ghosts}
 use Rattle.tls_codec_wire.specs.Device.{Received}
+use Rattle.tls_codec_wire.specs.Numbers.{BeganNumber, NumberNotSent, SentNumber}
 use Rattle.tls_codec_wire.specs.Transfer.{WriteRefused}
 use Rattle.tls_codec_wire.specs.declared.error.Error.{Error}
 use Rattle.tls_codec_wire.specs.declared.error.Error.TheVariants.{InvalidVectorLength}
 use Rattle.tls_codec_grammar.specs.Tree.{Tree}
 use Rattle.tls_codec_grammar.specs.Grammar.{Writing, counted}
-use Rattle.tls_codec_grammar.specs.Shortest.{IsLeast, IsShortest}
+use Rattle.tls_codec_grammar.specs.Shortest.{IsShortest}
 use Rattle.tls_codec_grammar.specs.Announced.{capped}
-use Rattle.tls_codec_grammar.specs.Field.{BeganField, Field, FieldNotSent, SentField}
+use Rattle.tls_codec_grammar.specs.Field.{Field}
 use Rattle.tls_codec_grammar.specs.Format.{Format, counted_format}
 use Rattle.tls_codec_grammar.specs.Lawful.{MeetsFieldLaws, MeetsLaws, MeetsLawsInside}
 use Rattle.tls_codec_grammar.specs.Encoding.{Breaks, Sends}
-use Rattle.tls_codec_grammar.specs.laws.RowLaws.{least_one}
-use Rattle.tls_codec_grammar.specs.laws.ListLaws.{counted_least, counted_parts}
-use Rattle.tls_codec_grammar.proofs.Sent.{cause_later}
+use Rattle.tls_codec_grammar.specs.laws.AloneLaws.{alone_inside}
+use Rattle.tls_codec_grammar.specs.laws.ListLaws.{counted_shortest}
+use Rattle.tls_codec_wire.proofs.Later.{cause_later}
 
 -- nothing was sent of a value for which the format names the error
 pub named_breaks : {S : Type 0} {f : Format} {sink : Ghosts S} {v : Tree} {old new : S} {e : Error} → MeetsLaws f → f.refuses v e → new ≡ old → Breaks f v sink old new e
@@ -31,35 +32,32 @@ named_breaks {S} {f} {sink} {v} {old} {new} {e} l named same = record {
   fell = subst (λ (s : S). NoneFell (sink.counts old) (sink.counts s)) (sym same) (stay (sink.counts old));
 }
 
--- a is the least field for n bytes, whose number is announced
+-- a is the field for n bytes, whose number is announced
 pub record CountsInside (field : List ℕ → ℕ → Type 0) (announced : ℕ) (a : List ℕ) : Type 0 where
   pub n : ℕ
   pub is_announced : announced ≡ capped n
   pub fits : n < 0xffff_ffff_ffff_ffff
-  pub least : IsLeast (λ t. field t n) a
+  pub spelled : field a n
 
 module _ {field : Field} (m : MeetsFieldLaws field) {inside : Format} (l : MeetsLawsInside inside) where
-  -- a shortest inside has the bytes that are counted
-  counted_bytes : {v : Tree} {a c : List ℕ} → (p : CountsInside field.spells (inside.announced v) a) → IsShortest inside.spells c v → p.n ≡ length c
+  -- an inside has the bytes that are counted
+  counted_bytes : {v : Tree} {a c : List ℕ} → (p : CountsInside field.spells (inside.announced v) a) → inside.spells Writing c v → p.n ≡ length c
   counted_bytes {v} {a} {c} p q = omega (arith, p.is_announced, p.fits, l.spelled.announces c v q)
 
-  -- the shortest form is the shortest inside behind the least field for it
-  pub counted_split : {v : Tree} (s : List ℕ) → IsShortest (counted field.spells inside.spells) s v → (c : List ℕ) × (a : List ℕ) × (s ≡ a ++ c) × IsShortest inside.spells c v × IsLeast (λ t. field.spells t (length c)) a
-  counted_split {v} s q =
-      let h = counted_parts field.spells field.width m.counts inside.spells inside.announced l.spelled s v q.spelled in
-      (h.0, h.1, least_one (λ u. counted field.spells inside.spells Writing u v) s (h.1 ++ h.0) q (counted_least field.spells field.width m.counts inside.spells h.1 h.0 v h.3 h.2), h.2, h.3)
+  -- the shortest form is the inside behind the field for it
+  pub counted_split : {v : Tree} (s : List ℕ) → IsShortest (counted field.spells inside.spells) s v → (c : List ℕ) × (a : List ℕ) × (s ≡ a ++ c) × IsShortest inside.spells c v × field.spells a (length c)
+  counted_split {v} s q = (q.spelled.inside, q.spelled.count, q.spelled.whole, alone_inside l.spelled q.spelled.inside v q.spelled.is_inside, q.spelled.counts)
 
   -- which is the one that counts what is inside
   pub counted_form : {v : Tree} {a : List ℕ} → CountsInside field.spells (inside.announced v) a → (s : List ℕ) → IsShortest (counted field.spells inside.spells) s v → (c : List ℕ) × (s ≡ a ++ c) × IsShortest inside.spells c v
   counted_form {v} {a} p s q =
       let h = counted_split s q in
-      let least : IsLeast (λ t. field.spells t p.n) h.1 = subst (λ (k : ℕ). IsLeast (λ t. field.spells t k) h.1) (sym (counted_bytes p h.3)) h.4 in
-      let same : h.1 ≡ a = least_one (λ t. field.spells t p.n) h.1 a least p.least in
-      (h.0, h.2 ∙ ap (λ (u : List ℕ). u ++ h.0) same, h.3)
+      let counts : field.spells h.1 p.n = subst (field.spells h.1) (sym (counted_bytes p h.3.spelled)) h.4 in
+      (h.0, h.2 ∙ ap (λ (u : List ℕ). u ++ h.0) (m.counts.alone h.1 a p.n counts p.spelled), h.3)
 
-  -- the least field and the shortest inside are the shortest form
+  -- the field and the shortest inside are the shortest form
   pub counted_whole : {v : Tree} {a c : List ℕ} → CountsInside field.spells (inside.announced v) a → IsShortest inside.spells c v → IsShortest (counted field.spells inside.spells) (a ++ c) v
-  counted_whole {v} {a} {c} p q = counted_least field.spells field.width m.counts inside.spells a c v (subst (λ (k : ℕ). IsLeast (λ t. field.spells t k) a) (counted_bytes p q) p.least) q
+  counted_whole {v} {a} {c} p q = counted_shortest field.spells field.width m.counts inside.spells inside.announced l.spelled a c v (subst (field.spells a) (counted_bytes p q.spelled) p.spelled) q.spelled
 
   module _ {sum : Tree → ℕ} {S : Type 0} {sink : Ghosts S} where
     pub counted_sends : {v : Tree} {a : List ℕ} {old mid new : S} {k total : ℕ} → CountsInside field.spells (inside.announced v) a → Appends (sink.received old) (sink.received mid) a → NoneFell (sink.counts old) (sink.counts mid)
@@ -101,35 +99,30 @@ module _ {field : Field} (m : MeetsFieldLaws field) {inside : Format} (l : Meets
 
   -- ---- by what the calls on the field say
 
-  -- the least field for a number that is announced counts what is inside
-  least_counts : {announced n : ℕ} {form : List ℕ} → announced ≡ capped n → IsLeast (λ s. field.spells s n) form → CountsInside field.spells announced form
-  least_counts {announced} {n} {form} e p = record {
-    n = n;
-    is_announced = e;
-    fits = omega (arith, m.below form n p.spelled, m.small);
-    least = p;
-  }
+  -- the field for a number that is announced counts what is inside
+  field_counts : {announced n : ℕ} {form : List ℕ} → announced ≡ capped n → field.spells form n → CountsInside field.spells announced form
+  field_counts {announced} {n} {form} e p = record { n = n; is_announced = e; fits = omega (arith, m.below form n p, m.small); spelled = p }
 
   -- a length that isn't too long is refused by the sink
-  refused_by_sink : (e : Error) (n : ℕ) (old new : Counts) → n < field.limit → FieldNotSent field e n old new → WriteRefused e old new
+  refused_by_sink : (e : Error) (n : ℕ) (old new : Counts) → n < field.limit → NumberNotSent field.limit e n old new → WriteRefused e old new
   refused_by_sink InvalidVectorLength n old new lt p = absurd (omega (arith, lt, p))
   refused_by_sink e n old new lt p = p
 
   module _ {sum : Tree → ℕ} {S : Type 0} {sink : Ghosts S} where
-    pub field_sends : {v : Tree} {n j k total : ℕ} {old mid new : S} → inside.announced v ≡ capped n → SentField field (sink.received old) (sink.received mid) n j → NoneFell (sink.counts old) (sink.counts mid) → Sends inside v sink mid new k → total ≡ capped (j + k)
+    pub field_sends : {v : Tree} {n j k total : ℕ} {old mid new : S} → inside.announced v ≡ capped n → SentNumber field.spells (sink.received old) (sink.received mid) n j → NoneFell (sink.counts old) (sink.counts mid) → Sends inside v sink mid new k → total ≡ capped (j + k)
         → Sends (counted_format field sum inside) v sink old new total
     field_sends {v} {n} {j} {k} {total} {old} {mid} {new} e p fell q h =
-        counted_sends (least_counts e p.least) p.held fell q (omega (arith, h, p.count))
+        counted_sends (field_counts e p.spelled) p.held fell q (omega (arith, h, p.count))
 
-    pub field_breaks_inside : {v : Tree} {n j : ℕ} {old mid new : S} {e : Error} → inside.announced v ≡ capped n → SentField field (sink.received old) (sink.received mid) n j → NoneFell (sink.counts old) (sink.counts mid) → Breaks inside v sink mid new e
+    pub field_breaks_inside : {v : Tree} {n j : ℕ} {old mid new : S} {e : Error} → inside.announced v ≡ capped n → SentNumber field.spells (sink.received old) (sink.received mid) n j → NoneFell (sink.counts old) (sink.counts mid) → Breaks inside v sink mid new e
         → Breaks (counted_format field sum inside) v sink old new e
-    field_breaks_inside announced p fell q = counted_breaks_inside (least_counts announced p.least) p.held fell q
+    field_breaks_inside announced p fell q = counted_breaks_inside (field_counts announced p.spelled) p.held fell q
 
     -- the field is refused
     pub field_breaks_count : {v : Tree} {n : ℕ} {old new : S} (e : Error) → MeetsLaws (counted_format field sum inside) → inside.announced v ≡ capped n → n ≡ sum v
-        → (n < field.limit → BeganField field (sink.received old) (sink.received new) n) → (field.limit ≤ n → (e ≡ InvalidVectorLength) × (new ≡ old)) → FieldNotSent field e n (sink.counts old) (sink.counts new) → NoneFell (sink.counts old) (sink.counts new)
+        → (n < field.limit → BeganNumber field.spells (sink.received old) (sink.received new) n) → (field.limit ≤ n → (e ≡ InvalidVectorLength) × (new ≡ old)) → NumberNotSent field.limit e n (sink.counts old) (sink.counts new) → NoneFell (sink.counts old) (sink.counts new)
         → Breaks (counted_format field sum inside) v sink old new e
     field_breaks_count {v} {n} {old} {new} e laws announced is_sum began long refused fell = elim (cases_lt n field.limit) [
-      | inl lt ↦ counted_breaks_count (least_counts announced (began lt).least) (began lt).received (refused_by_sink e n (sink.counts old) (sink.counts new) lt refused) fell
+      | inl lt ↦ counted_breaks_count (field_counts announced (began lt).spelled) (began lt).received (refused_by_sink e n (sink.counts old) (sink.counts new) lt refused) fell
       | inr le ↦ named_breaks laws (inl ((long le).0, omega (arith, le, is_sum))) (long le).1
     ]

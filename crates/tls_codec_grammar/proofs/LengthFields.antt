@@ -1,52 +1,31 @@
--- Length fields: digits, variable-length integers, and gaps that they are put into.
-use Rattle.std.proofs.Common.{◌≡◌, ℕ, ◌+◌, ◌-◌, ◌^◌, ◌<◌, ◌≤◌, List, ◌++◌, length, take, drop, take-append-drop, Option, None, Some, sym, ap, subst, ◌∙◌, arith, append_assoc, length-append, length-take-le}
+-- Length fields: digits, and gaps that they are put into.
+use Rattle.std.proofs.Common.{◌≡◌, ℕ, ◌+◌, ◌-◌, ◌^◌, ◌<◌, ◌≤◌, List, ◌++◌, length, take, drop, take-append-drop, sym, ap, subst, ◌∙◌, arith, append_assoc, length-append, length-take-le}
 use Rattle.std.proofs.Math.Nat.{mod-eq_of_lt}
 use Rattle.std.proofs.Math.Seq.{take-add, take-length}
 use Rattle.std.specs.Int.{bytes_high_first}
-use Rattle.tls_codec_wire.specs.Counts.{Counts}
 use Rattle.tls_codec_wire.specs.Digits.{Digits}
-use Rattle.tls_codec_wire.specs.VarintCalls.{NoVarintBegins, VarintRefused}
-use Rattle.tls_codec_wire.specs.declared.error.Error.{Error}
-use Rattle.tls_codec_wire.specs.declared.error.Error.TheVariants.{DecodingError, EndOfStream, OutOfMemory}
 use Rattle.tls_codec_wire.proofs.BigEndian.{AreBytes-high_first, length-high_first, value-high_first}
 use Rattle.tls_codec_wire.proofs.VarintForms.{drop-high_first}
-use Rattle.tls_codec_grammar.specs.Shortest.{IsLeast}
-use Rattle.tls_codec_grammar.specs.Field.{FieldRefused, FitGap, NoFieldBegins, variable_field}
-use Rattle.tls_codec_grammar.specs.laws.NumberLaws.{digits_least}
+use Rattle.tls_codec_grammar.specs.Field.{FitGap}
 
 -- ---- k bytes
 
 -- the last k bytes of a number that fits them spell it
-pub last_digits_least : (k n : ℕ) → k ≤ 8 → n < 256 ^ k → IsLeast (λ s. Digits k s n) (drop (8 - k) (bytes_high_first 8 n))
-last_digits_least k n small fits =
+pub last_digits : (k n : ℕ) → k ≤ 8 → n < 256 ^ k → Digits k (drop (8 - k) (bytes_high_first 8 n)) n
+last_digits k n small fits =
     let eight : 8 ≡ 8 - k + k = omega (arith, small) in
     let last : drop (8 - k) (bytes_high_first 8 n) ≡ bytes_high_first k n = ap (λ (j : ℕ). drop (8 - k) (bytes_high_first j n)) eight ∙ drop-high_first (8 - k) k n in
-    subst (λ (b : List ℕ). IsLeast (λ s. Digits k s n) b) (sym last) (digits_least k (bytes_high_first k n) n (record {
+    subst (λ (b : List ℕ). Digits k b n) (sym last) (record {
       width = length-high_first k n;
       bytes = AreBytes-high_first k n;
       number = value-high_first k n ∙ mod-eq_of_lt fits;
-    }))
-
--- ---- variable-length integers
-
-no_varint_field : (x : List ℕ) → NoVarintBegins x → NoFieldBegins variable_field x
-no_varint_field x none n rest b = none n rest (record { front = b.front; whole = b.whole; spelled = b.spelled })
-
-pub varint_not_split : {x : List ℕ} {e : Error} → (e ≡ EndOfStream) × NoVarintBegins x → (e ≡ EndOfStream) × NoFieldBegins variable_field x
-varint_not_split {x} p = (p.0, no_varint_field x p.1)
-
-pub varint_not_read : (e : Error) (coming : Option (List ℕ)) (old new : Counts) → VarintRefused e coming old new → FieldRefused variable_field e coming old new
-varint_not_read (DecodingError text) coming old new p = p
-varint_not_read EndOfStream None old new p = tt
-varint_not_read EndOfStream (Some x) old new p = no_varint_field x p
-varint_not_read OutOfMemory coming old new p = p
-varint_not_read _ coming old new p = absurd p
+    })
 
 -- ---- gaps
 
 -- a form as the slice of an array that it ends
-pub slice_least : (P : List ℕ → Type 0) (b : List ℕ) (k : ℕ) → length b ≡ 8 → k ≤ 8 → P (drop k b) → P (take (8 - k) (drop k b))
-slice_least P b k width le p =
+pub slice_form : (P : List ℕ → Type 0) (b : List ℕ) (k : ℕ) → length b ≡ 8 → k ≤ 8 → P (drop k b) → P (take (8 - k) (drop k b))
+slice_form P b k width le p =
     let parts = length-append (take k b) (drop k b) in
     let size : length (drop k b) ≡ 8 - k = omega (arith, width, parts, ap length (take-append-drop k b), length-take-le k b (omega (arith, width, le))) in
     subst P (sym (ap (λ (n : ℕ). take n (drop k b)) (sym size) ∙ take-length (drop k b))) p

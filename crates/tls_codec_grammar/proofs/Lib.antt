@@ -4,6 +4,7 @@ pub mod CountedDecoding
 pub mod CountedEncoding
 pub mod LengthFields
 pub mod NumberCalls
+pub mod NumberRefusals
 pub mod OpaqueDecoding
 pub mod OpaqueEncoding
 pub mod Sent

@@ -1,23 +1,80 @@
 -- The longer proofs of the worked examples.
-use Rattle.std.proofs.Common.{◌≡◌, ℕ, ◌+◌, ◌*◌, ◌^◌, ◌<◌, List, [], ◌∷◌, ◌++◌, length, false, true, refl, sym, ap, subst, ◌∙◌, inl, arith, length-append}
+use Rattle.std.proofs.Common.{rules, ◌≡◌, ℕ, ◌+◌, ◌*◌, ◌^◌, ◌<◌, ◌≤◌, List, [], ◌∷◌, ◌++◌, length, false, true, refl, sym, ap, subst, ◌∙◌, inl, inr, arith, length-append}
 use Rattle.std.proofs.Math.Utf8.{encode}
 use Rattle.std.specs.Str.{IsUtf8, is_utf8, chars}
 use Rattle.std.proofs.lemmas.Str.{is_utf8-from_IsUtf8}
 use Rattle.tls_codec_wire.specs.Digits.{Digits}
-use Rattle.tls_codec_wire.specs.Varint.{Varint}
+use Rattle.tls_codec_wire.specs.Varint.{LaidOut, SpelledBelow, VectorLength}
+use Rattle.tls_codec_wire.proofs.VarintReads.{one_byte_spells}
+use Rattle.tls_codec_wire.specs.declared.error.Error.TheVariants.{InvalidVectorLength}
 use Rattle.tls_codec_grammar.specs.Tree.{Tree, Number, Empty, Join}
 use Rattle.tls_codec_grammar.specs.Grammar.{Direction, Reading, Writing, number, option, content, fixed_list, list, text, nothing}
 use Rattle.tls_codec_grammar.specs.Format.{fields_format, nothing_format, number_format}
+use Rattle.tls_codec_grammar.specs.Lawful.{IsLengthField}
 use Rattle.tls_codec_grammar.specs.Tagged.{no_variant, tagged, variant}
-use Rattle.tls_codec_grammar.specs.Shortest.{IsLeast, IsShortest}
-use Rattle.tls_codec_wire.specs.VarintCalls.{least_width}
+use Rattle.tls_codec_grammar.specs.Shortest.{IsShortest}
 use Rattle.tls_codec_grammar.specs.laws.NumberLaws.{digits_one}
-use Rattle.tls_codec_grammar.specs.laws.VarintLaws.{varint_field, varint_shortest}
-use Rattle.tls_codec_grammar.specs.laws.ListLaws.{bytes_one, counted_least}
+use Rattle.tls_codec_grammar.specs.laws.AloneLaws.{alone_shortest}
+use Rattle.tls_codec_grammar.specs.laws.VarintLaws.{below_none}
+use Rattle.tls_codec_grammar.specs.laws.ListLaws.{bytes_lawful}
+use Rattle.tls_codec_grammar.specs.laws.FormatLaws.{list_meets, nothing_meets}
 
--- a number below 64 is the shortest form of itself
-pub one_byte_varint : (n : ℕ) → n < 64 → IsLeast (λ t. Varint t n) (n ∷ [])
-one_byte_varint n h = varint_shortest 0 n n [] n (record { top = omega arith; low = h; first = omega arith; width = refl; bytes = tt; number = omega arith }) (λ s p. omega arith)
+-- 40 25 are laid out as 37, and wider than it needs
+pub no_wide_number : (limit n : ℕ) → SpelledBelow limit (0x40 ∷ 0x25 ∷ []) n → ⊥
+no_wide_number limit n p = below_none limit (0x40 ∷ 0x25 ∷ []) InvalidVectorLength (record {
+  front = 0x40 ∷ 0x25 ∷ [];
+  rest = [];
+  number = 37;
+  whole = refl;
+  laid_out = (1, 0, record { top = omega arith; low = omega arith; first = refl; width = refl; bytes = (omega arith, tt); number = refl });
+  cause = inl (omega arith);
+}) n [] (record { front = 0x40 ∷ 0x25 ∷ []; whole = refl; spelled = p })
+
+-- so are 40 00 as 0
+pub no_wide_length : (limit n : ℕ) → SpelledBelow limit (0x40 ∷ 0x00 ∷ []) n → ⊥
+no_wide_length limit n p = below_none limit (0x40 ∷ 0x00 ∷ []) InvalidVectorLength (record {
+  front = 0x40 ∷ 0x00 ∷ [];
+  rest = [];
+  number = 0;
+  whole = refl;
+  laid_out = (1, 0, record { top = omega arith; low = omega arith; first = refl; width = refl; bytes = (omega arith, tt); number = refl });
+  cause = inl (omega arith);
+}) n [] (record { front = 0x40 ∷ 0x00 ∷ []; whole = refl; spelled = p })
+
+-- c0 00 00 00 40 00 00 00 are laid out as 2 ^ 30
+pub thirty_one_bits : LaidOut (0xc0 ∷ 0 ∷ 0 ∷ 0 ∷ 0x40 ∷ 0 ∷ 0 ∷ 0 ∷ []) 1073741824
+thirty_one_bits = (3, 0, record { top = omega arith; low = omega arith; first = refl; width = refl; bytes = search rules; number = refl })
+
+-- which is too great for a length
+pub no_great_length : (n : ℕ) → VectorLength (0xc0 ∷ 0 ∷ 0 ∷ 0 ∷ 0x40 ∷ 0 ∷ 0 ∷ 0 ∷ []) n → ⊥
+no_great_length n p = below_none (2 ^ 30) (0xc0 ∷ 0 ∷ 0 ∷ 0 ∷ 0x40 ∷ 0 ∷ 0 ∷ 0 ∷ []) InvalidVectorLength (record {
+  front = 0xc0 ∷ 0 ∷ 0 ∷ 0 ∷ 0x40 ∷ 0 ∷ 0 ∷ 0 ∷ [];
+  rest = [];
+  number = 1073741824;
+  whole = refl;
+  laid_out = thirty_one_bits;
+  cause = inr (omega arith);
+}) n [] (record { front = 0xc0 ∷ 0 ∷ 0 ∷ 0 ∷ 0x40 ∷ 0 ∷ 0 ∷ 0 ∷ []; whole = refl; spelled = p })
+
+-- in any width 0 would have two spellings, which a length field has not
+pub no_field_of_any_width : (width : ℕ → ℕ) → IsLengthField LaidOut width → ⊥
+no_field_of_any_width width l =
+    let one : LaidOut (0 ∷ []) 0 = (0, 0, record { top = omega arith; low = omega arith; first = refl; width = refl; bytes = tt; number = refl }) in
+    let two : LaidOut (0x40 ∷ 0x00 ∷ []) 0 = (1, 0, record { top = omega arith; low = omega arith; first = refl; width = refl; bytes = (omega arith, tt); number = refl }) in
+    let same : 0 ∷ [] ≡ 0x40 ∷ 0x00 ∷ [] = l.alone (0 ∷ []) (0x40 ∷ 0x00 ∷ []) 0 one two in
+    let lengths : ◌≡◌ {A = ℕ} 1 2 = ap (length {A = ℕ}) same in
+    absurd (omega (arith, lengths))
+
+-- no list begins with a length that is wider than it needs
+pub no_wide_list : (d : Direction) (v : Tree) → list (number 1) d (0x40 ∷ 0x01 ∷ 0xaa ∷ []) v → ⊥
+no_wide_list d v p = below_none (2 ^ 30) (0x40 ∷ 0x01 ∷ 0xaa ∷ []) InvalidVectorLength (record {
+  front = 0x40 ∷ 0x01 ∷ [];
+  rest = 0xaa ∷ [];
+  number = 1;
+  whole = refl;
+  laid_out = (1, 0, record { top = omega arith; low = omega arith; first = refl; width = refl; bytes = (omega arith, tt); number = refl });
+  cause = inl (omega arith);
+}) (length p.inside) p.inside (record { front = p.count; whole = p.whole; spelled = p.counts })
 
 -- a payload of two bytes has one spelling
 pub some_spelled_once : (s : List ℕ) → option (number 2) Writing s (Join (Number 7) Empty) → s ≡ 1 ∷ 0 ∷ 7 ∷ []
@@ -75,29 +132,26 @@ not_utf8 p = let e : false ≡ true = is_utf8-from_IsUtf8 (0xed ∷ 0xa0 ∷ 0x8
 pub surrogate_is_no_text : (d : Direction) (v : Tree) → text d (3 ∷ 0xed ∷ 0xa0 ∷ 0x80 ∷ []) v → ⊥
 surrogate_is_no_text d v p = go p.count p.whole p.counts
   where
-    go : (count : List ℕ) → 3 ∷ 0xed ∷ 0xa0 ∷ 0x80 ∷ [] ≡ count ++ p.inside → Varint count (length p.inside) → ⊥
-    go [] w c = absurd c
+    go : (count : List ℕ) → 3 ∷ 0xed ∷ 0xa0 ∷ 0x80 ∷ [] ≡ count ++ p.inside → VectorLength count (length p.inside) → ⊥
+    go [] w c = absurd c.laid_out
     go (b ∷ []) w c = let same : 0xed ∷ 0xa0 ∷ 0x80 ∷ [] ≡ p.inside = cc in not_utf8 (subst IsUtf8 (sym same) p.is_inside.1)
     go (b ∷ c1 ∷ cs) w c =
         let three : 3 ≡ b = cc in
-        let top : c.0 ≡ 0 = omega (arith, three, c.2.first, c.2.low) in
-        absurd (omega (arith, c.2.width, ap (λ (u : ℕ). 2 ^ u) top))
+        let by = c.laid_out.2 in
+        let top : c.laid_out.0 ≡ 0 = omega (arith, three, by.first, by.low) in
+        absurd (omega (arith, by.width, ap (λ (u : ℕ). 2 ^ u) top))
 
 -- the shortest form of the list of the byte aa
 pub shortest_list : IsShortest (list (number 1)) (1 ∷ 0xaa ∷ []) (Join (Number 0xaa) Empty)
 shortest_list =
     let inside : content (number 1) Writing (0xaa ∷ []) (Join (Number 0xaa) Empty) = record { front = 0xaa ∷ []; rest = []; whole = refl; first = (record { width = refl; bytes = (omega arith, tt); number = refl }, tt); second = refl } in
-    let least : IsShortest (content (number 1)) (0xaa ∷ []) (Join (Number 0xaa) Empty) = record { spelled = inside; least = λ t q. inl (bytes_one (Join (Number 0xaa) Empty) t (0xaa ∷ []) q inside) } in
-    counted_least Varint least_width varint_field (content (number 1)) (1 ∷ []) (0xaa ∷ []) (Join (Number 0xaa) Empty) (one_byte_varint 1 (omega arith)) least
+    alone_shortest bytes_lawful (1 ∷ 0xaa ∷ []) (Join (Number 0xaa) Empty) (record { count = 1 ∷ []; inside = 0xaa ∷ []; whole = refl; counts = one_byte_spells (2 ^ 30) 1 (omega arith) (omega arith); is_inside = inside })
 
 -- the shortest form of the list of one value with no parts
 pub shortest_list_of_nothing : IsShortest (list nothing) (0 ∷ []) (Join Empty Empty)
 shortest_list_of_nothing =
-    let least : IsShortest (content nothing) [] (Join Empty Empty) = record {
-      spelled = record { front = []; rest = []; whole = refl; first = (refl, tt); second = refl };
-      least = λ t q. inl (q.whole ∙ ap (λ (u : List ℕ). u ++ q.rest) q.first.0 ∙ q.second);
-    } in
-    counted_least Varint least_width varint_field (content nothing) (0 ∷ []) [] (Join Empty Empty) (one_byte_varint 0 (omega arith)) least
+    let inside : content nothing Writing [] (Join Empty Empty) = record { front = []; rest = []; whole = refl; first = (refl, tt); second = refl } in
+    alone_shortest (list_meets nothing_meets).spelled (0 ∷ []) (Join Empty Empty) (record { count = 0 ∷ []; inside = []; whole = refl; counts = one_byte_spells (2 ^ 30) 0 (omega arith) (omega arith); is_inside = inside })
 
 -- which has no reading spelling
 pub nothing_is_no_element : (s : List ℕ) → list nothing Reading s (Join Empty Empty) → ⊥

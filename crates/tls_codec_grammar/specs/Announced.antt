@@ -1,6 +1,6 @@
 -- Announced lengths, in bytes. Every sum stays at `usize::MAX` once it is there.
-use Rattle.std.specs.Prelude.{ℕ, ◌+◌, min}
-use Rattle.tls_codec_wire.specs.VarintCalls.{least_width}
+use Rattle.std.specs.Prelude.{ℕ, ◌+◌, ◌^◌, min}
+use Rattle.tls_codec_wire.specs.Varint.{width_below}
 use Rattle.tls_codec_grammar.specs.Tree.{Tree, Number, Empty, Join}
 
 abbrev pub capped : ℕ → ℕ
@@ -27,7 +27,7 @@ content_sum element (Join v vs) = element v + content_sum element vs
 content_sum element _ = 0
 
 abbrev pub varint_length : Tree → ℕ
-varint_length (Number n) = least_width n
+varint_length (Number n) = width_below (2 ^ 62) n
 varint_length _ = 0
 
 -- what is counted, and the field that counts it

@@ -1,99 +1,60 @@
 -- Length fields: what stands before a content and says how many bytes that has.
-use Rattle.std.specs.Prelude.{◌≡◌, ◌+◌, ◌-◌, ◌^◌, ◌<◌, ◌≤◌, ◌⊎◌, ℕ, List, ◌++◌, length, take, drop, codes, Option, None, Some, ⊤}
-use Rattle.std.specs.Io.KnownBytes.{Appends}
-use Rattle.tls_codec_wire.specs.Counts.{Counts, RoseBy}
-use Rattle.tls_codec_wire.specs.Device.{Gives, Received}
+use Rattle.std.specs.Prelude.{◌≡◌, ◌+◌, ◌-◌, ◌^◌, ◌<◌, ◌≤◌, ◌⊎◌, ℕ, List, ◌++◌, length, take, drop, codes, ⊤}
 use Rattle.tls_codec_wire.specs.Digits.{Digits}
-use Rattle.tls_codec_wire.specs.Transfer.{IsReadFailure, WriteRefused}
-use Rattle.tls_codec_wire.specs.Varint.{Varint}
-use Rattle.tls_codec_wire.specs.VarintCalls.{least_width}
+use Rattle.tls_codec_wire.specs.Numbers.{BeginsNumber}
+use Rattle.tls_codec_wire.specs.Varint.{VectorLength, width_below}
+use Rattle.tls_codec_wire.specs.VarintCalls.{RefusesBelow}
 use Rattle.tls_codec_wire.specs.declared.error.Error.{Error}
-use Rattle.tls_codec_wire.specs.declared.error.Error.TheVariants.{DecodingError, EndOfStream, InvalidVectorLength, OutOfMemory}
+use Rattle.tls_codec_wire.specs.declared.error.Error.TheVariants.{EndOfStream, InvalidVectorLength, OutOfMemory}
 use Rattle.tls_codec_grammar.specs.Errors.{Says}
-use Rattle.tls_codec_grammar.specs.Shortest.{IsLeast}
 
 pub record Field : Type 1 where
   -- which bytes spell which number
   pub spells : List ℕ → ℕ → Type 0
-  -- how many bytes the least spelling of a number has
+  -- how many bytes the spelling of a number has
   pub width : ℕ → ℕ
   -- the numbers from this one on have no spelling
   pub limit : ℕ
+  -- why bytes begin with no spelling, by the error that says so
+  pub refuses : List ℕ → Error → Type 0
   -- which errors name a slice that has fewer bytes behind the field than it declares, where bytes are not read one by one
   pub cut_off : Error → Type 0
 
--- a variable-length integer of any width (the crate's rule; RFC 9420, section 2.1.2, admits the least alone)
+-- a variable-length integer of at most 30 bits (RFC 9420, section 2.1.2)
 abbrev pub variable_field : Field
-variable_field = record { spells = Varint; width = least_width; limit = 2 ^ 62; cut_off = Says (codes "declared content is not there") }
+variable_field = record {
+  spells = VectorLength;
+  width = width_below (2 ^ 30);
+  limit = 2 ^ 30;
+  refuses = RefusesBelow (2 ^ 30);
+  cut_off = Says (codes "declared content is not there");
+}
+
+-- there are fewer than k bytes
+abbrev pub RefusesDigits : ℕ → List ℕ → Error → Type 0
+RefusesDigits k x EndOfStream = length x < k
+RefusesDigits k x _ = ⊥
 
 -- k bytes (RFC 8446, section 3.4)
 abbrev pub fixed_field : ℕ → Field
-fixed_field k = record { spells = Digits k; width = λ n. k; limit = 256 ^ k; cut_off = λ e. e ≡ EndOfStream }
+fixed_field k = record { spells = Digits k; width = λ n. k; limit = 256 ^ k; refuses = RefusesDigits k; cut_off = λ e. e ≡ EndOfStream }
 
--- ---- from a slice
-
--- x begins with a spelling of n, leaving rest
-pub record BeginsField (field : Field) (x : List ℕ) (n : ℕ) (rest : List ℕ) : Type 0 where
-  pub front : List ℕ
-  pub whole : x ≡ front ++ rest
-  pub spelled : field.spells front n
-
--- no prefix of x is a spelling
-abbrev pub NoFieldBegins : Field → List ℕ → Type 0
-NoFieldBegins field x = (n : ℕ) (rest : List ℕ) → BeginsField field x n rest → ⊥
+-- ---- the content
 
 -- x begins with a length, and has fewer bytes behind it
 pub record IsCutOff (field : Field) (x : List ℕ) : Type 0 where
   pub declared : ℕ
   pub behind : List ℕ
-  pub begins : BeginsField field x declared behind
+  pub begins : BeginsNumber field.spells x declared behind
   pub short : length behind < declared
 
--- ---- from a source
+-- ---- to a vector
 
--- the source gave just a spelling of n
-pub record GaveField {S : Type 0} (given : Gives S) (field : Field) (old new : S) (n : ℕ) : Type 0 where
-  pub front : List ℕ
-  pub held : given old front new
-  pub spelled : field.spells front n
-
--- no prefix of the bytes to come, where they are told, is a spelling
-abbrev pub NoFieldComes : Field → Option (List ℕ) → Type 0
-NoFieldComes field None = ⊤
-NoFieldComes field (Some x) = NoFieldBegins field x
-
--- why a source is refused: it failed, no spelling was to come, or it had no memory
-abbrev pub FieldRefused : Field → Error → Option (List ℕ) → Counts → Counts → Type 0
-FieldRefused field (DecodingError text) coming old new = IsReadFailure text old new
-FieldRefused field EndOfStream coming old new = NoFieldComes field coming
-FieldRefused field OutOfMemory coming old new = RoseBy 1 old.shortages new.shortages
-FieldRefused field _ coming old new = ⊥
-
--- ---- to a sink and a vector
-
--- the sink received the least spelling of n behind what it had, of so many bytes
-pub record SentField (field : Field) (old new : Option (List ℕ)) (n width : ℕ) : Type 0 where
-  pub form : List ℕ
-  pub least : IsLeast (λ s. field.spells s n) form
-  pub held : Appends old new form
-  pub count : width ≡ length form
-
--- the sink received a beginning of the least spelling of n
-pub record BeganField (field : Field) (old new : Option (List ℕ)) (n : ℕ) : Type 0 where
-  pub form : List ℕ
-  pub least : IsLeast (λ s. field.spells s n) form
-  pub received : Received old new form
-
--- why a length is not sent: none holds it, the sink failed, or it had no memory
-abbrev pub FieldNotSent : Field → Error → ℕ → Counts → Counts → Type 0
-FieldNotSent field InvalidVectorLength n old new = field.limit ≤ n
-FieldNotSent field e n old new = WriteRefused e old new
-
--- the least spelling of the number of bytes behind a gap stands in its place, of so many bytes; the gap began at a place
+-- the spelling of the number of bytes behind a gap stands in its place, of so many bytes; the gap began at a place
 -- and had a width
 pub record FilledGap (field : Field) (old new : List ℕ) (at gap width : ℕ) : Type 0 where
   pub form : List ℕ
-  pub least : IsLeast (λ s. field.spells s (length old - (at + gap))) form
+  pub spelled : field.spells form (length old - (at + gap))
   pub held : new ≡ take at old ++ (form ++ drop (at + gap) old)
   pub count : width ≡ length form
 

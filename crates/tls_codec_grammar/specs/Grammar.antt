@@ -1,7 +1,7 @@
 -- Which bytes spell which values.
 use Rattle.std.specs.Prelude.{◌≡◌, ℕ, ◌<◌, List, [], ◌∷◌, ◌++◌, length, IsUtf8}
 use Rattle.tls_codec_wire.specs.Digits.{AreBytes, Digits}
-use Rattle.tls_codec_wire.specs.Varint.{Varint}
+use Rattle.tls_codec_wire.specs.Varint.{Varint, VectorLength}
 use Rattle.tls_codec_grammar.specs.Tree.{Tree, Number, Empty, Join, number_trees}
 
 -- There are two grammars, in one definition with a switch: the one by which bytes are read, and the wider one by
@@ -22,7 +22,7 @@ number k d b (Number n) = Digits k b n
 number k d b Empty = ⊥
 number k d b (Join v vs) = ⊥
 
--- a variable-length integer (RFC 9000, section 16)
+-- a variable-length integer in the least width (RFC 9000, section 16; RFC 9420, section 2.1.2)
 abbrev pub varint : Grammar
 varint d b (Number n) = Varint b n
 varint d b Empty = ⊥
@@ -103,9 +103,9 @@ counted field inside d b v = Counted field b (λ c. inside d c v)
 abbrev pub sized : ℕ → Grammar → Grammar
 sized n inside d c v = (length c ≡ n) × inside d c v
 
--- a list behind a variable-length length of any width (the crate's rule; RFC 9420, section 2.1.2, admits the least alone)
+-- a list behind a variable-length length (RFC 9420, section 2.1.2)
 abbrev pub list : Grammar → Grammar
-list element = counted Varint (content element)
+list element = counted VectorLength (content element)
 
 -- a list behind a length of k bytes (RFC 8446, section 3.4)
 abbrev pub fixed_list : ℕ → Grammar → Grammar
@@ -122,4 +122,4 @@ abbrev pub utf8 : Grammar
 utf8 d c v = content (number 1) d c v × IsUtf8 c
 
 abbrev pub text : Grammar
-text = counted Varint utf8
+text = counted VectorLength utf8

@@ -2,7 +2,8 @@
 use Rattle.std.specs.Prelude.{◌≡◌, ◌≢◌, ◌<◌, ◌≤◌, ◌^◌, ℕ, List, ◌++◌, length}
 use Rattle.tls_codec_grammar.specs.Tree.{Tree}
 use Rattle.tls_codec_grammar.specs.Grammar.{Grammar, Reading, Writing}
-use Rattle.tls_codec_grammar.specs.Shortest.{IsLeast, IsShortest, IsFull, HasNoSpelling}
+use Rattle.tls_codec_wire.specs.Numbers.{NoNumberBegins}
+use Rattle.tls_codec_grammar.specs.Shortest.{HasNoSpelling}
 use Rattle.tls_codec_grammar.specs.Announced.{capped}
 use Rattle.tls_codec_grammar.specs.Field.{Field}
 use Rattle.tls_codec_grammar.specs.Format.{Format}
@@ -12,38 +13,36 @@ use Rattle.tls_codec_wire.specs.declared.error.Error.TheVariants.{InvalidVectorL
 pub record IsLawful (spells : Grammar) (announced : Tree → ℕ) : Type 0 where
   -- if two reading spellings begin one byte list, they are equal and spell one value
   pub one : (s t x y : List ℕ) (v w : Tree) → spells Reading s v → spells Reading t w → s ++ x ≡ t ++ y → (s ≡ t) × (v ≡ w)
-  -- a value with a writing spelling has a shortest form
-  pub shortest : (s : List ℕ) (v : Tree) → spells Writing s v → (t : List ℕ) × IsShortest spells t v
+  -- a value has at most one writing spelling
+  pub alone : (s t : List ℕ) (v : Tree) → spells Writing s v → spells Writing t v → s ≡ t
   -- a reading spelling is a writing spelling of the value
   pub written : (s : List ℕ) (v : Tree) → spells Reading s v → spells Writing s v
-  -- a value with a reading spelling is full
-  pub full : (s : List ℕ) (v : Tree) → spells Reading s v → IsFull spells v
-  -- the announced length is that of the shortest form
-  pub announces : (s : List ℕ) (v : Tree) → IsShortest spells s v → announced v ≡ capped (length s)
+  -- the announced length is that of the spelling
+  pub announces : (s : List ℕ) (v : Tree) → spells Writing s v → announced v ≡ capped (length s)
 
 -- The same laws for what stands behind a length field, which says where it ends: there only one value is asked of
 -- one byte list.
 pub record IsLawfulInside (inside : Grammar) (announced : Tree → ℕ) : Type 0 where
   pub same : (c : List ℕ) (v w : Tree) → inside Reading c v → inside Reading c w → v ≡ w
-  pub shortest : (c : List ℕ) (v : Tree) → inside Writing c v → (t : List ℕ) × IsShortest inside t v
+  pub alone : (c d : List ℕ) (v : Tree) → inside Writing c v → inside Writing d v → c ≡ d
   pub written : (c : List ℕ) (v : Tree) → inside Reading c v → inside Writing c v
-  pub full : (c : List ℕ) (v : Tree) → inside Reading c v → IsFull inside v
-  pub announces : (c : List ℕ) (v : Tree) → IsShortest inside c v → announced v ≡ capped (length c)
+  pub announces : (c : List ℕ) (v : Tree) → inside Writing c v → announced v ≡ capped (length c)
 
--- What a length field meets: none begins another; below a number that has a field each has a least one; a greater
--- number has no shorter one; and the width of the least one is this.
+-- What a length field meets: none begins another, a number has at most one, and this is its width.
 pub record IsLengthField (field : List ℕ → ℕ → Type 0) (width : ℕ → ℕ) : Type 0 where
   pub one : (a b x y : List ℕ) (m n : ℕ) → field a m → field b n → a ++ x ≡ b ++ y → (a ≡ b) × (m ≡ n)
-  pub least : (b : List ℕ) (m n : ℕ) → field b n → m ≤ n → (a : List ℕ) × IsLeast (λ t. field t m) a
-  pub monotone : (a b : List ℕ) (m n : ℕ) → IsLeast (λ t. field t m) a → field b n → m ≤ n → length a ≤ length b
-  pub measures : (a : List ℕ) (m : ℕ) → IsLeast (λ t. field t m) a → width m ≡ length a
+  pub alone : (a b : List ℕ) (n : ℕ) → field a n → field b n → a ≡ b
+  pub measures : (a : List ℕ) (n : ℕ) → field a n → width n ≡ length a
 
--- The laws of a length field with its limit, which memory can't pass: each number below it has a spelling, and no other.
+-- The laws of a length field with its limit, which memory can't pass: each number below it has a spelling, and no other;
+-- and bytes that it refuses begin with no spelling.
 pub record MeetsFieldLaws (field : Field) : Type 0 where
   pub counts : IsLengthField field.spells field.width
   pub each : (n : ℕ) → n < field.limit → (b : List ℕ) × field.spells b n
   pub below : (b : List ℕ) (n : ℕ) → field.spells b n → n < field.limit
   pub small : field.limit ≤ 2 ^ 62
+  pub none : (x : List ℕ) (e : Error) → field.refuses x e → NoNumberBegins field.spells x
+  pub named : (x : List ℕ) (e : Error) → field.refuses x e → (e ≢ OutOfMemory) × (e ≢ TrailingData)
   pub cut : (e : Error) → field.cut_off e → (e ≢ OutOfMemory) × (e ≢ TrailingData)
 
 -- The laws of a format: those of its spellings; what it refuses has no spelling; `OutOfMemory` isn't among the errors

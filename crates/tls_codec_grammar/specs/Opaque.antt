@@ -1,26 +1,31 @@
 -- Why bytes and texts behind a length field are refused.
 use Rattle.std.specs.Prelude.{◌≡◌, ◌⊎◌, List, ℕ, codes, Option, None, Some, IsUtf8, ⊤}
 use Rattle.tls_codec_wire.specs.Counts.{Counts}
+use Rattle.tls_codec_wire.specs.Numbers.{Comes}
 use Rattle.tls_codec_wire.specs.Transfer.{IsReadFailure}
 use Rattle.tls_codec_wire.specs.declared.error.Error.{Error}
 use Rattle.tls_codec_wire.specs.declared.error.Error.TheVariants.{DecodingError, EndOfStream, OutOfMemory}
 use Rattle.tls_codec_grammar.specs.Tree.{number_trees}
 use Rattle.tls_codec_grammar.specs.Errors.{Says}
-use Rattle.tls_codec_grammar.specs.Field.{Field, IsCutOff, NoFieldBegins, variable_field}
-use Rattle.tls_codec_grammar.specs.Format.{counted_bytes_format}
+use Rattle.tls_codec_grammar.specs.Field.{Field, IsCutOff, variable_field}
 use Rattle.tls_codec_grammar.specs.Grammar.{bytes}
-use Rattle.tls_codec_grammar.specs.Decoding.{Begins, NoneComes}
+use Rattle.tls_codec_grammar.specs.Decoding.{Begins}
 
 -- why bytes are not read from a slice: no length begins it, or it is cut off
 abbrev pub OpaqueRefused : Field → Error → List ℕ → Type 0
-OpaqueRefused field e x = ((e ≡ EndOfStream) × NoFieldBegins field x) ⊎ (field.cut_off e × IsCutOff field x)
+OpaqueRefused field e x = field.refuses x e ⊎ (field.cut_off e × IsCutOff field x)
 
--- why they are not read from a source: they are not to come, it failed, or there was no memory
+-- the bytes to come, where they are told, end within a length or within what it declares
+abbrev pub EndsWithin : Field → Option (List ℕ) → Type 0
+EndsWithin field None = ⊤
+EndsWithin field (Some x) = field.refuses x EndOfStream ⊎ IsCutOff field x
+
+-- why they are not read from a source: it failed, there was no memory, it ended, or the length is refused
 abbrev pub OpaqueSourceRefused : Field → Error → Option (List ℕ) → Counts → Counts → Type 0
-OpaqueSourceRefused field EndOfStream coming old new = NoneComes (counted_bytes_format field).spells coming
 OpaqueSourceRefused field (DecodingError text) coming old new = IsReadFailure text old new
 OpaqueSourceRefused field OutOfMemory coming old new = ⊤
-OpaqueSourceRefused field _ coming old new = ⊥
+OpaqueSourceRefused field EndOfStream coming old new = EndsWithin field coming
+OpaqueSourceRefused field e coming old new = Comes (λ x. field.refuses x e) coming
 
 -- x begins with bytes behind their length that are no UTF-8
 pub record IsNoText (x : List ℕ) : Type 0 where

@@ -1,4 +1,5 @@
 -- Why each format meets the laws. Proofs cite what is here; contracts cite only that a format meets them.
+pub mod AloneLaws
 pub mod RowLaws
 pub mod NumberLaws
 pub mod OptionLaws

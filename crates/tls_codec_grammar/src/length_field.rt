@@ -1,16 +1,15 @@
 //! Length fields: what stands before a content and says how many bytes that has (RFC 8446, section
-//! 3.4; RFC 9420, section 2.1.2, which admits the least width alone).
+//! 3.4; RFC 9420, section 2.1.2).
 //!
-//! [`TlsVarInt`] is one, and so are `u8`, `u16`, `U24` and `u32`. What stands behind a length goes
+//! [`TlsVarInt`] is one, up to 2^30 - 1, and so are `u8`, `u16`, `U24` and `u32`. What stands behind a length goes
 //! through calls that are generic over the field: [`opaque`](crate::opaque) for bytes, and `counted` of
 //! `tls_codec_base` for elements.
 ghost use Rattle.std.specs.Prelude.{◌≡◌, ◌≤◌, drop, MatchOption, IfErr, IfOk};
 ghost use Rattle.tls_codec_wire.specs.Counts.{OnlyInterrupted};
 ghost use Rattle.tls_codec_wire.specs.Device.{Gave};
-ghost use Rattle.tls_codec_wire.specs.declared.error.Error.TheVariants.{EndOfStream};
-ghost use Rattle.tls_codec_grammar.specs.Field.{BeginsField, Field, FieldRefused, GaveField, NoFieldBegins};
+ghost use Rattle.tls_codec_wire.specs.Numbers.{BeginsNumber, GaveNumber, NumberNotRead};
+ghost use Rattle.tls_codec_grammar.specs.Field.{Field};
 ghost use Rattle.tls_codec_grammar.specs.Lawful.{MeetsFieldLaws};
-ghost use Rattle.tls_codec_grammar.specs.Shortest.{IsLeast};
 
 use tls_codec_wire::{Error, Source};
 
@@ -35,33 +34,35 @@ pub trait LengthField {
     // Which bytes spell which length, how many of them, and up to where.
     ghost field: { Field };
 
-    /// The number of bytes of the least spelling of a length. Announced lengths count it also where the
-    /// length passes the greatest one: then it is whatever the field says.
+    /// How many bytes a length has. Announced lengths count it also where the length passes the greatest
+    /// one: then it is whatever the field says.
     fn width(length: usize) -> usize
         ensures { result ≡ field.width length };
 
-    /// The least spelling of a length, which is what stands in these bytes from this place on; none
-    /// where the length passes the greatest one.
-    fn least_form(length: usize) -> Option<([u8; 8], usize)>
+    /// The bytes of a length, which are what stands in these eight from this place on; none where the
+    /// length passes the greatest one.
+    fn form(length: usize) -> Option<([u8; 8], usize)>
         ensures { MatchOption result (field.limit ≤ length)
-            (λ form. (form.1 ≤ 8) × IsLeast (λ s. field.spells s length) (drop form.1 form.0)) };
+            (λ form. (form.1 ≤ 8) × field.spells (drop form.1 form.0) length) };
 
-    /// Reads a length. Just its spelling is taken.
+    /// Reads a length. Just its bytes are taken.
     ///
-    /// `EndOfStream`: no whole spelling comes. `DecodingError("read failed")` and `OutOfMemory` are
-    /// the source's, as in [`read_exactly`](tls_codec_wire::read_exactly).
+    /// `DecodingError("read failed")` and `OutOfMemory` are the source's, as in
+    /// [`read_exactly`](tls_codec_wire::read_exactly). Every other refusal is the field's: `EndOfStream`
+    /// where the bytes end within a length, and of a [`TlsVarInt`] `InvalidVectorLength`, where they are
+    /// more than it needs, or it is above the greatest.
     fn read_length<R: Source>(src: &mut R) -> Result<usize, Error>
         ensures gave { Gave R.given src.old src.new }
-        ensures ok { IfOk result (λ n. GaveField R.given field src.old src.new n) }
-        ensures refused { IfErr result (λ e. FieldRefused field e (R.coming src.old) (R.counts src.old) (R.counts src.new)) }
+        ensures ok { IfOk result (λ n. GaveNumber R.given field.spells src.old src.new n) }
+        ensures refused { IfErr result (λ e. NumberNotRead field.refuses e (R.coming src.old) (R.counts src.old) (R.counts src.new)) }
         ensures calm { IfOk result (λ _. OnlyInterrupted (R.counts src.old) (R.counts src.new)) };
 
     /// The length that the bytes begin with, and the rest of them.
     ///
-    /// `EndOfStream`: they begin with no whole spelling.
+    /// The refusals are the field's, as in [`read_length`](LengthField::read_length).
     fn split_length(bytes: &[u8]) -> Result<(usize, &[u8]), Error>
-        ensures ok { IfOk result (λ found. BeginsField field bytes.now found.0 found.1.now) }
-        ensures err { IfErr result (λ e. (e ≡ EndOfStream) × NoFieldBegins field bytes.now) };
+        ensures ok { IfOk result (λ found. BeginsNumber field.spells bytes.now found.0 found.1.now) }
+        ensures err { IfErr result (field.refuses bytes.now) };
 
     /// How bytes are refused that are fewer than the field before them declares, where they are taken
     /// at once and not as elements.

@@ -44,7 +44,7 @@ pub fn append<F: LengthField>(out: &mut Vec<u8>, content: &[u8]) -> Result<usize
     ensures appends { AppendsForm (counted_bytes_format F.field) (number_trees content.now) out.old.items out.new.items result }
     ensures too_long { (counted_bytes_format F.field).too_long (number_trees content.now) → result ≡ Err InvalidVectorLength }
 {
-    let Some(found) = F::least_form(content.len()) else {
+    let Some(found) = F::form(content.len()) else {
         return Err(Error::InvalidVectorLength);
     };
     let (bytes, from) = found;
@@ -67,8 +67,9 @@ pub fn to_vec<F: LengthField>(alloc: Global, content: &[u8]) -> Result<Vec<u8>, 
 
 /// The bytes that a prefix of `whole` spells, and the rest of it. Neither is copied.
 ///
-/// `EndOfStream`: there is no whole length. Where fewer bytes are behind it than it declares, the
-/// refusal is the field's [`cut_off`](LengthField::cut_off).
+/// Where no length begins it, the refusal is that of
+/// [`split_length`](LengthField::split_length). Where fewer bytes are behind it than it declares, it is the
+/// field's [`cut_off`](LengthField::cut_off).
 pub fn split<F: LengthField>(whole: &[u8]) -> Result<(&[u8], &[u8]), Error>
     ensures splits { Splits (record (counted_bytes_format F.field) { lean = true }) (λ found. number_trees found.now) whole.now result }
     ensures named { IfErr result (λ e. OpaqueRefused F.field e whole.now) }
@@ -118,8 +119,9 @@ pub fn push(content: &mut Vec<u8>, byte: u8) -> Result<(), Error>
 
 /// The bytes that the bytes to come spell. Just their spelling is taken.
 ///
-/// Room is asked for as they come. `EndOfStream`: there is no whole length, or fewer bytes come than
-/// it declares. `DecodingError("read failed")` and `OutOfMemory` are as in `read_bytes_bounded`.
+/// Room is asked for as they come. `EndOfStream`: fewer bytes come than the length declares. The length is
+/// refused as in [`read_length`](LengthField::read_length). `DecodingError("read failed")` and `OutOfMemory`
+/// are as in `read_bytes_bounded`.
 pub fn read<F: LengthField, R: Source>(alloc: Global, src: &mut R) -> Result<Vec<u8>, Error>
     ensures reads { Reads (counted_bytes_format F.field) (λ content. number_trees content.items) R.Source src.old src.new result }
     ensures named { IfErr result (λ e. OpaqueSourceRefused F.field e (R.coming src.old) (R.counts src.old) (R.counts src.new)) }

@@ -1,9 +1,12 @@
-//! Equal vectors have equal hashes, and byte vectors are ordered as lists of bytes.
+//! Equal vectors have equal hashes, byte vectors are ordered as lists of bytes, and a step has one spelling.
 //!
 //! The functions do nothing. Their contracts state this, and so are proved.
-ghost use Rattle.std.specs.Prelude.{◌≡◌, IsTrue, Some};
+ghost use Rattle.std.specs.Prelude.{◌≡◌, ◌⊎◌, ℕ, [], ◌∷◌, IsTrue, Some};
 ghost use Rattle.std.specs.Ordering.{nat_cmp};
 ghost use Rattle.std.specs.Cmp.Lexicographic.{slice_cmp};
+ghost use Rattle.tls_codec.specs.OwnMessages.{Tree, Number, Empty, Join};
+ghost use Rattle.tls_codec.specs.Spellings.{IsLawful};
+ghost use Rattle.tls_codec_vectors.specs.Messages.{step_format};
 ghost use Rattle.tls_codec.specs.Contents.{SecretTlsVec, SecretVLByteVec, SecretVLBytes, TlsByteVec, TlsVec, VLByteVec, VLBytes, bytes_of, vec_bytes_of};
 
 use std::hash::Hash;
@@ -38,4 +41,11 @@ pub fn byte_vectors_are_ordered_as_lists_of_bytes()
     ensures bytes_partly { (x y : VLBytes) → ⟦<VLBytes as PartialOrd>⟧.partial_cmp x y ≡ Some (slice_cmp nat_cmp (bytes_of x) (bytes_of y)) }
     ensures vec { (x y : VLByteVec) → ⟦<VLByteVec as Ord>⟧.cmp x y ≡ slice_cmp nat_cmp (vec_bytes_of x) (vec_bytes_of y) }
     ensures vec_partly { (x y : VLByteVec) → ⟦<VLByteVec as PartialOrd>⟧.partial_cmp x y ≡ Some (slice_cmp nat_cmp (vec_bytes_of x) (vec_bytes_of y)) }
+{}
+
+/// Where the bytes 03 00 spelled [`Step::Ping`](crate::Step::Ping) too, steps would meet no laws, whatever they
+/// announced: a value has at most one spelling.
+pub fn second_spelling_of_ping_is_unlawful()
+    ensures { (announced : Tree → ℕ)
+        → IsLawful (λ d s v. step_format.spells d s v ⊎ ((s ≡ 3 ∷ 0 ∷ []) × (v ≡ Join (Number 0) Empty))) announced → ⊥ }
 {}

@@ -1,5 +1,5 @@
 //! Byte vectors behind a variable-length length (RFC 9420, section 2.1.2): the type that messages of
-//! MLS are mostly made of. Wider than least lengths are read, which that section forbids.
+//! MLS are mostly made of.
 //!
 //! Their bytes are moved in bulk from any source; those of a `Vec<u8>`, which has the same spellings, where
 //! the source has them in memory. A declared length asks for no memory: room is made as the bytes come.

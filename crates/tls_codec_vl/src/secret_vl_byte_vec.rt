@@ -163,6 +163,7 @@ impl Deserialize for SecretVLByteVec {
     ghost names = { λ coming old new e. OpaqueSourceRefused variable_field e coming old new };
 
     /// `EndOfStream`: there is no whole length, or fewer bytes come than it declares.
+    /// `InvalidVectorLength`: the length has more bytes than it needs, or more than 30 bits.
     fn tls_deserialize<R: Source>(alloc: Global, src: &mut R) -> Result<SecretVLByteVec, Error> {
         let read = VLByteVec::tls_deserialize(alloc, src)?;
         Ok(SecretVLByteVec(read))
@@ -172,6 +173,7 @@ impl Deserialize for SecretVLByteVec {
 impl DeserializeBytes for SecretVLByteVec {
     ghost names = { λ x e. (e ≡ OutOfMemory) ⊎ OpaqueRefused variable_field e x };
 
+    /// `InvalidVectorLength`: the length has more bytes than it needs, or more than 30 bits.
     /// `EndOfStream`: there is no whole length. `DecodingError("declared content is not there")`:
     /// fewer bytes are behind it than it declares.
     fn tls_deserialize_bytes(

@@ -3,6 +3,7 @@ pub mod BigEndian
 pub mod Bytes
 pub mod Filling
 pub mod Given
+pub mod Later
 pub mod Pieces
 pub mod VarintForms
 pub mod VarintReads

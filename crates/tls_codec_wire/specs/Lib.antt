@@ -6,6 +6,7 @@ pub mod Bounded
 pub mod Transfer
 pub mod Digits
 pub mod Varint
+pub mod Numbers
 pub mod Foreign
 pub mod VarintCalls
 pub mod Uint24

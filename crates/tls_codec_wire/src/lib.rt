@@ -13,8 +13,8 @@
 //! - [`transfer`]: [`read_exactly`] and [`write_all`]. [`gather`]: [`read_bytes_bounded`].
 //! - [`uint24`]: [`U24`], a number of 24 bits.
 //! - [`varint`]: [`TlsVarInt`], the number of a variable-length integer.
-//! - [`quic`]: variable-length integers, read and written.
-//! - [`vlen`]: lengths as such integers.
+//! - [`quic`]: variable-length integers, read and written. [`vlen`]: lengths as such integers. Both
+//!   stand on `layout`, numbers below a limit in the least width.
 //! - [`laws`]: errors and numbers are compared as what they stand for is.
 #![tactic(auto)]
 
@@ -23,6 +23,7 @@ pub mod device;
 pub mod error;
 pub mod gather;
 pub mod laws;
+mod layout;
 pub mod memory;
 pub mod outside;
 pub mod quic;

@@ -1,51 +1,58 @@
-//! Lengths as variable-length integers (RFC 9000, section 16; RFC 9420, section 2.1.2).
+//! Lengths as variable-length integers (RFC 9420, section 2.1.2).
 //!
-//! Every width is read, though the latter admits the least alone, and the least is written. The
-//! greatest length is [`TlsVarInt::MAX`].
-ghost use Rattle.std.specs.Prelude.{◌≡◌, ◌^◌, ◌-◌, ◌<◌, ◌≤◌, ◌+◌, ◌++◌, length, vec_len, take, drop, is_ok, if◌then◌else◌, IfErr, IfOk, OnErr};
+//! A length has at most 30 bits, so 1, 2 or 4 bytes: the greatest is 1,073,741,823. In more bytes than it
+//! needs it is refused.
+ghost use Rattle.std.specs.Prelude.{◌≡◌, ◌^◌, ◌-◌, ◌<◌, ◌≤◌, ◌+◌, ◌++◌, length, vec_len, take, drop, is_ok, if◌then◌else◌, IfErr, IfOk, MatchOption, OnErr};
 ghost use Rattle.tls_codec_wire.specs.Counts.{NoneFell, OnlyInterrupted};
 ghost use Rattle.tls_codec_wire.specs.Device.{Gave};
-ghost use Rattle.tls_codec_wire.specs.VarintCalls.{BeganVarint, BeginsVarint, GaveVarint, InsertedVarint, InsertRefused, LengthRefused, NoVarintBegins, SentVarint, VarintRefused, least_width};
-ghost use Rattle.tls_codec_wire.specs.declared.error.Error.TheVariants.{EndOfStream, InvalidVectorLength, OutOfMemory};
+ghost use Rattle.tls_codec_wire.specs.Numbers.{BeganNumber, BeginsNumber, GaveNumber, NumberNotRead, NumberNotSent, SentNumber};
+ghost use Rattle.tls_codec_wire.specs.Varint.{VectorLength, width_below};
+ghost use Rattle.tls_codec_wire.specs.VarintCalls.{InsertedLength, InsertRefused, RefusesBelow};
+ghost use Rattle.tls_codec_wire.specs.declared.error.Error.TheVariants.{InvalidVectorLength, OutOfMemory};
 
 use crate::device::{Sink, Source};
 use crate::error::Error;
-use crate::quic::{least_form, least_width, read_varint, split_varint, write_varint};
-use crate::varint::TlsVarInt;
+use crate::layout::{form_below, read_below, split_below, width_below, write_below};
 
-/// Reads a length, and how many bytes spelled it, which may be more than the least.
+// The numbers from this one on are no lengths.
+const LIMIT: u64 = 0x4000_0000;
+
+/// Reads a length, and how many bytes it has.
 ///
-/// `EndOfStream`: fewer bytes come than the first one says, or none. `DecodingError("read failed")`
-/// and `OutOfMemory` are the source's, as in [`read_exactly`](crate::read_exactly).
+/// `EndOfStream`: fewer bytes come than the first one asks for, or none. `InvalidVectorLength`: these
+/// are more than the length needs, or it is above the greatest. `DecodingError("read failed")` and
+/// `OutOfMemory` are the source's, as in [`read_exactly`](crate::read_exactly).
 ///
 /// ```rust
+/// let mut src = [0x40u8, 0x40].as_slice();
+/// assert_eq!(rt; read_length(&mut src), Ok((64, 2)));
 /// let mut src = [0x40u8, 0x25].as_slice();
-/// assert_eq!(rt; read_length(&mut src), Ok((37, 2)));
+/// assert_eq!(rt; read_length(&mut src), Err(Error::InvalidVectorLength));
 /// ```
 pub fn read_length<R: Source>(src: &mut R) -> Result<(usize, usize), Error>
     ensures gave { Gave R.given src.old src.new }
-    ensures ok { IfOk result (λ found. GaveVarint R.given src.old src.new found.0 found.1) }
-    ensures greatest { IfOk result (λ found. found.0 < 2 ^ 62) }
-    ensures refused { IfErr result (λ e. VarintRefused e (R.coming src.old) (R.counts src.old) (R.counts src.new)) }
+    ensures ok { IfOk result (λ found. GaveNumber R.given VectorLength src.old src.new found.0) }
+    ensures width { IfOk result (λ found. found.1 ≡ width_below (2 ^ 30) found.0) }
+    ensures refused { IfErr result (λ e. NumberNotRead (RefusesBelow (2 ^ 30)) e (R.coming src.old) (R.counts src.old) (R.counts src.new)) }
     ensures calm { IfOk result (λ _. OnlyInterrupted (R.counts src.old) (R.counts src.new)) }
 {
-    let (length, width) = read_varint(src)?;
-    Ok((length.value() as usize, width))
+    let length = read_below::<R, LIMIT>(src)?;
+    Ok((length as usize, width_below::<LIMIT>(length)))
 }
 
 /// The length that the bytes begin with, and the rest of them.
 ///
-/// `EndOfStream`: there are fewer bytes than the first one says, or none.
+/// `EndOfStream`: there are fewer bytes than the first one asks for, or none. `InvalidVectorLength`:
+/// these are more than the length needs, or it is above the greatest.
 pub fn split_length(bytes: &[u8]) -> Result<(usize, &[u8]), Error>
-    ensures ok { IfOk result (λ found. BeginsVarint bytes.now found.0 found.1.now) }
-    ensures greatest { IfOk result (λ found. found.0 < 2 ^ 62) }
-    ensures err { IfErr result (λ e. (e ≡ EndOfStream) × NoVarintBegins bytes.now) }
+    ensures ok { IfOk result (λ found. BeginsNumber VectorLength bytes.now found.0 found.1.now) }
+    ensures err { IfErr result (RefusesBelow (2 ^ 30) bytes.now) }
 {
-    let (length, rest) = split_varint(bytes)?;
-    Ok((length.value() as usize, rest))
+    let (length, rest) = split_below::<LIMIT>(bytes)?;
+    Ok((length as usize, rest))
 }
 
-/// Sends a length in the least number of bytes, and returns how many.
+/// Sends a length, and returns how many bytes it has.
 ///
 /// `InvalidVectorLength`: it is above the greatest length, and nothing was sent. Every other refusal
 /// is the sink's, as in [`write_all`](crate::write_all).
@@ -56,21 +63,35 @@ pub fn split_length(bytes: &[u8]) -> Result<(usize, &[u8]), Error>
 /// assert_eq!(rt; out.as_slice(), [0x40, 0x40].as_slice());
 /// ```
 pub fn write_length<W: Sink>(sink: &mut W, content_length: usize) -> Result<usize, Error>
-    ensures ok { IfOk result (SentVarint (W.received sink.old) (W.received sink.new) content_length) }
-    ensures beginning { content_length < 2 ^ 62 → BeganVarint (W.received sink.old) (W.received sink.new) content_length }
+    ensures ok { IfOk result (SentNumber VectorLength (W.received sink.old) (W.received sink.new) content_length) }
+    ensures beginning { content_length < 2 ^ 30 → BeganNumber VectorLength (W.received sink.old) (W.received sink.new) content_length }
     ensures counts { NoneFell (W.counts sink.old) (W.counts sink.new) }
-    ensures refused { IfErr result (λ e. LengthRefused e content_length (W.counts sink.old) (W.counts sink.new)) }
+    ensures refused { IfErr result (λ e. NumberNotSent (2 ^ 30) e content_length (W.counts sink.old) (W.counts sink.new)) }
     ensures calm { IfOk result (λ _. OnlyInterrupted (W.counts sink.old) (W.counts sink.new)) }
-    ensures too_long { 2 ^ 62 ≤ content_length → (result ≡ Err InvalidVectorLength) × (sink.new ≡ sink.old) }
+    ensures too_long { 2 ^ 30 ≤ content_length → (result ≡ Err InvalidVectorLength) × (sink.new ≡ sink.old) }
 {
-    match TlsVarInt::try_from(content_length as u64) {
-        Ok(length) => write_varint(sink, length),
-        Err(error) => Err(error),
-    }
+    write_below::<W, LIMIT>(sink, content_length as u64)
 }
 
-/// Puts a length in the least number of bytes before the bytes of a vector that it counts, which stand
-/// behind `at`, and returns how many bytes it has.
+/// The bytes of a length, which are what stands in these eight from this place on; none above the
+/// greatest length.
+#[inline(always)]
+pub fn length_form(content_length: usize) -> Option<([u8; 8], usize)>
+    ensures { MatchOption result (2 ^ 30 ≤ content_length)
+        (λ form. (form.1 ≤ 8) × VectorLength (drop form.1 form.0) content_length) }
+{
+    form_below::<LIMIT>(content_length as u64)
+}
+
+/// How many bytes a length has, and 0 above the greatest length.
+pub fn length_width(content_length: usize) -> usize
+    ensures { result ≡ width_below (2 ^ 30) content_length }
+{
+    width_below::<LIMIT>(content_length as u64)
+}
+
+/// Puts a length before the bytes of a vector that it counts, which stand behind `at`, and returns how
+/// many bytes it has.
 ///
 /// `InvalidVectorLength`: these are more bytes than the greatest length, or the vector would pass
 /// `isize::MAX` bytes. `OutOfMemory`: there was none. After a refusal the vector is as it was.
@@ -82,18 +103,21 @@ pub fn write_length<W: Sink>(sink: &mut W, content_length: usize) -> Result<usiz
 /// ```
 pub fn insert_length(out: &mut Vec<u8>, at: usize) -> Result<usize, Error>
     requires { at ≤ vec_len out.old }
-    ensures ok { IfOk result (InsertedVarint out.old.items out.new.items at) }
+    ensures ok { IfOk result (InsertedLength out.old.items out.new.items at) }
     ensures kept { OnErr result (out.new.items ≡ out.old.items) }
     ensures refused { IfErr result (λ e. InsertRefused e (length out.old.items - at) (length out.old.items)) }
-    ensures too_long { 2 ^ 62 ≤ length out.old.items - at → result ≡ Err InvalidVectorLength }
-    ensures passed { 2 ^ 63 ≤ length out.old.items + least_width (length out.old.items - at) → result ≡ Err InvalidVectorLength }
+    ensures too_long { 2 ^ 30 ≤ length out.old.items - at → result ≡ Err InvalidVectorLength }
+    ensures passed { 2 ^ 63 ≤ length out.old.items + width_below (2 ^ 30) (length out.old.items - at) → result ≡ Err InvalidVectorLength }
 {
     let content_length = out.len() - at;
-    let width = least_width(content_length as u64);
-    if width == 0 || width > isize::MAX as usize - out.len() {
+    let width = length_width(content_length);
+    if width > isize::MAX as usize - out.len() {
         return Err(Error::InvalidVectorLength);
     }
-    let (form, from) = least_form(TlsVarInt::new(content_length as u64));
+    let Some(found) = length_form(content_length) else {
+        return Err(Error::InvalidVectorLength);
+    };
+    let (form, from) = found;
     // Where the width is a constant, moving so many bytes is no call.
     match from {
         7 => insert_bytes(out, at, &form[7..])?,

@@ -1,3 +1,4 @@
-pub mod Reading
-pub mod Paths
 pub mod Bytes
+pub mod Hex
+pub mod Paths
+pub mod Reading

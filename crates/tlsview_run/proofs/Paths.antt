@@ -6,6 +6,8 @@ use Rattle.tls_codec.specs.Calls.{Error}
 use Rattle.tls_codec.specs.Devices.{FaultIsCounted, no_counts}
 use Rattle.tls_codec.specs.Errors.{OutOfMemory, name_of}
 use Rattle.tls_codec.specs.Spellings.{Grammar, IsLawful, Begins, Refuses, RefusesSource}
+use Rattle.hex.specs.Hex.{encode_lower}
+use Rattle.tlsview_run.proofs.Hex.{encode-append}
 use Rattle.tlsview_run.specs.View.{ok_line, refused_line, AppendsLeast, IsAcceptance, IsRefusal}
 
 -- a slice counts no fault
@@ -41,12 +43,16 @@ module _ (spells : Grammar) (announced : Tree → ℕ) (lawful : IsLawful spells
       let same_value = same.0 in
       let same_rest = same.1 in
       let last = least.shown in
+      let form : p.front ≡ least.form = lawful.alone p.front least.form v (lawful.written p.front v p.spelled) least.shortest.spelled in
+      let whole : x ≡ least.form ++ r = p.whole ∙ ap (λ u. u ++ r) form in
       record {
         value = v;
         rest = r;
         least = least.form;
         begins = p;
         shortest = least.shortest;
+        encoding = whole;
+        hex = sym (encode-append least.form r) ∙ ap encode_lower (sym whole);
         shown = (cc);
       }
 

@@ -1,5 +1,5 @@
 -- What an input is, and which bytes its text stands for.
-use Rattle.std.specs.Prelude.{◌≡◌, ◌<◌, ◌≤◌, ℕ, ◌+◌, Bool, ◌==◌, ◌||◌, not, List, length, filter, Option, Some, None, Ok, Err, ⊤}
+use Rattle.std.specs.Prelude.{◌≡◌, ◌<◌, ◌≤◌, ℕ, ◌+◌, Bool, ◌==◌, ◌&&◌, ◌||◌, not, nat_le, if◌then◌else◌, List, length, filter, map, Option, Some, None, Ok, Err, ⊤}
 use Rattle.std.specs.Io.KnownBytes.{IsAtEnd}
 use Rattle.hex.specs.Hex.{decode_of}
 use Rattle.hex.specs.declared.error.FromHexError.{FromHexError}
@@ -17,6 +17,14 @@ is_blank b = b == 9 || b == 10 || b == 13 || b == 32
 -- the text without its blanks
 abbrev pub digits_in : List ℕ → List ℕ
 digits_in text = filter (λ b. not (is_blank b)) text
+
+-- a digit in lower case
+abbrev pub lower_digit : ℕ → ℕ
+lower_digit c = if nat_le 65 c && nat_le c 70 then c + 32 else c
+
+-- the text without its blanks, in lower case
+abbrev pub lower_digits_in : List ℕ → List ℕ
+lower_digits_in text = map lower_digit (digits_in text)
 
 -- the digits of the text are the hex of these bytes
 abbrev pub StandsFor : List ℕ → List ℕ → Type 0

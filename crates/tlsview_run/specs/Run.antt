@@ -1,20 +1,23 @@
 -- What a run reads and prints.
 use Rattle.std.specs.Prelude.{◌≡◌, ◌⊎◌, ℕ, Bool, List, Result, Ok, Err}
 use Rattle.std.specs.Io.KnownBytes.{Appends}
+use Rattle.hex.specs.Hex.{encode_lower}
 use Rattle.tls_codec.specs.Calls.{SinkGhosts, SourceGhosts}
 use Rattle.tls_codec.specs.Devices.{Counts, FaultIsCounted, OnlyInterrupted, Received, RoseBy}
-use Rattle.tlsview_run.specs.Input.{GaveAll, StandsFor, IsNoHex, WhyNoText}
+use Rattle.tlsview_run.specs.Input.{GaveAll, StandsFor, IsNoHex, WhyNoText, lower_digits_in}
 use Rattle.tlsview_run.specs.Kinds.{kinds, FirstNamed}
 use Rattle.tlsview_run.specs.View.{Views, IsView}
 use Rattle.tlsview_run.specs.declared.fault.ViewFault.{ViewFault}
 use Rattle.tlsview_run.specs.declared.fault.ViewFault.TheVariants.{Kind, Hex, Write}
 
--- the lines are a view of the bytes that the input, read whole, stands for
+-- the lines are a view of the bytes that the input, read whole, stands for; their hex is its, in lower case and without
+-- the blanks
 pub record ViewsInput {S : Type 0} (views : Views) (source : SourceGhosts S) (old new : S) (accepted : Bool) (lines : List ℕ) : Type 0 where
   pub text : List ℕ
   pub bytes : List ℕ
   pub read : GaveAll source old new text
   pub decoded : StandsFor text bytes
+  pub hex : encode_lower bytes ≡ lower_digits_in text
   pub view : views bytes accepted lines
 
 -- the sink received just such lines, and counted nothing but interruptions

@@ -1,5 +1,6 @@
 -- What is printed of some bytes.
 use Rattle.std.specs.Prelude.{◌≡◌, ◌≢◌, ℕ, Bool, true, false, List, [], ◌∷◌, ◌++◌, codes}
+use Rattle.hex.specs.Hex.{encode_lower}
 use Rattle.tls_codec.specs.OwnMessages.{Tree}
 use Rattle.tls_codec.specs.Calls.{Error}
 use Rattle.tls_codec.specs.Errors.{OutOfMemory, name_of}
@@ -37,14 +38,16 @@ pub record NamesRefusal (name : List ℕ) : Type 0 where
   pub named : name ≡ name_of error
   pub of_bytes : error ≢ OutOfMemory
 
--- the bytes x begin with a spelling of a value, and the lines show the value and the rest by both paths, and then the
--- value's shortest form
+-- the bytes x are the shortest form of a value and a rest, and so is their hex; the lines show the value and the rest by
+-- both paths, and then the value's shortest form
 pub record IsAcceptance (spells : Grammar) (text : Tree → List ℕ) (x lines : List ℕ) : Type 0 where
   pub value : Tree
   pub rest : List ℕ
   pub least : List ℕ
   pub begins : Begins spells x value rest
   pub shortest : IsShortest spells least value
+  pub encoding : x ≡ least ++ rest
+  pub hex : encode_lower least ++ encode_lower rest ≡ encode_lower x
   pub shown : lines ≡ ok_line (codes "slice") (text value) rest ++ ok_line (codes "reader") (text value) rest ++ least_line least
 
 -- the bytes x begin with no spelling, and the lines show the name of a refusal by each path

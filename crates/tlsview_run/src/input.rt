@@ -1,12 +1,13 @@
 //! Reading the input, and the bytes that its text stands for.
 ghost use Rattle.std.specs.Prelude.{◌≡◌, ◌<◌, ◌≤◌, [], length, take, IfOk, IfErr, OnOk, OnErr};
 ghost use Rattle.std.specs.Io.KnownBytes.{IsAtEnd};
+ghost use Rattle.hex.specs.Hex.{encode_lower};
 ghost use Rattle.tls_codec.specs.Devices.{Gave, OnlyInterrupted};
-ghost use Rattle.tlsview_run.specs.Input.{GaveAll, StandsFor, WhyNoBytes, WhyNoPiece, WhyNoText};
+ghost use Rattle.tlsview_run.specs.Input.{GaveAll, StandsFor, WhyNoBytes, WhyNoPiece, WhyNoText, digits_in, lower_digits_in};
 
 use crate::fault::ViewFault;
 use hex::FromHexError;
-use std::alloc::Global;
+use std::alloc::{AllocError, Global};
 use tls_codec::{Fault, MOST_INTERRUPTIONS, Source};
 
 /// The greatest number of bytes that an input may have.
@@ -58,16 +59,23 @@ fn next_piece<R: Source>(input: &mut R, into: &mut [u8]) -> Result<usize, ViewFa
 /// The bytes that a text stands for.
 pub fn decode(alloc: Global, text: &[u8]) -> Result<Vec<u8>, ViewFault>
     ensures ok { IfOk result (λ bytes. StandsFor text.now bytes.items) }
+    ensures hex { IfOk result (λ bytes. encode_lower bytes.items ≡ lower_digits_in text.now) }
     ensures err { IfErr result (WhyNoBytes text.now) }
 {
-    let digits: Vec<u8> = text
-        .iter()
-        .copied()
-        .filter(|byte| !matches!(byte, b'\t' | b'\n' | b'\r' | b' '))
-        .collect(alloc)?;
+    let digits = without_blanks(alloc, text)?;
     match hex::decode(alloc, &digits) {
         Ok(bytes) => Ok(bytes),
         Err(FromHexError::OutOfMemory) => Err(ViewFault::Memory),
         Err(_) => Err(ViewFault::Hex),
     }
+}
+
+/// The text without its tabs, line feeds, carriage returns and spaces.
+fn without_blanks(alloc: Global, text: &[u8]) -> Result<Vec<u8>, AllocError>
+    ensures { IfOk result (λ digits. digits.items ≡ digits_in text.now) }
+{
+    text.iter()
+        .copied()
+        .filter(|byte| !matches!(byte, b'\t' | b'\n' | b'\r' | b' '))
+        .collect(alloc)
 }

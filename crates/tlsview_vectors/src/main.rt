@@ -1,8 +1,9 @@
 //! `tlsview` over a table of inputs, as one stored run.
 //!
 //! Each row of standard input has a kind and the hex of some bytes, `-` for none, with a tab between.
-//! The program prints the row again, and behind it the exit status of `tlsview` and what that prints,
-//! each line feed as `\n`, with tabs between.
+//! The program prints the row again, and after it the exit status of `tlsview` and what that prints,
+//! each line feed as `\n`, with tabs between. Where an accepted input isn't the encoding of its value and
+//! the rest, it prints a line that says so.
 //!
 //! The rows of `stdout` are the answers of an independent implementation, and not of this one.
 #![tactic(auto)]
@@ -22,6 +23,9 @@ fn main(rt: HostRuntime) -> io::Result<()> {
         write!(out, "{row}\t{status}\t")?;
         write_escaped(&mut out, &printed)?;
         writeln!(out)?;
+        if status == 0 && !is_encoding(alloc, hex, &printed)? {
+            writeln!(out, "{row}\tnot the encoding of its value")?;
+        }
     }
     out.flush()
 }
@@ -29,13 +33,33 @@ fn main(rt: HostRuntime) -> io::Result<()> {
 // The exit status, and what is printed.
 fn answer_of(alloc: Global, kind: &str, hex: &str) -> Result<(u8, Vec<u8>), AllocError> {
     let words = Vec::from_array(alloc, ["tlsview".to_string(alloc)?, kind.to_string(alloc)?])?;
-    let mut input = match hex {
-        "-" => b"".as_slice(),
-        _ => hex.as_bytes(),
-    };
+    let mut input = digits(hex).as_bytes();
     let mut printed = Vec::new(alloc);
     let status = answer(alloc, Ok(words), &mut input, &mut printed);
     Ok((status, printed))
+}
+
+// The hex of some bytes, of which `-` stands for none.
+fn digits(hex: &str) -> &str {
+    match hex {
+        "-" => "",
+        _ => hex,
+    }
+}
+
+// Whether the hex after `least ` and then that after ` rest ` is the input's.
+fn is_encoding(alloc: Global, hex: &str, printed: &[u8]) -> Result<bool, AllocError> {
+    let Ok(text) = std::str::from_utf8(printed) else {
+        return Ok(false);
+    };
+    let Some((lines, least)) = text.trim_end().rsplit_once("least ") else {
+        return Ok(false);
+    };
+    let Some((_, rest)) = lines.trim_end().rsplit_once(" rest ") else {
+        return Ok(false);
+    };
+    let whole = format!(in alloc; "{}{}", digits(least), digits(rest))?;
+    Ok(whole.as_str() == digits(hex))
 }
 
 // Writes a text, each line feed as `\n`.

@@ -1,21 +1,22 @@
 -- The laws of formats, from those of their parts.
-use Rattle.std.proofs.Common.{◌≡◌, ℕ, List, ◌^◌, ◌<◌, ◌≤◌, length, codes, refl, inl, inr, arith}
+use Rattle.std.proofs.Common.{◌≡◌, ◌≢◌, ℕ, List, ◌^◌, ◌<◌, ◌≤◌, length, codes, refl, ap, inl, inr, arith, length-append}
+use Rattle.tls_codec_wire.specs.Digits.{Digits}
+use Rattle.tls_codec_wire.specs.Numbers.{NoNumberBegins}
 use Rattle.tls_codec_wire.specs.declared.error.Error.{Error}
-use Rattle.tls_codec_wire.specs.declared.error.Error.TheVariants.{DecodingError, OutOfMemory, TrailingData}
+use Rattle.tls_codec_wire.specs.declared.error.Error.TheVariants.{DecodingError, EndOfStream, OutOfMemory, TrailingData}
 use Rattle.tls_codec_grammar.specs.Tree.{Tree, Number, Empty, Join}
 use Rattle.tls_codec_grammar.specs.Grammar.{Writing, Grammar, option, fields, content}
-use Rattle.tls_codec_grammar.specs.Shortest.{HasNoSpelling, IsShortest}
-use Rattle.tls_codec_grammar.specs.laws.RowLaws.{row_length}
+use Rattle.tls_codec_grammar.specs.Shortest.{HasNoSpelling}
 use Rattle.tls_codec_grammar.specs.Announced.{capped, content_length, content_sum}
 use Rattle.tls_codec_grammar.specs.Format.{Format, atom, number_format, array_format, varint_format, with_memory, option_format, option_refuses, nothing_format, fields_format, fields_refuses, pair_format, triple_format, content_format, content_refuses, utf8_format, counted_format, list_format, fixed_list_format, bytes_format, text_format, counted_list_format, counted_bytes_format}
 use Rattle.tls_codec_grammar.specs.Errors.{Says}
-use Rattle.tls_codec_grammar.specs.Field.{Field, fixed_field, variable_field}
+use Rattle.tls_codec_grammar.specs.Field.{Field, RefusesDigits, fixed_field, variable_field}
 use Rattle.tls_codec_grammar.specs.Lawful.{IsLengthField, IsLawful, MeetsFieldLaws, MeetsLaws, MeetsLawsInside}
 use Rattle.tls_codec_grammar.specs.laws.NumberLaws.{digits_below, digits_field, to_digits, to_digits_digits, array_lawful, number_lawful}
 use Rattle.tls_codec_grammar.specs.laws.OptionLaws.{option_lawful}
 use Rattle.tls_codec_grammar.specs.laws.FieldsLaws.{nothing_lawful, fields_lawful}
-use Rattle.tls_codec_grammar.specs.laws.VarintLaws.{varint_field, varint_fits, varint_lawful, varint_least}
-use Rattle.tls_codec_grammar.specs.laws.ListLaws.{Part, bytes_one, content_shortest, part_least, content_lawful, counted_lawful, counted_parts, utf8_lawful}
+use Rattle.tls_codec_grammar.specs.laws.VarintLaws.{below_each, below_field, below_named, below_none, varint_lawful}
+use Rattle.tls_codec_grammar.specs.laws.ListLaws.{content_lawful, counted_lawful, utf8_lawful}
 
 -- ---- atoms, options and products
 
@@ -96,19 +97,22 @@ content_length_sum f (Join v vs) = omega (arith, content_length_sum f vs)
 
 -- ---- what a length field counts
 
-module _ {element : Format} (l : MeetsLaws element) where
-  -- the announced lengths of elements add up to no more than the shortest content
-  pub sum_fits : (c : List ℕ) (v : Tree) → IsShortest (content element.spells) c v → content_sum element.announced v ≤ length c
-  sum_fits c (Join v vs) p =
-      let a = l.spelled.shortest p.spelled.front v p.spelled.first.0 in
-      let b = content_shortest element.spells element.announced l.spelled p.spelled.rest vs p.spelled.second in
-      let n = row_length (Part element.spells Writing v) (λ u. content element.spells Writing u vs) c a.0 b.0 p (part_least element.spells a.0 v a.1) b.1 in
-      omega (arith, n, l.spelled.announces a.0 v a.1, sum_fits b.0 vs b.1)
-  sum_fits c _ p = omega arith
+-- the announced lengths of elements add up to no more than the content
+pub sum_fits : {element : Format} → MeetsLaws element → (c : List ℕ) (v : Tree) → content element.spells Writing c v → content_sum element.announced v ≤ length c
+sum_fits {element} l c (Join v vs) p = omega (arith, ap length p.whole, length-append p.front p.rest, l.spelled.announces p.front v p.first.0, sum_fits l p.rest vs p.second)
+sum_fits l c _ p = omega arith
 
 -- the laws of length fields
 pub variable_field_meets : MeetsFieldLaws variable_field
-variable_field_meets = record { counts = varint_field; each = λ n lt. let h = varint_least n lt in (h.0, h.1.spelled); below = varint_fits; small = omega arith; cut = λ e p. (λ h. cut_memory e p h, λ h. cut_trailing e p h) }
+variable_field_meets = record {
+  counts = below_field (2 ^ 30);
+  each = below_each (2 ^ 30) (omega arith);
+  below = λ b n p. p.below;
+  small = omega arith;
+  none = below_none (2 ^ 30);
+  named = below_named (2 ^ 30);
+  cut = λ e p. (λ h. cut_memory e p h, λ h. cut_trailing e p h);
+}
   where
     cut_memory : (e : Error) → Says (codes "declared content is not there") e → e ≡ OutOfMemory → ⊥
     cut_memory (DecodingError text) p h = absurd cc
@@ -119,17 +123,31 @@ variable_field_meets = record { counts = varint_field; each = λ n lt. let h = v
     cut_trailing _ p h = absurd p
 
 pub fixed_field_meets : (k : ℕ) → 256 ^ k ≤ 2 ^ 62 → MeetsFieldLaws (fixed_field k)
-fixed_field_meets k small = record { counts = digits_field k; each = λ n lt. (to_digits k n, to_digits_digits k n lt); below = digits_below k; small = small; cut = λ e p. (λ h. cc, λ h. cc) }
+fixed_field_meets k small = record {
+  counts = digits_field k;
+  each = λ n lt. (to_digits k n, to_digits_digits k n lt);
+  below = digits_below k;
+  small = small;
+  none = none;
+  named = named;
+  cut = λ e p. (λ h. cc, λ h. cc);
+}
+  where
+    none : (x : List ℕ) (e : Error) → RefusesDigits k x e → NoNumberBegins (Digits k) x
+    none x EndOfStream p n rest b = absurd (omega (arith, p, ap length b.whole, length-append b.front rest, b.spelled.width))
+    none x _ p n rest b = absurd p
+
+    named : (x : List ℕ) (e : Error) → RefusesDigits k x e → (e ≢ OutOfMemory) × (e ≢ TrailingData)
+    named x EndOfStream p = (λ h. cc, λ h. cc)
+    named x _ p = absurd p
 
 -- a length field and what it counts, where no field holds the limit
 counted_meets : (field : Field) {sum : Tree → ℕ} {inside : Format} → IsLengthField field.spells field.width → ((a : List ℕ) (n : ℕ) → field.spells a n → n < field.limit)
-    → MeetsLawsInside inside → ((c : List ℕ) (v : Tree) → IsShortest inside.spells c v → sum v ≤ length c) → MeetsLaws (counted_format field sum inside)
+    → MeetsLawsInside inside → ((c : List ℕ) (v : Tree) → inside.spells Writing c v → sum v ≤ length c) → MeetsLaws (counted_format field sum inside)
 counted_meets field {sum} {inside} m below l fits = record {
   spelled = counted_lawful field.spells field.width m inside.spells inside.announced l.spelled;
   unspelled = λ v e p s q. elim p [
-    | inl long ↦
-        let parts = counted_parts field.spells field.width m inside.spells inside.announced l.spelled s v q in
-        omega (arith, long.1, fits parts.0 v parts.2, below parts.1 (length parts.0) parts.3.spelled)
+    | inl long ↦ omega (arith, long.1, fits q.inside v q.is_inside, below q.count (length q.inside) q.counts)
     | inr named ↦ l.unspelled v e named q.inside q.is_inside
   ];
   not_memory = λ v p. elim p [
@@ -160,5 +178,4 @@ bytes_meets = counted_bytes_meets variable_field_meets
 pub text_meets : MeetsLaws text_format
 text_meets =
     let byte = number_meets 1 (omega arith) in
-    counted_meets variable_field varint_field varint_fits utf8_meets
-    (λ c v p. sum_fits byte c v (record { spelled = p.spelled.0; least = λ t q. inl (bytes_one v t c q p.spelled.0) }))
+    counted_meets variable_field variable_field_meets.counts variable_field_meets.below utf8_meets (λ c v p. sum_fits byte c v p.0)

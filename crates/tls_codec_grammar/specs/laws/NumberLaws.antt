@@ -5,7 +5,7 @@ use Rattle.std.proofs.Math.Nat.{mul-le-mul_right, pow-suc, div-lt_iff_lt-mul}
 use Rattle.tls_codec_wire.specs.Digits.{AreBytes, value, Digits}
 use Rattle.tls_codec_grammar.specs.Tree.{Tree, Number, number_trees}
 use Rattle.tls_codec_grammar.specs.Grammar.{Reading, Writing, number, array}
-use Rattle.tls_codec_grammar.specs.Shortest.{IsLeast, IsShortest, IsFull}
+use Rattle.tls_codec_grammar.specs.Shortest.{IsLeast}
 use Rattle.tls_codec_grammar.specs.Announced.{capped}
 use Rattle.tls_codec_grammar.specs.Lawful.{IsLawful, IsLengthField}
 use Rattle.tls_codec_grammar.specs.laws.RowLaws.{split_at}
@@ -78,12 +78,7 @@ digits_agree k a b x y m n p q e =
 
 -- k bytes are a length field
 pub digits_field : (k : ℕ) → IsLengthField (Digits k) (λ n. k)
-digits_field k = record {
-  one = digits_agree k;
-  least = λ b m n p le. let d = to_digits_digits k m (omega (arith, digits_below k b n p)) in (to_digits k m, digits_least k (to_digits k m) m d);
-  monotone = λ a b m n p q le. omega (arith, p.spelled.width, q.width);
-  measures = λ a m p. sym p.spelled.width;
-}
+digits_field k = record { one = digits_agree k; alone = digits_one k; measures = λ a n p. sym p.width }
 
 -- ---- numbers as values
 
@@ -91,30 +86,25 @@ digits_field k = record {
 pub number_lawful : (k : ℕ) → k < 2 ^ 64 → IsLawful (number k) (λ v. k)
 number_lawful k small = record {
   one = number_one;
-  shortest = number_shortest;
+  alone = number_alone;
   written = number_written;
-  full = number_full;
   announces = number_announces;
 } where
   number_one : (s t x y : List ℕ) (v w : Tree) → number k Reading s v → number k Reading t w → s ++ x ≡ t ++ y → (s ≡ t) × (v ≡ w)
   number_one s t x y (Number m) (Number n) p q e = let h = digits_agree k s t x y m n p q e in (h.0, ap Number h.1)
   number_one s t x y _ _ p q e = absurd search
 
-  number_shortest : (s : List ℕ) (v : Tree) → number k Writing s v → (t : List ℕ) × IsShortest (number k) t v
-  number_shortest s (Number n) p = (s, digits_least k s n p)
-  number_shortest s _ p = absurd p
+  number_alone : (s t : List ℕ) (v : Tree) → number k Writing s v → number k Writing t v → s ≡ t
+  number_alone s t (Number n) p q = digits_one k s t n p q
+  number_alone s t _ p q = absurd p
 
   number_written : (s : List ℕ) (v : Tree) → number k Reading s v → number k Writing s v
   number_written s (Number n) p = p
   number_written s _ p = absurd p
 
-  number_full : (s : List ℕ) (v : Tree) → number k Reading s v → IsFull (number k) v
-  number_full s (Number n) p t q = q
-  number_full s _ p t q = absurd p
-
-  number_announces : (s : List ℕ) (v : Tree) → IsShortest (number k) s v → k ≡ capped (length s)
-  number_announces s (Number n) p = omega (arith, p.spelled.width)
-  number_announces s _ p = absurd p.spelled
+  number_announces : (s : List ℕ) (v : Tree) → number k Writing s v → k ≡ capped (length s)
+  number_announces s (Number n) p = omega (arith, p.width)
+  number_announces s _ p = absurd p
 
 -- ---- bytes that are spelled by themselves
 
@@ -132,8 +122,7 @@ number_trees_one (a ∷ as') (b ∷ bs) e =
 pub array_lawful : (k : ℕ) → k < 2 ^ 64 → IsLawful (array k) (λ v. k)
 array_lawful k small = record {
   one = λ s t x y v w p q e. let h = split_at s t x y (p.width ∙ sym q.width) e in (h.0, p.same ∙ ap number_trees h.0 ∙ sym q.same);
-  shortest = λ s v p. (s, record { spelled = p; least = λ t q. inl (number_trees_one t s (sym q.same ∙ p.same)) });
+  alone = λ s t v p q. number_trees_one s t (sym p.same ∙ q.same);
   written = λ s v p. p;
-  full = λ s v p t q. q;
-  announces = λ s v p. omega (arith, p.spelled.width);
+  announces = λ s v p. omega (arith, p.width);
 }

@@ -1,11 +1,10 @@
 -- The laws of options, from those of the payload.
-use Rattle.std.proofs.Common.{◌≡◌, ℕ, List, [], ◌∷◌, ◌++◌, length, refl, sym, ap, ◌∙◌, inl, inr, arith}
+use Rattle.std.proofs.Common.{◌≡◌, ℕ, List, ◌∷◌, ◌++◌, length, refl, sym, ap, ◌∙◌, inl, inr, arith}
 use Rattle.tls_codec_grammar.specs.Tree.{Tree, Empty, Join}
 use Rattle.tls_codec_grammar.specs.Grammar.{Grammar, Reading, Writing, option}
-use Rattle.tls_codec_grammar.specs.Shortest.{IsShortest, IsFull}
+use Rattle.tls_codec_grammar.specs.Shortest.{IsShortest}
 use Rattle.tls_codec_grammar.specs.Announced.{capped, option_length}
 use Rattle.tls_codec_grammar.specs.Lawful.{IsLawful}
-use Rattle.tls_codec_grammar.specs.laws.RowLaws.{least_one}
 
 -- the byte 1 and the payload's shortest form behind it are the shortest form of a payload
 pub option_some : (payload : Grammar) (v : Tree) (a : List ℕ) → IsShortest payload a v → IsShortest (option payload) (1 ∷ a) (Join v Empty)
@@ -16,10 +15,6 @@ option_some payload v a p = record {
     | inr lt ↦ inr (omega (arith, lt, ap length q.1))
   ];
 }
-
--- the byte 0 is the shortest form of no payload
-pub option_none : (payload : Grammar) → IsShortest (option payload) (0 ∷ []) Empty
-option_none payload = record { spelled = refl; least = λ t q. inl q }
 
 module _ (payload : Grammar) (f : Tree → ℕ) (l : IsLawful payload f) where
   option_one : (s t x y : List ℕ) (v w : Tree) → option payload Reading s v → option payload Reading t w → s ++ x ≡ t ++ y → (s ≡ t) × (v ≡ w)
@@ -36,29 +31,21 @@ module _ (payload : Grammar) (f : Tree → ℕ) (l : IsLawful payload f) where
       (p.1 ∙ ap (λ (u : List ℕ). 1 ∷ u) h.0 ∙ sym q.1, ap (λ (u : Tree). Join u Empty) h.1)
   option_one s t x y _ _ p q e = absurd search
 
-  option_shortest : (s : List ℕ) (v : Tree) → option payload Writing s v → (t : List ℕ) × IsShortest (option payload) t v
-  option_shortest s Empty p = (0 ∷ [], option_none payload)
-  option_shortest s (Join v Empty) p = let a = l.shortest p.0 v p.2 in (1 ∷ a.0, option_some payload v a.0 a.1)
-  option_shortest s _ p = absurd p
+  option_alone : (s t : List ℕ) (v : Tree) → option payload Writing s v → option payload Writing t v → s ≡ t
+  option_alone s t Empty p q = p ∙ sym q
+  option_alone s t (Join v Empty) p q = p.1 ∙ ap (λ (u : List ℕ). 1 ∷ u) (l.alone p.0 q.0 v p.2 q.2) ∙ sym q.1
+  option_alone s t _ p q = absurd p
 
   option_written : (s : List ℕ) (v : Tree) → option payload Reading s v → option payload Writing s v
   option_written s Empty p = p
   option_written s (Join v Empty) p = (p.0, p.1, l.written p.0 v p.2)
   option_written s _ p = absurd p
 
-  option_full : (s : List ℕ) (v : Tree) → option payload Reading s v → IsFull (option payload) v
-  option_full s Empty p t q = q
-  option_full s (Join v Empty) p t q = (q.0, q.1, l.full p.0 v p.2 q.0 q.2)
-  option_full s _ p t q = absurd p
-
-  option_announces : (s : List ℕ) (v : Tree) → IsShortest (option payload) s v → option_length f v ≡ capped (length s)
-  option_announces s Empty p = omega (arith, ap length p.spelled)
-  option_announces s (Join v Empty) p =
-      let a = l.shortest p.spelled.0 v p.spelled.2 in
-      let n = ap length (least_one (λ u. option payload Writing u (Join v Empty)) s (1 ∷ a.0) p (option_some payload v a.0 a.1)) in
-      omega (arith, n, l.announces a.0 v a.1)
-  option_announces s _ p = absurd p.spelled
+  option_announces : (s : List ℕ) (v : Tree) → option payload Writing s v → option_length f v ≡ capped (length s)
+  option_announces s Empty p = omega (arith, ap length p)
+  option_announces s (Join v Empty) p = omega (arith, ap length p.1, l.announces p.0 v p.2)
+  option_announces s _ p = absurd p
 
   -- options of a lawful payload meet the laws
   pub option_lawful : IsLawful (option payload) (option_length f)
-  option_lawful = record { one = option_one; shortest = option_shortest; written = option_written; full = option_full; announces = option_announces }
+  option_lawful = record { one = option_one; alone = option_alone; written = option_written; announces = option_announces }

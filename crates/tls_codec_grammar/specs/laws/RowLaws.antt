@@ -53,9 +53,10 @@ row_least F G s t p q = record {
   ];
 }
 
--- a least row is as long as its least parts
-pub row_length : (F G : List ℕ → Type 0) (s a b : List ℕ) → IsLeast (λ t. Row t F G) s → IsLeast F a → IsLeast G b → length s ≡ length a + length b
-row_length F G s a b p q r = ap length (least_one (λ t. Row t F G) s (a ++ b) p (row_least F G a b q r)) ∙ length-append a b
+-- rows are equal where their parts have to be
+pub row_alone : (F G : List ℕ → Type 0) (s t : List ℕ) → ((a b : List ℕ) → F a → F b → a ≡ b) → ((a b : List ℕ) → G a → G b → a ≡ b) → Row s F G → Row t F G → s ≡ t
+row_alone F G s t f g p q =
+    p.whole ∙ ap (λ (u : List ℕ). u ++ p.rest) (f p.front q.front p.first q.first) ∙ ap (λ (u : List ℕ). q.front ++ u) (g p.rest q.rest p.second q.second) ∙ sym q.whole
 
 -- a row of one kind of parts is one of another where its parts are
 pub row_map : (F G F2 G2 : List ℕ → Type 0) (b : List ℕ) → ((s : List ℕ) → F s → F2 s) → ((s : List ℕ) → G s → G2 s) → Row b F G → Row b F2 G2

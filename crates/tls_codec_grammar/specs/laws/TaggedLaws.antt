@@ -5,7 +5,7 @@ use Rattle.tls_codec_wire.specs.declared.error.Error.{Error}
 use Rattle.tls_codec_wire.specs.declared.error.Error.TheVariants.{OutOfMemory}
 use Rattle.tls_codec_grammar.specs.Tree.{Tree, Number, Join}
 use Rattle.tls_codec_grammar.specs.Grammar.{Direction, Reading, Writing, number, fields}
-use Rattle.tls_codec_grammar.specs.Shortest.{HasNoSpelling, IsShortest, IsFull}
+use Rattle.tls_codec_grammar.specs.Shortest.{HasNoSpelling}
 use Rattle.tls_codec_grammar.specs.Announced.{capped, fields_length}
 use Rattle.tls_codec_grammar.specs.Format.{Format}
 use Rattle.tls_codec_grammar.specs.Lawful.{IsLawful, MeetsLaws}
@@ -20,10 +20,9 @@ pub no_variant_meets : MeetVariantLaws no_variant
 no_variant_meets = record {
   parts = λ tag. atom_meets (record {
     one = λ s t x y v w p q e. absurd p;
-    shortest = λ s v p. absurd p;
+    alone = λ s t v p q. absurd p;
     written = λ s v p. absurd p;
-    full = λ s v p t q. absurd p;
-    announces = λ s v p. absurd p.spelled;
+    announces = λ s v p. absurd p;
   });
   unknown = λ tag h d s v p. p;
   memory = λ tag h. h;
@@ -72,21 +71,17 @@ module _ (k : ℕ) (small : k < 2 ^ 64) (variants : Variants) (l : MeetVariantLa
       (h.0, h.1 ∙ ap (λ (u : ℕ). Join (Number u) ws) (sym same))
   tagged_one s t x y _ _ p q e = absurd search
 
-  tagged_shortest : (s : List ℕ) (v : Tree) → tagged k variants Writing s v → (t : List ℕ) × IsShortest (tagged k variants) t v
-  tagged_shortest s (Join (Number m) vs) p = (at_tag m).shortest s (Join (Number m) vs) p
-  tagged_shortest s _ p = absurd p
+  tagged_alone : (s t : List ℕ) (v : Tree) → tagged k variants Writing s v → tagged k variants Writing t v → s ≡ t
+  tagged_alone s t (Join (Number m) vs) p q = (at_tag m).alone s t (Join (Number m) vs) p q
+  tagged_alone s t _ p q = absurd p
 
   tagged_written : (s : List ℕ) (v : Tree) → tagged k variants Reading s v → tagged k variants Writing s v
   tagged_written s (Join (Number m) vs) p = (at_tag m).written s (Join (Number m) vs) p
   tagged_written s _ p = absurd p
 
-  tagged_full : (s : List ℕ) (v : Tree) → tagged k variants Reading s v → IsFull (tagged k variants) v
-  tagged_full s (Join (Number m) vs) p t q = (at_tag m).full s (Join (Number m) vs) p t q
-  tagged_full s _ p t q = absurd p
-
-  tagged_announces : (s : List ℕ) (v : Tree) → IsShortest (tagged k variants) s v → tagged_length k variants v ≡ capped (length s)
+  tagged_announces : (s : List ℕ) (v : Tree) → tagged k variants Writing s v → tagged_length k variants v ≡ capped (length s)
   tagged_announces s (Join (Number m) vs) p = (at_tag m).announces s (Join (Number m) vs) p
-  tagged_announces s _ p = absurd p.spelled
+  tagged_announces s _ p = absurd p
 
   tagged_unspelled : (v : Tree) (e : Error) → tagged_refuses variants v e → HasNoSpelling (tagged k variants) v
   tagged_unspelled (Join (Number m) vs) e p s q = (l.parts m).unspelled vs e p q.rest q.second
@@ -98,7 +93,7 @@ module _ (k : ℕ) (small : k < 2 ^ 64) (variants : Variants) (l : MeetVariantLa
 
   tagged_all : MeetsLaws (tagged_format k variants)
   tagged_all = record {
-    spelled = record { one = tagged_one; shortest = tagged_shortest; written = tagged_written; full = tagged_full; announces = tagged_announces };
+    spelled = record { one = tagged_one; alone = tagged_alone; written = tagged_written; announces = tagged_announces };
     unspelled = tagged_unspelled;
     not_memory = tagged_not_memory;
     long = λ v p. absurd p;

@@ -1,12 +1,11 @@
 //! Lengths of one to four bytes: `u8`, `u16`, `U24` and `u32` (RFC 8446, section 3.4).
-ghost use Rattle.std.specs.Prelude.{◌≡◌, ◌+◌, ◌≤◌, ◌^◌, drop, length, MatchOption, IfErr, IfOk};
+ghost use Rattle.std.specs.Prelude.{◌≡◌, ◌+◌, ◌<◌, ◌≤◌, ◌^◌, drop, length, MatchOption, IfErr, IfOk};
 ghost use Rattle.std.proofs.Common.{arith};
 ghost use Rattle.tls_codec_wire.specs.Counts.{OnlyInterrupted};
 ghost use Rattle.tls_codec_wire.specs.Device.{Gave};
 ghost use Rattle.tls_codec_wire.specs.Digits.{AreBytes, Digits, value};
-ghost use Rattle.tls_codec_wire.specs.declared.error.Error.TheVariants.{EndOfStream};
-ghost use Rattle.tls_codec_grammar.specs.Field.{BeginsField, FieldRefused, GaveField, NoFieldBegins, fixed_field};
-ghost use Rattle.tls_codec_grammar.specs.Shortest.{IsLeast};
+ghost use Rattle.tls_codec_wire.specs.Numbers.{BeginsNumber, GaveNumber, NumberNotRead};
+ghost use Rattle.tls_codec_grammar.specs.Field.{RefusesDigits, fixed_field};
 ghost use Rattle.tls_codec_grammar.specs.laws.FormatLaws.{fixed_field_meets};
 
 use super::LengthField;
@@ -21,7 +20,7 @@ impl LengthField for u8 {
     }
 
     #[inline(always)]
-    fn least_form(length: usize) -> Option<([u8; 8], usize)> {
+    fn form(length: usize) -> Option<([u8; 8], usize)> {
         last_digits::<1>(length, 0xff)
     }
 
@@ -52,7 +51,7 @@ impl LengthField for u16 {
     }
 
     #[inline(always)]
-    fn least_form(length: usize) -> Option<([u8; 8], usize)> {
+    fn form(length: usize) -> Option<([u8; 8], usize)> {
         last_digits::<2>(length, 0xffff)
     }
 
@@ -83,7 +82,7 @@ impl LengthField for U24 {
     }
 
     #[inline(always)]
-    fn least_form(length: usize) -> Option<([u8; 8], usize)> {
+    fn form(length: usize) -> Option<([u8; 8], usize)> {
         last_digits::<3>(length, 0xff_ffff)
     }
 
@@ -114,7 +113,7 @@ impl LengthField for u32 {
     }
 
     #[inline(always)]
-    fn least_form(length: usize) -> Option<([u8; 8], usize)> {
+    fn form(length: usize) -> Option<([u8; 8], usize)> {
         last_digits::<4>(length, 0xffff_ffff)
     }
 
@@ -143,7 +142,7 @@ fn last_digits<const K: usize>(length: usize, greatest: usize) -> Option<([u8; 8
     requires width { K ≤ 8 }
     requires greatest { greatest + 1 ≡ 256 ^ K }
     ensures { MatchOption result (256 ^ K ≤ length)
-        (λ form. (form.1 ≤ 8) × IsLeast (λ s. Digits K s length) (drop form.1 form.0)) }
+        (λ form. (form.1 ≤ 8) × Digits K (drop form.1 form.0) length) }
 {
     if length > greatest {
         return None;
@@ -154,11 +153,12 @@ fn last_digits<const K: usize>(length: usize, greatest: usize) -> Option<([u8; 8
 // The K bytes of a length to come.
 #[inline(always)]
 fn read_field<R: Source, const K: usize>(src: &mut R) -> Result<[u8; K], Error>
+    requires { 0 < K }
     ensures gave { Gave R.given src.old src.new }
-    ensures ok { IfOk result (λ digits. GaveField R.given (fixed_field K) src.old src.new (value digits)) }
+    ensures ok { IfOk result (λ digits. GaveNumber R.given (Digits K) src.old src.new (value digits)) }
     ensures width { IfOk result (λ digits. length digits ≡ K) }
     ensures bytes { IfOk result AreBytes }
-    ensures refused { IfErr result (λ e. FieldRefused (fixed_field K) e (R.coming src.old) (R.counts src.old) (R.counts src.new)) }
+    ensures refused { IfErr result (λ e. NumberNotRead (RefusesDigits K) e (R.coming src.old) (R.counts src.old) (R.counts src.new)) }
     ensures calm { IfOk result (λ _. OnlyInterrupted (R.counts src.old) (R.counts src.new)) }
 {
     match read_digits(src) {
@@ -170,10 +170,10 @@ fn read_field<R: Source, const K: usize>(src: &mut R) -> Result<[u8; K], Error>
 // The K bytes of a length that the bytes begin with, and the rest of them.
 #[inline(always)]
 fn split_field<const K: usize>(bytes: &[u8]) -> Result<([u8; K], &[u8]), Error>
-    ensures ok { IfOk result (λ found. BeginsField (fixed_field K) bytes.now (value found.0) found.1.now) }
+    ensures ok { IfOk result (λ found. BeginsNumber (Digits K) bytes.now (value found.0) found.1.now) }
     ensures width { IfOk result (λ found. length found.0 ≡ K) }
     ensures bytes { IfOk result (λ found. AreBytes found.0) }
-    ensures err { IfErr result (λ e. (e ≡ EndOfStream) × NoFieldBegins (fixed_field K) bytes.now) }
+    ensures err { IfErr result (RefusesDigits K bytes.now) }
 {
     match split_digits(bytes) {
         Ok(found) => Ok(found),

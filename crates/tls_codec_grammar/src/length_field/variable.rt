@@ -1,9 +1,8 @@
-//! A variable-length integer of any width as a length (RFC 9420, section 2.1.2, admits the least).
+//! A variable-length integer of at most 30 bits as a length (RFC 9420, section 2.1.2).
 ghost use Rattle.tls_codec_grammar.specs.Field.{variable_field};
 ghost use Rattle.tls_codec_grammar.specs.laws.FormatLaws.{variable_field_meets};
 
 use super::LengthField;
-use tls_codec_wire::quic::{self, least_width};
 use tls_codec_wire::{Error, Source, TlsVarInt, vlen};
 
 const NOT_THERE: Error = Error::DecodingError("declared content is not there");
@@ -13,15 +12,12 @@ impl LengthField for TlsVarInt {
 
     /// It is 0 where the length passes the greatest one.
     fn width(length: usize) -> usize {
-        least_width(length as u64)
+        vlen::length_width(length)
     }
 
     #[inline(always)]
-    fn least_form(length: usize) -> Option<([u8; 8], usize)> {
-        match TlsVarInt::try_from(length as u64) {
-            Ok(number) => Some(quic::least_form(number)),
-            Err(_) => None,
-        }
+    fn form(length: usize) -> Option<([u8; 8], usize)> {
+        vlen::length_form(length)
     }
 
     fn read_length<R: Source>(src: &mut R) -> Result<usize, Error> {
@@ -30,8 +26,7 @@ impl LengthField for TlsVarInt {
     }
 
     fn split_length(bytes: &[u8]) -> Result<(usize, &[u8]), Error> {
-        let (length, rest) = vlen::split_length(bytes)?;
-        Ok((length, rest))
+        vlen::split_length(bytes)
     }
 
     fn cut_off() -> Error {

@@ -1,15 +1,16 @@
 //! Lengths sent to a sink, appended to a vector, and put before a content that stands there already.
 ghost use Rattle.std.specs.Prelude.{◌≡◌, ◌<◌, ◌≤◌, ◌⊎◌, ◌^◌, ◌+◌, ◌-◌, [], ◌∷◌, ◌++◌, length, vec_len, vec_capacity, take, drop, is_ok, if◌then◌else◌, IfErr, IfOk, OnErr, OnOk};
 ghost use Rattle.tls_codec_wire.specs.Counts.{NoneFell, OnlyInterrupted};
+ghost use Rattle.tls_codec_wire.specs.Numbers.{BeganNumber, NumberNotSent, SentNumber};
 ghost use Rattle.tls_codec_wire.specs.declared.error.Error.TheVariants.{InvalidVectorLength, OutOfMemory};
-ghost use Rattle.tls_codec_grammar.specs.Field.{BeganField, FieldNotSent, FilledGap, FitGap, GapRefused, OpenedGap, SentField};
+ghost use Rattle.tls_codec_grammar.specs.Field.{FilledGap, FitGap, GapRefused, OpenedGap};
 
 use super::LengthField;
 use std::alloc::AllocError;
 use tls_codec_wire::vlen::insert_bytes;
 use tls_codec_wire::{Error, Sink, write_all};
 
-/// Sends the least spelling of a length, and returns how many bytes that is.
+/// Sends a length, and returns how many bytes it has.
 ///
 /// `InvalidVectorLength`: it passes the greatest length, and nothing was sent. Every other refusal is the
 /// sink's, as in [`write_all`].
@@ -17,14 +18,14 @@ pub fn write_length<F: LengthField, W: Sink>(
     sink: &mut W,
     content_length: usize,
 ) -> Result<usize, Error>
-    ensures ok { IfOk result (SentField F.field (W.received sink.old) (W.received sink.new) content_length) }
-    ensures beginning { content_length < F.field.limit → BeganField F.field (W.received sink.old) (W.received sink.new) content_length }
+    ensures ok { IfOk result (SentNumber F.field.spells (W.received sink.old) (W.received sink.new) content_length) }
+    ensures beginning { content_length < F.field.limit → BeganNumber F.field.spells (W.received sink.old) (W.received sink.new) content_length }
     ensures counts { NoneFell (W.counts sink.old) (W.counts sink.new) }
-    ensures refused { IfErr result (λ e. FieldNotSent F.field e content_length (W.counts sink.old) (W.counts sink.new)) }
+    ensures refused { IfErr result (λ e. NumberNotSent F.field.limit e content_length (W.counts sink.old) (W.counts sink.new)) }
     ensures calm { IfOk result (λ _. OnlyInterrupted (W.counts sink.old) (W.counts sink.new)) }
     ensures too_long { F.field.limit ≤ content_length → (result ≡ Err InvalidVectorLength) × (sink.new ≡ sink.old) }
 {
-    let Some(found) = F::least_form(content_length) else {
+    let Some(found) = F::form(content_length) else {
         return Err(Error::InvalidVectorLength);
     };
     let (bytes, at) = found;
@@ -108,8 +109,8 @@ fn append_one(out: &mut Vec<u8>, byte: u8) -> Result<(), AllocError>
     }
 }
 
-/// Puts the least spelling of the number of bytes behind a gap in its place, and returns how many bytes
-/// that is. These bytes are moved only where the gap has another width.
+/// Puts the length of the bytes behind a gap in its place, and returns how many bytes it has. Those
+/// behind it are moved only where the gap has another width.
 ///
 /// `InvalidVectorLength`: they are more than the greatest length, or the vector would pass
 /// `isize::MAX` bytes. `OutOfMemory`: there was none for a wider length. After a refusal the bytes
@@ -122,7 +123,7 @@ pub fn fill_gap<F: LengthField>(out: &mut Vec<u8>, at: usize, gap: usize) -> Res
     ensures refused { IfErr result (λ e. GapRefused F.field e at (length out.old.items - (at + gap))) }
 {
     let content_length = out.len() - at - gap;
-    let Some(found) = F::least_form(content_length) else {
+    let Some(found) = F::form(content_length) else {
         return Err(Error::InvalidVectorLength);
     };
     let (bytes, from) = found;

@@ -29,10 +29,9 @@ impl Size for Huge {
     ghost lawful = { record {
       spelled = record {
         one = λ s t x y v w p q e. absurd p;
-        shortest = λ s v p. absurd p;
+        alone = λ s t v p q. absurd p;
         written = λ s v p. p;
-        full = λ s v p t q. q;
-        announces = λ s v p. absurd p.spelled;
+        announces = λ s v p. absurd p;
       };
       unspelled = λ v e p s q. q;
       not_memory = λ v p. Prim.cc;

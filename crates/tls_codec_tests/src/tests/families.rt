@@ -6,14 +6,16 @@ mod secrets;
 mod slices;
 mod vectors;
 
-use super::each_call::{filled, is_read_whole, is_spelled, is_written, is_written_alone};
+use super::each_call::{
+    filled, is_read_whole, is_refused, is_spelled, is_written, is_written_alone,
+};
 use std::alloc::Global;
 use std::process::Abort;
 use std::test::Fail;
 use tls_codec::{
-    SecretTlsVecU8, SecretTlsVecU16, SecretTlsVecU24, SecretTlsVecU32, Serialize, TlsByteSliceU16,
-    TlsByteSliceU24, TlsByteVecU8, TlsByteVecU16, TlsByteVecU24, TlsByteVecU32, TlsSliceU16,
-    TlsSliceU24, TlsVecU8, TlsVecU16, TlsVecU24, TlsVecU32, VLBytes,
+    Error, SecretTlsVecU8, SecretTlsVecU16, SecretTlsVecU24, SecretTlsVecU32, Serialize,
+    TlsByteSliceU16, TlsByteSliceU24, TlsByteVecU8, TlsByteVecU16, TlsByteVecU24, TlsByteVecU32,
+    TlsSliceU16, TlsSliceU24, TlsVecU8, TlsVecU16, TlsVecU24, TlsVecU32, VLBytes,
 };
 
 #[test]
@@ -46,13 +48,14 @@ fn equal_contents_are_spelled_alike(rt: HostRuntime) -> Result<(), Fail> {
     is_spelled(&rt, alloc, &TlsVecU16::new(content), &form)
 }
 
-// A length within the list may be wider than the least, in which it is written.
+// A length within the list has no more bytes than it needs either.
 #[test]
-fn a_wide_length_within_a_list_is_read(rt: HostRuntime) -> Result<(), Fail> {
+fn a_wide_length_within_a_list_is_refused(rt: HostRuntime) -> Result<(), Fail> {
     let alloc = rt.alloc();
     let list = TlsVecU8::new(vec![in alloc; VLBytes::from_array(alloc, &[0xaa])?]?);
-    is_read_whole(&rt, alloc, &[0x03, 0x40, 0x01, 0xaa], &list)?;
-    is_written(&rt, alloc, &list, &[0x02, 0x01, 0xaa])
+    let too_long = Error::InvalidVectorLength;
+    is_refused::<TlsVecU8<VLBytes>>(&rt, alloc, &[0x03, 0x40, 0x01, 0xaa], too_long);
+    is_spelled(&rt, alloc, &list, &[0x02, 0x01, 0xaa])
 }
 
 // A number, four bytes behind a length of two, and three behind one of three, in one vector.

@@ -5,7 +5,7 @@ use std::process::Abort;
 use std::test::Fail;
 use tls_codec::{Error, LengthField, TlsVarInt, U24};
 
-// This is the least spelling of the length. Both paths read it, and a byte less is refused.
+// This spells the length. Both paths read it, and a byte less is refused.
 fn is_spelled<F: LengthField>(
     rt: &impl Abort,
     alloc: Global,
@@ -13,7 +13,7 @@ fn is_spelled<F: LengthField>(
     form: &[u8],
 ) -> Result<(), Fail> {
     assert_eq!(rt; F::width(length), form.len());
-    let Some(found) = F::least_form(length) else {
+    let Some(found) = F::form(length) else {
         return Err(Fail::from(Error::InvalidVectorLength));
     };
     let (bytes, at) = found;
@@ -46,16 +46,17 @@ fn lengths_are_spelled(rt: HostRuntime) -> Result<(), Fail> {
     is_spelled::<TlsVarInt>(&rt, alloc, 37, &[0x25])?;
     is_spelled::<TlsVarInt>(&rt, alloc, 15_293, &[0x7b, 0xbd])?;
     is_spelled::<TlsVarInt>(&rt, alloc, 494_878_333, &[0x9d, 0x7f, 0x3e, 0x7d])?;
+    is_spelled::<TlsVarInt>(&rt, alloc, 1_073_741_823, &[0xbf, 0xff, 0xff, 0xff])?;
     Ok(())
 }
 
 #[test]
 fn long_lengths_have_no_spelling(rt: HostRuntime) {
-    assert!(rt; u8::least_form(256).is_none());
-    assert!(rt; u16::least_form(65_536).is_none());
-    assert!(rt; U24::least_form(16_777_216).is_none());
-    assert!(rt; u32::least_form(4_294_967_296).is_none());
-    assert!(rt; TlsVarInt::least_form(4_611_686_018_427_387_904).is_none());
+    assert!(rt; u8::form(256).is_none());
+    assert!(rt; u16::form(65_536).is_none());
+    assert!(rt; U24::form(16_777_216).is_none());
+    assert!(rt; u32::form(4_294_967_296).is_none());
+    assert!(rt; TlsVarInt::form(1_073_741_824).is_none());
 }
 
 // A list whose one element is a list of so many zeros. The gap that is left for the outer length has

@@ -47,9 +47,32 @@ fn lists_of_bytes_and_options(rt: HostRuntime) -> Result<(), Fail> {
     let options = [Some(9u8), None].to_vec(alloc)?;
     is_spelled_alone(&rt, alloc, &options, &[3, 1, 9, 0])?;
     let one = [0xaau8].to_vec(alloc)?;
-    is_read_whole(&rt, alloc, &[0xc0, 0, 0, 0, 0, 0, 0, 1, 0xaa], &one)?;
-    is_written_alone(&rt, alloc, &one, &[1, 0xaa])?;
+    is_spelled_alone(&rt, alloc, &one, &[1, 0xaa])?;
     Ok(())
+}
+
+// A length in more bytes than it needs, and one of 31 bits. Of both all bytes are read first.
+#[test]
+fn lengths_that_none_has(rt: HostRuntime) {
+    let alloc = rt.alloc();
+    for (bytes, error) in [
+        ([0x40].as_slice(), Error::EndOfStream),
+        (&[0xc0, 0, 0, 0, 0x40, 0, 0], Error::EndOfStream),
+        (&[0x40, 0], Error::InvalidVectorLength),
+        (&[0x40, 1, 0xaa], Error::InvalidVectorLength),
+        (
+            &[0xc0, 0, 0, 0, 0, 0, 0, 1, 0xaa],
+            Error::InvalidVectorLength,
+        ),
+        (
+            &[0xc0, 0, 0, 0, 0x40, 0, 0, 0, 0xaa],
+            Error::InvalidVectorLength,
+        ),
+    ] {
+        is_refused::<Vec<u8>>(&rt, alloc, bytes, error);
+        is_refused::<Vec<u16>>(&rt, alloc, bytes, error);
+        is_refused::<String>(&rt, alloc, bytes, error);
+    }
 }
 
 #[test]

@@ -1,5 +1,5 @@
-//! Variable-length integers, each in its least width and in wider ones.
-use super::each_call::{is_read_whole, is_refused, is_spelled_alone};
+//! Variable-length integers, each in its least width and in no wider one.
+use super::each_call::{is_refused, is_spelled_alone};
 use std::test::Fail;
 use tls_codec::{Error, TlsVarInt};
 
@@ -31,15 +31,22 @@ fn a_variable_length_integer_has_its_least_bytes(rt: HostRuntime) -> Result<(), 
     Ok(())
 }
 
-// 37 is read from two bytes too (RFC 9000, appendix A.1).
+// RFC 9000, appendix A.1, reads 37 from the first two, which RFC 9420, section 2.1.2, forbids.
 #[test]
-fn a_wider_integer_is_read(rt: HostRuntime) -> Result<(), Fail> {
-    is_read_whole(&rt, rt.alloc(), &[0x40, 0x25], &TlsVarInt::try_from(37)?)
+fn a_wider_integer_is_refused(rt: HostRuntime) {
+    for bytes in [
+        [0x40, 0x25].as_slice(),
+        &[0x40, 0x3f],
+        &[0x80, 0, 0x3f, 0xff],
+        &[0xc0, 0, 0, 0, 0x3f, 0xff, 0xff, 0xff],
+    ] {
+        is_refused::<TlsVarInt>(&rt, rt.alloc(), bytes, Error::InvalidVectorLength);
+    }
 }
 
 #[test]
 fn too_few_bytes_are_the_end(rt: HostRuntime) {
-    for bytes in [[].as_slice(), &[0x40], &[0x80, 0, 0], &[0xff; 7]] {
+    for bytes in [[].as_slice(), &[0x40], &[0x80, 0, 0], &[0xc0], &[0xff; 7]] {
         is_refused::<TlsVarInt>(&rt, rt.alloc(), bytes, Error::EndOfStream);
     }
 }

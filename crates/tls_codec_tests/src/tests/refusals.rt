@@ -58,7 +58,6 @@ fn turns_of_refused_elements(rt: HostRuntime) {
 fn room_by_declared_length(rt: HostRuntime) {
     let alloc = rt.alloc();
     let end = Error::EndOfStream;
-    let greatest = [0xff, 0xff, 0xff, 0xff, 0xff, 0xff, 0xff, 0xff, 0, 1];
-    is_refused::<Vec<u16>>(&rt, alloc, &greatest, end);
+    is_refused::<Vec<u16>>(&rt, alloc, &[0xbf, 0xff, 0xff, 0xff, 0, 1], end);
     is_refused_after::<u16>(&rt, alloc, &[0], isize::MAX as usize, (end, end), 1);
 }

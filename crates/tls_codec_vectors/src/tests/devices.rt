@@ -23,8 +23,13 @@ fn a_trickle_appends(rt: HostRuntime) -> Result<(), Fail> {
 
 #[test]
 fn a_length_one_byte_a_call(rt: HostRuntime) {
+    let mut source = Drip::new(&[0x40, 0x40]);
+    assert_eq!(rt; vlen::read_length(&mut source), Ok((64, 2)));
     let mut source = Drip::new(&[0x40, 0x25]);
-    assert_eq!(rt; vlen::read_length(&mut source), Ok((37, 2)));
+    assert_eq!(rt;
+        vlen::read_length(&mut source),
+        Err(Error::InvalidVectorLength)
+    );
 }
 
 // Behind the bytes of the log no call is made, so that a fault at the fifteenth never comes.

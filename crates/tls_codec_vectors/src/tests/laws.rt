@@ -2,6 +2,7 @@
 use crate::laws::{
     byte_vectors_are_ordered_as_lists_of_bytes, equal_byte_vectors_have_equal_hashes,
     equal_secret_vectors_have_equal_hashes, equal_vectors_have_equal_hashes,
+    second_spelling_of_ping_is_unlawful,
 };
 use crate::{Leaf, Log};
 use std::hash::{DefaultHasher, Hash, Hasher};
@@ -9,10 +10,9 @@ use std::process::Abort;
 use std::test::Fail;
 use tls_codec::laws::{
     equal_bytes_have_equal_spellings, formats_are_lawful, forms_cut_short_have_no_spelling,
-    integers_of_the_least_width_are_least, just_the_rest_is_to_come,
-    lists_are_spelled_where_their_elements_fit, long_contents_are_too_long,
-    shortest_contents_are_in_a_row, shortest_forms_are_read_back,
-    shortest_forms_have_the_fewest_bytes, spellings_are_prefix_free,
+    just_the_rest_is_to_come, lists_are_spelled_where_their_elements_fit,
+    long_contents_are_too_long, shortest_contents_are_in_a_row, shortest_forms_are_read_back,
+    spellings_are_prefix_free, spellings_are_shortest_forms, what_was_read_is_written_again,
 };
 use tls_codec::{
     Deserialize, DeserializeBytes, Error, SecretTlsVecU8, SecretVLBytes, Serialize, TlsByteVecU16,
@@ -34,23 +34,28 @@ fn no_prefix_of_a_log_is_read(rt: HostRuntime) {
     assert!(rt; Log::tls_deserialize_exact_bytes(alloc, &log).is_ok());
 }
 
-// A name's length may have one, two, four or eight bytes.
+// A name's length in two, four or eight bytes is none.
 #[test]
-fn each_spelling_of_a_leaf_is_read_and_the_shortest_written(rt: HostRuntime) -> Result<(), Fail> {
+fn a_leaf_has_one_spelling(rt: HostRuntime) -> Result<(), Fail> {
     shortest_forms_are_read_back::<Leaf>();
-    shortest_forms_have_the_fewest_bytes::<Leaf>();
-    integers_of_the_least_width_are_least();
+    spellings_are_shortest_forms::<Leaf>();
+    what_was_read_is_written_again::<Leaf, &[u8], Vec<u8>>();
+    second_spelling_of_ping_is_unlawful();
     just_the_rest_is_to_come::<Leaf, &[u8]>();
     let alloc = rt.alloc();
     let form = [0, 1, 1, 7].as_slice();
-    for spelling in [
-        form,
-        &[0, 1, 0x40, 1, 7],
+    let leaf = Leaf::tls_deserialize_exact_bytes(alloc, form)?;
+    assert_eq!(rt; leaf.tls_serialize_detached(alloc)?.as_slice(), form);
+    for wide in [
+        [0, 1, 0x40, 1, 7].as_slice(),
         &[0, 1, 0x80, 0, 0, 1, 7],
         &[0, 1, 0xc0, 0, 0, 0, 0, 0, 0, 1, 7],
     ] {
-        let leaf = Leaf::tls_deserialize_exact_bytes(alloc, spelling)?;
-        assert_eq!(rt; leaf.tls_serialize_detached(alloc)?.as_slice(), form);
+        let refused = Leaf::tls_deserialize_exact_bytes(alloc, wide).err();
+        assert_eq!(rt; refused, Some(Error::InvalidVectorLength));
+        let mut source = wide;
+        let refused = Leaf::tls_deserialize(alloc, &mut source).err();
+        assert_eq!(rt; refused, Some(Error::InvalidVectorLength));
     }
     let (_, rest) = Leaf::tls_deserialize_bytes(alloc, &[0, 1, 1, 7, 0, 1, 1, 7])?;
     assert_eq!(rt; rest, form);
@@ -63,7 +68,7 @@ fn each_spelling_of_a_leaf_is_read_and_the_shortest_written(rt: HostRuntime) -> 
 fn lists_that_fit_are_written_and_read(rt: HostRuntime) -> Result<(), Fail> {
     lists_are_spelled_where_their_elements_fit::<u8, u16>();
     shortest_contents_are_in_a_row::<u16>();
-    long_contents_are_too_long::<u16>();
+    long_contents_are_too_long::<u8, u16>();
     let alloc = rt.alloc();
     let list = TlsVecU8::new(vec![in alloc; 7u16; 127]?);
     let form = list.tls_serialize_detached(alloc)?;

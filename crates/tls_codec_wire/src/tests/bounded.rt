@@ -8,7 +8,7 @@ use crate::device::{Fault, Fill, Source};
 use crate::error::Error;
 use crate::gather::read_bytes_bounded;
 use crate::transfer::read_exactly;
-use crate::vlen::{read_length, split_length, write_length};
+use crate::vlen::{length_form, length_width, read_length, split_length, write_length};
 use std::alloc::Global;
 use std::process::Abort;
 use std::test::Fail;
@@ -170,12 +170,12 @@ fn bytes_are_gathered_between_interruptions(rt: HostRuntime) -> Result<(), Fail>
 }
 
 #[test]
-fn a_length_is_read_in_each_width(rt: HostRuntime) {
+fn a_length_is_read_in_its_least_width(rt: HostRuntime) {
     for (bytes, length, width) in [
         ([0x25, 0xee].as_slice(), 37, 1),
-        (&[0x40, 0x25, 0xee], 37, 2),
-        (&[0x80, 0, 0, 0x25, 0xee], 37, 4),
-        (&[0xc0, 0, 0, 0, 0x40, 0, 0, 0, 0xee], 1_073_741_824, 8),
+        (&[0x40, 0x40, 0xee], 64, 2),
+        (&[0x80, 0, 0x40, 0, 0xee], 16_384, 4),
+        (&[0xbf, 0xff, 0xff, 0xff, 0xee], 1_073_741_823, 4),
     ] {
         let rest = [0xee].as_slice();
         let mut src = bytes;
@@ -189,15 +189,42 @@ fn a_length_is_read_in_each_width(rt: HostRuntime) {
 }
 
 #[test]
+fn a_length_has_no_other_bytes(rt: HostRuntime) {
+    for (bytes, error) in [
+        ([0xc0].as_slice(), Error::EndOfStream),
+        (&[0xc0, 0, 0, 0, 0x40, 0, 0], Error::EndOfStream),
+        (&[0x40, 0x25], Error::InvalidVectorLength),
+        (&[0x40, 0], Error::InvalidVectorLength),
+        (&[0x80, 0, 0x3f, 0xff], Error::InvalidVectorLength),
+        (&[0xc0, 0, 0, 0, 0, 0, 0, 1], Error::InvalidVectorLength),
+        (&[0xc0, 0, 0, 0, 0x40, 0, 0, 0], Error::InvalidVectorLength),
+    ] {
+        let mut src = bytes;
+        assert_eq!(rt; read_length(&mut src), Err(error), "{bytes:?}");
+        assert_eq!(rt; split_length(bytes), Err(error), "{bytes:?}");
+    }
+}
+
+#[test]
 fn a_length_is_written_in_the_least_width(rt: HostRuntime) {
     let too_long = Err(Error::InvalidVectorLength);
     for (length, answer, bytes) in [
         (64, Ok(2), [0x40, 0x40].as_slice()),
-        (1_073_741_824, Ok(8), &[0xc0, 0, 0, 0, 0x40, 0, 0, 0]),
+        (1_073_741_823, Ok(4), &[0xbf, 0xff, 0xff, 0xff]),
+        (1_073_741_824, too_long, &[]),
         (4_611_686_018_427_387_904, too_long, &[]),
     ] {
         let mut out = Vec::new(rt.alloc());
         assert_eq!(rt; write_length(&mut out, length), answer);
         assert_eq!(rt; out.as_slice(), bytes);
+        assert_eq!(rt; length_width(length), bytes.len());
     }
+}
+
+#[test]
+fn a_length_stands_in_eight_bytes(rt: HostRuntime) -> Result<(), Fail> {
+    let (form, at) = length_form(16_384).ok_or("a length")?;
+    assert_eq!(rt; &form[at..], [0x80, 0, 0x40, 0].as_slice());
+    assert_eq!(rt; length_form(1_073_741_824), None);
+    Ok(())
 }

@@ -1,6 +1,6 @@
 // Numbers in bytes, and what errors of std become.
 use crate::error::Error;
-use crate::quic::{least_form, least_width, read_varint, split_varint, write_varint};
+use crate::quic::{least_width, read_varint, split_varint, write_varint};
 use crate::uint24::U24;
 use crate::varint::TlsVarInt;
 use crate::vlen::{insert_bytes, insert_length};
@@ -46,16 +46,16 @@ fn a_variable_length_integer_has_its_least_bytes(rt: HostRuntime) -> Result<(), 
             151_288_809_941_952_652,
             [0xc2, 0x19, 0x7c, 0x5e, 0xff, 0x14, 0xe8, 0x8c].as_slice(),
         ),
+        (64, [0x40, 0x40].as_slice()),
+        (1_073_741_824, [0xc0, 0, 0, 0, 0x40, 0, 0, 0].as_slice()),
     ] {
         let n = TlsVarInt::try_from(number)?;
         let mut out = Vec::new(rt.alloc());
         assert_eq!(rt; write_varint(&mut out, n), Ok(bytes.len()), "{number}");
         assert_eq!(rt; out.as_slice(), bytes, "{number}");
         assert_eq!(rt; least_width(number), bytes.len(), "{number}");
-        let (form, at) = least_form(n);
-        assert_eq!(rt; &form[at..], bytes, "{number}");
         let mut src = bytes;
-        assert_eq!(rt; read_varint(&mut src), Ok((n, bytes.len())), "{number}");
+        assert_eq!(rt; read_varint(&mut src), Ok(n), "{number}");
         assert!(rt; src.is_empty(), "{number}");
         assert_eq!(rt; split_varint(bytes), Ok((n, [].as_slice())), "{number}");
     }
@@ -68,12 +68,25 @@ fn no_width_holds_a_greater_number(rt: HostRuntime) {
     assert_eq!(rt; least_width(TlsVarInt::MAX + 1), 0);
 }
 
+// All bytes that the first one asks for are read before a width is refused.
 #[test]
-fn too_few_bytes_are_the_end(rt: HostRuntime) {
-    for bytes in [[].as_slice(), [0x40].as_slice(), [0x80, 0, 0].as_slice()] {
+fn an_integer_has_no_other_bytes(rt: HostRuntime) {
+    for (bytes, error) in [
+        ([].as_slice(), Error::EndOfStream),
+        (&[0x40], Error::EndOfStream),
+        (&[0x80, 0, 0], Error::EndOfStream),
+        (&[0xc0], Error::EndOfStream),
+        (&[0x40, 0x25], Error::InvalidVectorLength),
+        (&[0x40, 0x3f], Error::InvalidVectorLength),
+        (&[0x80, 0, 0x3f, 0xff], Error::InvalidVectorLength),
+        (
+            &[0xc0, 0, 0, 0, 0x3f, 0xff, 0xff, 0xff],
+            Error::InvalidVectorLength,
+        ),
+    ] {
         let mut src = bytes;
-        assert_eq!(rt; read_varint(&mut src), Err(Error::EndOfStream));
-        assert_eq!(rt; split_varint(bytes), Err(Error::EndOfStream));
+        assert_eq!(rt; read_varint(&mut src), Err(error), "{bytes:?}");
+        assert_eq!(rt; split_varint(bytes), Err(error), "{bytes:?}");
     }
 }
 

@@ -8,12 +8,12 @@ use std::test::Fail;
 fn values_are_shown(rt: HostRuntime) -> Result<(), Fail> {
     for (kind, text, value, rest, least) in [
         ("u16", "0007ee", "7", "ee", "0007"),
-        ("varint", "4025ee", "37", "ee", "25"),
+        ("varint", "4040ee", "64", "ee", "4040"),
         ("option-u16", "010007ee", "some 7", "ee", "010007"),
         ("option-u16", "00", "none", "-", "00"),
         ("vec-u8", "00", "[]", "-", "00"),
         ("vec-u16", "0400010002", "[1,2]", "-", "0400010002"),
-        ("vec-vec-u16", "0440020001", "[[1]]", "-", "03020001"),
+        ("vec-vec-u16", "03020001", "[[1]]", "-", "03020001"),
         ("string", "03e282ac", "e282ac", "-", "03e282ac"),
         (
             "mixed",
@@ -23,7 +23,7 @@ fn values_are_shown(rt: HostRuntime) -> Result<(), Fail> {
             "0704000100020102c3a9",
         ),
         ("vlbytes", "00ee", "-", "ee", "00"),
-        ("vec-vlbytes", "03 40 01 AA", "[aa]", "-", "0201aa"),
+        ("vec-vlbytes", "02 01 AA", "[aa]", "-", "0201aa"),
         ("vecu8-u16", "0400010002ff", "[1,2]", "ff", "0400010002"),
         ("bytevecu32", "0000000100", "00", "-", "0000000100"),
         ("leaf", "010200", "(258,-)", "-", "010200"),
@@ -53,6 +53,7 @@ fn values_are_shown(rt: HostRuntime) -> Result<(), Fail> {
 fn bytes_without_a_spelling_are_refused(rt: HostRuntime) -> Result<(), Fail> {
     let ended = "EndOfStream";
     let wrong = "DecodingError";
+    let wide = "InvalidVectorLength";
     for (kind, text, by_slice, by_reader) in [
         ("u16", "", ended, ended),
         ("option-u16", "02", wrong, wrong),
@@ -60,6 +61,9 @@ fn bytes_without_a_spelling_are_refused(rt: HostRuntime) -> Result<(), Fail> {
         ("bytevecu32", "ffffffff010203", ended, ended),
         ("mixed", "07030001000200", wrong, ended),
         ("step", "07", "UnknownValue", "UnknownValue"),
+        ("varint", "4025ee", wide, wide),
+        ("vec-vec-u16", "0440020001", wide, wide),
+        ("vec-vlbytes", "03 40 01 AA", wide, wide),
     ] {
         let lines = format!(in rt.alloc();
             "slice refused {by_slice}\nreader refused {by_reader}\n"

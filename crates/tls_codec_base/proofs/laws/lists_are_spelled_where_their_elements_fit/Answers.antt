@@ -1,12 +1,13 @@
-use Rattle.std.proofs.Common.{◌↔◌, ℕ, ◌<◌, ◌≤◌, List, ◌++◌, length, refl, ap, inl, inr, arith}
+use Rattle.std.proofs.Common.{◌↔◌, ℕ, ◌<◌, ◌≤◌, List, ◌++◌, length, refl, subst, arith}
 use Rattle.tls_codec_grammar.specs.Tree.{Tree, Number, Empty, Join}
-use Rattle.tls_codec_grammar.specs.Grammar.{Reading, Grammar, content}
+use Rattle.tls_codec_grammar.specs.Grammar.{Reading, Writing, Grammar, content}
 use Rattle.tls_codec_grammar.specs.Shortest.{IsShortest}
 use Rattle.tls_codec_grammar.specs.Field.{Field}
 use Rattle.tls_codec_grammar.specs.Format.{Format, counted_list_format}
 use Rattle.tls_codec_grammar.specs.Lawful.{IsLawful, MeetsFieldLaws, MeetsLaws}
 use Rattle.tls_codec_grammar.specs.Spelled.{EachHasNonemptySpelling, FitTogether, HasReadingSpelling, ShortestInARow}
-use Rattle.tls_codec_grammar.specs.laws.ListLaws.{Part, content_in_a_row, content_shortest, content_written, stays_nonempty}
+use Rattle.tls_codec_grammar.specs.laws.AloneLaws.{alone_inside}
+use Rattle.tls_codec_grammar.specs.laws.ListLaws.{Part, content_in_a_row, content_lawful, content_written}
 use Rattle.tls_codec_grammar.specs.laws.RowLaws.{row_map}
 use Rattle.tls_codec_base.proofs.laws.lists_are_spelled_where_their_elements_fit.Goals as goal
 
@@ -23,19 +24,21 @@ module _ (element : Grammar) (f : Tree → ℕ) (l : IsLawful element f) where
   in_a_row c (Join v vs) p = row_map (λ s. IsShortest element s v) (λ s. IsShortest (content element) s vs) (λ s. IsShortest element s v) (λ s. ShortestInARow element s vs) c (λ s q. q) (λ s q. in_a_row s vs q) ((content_in_a_row element f l c v vs).0 p)
   in_a_row c (Number n) p = absurd p.spelled
 
+  -- an element's spelling that isn't empty is its only one
+  stays_nonempty : (s t : List ℕ) (v : Tree) → Part element Reading v s → element Writing t v → Part element Reading v t
+  stays_nonempty s t v p q = subst (Part element Reading v) (l.alone s t v (l.written s v p.0) q) p
+
   -- and is read where the elements have spellings that aren't empty
   row_is_read : (c : List ℕ) (v : Tree) → EachHasNonemptySpelling element v → ShortestInARow element c v → content element Reading c v
   row_is_read c Empty e p = p
-  row_is_read c (Join v vs) e p = row_map (λ s. IsShortest element s v) (λ s. ShortestInARow element s vs) (Part element Reading v) (λ s. content element Reading s vs) c (λ s q. stays_nonempty element f l e.0.0 s v (e.0.1, e.0.2) q.spelled) (λ s q. row_is_read s vs e.1 q) p
+  row_is_read c (Join v vs) e p = row_map (λ s. IsShortest element s v) (λ s. ShortestInARow element s vs) (Part element Reading v) (λ s. content element Reading s vs) c (λ s q. stays_nonempty e.0.0 s v (e.0.1, e.0.2) q.spelled) (λ s q. row_is_read s vs e.1 q) p
   row_is_read c (Number n) e p = p
 
   -- elements that are read have shortest forms, with no more bytes together
   fit_together : (limit : ℕ) (c : List ℕ) (v : Tree) → content element Reading c v → length c < limit → FitTogether element limit v
   fit_together limit c v p lt =
       let written = content_written element f l c v p in
-      let form = content_shortest element f l c v written in
-      let le : length form.0 ≤ length c = elim (form.1.least c written) [ inl e ↦ omega (arith, ap length e) | inr more ↦ omega arith ] in
-      record { forms = form.0; in_a_row = in_a_row form.0 v form.1; fits = omega arith }
+      record { forms = c; in_a_row = in_a_row c v (alone_inside (content_lawful element f l) c v written); fits = lt }
 
 spelled_where_fit : {field : Field} {element : Format} → MeetsFieldLaws field → MeetsLaws element → (v : Tree)
     → (HasReadingSpelling (counted_list_format field element).spells v ↔ (EachHasNonemptySpelling element.spells v × FitTogether element.spells field.limit v))

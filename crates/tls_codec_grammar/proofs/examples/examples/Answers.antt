@@ -1,13 +1,35 @@
-use Rattle.std.proofs.Common.{rules, [], ◌∷◌, refl, arith}
+use Rattle.std.proofs.Common.{◌^◌, rules, [], ◌∷◌, refl, arith}
+use Rattle.tls_codec_grammar.specs.Tree.{Number}
+use Rattle.tls_codec_grammar.specs.laws.AloneLaws.{alone_shortest}
 use Rattle.tls_codec_grammar.specs.laws.NumberLaws.{digits_below}
-use Rattle.tls_codec_grammar.proofs.WorkedExamples.{one_byte_varint, some_spelled_once, no_other_tag, no_half_element, two_byte_character, surrogate_is_no_text, shortest_list, shortest_list_of_nothing, nothing_is_no_element}
+use Rattle.tls_codec_grammar.specs.laws.VarintLaws.{varint_lawful}
+use Rattle.tls_codec_wire.proofs.VarintReads.{one_byte_spells}
+use Rattle.tls_codec_grammar.proofs.WorkedExamples.{no_field_of_any_width, no_wide_number, no_wide_length, no_wide_list, no_great_length, thirty_one_bits, some_spelled_once, no_other_tag, no_half_element, two_byte_character, surrogate_is_no_text, shortest_list, shortest_list_of_nothing, nothing_is_no_element}
 use Rattle.tls_codec_grammar.proofs.examples.examples.Goals as goal
 
 pub returns-clause-number_too_great : goal.returns-clause-number_too_great
 returns-clause-number_too_great c s p = absurd (omega (arith, digits_below 1 s 256 p))
 
+pub returns-clause-no_wide_integer : goal.returns-clause-no_wide_integer
+returns-clause-no_wide_integer c = λ d n p. no_wide_number _ n p
+
 pub returns-clause-shortest_varint : goal.returns-clause-shortest_varint
-returns-clause-shortest_varint c = one_byte_varint 37 (omega arith)
+returns-clause-shortest_varint c = alone_shortest varint_lawful (37 ∷ []) (Number 37) (one_byte_spells (2 ^ 62) 37 (omega arith) (omega arith))
+
+pub returns-clause-integer_of_31_bits : goal.returns-clause-integer_of_31_bits
+returns-clause-integer_of_31_bits c = record { laid_out = thirty_one_bits; least = refl; below = omega arith }
+
+pub returns-clause-no_length_of_31_bits : goal.returns-clause-no_length_of_31_bits
+returns-clause-no_length_of_31_bits c = no_great_length
+
+pub returns-clause-no_wide_length : goal.returns-clause-no_wide_length
+returns-clause-no_wide_length c = λ n p. no_wide_length _ n p
+
+pub returns-clause-no_field_of_any_width : goal.returns-clause-no_field_of_any_width
+returns-clause-no_field_of_any_width c = no_field_of_any_width
+
+pub returns-clause-no_wide_list : goal.returns-clause-no_wide_list
+returns-clause-no_wide_list c = no_wide_list
 
 pub returns-clause-some_spelled_once : goal.returns-clause-some_spelled_once
 returns-clause-some_spelled_once c = some_spelled_once
@@ -72,27 +94,12 @@ returns-clause-no_half_element c = no_half_element
 pub returns-clause-shortest_list : goal.returns-clause-shortest_list
 returns-clause-shortest_list c = shortest_list
 
-pub returns-clause-longer_list : goal.returns-clause-longer_list
-returns-clause-longer_list c = record {
-  count = 0xc0 ∷ 0 ∷ 0 ∷ 0 ∷ 0 ∷ 0 ∷ 0 ∷ 1 ∷ [];
-  inside = 0xaa ∷ [];
-  whole = refl;
-  counts = (3, 0, record { top = omega arith; low = omega arith; first = refl; width = refl; bytes = search rules; number = refl });
-  is_inside = record {
-    front = 0xaa ∷ [];
-    rest = [];
-    whole = refl;
-    first = (record { width = refl; bytes = (omega arith, tt); number = refl }, omega arith);
-    second = refl;
-  };
-}
-
 pub returns-clause-text_of_one_character : goal.returns-clause-text_of_one_character
 returns-clause-text_of_one_character c = record {
   count = 2 ∷ [];
   inside = 0xc3 ∷ 0xbc ∷ [];
   whole = refl;
-  counts = (0, 2, record { top = omega arith; low = omega arith; first = refl; width = refl; bytes = tt; number = refl });
+  counts = one_byte_spells _ 2 (omega arith) (omega arith);
   is_inside = (
     record {
       front = 0xc3 ∷ [];

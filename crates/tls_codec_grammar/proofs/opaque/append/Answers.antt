@@ -1,10 +1,9 @@
-use Rattle.std.proofs.Common.{arith, inr, refl}
+use Rattle.std.proofs.Common.{length, arith, inr, refl}
 use Rattle.tls_codec_wire.proofs.Bytes.{are_bytes}
 use Rattle.tls_codec_grammar.specs.laws.FormatLaws.{content_length_sum}
-use Rattle.tls_codec_grammar.specs.Shortest.{IsLeast}
 use Rattle.tls_codec_grammar.proofs.Appending.{count_not_appended}
 use Rattle.tls_codec_grammar.proofs.ByteContents.{bytes_shortest}
-use Rattle.tls_codec_grammar.proofs.LengthFields.{slice_least}
+use Rattle.tls_codec_grammar.proofs.LengthFields.{slice_form}
 use Rattle.tls_codec_grammar.proofs.OpaqueEncoding.{byte_contents_meet, bytes_appended, bytes_sum}
 use Rattle.tls_codec_grammar.proofs.opaque.append.Goals as goal
 
@@ -16,11 +15,11 @@ returns-in_default-clause-appends g c =
 pub returns-clause-appends : goal.returns-clause-appends
 returns-clause-appends g c =
     let small = are_bytes c.args.content.now (λ i. omega (arith, c.type_inv.content i)) in
-    let form = slice_least (IsLeast (λ s. g.F.LengthField.field.spells s _)) c.in-Some.found.0 c.in-Some.found.1 (omega arith) c.in-Some.ensures.0 c.in-Some.ensures.1 in
+    let form = slice_form (λ s. g.F.LengthField.field.spells s (length c.args.content.now)) c.in-Some.found.0 c.in-Some.found.1 (omega arith) c.in-Some.ensures.0 c.in-Some.ensures.1 in
     bytes_appended g.met.F.LengthField.lawful c.args.content.now small _ form (rw c.in_ok-append_both.was at c.append_both.ensures) refl
 
 pub returns-in_err-append_both-clause-too_long : goal.returns-in_err-append_both-clause-too_long
-returns-in_err-append_both-clause-too_long g c long = absurd (omega (arith, long, bytes_sum c.args.content.now, g.met.F.LengthField.lawful.below _ _ c.in-Some.ensures.1.spelled))
+returns-in_err-append_both-clause-too_long g c long = absurd (omega (arith, long, bytes_sum c.args.content.now, g.met.F.LengthField.lawful.below _ _ c.in-Some.ensures.1))
 
 pub returns-clause-too_long : goal.returns-clause-too_long
-returns-clause-too_long g c long = absurd (omega (arith, long, bytes_sum c.args.content.now, g.met.F.LengthField.lawful.below _ _ c.in-Some.ensures.1.spelled))
+returns-clause-too_long g c long = absurd (omega (arith, long, bytes_sum c.args.content.now, g.met.F.LengthField.lawful.below _ _ c.in-Some.ensures.1))

@@ -8,7 +8,7 @@ use Rattle.tls_codec_grammar.proofs.opaque.read.Goals as goal
 pub returns-in_err-length-clause-reads : goal.returns-in_err-length-clause-reads
 returns-in_err-length-clause-reads g c =
     let p = err_from_is_err_and c.from_residual.result c.from_residual.ensures.1 in
-    rw (p.1, p.2) (record { gave = c.read_length.ensures.gave; refused = bytes_not_read g.F.LengthField.field _ _ _ _ (length_not_read g.met.F.LengthField.lawful _ _ _ _ c.in_err-length.ensures.refused) })
+    rw (p.1, p.2) (record { gave = c.read_length.ensures.gave; refused = bytes_not_read g.met.F.LengthField.lawful _ _ _ _ (length_not_read g.met.F.LengthField.lawful _ _ _ _ c.in_err-length.ensures.refused) })
 
 pub returns-in_err-length-clause-named : goal.returns-in_err-length-clause-named
 returns-in_err-length-clause-named g c =
@@ -21,7 +21,7 @@ returns-in_err-content-clause-reads g c =
     let p = err_from_is_err_and c.from_residual-in_err-content.result c.from_residual-in_err-content.ensures.1 in
     rw (p.1, p.2) (record {
       gave = gave_then source.gives_in_order c.read_length.ensures.gave c.read_bytes_bounded.ensures.gave;
-      refused = bytes_not_read g.F.LengthField.field _ _ _ _ (content_not_read g.met.F.LengthField.lawful _ _ _ _ source.gives_from_front source.no_count_falls c.in_ok-length.ensures.ok c.in_err-content.ensures.refused);
+      refused = bytes_not_read g.met.F.LengthField.lawful _ _ _ _ (content_not_read g.met.F.LengthField.lawful _ _ _ _ source.gives_from_front source.no_count_falls c.in_ok-length.ensures.ok c.in_err-content.ensures.refused);
     })
 
 pub returns-in_err-content-clause-named : goal.returns-in_err-content-clause-named

@@ -7,7 +7,7 @@ use Rattle.tls_codec_grammar.proofs.opaque.split.Goals as goal
 pub returns-in_err-length-clause-splits : goal.returns-in_err-length-clause-splits
 returns-in_err-length-clause-splits g c =
     let p = err_from_is_err_and c.from_residual.result c.from_residual.ensures.1 in
-    rw (p.1, p.2) (count_refuses g.met.F.LengthField.lawful _ c.in_err-length.ensures.err)
+    rw (p.1, p.2) (count_refuses g.met.F.LengthField.lawful _ _ _ c.in_err-length.ensures.err)
 
 pub returns-then-rest-length-clause-splits : goal.returns-then-rest-length-clause-splits
 returns-then-rest-length-clause-splits g c =

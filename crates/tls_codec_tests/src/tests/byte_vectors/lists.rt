@@ -1,14 +1,15 @@
 //! Lists of byte vectors, and bytes behind others.
-use crate::tests::each_call::{is_read_whole, is_spelled_alone, is_written_alone};
+use crate::tests::each_call::{is_refused, is_spelled_alone};
 use std::test::Fail;
-use tls_codec::VLBytes;
+use tls_codec::{Error, VLBytes};
 
 #[test]
-fn a_wide_element_is_written_in_the_least(rt: HostRuntime) -> Result<(), Fail> {
+fn a_wide_element_is_refused(rt: HostRuntime) -> Result<(), Fail> {
     let alloc = rt.alloc();
     let list = vec![in alloc; VLBytes::from_array(alloc, &[0xaa])?]?;
-    is_read_whole(&rt, alloc, &[0x03, 0x40, 0x01, 0xaa], &list)?;
-    is_written_alone(&rt, alloc, &list, &[0x02, 0x01, 0xaa])
+    let too_long = Error::InvalidVectorLength;
+    is_refused::<Vec<VLBytes>>(&rt, alloc, &[0x03, 0x40, 0x01, 0xaa], too_long);
+    is_spelled_alone(&rt, alloc, &list, &[0x02, 0x01, 0xaa])
 }
 
 #[test]

@@ -1,8 +1,6 @@
 //! `SecretVLBytes` and `SecretVLByteVec`.
 use crate::tests::NOT_THERE;
-use crate::tests::each_call::{
-    hash_of, is_read_whole, is_refused, is_refused_by_each, is_spelled, is_written,
-};
+use crate::tests::each_call::{hash_of, is_refused, is_refused_by_each, is_spelled, is_written};
 use std::alloc::Global;
 use std::hash::Hash;
 use std::process::Abort;
@@ -73,7 +71,12 @@ fn is_coded<S: PartialEq + Serialize + Deserialize + DeserializeBytes + Drop>(
     secret: &S,
 ) -> Result<(), Fail> {
     is_spelled(rt, alloc, secret, &[2, 0x00, 0xff])?;
-    is_read_whole(rt, alloc, &[0x40, 2, 0x00, 0xff], secret)?;
+    is_refused::<S>(
+        rt,
+        alloc,
+        &[0x40, 2, 0x00, 0xff],
+        Error::InvalidVectorLength,
+    );
     let ends = Error::EndOfStream;
     is_refused_by_each::<S>(rt, alloc, &[5, 1, 2], NOT_THERE, ends);
     is_refused::<S>(rt, alloc, &[], ends);

@@ -1,6 +1,6 @@
 //! What is written and read, and what is refused.
 use crate::tests::NOT_THERE;
-use crate::tests::each_call::{filled, is_read_whole, is_refused_by_each};
+use crate::tests::each_call::{filled, is_read_whole, is_refused, is_refused_by_each};
 use std::alloc::Global;
 use std::process::Abort;
 use std::test::Fail;
@@ -77,14 +77,11 @@ fn long_bytes(rt: HostRuntime) -> Result<(), Fail> {
 }
 
 #[test]
-fn a_wide_length_is_read(rt: HostRuntime) -> Result<(), Fail> {
+fn a_wide_length_is_refused(rt: HostRuntime) {
     let alloc = rt.alloc();
     let bytes = [0x40, 0x03, 0x0a, 0x14, 0x1e];
-    let owned = VLBytes::from_array(alloc, &[0x0a, 0x14, 0x1e])?;
-    is_read_whole(&rt, alloc, &bytes, &owned)?;
-    let owned = VLByteVec::from_array(alloc, &[0x0a, 0x14, 0x1e])?;
-    is_read_whole(&rt, alloc, &bytes, &owned)?;
-    Ok(())
+    is_refused::<VLBytes>(&rt, alloc, &bytes, Error::InvalidVectorLength);
+    is_refused::<VLByteVec>(&rt, alloc, &bytes, Error::InvalidVectorLength);
 }
 
 #[test]
@@ -92,14 +89,14 @@ fn bytes_that_are_not_there(rt: HostRuntime) {
     let alloc = rt.alloc();
     let table = [
         ([0x05, 0x01, 0x02].as_slice(), NOT_THERE),
-        (
-            [0xff, 0xff, 0xff, 0xff, 0xff, 0xff, 0xff, 0xff, 0x00].as_slice(),
-            NOT_THERE,
-        ),
+        ([0xbf, 0xff, 0xff, 0xff, 0x00].as_slice(), NOT_THERE),
         ([0x40].as_slice(), Error::EndOfStream),
     ];
     for (bytes, by_slice) in table {
         is_refused_by_each::<VLBytes>(&rt, alloc, bytes, by_slice, Error::EndOfStream);
         is_refused_by_each::<VLByteVec>(&rt, alloc, bytes, by_slice, Error::EndOfStream);
     }
+    let greatest = [0xff, 0xff, 0xff, 0xff, 0xff, 0xff, 0xff, 0xff, 0x00];
+    is_refused::<VLBytes>(&rt, alloc, &greatest, Error::InvalidVectorLength);
+    is_refused::<VLByteVec>(&rt, alloc, &greatest, Error::InvalidVectorLength);
 }

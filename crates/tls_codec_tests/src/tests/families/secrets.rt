@@ -3,7 +3,7 @@ mod calls;
 
 use crate::tests::NOT_FILLED;
 use crate::tests::each_call::{
-    filled, is_read_whole, is_refused, is_refused_by_each, is_spelled, is_too_long, is_written,
+    filled, is_refused, is_refused_by_each, is_spelled, is_too_long, is_written,
 };
 use std::test::Fail;
 use tls_codec::{
@@ -38,8 +38,9 @@ fn secrets_in_a_secret_list(rt: HostRuntime) -> Result<(), Fail> {
     let alloc = rt.alloc();
     let mut list = SecretTlsVecU8::default(alloc);
     list.push(SecretVLBytes::from_array(alloc, &[0xaa])?)?;
-    is_read_whole(&rt, alloc, &[3, 0x40, 1, 0xaa], &list)?;
-    is_written(&rt, alloc, &list, &[2, 1, 0xaa])
+    let too_long = Error::InvalidVectorLength;
+    is_refused::<SecretTlsVecU8<SecretVLBytes>>(&rt, alloc, &[3, 0x40, 1, 0xaa], too_long);
+    is_spelled(&rt, alloc, &list, &[2, 1, 0xaa])
 }
 
 #[test]

@@ -2,8 +2,8 @@
 use crate::tests::each_call::{filled, is_too_long, is_written};
 use std::test::Fail;
 use tls_codec::{
-    TlsByteSliceU8, TlsByteSliceU16, TlsByteSliceU24, TlsByteSliceU32, TlsSliceU8, TlsSliceU16,
-    TlsSliceU24, TlsSliceU32,
+    Error, Serialize, Size, TlsByteSliceU8, TlsByteSliceU16, TlsByteSliceU24, TlsByteSliceU32,
+    TlsSliceU8, TlsSliceU16, TlsSliceU24, TlsSliceU32,
 };
 
 #[test]
@@ -87,5 +87,22 @@ fn more_than_the_length_counts(rt: HostRuntime) -> Result<(), Fail> {
         &[],
     )?;
     is_too_long(&rt, alloc, &TlsByteSliceU24(&content), 16_777_219, &[])?;
+    Ok(())
+}
+
+// Together they have 2^30 + 4,096 bytes, which no variable-length length counts: none is announced for it.
+#[test]
+fn a_list_longer_than_any_length(rt: HostRuntime) -> Result<(), Fail> {
+    let alloc = rt.alloc();
+    let bytes = filled(alloc, 1_048_576, 0)?;
+    let mut list = Vec::new(alloc);
+    for _at in 0..1_024 {
+        list.push(TlsByteSliceU32(bytes.as_slice()))?;
+    }
+    assert_eq!(rt; list.tls_serialized_len(), 1_073_745_920);
+    let mut received = Vec::new(alloc);
+    let refused = list.tls_serialize(&mut received);
+    assert_eq!(rt; refused, Err(Error::InvalidVectorLength));
+    assert!(rt; received.is_empty());
     Ok(())
 }

@@ -1,7 +1,7 @@
 -- The number so far is that of the digits so far.
 use Rattle.std.proofs.Common.{◌≡◌, ◌+◌, ◌*◌, ◌^◌, ◌<◌, take}
 use Rattle.tls_codec_wire.specs.Digits.{value}
-use Rattle.tls_codec_wire.proofs.quic.number_from.Given as goal
+use Rattle.tls_codec_wire.proofs.layout.number_of_each.Given as goal
 
 abbrev pub invariant-loop-digit : goal.invariant-loop-digit
 invariant-loop-digit l = record {
