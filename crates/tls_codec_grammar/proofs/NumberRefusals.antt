@@ -1,5 +1,5 @@
 -- What a refused number is to a value that begins with one.
-use Rattle.std.proofs.Common.{◌≡◌, ◌≢◌, List, ℕ, Bool, Option, None, Some, inl, inr, refl}
+use Rattle.std.proofs.Common.{◌≢◌, List, ℕ, Bool, Option, None, Some, inl, inr, refl}
 use Rattle.tls_codec_wire.specs.Counts.{Counts}
 use Rattle.tls_codec_wire.specs.Numbers.{NumberNotRead}
 use Rattle.tls_codec_wire.specs.declared.error.Error.{Error}

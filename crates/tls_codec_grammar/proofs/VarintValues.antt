@@ -1,5 +1,5 @@
 -- What calls on variable-length integers return, as values of a type.
-use Rattle.std.proofs.Common.{◌≡◌, ◌^◌, ℕ, List, Option, Result, Ok, Err, true, arith}
+use Rattle.std.proofs.Common.{◌^◌, ℕ, List, Option, Result, Ok, Err, true, arith}
 use Rattle.std.specs.Prelude.{IfErr, IfOk}
 use Rattle.std.specs.Borrow.{Bor}
 use Rattle.tls_codec_wire.specs.Counts.{Counts, NoneFell}

@@ -1,11 +1,13 @@
 -- The longer proofs of the worked examples.
-use Rattle.std.proofs.Common.{rules, ◌≡◌, ℕ, ◌+◌, ◌*◌, ◌^◌, ◌<◌, ◌≤◌, List, [], ◌∷◌, ◌++◌, length, false, true, refl, sym, ap, subst, ◌∙◌, inl, inr, arith, length-append}
+use Rattle.std.proofs.Common.{rules, ◌≡◌, ℕ, ◌+◌, ◌*◌, ◌^◌, ◌<◌, List, [], ◌∷◌, ◌++◌, length, false, true, refl, sym, ap, subst, ◌∙◌, inl, inr, arith, length-append}
+use Rattle.std.proofs.lemmas.Bool.{lt-ltb}
 use Rattle.std.proofs.Math.Utf8.{encode}
 use Rattle.std.specs.Str.{IsUtf8, is_utf8, chars}
 use Rattle.std.proofs.lemmas.Str.{is_utf8-from_IsUtf8}
 use Rattle.tls_codec_wire.specs.Digits.{Digits}
 use Rattle.tls_codec_wire.specs.Varint.{LaidOut, SpelledBelow, VectorLength}
 use Rattle.tls_codec_wire.proofs.VarintReads.{one_byte_spells}
+use Rattle.tls_codec_wire.specs.VarintCalls.{IsWideOrGreat}
 use Rattle.tls_codec_wire.specs.declared.error.Error.TheVariants.{InvalidVectorLength}
 use Rattle.tls_codec_grammar.specs.Tree.{Tree, Number, Empty, Join}
 use Rattle.tls_codec_grammar.specs.Grammar.{Direction, Reading, Writing, number, option, content, fixed_list, list, text, nothing}
@@ -19,27 +21,20 @@ use Rattle.tls_codec_grammar.specs.laws.VarintLaws.{below_none}
 use Rattle.tls_codec_grammar.specs.laws.ListLaws.{bytes_lawful}
 use Rattle.tls_codec_grammar.specs.laws.FormatLaws.{list_meets, nothing_meets}
 
--- 40 25 are laid out as 37, and wider than it needs
-pub no_wide_number : (limit n : ℕ) → SpelledBelow limit (0x40 ∷ 0x25 ∷ []) n → ⊥
-no_wide_number limit n p = below_none limit (0x40 ∷ 0x25 ∷ []) InvalidVectorLength (record {
-  front = 0x40 ∷ 0x25 ∷ [];
-  rest = [];
-  number = 37;
+-- 40 and a byte below 40 are laid out as that byte, which needs one byte alone
+wide : (limit b : ℕ) (rest : List ℕ) → b < 64 → IsWideOrGreat limit (0x40 ∷ b ∷ rest)
+wide limit b rest small = record {
+  front = 0x40 ∷ b ∷ [];
+  rest = rest;
+  number = b;
   whole = refl;
-  laid_out = (1, 0, record { top = omega arith; low = omega arith; first = refl; width = refl; bytes = (omega arith, tt); number = refl });
-  cause = inl (omega arith);
-}) n [] (record { front = 0x40 ∷ 0x25 ∷ []; whole = refl; spelled = p })
+  laid_out = (1, 0, record { top = omega arith; low = omega arith; first = refl; width = refl; bytes = (omega arith, tt); number = omega arith });
+  cause = inl (rw (lt-ltb b 64 small) (omega arith));
+}
 
--- so are 40 00 as 0
-pub no_wide_length : (limit n : ℕ) → SpelledBelow limit (0x40 ∷ 0x00 ∷ []) n → ⊥
-no_wide_length limit n p = below_none limit (0x40 ∷ 0x00 ∷ []) InvalidVectorLength (record {
-  front = 0x40 ∷ 0x00 ∷ [];
-  rest = [];
-  number = 0;
-  whole = refl;
-  laid_out = (1, 0, record { top = omega arith; low = omega arith; first = refl; width = refl; bytes = (omega arith, tt); number = refl });
-  cause = inl (omega arith);
-}) n [] (record { front = 0x40 ∷ 0x00 ∷ []; whole = refl; spelled = p })
+-- so they are no number below a limit
+pub no_wide_number : (limit b n : ℕ) → b < 64 → SpelledBelow limit (0x40 ∷ b ∷ []) n → ⊥
+no_wide_number limit b n small p = below_none limit (0x40 ∷ b ∷ []) InvalidVectorLength (wide limit b [] small) n [] (record { front = 0x40 ∷ b ∷ []; whole = refl; spelled = p })
 
 -- c0 00 00 00 40 00 00 00 are laid out as 2 ^ 30
 pub thirty_one_bits : LaidOut (0xc0 ∷ 0 ∷ 0 ∷ 0 ∷ 0x40 ∷ 0 ∷ 0 ∷ 0 ∷ []) 1073741824
@@ -67,14 +62,7 @@ no_field_of_any_width width l =
 
 -- no list begins with a length that is wider than it needs
 pub no_wide_list : (d : Direction) (v : Tree) → list (number 1) d (0x40 ∷ 0x01 ∷ 0xaa ∷ []) v → ⊥
-no_wide_list d v p = below_none (2 ^ 30) (0x40 ∷ 0x01 ∷ 0xaa ∷ []) InvalidVectorLength (record {
-  front = 0x40 ∷ 0x01 ∷ [];
-  rest = 0xaa ∷ [];
-  number = 1;
-  whole = refl;
-  laid_out = (1, 0, record { top = omega arith; low = omega arith; first = refl; width = refl; bytes = (omega arith, tt); number = refl });
-  cause = inl (omega arith);
-}) (length p.inside) p.inside (record { front = p.count; whole = p.whole; spelled = p.counts })
+no_wide_list d v p = below_none (2 ^ 30) (0x40 ∷ 0x01 ∷ 0xaa ∷ []) InvalidVectorLength (wide (2 ^ 30) 1 (0xaa ∷ []) (omega arith)) (length p.inside) p.inside (record { front = p.count; whole = p.whole; spelled = p.counts })
 
 -- a payload of two bytes has one spelling
 pub some_spelled_once : (s : List ℕ) → option (number 2) Writing s (Join (Number 7) Empty) → s ≡ 1 ∷ 0 ∷ 7 ∷ []

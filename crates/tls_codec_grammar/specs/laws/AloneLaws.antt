@@ -1,5 +1,5 @@
 -- What follows where a value has at most one writing spelling.
-use Rattle.std.proofs.Common.{◌≡◌, ℕ, List, sym, subst, inl}
+use Rattle.std.proofs.Common.{ℕ, List, subst, inl}
 use Rattle.tls_codec_grammar.specs.Tree.{Tree}
 use Rattle.tls_codec_grammar.specs.Grammar.{Grammar, Reading, Writing}
 use Rattle.tls_codec_grammar.specs.Shortest.{IsShortest, IsFull}

@@ -1,10 +1,10 @@
 -- The laws of what stands behind a length field, and of lists and texts.
-use Rattle.std.proofs.Common.{◌≡◌, ◌↔◌, ℕ, ◌+◌, ◌^◌, ◌≤◌, List, [], ◌∷◌, ◌++◌, length, refl, sym, ap, subst, ◌∙◌, inl, inr, append_assoc, append-nil, arith, length-append}
+use Rattle.std.proofs.Common.{◌≡◌, ◌↔◌, ℕ, ◌+◌, ◌^◌, List, ◌++◌, length, refl, sym, ap, subst, ◌∙◌, inl, inr, append_assoc, arith, length-append}
 use Rattle.std.proofs.lemmas.List.{append_cancel_left}
 use Rattle.std.proofs.lemmas.Bool.{cases_lt}
 use Rattle.tls_codec_wire.specs.Varint.{VectorLength, width_below}
 use Rattle.tls_codec_grammar.specs.Tree.{Tree, Number, Empty, Join}
-use Rattle.tls_codec_grammar.specs.Grammar.{Direction, Reading, Writing, Grammar, Row, Admits, number, content, counted, list, bytes, utf8}
+use Rattle.tls_codec_grammar.specs.Grammar.{Direction, Reading, Writing, Grammar, Row, Admits, number, content, counted, bytes, utf8}
 use Rattle.tls_codec_grammar.specs.Shortest.{IsLeast, IsShortest}
 use Rattle.tls_codec_grammar.specs.Announced.{capped, content_length, counted_length}
 use Rattle.tls_codec_grammar.specs.Lawful.{IsLawful, IsLawfulInside, IsLengthField}

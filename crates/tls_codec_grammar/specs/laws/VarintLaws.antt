@@ -7,7 +7,7 @@ use Rattle.std.proofs.Math.Pow.{pow_mono, pow-lt}
 use Rattle.tls_codec_wire.specs.Digits.{value}
 use Rattle.tls_codec_wire.specs.Numbers.{NoNumberBegins}
 use Rattle.tls_codec_wire.specs.Varint.{LaidOut, SpelledBelow, VarintBy, least_width, width_below}
-use Rattle.tls_codec_wire.specs.VarintCalls.{EndsEarly, IsWideOrGreat, RefusesBelow}
+use Rattle.tls_codec_wire.specs.VarintCalls.{EndsEarly, RefusesBelow}
 use Rattle.tls_codec_wire.specs.declared.error.Error.{Error}
 use Rattle.tls_codec_wire.specs.declared.error.Error.TheVariants.{EndOfStream, InvalidVectorLength, OutOfMemory, TrailingData}
 use Rattle.tls_codec_grammar.specs.Tree.{Tree, Number}

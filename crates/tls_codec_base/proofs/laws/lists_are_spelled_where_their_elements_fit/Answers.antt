@@ -1,4 +1,4 @@
-use Rattle.std.proofs.Common.{◌↔◌, ℕ, ◌<◌, ◌≤◌, List, ◌++◌, length, refl, subst, arith}
+use Rattle.std.proofs.Common.{◌↔◌, ℕ, ◌<◌, List, ◌++◌, length, refl, subst}
 use Rattle.tls_codec_grammar.specs.Tree.{Tree, Number, Empty, Join}
 use Rattle.tls_codec_grammar.specs.Grammar.{Reading, Writing, Grammar, content}
 use Rattle.tls_codec_grammar.specs.Shortest.{IsShortest}

@@ -1,17 +1,17 @@
-use Rattle.std.proofs.Common.{◌^◌, rules, [], ◌∷◌, refl, arith}
+use Rattle.std.proofs.Common.{◌^◌, [], ◌∷◌, refl, arith}
 use Rattle.tls_codec_grammar.specs.Tree.{Number}
 use Rattle.tls_codec_grammar.specs.laws.AloneLaws.{alone_shortest}
 use Rattle.tls_codec_grammar.specs.laws.NumberLaws.{digits_below}
 use Rattle.tls_codec_grammar.specs.laws.VarintLaws.{varint_lawful}
 use Rattle.tls_codec_wire.proofs.VarintReads.{one_byte_spells}
-use Rattle.tls_codec_grammar.proofs.WorkedExamples.{no_field_of_any_width, no_wide_number, no_wide_length, no_wide_list, no_great_length, thirty_one_bits, some_spelled_once, no_other_tag, no_half_element, two_byte_character, surrogate_is_no_text, shortest_list, shortest_list_of_nothing, nothing_is_no_element}
+use Rattle.tls_codec_grammar.proofs.WorkedExamples.{no_field_of_any_width, no_wide_number, no_wide_list, no_great_length, thirty_one_bits, some_spelled_once, no_other_tag, no_half_element, two_byte_character, surrogate_is_no_text, shortest_list, shortest_list_of_nothing, nothing_is_no_element}
 use Rattle.tls_codec_grammar.proofs.examples.examples.Goals as goal
 
 pub returns-clause-number_too_great : goal.returns-clause-number_too_great
 returns-clause-number_too_great c s p = absurd (omega (arith, digits_below 1 s 256 p))
 
 pub returns-clause-no_wide_integer : goal.returns-clause-no_wide_integer
-returns-clause-no_wide_integer c = λ d n p. no_wide_number _ n p
+returns-clause-no_wide_integer c = λ d n p. no_wide_number _ 0x25 n (omega arith) p
 
 pub returns-clause-shortest_varint : goal.returns-clause-shortest_varint
 returns-clause-shortest_varint c = alone_shortest varint_lawful (37 ∷ []) (Number 37) (one_byte_spells (2 ^ 62) 37 (omega arith) (omega arith))
@@ -23,7 +23,7 @@ pub returns-clause-no_length_of_31_bits : goal.returns-clause-no_length_of_31_bi
 returns-clause-no_length_of_31_bits c = no_great_length
 
 pub returns-clause-no_wide_length : goal.returns-clause-no_wide_length
-returns-clause-no_wide_length c = λ n p. no_wide_length _ n p
+returns-clause-no_wide_length c = λ n p. no_wide_number _ 0 n (omega arith) p
 
 pub returns-clause-no_field_of_any_width : goal.returns-clause-no_field_of_any_width
 returns-clause-no_field_of_any_width c = no_field_of_any_width
