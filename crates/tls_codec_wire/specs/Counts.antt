@@ -1,7 +1,6 @@
 -- How often a device failed, was interrupted and had no memory.
 use Rattle.std.specs.Prelude.{◌≡◌, ◌⊎◌, ℕ, ◌+◌, ◌-◌, ◌^◌, ◌≤◌, min, max}
 use Rattle.std.proofs.Common.{arith, refl, ◌∙◌}
-use Rattle.tls_codec_wire.specs.declared.transfer.TheConstants.{MOST_INTERRUPTIONS}
 
 -- the three counts of a device
 pub record Counts : Type 0 where
@@ -33,10 +32,10 @@ pub record OnlyInterrupted (old new : Counts) : Type 0 where
   pub interruptions : old.interruptions ≤ new.interruptions
   pub shortages : new.shortages ≡ old.shortages
 
--- a fault of the device was counted: failures rose by 1, or interruptions by one more than are tried again
+-- a fault of the device was counted: failures rose by 1, or interruptions by 17, one more than are tried again
 abbrev pub FaultIsCounted : Counts → Counts → Type 0
 FaultIsCounted old new =
-    RoseBy 1 old.failures new.failures ⊎ RoseBy (MOST_INTERRUPTIONS + 1) old.interruptions new.interruptions
+    RoseBy 1 old.failures new.failures ⊎ RoseBy 17 old.interruptions new.interruptions
 
 -- the counts of a device that counted nothing
 abbrev pub no_counts : Counts

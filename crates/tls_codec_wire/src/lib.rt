@@ -15,7 +15,7 @@
 //! - [`varint`]: [`TlsVarInt`], the number of a variable-length integer.
 //! - [`quic`]: variable-length integers, read and written. [`vlen`]: lengths as such integers. Both
 //!   stand on `layout`, numbers below a limit in the least width.
-//! - [`laws`]: errors and numbers are compared as what they stand for is.
+//! - [`laws`]: what devices tell, and what errors and numbers stand for.
 #![tactic(auto)]
 
 pub mod bounded;

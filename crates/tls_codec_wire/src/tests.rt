@@ -2,15 +2,15 @@
 mod bounded;
 mod devices;
 mod faults;
+mod kinds;
 mod numbers;
 
 use crate::device::{Fault, Sink, Source};
 use crate::error::Error;
 use crate::outside::Outside;
 use crate::transfer::{read_exactly, write_all};
-use devices::{ENDED, Failing, Fives, Keeper, Plan};
+use devices::{ENDED, Fives, Keeper, Plan};
 use std::alloc::AllocError;
-use std::io::ErrorKind;
 use std::test::Fail;
 
 const READ_FAILED: Error = Error::DecodingError("read failed");
@@ -188,18 +188,4 @@ fn a_writer_outside_takes_bytes_at_its_end(rt: HostRuntime) -> Result<(), Fail> 
     assert_eq!(rt; sink.give(&[3]), Ok(1));
     assert_eq!(rt; out.as_slice(), [1, 2, 3].as_slice());
     Ok(())
-}
-
-#[test]
-fn a_fault_outside_is_named_by_its_kind(rt: HostRuntime) {
-    for (kind, fault) in [
-        (ErrorKind::Interrupted, Fault::Interrupted),
-        (ErrorKind::OutOfMemory, Fault::NoMemory),
-        (ErrorKind::PermissionDenied, Fault::Failed),
-    ] {
-        let mut src = Outside::new(Failing { kind });
-        assert_eq!(rt; src.pull(&mut [0]), Err(fault));
-        let mut sink = Outside::new(Failing { kind });
-        assert_eq!(rt; sink.give(&[0]), Err(fault));
-    }
 }

@@ -113,7 +113,7 @@ pub fn write_all<W: Sink>(sink: &mut W, bytes: &[u8]) -> Result<(), Error>
 // which is `failed` for all but running out of memory.
 #[inline(always)]
 pub(crate) fn after_fault(fault: Fault, row: u8, failed: Error) -> Result<u8, Error>
-    ensures ok { IfOk result (λ next. (fault ≡ Interrupted) × (row < MOST_INTERRUPTIONS) × (next ≡ row + 1)) }
+    ensures ok { IfOk result (λ next. (fault ≡ Interrupted) × (row < 16) × (next ≡ row + 1)) }
     ensures err { IfErr result (ErrorOfFault fault row failed) }
 {
     match fault {

@@ -50,6 +50,33 @@ impl Source for RoomWatcher {
     ghost no_count_falls = { λ a xs b p. stay no_counts };
 }
 
+// Has no byte, fills buffers alone, and notes the length of the first.
+#[derive(Drop)]
+struct BufferWatcher {
+    first: Option<usize>,
+}
+
+impl Source for BufferWatcher {
+    ghost coming = { λ _. None };
+
+    ghost counts = { λ _. no_counts };
+
+    ghost given = { λ a g b. ⊤ };
+
+    fn pull(&mut self, into: &mut [u8]) -> Result<usize, Fault> {
+        self.first = Some(self.first.unwrap_or(into.len()));
+        Ok(0)
+    }
+
+    ghost gives_nothing = { λ s. tt };
+
+    ghost gives_in_order = { λ a xs b ys c p q. tt };
+
+    ghost gives_from_front = { λ a xs b p. tt };
+
+    ghost no_count_falls = { λ a xs b p. stay no_counts };
+}
+
 // Two bytes are read within a limit of two, and none behind them.
 fn are_two_bytes<R: Source>(rt: &impl Abort, src: &mut R) {
     let mut inner = Bounded::new(src, 2);
@@ -152,6 +179,16 @@ fn a_length_without_its_bytes_asks_for_little_room(rt: HostRuntime) {
         assert!(rt; !src.had_more, "{left} bytes");
         assert!(rt; src.at_hand().is_empty());
     }
+}
+
+#[test]
+fn a_length_without_its_bytes_has_a_small_buffer(rt: HostRuntime) -> Result<(), Fail> {
+    let mut src = BufferWatcher { first: None };
+    let refused = read_bytes_bounded(rt.alloc(), &mut src, isize::MAX as usize);
+    assert_eq!(rt; refused.err(), Some(Error::EndOfStream));
+    let first = src.first.ok_or("a buffer")?;
+    assert!(rt; 0 < first && first <= 4096, "{first} bytes");
+    Ok(())
 }
 
 #[test]

@@ -1,11 +1,9 @@
-// Numbers in bytes, and what errors of std become.
+// Numbers in bytes, and what errors of std about numbers and slices become.
 use crate::error::Error;
 use crate::quic::{least_width, read_varint, split_varint, write_varint};
 use crate::uint24::U24;
 use crate::varint::TlsVarInt;
 use crate::vlen::{insert_bytes, insert_length};
-use std::io;
-use std::io::ErrorKind;
 use std::test::Fail;
 
 #[test]
@@ -100,15 +98,6 @@ fn byte(number: u64) -> Result<u8, Error> {
 
 #[test]
 fn errors_of_std_have_an_error_here(rt: HostRuntime) {
-    for (kind, error) in [
-        (ErrorKind::UnexpectedEof, Error::EndOfStream),
-        (
-            ErrorKind::PermissionDenied,
-            Error::DecodingError("io error"),
-        ),
-    ] {
-        assert_eq!(rt; Error::from(io::Error::from(kind)), error);
-    }
     assert_eq!(rt; pair(&[1]), Err(Error::InvalidInput));
     assert_eq!(rt; byte(256), Err(Error::InvalidVectorLength));
 }

@@ -1,0 +1,77 @@
+// Each kind of error that std names, as a fault and as an error.
+use super::devices::Failing;
+use crate::device::{Fault, Sink, Source};
+use crate::error::Error;
+use crate::outside::Outside;
+use std::io;
+use std::io::ErrorKind;
+use std::process::Abort;
+
+const IO_ERROR: Error = Error::DecodingError("io error");
+
+// What an error of this kind is, where a reader or a writer outside fails by it, and what it becomes.
+fn kind_is(rt: &impl Abort, kind: ErrorKind, fault: Fault, error: Error) {
+    let mut src = Outside::new(Failing { kind });
+    assert_eq!(rt; src.pull(&mut [0]), Err(fault), "{kind:?}");
+    let mut sink = Outside::new(Failing { kind });
+    assert_eq!(rt; sink.give(&[0]), Err(fault), "{kind:?}");
+    assert_eq!(rt; Error::from(io::Error::from(kind)), error, "{kind:?}");
+}
+
+#[test]
+fn three_kinds_are_told_apart(rt: HostRuntime) {
+    for (kind, fault, error) in [
+        (ErrorKind::Interrupted, Fault::Interrupted, IO_ERROR),
+        (ErrorKind::OutOfMemory, Fault::NoMemory, IO_ERROR),
+        (ErrorKind::UnexpectedEof, Fault::Failed, Error::EndOfStream),
+    ] {
+        kind_is(&rt, kind, fault, error);
+    }
+}
+
+#[test]
+fn every_other_kind_is_a_failure(rt: HostRuntime) {
+    for kind in [
+        ErrorKind::NotFound,
+        ErrorKind::PermissionDenied,
+        ErrorKind::ConnectionRefused,
+        ErrorKind::ConnectionReset,
+        ErrorKind::HostUnreachable,
+        ErrorKind::NetworkUnreachable,
+        ErrorKind::ConnectionAborted,
+        ErrorKind::NotConnected,
+        ErrorKind::AddrInUse,
+        ErrorKind::AddrNotAvailable,
+        ErrorKind::NetworkDown,
+        ErrorKind::BrokenPipe,
+        ErrorKind::AlreadyExists,
+        ErrorKind::WouldBlock,
+        ErrorKind::NotADirectory,
+        ErrorKind::IsADirectory,
+        ErrorKind::DirectoryNotEmpty,
+        ErrorKind::ReadOnlyFilesystem,
+        ErrorKind::FilesystemLoop,
+        ErrorKind::StaleNetworkFileHandle,
+        ErrorKind::InvalidInput,
+        ErrorKind::InvalidData,
+        ErrorKind::TimedOut,
+        ErrorKind::WriteZero,
+        ErrorKind::StorageFull,
+        ErrorKind::NotSeekable,
+        ErrorKind::QuotaExceeded,
+        ErrorKind::FileTooLarge,
+        ErrorKind::ResourceBusy,
+        ErrorKind::ExecutableFileBusy,
+        ErrorKind::Deadlock,
+        ErrorKind::CrossesDevices,
+        ErrorKind::TooManyLinks,
+        ErrorKind::InvalidFilename,
+        ErrorKind::ArgumentListTooLong,
+        ErrorKind::Unsupported,
+        ErrorKind::InProgress,
+        ErrorKind::Other,
+        ErrorKind::Uncategorized,
+    ] {
+        kind_is(&rt, kind, Fault::Failed, IO_ERROR);
+    }
+}
