@@ -1,5 +1,6 @@
 //! Numbers of one width in a row, read at once.
-ghost use Rattle.std.specs.Prelude.{◌≡◌, ◌<◌, ◌≤◌, ◌%◌, ◌/◌, length, IfErr, IfOk};
+ghost use Rattle.std.specs.Prelude.{◌≡◌, ◌<◌, ◌≤◌, ◌%◌, List, length, vec_len, IfErr, IfOk, ⊤};
+ghost use Rattle.std.specs.Iterator.{DrainsIf, IsFinite};
 ghost use Rattle.tls_codec_wire.specs.Bounded.{BorrowAlike, inner_of, limit_of};
 ghost use Rattle.tls_codec_wire.specs.Digits.{value};
 ghost use Rattle.tls_codec_wire.specs.declared.error.Error.TheVariants.{OutOfMemory};
@@ -13,7 +14,7 @@ ghost use Rattle.tls_codec_base.specs.Runs.{ReadsRun, number_source_names};
 
 use super::groups::HasDigits;
 use crate::lists::Turns;
-use std::alloc::Global;
+use std::alloc::{AllocError, Global};
 use tls_codec_grammar::opaque::see_bytes;
 use tls_codec_wire::{Bounded, Error, Source, read_bytes_bounded};
 
@@ -36,6 +37,23 @@ pub(crate) fn read_run<R: Source, const K: usize>(
     Ok(Some(digits))
 }
 
+// All items, for so many of which room is asked at once. Where that is refused there is no second request,
+// as there is in `collect`.
+#[inline(always)]
+fn collected<T: Drop, I: Iterator<Item = T> + Drop>(
+    alloc: Global,
+    room: usize,
+    items: I,
+) -> Result<Vec<T>, AllocError>
+    requires can { I.can_next items }
+    requires ends { IsFinite (I.remaining items) }
+    ensures { IfOk result (λ v. (xs : List T) × DrainsIf I.next_gives ⊤ items xs × ((v.items ≡ xs) × (vec_len v ≡ length xs))) }
+{
+    let mut all = Vec::with_capacity(alloc, room)?;
+    all.extend(items)?;
+    Ok(all)
+}
+
 // The numbers of these digits.
 //
 // A width is at most that of `u64`, so that memory has an array of its digits.
@@ -46,14 +64,13 @@ fn numbers_of<T: HasDigits<K>, const K: usize>(
     requires some { 0 < K }
     requires width { K ≤ 8 }
     ensures ok { IfOk result (λ numbers. length digits.now % K ≡ 0 → content (number K) Reading digits.now (trees (λ x. Number (T.number x)) numbers.items)) }
-    ensures count { IfOk result (λ numbers. length numbers.items ≡ length digits.now / K) }
     ensures err { IfErr result (λ e. e ≡ OutOfMemory) }
 {
     let (groups, _) = digits.as_chunks::<K>();
     let number = |group: &[u8; K]|
         ensures { T.number result ≡ value group.now }
     { T::of_digits(group) };
-    let numbers = groups.iter().map(number).collect(alloc)?;
+    let numbers = collected(alloc, groups.len(), groups.iter().map(number))?;
     Ok(numbers)
 }
 

@@ -35,15 +35,14 @@ pub fn write_length<F: LengthField, W: Sink>(
 }
 
 /// Leaves a gap of so many bytes for a length that isn't known yet, and asks for room for so many more
-/// behind it, which may be refused. An error: there was no memory for the gap, and the bytes are as they
-/// were.
+/// behind it. An error: there was no memory for both, and the bytes are as they were.
 #[inline(always)]
 pub fn open_gap(out: &mut Vec<u8>, width: usize, room: usize) -> Result<(), AllocError>
     requires { width ≤ 8 }
     ensures ok { OnOk result (OpenedGap out.old.items out.new.items width) }
     ensures kept { OnErr result (out.new.items ≡ out.old.items) }
 {
-    let _ = make_room(out, width.saturating_add(room));
+    make_room(out, width.saturating_add(room))?;
     let empty = [0u8; 8];
     append_few(out, &empty[..width])
 }
