@@ -49,7 +49,6 @@ module _ (k : ℕ) where
       | inr out ↦ inr out
     ];
     memory = r.memory;
-    not_trailing = r.not_trailing;
   }
 
   pub array_refuses_source : (lean : Bool) (coming : Option (List ℕ)) (old new : Counts) (e : Error) → RefusesSource (number k) lean coming old new e → RefusesSource (array k) lean coming old new e
@@ -59,7 +58,6 @@ module _ (k : ℕ) where
       | inr out ↦ inr out
     ];
     memory = r.memory;
-    not_trailing = r.not_trailing;
   }
 
 module _ (k : ℕ) (a : List ℕ) (width : length a ≡ k) (bytes : AreBytes a) where

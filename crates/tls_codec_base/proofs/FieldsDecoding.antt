@@ -69,7 +69,6 @@ fields_refuses_first {first} {others} {a} {x} {e} b r = record {
     | inr out ↦ inr out
   ];
   memory = λ h. first_not_lean a b (r.memory h);
-  not_trailing = r.not_trailing;
 }
 
 pub fields_refuses_others : {first others : Grammar} {f : Tree → ℕ} {b : Bool} {x : List ℕ} {v : Tree} {y : List ℕ} {e : Error} (a : Bool) → IsLawful first f → Begins first x v y → Refuses others b y e → Refuses (fields first others) (a && b) x e
@@ -79,7 +78,6 @@ fields_refuses_others {first} {others} {f} {b} {x} {v} {y} {e} a l p r = record 
     | inr out ↦ inr out
   ];
   memory = λ h. others_not_lean a b (r.memory h);
-  not_trailing = r.not_trailing;
 }
 
 -- ---- from a source
@@ -111,7 +109,6 @@ fields_source_refuses_first {first} {others} {a} {coming} {before} {after} {e} b
     | inl not_lean ↦ inl (first_not_lean a b not_lean)
     | inr rose ↦ inr rose
   ];
-  not_trailing = r.not_trailing;
 }
 
 pub fields_source_refuses_others : {S : Type 0} {given : S → List ℕ → S → Type 0} {first others : Grammar} {f : Tree → ℕ} {b : Bool} {old new : S} {v : Tree} {after : Counts} {e : Error} (a : Bool) (coming : S → Option (List ℕ)) (counts : S → Counts) → GivesFromFront given coming → NoCountFalls given counts
@@ -129,7 +126,6 @@ fields_source_refuses_others {S} {given} {first} {others} {f} {b} {old} {new} {v
         | inl not_lean ↦ inl (others_not_lean a b not_lean)
         | inr rose ↦ inr (rose_later (counts old) (counts new) after fell rose)
       ];
-      not_trailing = r.not_trailing;
     }
 
 -- ---- the same over formats: one citation a field

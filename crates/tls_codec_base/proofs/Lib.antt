@@ -15,6 +15,7 @@ pub mod TaggedDecoding
 pub mod TaggedEncoding
 pub mod TextDecoding
 pub mod TextForms
+pub mod Trailing
 pub mod Turns
 pub mod VectorSinks
 pub mod Whole

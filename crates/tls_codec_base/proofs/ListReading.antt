@@ -93,7 +93,6 @@ module _ (element : Grammar) (f : Tree → ℕ) (l : IsLawful element f) where
       | inr memory ↦ inr memory
     ];
     memory = λ h. refl;
-    not_trailing = r.not_trailing;
   }
 
   -- the element that was found is the list's next one

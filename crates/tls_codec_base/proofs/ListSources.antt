@@ -82,7 +82,6 @@ module _ (element : Grammar) (f : Tree → ℕ) (l : IsLawful element f) where
             | inr (inr memory) ↦ inr (inr memory)
           ];
           memory = λ h. inl refl;
-          not_trailing = r.not_trailing;
         }
 
     -- an element of no bytes is found

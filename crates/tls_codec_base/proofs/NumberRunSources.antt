@@ -28,9 +28,9 @@ none_short n inside (Some x) short = λ v rest b. omega (arith, short, length-ta
 -- why bytes up to the limit are not gathered is why the list is refused
 pub run_refused : (k n : ℕ) (coming : Option (List ℕ)) (old new : Counts) (e : Error) → n < 2 ^ 63 → BytesRefused e n (option_map (take n) coming) old new → RefusesSource (sized n (content (number k))) false coming old new e
 run_refused k n coming old new InvalidVectorLength small p = absurd (omega (arith, small, p))
-run_refused k n coming old new (DecodingError text) small p = record { cause = inr (inl p.1); memory = λ h. absurd cc; not_trailing = λ h. cc }
-run_refused k n coming old new EndOfStream small p = record { cause = inl (none_short n _ coming p); memory = λ h. absurd cc; not_trailing = λ h. cc }
-run_refused k n coming old new OutOfMemory small p = record { cause = inr (inr refl); memory = λ h. inl refl; not_trailing = λ h. cc }
+run_refused k n coming old new (DecodingError text) small p = record { cause = inr (inl p.1); memory = λ h. absurd cc }
+run_refused k n coming old new EndOfStream small p = record { cause = inl (none_short n _ coming p); memory = λ h. absurd cc }
+run_refused k n coming old new OutOfMemory small p = record { cause = inr (inr refl); memory = λ h. inl refl }
 run_refused k n coming old new _ small p = absurd p
 
 took_none : (coming : Option (List ℕ)) → Consumes coming coming []
@@ -56,9 +56,9 @@ at_first k n coming old new e some refused named = inr (
 pub run_named : (k n : ℕ) (coming : Option (List ℕ)) (hand : List ℕ) (old new : Counts) (e : Error) → 0 < n → n < 2 ^ 63 → length hand ≡ n → IsAtHand hand (option_map (take n) coming) → BytesRefused e n (option_map (take n) coming) old new → elements_source_names (number_format k) (number_source_names k) n coming old new e
 run_named k n coming hand old new InvalidVectorLength some small width first p = absurd (omega (arith, small, p))
 run_named k n coming hand old new (DecodingError text) some small width first p =
-    at_first k n coming old new (DecodingError text) some (record { cause = inr (inl p.1); memory = λ h. absurd cc; not_trailing = λ h. cc }) p
+    at_first k n coming old new (DecodingError text) some (record { cause = inr (inl p.1); memory = λ h. absurd cc }) p
 run_named k n None hand old new EndOfStream some small width first p =
-    at_first k n None old new EndOfStream some (record { cause = inl tt; memory = λ h. absurd cc; not_trailing = λ h. cc }) tt
+    at_first k n None old new EndOfStream some (record { cause = inl tt; memory = λ h. absurd cc }) tt
 run_named k n (Some x) hand old new EndOfStream some small width first p = absurd (omega (arith, p, width, ap length first.1, length-append hand first.0))
 run_named k n coming hand old new OutOfMemory some small width first p = inl refl
 run_named k n coming hand old new _ some small width first p = absurd p

@@ -48,7 +48,6 @@ module _ (payload : Grammar) where
       | inr out ↦ inr out
     ];
     memory = r.memory;
-    not_trailing = r.not_trailing;
   }
 
   -- ---- from a source
@@ -82,7 +81,6 @@ module _ (payload : Grammar) where
   other_tag_refused lean coming new buffer before after text width took zero one = record {
     cause = inl (none_comes_with_other_tag coming new buffer width took zero one);
     memory = λ h. absurd cc;
-    not_trailing = λ h. cc;
   }
 
   -- the payload is refused
@@ -97,7 +95,6 @@ module _ (payload : Grammar) where
       | inl not_lean ↦ inl not_lean
       | inr rose ↦ inr (rose_later start before after fell rose)
     ];
-    not_trailing = r.not_trailing;
   }
 
   pub option_given : {S : Type 0} (given : S → List ℕ → S → Type 0) (a b c : S) (buffer : List ℕ) (v : Tree) → GivesInOrder given → length buffer ≡ 1 → given a buffer b → get_or buffer 0 0 ≡ 1 → GaveSpelling given payload b c v → GaveSpelling given (option payload) a c (Join v Empty)

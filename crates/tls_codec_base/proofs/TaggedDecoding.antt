@@ -54,7 +54,6 @@ part_refuses {part} {others} {lean} {x} {e} r = record {
     | inr out ↦ inr out
   ];
   memory = r.memory;
-  not_trailing = r.not_trailing;
 }
 
 module _ {k : ℕ} {variants : Variants} (l : MeetsLaws (number_format k)) (m : MeetVariantLaws variants) where
@@ -74,7 +73,6 @@ module _ {k : ℕ} {variants : Variants} (l : MeetsLaws (number_format k)) (m : 
       | inr out ↦ inr (h ∙ out)
     ];
     memory = λ out. m.memory n (q.memory (sym h ∙ out));
-    not_trailing = λ trailing. q.not_trailing (sym h ∙ trailing);
   }
 
   -- no variant has the tag
@@ -82,7 +80,6 @@ module _ {k : ℕ} {variants : Variants} (l : MeetsLaws (number_format k)) (m : 
   tagged_refuses_unknown {x} {tag} {r} {n} p none = record {
     cause = inl (none_at_parts k variants l x tag r p (λ v rest b. m.unknown tag none Reading b.front v b.spelled));
     memory = λ h. absurd cc;
-    not_trailing = λ h. cc;
   }
 
 -- what is named behind the tag
@@ -109,7 +106,6 @@ part_leaves {S} {source} {part} {a} {b} {e} p = record {
       | inl not_lean ↦ inl (ap (λ (u : Bool). u && true) not_lean)
       | inr rose ↦ inr rose
     ];
-    not_trailing = p.refused.not_trailing;
   };
 }
 
@@ -141,7 +137,6 @@ module _ {k : ℕ} {variants : Variants} (l : MeetsLaws (number_format k)) (m : 
             | inl parts_not_lean ↦ inl (m.memory n parts_not_lean)
             | inr rose ↦ inr (rose_later (source.counts a) (source.counts b) (source.counts c) fell rose)
           ];
-          not_trailing = q.refused.not_trailing;
         };
       }
 
@@ -158,7 +153,6 @@ module _ {k : ℕ} {variants : Variants} (l : MeetsLaws (number_format k)) (m : 
     refused = record {
       cause = inl (none_comes_at_firsts k variants l (source.coming a) (source.coming b) p.front tag (from_front a p.front b p.held) p.spelled (none_comes_unknown m tag (source.coming b) none));
       memory = λ h. absurd cc;
-      not_trailing = λ h. cc;
     };
   }
 

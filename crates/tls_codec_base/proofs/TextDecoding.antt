@@ -1,10 +1,9 @@
 -- Texts, which are bytes that are UTF-8, read from a slice and from a source.
-use Rattle.std.proofs.Common.{◌≢◌, ℕ, List, Bool, false, Option, None, Some, IsUtf8, inl, inr, refl, sym, subst, ◌∙◌}
+use Rattle.std.proofs.Common.{ℕ, List, Bool, false, Option, None, Some, IsUtf8, inl, inr, refl, sym, subst, ◌∙◌}
 use Rattle.std.specs.Io.KnownBytes.{Consumes}
 use Rattle.tls_codec_wire.specs.Counts.{Counts}
 use Rattle.tls_codec_wire.specs.Device.{GivesFromFront}
 use Rattle.tls_codec_wire.specs.declared.error.Error.{Error}
-use Rattle.tls_codec_wire.specs.declared.error.Error.TheVariants.{TrailingData}
 use Rattle.tls_codec_grammar.specs.Tree.{number_trees}
 use Rattle.tls_codec_grammar.specs.Grammar.{Reading, bytes, text}
 use Rattle.tls_codec_grammar.specs.Decoding.{Begins, GaveSpelling, NoneBegins, NoneComes, Refuses, RefusesSource}
@@ -30,7 +29,6 @@ text_refuses {lean} {x} {e} r = record {
     | inr out ↦ inr out
   ];
   memory = λ h. refl;
-  not_trailing = r.not_trailing;
 }
 
 -- nor where they are no UTF-8
@@ -41,8 +39,8 @@ invalid_begins_none x p v rest b =
     let inside = number_trees_one p.content b.spelled.inside (same.1 ∙ content_bytes Reading b.spelled.inside v b.spelled.is_inside.0) in
     p.invalid (subst IsUtf8 (sym inside) b.spelled.is_inside.1)
 
-pub invalid_refuses : {x : List ℕ} {e : Error} → IsNoText x → e ≢ TrailingData → Refuses text false x e
-invalid_refuses {x} {e} p other = record { cause = inl (invalid_begins_none x p); memory = λ h. refl; not_trailing = other }
+pub invalid_refuses : {x : List ℕ} {e : Error} → IsNoText x → Refuses text false x e
+invalid_refuses {x} {e} p = record { cause = inl (invalid_begins_none x p); memory = λ h. refl }
 
 -- ---- from a source
 
@@ -60,7 +58,6 @@ text_source_refuses {coming} {old} {new} {e} r = record {
     | inr other ↦ inr other
   ];
   memory = r.memory;
-  not_trailing = r.not_trailing;
 }
 
 invalid_comes_first : (old new : Option (List ℕ)) (front c : List ℕ) → Consumes old new front → bytes Reading front (number_trees c) → (IsUtf8 c → ⊥) → NoTextComes old
@@ -77,5 +74,5 @@ invalid_comes_none : (coming : Option (List ℕ)) → NoTextComes coming → Non
 invalid_comes_none None p = tt
 invalid_comes_none (Some x) p = invalid_begins_none x p
 
-pub invalid_source_refuses : {coming : Option (List ℕ)} {old new : Counts} {e : Error} → NoTextComes coming → e ≢ TrailingData → RefusesSource text false coming old new e
-invalid_source_refuses {coming} {old} {new} {e} p other = record { cause = inl (invalid_comes_none coming p); memory = λ h. inl refl; not_trailing = other }
+pub invalid_source_refuses : {coming : Option (List ℕ)} {old new : Counts} {e : Error} → NoTextComes coming → RefusesSource text false coming old new e
+invalid_source_refuses {coming} {old} {new} {e} p = record { cause = inl (invalid_comes_none coming p); memory = λ h. inl refl }

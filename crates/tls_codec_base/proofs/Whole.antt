@@ -35,11 +35,10 @@ module _ (spells : Grammar) where
       | inr memory ↦ inr memory
     ];
     memory = r.memory;
-    trailing = λ v rest b lt. elim r.cause [
-      | inl none ↦ absurd (none v rest b)
+    trailing = λ more. elim r.cause [
+      | inl none ↦ absurd (none more.value more.rest more.begins)
       | inr memory ↦ inr memory
     ];
-    left = λ h. absurd (r.not_trailing h);
   }
 
   -- what a slice gives as a source is what it begins with
@@ -59,7 +58,6 @@ module _ (spells : Grammar) where
       | inl not_lean ↦ not_lean
       | inr rose ↦ absurd (omega (arith, rose))
     ];
-    not_trailing = r.not_trailing;
   }
 
 module _ (spells : Grammar) (f : Tree → ℕ) (l : IsLawful spells f) where
@@ -70,6 +68,5 @@ module _ (spells : Grammar) (f : Tree → ℕ) (l : IsLawful spells f) where
         let h = l.one x b.front [] rest w v p b.spelled (append-nil x ∙ b.whole) in
         omega (arith, eqb-false (length rest) 0 (sym some), ap length b.whole, ap length h.0, length-append b.front rest));
     memory = λ h. absurd cc;
-    trailing = λ w more c lt. inl refl;
-    left = λ h. (v, rest, b, omega (arith, eqb-false (length rest) 0 (sym some)));
+    trailing = λ more. inl refl;
   }

@@ -4,3 +4,4 @@ pub mod Refusals
 pub mod Runs
 pub mod TaggedNames
 pub mod OwnMessages
+pub mod Trailing

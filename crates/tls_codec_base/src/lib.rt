@@ -14,7 +14,8 @@
 //! - [`boxes`]: `Box<T>`. [`lent`]: [`Lent`], a value that is lent, for messages of one's own.
 //! - [`lists`]: the engines that every list goes through. [`vectors`]: `Vec<T>` and `&[T]`.
 //! - [`texts`]: `String` and `&str`, by [`opaque`], bytes behind their length.
-//! - [`laws`]: what is lawful if its parts are. It does nothing when it runs.
+//! - [`laws`]: what is lawful if its parts are. [`refusals`]: where `TrailingData` comes.
+//!   Both do nothing when they run.
 #![tactic(auto)]
 
 pub mod arrays;
@@ -26,6 +27,7 @@ pub mod lists;
 pub mod numbers;
 pub mod options;
 pub mod products;
+pub mod refusals;
 pub mod texts;
 pub mod traits;
 pub mod varint;

@@ -9,7 +9,7 @@ ghost use Rattle.tls_codec_grammar.specs.Format.{Format};
 ghost use Rattle.tls_codec_grammar.specs.Lawful.{MeetsLaws};
 ghost use Rattle.tls_codec_base.specs.Refusals.{elements_source_names};
 ghost use Rattle.tls_codec_base.specs.Turns.{RefusedAtOnce, TurnedAll};
-ghost use Rattle.tls_codec_grammar.specs.Decoding.{AllGiven, AllRead, Reads, ReadsWhole, Splits};
+ghost use Rattle.tls_codec_grammar.specs.Decoding.{AllGiven, AllRead, LeavesBytes, Reads, ReadsWhole, Splits};
 ghost use Rattle.tls_codec_grammar.specs.Encoding.{AllSent, AppendsForm, Makes, Writes};
 
 use crate::lists::Turns;
@@ -113,7 +113,7 @@ pub trait Deserialize: Size + Drop {
     /// [`tls_deserialize`](Deserialize::tls_deserialize).
     fn tls_deserialize_exact(alloc: Global, bytes: &[u8]) -> Result<Self, Error>
         ensures reads { ReadsWhole Self.format Self.plain bytes.now result }
-        ensures named { IfErr result (λ e. (e ≡ TrailingData) ⊎ names (Some bytes.now) no_counts no_counts e) }
+        ensures named { IfErr result (λ e. ((e ≡ TrailingData) × LeavesBytes Self.format.spells bytes.now) ⊎ names (Some bytes.now) no_counts no_counts e) }
     {
         let mut rest = bytes;
         let value = Self::tls_deserialize(alloc, &mut rest)?;
@@ -160,7 +160,7 @@ pub trait DeserializeBytes: Size + Drop {
     /// [`tls_deserialize_bytes`](DeserializeBytes::tls_deserialize_bytes).
     fn tls_deserialize_exact_bytes(alloc: Global, bytes: &[u8]) -> Result<Self, Error>
         ensures reads { ReadsWhole Self.format Self.plain bytes.now result }
-        ensures named { IfErr result (λ e. (e ≡ TrailingData) ⊎ names bytes.now e) }
+        ensures named { IfErr result (λ e. ((e ≡ TrailingData) × LeavesBytes Self.format.spells bytes.now) ⊎ names bytes.now e) }
     {
         let (value, rest) = Self::tls_deserialize_bytes(alloc, bytes)?;
         if !rest.is_empty() {

@@ -46,7 +46,6 @@ module _ {field : Field} (m : MeetsFieldLaws field) (inside : Grammar) where
       | inr out ↦ inr out
     ];
     memory = r.memory;
-    not_trailing = r.not_trailing;
   }
 
   -- ---- from a source
@@ -78,7 +77,6 @@ module _ {field : Field} (m : MeetsFieldLaws field) (inside : Grammar) where
           | inl not_lean ↦ inl not_lean
           | inr rose ↦ inr (rose_later (counts a) (counts b) after fell rose)
         ];
-        not_trailing = r.not_trailing;
       }
 
   -- ---- the field is refused

@@ -36,7 +36,7 @@ module _ {field : Field} (m : MeetsFieldLaws field) where
   none_at_cut x p = counted_none_at_inside m (content (number 1)) x p.behind p.declared p.begins.front p.begins.whole p.begins.spelled (sized_short p.declared (content (number 1)) p.behind p.short)
 
   pub cut_off_refused : {lean : Bool} {x : List ℕ} {e : Error} → IsCutOff field x → field.cut_off e → Refuses (counted_bytes_format field).spells lean x e
-  cut_off_refused {lean} {x} {e} p named = record { cause = inl (none_at_cut x p); memory = λ h. absurd ((m.cut e named).0 h); not_trailing = (m.cut e named).1 }
+  cut_off_refused {lean} {x} {e} p named = record { cause = inl (none_at_cut x p); memory = λ h. absurd ((m.cut e named).0 h) }
 
   -- ---- from a source
 
@@ -71,10 +71,10 @@ module _ {field : Field} (m : MeetsFieldLaws field) where
 
   -- and that is a refusal of the source
   pub bytes_not_read : (e : Error) (coming : Option (List ℕ)) (old new : Counts) → OpaqueSourceRefused field e coming old new → RefusesSource (counted_bytes_format field).spells false coming old new e
-  bytes_not_read (DecodingError text) coming old new p = record { cause = inr (inl p.1); memory = λ h. absurd cc; not_trailing = λ h. cc }
-  bytes_not_read OutOfMemory coming old new p = record { cause = inr (inr refl); memory = λ h. inl refl; not_trailing = λ h. cc }
-  bytes_not_read EndOfStream None old new p = record { cause = inl tt; memory = λ h. absurd cc; not_trailing = λ h. cc }
-  bytes_not_read EndOfStream (Some x) old new p = record { cause = inl (none_at_end x p); memory = λ h. absurd cc; not_trailing = λ h. cc }
+  bytes_not_read (DecodingError text) coming old new p = record { cause = inr (inl p.1); memory = λ h. absurd cc }
+  bytes_not_read OutOfMemory coming old new p = record { cause = inr (inr refl); memory = λ h. inl refl }
+  bytes_not_read EndOfStream None old new p = record { cause = inl tt; memory = λ h. absurd cc }
+  bytes_not_read EndOfStream (Some x) old new p = record { cause = inl (none_at_end x p); memory = λ h. absurd cc }
     where
       none_at_end : (x : List ℕ) → EndsWithin field (Some x) → NoneBegins (counted_bytes_format field).spells x
       none_at_end x (inl early) = counted_none_at_count m (content (number 1)) x (m.none x EndOfStream early)

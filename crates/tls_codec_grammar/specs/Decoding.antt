@@ -1,5 +1,5 @@
 -- What decoders return.
-use Rattle.std.specs.Prelude.{◌≡◌, ◌≢◌, ◌<◌, ◌⊎◌, ℕ, List, ◌++◌, length, Bool, false, Option, None, Some, Result, Ok, Err, Vec, ⊤}
+use Rattle.std.specs.Prelude.{◌≡◌, ◌<◌, ◌⊎◌, ℕ, List, ◌++◌, length, Bool, false, Option, None, Some, Result, Ok, Err, Vec, ⊤}
 use Rattle.std.specs.Global.{Global}
 use Rattle.tls_codec_wire.specs.Counts.{Counts, FaultIsCounted, RoseBy}
 use Rattle.std.specs.Borrow.{Bor}
@@ -25,12 +25,10 @@ pub record Begins (spells : Grammar) (x : List ℕ) (v : Tree) (rest : List ℕ)
 abbrev pub NoneBegins : Grammar → List ℕ → Type 0
 NoneBegins spells x = (v : Tree) (rest : List ℕ) → Begins spells x v rest → ⊥
 
--- why x is refused: no prefix of it is a spelling, or there was no memory, for which a lean type never asks. That bytes
--- are left behind a spelling is no cause.
+-- why x is refused: no prefix of it is a spelling, or there was no memory, for which a lean type never asks
 pub record Refuses (spells : Grammar) (lean : Bool) (x : List ℕ) (e : Error) : Type 0 where
   pub cause : NoneBegins spells x ⊎ (e ≡ OutOfMemory)
   pub memory : e ≡ OutOfMemory → lean ≡ false
-  pub not_trailing : e ≢ TrailingData
 
 -- ---- all of a slice
 
@@ -38,13 +36,19 @@ pub record Refuses (spells : Grammar) (lean : Bool) (x : List ℕ) (e : Error) :
 abbrev pub NoneSpelled : Grammar → List ℕ → Type 0
 NoneSpelled spells x = (v : Tree) → spells Reading x v → ⊥
 
+-- a proper prefix of x is a spelling
+pub record LeavesBytes (spells : Grammar) (x : List ℕ) : Type 0 where
+  pub value : Tree
+  pub rest : List ℕ
+  pub begins : Begins spells x value rest
+  pub some : 0 < length rest
+
 -- why x is refused as a whole: it is no spelling, or there was no memory, for which a lean type never asks. Where a
--- spelling is followed by a byte more, and nowhere else, that is what is returned, or that there was no memory.
+-- proper prefix of it is a spelling, that is what is returned, or that there was no memory.
 pub record RefusesWhole (spells : Grammar) (lean : Bool) (x : List ℕ) (e : Error) : Type 0 where
   pub cause : NoneSpelled spells x ⊎ (e ≡ OutOfMemory)
   pub memory : e ≡ OutOfMemory → lean ≡ false
-  pub trailing : (v : Tree) (rest : List ℕ) → Begins spells x v rest → 0 < length rest → (e ≡ TrailingData) ⊎ (e ≡ OutOfMemory)
-  pub left : e ≡ TrailingData → (v : Tree) × (rest : List ℕ) × Begins spells x v rest × (0 < length rest)
+  pub trailing : LeavesBytes spells x → (e ≡ TrailingData) ⊎ (e ≡ OutOfMemory)
 
 -- ---- from a source
 
@@ -70,7 +74,6 @@ NoneComes spells (Some x) = NoneBegins spells x
 pub record RefusesSource (spells : Grammar) (lean : Bool) (coming : Option (List ℕ)) (old new : Counts) (e : Error) : Type 0 where
   pub cause : NoneComes spells coming ⊎ (FaultIsCounted old new ⊎ (e ≡ OutOfMemory))
   pub memory : e ≡ OutOfMemory → (lean ≡ false) ⊎ RoseBy 1 old.shortages new.shortages
-  pub not_trailing : e ≢ TrailingData
 
 -- ---- the decoders, by what they return
 

@@ -23,7 +23,6 @@ returns-then-limit-before-clause-reads g c =
       refused = record {
         cause = inl (none_if_empty_source _ _ g.met.T.Size.lawful.spelled _ _ source.gives_from_front _ _ _ _ _ _ c.elements.invariant.read (omega (arith, c.limit.ensures)) element (omega (arith, c.limit-before.ensures, c.limit-in-elements.ensures, c.if-limit-before.true)));
         memory = λ h. inl refl;
-        not_trailing = λ h. cc;
       };
     }
 
@@ -32,7 +31,7 @@ returns-then-is_err-clause-reads g c =
     let element = c.in_ok-element.ensures.reads in
     record {
       gave = gave_attempt _ _ g.met.R.Source.gives_in_order _ _ _ _ _ c.elements.invariant.read (record { bytes = element.front; held = element.held });
-      refused = record { cause = inr (inr refl); memory = λ h. inl refl; not_trailing = λ h. cc };
+      refused = record { cause = inr (inr refl); memory = λ h. inl refl };
     }
 
 pub elements-preserved : goal.elements-preserved

@@ -23,14 +23,12 @@ pub returns-then-taken-eq0-clause-splits : goal.returns-then-taken-eq0-clause-sp
 returns-then-taken-eq0-clause-splits g c = record {
   cause = inl (none_if_empty _ _ g.met.T.Size.lawful.spelled _ _ _ _ _ _ _ c.loop-left.invariant.read (omega arith) c.in_ok-element.ensures.splits c.if-taken-eq0.true);
   memory = λ h. refl;
-  not_trailing = λ h. cc;
 }
 
 pub returns-then-taken-left-clause-splits : goal.returns-then-taken-left-clause-splits
 returns-then-taken-left-clause-splits g c = record {
   cause = inl (none_if_long _ _ g.met.T.Size.lawful.spelled _ _ _ _ _ _ _ c.loop-left.invariant.read (omega arith) c.in_ok-element.ensures.splits (omega arith));
   memory = λ h. refl;
-  not_trailing = λ h. cc;
 }
 
 pub loop-left-preserved : goal.loop-left-preserved

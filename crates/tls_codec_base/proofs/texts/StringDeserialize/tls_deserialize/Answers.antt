@@ -22,7 +22,7 @@ returns-in-Ok-clause-reads g c =
 pub returns-clause-reads : goal.returns-clause-reads
 returns-clause-reads g c =
     let read = c.in_ok-content.ensures.reads in
-    record { gave = record { bytes = read.front; held = read.held }; refused = invalid_source_refuses (invalid_comes _ g.met.R.Source.gives_from_front c.in_ok-content.ensures.reads (λ valid. let ok = c.in-Err.ensures.succeeds valid in absurd cc)) (λ h. cc) }
+    record { gave = record { bytes = read.front; held = read.held }; refused = invalid_source_refuses (invalid_comes _ g.met.R.Source.gives_from_front c.in_ok-content.ensures.reads (λ valid. let ok = c.in-Err.ensures.succeeds valid in absurd cc)) }
 
 pub returns-clause-named : goal.returns-clause-named
 returns-clause-named g c =

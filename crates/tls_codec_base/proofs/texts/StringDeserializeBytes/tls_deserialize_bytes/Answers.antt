@@ -15,7 +15,7 @@ returns-in_err-content-clause-named c =
 
 pub returns-in_default-clause-splits : goal.returns-in_default-clause-splits
 returns-in_default-clause-splits c =
-    invalid_refuses (record { content = _; rest = _; begins = c.in_ok-content.ensures.splits; invalid = c.in_default.ensures.cases.0 }) (λ h. cc)
+    invalid_refuses (record { content = _; rest = _; begins = c.in_ok-content.ensures.splits; invalid = c.in_default.ensures.cases.0 })
 
 pub returns-clause-splits : goal.returns-clause-splits
 returns-clause-splits c =

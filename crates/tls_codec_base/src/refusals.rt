@@ -1,0 +1,60 @@
+//! `TrailingData` is returned by the exact forms alone: no decoder of the types here does.
+//!
+//! The functions do nothing. Their contracts state the laws, and so are proved.
+ghost use Rattle.std.specs.Prelude.{◌≡◌, ◌⊎◌};
+ghost use Rattle.tls_codec_wire.specs.declared.error.Error.TheVariants.{OutOfMemory};
+ghost use Rattle.tls_codec_grammar.specs.Opaque.{OpaqueRefused, OpaqueSourceRefused};
+ghost use Rattle.tls_codec_base.specs.Refusals.{counted_list_names, counted_list_source_names};
+ghost use Rattle.tls_codec_base.specs.Trailing.{NeverTrailing, SourceNeverTrailing};
+
+use crate::traits::{Deserialize, DeserializeBytes};
+use tls_codec_grammar::LengthField;
+use tls_codec_wire::{TlsVarInt, U24};
+
+/// No decoder of a type without parts returns `TrailingData`.
+pub fn single_values_are_never_trailing<const LEN: usize>()
+    ensures numbers { NeverTrailing ⟦<u8 as DeserializeBytes>⟧.names × NeverTrailing ⟦<u16 as DeserializeBytes>⟧.names
+        × NeverTrailing ⟦<U24 as DeserializeBytes>⟧.names × NeverTrailing ⟦<u32 as DeserializeBytes>⟧.names
+        × NeverTrailing ⟦<u64 as DeserializeBytes>⟧.names × NeverTrailing ⟦<TlsVarInt as DeserializeBytes>⟧.names }
+    ensures numbers_read { SourceNeverTrailing ⟦<u8 as Deserialize>⟧.names × SourceNeverTrailing ⟦<u16 as Deserialize>⟧.names
+        × SourceNeverTrailing ⟦<U24 as Deserialize>⟧.names × SourceNeverTrailing ⟦<u32 as Deserialize>⟧.names
+        × SourceNeverTrailing ⟦<u64 as Deserialize>⟧.names × SourceNeverTrailing ⟦<TlsVarInt as Deserialize>⟧.names }
+    ensures others { NeverTrailing ⟦<[u8; LEN] as DeserializeBytes>⟧.names × NeverTrailing ⟦<String as DeserializeBytes>⟧.names
+        × NeverTrailing ⟦<() as DeserializeBytes>⟧.names }
+    ensures others_read { SourceNeverTrailing ⟦<[u8; LEN] as Deserialize>⟧.names × SourceNeverTrailing ⟦<String as Deserialize>⟧.names
+        × SourceNeverTrailing ⟦<() as Deserialize>⟧.names }
+{}
+
+/// Nor does one of bytes behind a length, whatever its field.
+pub fn bytes_are_never_trailing<F: LengthField>()
+    ensures bytes { NeverTrailing (λ x e. (e ≡ OutOfMemory) ⊎ OpaqueRefused F.field e x) }
+    ensures read { SourceNeverTrailing (λ coming old new e. OpaqueSourceRefused F.field e coming old new) }
+{}
+
+/// Nor does one from a slice of an option, a product, a box or a list, if none of its parts does.
+pub fn parts_are_never_trailing<
+    F: LengthField,
+    T: DeserializeBytes,
+    U: DeserializeBytes,
+    V: DeserializeBytes,
+>()
+    ensures boxes { NeverTrailing T.names → NeverTrailing ⟦<Box<T> as DeserializeBytes>⟧.names }
+    ensures options { NeverTrailing T.names → NeverTrailing ⟦<Option<T> as DeserializeBytes>⟧.names }
+    ensures pairs { NeverTrailing T.names → NeverTrailing U.names → NeverTrailing ⟦<(T, U) as DeserializeBytes>⟧.names }
+    ensures triples { NeverTrailing T.names → NeverTrailing U.names → NeverTrailing V.names → NeverTrailing ⟦<(T, U, V) as DeserializeBytes>⟧.names }
+    ensures lists { NeverTrailing T.names → NeverTrailing (counted_list_names F.field T.format T.names) }
+{}
+
+/// Nor does one from a source.
+pub fn parts_read_are_never_trailing<
+    F: LengthField,
+    T: Deserialize,
+    U: Deserialize,
+    V: Deserialize,
+>()
+    ensures boxes { SourceNeverTrailing T.names → SourceNeverTrailing ⟦<Box<T> as Deserialize>⟧.names }
+    ensures options { SourceNeverTrailing T.names → SourceNeverTrailing ⟦<Option<T> as Deserialize>⟧.names }
+    ensures pairs { SourceNeverTrailing T.names → SourceNeverTrailing U.names → SourceNeverTrailing ⟦<(T, U) as Deserialize>⟧.names }
+    ensures triples { SourceNeverTrailing T.names → SourceNeverTrailing U.names → SourceNeverTrailing V.names → SourceNeverTrailing ⟦<(T, U, V) as Deserialize>⟧.names }
+    ensures lists { SourceNeverTrailing T.names → SourceNeverTrailing (counted_list_source_names F.field T.format T.names) }
+{}
