@@ -13,11 +13,12 @@
 //!   [`SecretTlsVecU8`] and siblings, and [`Zeroize`].
 //! - [`vlen`]: lengths as variable-length integers. [`lists`]: the engines that every list goes through.
 //! - [`Lent`]: a value that is lent, by which messages of one's own are written.
-//! - [`laws`]: what holds of the spellings of every type with the traits.
+//! - [`laws`]: what holds of the spellings of every type with the traits. [`refusals`]: where two errors come.
 #![tactic(auto)]
 
 pub use tls_codec_base::{
     Deserialize, DeserializeBytes, LengthField, Lent, Serialize, SerializeBytes, Size, laws, lists,
+    refusals,
 };
 pub use tls_codec_bytes::{TlsByteVec, TlsByteVecU8, TlsByteVecU16, TlsByteVecU24, TlsByteVecU32};
 pub use tls_codec_secret::{

@@ -7,7 +7,7 @@ use Rattle.tls_codec_wire.specs.declared.error.Error.TheVariants.{OutOfMemory, T
 use Rattle.tls_codec_grammar.specs.Field.{Field}
 use Rattle.tls_codec_grammar.specs.Format.{Format}
 use Rattle.tls_codec_grammar.specs.Lawful.{MeetsFieldLaws}
-use Rattle.tls_codec_grammar.specs.Opaque.{OpaqueRefused, OpaqueSourceRefused, TextRefused, TextSourceRefused}
+use Rattle.tls_codec_grammar.specs.Opaque.{OpaqueCopyRefused, OpaqueRefused, OpaqueSourceRefused, TextRefused, TextSourceRefused}
 use Rattle.tls_codec_grammar.specs.laws.FormatLaws.{variable_field_meets}
 use Rattle.tls_codec_base.specs.Refusals.{SliceNames, SourceNames, counted_list_names, counted_list_source_names, element_names, element_source_names, elements_names, elements_source_names, fields_names, fields_source_names, option_names, option_source_names}
 use Rattle.tls_codec_base.specs.Trailing.{NeverTrailing, SourceNeverTrailing}
@@ -44,12 +44,12 @@ bytes_never : {field : Field} → MeetsFieldLaws field → NeverTrailing (λ x e
 bytes_never m x (inl p) = (m.named x TrailingData p).1 refl
 bytes_never m x (inr p) = (m.cut TrailingData p.0).1 refl
 
-pub copy_never : {field : Field} → MeetsFieldLaws field → NeverTrailing (λ x e. (e ≡ OutOfMemory) ⊎ OpaqueRefused field e x)
-copy_never m x (inl p) = cc
+pub copy_never : {field : Field} → MeetsFieldLaws field → NeverTrailing (λ x e. OpaqueCopyRefused field e x)
+copy_never m x (inl p) = let h = p.0 in cc
 copy_never m x (inr p) = bytes_never m x p
 
 pub text_never : NeverTrailing (λ x e. TextRefused e x)
-text_never x (inl p) = cc
+text_never x (inl p) = let h = p.0 in cc
 text_never x (inr (inl p)) = bytes_never variable_field_meets x p
 text_never x (inr (inr p)) = p.0
 

@@ -2,9 +2,10 @@
 //!
 //! `Vec<T>`, `&[T]` and each family of vectors go through the calls here, which know of an element and
 //! of a length field their traits' contracts alone.
-ghost use Rattle.std.specs.Prelude.{◌≡◌, ◌≤◌, ◌⊎◌, length, take, IfErr, IfOk};
-ghost use Rattle.tls_codec_wire.specs.declared.error.Error.TheVariants.{InvalidVectorLength};
+ghost use Rattle.std.specs.Prelude.{◌≡◌, ◌≤◌, ◌⊎◌, ◌^◌, length, take, IfErr, IfOk, IsErrAnd};
+ghost use Rattle.tls_codec_wire.specs.declared.error.Error.TheVariants.{InvalidVectorLength, OutOfMemory};
 ghost use Rattle.tls_codec_grammar.specs.Tree.{trees};
+ghost use Rattle.tls_codec_grammar.specs.Announced.{content_sum};
 ghost use Rattle.tls_codec_grammar.specs.Field.{IsSafeGap};
 ghost use Rattle.tls_codec_grammar.specs.Format.{counted_list_format};
 ghost use Rattle.tls_codec_grammar.specs.Decoding.{Reads, Splits};
@@ -57,26 +58,27 @@ pub fn write<F: LengthField, T: Serialize, W: Sink>(
 /// Appends a list's shortest form to a vector, and returns how many bytes that is.
 ///
 /// `InvalidVectorLength`: the elements have more bytes than the greatest length, or the vector would
-/// pass `isize::MAX` bytes. Every other refusal is an element's, or `OutOfMemory`. After a refusal the
-/// vector's bytes are those from before.
+/// pass `isize::MAX` bytes. Every other refusal is an element's, or `OutOfMemory`. No announced length is
+/// asked for. After a refusal the vector's bytes are those from before.
 pub fn append<F: LengthField, T: Serialize>(
     out: &mut Vec<u8>,
     elements: &[T],
 ) -> Result<usize, Error>
     ensures appends { AppendsForm (counted_list_format F.field T.format) (trees T.plain elements.now) out.old.items out.new.items result }
-    ensures too_long { (counted_list_format F.field T.format).too_long (trees T.plain elements.now) → result ≡ Err InvalidVectorLength }
+    ensures too_long { (counted_list_format F.field T.format).too_long (trees T.plain elements.now)
+        → IsErrAnd result (λ e. (e ≡ OutOfMemory) ⊎ (counted_list_format F.field T.format).refuses (trees T.plain elements.now) e) }
 {
     let at = out.len();
     match append_behind_gap::<F, T>(out, elements) {
         Ok(length) => Ok(length),
         Err(error) => {
             out.truncate(at);
-            Err(first_refusal::<F, T>(elements, error))
+            Err(error)
         }
     }
 }
 
-// The same, but that bytes stay behind those from before after a refusal, which is that of a part.
+// The same, but that bytes stay behind those from before after a refusal.
 fn append_behind_gap<F: LengthField, T: Serialize>(
     out: &mut Vec<u8>,
     elements: &[T],
@@ -86,7 +88,7 @@ fn append_behind_gap<F: LengthField, T: Serialize>(
 {
     let at = out.len();
     let gap = likely_width::<F, T>(at, elements.len());
-    open_gap(out, gap, room_for::<T>(at, elements.len()))?;
+    open_gap(out, gap, room_for(at, elements))?;
     lists::append(out, elements)?;
     fill_gap::<F>(out, at, gap)?;
     Ok(out.len() - at)
@@ -100,24 +102,12 @@ pub fn to_vec<F: LengthField, T: SerializeBytes>(
     elements: &[T],
 ) -> Result<Vec<u8>, Error>
     ensures makes { Makes (counted_list_format F.field T.format) (trees T.plain elements.now) result }
-    ensures too_long { (counted_list_format F.field T.format).too_long (trees T.plain elements.now) → result ≡ Err InvalidVectorLength }
-{
-    match behind_gap::<F, T>(alloc, elements) {
-        Ok(bytes) => Ok(bytes),
-        Err(error) => Err(first_refusal::<F, T>(elements, error)),
-    }
-}
-
-// The same, but that a refusal is that of a part.
-fn behind_gap<F: LengthField, T: SerializeBytes>(
-    alloc: Global,
-    elements: &[T],
-) -> Result<Vec<u8>, Error>
-    ensures { Makes (counted_list_format F.field T.format) (trees T.plain elements.now) result }
+    ensures too_long { (counted_list_format F.field T.format).too_long (trees T.plain elements.now)
+        → IsErrAnd result (λ e. (e ≡ OutOfMemory) ⊎ (counted_list_format F.field T.format).refuses (trees T.plain elements.now) e) }
 {
     let mut bytes = Vec::new(alloc);
     let gap = likely_width::<F, T>(0, elements.len());
-    open_gap(&mut bytes, gap, room_for::<T>(0, elements.len()))?;
+    open_gap(&mut bytes, gap, room_for(0, elements))?;
     lists::append_bytes(alloc, &mut bytes, elements)?;
     fill_gap::<F>(&mut bytes, 0, gap)?;
     Ok(bytes)
@@ -143,27 +133,17 @@ fn likely_width<F: LengthField, T: Size>(at: usize, count: usize) -> usize
     width.min(8)
 }
 
-// How much room is asked for at once for so many elements, behind so many bytes.
-fn room_for<T: Size>(at: usize, count: usize) -> usize {
+// How much room is asked for at once for these elements, behind so many bytes: just as much as they have,
+// or a guess that is never large.
+fn room_for<T: Size>(at: usize, elements: &[T]) -> usize
+    ensures { (result ≤ 2 ^ 16) ⊎ (result ≤ content_sum T.format.announced (trees T.plain elements.now)) }
+{
+    let count = elements.len();
     match T::tls_fixed_len() {
         Some(each) => count.saturating_mul(each),
         None if at == 0 => count.saturating_mul(LIKELY_LENGTH).min(MOST_ROOM),
         None => count.min(MOST_ROOM),
     }
-}
-
-// Why a list is refused: the sum of the announced lengths passes the greatest length, and else this.
-fn first_refusal<F: LengthField, T: Size>(elements: &[T], error: Error) -> Error
-    ensures either { (result ≡ error) ⊎ ((result ≡ InvalidVectorLength) × (counted_list_format F.field T.format).too_long (trees T.plain elements.now)) }
-    ensures too_long { (counted_list_format F.field T.format).too_long (trees T.plain elements.now) → result ≡ InvalidVectorLength }
-{
-    let Ok(length) = content_len(elements) else {
-        return Error::InvalidVectorLength;
-    };
-    if F::form(length).is_none() {
-        return Error::InvalidVectorLength;
-    }
-    error
 }
 
 /// The list that the bytes to come spell. Just its spelling is taken.

@@ -14,8 +14,8 @@
 //! - [`boxes`]: `Box<T>`. [`lent`]: [`Lent`], a value that is lent, for messages of one's own.
 //! - [`lists`]: the engines that every list goes through. [`vectors`]: `Vec<T>` and `&[T]`.
 //! - [`texts`]: `String` and `&str`, by [`opaque`], bytes behind their length.
-//! - [`laws`]: what is lawful if its parts are. [`refusals`]: where `TrailingData` comes.
-//!   Both do nothing when they run.
+//! - [`laws`]: what is lawful if its parts are. [`refusals`]: where `TrailingData` and `InvalidVectorLength`
+//!   come. Both do nothing when they run.
 #![tactic(auto)]
 
 pub mod arrays;

@@ -1,13 +1,21 @@
-//! `TrailingData` is returned by the exact forms alone: no decoder of the types here does.
+//! Where two errors come: `TrailingData` from the exact forms alone, for no decoder of the types here returns
+//! it; and `InvalidVectorLength` where the shortest forms of elements together pass their length field.
 //!
 //! The functions do nothing. Their contracts state the laws, and so are proved.
-ghost use Rattle.std.specs.Prelude.{◌≡◌, ◌⊎◌};
-ghost use Rattle.tls_codec_wire.specs.declared.error.Error.TheVariants.{OutOfMemory};
-ghost use Rattle.tls_codec_grammar.specs.Opaque.{OpaqueRefused, OpaqueSourceRefused};
+ghost use Rattle.std.specs.Prelude.{◌≡◌, ◌≤◌, ◌⊎◌, ℕ, List, length, IsErrAnd, Result, Vec};
+ghost use Rattle.std.specs.Global.{Global};
+ghost use Rattle.tls_codec_wire.specs.declared.error.Error.{Error};
+ghost use Rattle.tls_codec_wire.specs.declared.error.Error.TheVariants.{InvalidVectorLength, OutOfMemory};
+ghost use Rattle.tls_codec_grammar.specs.Tree.{Tree};
+ghost use Rattle.tls_codec_grammar.specs.Grammar.{content};
+ghost use Rattle.tls_codec_grammar.specs.Shortest.{IsShortest};
+ghost use Rattle.tls_codec_grammar.specs.Format.{counted_list_format};
+ghost use Rattle.tls_codec_grammar.specs.Encoding.{AppendsForm, Makes};
+ghost use Rattle.tls_codec_grammar.specs.Opaque.{OpaqueCopyRefused, OpaqueSourceRefused};
 ghost use Rattle.tls_codec_base.specs.Refusals.{counted_list_names, counted_list_source_names};
 ghost use Rattle.tls_codec_base.specs.Trailing.{NeverTrailing, SourceNeverTrailing};
 
-use crate::traits::{Deserialize, DeserializeBytes};
+use crate::traits::{Deserialize, DeserializeBytes, Size};
 use tls_codec_grammar::LengthField;
 use tls_codec_wire::{TlsVarInt, U24};
 
@@ -27,7 +35,7 @@ pub fn single_values_are_never_trailing<const LEN: usize>()
 
 /// Nor does one of bytes behind a length, whatever its field.
 pub fn bytes_are_never_trailing<F: LengthField>()
-    ensures bytes { NeverTrailing (λ x e. (e ≡ OutOfMemory) ⊎ OpaqueRefused F.field e x) }
+    ensures bytes { NeverTrailing (λ x e. OpaqueCopyRefused F.field e x) }
     ensures read { SourceNeverTrailing (λ coming old new e. OpaqueSourceRefused F.field e coming old new) }
 {}
 
@@ -57,4 +65,15 @@ pub fn parts_read_are_never_trailing<
     ensures pairs { SourceNeverTrailing T.names → SourceNeverTrailing U.names → SourceNeverTrailing ⟦<(T, U) as Deserialize>⟧.names }
     ensures triples { SourceNeverTrailing T.names → SourceNeverTrailing U.names → SourceNeverTrailing V.names → SourceNeverTrailing ⟦<(T, U, V) as Deserialize>⟧.names }
     ensures lists { SourceNeverTrailing T.names → SourceNeverTrailing (counted_list_source_names F.field T.format T.names) }
+{}
+
+/// Where the elements of a list all have shortest forms that together pass its length field, encoders to memory
+/// refuse the list as `InvalidVectorLength`, or for want of memory.
+pub fn long_contents_are_refused<F: LengthField, T: Size>()
+    ensures appended { (form : List ℕ) (v : Tree) (old new : List ℕ) (result : Result ℕ Error)
+        → IsShortest (content T.format.spells) form v → F.field.limit ≤ length form → AppendsForm (counted_list_format F.field T.format) v old new result
+        → IsErrAnd result (λ e. (e ≡ InvalidVectorLength) ⊎ (e ≡ OutOfMemory)) }
+    ensures made { (form : List ℕ) (v : Tree) (result : Result (Vec ℕ Global) Error)
+        → IsShortest (content T.format.spells) form v → F.field.limit ≤ length form → Makes (counted_list_format F.field T.format) v result
+        → IsErrAnd result (λ e. (e ≡ InvalidVectorLength) ⊎ (e ≡ OutOfMemory)) }
 {}

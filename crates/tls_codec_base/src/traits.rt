@@ -1,9 +1,9 @@
 //! The five traits of a type with a spelling, and their contracts.
-ghost use Rattle.std.specs.Prelude.{◌≡◌, ◌⊎◌, List, Option, Some, ℕ, IfErr, IfSome};
+ghost use Rattle.std.specs.Prelude.{◌≡◌, ◌⊎◌, List, Option, Some, ℕ, IfErr, IfSome, IsErrAnd};
 ghost use Rattle.tls_codec_wire.specs.Bounded.{BorrowAlike, inner_of, limit_of};
 ghost use Rattle.tls_codec_wire.specs.Counts.{Counts, no_counts};
 ghost use Rattle.tls_codec_wire.specs.declared.error.Error.{Error};
-ghost use Rattle.tls_codec_wire.specs.declared.error.Error.TheVariants.{InvalidVectorLength, TrailingData};
+ghost use Rattle.tls_codec_wire.specs.declared.error.Error.TheVariants.{InvalidVectorLength, OutOfMemory, TrailingData};
 ghost use Rattle.tls_codec_grammar.specs.Tree.{Tree, trees};
 ghost use Rattle.tls_codec_grammar.specs.Format.{Format};
 ghost use Rattle.tls_codec_grammar.specs.Lawful.{MeetsLaws};
@@ -66,7 +66,8 @@ pub trait Serialize: Size {
     /// refusal the vector's bytes are those from before.
     fn tls_serialize_into(&self, out: &mut Vec<u8>) -> Result<usize, Error>
         ensures appends { AppendsForm Self.format (Self.plain self.now) out.old.items out.new.items result }
-        ensures too_long { Self.format.too_long (Self.plain self.now) → result ≡ Err InvalidVectorLength }
+        ensures too_long { Self.format.too_long (Self.plain self.now)
+            → IsErrAnd result (λ e. (e ≡ OutOfMemory) ⊎ Self.format.refuses (Self.plain self.now) e) }
     {
         let at = out.len();
         match self.tls_serialize(out) {
@@ -81,7 +82,8 @@ pub trait Serialize: Size {
     /// The value's shortest form.
     fn tls_serialize_detached(&self, alloc: Global) -> Result<Vec<u8>, Error>
         ensures makes { Makes Self.format (Self.plain self.now) result }
-        ensures too_long { Self.format.too_long (Self.plain self.now) → result ≡ Err InvalidVectorLength }
+        ensures too_long { Self.format.too_long (Self.plain self.now)
+            → IsErrAnd result (λ e. (e ≡ OutOfMemory) ⊎ Self.format.refuses (Self.plain self.now) e) }
     {
         let mut bytes = Vec::new(alloc);
         self.tls_serialize_into(&mut bytes)?;
@@ -94,7 +96,8 @@ pub trait SerializeBytes: Size {
     /// The value's shortest form.
     fn tls_serialize_bytes(&self, alloc: Global) -> Result<Vec<u8>, Error>
         ensures makes { Makes Self.format (Self.plain self.now) result }
-        ensures too_long { Self.format.too_long (Self.plain self.now) → result ≡ Err InvalidVectorLength };
+        ensures too_long { Self.format.too_long (Self.plain self.now)
+            → IsErrAnd result (λ e. (e ≡ OutOfMemory) ⊎ Self.format.refuses (Self.plain self.now) e) };
 }
 
 /// A type that is read from a source.
@@ -113,7 +116,8 @@ pub trait Deserialize: Size + Drop {
     /// [`tls_deserialize`](Deserialize::tls_deserialize).
     fn tls_deserialize_exact(alloc: Global, bytes: &[u8]) -> Result<Self, Error>
         ensures reads { ReadsWhole Self.format Self.plain bytes.now result }
-        ensures named { IfErr result (λ e. ((e ≡ TrailingData) × LeavesBytes Self.format.spells bytes.now) ⊎ names (Some bytes.now) no_counts no_counts e) }
+        ensures named { IfErr result (λ e. ((e ≡ TrailingData) × LeavesBytes Self.format.spells bytes.now)
+            ⊎ names (Some bytes.now) no_counts no_counts e) }
     {
         let mut rest = bytes;
         let value = Self::tls_deserialize(alloc, &mut rest)?;
@@ -160,7 +164,8 @@ pub trait DeserializeBytes: Size + Drop {
     /// [`tls_deserialize_bytes`](DeserializeBytes::tls_deserialize_bytes).
     fn tls_deserialize_exact_bytes(alloc: Global, bytes: &[u8]) -> Result<Self, Error>
         ensures reads { ReadsWhole Self.format Self.plain bytes.now result }
-        ensures named { IfErr result (λ e. ((e ≡ TrailingData) × LeavesBytes Self.format.spells bytes.now) ⊎ names bytes.now e) }
+        ensures named { IfErr result (λ e. ((e ≡ TrailingData) × LeavesBytes Self.format.spells bytes.now)
+            ⊎ names bytes.now e) }
     {
         let (value, rest) = Self::tls_deserialize_bytes(alloc, bytes)?;
         if !rest.is_empty() {

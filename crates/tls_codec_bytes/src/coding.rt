@@ -1,10 +1,8 @@
 //! How byte vectors are written and read.
-ghost use Rattle.std.specs.Prelude.{◌≡◌, ◌⊎◌};
-ghost use Rattle.tls_codec_wire.specs.declared.error.Error.TheVariants.{OutOfMemory};
 ghost use Rattle.tls_codec_grammar.specs.Tree.{number_trees};
 ghost use Rattle.tls_codec_grammar.specs.Format.{counted_bytes_format};
 ghost use Rattle.tls_codec_grammar.specs.laws.FormatLaws.{counted_bytes_meets};
-ghost use Rattle.tls_codec_grammar.specs.Opaque.{OpaqueRefused, OpaqueSourceRefused};
+ghost use Rattle.tls_codec_grammar.specs.Opaque.{OpaqueCopyRefused, OpaqueSourceRefused};
 ghost use Rattle.tls_codec_bytes.specs.Contents.{bytes_of};
 
 use crate::TlsByteVec;
@@ -58,7 +56,7 @@ impl<F: LengthField> Deserialize for TlsByteVec<F> {
 }
 
 impl<F: LengthField> DeserializeBytes for TlsByteVec<F> {
-    ghost names = { λ x e. (e ≡ OutOfMemory) ⊎ OpaqueRefused F.field e x };
+    ghost names = { λ x e. OpaqueCopyRefused F.field e x };
 
     /// `EndOfStream`: there is no whole length, or behind one of one to four bytes there are fewer
     /// bytes than it declares.

@@ -80,14 +80,11 @@ empty_refused h p = record {
 pub too_long_no_form : {f : Format} {v : Tree} {form : List ℕ} → MeetsLaws f → f.too_long v → IsShortest f.spells form v → ⊥
 too_long_no_form {f} {v} {form} l long p = l.unspelled v InvalidVectorLength (l.long v long) form p.spelled
 
--- where a refusal names what it is named for, or that the value is too long, it is one of the format
-pub either_not_appended : {f : Format} {v : Tree} {a b d : List ℕ} {e refused : Error} → MeetsLaws f → AppendRefused f v a b e → d ≡ b → (refused ≡ e) ⊎ ((refused ≡ InvalidVectorLength) × f.too_long v) → AppendRefused f v a d refused
-either_not_appended {f} {v} {a} {b} {d} l p same (inl e) = record { kept = same ∙ p.kept; cause = subst (λ (u : Error). (u ≡ OutOfMemory) ⊎ (f.refuses v u ⊎ ((u ≡ InvalidVectorLength) × PassesVectorBehind (length a) f.spells v))) (sym e) p.cause }
-either_not_appended {f} {v} {a} {b} {d} l p same (inr long) = record { kept = same ∙ p.kept; cause = inr (inl (subst (f.refuses v) (sym long.0) (l.long v long.1))) }
-
-pub either_no_vector : {f : Format} {v : Tree} {e refused : Error} → MeetsLaws f → RefusesVector f v e → (refused ≡ e) ⊎ ((refused ≡ InvalidVectorLength) × f.too_long v) → RefusesVector f v refused
-either_no_vector {f} {v} l p (inl same) = subst (RefusesVector f v) (sym same) p
-either_no_vector {f} {v} l p (inr long) = record { cause = inr (inl (subst (f.refuses v) (sym long.0) (l.long v long.1))) }
+-- and is refused for want of memory, or by a name of the format
+pub long_refused : {f : Format} {v : Tree} {e : Error} {Passes : Type 0} → MeetsLaws f → f.too_long v → (e ≡ OutOfMemory) ⊎ (f.refuses v e ⊎ ((e ≡ InvalidVectorLength) × Passes)) → (e ≡ OutOfMemory) ⊎ f.refuses v e
+long_refused l long (inl memory) = inl memory
+long_refused l long (inr (inl named)) = inr named
+long_refused {f} {v} l long (inr (inr passes)) = inr (subst (f.refuses v) (sym passes.0) (l.long v long))
 
 module _ {field : Field} (m : MeetsFieldLaws field) {inside : Format} (l : MeetsLawsInside inside) where
   module _ {sum : Tree → ℕ} {v : Tree} where

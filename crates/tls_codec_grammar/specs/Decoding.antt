@@ -21,6 +21,12 @@ pub record Begins (spells : Grammar) (x : List ℕ) (v : Tree) (rest : List ℕ)
   pub whole : x ≡ front ++ rest
   pub spelled : spells Reading front v
 
+-- a prefix of x is a spelling
+pub record BeginsSome (spells : Grammar) (x : List ℕ) : Type 0 where
+  pub value : Tree
+  pub rest : List ℕ
+  pub begins : Begins spells x value rest
+
 -- no prefix of x is a spelling
 abbrev pub NoneBegins : Grammar → List ℕ → Type 0
 NoneBegins spells x = (v : Tree) (rest : List ℕ) → Begins spells x v rest → ⊥

@@ -8,12 +8,17 @@ use Rattle.tls_codec_wire.specs.declared.error.Error.TheVariants.{DecodingError,
 use Rattle.tls_codec_grammar.specs.Tree.{number_trees}
 use Rattle.tls_codec_grammar.specs.Errors.{Says}
 use Rattle.tls_codec_grammar.specs.Field.{Field, IsCutOff, variable_field}
-use Rattle.tls_codec_grammar.specs.Grammar.{bytes}
-use Rattle.tls_codec_grammar.specs.Decoding.{Begins}
+use Rattle.tls_codec_grammar.specs.Format.{counted_bytes_format}
+use Rattle.tls_codec_grammar.specs.Grammar.{bytes, text}
+use Rattle.tls_codec_grammar.specs.Decoding.{Begins, BeginsSome}
 
 -- why bytes are not read from a slice: no length begins it, or it is cut off
 abbrev pub OpaqueRefused : Field → Error → List ℕ → Type 0
 OpaqueRefused field e x = field.refuses x e ⊎ (field.cut_off e × IsCutOff field x)
+
+-- why no copy of them is made: there was no memory for bytes that are all there, or they are not read
+abbrev pub OpaqueCopyRefused : Field → Error → List ℕ → Type 0
+OpaqueCopyRefused field e x = ((e ≡ OutOfMemory) × BeginsSome (counted_bytes_format field).spells x) ⊎ OpaqueRefused field e x
 
 -- the bytes to come, where they are told, end within a length or within what it declares
 abbrev pub EndsWithin : Field → Option (List ℕ) → Type 0
@@ -34,10 +39,11 @@ pub record IsNoText (x : List ℕ) : Type 0 where
   pub begins : Begins bytes x (number_trees content) rest
   pub invalid : IsUtf8 content → ⊥
 
--- why a text is not read from a slice
+-- why a text is not read from a slice: there was no memory for a text that is all there, its bytes are not read, or
+-- they are no text
 abbrev pub TextRefused : Error → List ℕ → Type 0
 TextRefused e x =
-    (e ≡ OutOfMemory) ⊎ (OpaqueRefused variable_field e x ⊎ (Says (codes "invalid utf8") e × IsNoText x))
+    ((e ≡ OutOfMemory) × BeginsSome text x) ⊎ (OpaqueRefused variable_field e x ⊎ (Says (codes "invalid utf8") e × IsNoText x))
 
 -- the bytes to come, where they are told, are no UTF-8
 abbrev pub NoTextComes : Option (List ℕ) → Type 0

@@ -1,14 +1,14 @@
 //! Bytes behind a length field, whatever the field: the `opaque` of RFC 8446, section 3.4.
 //!
 //! Byte vectors and texts go through the calls here, which move the bytes in bulk.
-ghost use Rattle.std.specs.Prelude.{◌≡◌, ◌⊎◌, [], ◌∷◌, ◌++◌, is_ok, if◌then◌else◌, length, true, IfErr, IfOk, IsOk};
+ghost use Rattle.std.specs.Prelude.{◌≡◌, ◌⊎◌, [], ◌∷◌, ◌++◌, is_ok, if◌then◌else◌, length, true, IfErr, IfOk, IsErrAnd, IsOk};
 ghost use Rattle.tls_codec_wire.specs.Digits.{AreBytes};
 ghost use Rattle.tls_codec_wire.specs.declared.error.Error.TheVariants.{InvalidVectorLength, OutOfMemory};
 ghost use Rattle.tls_codec_grammar.specs.Tree.{number_trees};
 ghost use Rattle.tls_codec_grammar.specs.Format.{counted_bytes_format};
 ghost use Rattle.tls_codec_grammar.specs.Decoding.{Reads, Splits};
 ghost use Rattle.tls_codec_grammar.specs.Encoding.{AppendsForm, Makes, Writes};
-ghost use Rattle.tls_codec_grammar.specs.Opaque.{OpaqueRefused, OpaqueSourceRefused};
+ghost use Rattle.tls_codec_grammar.specs.Opaque.{OpaqueCopyRefused, OpaqueRefused, OpaqueSourceRefused};
 
 use crate::length_field::{LengthField, append_both, write_length};
 use std::alloc::Global;
@@ -42,7 +42,9 @@ pub fn write<F: LengthField, W: Sink>(sink: &mut W, content: &[u8]) -> Result<us
 #[inline(always)]
 pub fn append<F: LengthField>(out: &mut Vec<u8>, content: &[u8]) -> Result<usize, Error>
     ensures appends { AppendsForm (counted_bytes_format F.field) (number_trees content.now) out.old.items out.new.items result }
-    ensures too_long { (counted_bytes_format F.field).too_long (number_trees content.now) → result ≡ Err InvalidVectorLength }
+    ensures too_long { (counted_bytes_format F.field).too_long (number_trees content.now)
+        → IsErrAnd result (λ e. (e ≡ OutOfMemory) ⊎ (counted_bytes_format F.field).refuses (number_trees content.now) e) }
+    ensures at_once { (counted_bytes_format F.field).too_long (number_trees content.now) → result ≡ Err InvalidVectorLength }
 {
     let Some(found) = F::form(content.len()) else {
         return Err(Error::InvalidVectorLength);
@@ -58,7 +60,9 @@ pub fn append<F: LengthField>(out: &mut Vec<u8>, content: &[u8]) -> Result<usize
 /// `InvalidVectorLength`: there are more bytes than the greatest length.
 pub fn to_vec<F: LengthField>(alloc: Global, content: &[u8]) -> Result<Vec<u8>, Error>
     ensures makes { Makes (counted_bytes_format F.field) (number_trees content.now) result }
-    ensures too_long { (counted_bytes_format F.field).too_long (number_trees content.now) → result ≡ Err InvalidVectorLength }
+    ensures too_long { (counted_bytes_format F.field).too_long (number_trees content.now)
+        → IsErrAnd result (λ e. (e ≡ OutOfMemory) ⊎ (counted_bytes_format F.field).refuses (number_trees content.now) e) }
+    ensures at_once { (counted_bytes_format F.field).too_long (number_trees content.now) → result ≡ Err InvalidVectorLength }
 {
     let mut form = Vec::new(alloc);
     append::<F>(&mut form, content)?;
@@ -83,10 +87,10 @@ pub fn split<F: LengthField>(whole: &[u8]) -> Result<(&[u8], &[u8]), Error>
 
 /// A copy of the bytes that a prefix of `whole` spells, and the rest of it, which isn't copied.
 ///
-/// `OutOfMemory`: there was none for the copy. Every other refusal is as in [`split`].
+/// `OutOfMemory`: there was none for the copy of bytes that are all there. Every other refusal is as in [`split`].
 pub fn split_copied<F: LengthField>(alloc: Global, whole: &[u8]) -> Result<(Vec<u8>, &[u8]), Error>
     ensures splits { Splits (counted_bytes_format F.field) (λ content. number_trees content.items) whole.now result }
-    ensures named { IfErr result (λ e. (e ≡ OutOfMemory) ⊎ OpaqueRefused F.field e whole.now) }
+    ensures named { IfErr result (λ e. OpaqueCopyRefused F.field e whole.now) }
 {
     let (content, rest) = split::<F>(whole)?;
     let copy = copied(alloc, content)?;

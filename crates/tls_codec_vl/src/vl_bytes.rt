@@ -1,11 +1,11 @@
 //! [`VLBytes`], bytes that it owns.
-ghost use Rattle.std.specs.Prelude.{◌≡◌, ◌⊎◌, [], ◌∷◌, ◌++◌, codes, is_ok, if◌then◌else◌, length, IfErr, IfOk, IsOk, MatchOption, Some};
+ghost use Rattle.std.specs.Prelude.{◌≡◌, [], ◌∷◌, ◌++◌, codes, is_ok, if◌then◌else◌, length, IfErr, IfOk, IsOk, MatchOption, Some};
 ghost use Rattle.tls_codec_wire.specs.declared.error.Error.TheVariants.{OutOfMemory};
 ghost use Rattle.tls_codec_grammar.specs.Tree.{number_trees};
 ghost use Rattle.tls_codec_grammar.specs.Field.{variable_field};
 ghost use Rattle.tls_codec_grammar.specs.Format.{bytes_format};
 ghost use Rattle.tls_codec_grammar.specs.laws.FormatLaws.{bytes_meets};
-ghost use Rattle.tls_codec_grammar.specs.Opaque.{OpaqueRefused, OpaqueSourceRefused};
+ghost use Rattle.tls_codec_grammar.specs.Opaque.{OpaqueCopyRefused, OpaqueSourceRefused};
 ghost use Rattle.tls_codec_vl.specs.Contents.{bytes_of};
 ghost use Rattle.tls_codec_vl.specs.Shown.{debug_text};
 
@@ -166,7 +166,7 @@ impl Deserialize for VLBytes {
 }
 
 impl DeserializeBytes for VLBytes {
-    ghost names = { λ x e. (e ≡ OutOfMemory) ⊎ OpaqueRefused variable_field e x };
+    ghost names = { λ x e. OpaqueCopyRefused variable_field e x };
 
     /// `InvalidVectorLength`: the length has more bytes than it needs, or more than 30 bits.
     /// `EndOfStream`: there is no whole length. `DecodingError("declared content is not there")`:

@@ -47,7 +47,8 @@ fn collected<T: Drop, I: Iterator<Item = T> + Drop>(
 ) -> Result<Vec<T>, AllocError>
     requires can { I.can_next items }
     requires ends { IsFinite (I.remaining items) }
-    ensures { IfOk result (λ v. (xs : List T) × DrainsIf I.next_gives ⊤ items xs × ((v.items ≡ xs) × (vec_len v ≡ length xs))) }
+    ensures { IfOk result (λ v. (xs : List T) × DrainsIf I.next_gives ⊤ items xs
+        × ((v.items ≡ xs) × (vec_len v ≡ length xs))) }
 {
     let mut all = Vec::with_capacity(alloc, room)?;
     all.extend(items)?;

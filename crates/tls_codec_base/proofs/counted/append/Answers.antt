@@ -1,12 +1,16 @@
 use Rattle.std.proofs.Common.{ℕ, ap, arith, take, ◌∙◌}
 use Rattle.tls_codec_grammar.specs.laws.FormatLaws.{counted_list_meets}
-use Rattle.tls_codec_grammar.proofs.Appending.{either_not_appended, too_long_no_form}
+use Rattle.tls_codec_grammar.proofs.Appending.{long_refused, too_long_no_form}
 use Rattle.tls_codec_base.proofs.counted.append.Goals as goal
 
 pub returns-in-Err-clause-appends : goal.returns-in-Err-clause-appends
 returns-in-Err-clause-appends g c =
+    let refused = c.in-Err.ensures.err in
     let cut = c.truncate.ensures.items ∙ ap (λ (n : ℕ). take n c.append_behind_gap.new.out.items) (omega (arith, c.len-at.ensures)) in
-    either_not_appended (counted_list_meets g.met.F.LengthField.lawful g.met.T.Size.lawful) c.in-Err.ensures.err cut c.first_refusal.ensures.either
+    record { kept = cut ∙ refused.kept; cause = refused.cause }
 
 pub returns-in-Ok-clause-too_long : goal.returns-in-Ok-clause-too_long
-returns-in-Ok-clause-too_long g c long = absurd (too_long_no_form (counted_list_meets g.met.F.LengthField.lawful g.met.T.Size.lawful) long c.in-Ok.ensures.ok.shortest)
+returns-in-Ok-clause-too_long g c long = too_long_no_form (counted_list_meets g.met.F.LengthField.lawful g.met.T.Size.lawful) long c.in-Ok.ensures.ok.shortest
+
+pub returns-in-Err-clause-too_long : goal.returns-in-Err-clause-too_long
+returns-in-Err-clause-too_long g c long = long_refused (counted_list_meets g.met.F.LengthField.lawful g.met.T.Size.lawful) long c.in-Err.ensures.err.cause

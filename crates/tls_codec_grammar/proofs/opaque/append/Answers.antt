@@ -1,4 +1,4 @@
-use Rattle.std.proofs.Common.{length, arith, inr, refl}
+use Rattle.std.proofs.Common.{length, arith, inl, inr, refl}
 use Rattle.tls_codec_wire.proofs.Bytes.{are_bytes}
 use Rattle.tls_codec_grammar.specs.laws.FormatLaws.{content_length_sum}
 use Rattle.tls_codec_grammar.proofs.Appending.{count_not_appended}
@@ -23,3 +23,12 @@ returns-in_err-append_both-clause-too_long g c long = absurd (omega (arith, long
 
 pub returns-clause-too_long : goal.returns-clause-too_long
 returns-clause-too_long g c long = absurd (omega (arith, long, bytes_sum c.args.content.now, g.met.F.LengthField.lawful.below _ _ c.in-Some.ensures.1))
+
+pub returns-in_err-append_both-clause-at_once : goal.returns-in_err-append_both-clause-at_once
+returns-in_err-append_both-clause-at_once g c long = absurd (omega (arith, long, bytes_sum c.args.content.now, g.met.F.LengthField.lawful.below _ _ c.in-Some.ensures.1))
+
+pub returns-clause-at_once : goal.returns-clause-at_once
+returns-clause-at_once g c long = absurd (omega (arith, long, bytes_sum c.args.content.now, g.met.F.LengthField.lawful.below _ _ c.in-Some.ensures.1))
+
+pub returns-in_default-clause-too_long : goal.returns-in_default-clause-too_long
+returns-in_default-clause-too_long g c long = inr (inl (refl, long))
