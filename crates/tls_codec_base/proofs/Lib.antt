@@ -1,4 +1,5 @@
 pub mod ArrayCalls
+pub mod BothPaths
 pub mod Coming
 pub mod FieldsDecoding
 pub mod FieldsEncoding

@@ -5,3 +5,4 @@ pub mod Runs
 pub mod TaggedNames
 pub mod OwnMessages
 pub mod Trailing
+pub mod Paths

@@ -1,6 +1,6 @@
 //! The laws of options, products, lists and texts, each from those of its parts; what they come to for
 //! spellings and shortest forms; what shortest forms of lists are, that equal bytes are spelled alike,
-//! and what a source that tells its bytes has left.
+//! what a source that tells its bytes has left, and that both decoders agree.
 //!
 //! The functions do nothing. Their contracts state the laws, and so are proved.
 ghost use Rattle.std.specs.Prelude.{◌≡◌, ◌↔◌, ℕ, ◌<◌, ◌≤◌, ◌^◌, List, [], ◌++◌, length, Vec};
@@ -18,7 +18,10 @@ ghost use Rattle.tls_codec_grammar.specs.Grammar.{Counted, Direction, Reading, R
 ghost use Rattle.tls_codec_grammar.specs.Shortest.{IsFull, IsShortest};
 ghost use Rattle.tls_codec_grammar.specs.Spelled.{BeginsWithOne, EachHasNonemptySpelling, FitTogether, HasReadingSpelling};
 
+mod paths;
+
 use crate::traits::Size;
+pub use paths::both_paths_agree;
 use tls_codec_grammar::LengthField;
 use tls_codec_wire::{Sink, Source};
 
