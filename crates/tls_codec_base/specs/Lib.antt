@@ -6,3 +6,4 @@ pub mod TaggedNames
 pub mod OwnMessages
 pub mod Trailing
 pub mod Paths
+pub mod Encoders

@@ -1,6 +1,7 @@
 //! The laws of options, products, lists and texts, each from those of its parts; what they come to for
 //! spellings and shortest forms; what shortest forms of lists are, that equal bytes are spelled alike,
-//! what a source that tells its bytes has left, and that both decoders agree.
+//! what a source that tells its bytes has left, that both decoders agree, and that encoders refuse only
+//! what has no form.
 //!
 //! The functions do nothing. Their contracts state the laws, and so are proved.
 ghost use Rattle.std.specs.Prelude.{◌≡◌, ◌↔◌, ℕ, ◌<◌, ◌≤◌, ◌^◌, List, [], ◌++◌, length, Vec};
@@ -18,9 +19,11 @@ ghost use Rattle.tls_codec_grammar.specs.Grammar.{Counted, Direction, Reading, R
 ghost use Rattle.tls_codec_grammar.specs.Shortest.{IsFull, IsShortest};
 ghost use Rattle.tls_codec_grammar.specs.Spelled.{BeginsWithOne, EachHasNonemptySpelling, FitTogether, HasReadingSpelling};
 
+mod encoders;
 mod paths;
 
 use crate::traits::Size;
+pub use encoders::encoders_refuse_only_what_has_no_form;
 pub use paths::both_paths_agree;
 use tls_codec_grammar::LengthField;
 use tls_codec_wire::{Sink, Source};
