@@ -3,6 +3,7 @@ pub mod BothPaths
 pub mod Coming
 pub mod FieldsDecoding
 pub mod FieldsEncoding
+pub mod FullValues
 pub mod ListReading
 pub mod ListSources
 pub mod ListWriting

@@ -7,3 +7,4 @@ pub mod OwnMessages
 pub mod Trailing
 pub mod Paths
 pub mod Encoders
+pub mod Full

@@ -1,7 +1,7 @@
 //! The laws of options, products, lists and texts, each from those of its parts; what they come to for
 //! spellings and shortest forms; what shortest forms of lists are, that equal bytes are spelled alike,
-//! what a source that tells its bytes has left, that both decoders agree, and that encoders refuse only
-//! what has no form.
+//! and what a source that tells its bytes has left; that both decoders agree, that encoders refuse only
+//! what has no form, and which values are full.
 //!
 //! The functions do nothing. Their contracts state the laws, and so are proved.
 ghost use Rattle.std.specs.Prelude.{◌≡◌, ◌↔◌, ℕ, ◌<◌, ◌≤◌, ◌^◌, List, [], ◌++◌, length, Vec};
@@ -20,10 +20,12 @@ ghost use Rattle.tls_codec_grammar.specs.Shortest.{IsFull, IsShortest};
 ghost use Rattle.tls_codec_grammar.specs.Spelled.{BeginsWithOne, EachHasNonemptySpelling, FitTogether, HasReadingSpelling};
 
 mod encoders;
+mod full;
 mod paths;
 
 use crate::traits::Size;
 pub use encoders::encoders_refuse_only_what_has_no_form;
+pub use full::{each_value_is_full, full_values_have_full_parts};
 pub use paths::both_paths_agree;
 use tls_codec_grammar::LengthField;
 use tls_codec_wire::{Sink, Source};
