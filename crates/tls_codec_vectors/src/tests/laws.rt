@@ -9,10 +9,12 @@ use std::hash::{DefaultHasher, Hash, Hasher};
 use std::process::Abort;
 use std::test::Fail;
 use tls_codec::laws::{
+    both_paths_agree, each_value_is_full, encoders_refuse_only_what_has_no_form,
     equal_bytes_have_equal_spellings, formats_are_lawful, forms_cut_short_have_no_spelling,
-    just_the_rest_is_to_come, lists_are_spelled_where_their_elements_fit,
-    long_contents_are_too_long, shortest_contents_are_in_a_row, shortest_forms_are_read_back,
-    spellings_are_prefix_free, spellings_are_shortest_forms, what_was_read_is_written_again,
+    full_values_have_full_parts, just_the_rest_is_to_come,
+    lists_are_spelled_where_their_elements_fit, long_contents_are_too_long,
+    shortest_contents_are_in_a_row, shortest_forms_are_read_back, spellings_are_prefix_free,
+    spellings_are_shortest_forms, what_was_read_is_written_again,
 };
 use tls_codec::{
     Deserialize, DeserializeBytes, Error, SecretTlsVecU8, SecretVLBytes, Serialize, TlsByteVecU16,
@@ -62,6 +64,21 @@ fn a_leaf_has_one_spelling(rt: HostRuntime) -> Result<(), Fail> {
     Ok(())
 }
 
+// Of two leaves in a row both paths read the first one and leave the second.
+#[test]
+fn both_paths_read_the_first_leaf(rt: HostRuntime) -> Result<(), Fail> {
+    both_paths_agree::<Leaf, &[u8]>();
+    let alloc = rt.alloc();
+    let leaves = [0, 1, 1, 7, 0, 2, 0].as_slice();
+    let (found, rest) = Leaf::tls_deserialize_bytes(alloc, leaves)?;
+    assert_eq!(rt; found.code, 1);
+    assert_eq!(rt; rest, [0, 2, 0].as_slice());
+    let mut source = leaves;
+    assert!(rt; Leaf::tls_deserialize(alloc, &mut source)? == found);
+    assert_eq!(rt; source, [0, 2, 0].as_slice());
+    Ok(())
+}
+
 // At most 255 bytes stand behind one byte of length. Units are written as no bytes, which are read as an
 // empty list.
 #[test]
@@ -69,6 +86,9 @@ fn lists_that_fit_are_written_and_read(rt: HostRuntime) -> Result<(), Fail> {
     lists_are_spelled_where_their_elements_fit::<u8, u16>();
     shortest_contents_are_in_a_row::<u16>();
     long_contents_are_too_long::<u8, u16>();
+    encoders_refuse_only_what_has_no_form::<TlsVecU8<u16>, Vec<u8>>();
+    each_value_is_full::<u8>();
+    full_values_have_full_parts::<u8, (), u16, Leaf>();
     let alloc = rt.alloc();
     let list = TlsVecU8::new(vec![in alloc; 7u16; 127]?);
     let form = list.tls_serialize_detached(alloc)?;
