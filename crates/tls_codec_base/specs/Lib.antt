@@ -8,3 +8,4 @@ pub mod Trailing
 pub mod Paths
 pub mod Encoders
 pub mod Full
+pub mod Meanings

@@ -1,0 +1,41 @@
+-- Words of the tables of types: what values stand for, how they are spelled, and which errors decoders name.
+use Rattle.std.specs.Prelude.{◌≡◌, ◌↔◌, ◌⊎◌, ℕ, List, Option}
+use Rattle.tls_codec_wire.specs.Counts.{Counts}
+use Rattle.tls_codec_wire.specs.declared.error.Error.{Error}
+use Rattle.tls_codec_wire.specs.declared.error.Error.TheVariants.{OutOfMemory}
+use Rattle.tls_codec_grammar.specs.Tree.{Tree}
+use Rattle.tls_codec_grammar.specs.Grammar.{Direction}
+use Rattle.tls_codec_grammar.specs.Field.{Field}
+use Rattle.tls_codec_grammar.specs.Format.{Format}
+use Rattle.tls_codec_grammar.specs.Opaque.{OpaqueRefused, OpaqueSourceRefused}
+use Rattle.tls_codec_base.specs.Refusals.{SliceNames, SourceNames}
+use Rattle.tls_codec_base.specs.declared.traits.Size.{Ghosts}
+
+-- two formats say the same of each value and of all bytes
+pub record SameFormat (f g : Format) : Type 0 where
+  pub spells : (d : Direction) (s : List ℕ) (v : Tree) → f.spells d s v ↔ g.spells d s v
+  pub announced : (v : Tree) → f.announced v ≡ g.announced v
+  pub lean : f.lean ≡ g.lean
+  pub refuses : (v : Tree) (e : Error) → f.refuses v e ↔ g.refuses v e
+  pub too_long : (v : Tree) → f.too_long v ↔ g.too_long v
+
+-- a type's values stand for these trees, and are spelled in this format
+pub record Means {T : Type 0} (size : Ghosts T) (plain : T → Tree) (format : Format) : Type 0 where
+  pub stands_for : (v : T) → size.plain v ≡ plain v
+  pub spelled : SameFormat size.format format
+
+-- the same errors are named, whatever the bytes
+abbrev pub SameNames : SliceNames → SliceNames → Type 0
+SameNames m n = (x : List ℕ) (e : Error) → m x e ↔ n x e
+
+-- the same from a source
+abbrev pub SameSourceNames : SourceNames → SourceNames → Type 0
+SameSourceNames m n = (coming : Option (List ℕ)) (old new : Counts) (e : Error) → m coming old new e ↔ n coming old new e
+
+-- which errors are named where bytes behind a length field are read from a slice
+abbrev pub opaque_names : Field → SliceNames
+opaque_names field x e = (e ≡ OutOfMemory) ⊎ OpaqueRefused field e x
+
+-- the same from a source
+abbrev pub opaque_source_names : Field → SourceNames
+opaque_source_names field coming old new e = OpaqueSourceRefused field e coming old new
