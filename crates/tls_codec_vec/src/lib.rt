@@ -5,10 +5,12 @@
 //!
 //! - [`list`]: [`TlsVec`] and its calls, and the names [`TlsVecU8`], [`TlsVecU16`], [`TlsVecU24`] and
 //!   [`TlsVecU32`].
-//! - [`laws`]: what vectors are spelled and compared as. It does nothing when it runs.
+//! - [`collecting`]: what an iterator gives, as a list.
+//! - [`laws`]: what vectors stand for, how they are spelled and compared. It does nothing when it runs.
 #![tactic(auto)]
 
 mod coding;
+pub mod collecting;
 mod conversions;
 pub mod laws;
 pub mod list;

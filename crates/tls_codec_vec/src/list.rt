@@ -9,6 +9,7 @@ ghost use Rattle.std.specs.Slice.Iter.{iter_rest};
 ghost use Rattle.tls_codec_wire.specs.declared.error.Error.TheVariants.{OutOfMemory};
 ghost use Rattle.tls_codec_vec.specs.Contents.{ClonesAreEqual, elements_of};
 
+use crate::collecting::collected;
 use std::alloc::Global;
 use std::marker::PhantomData;
 use std::slice::Iter;
@@ -162,7 +163,7 @@ impl<F, T: Drop> TlsVec<F, T> {
         ensures ok { IfOk result (λ v. (it : I.IntoIter) × I.into_iter_gives iter it × Drains I.IntoIter.next_gives it (elements_of v)) }
         ensures err { IfErr result (λ e. e ≡ OutOfMemory) }
     {
-        let vec = Vec::from_iter(alloc, iter)?;
+        let vec = collected(alloc, iter)?;
         Ok(TlsVec::new(vec))
     }
 }
