@@ -16,6 +16,7 @@ use std::marker::PhantomData;
 use std::ops::{Index, IndexMut};
 use std::{fmt, slice};
 use tls_codec_base::{LengthField, opaque};
+use tls_codec_vec::collecting::collected;
 use tls_codec_wire::{Error, U24};
 
 /// Bytes, which are spelled behind their number as the length field `F`.
@@ -88,10 +89,8 @@ impl<F> TlsByteVec<F> {
         ensures ok { IfOk result (λ v. (it : I.IntoIter) × I.into_iter_gives iter it × Drains I.IntoIter.next_gives it (bytes_of v)) }
         ensures err { IfErr result (λ e. e ≡ OutOfMemory) }
     {
-        match Vec::from_iter(alloc, iter) {
-            Ok(vec) => Ok(TlsByteVec::new(vec)),
-            Err(_) => Err(Error::OutOfMemory),
-        }
+        let vec = collected(alloc, iter)?;
+        Ok(TlsByteVec::new(vec))
     }
 
     /// A copy, by the allocator that these bytes were made with. `OutOfMemory` is as in
