@@ -5,10 +5,12 @@
 //!
 //! - [`elements`]: [`TlsSliceU8`] and siblings, for elements of any type that is written.
 //! - [`bytes`]: [`TlsByteSliceU8`] and siblings, for bytes, which are moved in bulk.
+//! - [`laws`]: what the wrappers stand for, how they are spelled and copied. It does nothing when it runs.
 #![tactic(auto)]
 
 pub mod bytes;
 pub mod elements;
+pub mod laws;
 
 pub use bytes::{TlsByteSliceU8, TlsByteSliceU16, TlsByteSliceU24, TlsByteSliceU32};
 pub use elements::{TlsSliceU8, TlsSliceU16, TlsSliceU24, TlsSliceU32};
