@@ -9,7 +9,7 @@
 //! - [`zeroize`]: [`Zeroize`], values that empty themselves.
 //! - [`secret_vl_bytes`]: [`SecretVLBytes`], a [`VLBytes`] that is cleared when it is dropped.
 //!   [`secret_vl_byte_vec`]: [`SecretVLByteVec`], which is the same under another name.
-//! - [`laws`]: vectors are compared by their bytes. It does nothing when it runs.
+//! - [`laws`]: what the types stand for, how they are spelled, compared and cleared. It does nothing when it runs.
 #![tactic(auto)]
 
 pub mod laws;

@@ -9,6 +9,7 @@ ghost use Rattle.tls_codec_grammar.specs.Opaque.{OpaqueCopyRefused, OpaqueSource
 ghost use Rattle.tls_codec_vl.specs.Contents.{bytes_of};
 ghost use Rattle.tls_codec_vl.specs.Shown.{debug_text};
 
+use crate::zeroize::wipe;
 use crate::{Zeroize, show};
 use std::alloc::Global;
 use std::fmt;
@@ -116,8 +117,10 @@ impl fmt::Debug for VLBytes {
 impl Zeroize for VLBytes {
     ghost cleared = { λ v. bytes_of v ≡ [] };
 
+    /// The bytes are set to 0, and then there are none.
     fn zeroize(&mut self) {
-        self.0.zeroize();
+        wipe(self.0.as_mut_slice());
+        self.0.clear();
     }
 }
 

@@ -1,5 +1,5 @@
 //! [`Zeroize`]: values that empty themselves.
-ghost use Rattle.std.specs.Prelude.{◌≡◌, [], replicate};
+ghost use Rattle.std.specs.Prelude.{◌≡◌, [], length, replicate};
 ghost use Rattle.std.specs.List.{All};
 
 /// A value that can be cleared in place, as key material is before it is let go.
@@ -60,7 +60,7 @@ impl<const LEN: usize> Zeroize for [u8; LEN] {
     ghost cleared = { λ bytes. bytes ≡ replicate LEN 0 };
 
     fn zeroize(&mut self) {
-        self.fill(0);
+        wipe(self);
     }
 }
 
@@ -72,6 +72,13 @@ impl<T: Zeroize> Zeroize for Vec<T> {
         clear_each(self.as_mut_slice());
         self.clear();
     }
+}
+
+/// Sets each byte to 0.
+pub(crate) fn wipe(bytes: &mut [u8])
+    ensures { bytes.new ≡ replicate (length bytes.old) 0 }
+{
+    bytes.fill(0);
 }
 
 // Clears each element.
