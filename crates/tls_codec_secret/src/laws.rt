@@ -1,20 +1,60 @@
-//! Secret vectors are spelled as lists behind one to four bytes, and compared and hashed as the lists of their
-//! elements are.
+//! What secret vectors stand for and how they are spelled, as lists behind one to four bytes, which errors their
+//! decoders name, what conversions, places and clearing give; and that they are compared and hashed as the lists of
+//! their elements are.
 //!
 //! The functions do nothing. Their contracts state this, and so are proved.
-ghost use Rattle.std.specs.Prelude.{◌≡◌, ◌↔◌, ℕ, List};
+ghost use Rattle.std.specs.Prelude.{◌≡◌, ◌↔◌, ◌<◌, ℕ, List, [], Vec, length, slice_index_or};
+ghost use Rattle.std.specs.Global.{Global};
 ghost use Rattle.std.specs.Cmp.Lexicographic.{pointwise};
 ghost use Rattle.std.specs.Hash as fed;
-ghost use Rattle.tls_codec_grammar.specs.Tree.{Tree};
+ghost use Rattle.tls_codec_grammar.specs.Tree.{Tree, trees};
+ghost use Rattle.tls_codec_grammar.specs.Format.{counted_list_format};
 ghost use Rattle.tls_codec_grammar.specs.Grammar.{Direction, fixed_list};
+ghost use Rattle.tls_codec_base.specs.Meanings.{Means, SameNames, SameSourceNames};
+ghost use Rattle.tls_codec_base.specs.Refusals.{counted_list_names, counted_list_source_names};
 ghost use Rattle.tls_codec_secret.specs.Contents.{elements_of};
 ghost use Rattle.tls_codec_secret.specs.declared.list.SecretTlsVec.{SecretTlsVec};
 
 use crate::SecretTlsVec;
 use std::hash::Hash;
-use tls_codec_base::Size;
+use std::ops::Index;
+use tls_codec_base::{Deserialize, DeserializeBytes, LengthField, Size};
 use tls_codec_vl::Zeroize;
 use tls_codec_wire::U24;
+
+/// A secret vector stands for the list of its elements, and is spelled as that list behind its number of bytes, which
+/// the length field spells. A reference is as what it refers to.
+pub fn secret_vectors_stand_for_their_elements<'a, F: LengthField, T: Size + Zeroize>()
+    ensures vec { Means ⟦<SecretTlsVec<F, T> as Size>⟧ (λ v. trees T.plain (elements_of v)) (counted_list_format F.field T.format) }
+    ensures vec_ref { Means ⟦<&'a SecretTlsVec<F, T> as Size>⟧ (λ v. trees T.plain (elements_of v.now)) (counted_list_format F.field T.format) }
+{}
+
+/// The decoder from a slice names the errors of a list behind a length field.
+pub fn decoder_from_a_slice_names_these_errors<F: LengthField, T: DeserializeBytes + Zeroize>()
+    ensures { SameNames ⟦<SecretTlsVec<F, T> as DeserializeBytes>⟧.names (counted_list_names F.field T.format T.names) }
+{}
+
+/// And so does the decoder from a source.
+pub fn decoder_from_a_source_names_these_errors<F: LengthField, T: Deserialize + Zeroize>()
+    ensures { SameSourceNames ⟦<SecretTlsVec<F, T> as Deserialize>⟧.names (counted_list_source_names F.field T.format T.names) }
+{}
+
+/// A conversion from or to a `Vec` keeps the elements.
+pub fn conversions_keep_the_elements<F, T: Zeroize>()
+    ensures to { (elements : Vec T Global) (v : SecretTlsVec F T) → ⟦<SecretTlsVec<F, T> as From<Vec<T>>>⟧.from_gives elements v ↔ (elements_of v ≡ elements.items) }
+    ensures back { (v : SecretTlsVec F T) (elements : Vec T Global) → ⟦<Vec<T> as From<SecretTlsVec<F, T>>>⟧.from_gives v elements ↔ (elements.items ≡ elements_of v) }
+{}
+
+/// `v[i]` is the element at a place below the length.
+pub fn places_give_their_elements<F, T: Zeroize>()
+    ensures allowed { (v : SecretTlsVec F T) (i : ℕ) → ⟦<SecretTlsVec<F, T> as Index<usize>>⟧.can_index v i ↔ (i < length (elements_of v)) }
+    ensures given { (v : SecretTlsVec F T) (i : ℕ) (x : T) → ⟦<SecretTlsVec<F, T> as Index<usize>>⟧.index_gives v i x ↔ (x ≡ slice_index_or (elements_of v) i x) }
+{}
+
+/// A secret vector is cleared where it is empty.
+pub fn cleared_secret_vectors_are_empty<F, T: Zeroize>()
+    ensures { (v : SecretTlsVec F T) → ⟦<SecretTlsVec<F, T> as Zeroize>⟧.cleared v ↔ (elements_of v ≡ []) }
+{}
 
 /// The four names have the spellings of a list whose length has one to four bytes (RFC 8446, section
 /// 3.4).
@@ -25,9 +65,12 @@ pub fn secret_vectors_are_lists_behind_one_to_four_bytes<T: Size + Zeroize>()
     ensures four { (d : Direction) (b : List ℕ) (v : Tree) → ⟦<SecretTlsVec<u32, T> as Size>⟧.format.spells d b v ↔ fixed_list 4 T.format.spells d b v }
 {}
 
-/// Two secret vectors are equal where they have as many elements and these are equal, place by place, and are
-/// hashed as the slice of their elements is.
-pub fn secret_vectors_are_compared_by_their_elements<F, T: Eq + Hash + Zeroize>()
-    ensures equal { (x y : SecretTlsVec F T) → ⟦<SecretTlsVec<F, T> as PartialEq>⟧.eq x y ≡ pointwise T.eq (elements_of x) (elements_of y) }
-    ensures hashed { (x : SecretTlsVec F T) → ⟦<SecretTlsVec<F, T> as Hash>⟧.hash_input x ≡ fed.slice T.hash_input (elements_of x) }
+/// Two secret vectors are equal where they have as many elements and these are equal, place by place.
+pub fn secret_vectors_are_compared_by_their_elements<F, T: PartialEq + Zeroize>()
+    ensures { (x y : SecretTlsVec F T) → ⟦<SecretTlsVec<F, T> as PartialEq>⟧.eq x y ≡ pointwise T.eq (elements_of x) (elements_of y) }
+{}
+
+/// A secret vector is hashed as the slice of its elements is.
+pub fn secret_vectors_are_hashed_by_their_elements<F, T: Eq + Hash + Zeroize>()
+    ensures { (x : SecretTlsVec F T) → ⟦<SecretTlsVec<F, T> as Hash>⟧.hash_input x ≡ fed.slice T.hash_input (elements_of x) }
 {}

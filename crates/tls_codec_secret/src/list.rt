@@ -1,5 +1,5 @@
 //! [`SecretTlsVec`], a list of elements that are cleared when it is dropped.
-ghost use Rattle.std.specs.Prelude.{◌≡◌, ◌==◌, ◌<◌, [], ◌∷◌, ◌++◌, is_ok, if◌then◌else◌, length, slice_get, slice_index_or, option_copied, IfErr, IfOk, MatchOption};
+ghost use Rattle.std.specs.Prelude.{◌≡◌, ◌==◌, ◌<◌, ◌^◌, [], ◌∷◌, ◌++◌, is_ok, if◌then◌else◌, length, slice_get, slice_index_or, option_copied, IfErr, IfOk, MatchOption};
 ghost use Rattle.std.specs.Fn.{CalledAt};
 ghost use Rattle.std.specs.Iterator.{Drains, IsFiniteIterable};
 ghost use Rattle.std.specs.Iterator.Adapters.{IterYieldsInOrder, IterYieldsInReverse};
@@ -14,6 +14,7 @@ use std::alloc::Global;
 use std::marker::PhantomData;
 use std::slice::Iter;
 use tls_codec_base::LengthField;
+use tls_codec_vec::collecting::collected;
 use tls_codec_vl::Zeroize;
 use tls_codec_wire::{Error, U24};
 
@@ -126,9 +127,10 @@ impl<F, T: Zeroize> SecretTlsVec<F, T> {
         self.vec.get(index)
     }
 
-    /// The elements in order.
+    /// The elements one by one, from either end.
     pub fn iter(&self) -> Iter<'_, T>
         ensures rest { iter_rest result ≡ elements_of self.now }
+        ensures bound { length (iter_rest result) < 2 ^ 64 }
         ensures runs { IterYieldsInOrder T }
         ensures runs_back { IterYieldsInReverse T }
     {
@@ -173,8 +175,8 @@ impl<F, T: Zeroize> SecretTlsVec<F, T> {
         self.vec.retain(f);
     }
 
-    /// The elements that an iterator gives. `OutOfMemory`: there was no memory for them, and those that
-    /// it gave are dropped, and aren't cleared before.
+    /// The elements that an iterator gives, in its order. It has to end. `OutOfMemory`: there was no memory
+    /// for them, and those that it gave are dropped, and aren't cleared before.
     pub fn try_from_iter<I: IntoIterator<Item = T>>(
         alloc: Global,
         iter: I,
@@ -183,7 +185,7 @@ impl<F, T: Zeroize> SecretTlsVec<F, T> {
         ensures ok { IfOk result (λ v. (it : I.IntoIter) × I.into_iter_gives iter it × Drains I.IntoIter.next_gives it (elements_of v)) }
         ensures err { IfErr result (λ e. e ≡ OutOfMemory) }
     {
-        let vec = Vec::from_iter(alloc, iter)?;
+        let vec = collected(alloc, iter)?;
         Ok(SecretTlsVec::new(vec))
     }
 }
