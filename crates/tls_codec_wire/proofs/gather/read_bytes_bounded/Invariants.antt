@@ -1,13 +1,12 @@
 -- What came is what the vector holds, and a row of interruptions was counted.
 use Rattle.std.proofs.Common.{length, ◌≡◌, ◌-◌, ◌+◌, ◌*◌, ◌≤◌}
 use Rattle.tls_codec_wire.specs.Counts.{OnlyInterrupted, RoseBy}
-use Rattle.tls_codec_wire.specs.declared.transfer.TheConstants.{MOST_INTERRUPTIONS}
 use Rattle.tls_codec_wire.proofs.gather.read_bytes_bounded.Given as goal
 
 abbrev pub invariant-loop-bytes : goal.invariant-loop-bytes
 invariant-loop-bytes g l = record {
   within : length l.bytes.items ≤ l.len;
-  row : l.row ≤ MOST_INTERRUPTIONS;
+  row : l.row ≤ 16;
   gave : g.R.Source.given l.fn.src l.bytes.items l.src;
   calm : OnlyInterrupted (g.R.Source.counts l.fn.src) (g.R.Source.counts l.src);
   counted : RoseBy l.row (g.R.Source.counts l.fn.src).interruptions (g.R.Source.counts l.src).interruptions;
@@ -16,4 +15,4 @@ invariant-loop-bytes g l = record {
 
 -- a byte brings the end nearer, and an interruption the end of its row
 abbrev pub decreases-loop-bytes : goal.decreases-loop-bytes
-decreases-loop-bytes g l = (MOST_INTERRUPTIONS + 1) * (l.len - length l.bytes.items) + (MOST_INTERRUPTIONS - l.row)
+decreases-loop-bytes g l = 17 * (l.len - length l.bytes.items) + (16 - l.row)

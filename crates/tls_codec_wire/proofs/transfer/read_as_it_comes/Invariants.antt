@@ -2,13 +2,12 @@
 use Rattle.std.proofs.Common.{length, take, ◌-◌, ◌≡◌, ◌+◌, ◌*◌, ◌≤◌}
 use Rattle.tls_codec_wire.specs.Counts.{OnlyInterrupted, RoseBy}
 use Rattle.tls_codec_wire.specs.Digits.{AreBytes}
-use Rattle.tls_codec_wire.specs.declared.transfer.TheConstants.{MOST_INTERRUPTIONS}
 use Rattle.tls_codec_wire.proofs.transfer.read_as_it_comes.Given as goal
 
 abbrev pub invariant-loop-at : goal.invariant-loop-at
 invariant-loop-at g l = record {
   within : l.at ≤ length l.into;
-  row : l.row ≤ MOST_INTERRUPTIONS;
+  row : l.row ≤ 16;
   gave : g.R.Source.given l.fn.src (take l.at l.into) l.src;
   calm : OnlyInterrupted (g.R.Source.counts l.fn.src) (g.R.Source.counts l.src);
   counted : RoseBy l.row (g.R.Source.counts l.fn.src).interruptions (g.R.Source.counts l.src).interruptions;
@@ -18,4 +17,4 @@ invariant-loop-at g l = record {
 
 -- a byte brings the end nearer, and an interruption the end of its row
 abbrev pub decreases-loop-at : goal.decreases-loop-at
-decreases-loop-at g l = (MOST_INTERRUPTIONS + 1) * (length l.initial.into - l.at) + (MOST_INTERRUPTIONS - l.row)
+decreases-loop-at g l = 17 * (length l.initial.into - l.at) + (16 - l.row)

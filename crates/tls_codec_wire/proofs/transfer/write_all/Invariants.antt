@@ -2,13 +2,12 @@
 use Rattle.std.proofs.Common.{length, take, ◌-◌, ◌≡◌, ◌+◌, ◌*◌, ◌≤◌}
 use Rattle.std.specs.Io.KnownBytes.{Appends}
 use Rattle.tls_codec_wire.specs.Counts.{OnlyInterrupted, RoseBy}
-use Rattle.tls_codec_wire.specs.declared.transfer.TheConstants.{MOST_INTERRUPTIONS}
 use Rattle.tls_codec_wire.proofs.transfer.write_all.Given as goal
 
 abbrev pub invariant-loop-at : goal.invariant-loop-at
 invariant-loop-at g l = record {
   within : l.at ≤ length l.bytes;
-  row : l.row ≤ MOST_INTERRUPTIONS;
+  row : l.row ≤ 16;
   took : Appends (g.W.Sink.received l.fn.sink) (g.W.Sink.received l.sink) (take l.at l.bytes);
   calm : OnlyInterrupted (g.W.Sink.counts l.fn.sink) (g.W.Sink.counts l.sink);
   counted : RoseBy l.row (g.W.Sink.counts l.fn.sink).interruptions (g.W.Sink.counts l.sink).interruptions;
@@ -17,4 +16,4 @@ invariant-loop-at g l = record {
 
 -- a byte brings the end nearer, and an interruption the end of its row
 abbrev pub decreases-loop-at : goal.decreases-loop-at
-decreases-loop-at g l = (MOST_INTERRUPTIONS + 1) * (length l.bytes - l.at) + (MOST_INTERRUPTIONS - l.row)
+decreases-loop-at g l = 17 * (length l.bytes - l.at) + (16 - l.row)
