@@ -71,11 +71,12 @@ pub fn decode(alloc: Global, text: &[u8]) -> Result<Vec<u8>, ViewFault>
 }
 
 /// The text without its tabs, line feeds, carriage returns and spaces.
+///
+/// It is copied whole first, by one request for memory: a `collect` goes on where a request is refused.
 fn without_blanks(alloc: Global, text: &[u8]) -> Result<Vec<u8>, AllocError>
     ensures { IfOk result (λ digits. digits.items ≡ digits_in text.now) }
 {
-    text.iter()
-        .copied()
-        .filter(|byte| !matches!(byte, b'\t' | b'\n' | b'\r' | b' '))
-        .collect(alloc)
+    let mut digits = Vec::from_slice(alloc, text)?;
+    digits.retain(|byte| !matches!(byte, b'\t' | b'\n' | b'\r' | b' '));
+    Ok(digits)
 }
