@@ -1,9 +1,17 @@
 -- How the program begins and ends.
-use Rattle.std.specs.Prelude.{◌≡◌, ◌⊎◌, ℕ, Bool, true, false, List, [], ◌∷◌, ◌++◌, map, codes, Result, Ok, Err, Vec, String, string_bytes}
+use Rattle.std.specs.Prelude.{◌≡◌, ◌⊎◌, ℕ, Bool, true, false, List, [], ◌∷◌, ◌++◌, map, codes, Option, Result, Ok, Err, String, string_bytes}
 use Rattle.std.specs.Global.{Global}
 use Rattle.std.specs.Io.KnownBytes.{Appends}
+use Rattle.std.specs.IoError.{error_kind}
+use Rattle.std.specs.Process.{exit_status}
+use Rattle.std.specs.Vec.Iter.{into_iter_items}
+use Rattle.std.specs.declared.io.Error as io
+use Rattle.std.specs.declared.io.ErrorKind.{ErrorKind}
+use Rattle.std.specs.declared.io.ErrorKind.TheVariants.{OutOfMemory}
+use Rattle.std.specs.declared.process.ExitCode.{ExitCode}
+use Rattle.std.specs.declared.vec.IntoIter.{IntoIter}
 use Rattle.tls_codec.specs.Calls.{SinkGhosts, SourceGhosts}
-use Rattle.tls_codec.specs.Devices.{OnlyInterrupted, Received}
+use Rattle.tls_codec.specs.Devices.{OnlyInterrupted, Received, no_counts}
 use Rattle.tlsview_run.specs.Run.{Runs, SinkIsToBlame}
 use Rattle.tlsview_run.specs.View.{line_feed}
 use Rattle.tlsview_run.specs.declared.fault.ViewFault.{ViewFault}
@@ -11,15 +19,24 @@ use Rattle.tlsview_run.specs.declared.fault.ViewFault.TheVariants.{Kind, Long, R
 
 -- ---- the argument
 
+-- the words of a process, its name first, or why std gives none
+abbrev pub Words : Type 0
+Words = Result (IntoIter (String Global) Global) io.Error
+
 -- the word behind the program's name, where it is the only one
 abbrev pub argument_in : List (List ℕ) → Result (List ℕ) ViewFault
 argument_in (program ∷ argument ∷ []) = Ok argument
 argument_in _ = Err Kind
 
--- the same of words, or why there are none
-abbrev pub argument_of : Result (Vec (String Global) Global) ViewFault → Result (List ℕ) ViewFault
-argument_of (Ok words) = argument_in (map string_bytes words.items)
-argument_of (Err fault) = Err fault
+-- why there are no words: there was no memory, or one of them isn't UTF-8
+abbrev pub fault_without_words : ErrorKind → ViewFault
+fault_without_words OutOfMemory = Memory
+fault_without_words _ = Kind
+
+-- the argument in the words of a process
+abbrev pub argument_of : Words → Result (List ℕ) ViewFault
+argument_of (Ok words) = argument_in (map string_bytes (into_iter_items words))
+argument_of (Err error) = Err (fault_without_words (error_kind error))
 
 -- ---- the line and the status
 
@@ -69,3 +86,17 @@ pub record TellsFault {S T : Type 0} (fault : ViewFault) (sink : SinkGhosts T) (
 abbrev pub Answers : {S T : Type 0} → SourceGhosts S → SinkGhosts T → S → S → T → T → Result (List ℕ) ViewFault → ℕ → Type 0
 Answers source sink old new before after (Ok kind) status = RunsAndTells kind source sink old new before after status
 Answers source sink old new before after (Err fault) status = TellsFault fault sink old new before after status
+
+-- the program ended as it does by some words, from an input of which these bytes were to come and into a sink that had
+-- received these; neither had counted anything
+pub record EndsBySomeWords {S T : Type 0} (source : SourceGhosts S) (sink : SinkGhosts T) (coming received : Option (List ℕ)) (code : ExitCode) : Type 0 where
+  pub words : Words
+  pub old : S
+  pub new : S
+  pub before : T
+  pub after : T
+  pub input : source.coming old ≡ coming
+  pub input_counts : source.counts old ≡ no_counts
+  pub output : sink.received before ≡ received
+  pub output_counts : sink.counts before ≡ no_counts
+  pub answered : Answers source sink old new before after (argument_of words) (exit_status code)

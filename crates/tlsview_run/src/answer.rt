@@ -1,45 +1,67 @@
 //! The program, from its words to its status.
-ghost use Rattle.std.specs.Prelude.{◌≡◌, IfOk, MatchResult};
-ghost use Rattle.tlsview_run.specs.Endings.{Answers, argument_of, line_of, status_of, TellsLine};
+ghost use Rattle.std.specs.Prelude.{◌≡◌, map, Ok, Err, MatchOption, MatchResult, string_bytes};
+ghost use Rattle.std.specs.Vec.Iter.{into_iter_items};
+ghost use Rattle.tlsview_run.specs.Endings.{Answers, argument_in, argument_of, line_of, status_of, TellsLine};
 
 use crate::fault::ViewFault;
 use crate::run::run;
 use std::alloc::Global;
+use std::env::Args;
+use std::io;
+use std::io::ErrorKind;
 use tls_codec::{Sink, Source, write_all};
 
 /// Runs the kind that the words name, sends the line of a refusal, and returns the exit status.
 ///
-/// The words are the program's name and its arguments, or why there are none. A line that the sink
-/// refuses is not sent again, and the status stays.
+/// The words are the program's name and its arguments, or why std gives none: `Memory` where it had none,
+/// and else `Kind`, since one of them, the name among them, isn't UTF-8. A line that the sink refuses is not
+/// sent again, and the status stays.
 pub fn answer<R: Source, W: Sink>(
     alloc: Global,
-    words: Result<Vec<String>, ViewFault>,
+    words: io::Result<Args>,
     input: &mut R,
     out: &mut W,
 ) -> u8
     ensures { Answers R.Source W.Sink input.old input.new out.old out.new (argument_of words) result }
 {
-    match only_argument(&words) {
+    match argument(words) {
         Ok(kind) => {
-            let outcome = run(alloc, kind, input, out);
+            let outcome = run(alloc, kind.as_str(), input, out);
             end(outcome, out)
         }
         Err(fault) => end(Err(fault), out),
     }
 }
 
-/// The word behind the program's name, where it is the only one.
-fn only_argument(words: &Result<Vec<String>, ViewFault>) -> Result<&str, ViewFault>
+/// The argument in the words of the process.
+fn argument(words: io::Result<Args>) -> Result<String, ViewFault>
     ensures { MatchResult result
-        (λ kind. argument_of words.now ≡ Ok kind.now)
-        (λ fault. argument_of words.now ≡ Err fault) }
+        (λ kind. argument_of words ≡ Ok (string_bytes kind))
+        (λ fault. argument_of words ≡ Err fault) }
 {
     match words {
-        Ok(words) => match words.as_slice() {
-            [_program, kind] => Ok(kind.as_str()),
+        Ok(words) => match only_argument(words) {
+            Some(kind) => Ok(kind),
+            None => Err(ViewFault::Kind),
+        },
+        Err(error) => match error.kind() {
+            ErrorKind::OutOfMemory => Err(ViewFault::Memory),
             _ => Err(ViewFault::Kind),
         },
-        Err(fault) => Err(*fault),
+    }
+}
+
+/// The word behind the program's name, where it is the only one.
+fn only_argument(mut words: Args) -> Option<String>
+    ensures { MatchOption result
+        (argument_in (map string_bytes (into_iter_items words)) ≡ Err ViewFault.Kind)
+        (λ kind. argument_in (map string_bytes (into_iter_items words)) ≡ Ok (string_bytes kind)) }
+{
+    let _program = words.next()?;
+    let kind = words.next()?;
+    match words.next() {
+        None => Some(kind),
+        Some(_) => None,
     }
 }
 

@@ -25,45 +25,39 @@
 //! - [`view`]: the lines that are printed of some bytes.
 //! - [`show`]: [`Show`](show::Show), the text of a value.
 //! - [`fault`]: [`ViewFault`](fault::ViewFault), why there is no view.
+//! - [`laws`]: how faults are compared, and which kinds there are.
 #![tactic(auto)]
 
-ghost use Rattle.std.specs.Prelude.{◌≡◌, ◌⊎◌, IfErr};
+ghost use Rattle.tlsview_run.specs.Endings.{EndsBySomeWords};
 
 pub mod answer;
 pub mod fault;
 pub mod input;
+pub mod laws;
 pub mod run;
 pub mod show;
 #[cfg(test)]
 mod tests;
 pub mod view;
 
-use fault::ViewFault;
 use std::env;
 use std::env::Env;
-use std::io::{ErrorKind, Read, Write};
+use std::io::{Read, Write};
 use std::process::ExitCode;
-use tls_codec::Outside;
+use tls_codec::{Outside, Sink, Source};
 
-/// All of `main`: its arguments are those of the process.
+/// All of `main`: its words are those of the process. std says nothing of them, and so the contract is
+/// that of the [answer](answer::answer) to some words.
 pub fn program<E: Env + AllocGlobal, R: Read + Drop, W: Write + Drop>(
     rt: &E,
     input: R,
     out: W,
-) -> ExitCode {
+) -> ExitCode
+    ensures { EndsBySomeWords ⟦<Outside<R> as Source>⟧ ⟦<Outside<W> as Sink>⟧
+        (R.remaining input) (W.contents out) result }
+{
     let mut input = Outside::new(input);
     let mut out = Outside::new(out);
-    let status = answer::answer(rt.alloc(), words(rt), &mut input, &mut out);
+    let status = answer::answer(rt.alloc(), env::args(rt), &mut input, &mut out);
     ExitCode::from(status)
-}
-
-/// The program's name and its arguments. `Kind`: one of them, the name among them, isn't UTF-8.
-fn words<E: Env + AllocGlobal>(rt: &E) -> Result<Vec<String>, ViewFault>
-    ensures { IfErr result (λ fault. (fault ≡ ViewFault.Kind) ⊎ (fault ≡ ViewFault.Memory)) }
-{
-    match env::args(rt) {
-        Ok(words) => Ok(words.collect(rt.alloc())?),
-        Err(error) if error.kind() == ErrorKind::OutOfMemory => Err(ViewFault::Memory),
-        Err(_) => Err(ViewFault::Kind),
-    }
 }

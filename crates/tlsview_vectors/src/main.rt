@@ -35,7 +35,7 @@ fn answer_of(alloc: Global, kind: &str, hex: &str) -> Result<(u8, Vec<u8>), Allo
     let words = Vec::from_array(alloc, ["tlsview".to_string(alloc)?, kind.to_string(alloc)?])?;
     let mut input = digits(hex).as_bytes();
     let mut printed = Vec::new(alloc);
-    let status = answer(alloc, Ok(words), &mut input, &mut printed);
+    let status = answer(alloc, Ok(words.into_iter()), &mut input, &mut printed);
     Ok((status, printed))
 }
 

@@ -1,7 +1,8 @@
 // How the program ends: its status, and what went out.
 use crate::answer::answer;
-use crate::fault::ViewFault;
 use std::alloc::{AllocError, Global};
+use std::io;
+use std::io::ErrorKind;
 use std::test::Fail;
 use tls_codec::Fault;
 use tls_codec_vectors::{Drip, Failing, Trickle};
@@ -42,7 +43,10 @@ fn a_program_ends_by_its_words(rt: HostRuntime) -> Result<(), Fail> {
         let words = words_of(rt.alloc(), words)?;
         let mut rest = text.as_bytes();
         let mut out = Vec::new(rt.alloc());
-        assert_eq!(rt; answer(rt.alloc(), Ok(words), &mut rest, &mut out), status);
+        assert_eq!(rt;
+            answer(rt.alloc(), Ok(words.into_iter()), &mut rest, &mut out),
+            status
+        );
         assert_eq!(rt; out.as_slice(), printed.as_bytes());
         assert_eq!(rt; rest, if is_read { &[] } else { text.as_bytes() });
     }
@@ -52,13 +56,14 @@ fn a_program_ends_by_its_words(rt: HostRuntime) -> Result<(), Fail> {
 // Where the words can't be read.
 #[test]
 fn a_program_without_words_says_why(rt: HostRuntime) {
-    for (fault, printed) in [
-        (ViewFault::Kind, "error kind\n"),
-        (ViewFault::Memory, "error memory\n"),
+    for (kind, printed) in [
+        (ErrorKind::InvalidData, "error kind\n"),
+        (ErrorKind::OutOfMemory, "error memory\n"),
     ] {
+        let words = Err(io::Error::from(kind));
         let mut rest = b"0007".as_slice();
         let mut out = Vec::new(rt.alloc());
-        assert_eq!(rt; answer(rt.alloc(), Err(fault), &mut rest, &mut out), 2);
+        assert_eq!(rt; answer(rt.alloc(), words, &mut rest, &mut out), 2);
         assert_eq!(rt; out.as_slice(), printed.as_bytes());
         assert_eq!(rt; rest, b"0007".as_slice());
     }
@@ -79,7 +84,10 @@ fn a_program_says_how_its_input_failed(rt: HostRuntime) -> Result<(), Fail> {
         let words = words_of(rt.alloc(), &["tlsview", "u16"])?;
         let mut input = Failing::new(Drip::new(text.as_bytes()), at, times, fault);
         let mut out = Vec::new(rt.alloc());
-        assert_eq!(rt; answer(rt.alloc(), Ok(words), &mut input, &mut out), 2);
+        assert_eq!(rt;
+            answer(rt.alloc(), Ok(words.into_iter()), &mut input, &mut out),
+            2
+        );
         assert_eq!(rt; out.as_slice(), printed.as_bytes(), "{text}");
     }
     Ok(())
@@ -100,9 +108,27 @@ fn a_program_ends_as_its_sink_does(rt: HostRuntime) -> Result<(), Fail> {
         let words = words_of(rt.alloc(), &["tlsview", kind])?;
         let mut input = b"0007\n".as_slice();
         let mut out = Failing::new(Trickle::new(Vec::new(rt.alloc())), at, times, fault);
-        assert_eq!(rt; answer(rt.alloc(), Ok(words), &mut input, &mut out), 2);
+        assert_eq!(rt;
+            answer(rt.alloc(), Ok(words.into_iter()), &mut input, &mut out),
+            2
+        );
         let printed = out.into_inner().into_inner();
         assert_eq!(rt; printed.as_slice(), received.as_bytes());
     }
+    Ok(())
+}
+
+// The input has one digit more than an input may have.
+#[test]
+fn a_program_says_that_its_input_is_too_long(rt: HostRuntime) -> Result<(), Fail> {
+    let words = words_of(rt.alloc(), &["tlsview", "u16"])?;
+    let text = vec![in rt.alloc(); b'0'; 1_048_577]?;
+    let mut rest = text.as_slice();
+    let mut out = Vec::new(rt.alloc());
+    assert_eq!(rt;
+        answer(rt.alloc(), Ok(words.into_iter()), &mut rest, &mut out),
+        2
+    );
+    assert_eq!(rt; out.as_slice(), b"error long\n".as_slice());
     Ok(())
 }

@@ -1,7 +1,9 @@
 // Runs from an input and into a sink of which some calls in a row fail.
 use crate::fault::ViewFault;
 use crate::run::run;
-use tls_codec::Fault;
+use std::io;
+use std::io::{ErrorKind, Read, Write};
+use tls_codec::{Fault, Outside};
 use tls_codec_vectors::{Drip, Failing, Trickle};
 
 const VIEW: &str = "slice ok some 7 rest ee\nreader ok some 7 rest ee\nleast 010007\n";
@@ -68,4 +70,49 @@ fn interruptions_over_whole_run(rt: HostRuntime) {
     assert_eq!(rt; outcome, Ok(true));
     let printed = out.into_inner().into_inner().into_inner();
     assert_eq!(rt; printed.as_slice(), VIEW.as_bytes());
+}
+
+// Fails at each call, by an error of this kind.
+#[derive(Drop)]
+struct Broken {
+    kind: ErrorKind,
+}
+
+impl Read for Broken {
+    fn read(&mut self, _buf: &mut [u8]) -> io::Result<usize> {
+        Err(io::Error::from(self.kind))
+    }
+}
+
+impl Write for Broken {
+    fn write(&mut self, _buf: &[u8]) -> io::Result<usize> {
+        Err(io::Error::from(self.kind))
+    }
+
+    fn flush(&mut self) -> io::Result<()> {
+        Err(io::Error::from(self.kind))
+    }
+}
+
+// Of the errors of std only want of memory has a name of its own, and that for an input alone.
+#[test]
+fn errors_of_std_are_read_and_write(rt: HostRuntime) {
+    for (kind, fault) in [
+        (ErrorKind::WouldBlock, ViewFault::Read),
+        (ErrorKind::TimedOut, ViewFault::Read),
+        (ErrorKind::InvalidData, ViewFault::Read),
+        (ErrorKind::UnexpectedEof, ViewFault::Read),
+        (ErrorKind::Interrupted, ViewFault::Read),
+        (ErrorKind::OutOfMemory, ViewFault::Memory),
+    ] {
+        let mut input = Outside::new(Broken { kind });
+        let mut out = Vec::new(rt.alloc());
+        let found = run(rt.alloc(), "u16", &mut input, &mut out);
+        assert_eq!(rt; found, Err(fault), "{kind:?}");
+        assert!(rt; out.is_empty());
+        let mut text = b"0007".as_slice();
+        let mut broken = Outside::new(Broken { kind });
+        let found = run(rt.alloc(), "u16", &mut text, &mut broken);
+        assert_eq!(rt; found, Err(ViewFault::Write), "{kind:?}");
+    }
 }
