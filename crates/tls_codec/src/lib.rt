@@ -16,6 +16,8 @@
 //! - [`laws`]: what holds of the spellings of every type with the traits. [`refusals`]: where two errors come.
 #![tactic(auto)]
 
+pub mod types;
+
 pub use tls_codec_base::{
     Deserialize, DeserializeBytes, LengthField, Lent, Serialize, SerializeBytes, Size, laws, lists,
     refusals,

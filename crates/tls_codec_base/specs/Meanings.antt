@@ -1,13 +1,14 @@
--- Words of the tables of types: what values stand for, how they are spelled, and which errors decoders name.
-use Rattle.std.specs.Prelude.{◌≡◌, ◌↔◌, ◌⊎◌, ℕ, List, Option}
+-- Words of the table of types: what values stand for, how they are spelled, and which errors decoders name.
+use Rattle.std.specs.Prelude.{◌≡◌, ◌<◌, ◌↔◌, ℕ, Bool, IsTrue, List, Option, length}
 use Rattle.tls_codec_wire.specs.Counts.{Counts}
+use Rattle.tls_codec_wire.specs.Transfer.{ReadRefused}
 use Rattle.tls_codec_wire.specs.declared.error.Error.{Error}
-use Rattle.tls_codec_wire.specs.declared.error.Error.TheVariants.{OutOfMemory}
+use Rattle.tls_codec_wire.specs.declared.error.Error.TheVariants.{EndOfStream}
 use Rattle.tls_codec_grammar.specs.Tree.{Tree}
 use Rattle.tls_codec_grammar.specs.Grammar.{Direction}
 use Rattle.tls_codec_grammar.specs.Field.{Field}
 use Rattle.tls_codec_grammar.specs.Format.{Format}
-use Rattle.tls_codec_grammar.specs.Opaque.{OpaqueRefused, OpaqueSourceRefused}
+use Rattle.tls_codec_grammar.specs.Opaque.{OpaqueCopyRefused, OpaqueSourceRefused}
 use Rattle.tls_codec_base.specs.Refusals.{SliceNames, SourceNames}
 use Rattle.tls_codec_base.specs.declared.traits.Size.{Ghosts}
 
@@ -32,10 +33,30 @@ SameNames m n = (x : List ℕ) (e : Error) → m x e ↔ n x e
 abbrev pub SameSourceNames : SourceNames → SourceNames → Type 0
 SameSourceNames m n = (coming : Option (List ℕ)) (old new : Counts) (e : Error) → m coming old new e ↔ n coming old new e
 
--- which errors are named where bytes behind a length field are read from a slice
-abbrev pub opaque_names : Field → SliceNames
-opaque_names field x e = (e ≡ OutOfMemory) ⊎ OpaqueRefused field e x
+-- fewer than k bytes are there
+abbrev pub too_few : ℕ → SliceNames
+too_few k x e = (e ≡ EndOfStream) × (length x < k)
 
--- the same from a source
+-- k bytes are not read
+abbrev pub not_read : ℕ → SourceNames
+not_read k coming old new e = ReadRefused e k coming old new
+
+-- bytes after a length are not split off and copied
+abbrev pub opaque_names : Field → SliceNames
+opaque_names field x e = OpaqueCopyRefused field e x
+
+-- they don't come
 abbrev pub opaque_source_names : Field → SourceNames
 opaque_source_names field coming old new e = OpaqueSourceRefused field e coming old new
+
+-- two length fields say the same of each number and of all bytes
+pub record SameField (f g : Field) : Type 0 where
+  pub spells : (b : List ℕ) (n : ℕ) → f.spells b n ↔ g.spells b n
+  pub width : (n : ℕ) → f.width n ≡ g.width n
+  pub limit : f.limit ≡ g.limit
+  pub refuses : (x : List ℕ) (e : Error) → f.refuses x e ↔ g.refuses x e
+  pub cut_off : (e : Error) → f.cut_off e ↔ g.cut_off e
+
+-- values that stand for one tree are equal
+abbrev pub EqualWhereAlike : {T : Type 0} → (T → Tree) → (T → T → Bool) → Type 0
+EqualWhereAlike {T} plain eq = (x y : T) → plain x ≡ plain y → IsTrue (eq x y)

@@ -1,35 +1,20 @@
-//! What byte vectors stand for and how they are spelled, as bytes behind one to four bytes, which errors their decoders
-//! name, what conversions and places give; and that they are compared and hashed as the lists of their bytes are.
+//! Byte vectors are spelled as bytes behind one to four bytes; what conversions and places give; and that they are
+//! compared and hashed as the lists of their bytes are.
 //!
 //! The functions do nothing. Their contracts state this, and so are proved.
 ghost use Rattle.std.specs.Prelude.{◌≡◌, ◌↔◌, ◌<◌, ℕ, IsTrue, List, Some, Vec, length, slice_get};
 ghost use Rattle.std.specs.Global.{Global};
 ghost use Rattle.std.specs.Hash as fed;
-ghost use Rattle.tls_codec_grammar.specs.Tree.{Tree, number_trees};
-ghost use Rattle.tls_codec_grammar.specs.Format.{counted_bytes_format};
+ghost use Rattle.tls_codec_grammar.specs.Tree.{Tree};
 ghost use Rattle.tls_codec_grammar.specs.Grammar.{Direction, fixed_list, number};
-ghost use Rattle.tls_codec_base.specs.Meanings.{Means, SameNames, SameSourceNames, opaque_names, opaque_source_names};
 ghost use Rattle.tls_codec_bytes.specs.Contents.{bytes_of};
 ghost use Rattle.tls_codec_bytes.specs.declared.bytes.TlsByteVec.{TlsByteVec};
 
 use crate::TlsByteVec;
 use std::hash::Hash;
 use std::ops::Index;
-use tls_codec_base::{Deserialize, DeserializeBytes, LengthField, Size};
+use tls_codec_base::Size;
 use tls_codec_wire::U24;
-
-/// A byte vector stands for its bytes, and is spelled as these behind their number, which the length field spells. A
-/// reference is as what it refers to.
-pub fn byte_vecs_stand_for_their_bytes<'a, F: LengthField>()
-    ensures vec { Means ⟦<TlsByteVec<F> as Size>⟧ (λ v. number_trees (bytes_of v)) (counted_bytes_format F.field) }
-    ensures vec_ref { Means ⟦<&'a TlsByteVec<F> as Size>⟧ (λ v. number_trees (bytes_of v.now)) (counted_bytes_format F.field) }
-{}
-
-/// The decoders name the errors of bytes behind a length field.
-pub fn decoders_name_these_errors<F: LengthField>()
-    ensures slice { SameNames ⟦<TlsByteVec<F> as DeserializeBytes>⟧.names (opaque_names F.field) }
-    ensures source { SameSourceNames ⟦<TlsByteVec<F> as Deserialize>⟧.names (opaque_source_names F.field) }
-{}
 
 /// A conversion from or to a `Vec<u8>` keeps the bytes.
 pub fn conversions_keep_the_bytes<F>()

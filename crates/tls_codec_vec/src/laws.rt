@@ -1,41 +1,21 @@
-//! What vectors stand for and how they are spelled, as lists behind one to four bytes, which errors their decoders
-//! name, what conversions and places give; and that they are compared and hashed as the lists of their elements are.
+//! Vectors are spelled as lists behind one to four bytes; what conversions and places give; and that they are compared
+//! and hashed as the lists of their elements are.
 //!
 //! The functions do nothing. Their contracts state this, and so are proved.
 ghost use Rattle.std.specs.Prelude.{◌≡◌, ◌↔◌, ◌<◌, ℕ, List, Vec, length, slice_index_or};
 ghost use Rattle.std.specs.Global.{Global};
 ghost use Rattle.std.specs.Cmp.Lexicographic.{pointwise};
 ghost use Rattle.std.specs.Hash as fed;
-ghost use Rattle.tls_codec_grammar.specs.Tree.{Tree, trees};
-ghost use Rattle.tls_codec_grammar.specs.Format.{counted_list_format};
+ghost use Rattle.tls_codec_grammar.specs.Tree.{Tree};
 ghost use Rattle.tls_codec_grammar.specs.Grammar.{Direction, fixed_list};
-ghost use Rattle.tls_codec_base.specs.Meanings.{Means, SameNames, SameSourceNames};
-ghost use Rattle.tls_codec_base.specs.Refusals.{counted_list_names, counted_list_source_names};
 ghost use Rattle.tls_codec_vec.specs.Contents.{elements_of};
 ghost use Rattle.tls_codec_vec.specs.declared.list.TlsVec.{TlsVec};
 
 use crate::TlsVec;
 use std::hash::Hash;
 use std::ops::Index;
-use tls_codec_base::{Deserialize, DeserializeBytes, LengthField, Size};
+use tls_codec_base::Size;
 use tls_codec_wire::U24;
-
-/// A vector stands for the list of its elements, and is spelled as that list behind its number of bytes, which the
-/// length field spells. A reference is as what it refers to.
-pub fn vectors_stand_for_their_elements<'a, F: LengthField, T: Size>()
-    ensures vec { Means ⟦<TlsVec<F, T> as Size>⟧ (λ v. trees T.plain (elements_of v)) (counted_list_format F.field T.format) }
-    ensures vec_ref { Means ⟦<&'a TlsVec<F, T> as Size>⟧ (λ v. trees T.plain (elements_of v.now)) (counted_list_format F.field T.format) }
-{}
-
-/// The decoder from a slice names the errors of a list behind a length field.
-pub fn decoder_from_a_slice_names_these_errors<F: LengthField, T: DeserializeBytes>()
-    ensures { SameNames ⟦<TlsVec<F, T> as DeserializeBytes>⟧.names (counted_list_names F.field T.format T.names) }
-{}
-
-/// And so does the decoder from a source.
-pub fn decoder_from_a_source_names_these_errors<F: LengthField, T: Deserialize>()
-    ensures { SameSourceNames ⟦<TlsVec<F, T> as Deserialize>⟧.names (counted_list_source_names F.field T.format T.names) }
-{}
 
 /// A conversion from or to a `Vec` keeps the elements.
 pub fn conversions_keep_the_elements<F, T>()

@@ -1,5 +1,5 @@
-//! What the types stand for and how they are spelled, which errors their decoders name, what conversions, copies
-//! and clearing come to; and that vectors are compared, ordered, hashed and printed as the lists of their bytes are.
+//! What conversions, copies and clearing come to; and that vectors are compared, ordered, hashed and printed as the
+//! lists of their bytes are.
 //!
 //! The functions do nothing. Their contracts state this, and so are proved.
 ghost use Rattle.std.specs.Prelude.{◌≡◌, ◌↔◌, ℕ, List, [], codes, replicate, IsTrue, Some, Vec};
@@ -7,10 +7,6 @@ ghost use Rattle.std.specs.Global.{Global};
 ghost use Rattle.std.specs.Ordering.{nat_cmp};
 ghost use Rattle.std.specs.Cmp.Lexicographic.{slice_cmp};
 ghost use Rattle.std.specs.Hash as fed;
-ghost use Rattle.tls_codec_grammar.specs.Tree.{number_trees};
-ghost use Rattle.tls_codec_grammar.specs.Field.{variable_field};
-ghost use Rattle.tls_codec_grammar.specs.Format.{bytes_format};
-ghost use Rattle.tls_codec_base.specs.Meanings.{Means, SameNames, SameSourceNames, opaque_names, opaque_source_names};
 ghost use Rattle.tls_codec_vl.specs.Contents.{bytes_of, secret_bytes_of, secret_vec_bytes_of, slice_bytes_of, vec_bytes_of};
 ghost use Rattle.tls_codec_vl.specs.Shown.{debug_text};
 ghost use Rattle.tls_codec_vl.specs.declared.secret_vl_byte_vec.SecretVLByteVec.{SecretVLByteVec};
@@ -22,36 +18,6 @@ ghost use Rattle.tls_codec_vl.specs.declared.vl_bytes.VLBytes.{VLBytes};
 use crate::{SecretVLByteVec, SecretVLBytes, VLByteSlice, VLByteVec, VLBytes, Zeroize};
 use std::fmt::Debug;
 use std::hash::Hash;
-use tls_codec_base::{Deserialize, DeserializeBytes, Size};
-
-/// Each type stands for its bytes, and is spelled as bytes behind their number, which is a variable-length
-/// length (RFC 9420, section 2.1.2). A reference is as what it refers to.
-pub fn types_stand_for_their_bytes<'a>()
-    ensures vl_bytes { Means ⟦<VLBytes as Size>⟧ (λ v. number_trees (bytes_of v)) bytes_format }
-    ensures vl_bytes_ref { Means ⟦<&'a VLBytes as Size>⟧ (λ v. number_trees (bytes_of v.now)) bytes_format }
-    ensures vl_byte_vec { Means ⟦<VLByteVec as Size>⟧ (λ v. number_trees (vec_bytes_of v)) bytes_format }
-    ensures vl_byte_vec_ref { Means ⟦<&'a VLByteVec as Size>⟧ (λ v. number_trees (vec_bytes_of v.now)) bytes_format }
-    ensures vl_byte_slice { Means ⟦<VLByteSlice<'a> as Size>⟧ (λ v. number_trees (slice_bytes_of v)) bytes_format }
-    ensures vl_byte_slice_ref { Means ⟦<&'a VLByteSlice<'a> as Size>⟧ (λ v. number_trees (slice_bytes_of v.now)) bytes_format }
-    ensures secret_vl_bytes { Means ⟦<SecretVLBytes as Size>⟧ (λ v. number_trees (secret_bytes_of v)) bytes_format }
-    ensures secret_vl_byte_vec { Means ⟦<SecretVLByteVec as Size>⟧ (λ v. number_trees (secret_vec_bytes_of v)) bytes_format }
-{}
-
-/// The decoders from a slice name the errors of bytes behind a variable-length length.
-pub fn decoders_from_a_slice_name_these_errors()
-    ensures vl_bytes { SameNames ⟦<VLBytes as DeserializeBytes>⟧.names (opaque_names variable_field) }
-    ensures vl_byte_vec { SameNames ⟦<VLByteVec as DeserializeBytes>⟧.names (opaque_names variable_field) }
-    ensures secret_vl_bytes { SameNames ⟦<SecretVLBytes as DeserializeBytes>⟧.names (opaque_names variable_field) }
-    ensures secret_vl_byte_vec { SameNames ⟦<SecretVLByteVec as DeserializeBytes>⟧.names (opaque_names variable_field) }
-{}
-
-/// And so do the decoders from a source.
-pub fn decoders_from_a_source_name_these_errors()
-    ensures vl_bytes { SameSourceNames ⟦<VLBytes as Deserialize>⟧.names (opaque_source_names variable_field) }
-    ensures vl_byte_vec { SameSourceNames ⟦<VLByteVec as Deserialize>⟧.names (opaque_source_names variable_field) }
-    ensures secret_vl_bytes { SameSourceNames ⟦<SecretVLBytes as Deserialize>⟧.names (opaque_source_names variable_field) }
-    ensures secret_vl_byte_vec { SameSourceNames ⟦<SecretVLByteVec as Deserialize>⟧.names (opaque_source_names variable_field) }
-{}
 
 /// A conversion from or to a `Vec<u8>` keeps the bytes, and a copy of what is lent equals it.
 pub fn conversions_and_copies_keep_the_bytes<'a>()
