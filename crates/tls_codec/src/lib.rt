@@ -16,6 +16,7 @@
 //! - [`laws`]: what holds of the spellings of every type with the traits. [`refusals`]: where two errors come.
 #![tactic(auto)]
 
+pub mod equality;
 pub mod types;
 
 pub use tls_codec_base::{

@@ -1,6 +1,6 @@
 -- What each message stands for, its format and its laws.
 use Rattle.std.proofs.Common.{arith}
-use Rattle.std.specs.Prelude.{string_bytes}
+use Rattle.std.specs.Prelude.{◌≡◌, string_bytes, ⊤}
 use Rattle.tls_codec.specs.OwnMessages.{Tree, Number, Empty, Join, trees, number_trees, option_plain, Format, number_format, option_format, nothing_format, fields_format, fixed_list_format, bytes_format, fixed_bytes_format, text_format, Variants, no_variant, variant, tagged_format, MeetsLaws, MeetVariantLaws, u16_meets, u32_meets, option_meets, nothing_meets, fields_meets, fixed_list_meets, bytes_meets, fixed_bytes_meets, text_meets, no_variant_meets, variant_meets, tagged_meets}
 use Rattle.tls_codec.specs.Contents.{bytes_of, fixed_bytes_of, elements_of}
 use Rattle.tls_codec_vectors.specs.declared.leaf.Leaf.{Leaf}
@@ -45,6 +45,13 @@ step_format = tagged_format 1 step_variants
 
 pub step_meets : MeetsLaws step_format
 step_meets = tagged_meets 1 (omega arith) step_variants_meet
+
+-- one variant, with equal fields
+abbrev pub SameStep : Step → Step → Type 0
+SameStep Ping Ping = ⊤
+SameStep (Note x) (Note y) = string_bytes x ≡ string_bytes y
+SameStep (Jump x) (Jump y) = x ≡ y
+SameStep _ _ = ⊥
 
 -- ---- a log: an identity, leaves and perhaps a last step, in a row
 

@@ -1,14 +1,19 @@
-//! Equal vectors have equal hashes, byte vectors are ordered as lists of bytes, and a step has one spelling.
+//! Equal vectors have equal hashes, byte vectors are ordered as lists of bytes, messages are equal where their fields
+//! are, and a step has one spelling.
 //!
 //! The functions do nothing. Their contracts state this, and so are proved.
-ghost use Rattle.std.specs.Prelude.{◌≡◌, ◌⊎◌, ℕ, [], ◌∷◌, IsTrue, Some};
+ghost use Rattle.std.specs.Prelude.{◌≡◌, ◌⊎◌, ◌↔◌, ◌&&◌, ℕ, [], ◌∷◌, IsTrue, Some};
 ghost use Rattle.std.specs.Ordering.{nat_cmp};
 ghost use Rattle.std.specs.Cmp.Lexicographic.{slice_cmp};
 ghost use Rattle.tls_codec.specs.OwnMessages.{Tree, Number, Empty, Join};
 ghost use Rattle.tls_codec.specs.Spellings.{IsLawful};
-ghost use Rattle.tls_codec_vectors.specs.Messages.{step_format};
+ghost use Rattle.tls_codec_vectors.specs.Messages.{SameStep, step_format};
+ghost use Rattle.tls_codec_vectors.specs.declared.leaf.Leaf.{Leaf};
+ghost use Rattle.tls_codec_vectors.specs.declared.log.Log.{Log};
+ghost use Rattle.tls_codec_vectors.specs.declared.step.Step.{Step};
 ghost use Rattle.tls_codec.specs.Contents.{SecretTlsVec, SecretVLByteVec, SecretVLBytes, TlsByteVec, TlsVec, VLByteVec, VLBytes, bytes_of, vec_bytes_of};
 
+use crate::{Leaf, Log, Step};
 use std::hash::Hash;
 use tls_codec::{
     SecretTlsVec, SecretVLByteVec, SecretVLBytes, TlsByteVec, TlsVec, VLByteVec, VLBytes, Zeroize,
@@ -41,6 +46,14 @@ pub fn byte_vectors_are_ordered_as_lists_of_bytes()
     ensures bytes_partly { (x y : VLBytes) → ⟦<VLBytes as PartialOrd>⟧.partial_cmp x y ≡ Some (slice_cmp nat_cmp (bytes_of x) (bytes_of y)) }
     ensures vec { (x y : VLByteVec) → ⟦<VLByteVec as Ord>⟧.cmp x y ≡ slice_cmp nat_cmp (vec_bytes_of x) (vec_bytes_of y) }
     ensures vec_partly { (x y : VLByteVec) → ⟦<VLByteVec as PartialOrd>⟧.partial_cmp x y ≡ Some (slice_cmp nat_cmp (vec_bytes_of x) (vec_bytes_of y)) }
+{}
+
+/// Two messages are equal where their fields are.
+pub fn messages_are_compared_by_their_fields()
+    ensures leaf { (x y : Leaf) → IsTrue (⟦<Leaf as PartialEq>⟧.eq x y) ↔ ((x.code ≡ y.code) × (bytes_of x.name ≡ bytes_of y.name)) }
+    ensures step { (x y : Step) → IsTrue (⟦<Step as PartialEq>⟧.eq x y) ↔ SameStep x y }
+    ensures log { (x y : Log) → ⟦<Log as PartialEq>⟧.eq x y ≡ (⟦<TlsByteVec<u8> as PartialEq>⟧.eq x.id y.id
+        && (⟦<TlsVec<u16, Leaf> as PartialEq>⟧.eq x.leaves y.leaves && ⟦<Option<Step> as PartialEq>⟧.eq x.last y.last)) }
 {}
 
 /// Where the bytes 03 00 spelled [`Step::Ping`](crate::Step::Ping) too, steps would meet no laws, whatever they

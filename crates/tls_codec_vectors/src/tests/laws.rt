@@ -2,7 +2,7 @@
 use crate::laws::{
     byte_vectors_are_ordered_as_lists_of_bytes, equal_byte_vectors_have_equal_hashes,
     equal_secret_vectors_have_equal_hashes, equal_vectors_have_equal_hashes,
-    second_spelling_of_ping_is_unlawful,
+    messages_are_compared_by_their_fields, second_spelling_of_ping_is_unlawful,
 };
 use crate::{Leaf, Log};
 use std::hash::{DefaultHasher, Hash, Hasher};
