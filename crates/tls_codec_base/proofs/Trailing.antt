@@ -1,6 +1,5 @@
 -- Why decoders never return `TrailingData`: only a part can name it.
 use Rattle.std.proofs.Common.{◌≡◌, ◌⊎◌, ◌^◌, ℕ, List, Option, None, Some, inl, inr, refl}
-use Rattle.tls_codec_wire.specs.Counts.{Counts}
 use Rattle.tls_codec_wire.specs.Numbers.{Comes}
 use Rattle.tls_codec_wire.specs.VarintCalls.{RefusesBelow}
 use Rattle.tls_codec_wire.specs.declared.error.Error.TheVariants.{OutOfMemory, TrailingData}

@@ -10,7 +10,7 @@ use Rattle.tls_codec_grammar.specs.Announced.{capped}
 use Rattle.tls_codec_grammar.specs.Field.{Field, FilledGap, GapRefused, IsSafeGap, OpenedGap}
 use Rattle.tls_codec_grammar.specs.Format.{Format, counted_format}
 use Rattle.tls_codec_grammar.specs.Lawful.{MeetsFieldLaws, MeetsLaws, MeetsLawsInside}
-use Rattle.tls_codec_grammar.specs.Encoding.{Appended, AppendRefused, PassesVectorBehind, RefusesVector}
+use Rattle.tls_codec_grammar.specs.Encoding.{Appended, AppendRefused, RefusesVector}
 use Rattle.tls_codec_grammar.specs.laws.RowLaws.{least_one}
 use Rattle.tls_codec_grammar.specs.laws.ListLaws.{counted_shortest}
 use Rattle.tls_codec_grammar.proofs.CountedEncoding.{counted_split}

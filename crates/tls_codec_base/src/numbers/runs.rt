@@ -1,5 +1,5 @@
 //! Numbers of one width in a row, read at once.
-ghost use Rattle.std.specs.Prelude.{◌≡◌, ◌<◌, ◌≤◌, ◌%◌, List, length, vec_len, IfErr, IfOk, ⊤};
+ghost use Rattle.std.specs.Prelude.{◌≡◌, ◌<◌, ◌≤◌, ◌%◌, List, length, vec_capacity, vec_len, IfErr, IfOk, ⊤};
 ghost use Rattle.std.specs.Iterator.{DrainsIf, IsFinite};
 ghost use Rattle.tls_codec_wire.specs.Bounded.{BorrowAlike, inner_of, limit_of};
 ghost use Rattle.tls_codec_wire.specs.Digits.{value};
@@ -47,8 +47,9 @@ fn collected<T: Drop, I: Iterator<Item = T> + Drop>(
 ) -> Result<Vec<T>, AllocError>
     requires can { I.can_next items }
     requires ends { IsFinite (I.remaining items) }
-    ensures { IfOk result (λ v. (xs : List T) × DrainsIf I.next_gives ⊤ items xs
+    ensures ran { IfOk result (λ v. (xs : List T) × DrainsIf I.next_gives ⊤ items xs
         × ((v.items ≡ xs) × (vec_len v ≡ length xs))) }
+    ensures room { IfOk result (λ v. room ≤ vec_capacity v) }
 {
     let mut all = Vec::with_capacity(alloc, room)?;
     all.extend(items)?;

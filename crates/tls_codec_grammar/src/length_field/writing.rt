@@ -40,6 +40,7 @@ pub fn write_length<F: LengthField, W: Sink>(
 pub fn open_gap(out: &mut Vec<u8>, width: usize, room: usize) -> Result<(), AllocError>
     requires { width ≤ 8 }
     ensures ok { OnOk result (OpenedGap out.old.items out.new.items width) }
+    ensures room { OnOk result (vec_len out.new + room ≤ vec_capacity out.new) }
     ensures kept { OnErr result (out.new.items ≡ out.old.items) }
 {
     make_room(out, width.saturating_add(room))?;

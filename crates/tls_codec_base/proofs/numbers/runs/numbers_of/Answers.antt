@@ -16,6 +16,6 @@ returns-clause-ok g c whole =
     let m = length x / k in
     let count : length x ≡ m * k = omega (arith, div-add-mod' (length x) k, whole) in
     let small = are_bytes x (λ i. omega (arith, c.type_inv.digits i)) in
-    let same = map_from_collect c.collected.result c.collected.ensures
+    let same = map_from_collect c.collected.result c.collected.ensures.ran
     (YieldsList-from_map_by _ g.T.HasDigits.number value (YieldsList-from_slice (first_chunks k m x) (search rules)) c.map.ensures.closure (λ group r q called. search rules)) in
     groups_content k m g.T.HasDigits.number c.in_ok-numbers.numbers.items x c.requires.some small count (IfOk-at_ok _ c.in_ok-numbers.was same)
