@@ -2,6 +2,7 @@
 mod appending;
 mod byte_vectors;
 mod clearing;
+mod devices;
 mod each_call;
 mod engines;
 mod families;

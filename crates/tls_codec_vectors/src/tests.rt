@@ -95,6 +95,7 @@ fn steps(rt: HostRuntime) -> Result<(), Fail> {
     for tag in [3u8, 7, 255] {
         let error = Error::UnknownValue(u64::from(tag));
         is_refused::<Step>(&rt, alloc, &[tag, 0], error);
+        is_refused::<Step>(&rt, alloc, &[tag], error);
     }
     for bytes in [[].as_slice(), &[1], &[2, 0, 0, 0]] {
         is_refused::<Step>(&rt, alloc, bytes, Error::EndOfStream);

@@ -4,7 +4,7 @@ use super::each_call::{
     is_written, is_written_alone,
 };
 use super::{NO_BYTES, NOT_FILLED, NOT_THERE};
-use std::alloc::Global;
+use std::alloc::{AllocError, Global};
 use std::process::Abort;
 use std::test::Fail;
 use tls_codec::lists::{self, Turns};
@@ -135,12 +135,25 @@ fn lists_in_lists_one_byte_a_pull(rt: HostRuntime) -> Result<(), Fail> {
 // Eight lists, each in another.
 type Deep = Vec<Vec<Vec<Vec<Vec<Vec<Vec<Vec<u8>>>>>>>>;
 
-// No other lists are written as these bytes.
+// A list of this element alone.
+fn only<T: Drop>(alloc: Global, element: T) -> Result<Vec<T>, AllocError> {
+    let mut list = Vec::new(alloc);
+    match list.push(element) {
+        Ok(()) => Ok(list),
+        Err(_) => Err(AllocError),
+    }
+}
+
+// One element at each level, and the innermost is 5.
 #[test]
 fn lists_eight_deep(rt: HostRuntime) -> Result<(), Fail> {
     let alloc = rt.alloc();
     let bytes = [8, 7, 6, 5, 4, 3, 2, 1, 5];
     let lists = Deep::tls_deserialize_exact_bytes(alloc, &bytes)?;
+    let two = only(alloc, only(alloc, 5u8)?)?;
+    let four = only(alloc, only(alloc, two)?)?;
+    let six = only(alloc, only(alloc, four)?)?;
+    assert!(rt; lists == only(alloc, only(alloc, six)?)?);
     is_spelled_alone(&rt, alloc, &lists, &bytes)?;
     let ends = Error::EndOfStream;
     for (wrong, by_slice) in [

@@ -1,5 +1,5 @@
 //! Texts behind their length.
-use super::each_call::{is_refused, is_refused_by_each, is_spelled_alone, is_written_alone};
+use super::each_call::{is_read, is_refused, is_refused_by_each, is_spelled_alone, is_written_alone};
 use super::{INVALID_UTF8, NOT_THERE};
 use std::test::Fail;
 use tls_codec::Error;
@@ -17,7 +17,8 @@ fn texts(rt: HostRuntime) -> Result<(), Fail> {
         let owned = String::from_str(alloc, text)?;
         is_spelled_alone(&rt, alloc, &owned, form)?;
     }
-    Ok(())
+    let hi = String::from_str(alloc, "hi")?;
+    is_read(&rt, alloc, &[0x02, 0x68, 0x69, 0x99], &hi, &[0x99])
 }
 
 #[test]

@@ -3,7 +3,8 @@ use super::{LOG, worked_log};
 use crate::{Drip, Failing, Log, Trickle};
 use std::test::Fail;
 use tls_codec::{
-    Deserialize, DeserializeBytes, Error, Fault, Serialize, TlsByteVecU16, vlen, write_all,
+    Deserialize, DeserializeBytes, Error, Fault, Serialize, Sink, Source, TlsByteVecU16, vlen,
+    write_all,
 };
 
 const READ_FAILED: Error = Error::DecodingError("read failed");
@@ -19,6 +20,18 @@ fn a_trickle_appends(rt: HostRuntime) -> Result<(), Fail> {
     whole.extend_from_slice(&[0, 1, 2])?;
     assert_eq!(rt; sink.into_inner().as_slice(), whole.as_slice());
     Ok(())
+}
+
+// A call that is not planned is the call of the device inside, with the whole buffer or piece.
+#[test]
+fn whole_pieces_are_handed_on(rt: HostRuntime) {
+    let mut source = Failing::new([1u8, 2, 3].as_slice(), 2, 1, Fault::Failed);
+    let mut into = [0; 3];
+    assert_eq!(rt; source.pull(&mut into), Ok(3));
+    assert_eq!(rt; into, [1, 2, 3]);
+    let mut sink = Failing::new(Vec::new(rt.alloc()), 2, 1, Fault::Failed);
+    assert_eq!(rt; sink.give(&[1, 2, 3]), Ok(3));
+    assert_eq!(rt; sink.into_inner().as_slice(), [1, 2, 3].as_slice());
 }
 
 #[test]
@@ -122,6 +135,9 @@ fn interruptions_over_whole_call(rt: HostRuntime) {
     let alloc = rt.alloc();
     for (times, number) in [(16, Ok(5)), (17, Err(READ_FAILED))] {
         let mut source = Failing::new([5u8].as_slice(), 1, times, Fault::Interrupted);
+        assert_eq!(rt; u8::tls_deserialize(alloc, &mut source), number);
+        assert_eq!(rt; source.interruptions(), times);
+        let mut source = Failing::new(Drip::new(&[5]), 1, times, Fault::Interrupted);
         assert_eq!(rt; u8::tls_deserialize(alloc, &mut source), number);
         assert_eq!(rt; source.interruptions(), times);
     }

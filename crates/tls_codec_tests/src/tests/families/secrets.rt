@@ -59,5 +59,9 @@ fn contents_past_their_length(rt: HostRuntime) -> Result<(), Fail> {
     let alloc = rt.alloc();
     let list = SecretTlsVecU8::new(filled(alloc, 256, 0)?);
     is_too_long(&rt, alloc, &list, 257, &[])?;
-    is_too_long(&rt, alloc, &&list, 257, &[])
+    is_too_long(&rt, alloc, &&list, 257, &[])?;
+    let list = SecretTlsVecU16::new(filled(alloc, 65_536, 0)?);
+    is_too_long(&rt, alloc, &list, 65_538, &[])?;
+    let list = SecretTlsVecU24::new(filled(alloc, 16_777_216, 0)?);
+    is_too_long(&rt, alloc, &list, 16_777_219, &[])
 }

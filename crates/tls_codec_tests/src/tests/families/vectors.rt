@@ -2,7 +2,7 @@
 mod calls;
 
 use crate::tests::each_call::{
-    filled, is_refused, is_refused_by_each, is_spelled, is_too_long, is_written,
+    filled, is_left, is_refused, is_refused_by_each, is_spelled, is_too_long, is_written,
 };
 use crate::tests::{NO_BYTES, NOT_FILLED};
 use std::alloc::Global;
@@ -12,6 +12,7 @@ use tls_codec::{
     Deserialize, DeserializeBytes, Error, LengthField, TlsVec, TlsVecU8, TlsVecU16, TlsVecU24,
     TlsVecU32, U24,
 };
+use tls_codec_vectors::Drip;
 
 // So many bytes `4d` are a list of so many bytes that begins so.
 fn begins<F: LengthField>(
@@ -44,7 +45,11 @@ fn contents_past_their_length(rt: HostRuntime) -> Result<(), Fail> {
     let alloc = rt.alloc();
     let list = TlsVecU8::new(filled(alloc, 256, 0)?);
     is_too_long(&rt, alloc, &list, 257, &[])?;
-    is_too_long(&rt, alloc, &&list, 257, &[])
+    is_too_long(&rt, alloc, &&list, 257, &[])?;
+    let list = TlsVecU16::new(filled(alloc, 65_536, 0)?);
+    is_too_long(&rt, alloc, &list, 65_538, &[])?;
+    let list = TlsVecU24::new(filled(alloc, 16_777_216, 0)?);
+    is_too_long(&rt, alloc, &list, 16_777_219, &[])
 }
 
 #[test]
@@ -56,6 +61,10 @@ fn a_list_behind_a_number(rt: HostRuntime) -> Result<(), Fail> {
     assert_eq!(rt; u8::tls_deserialize(alloc, &mut source), Ok(1));
     assert!(rt; TlsVecU8::<u8>::tls_deserialize(alloc, &mut source)? == list);
     assert_eq!(rt; source, [].as_slice());
+    let mut drip = Drip::new(&bytes);
+    assert_eq!(rt; u8::tls_deserialize(alloc, &mut drip), Ok(1));
+    assert!(rt; TlsVecU8::<u8>::tls_deserialize(alloc, &mut drip)? == list);
+    is_left(&rt, alloc, &mut drip, &[])?;
     let (number, rest) = u8::tls_deserialize_bytes(alloc, &bytes)?;
     let (found, rest) = TlsVecU8::<u8>::tls_deserialize_bytes(alloc, rest)?;
     assert_eq!(rt; (number, rest), (1, [].as_slice()));

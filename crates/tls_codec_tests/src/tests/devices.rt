@@ -1,0 +1,107 @@
+//! Each type from a source, and into a sink, that fails at each of its calls in turn.
+use std::alloc::Global;
+use std::process::Abort;
+use std::test::Fail;
+use tls_codec::{
+    Deserialize, DeserializeBytes, Error, Fault, SecretTlsVecU8, SecretTlsVecU24, SecretVLByteVec,
+    SecretVLBytes, Serialize, TlsByteSliceU24, TlsByteVecU16, TlsByteVecU32, TlsSliceU8, TlsVarInt,
+    TlsVecU16, TlsVecU32, U24, VLByteSlice, VLByteVec, VLBytes,
+};
+use tls_codec_vectors::{Drip, Failing, Trickle};
+
+// Which fault a device returns, and what is said of it by a decoder and by an encoder.
+const FAULTS: [(Fault, Error, Error); 2] = [
+    (
+        Fault::Failed,
+        Error::DecodingError("read failed"),
+        Error::EncodingError("write failed"),
+    ),
+    (Fault::NoMemory, Error::OutOfMemory, Error::OutOfMemory),
+];
+
+// A byte comes by each call before the one that fails.
+fn is_not_read<T: Deserialize>(rt: &impl Abort, alloc: Global, bytes: &[u8]) {
+    for (fault, error, _) in FAULTS {
+        for at in 1..=bytes.len() {
+            let mut source = Failing::new(Drip::new(bytes), at as u64, 1, fault);
+            let found = T::tls_deserialize(alloc, &mut source).err();
+            assert_eq!(rt; found, Some(error), "at {at} of {bytes:?}");
+        }
+    }
+}
+
+// A byte goes by each call before the one that fails.
+fn is_not_written<T: Serialize>(
+    rt: &impl Abort,
+    alloc: Global,
+    value: &T,
+    bytes: &[u8],
+) -> Result<(), Fail> {
+    for (fault, _, error) in FAULTS {
+        for sent in 0..bytes.len() {
+            let trickle = Trickle::new(Vec::new(alloc));
+            let mut sink = Failing::new(trickle, sent as u64 + 1, 1, fault);
+            assert_eq!(rt; value.tls_serialize(&mut sink), Err(error), "after {sent}");
+            let received = sink.into_inner().into_inner();
+            assert_eq!(rt; received.as_slice(), &bytes[..sent]);
+        }
+    }
+    Ok(())
+}
+
+// The value of these bytes is neither read nor written.
+fn fails<T: Deserialize + DeserializeBytes + Serialize>(
+    rt: &impl Abort,
+    alloc: Global,
+    bytes: &[u8],
+) -> Result<(), Fail> {
+    is_not_read::<T>(rt, alloc, bytes);
+    let value = T::tls_deserialize_exact_bytes(alloc, bytes)?;
+    is_not_written(rt, alloc, &value, bytes)
+}
+
+#[test]
+fn plain_types(rt: HostRuntime) -> Result<(), Fail> {
+    let alloc = rt.alloc();
+    fails::<u8>(&rt, alloc, &[1])?;
+    fails::<u16>(&rt, alloc, &[1, 2])?;
+    fails::<U24>(&rt, alloc, &[1, 2, 3])?;
+    fails::<u32>(&rt, alloc, &[1, 2, 3, 4])?;
+    fails::<u64>(&rt, alloc, &[1, 2, 3, 4, 5, 6, 7, 8])?;
+    fails::<TlsVarInt>(&rt, alloc, &[0x80, 0, 0x40, 0])?;
+    fails::<[u8; 3]>(&rt, alloc, &[1, 2, 3])?;
+    fails::<Option<u16>>(&rt, alloc, &[1, 0, 7])?;
+    fails::<(u8, u16)>(&rt, alloc, &[1, 0, 7])?;
+    fails::<(u8, u16, u8)>(&rt, alloc, &[1, 0, 7, 8])?;
+    fails::<Box<u16>>(&rt, alloc, &[0, 7])
+}
+
+#[test]
+fn lists_and_bytes(rt: HostRuntime) -> Result<(), Fail> {
+    let alloc = rt.alloc();
+    fails::<Vec<u16>>(&rt, alloc, &[4, 0, 1, 0, 2])?;
+    fails::<Vec<Option<u8>>>(&rt, alloc, &[3, 1, 7, 0])?;
+    fails::<String>(&rt, alloc, &[2, 0xc3, 0xa9])?;
+    fails::<VLBytes>(&rt, alloc, &[2, 7, 8])?;
+    fails::<VLByteVec>(&rt, alloc, &[2, 7, 8])?;
+    fails::<SecretVLBytes>(&rt, alloc, &[2, 7, 8])?;
+    fails::<SecretVLByteVec>(&rt, alloc, &[2, 7, 8])?;
+    fails::<TlsVecU16<u16>>(&rt, alloc, &[0, 2, 0, 7])?;
+    fails::<TlsVecU32<VLBytes>>(&rt, alloc, &[0, 0, 0, 2, 1, 7])?;
+    fails::<SecretTlsVecU8<u16>>(&rt, alloc, &[2, 0, 7])?;
+    fails::<SecretTlsVecU24<u8>>(&rt, alloc, &[0, 0, 1, 7])?;
+    fails::<TlsByteVecU16>(&rt, alloc, &[0, 1, 7])?;
+    fails::<TlsByteVecU32>(&rt, alloc, &[0, 0, 0, 1, 7])
+}
+
+#[test]
+fn what_is_lent(rt: HostRuntime) -> Result<(), Fail> {
+    let alloc = rt.alloc();
+    is_not_written(&rt, alloc, &&7u16, &[0, 7])?;
+    is_not_written(&rt, alloc, &&Some(7u8), &[1, 7])?;
+    is_not_written(&rt, alloc, &[1u16, 2].as_slice(), &[4, 0, 1, 0, 2])?;
+    is_not_written(&rt, alloc, &"é", &[2, 0xc3, 0xa9])?;
+    is_not_written(&rt, alloc, &VLByteSlice(&[7, 8]), &[2, 7, 8])?;
+    is_not_written(&rt, alloc, &TlsSliceU8(&[7u8]), &[1, 7])?;
+    is_not_written(&rt, alloc, &TlsByteSliceU24(&[7]), &[0, 0, 1, 7])
+}
