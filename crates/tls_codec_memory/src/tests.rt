@@ -1,35 +1,83 @@
-//! Each call is made once more where memory was refused to it. At most one request of a process is refused,
-//! so the second time it isn't, and the call returns what it returns in an ordinary run.
+//! Each call knows how many requests for memory it makes. It is refused where one of these is, and nowhere
+//! else; then it is made once more, and returns what it returns in an ordinary run.
 
-// What a call returns, or where it was out of memory what it returns the next time. What it was lent is
-// looked at in between.
-macro_rules! tried {
-    ($call:expr) => {
-        tried!($call, Error::OutOfMemory, ())
+// What a call returns that makes so many requests. Where one of them is refused the call has to be refused, what
+// it was lent is looked at, and the call is made again.
+macro_rules! told {
+    ($rt:expr, $requests:expr, $count:expr, $call:expr) => {
+        told!($rt, $requests, $count, $call, Error::OutOfMemory, ())
     };
-    ($call:expr, $refused:pat, $unchanged:expr) => {
+    ($rt:expr, $requests:expr, $count:expr, $call:expr, $refused:pat, $unchanged:expr) => {
         match $call {
             Err($refused) => {
+                assert!($rt; $requests.has_refused_of($count));
                 $unchanged;
                 $call
             }
-            other => other,
+            other => {
+                assert!($rt; !$requests.has_refused_of($count));
+                other
+            }
         }
     };
 }
 
 mod messages;
 mod owned;
+mod refused_input;
 mod views;
 
 use std::alloc::Global;
+use std::fs::{File, Files};
+use std::io::Read;
 use std::process::Abort;
 use std::test::Fail;
 use tls_codec::Error;
 
+// No test makes more requests.
+const MOST_REQUESTS: u64 = 11;
+
+// The requests of a test for memory, in their order. At most one is refused.
+#[derive(Drop)]
+struct Requests {
+    made: u64,
+    refused: u64,
+}
+
+impl Requests {
+    // The refused request is told by a file, which has as many bytes as its number; where there is none, none is
+    // refused.
+    fn new(files: &impl Files) -> Result<Requests, Fail> {
+        let mut bytes = [0u8; 32];
+        let refused = match File::open(files, "refused") {
+            Ok(mut file) => file.read(&mut bytes)? as u64,
+            Err(_) => 0,
+        };
+        Ok(Requests { made: 0, refused })
+    }
+
+    // Whether the refused request is one of the next so many.
+    fn has_refused_of(&mut self, count: u64) -> bool {
+        let before = self.made;
+        self.made = before.saturating_add(count);
+        before < self.refused && self.refused <= self.made
+    }
+
+    // The end of a test: the sweep has refused each of its requests.
+    fn end(self, rt: &impl Abort) {
+        let Requests { made, .. } = self;
+        assert!(rt; made <= MOST_REQUESTS);
+    }
+}
+
 // A vector of these bytes without room for more, so that whatever makes it longer asks for memory.
-fn full(rt: &impl Abort, alloc: Global, content: &[u8]) -> Result<Vec<u8>, Fail> {
-    let vec = tried!(copied(alloc, content))?;
+fn full(
+    rt: &impl Abort,
+    alloc: Global,
+    requests: &mut Requests,
+    content: &[u8],
+) -> Result<Vec<u8>, Fail> {
+    let vec = told!(rt, requests, 1, copied(alloc, content))?;
     assert_eq!(rt; vec.capacity(), content.len());
     Ok(vec)
 }

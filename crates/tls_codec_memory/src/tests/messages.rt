@@ -1,5 +1,5 @@
 //! Values of several parts, and byte vectors, by both paths and each encoder.
-use super::full;
+use super::{Requests, full};
 use std::alloc::Global;
 use std::process::Abort;
 use std::test::Fail;
@@ -28,23 +28,40 @@ fn worked_log(alloc: Global) -> Result<Log, Error> {
     })
 }
 
-// The value is written as these bytes to a vector of its own, and behind what a full vector has.
-fn is_written<T: Serialize>(
+// The value is written as these bytes to a vector of its own.
+fn is_made<T: Serialize>(
     rt: &impl Abort,
     alloc: Global,
+    requests: &mut Requests,
+    count: u64,
     value: &T,
     bytes: &[u8],
 ) -> Result<(), Fail> {
-    let form = tried!(value.tls_serialize_detached(alloc))?;
+    let form = told!(rt, requests, count, value.tls_serialize_detached(alloc))?;
     assert_eq!(rt; form.as_slice(), bytes);
-    let mut out = full(rt, alloc, &[0xee])?;
+    Ok(())
+}
+
+// It is written as these bytes after what a full vector has.
+fn is_appended<T: Serialize>(
+    rt: &impl Abort,
+    alloc: Global,
+    requests: &mut Requests,
+    count: u64,
+    value: &T,
+    bytes: &[u8],
+) -> Result<(), Fail> {
     let unchanged = [0xee].as_slice();
-    let count = tried!(
+    let mut out = full(rt, alloc, requests, unchanged)?;
+    let length = told!(
+        rt,
+        requests,
+        count,
         value.tls_serialize_into(&mut out),
         Error::OutOfMemory,
         assert_eq!(rt; out.as_slice(), unchanged)
     )?;
-    assert_eq!(rt; count, bytes.len());
+    assert_eq!(rt; length, bytes.len());
     assert_eq!(rt; out.get(1..), Some(bytes));
     Ok(())
 }
@@ -53,10 +70,12 @@ fn is_written<T: Serialize>(
 fn is_split<T: DeserializeBytes + PartialEq>(
     rt: &impl Abort,
     alloc: Global,
+    requests: &mut Requests,
+    count: u64,
     bytes: &[u8],
     value: &T,
 ) -> Result<(), Fail> {
-    let (found, rest) = tried!(T::tls_deserialize_bytes(alloc, bytes))?;
+    let (found, rest) = told!(rt, requests, count, T::tls_deserialize_bytes(alloc, bytes))?;
     assert!(rt; found == *value);
     assert!(rt; rest.is_empty());
     Ok(())
@@ -66,11 +85,16 @@ fn is_split<T: DeserializeBytes + PartialEq>(
 fn is_read<T: Deserialize + PartialEq>(
     rt: &impl Abort,
     alloc: Global,
+    requests: &mut Requests,
+    count: u64,
     bytes: &[u8],
     value: &T,
 ) -> Result<(), Fail> {
     let mut source = bytes;
-    let found = tried!(
+    let found = told!(
+        rt,
+        requests,
+        count,
         T::tls_deserialize(alloc, &mut source),
         Error::OutOfMemory,
         source = bytes
@@ -81,59 +105,99 @@ fn is_read<T: Deserialize + PartialEq>(
 }
 
 #[test]
-fn a_triple_is_written(rt: HostRuntime) -> Result<(), Fail> {
+fn a_triple_is_made(rt: HostRuntime) -> Result<(), Fail> {
     let alloc = rt.alloc();
-    is_written(&rt, alloc, &tried!(mixed(alloc))?, &MIXED)
+    let mut requests = Requests::new(&rt)?;
+    let value = told!(rt, requests, 2, mixed(alloc))?;
+    is_made(&rt, alloc, &mut requests, 2, &value, &MIXED)?;
+    requests.end(&rt);
+    Ok(())
 }
 
 #[test]
-fn a_triple_is_split(rt: HostRuntime) -> Result<(), Fail> {
+fn a_triple_is_appended(rt: HostRuntime) -> Result<(), Fail> {
     let alloc = rt.alloc();
-    is_split(&rt, alloc, &MIXED, &tried!(mixed(alloc))?)
+    let mut requests = Requests::new(&rt)?;
+    let value = told!(rt, requests, 2, mixed(alloc))?;
+    is_appended(&rt, alloc, &mut requests, 2, &value, &MIXED)?;
+    requests.end(&rt);
+    Ok(())
 }
 
 #[test]
 fn a_triple_is_read(rt: HostRuntime) -> Result<(), Fail> {
     let alloc = rt.alloc();
-    is_read(&rt, alloc, &MIXED, &tried!(mixed(alloc))?)
+    let mut requests = Requests::new(&rt)?;
+    let value = told!(rt, requests, 2, mixed(alloc))?;
+    is_split(&rt, alloc, &mut requests, 2, &MIXED, &value)?;
+    is_read(&rt, alloc, &mut requests, 2, &MIXED, &value)?;
+    requests.end(&rt);
+    Ok(())
 }
 
 #[test]
-fn a_message_is_written(rt: HostRuntime) -> Result<(), Fail> {
+fn a_message_is_made(rt: HostRuntime) -> Result<(), Fail> {
     let alloc = rt.alloc();
-    is_written(&rt, alloc, &tried!(worked_log(alloc))?, &LOG)
+    let mut requests = Requests::new(&rt)?;
+    let value = told!(rt, requests, 3, worked_log(alloc))?;
+    is_made(&rt, alloc, &mut requests, 3, &value, &LOG)?;
+    requests.end(&rt);
+    Ok(())
+}
+
+#[test]
+fn a_message_is_appended(rt: HostRuntime) -> Result<(), Fail> {
+    let alloc = rt.alloc();
+    let mut requests = Requests::new(&rt)?;
+    let value = told!(rt, requests, 3, worked_log(alloc))?;
+    is_appended(&rt, alloc, &mut requests, 3, &value, &LOG)?;
+    requests.end(&rt);
+    Ok(())
 }
 
 #[test]
 fn a_message_is_split(rt: HostRuntime) -> Result<(), Fail> {
     let alloc = rt.alloc();
-    is_split(&rt, alloc, &LOG, &tried!(worked_log(alloc))?)
+    let mut requests = Requests::new(&rt)?;
+    let value = told!(rt, requests, 3, worked_log(alloc))?;
+    is_split(&rt, alloc, &mut requests, 3, &LOG, &value)?;
+    requests.end(&rt);
+    Ok(())
 }
 
 #[test]
 fn a_message_is_read(rt: HostRuntime) -> Result<(), Fail> {
     let alloc = rt.alloc();
-    is_read(&rt, alloc, &LOG, &tried!(worked_log(alloc))?)
+    let mut requests = Requests::new(&rt)?;
+    let value = told!(rt, requests, 3, worked_log(alloc))?;
+    is_read(&rt, alloc, &mut requests, 3, &LOG, &value)?;
+    requests.end(&rt);
+    Ok(())
 }
 
-// Byte vectors on both sides of where their length gets wider.
+// Byte vectors on both sides of where their length gets wider, each a prefix of the one before.
 #[test]
 fn bytes_are_written(rt: HostRuntime) -> Result<(), Fail> {
     let alloc = rt.alloc();
+    let mut requests = Requests::new(&rt)?;
+    let mut content = told!(rt, requests, 1, filled(alloc, 16_384))?;
     for (count, length) in [
-        (63, [0x3f].as_slice()),
-        (64, &[0x40, 0x40]),
+        (16_384, [0x80, 0, 0x40, 0].as_slice()),
         (16_383, &[0x7f, 0xff]),
-        (16_384, &[0x80, 0, 0x40, 0]),
+        (64, &[0x40, 0x40]),
+        (63, &[0x3f]),
     ] {
-        let bytes = VLBytes::new(tried!(filled(alloc, count))?);
-        let form = tried!(bytes.tls_serialize_bytes(alloc))?;
+        content.truncate(count);
+        let bytes = VLBytes::new(content);
+        let form = told!(rt, requests, 1, bytes.tls_serialize_bytes(alloc))?;
         assert_eq!(rt;
             form.strip_prefix(length),
             Some(bytes.as_slice()),
             "{count} bytes"
         );
+        content = Vec::from(bytes);
     }
+    requests.end(&rt);
     Ok(())
 }
 

@@ -1,30 +1,35 @@
-//! A run of `tlsview`. Its sink has room for all of the view, so that what is refused is the run's own request.
-use std::alloc::Global;
+//! A run of `tlsview`. Its sink takes no memory, so that what is refused is the run's own request.
+use super::Requests;
 use std::test::Fail;
-use tls_codec::Error;
+use tls_codec::Outside;
 use tlsview_run::fault::ViewFault;
 use tlsview_run::run::run;
 
 #[test]
 fn a_view(rt: HostRuntime) -> Result<(), Fail> {
-    let alloc = rt.alloc();
+    let mut requests = Requests::new(&rt)?;
     let text = b"010007ee\n".as_slice();
-    let lines = "slice ok some 7 rest ee\nreader ok some 7 rest ee\nleast 010007\n";
-    let mut out = tried!(roomy(alloc, lines.len()))?;
+    let lines = b"slice ok some 7 rest ee\nreader ok some 7 rest ee\nleast 010007\n".as_slice();
     let mut input = text;
-    let outcome = tried!(
-        run(alloc, "option-u16", &mut input, &mut out),
+    let mut out = [0; 64];
+    let outcome = told!(
+        rt,
+        requests,
+        11,
+        run(
+            rt.alloc(),
+            "option-u16",
+            &mut input,
+            &mut Outside::new(out.as_mut_slice())
+        ),
         ViewFault::Memory,
         {
-            assert!(rt; out.is_empty());
+            assert_eq!(rt; out, [0; 64]);
             input = text;
         }
     );
     assert_eq!(rt; outcome, Ok(true));
-    assert_eq!(rt; out.as_slice(), lines.as_bytes());
+    assert_eq!(rt; out.get(..lines.len()), Some(lines));
+    requests.end(&rt);
     Ok(())
-}
-
-fn roomy(alloc: Global, capacity: usize) -> Result<Vec<u8>, Error> {
-    Ok(Vec::with_capacity(alloc, capacity)?)
 }

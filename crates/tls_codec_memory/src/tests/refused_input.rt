@@ -1,0 +1,132 @@
+//! Input that is refused for its bytes keeps its refusal, whatever a length in it declares: memory is asked for only
+//! where bytes are there that need it. A box of nothing makes a request of its own; the element that it would be is
+//! refused before the list asks for room.
+use super::Requests;
+use std::alloc::Global;
+use std::process::Abort;
+use std::test::Fail;
+use tls_codec::{Deserialize, DeserializeBytes, Error, TlsByteVecU32, VLBytes};
+
+const EMPTY_ELEMENT: Error = Error::DecodingError("vector element consumed 0 bytes");
+
+// Three bytes, of which the greatest length is declared.
+const LONG_BYTES: [u8; 7] = [0xff, 0xff, 0xff, 0xff, 1, 2, 3];
+
+const CUT_OFF: Error = Error::DecodingError("declared content is not there");
+
+// The slice path refuses these bytes after so many requests.
+fn is_not_split<T: DeserializeBytes>(
+    rt: &impl Abort,
+    alloc: Global,
+    requests: &mut Requests,
+    count: u64,
+    bytes: &[u8],
+    error: Error,
+) {
+    let outcome = told!(rt, requests, count, T::tls_deserialize_bytes(alloc, bytes));
+    assert_eq!(rt; outcome.err(), Some(error));
+}
+
+// The reader path does.
+fn is_not_read<T: Deserialize>(
+    rt: &impl Abort,
+    alloc: Global,
+    requests: &mut Requests,
+    count: u64,
+    bytes: &[u8],
+    error: Error,
+) {
+    let mut source = bytes;
+    let outcome = told!(
+        rt,
+        requests,
+        count,
+        T::tls_deserialize(alloc, &mut source),
+        Error::OutOfMemory,
+        source = bytes
+    );
+    assert_eq!(rt; outcome.err(), Some(error));
+}
+
+#[test]
+fn slices(rt: HostRuntime) -> Result<(), Fail> {
+    let alloc = rt.alloc();
+    let mut requests = Requests::new(&rt)?;
+    is_not_split::<Vec<Box<()>>>(&rt, alloc, &mut requests, 1, &[1], EMPTY_ELEMENT);
+    is_not_split::<VLBytes>(
+        &rt,
+        alloc,
+        &mut requests,
+        0,
+        &[0xbf, 0xff, 0xff, 0xff, 1],
+        CUT_OFF,
+    );
+    is_not_split::<String>(&rt, alloc, &mut requests, 0, &[5, 1, 2], CUT_OFF);
+    is_not_split::<TlsByteVecU32>(
+        &rt,
+        alloc,
+        &mut requests,
+        0,
+        &LONG_BYTES,
+        Error::EndOfStream,
+    );
+    is_not_split::<Vec<u16>>(
+        &rt,
+        alloc,
+        &mut requests,
+        0,
+        &[0xbf, 0xff, 0xff, 0xff, 0],
+        Error::EndOfStream,
+    );
+    is_not_split::<Vec<u16>>(
+        &rt,
+        alloc,
+        &mut requests,
+        1,
+        &[3, 0, 1, 0],
+        Error::EndOfStream,
+    );
+    requests.end(&rt);
+    Ok(())
+}
+
+#[test]
+fn sources(rt: HostRuntime) -> Result<(), Fail> {
+    let alloc = rt.alloc();
+    let mut requests = Requests::new(&rt)?;
+    is_not_read::<Vec<Box<()>>>(&rt, alloc, &mut requests, 1, &[1], EMPTY_ELEMENT);
+    is_not_read::<Vec<u16>>(
+        &rt,
+        alloc,
+        &mut requests,
+        0,
+        &[0xbf, 0xff, 0xff, 0xff, 0],
+        Error::EndOfStream,
+    );
+    is_not_read::<Vec<u16>>(
+        &rt,
+        alloc,
+        &mut requests,
+        1,
+        &[3, 0, 1, 0],
+        Error::EndOfStream,
+    );
+    is_not_read::<VLBytes>(
+        &rt,
+        alloc,
+        &mut requests,
+        1,
+        &[0xbf, 0xff, 0xff, 0xff, 1],
+        Error::EndOfStream,
+    );
+    is_not_read::<TlsByteVecU32>(
+        &rt,
+        alloc,
+        &mut requests,
+        1,
+        &LONG_BYTES,
+        Error::EndOfStream,
+    );
+    requests.end(&rt);
+    Ok(())
+}
