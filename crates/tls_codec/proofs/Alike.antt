@@ -1,8 +1,8 @@
 -- Values that stand for one tree are equal.
-use Rattle.std.proofs.Common.{◌≡◌, Bool, true, List, [], ◌∷◌, ◌&&◌, nat_eq, refl, absurd, eq-eqb}
-use Rattle.std.specs.Prelude.{IsTrue}
+use Rattle.std.proofs.Common.{◌≡◌, Bool, true, List, [], ◌∷◌, ◌&&◌, nat_eq, refl, eq-eqb}
+use Rattle.std.specs.Prelude.{ℕ}
 use Rattle.std.specs.Cmp.Lexicographic.{pointwise}
-use Rattle.tls_codec_grammar.specs.Tree.{Tree, Number, Empty, Join, trees}
+use Rattle.tls_codec_grammar.specs.Tree.{Tree, Number, Empty, Join, number_trees, trees}
 use Rattle.tls_codec_base.specs.Meanings.{EqualWhereAlike}
 
 -- two facts that hold hold together
@@ -21,3 +21,7 @@ lists_alike plain eq alike [] (y ∷ ys) e = absurd cc
 lists_alike plain eq alike (x ∷ xs) [] e = absurd cc
 lists_alike plain eq alike (x ∷ xs) (y ∷ ys) e =
     both (eq x y) (pointwise eq xs ys) (alike x y cc) (lists_alike plain eq alike xs ys cc)
+
+-- bytes are equal byte by byte
+pub bytes_alike : (xs ys : List ℕ) → number_trees xs ≡ number_trees ys → pointwise nat_eq xs ys ≡ true
+bytes_alike xs ys e = lists_alike Number nat_eq number_alike xs ys e

@@ -130,7 +130,7 @@ fn a_triple_is_read(rt: HostRuntime) -> Result<(), Fail> {
     let mut requests = Requests::new(&rt)?;
     let value = told!(rt, requests, 2, mixed(alloc))?;
     is_split(&rt, alloc, &mut requests, 2, &MIXED, &value)?;
-    is_read(&rt, alloc, &mut requests, 2, &MIXED, &value)?;
+    is_read(&rt, alloc, &mut requests, 3, &MIXED, &value)?;
     requests.end(&rt);
     Ok(())
 }
@@ -150,7 +150,7 @@ fn a_message_is_appended(rt: HostRuntime) -> Result<(), Fail> {
     let alloc = rt.alloc();
     let mut requests = Requests::new(&rt)?;
     let value = told!(rt, requests, 3, worked_log(alloc))?;
-    is_appended(&rt, alloc, &mut requests, 3, &value, &LOG)?;
+    is_appended(&rt, alloc, &mut requests, 2, &value, &LOG)?;
     requests.end(&rt);
     Ok(())
 }
