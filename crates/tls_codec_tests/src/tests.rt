@@ -6,6 +6,7 @@ mod devices;
 mod each_call;
 mod engines;
 mod families;
+mod laws;
 mod lengths;
 mod lists;
 mod numbers;

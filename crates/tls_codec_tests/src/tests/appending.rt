@@ -70,7 +70,10 @@ fn lists_longer_than_any_length(rt: HostRuntime) -> Result<(), Fail> {
 #[test]
 fn a_refused_part_comes_after_what_was_sent(rt: HostRuntime) {
     let mut sink = Vec::new(rt.alloc());
-    assert_eq!(rt; (7u8, Huge).tls_serialize(&mut sink), Err(Error::InvalidInput));
+    assert_eq!(rt;
+        (7u8, Huge).tls_serialize(&mut sink),
+        Err(Error::InvalidInput)
+    );
     assert_eq!(rt; sink.as_slice(), [7].as_slice());
 }
 

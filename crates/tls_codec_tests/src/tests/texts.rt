@@ -1,5 +1,7 @@
 //! Texts behind their length.
-use super::each_call::{is_read, is_refused, is_refused_by_each, is_spelled_alone, is_written_alone};
+use super::each_call::{
+    is_read, is_refused, is_refused_by_each, is_spelled_alone, is_written_alone,
+};
 use super::{INVALID_UTF8, NOT_THERE};
 use std::test::Fail;
 use tls_codec::Error;

@@ -4,7 +4,7 @@ use crate::laws::{
     equal_secret_vectors_have_equal_hashes, equal_vectors_have_equal_hashes,
     messages_are_compared_by_their_fields, second_spelling_of_ping_is_unlawful,
 };
-use crate::{Leaf, Log};
+use crate::{Leaf, Log, Step};
 use std::hash::{DefaultHasher, Hash, Hasher};
 use std::process::Abort;
 use std::test::Fail;
@@ -34,6 +34,34 @@ fn no_prefix_of_a_log_is_read(rt: HostRuntime) {
         assert!(rt; Log::tls_deserialize_bytes(alloc, &log[..end]).is_err());
     }
     assert!(rt; Log::tls_deserialize_exact_bytes(alloc, &log).is_ok());
+}
+
+// One field differs in each of these.
+#[test]
+fn messages_differ_where_a_field_does(rt: HostRuntime) -> Result<(), Fail> {
+    messages_are_compared_by_their_fields();
+    let alloc = rt.alloc();
+    let leaf = [0, 1, 1, 7];
+    for other in [[0, 2, 1, 7], [0, 1, 1, 8]] {
+        assert!(rt;
+            Leaf::tls_deserialize_exact_bytes(alloc, &leaf)?
+                != Leaf::tls_deserialize_exact_bytes(alloc, &other)?
+        );
+    }
+    let jump = Step::Jump(5);
+    assert!(rt; jump != Step::Jump(6));
+    assert!(rt; jump != Step::Ping);
+    let log = [1, 0xab, 0, 4, 0, 1, 1, 7, 1, 2, 0, 0, 0, 5];
+    for place in [1, 5, 7, 13] {
+        let mut other = log;
+        other[place] = 9;
+        assert!(rt;
+            Log::tls_deserialize_exact_bytes(alloc, &log)?
+                != Log::tls_deserialize_exact_bytes(alloc, &other)?,
+            "{place}"
+        );
+    }
+    Ok(())
 }
 
 // A name's length in two, four or eight bytes is none.
