@@ -17,6 +17,10 @@ impl<T> Size for PhantomData<T> {
         0
     }
 
+    fn tls_fixed_len() -> Option<usize> {
+        Some(0)
+    }
+
     ghost lawful = { nothing_meets };
 }
 

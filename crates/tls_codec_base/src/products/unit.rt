@@ -16,6 +16,10 @@ impl Size for () {
         0
     }
 
+    fn tls_fixed_len() -> Option<usize> {
+        Some(0)
+    }
+
     ghost lawful = { nothing_meets };
 }
 
