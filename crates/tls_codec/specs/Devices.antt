@@ -3,3 +3,4 @@ pub use Rattle.tls_codec_wire.specs.Counts.{Counts, FaultIsCounted, NoneFell, On
 pub use Rattle.tls_codec_wire.specs.Device.{FaultRaises, Gave, GiveIsCounted, Gives, GivesFromFront, GivesInOrder, GivesNothing, IsAtHand, IsBeginning, NoCountFalls, PullIsCounted, PulledOnto, Received, bytes_moved}
 pub use Rattle.tls_codec_wire.specs.declared.device.Fault.{Fault}
 pub use Rattle.tls_codec_wire.specs.declared.device.Fault.TheVariants.{Failed, Interrupted, NoMemory}
+pub use Rattle.tls_codec_wire.specs.Refused.{Causes, RefusedFor, Seen, told_or}

@@ -12,7 +12,11 @@
 //! - Key material that is cleared when it is dropped: [`SecretVLBytes`], [`SecretVLByteVec`],
 //!   [`SecretTlsVecU8`] and siblings, and [`Zeroize`].
 //! - [`vlen`]: lengths as variable-length integers. [`lists`]: the engines that every list goes through.
-//! - [`Lent`]: a value that is lent, by which messages of one's own are written.
+//! - [`deserialize_to_end`]: a value and the end of its source, as of a file that holds one message;
+//!   [`expect_end`]: the end alone.
+//! - [`Lent`]: a value that is lent, by which messages of one's own are written; [`Lent2`] to [`Lent9`]: so
+//!   many of them in a row.
+//! - [`unknown_value`]: the refusal of a tag that an enum of one's own doesn't have.
 //! - [`laws`]: what holds of the spellings of every type with the traits. [`refusals`]: where two errors come.
 #![tactic(auto)]
 
@@ -20,8 +24,9 @@ pub mod equality;
 pub mod types;
 
 pub use tls_codec_base::{
-    Deserialize, DeserializeBytes, LengthField, Lent, Serialize, SerializeBytes, Size, laws, lists,
-    refusals,
+    Deserialize, DeserializeBytes, LengthField, Lent, Lent2, Lent3, Lent4, Lent5, Lent6, Lent7,
+    Lent8, Lent9, Serialize, SerializeBytes, Size, deserialize_to_end, laws, lists, refusals,
+    unknown_value,
 };
 pub use tls_codec_bytes::{TlsByteVec, TlsByteVecU8, TlsByteVecU16, TlsByteVecU24, TlsByteVecU32};
 pub use tls_codec_secret::{
@@ -35,5 +40,5 @@ pub use tls_codec_vec::{TlsVec, TlsVecU8, TlsVecU16, TlsVecU24, TlsVecU32};
 pub use tls_codec_vl::{SecretVLByteVec, SecretVLBytes, VLByteSlice, VLByteVec, VLBytes, Zeroize};
 pub use tls_codec_wire::{
     Bounded, Error, Fault, Fill, MOST_INTERRUPTIONS, Outside, Sink, Source, TlsVarInt, U24,
-    read_bytes_bounded, read_exactly, vlen, write_all,
+    expect_end, read_bytes_bounded, read_exactly, vlen, write_all,
 };

@@ -6,6 +6,7 @@
 //! docs/DEFINITIONS.md, and a slice or a source that a decoder refuses in docs/REFUSALS.md.
 ghost use Rattle.std.specs.Prelude.{◌≡◌, ◌⊎◌, ◌^◌, string_bytes};
 ghost use Rattle.tls_codec_wire.specs.Numbers.{NumberNotRead};
+ghost use Rattle.tls_codec_wire.specs.Transfer.{ReadRefused};
 ghost use Rattle.tls_codec_wire.specs.Uint24 as uint24;
 ghost use Rattle.tls_codec_wire.specs.VarintCalls.{RefusesBelow};
 ghost use Rattle.tls_codec_wire.specs.VarintValue as varint;
@@ -13,15 +14,18 @@ ghost use Rattle.tls_codec_wire.specs.declared.error.Error.TheVariants.{OutOfMem
 ghost use Rattle.tls_codec_grammar.specs.Tree.{Empty, Join, Number, number_trees, option_plain, trees};
 ghost use Rattle.tls_codec_grammar.specs.Field.{fixed_field, variable_field};
 ghost use Rattle.tls_codec_grammar.specs.Format.{array_format, bytes_format, counted_bytes_format, counted_list_format, fixed_list_format, list_format, nothing_format, number_format, option_format, pair_format, text_format, triple_format, varint_format, with_memory};
-ghost use Rattle.tls_codec_grammar.specs.Opaque.{TextRefused, TextSourceRefused};
+ghost use Rattle.tls_codec_grammar.specs.Opaque.{OpaqueSourceRefused, TextRefused, TextSourceRefused};
 ghost use Rattle.tls_codec_base.specs.Refusals.{counted_list_names, counted_list_source_names, fields_names, fields_source_names, list_names, list_source_names, option_names, option_source_names};
-ghost use Rattle.tls_codec_base.specs.Meanings.{Means, SameField, SameNames, SameSourceNames, not_read, opaque_names, opaque_source_names, too_few};
-ghost use Rattle.tls_codec_base.specs.OwnMessages.{fixed_bytes_format};
+ghost use Rattle.tls_codec_base.specs.Meanings.{Means, SameField, SameNames, SameSourceNames, opaque_names, too_few};
+ghost use Rattle.tls_codec_base.specs.OwnMessages.{fixed_bytes_format, pair_tree, triple_tree};
 ghost use Rattle.tls_codec_slice.specs.Contents.{u16_bytes_of, u16_elements_of, u24_bytes_of, u24_elements_of, u32_bytes_of, u32_elements_of, u8_bytes_of, u8_elements_of};
 ghost use Rattle.tls_codec.specs.Contents.{bytes_of, elements_of, fixed_bytes_of, secret_bytes_of, secret_elements_of, secret_vec_bytes_of, slice_bytes_of, vec_bytes_of};
 
 use std::marker::PhantomData;
-use tls_codec_base::{Deserialize, DeserializeBytes, LengthField, Lent, Size};
+use tls_codec_base::{
+    Deserialize, DeserializeBytes, LengthField, Lent, Lent2, Lent3, Lent4, Lent5, Lent6, Lent7,
+    Lent8, Lent9, Size,
+};
 use tls_codec_bytes::TlsByteVec;
 use tls_codec_secret::SecretTlsVec;
 use tls_codec_slice::{
@@ -55,11 +59,11 @@ pub fn numbers_refused()
     ensures u32 { SameNames ⟦<u32 as DeserializeBytes>⟧.names (too_few 4) }
     ensures u64 { SameNames ⟦<u64 as DeserializeBytes>⟧.names (too_few 8) }
 
-    ensures u8_source { SameSourceNames ⟦<u8 as Deserialize>⟧.names (not_read 1) }
-    ensures u16_source { SameSourceNames ⟦<u16 as Deserialize>⟧.names (not_read 2) }
-    ensures u24_source { SameSourceNames ⟦<U24 as Deserialize>⟧.names (not_read 3) }
-    ensures u32_source { SameSourceNames ⟦<u32 as Deserialize>⟧.names (not_read 4) }
-    ensures u64_source { SameSourceNames ⟦<u64 as Deserialize>⟧.names (not_read 8) }
+    ensures u8_source { SameSourceNames ⟦<u8 as Deserialize>⟧.names (ReadRefused 1) }
+    ensures u16_source { SameSourceNames ⟦<u16 as Deserialize>⟧.names (ReadRefused 2) }
+    ensures u24_source { SameSourceNames ⟦<U24 as Deserialize>⟧.names (ReadRefused 3) }
+    ensures u32_source { SameSourceNames ⟦<u32 as Deserialize>⟧.names (ReadRefused 4) }
+    ensures u64_source { SameSourceNames ⟦<u64 as Deserialize>⟧.names (ReadRefused 8) }
 {}
 
 /// Variable-length integers below 2^62, in the least width (RFC 9000, section 16; RFC 9420, section 2.1.2).
@@ -67,14 +71,14 @@ pub fn variable_length_integers()
     ensures is { Means ⟦<TlsVarInt as Size>⟧ (λ n. Number (varint.number_of n)) varint_format }
     ensures slice { SameNames ⟦<TlsVarInt as DeserializeBytes>⟧.names (RefusesBelow (2 ^ 62)) }
     ensures source { SameSourceNames ⟦<TlsVarInt as Deserialize>⟧.names
-        (λ coming old new e. NumberNotRead (RefusesBelow (2 ^ 62)) e coming old new) }
+        (NumberNotRead (RefusesBelow (2 ^ 62))) }
 {}
 
 /// Arrays of bytes, by themselves (RFC 8446, section 3.4).
 pub fn arrays<const LEN: usize>()
     ensures is { Means ⟦<[u8; LEN] as Size>⟧ number_trees (array_format LEN) }
     ensures slice { SameNames ⟦<[u8; LEN] as DeserializeBytes>⟧.names (too_few LEN) }
-    ensures source { SameSourceNames ⟦<[u8; LEN] as Deserialize>⟧.names (not_read LEN) }
+    ensures source { SameSourceNames ⟦<[u8; LEN] as Deserialize>⟧.names (ReadRefused LEN) }
 {}
 
 /// Options: a byte 0, or a byte 1 and the payload (RFC 9420, section 2.1.1).
@@ -112,10 +116,10 @@ pub fn triples<
 pub fn nothing<T>()
     ensures unit { Means ⟦<() as Size>⟧ (λ v. Empty) nothing_format }
     ensures unit_slice { SameNames ⟦<() as DeserializeBytes>⟧.names (λ x e. ⊥) }
-    ensures unit_source { SameSourceNames ⟦<() as Deserialize>⟧.names (λ coming old new e. ⊥) }
+    ensures unit_source { SameSourceNames ⟦<() as Deserialize>⟧.names (λ x old new e. ⊥) }
     ensures phantom { Means ⟦<PhantomData<T> as Size>⟧ (λ v. Empty) nothing_format }
     ensures phantom_slice { SameNames ⟦<PhantomData<T> as DeserializeBytes>⟧.names (λ x e. ⊥) }
-    ensures phantom_source { SameSourceNames ⟦<PhantomData<T> as Deserialize>⟧.names (λ coming old new e. ⊥) }
+    ensures phantom_source { SameSourceNames ⟦<PhantomData<T> as Deserialize>⟧.names (λ x old new e. ⊥) }
 {}
 
 /// Boxes, as their content, for which a decoder takes memory; and what is lent, as what it is.
@@ -123,8 +127,47 @@ pub fn boxes<'a, T: Deserialize + DeserializeBytes + 'a>()
     ensures is { Means ⟦<Box<T> as Size>⟧ (λ b. T.plain b.value) (with_memory T.format) }
     ensures slice { SameNames ⟦<Box<T> as DeserializeBytes>⟧.names (λ x e. (e ≡ OutOfMemory) ⊎ T.DeserializeBytes.names x e) }
     ensures source { SameSourceNames ⟦<Box<T> as Deserialize>⟧.names
-        (λ coming old new e. (e ≡ OutOfMemory) ⊎ T.Deserialize.names coming old new e) }
+        (λ x old new e. (e ≡ OutOfMemory) ⊎ T.Deserialize.names x old new e) }
     ensures lent { Means ⟦<Lent<'a, T> as Size>⟧ (λ v. T.plain v.0.now) T.format }
+{}
+
+/// Values in a row that are lent: two or three as the pair and the triple, and more as pairs and triples of those.
+pub fn lent_rows<
+    'a,
+    A: Size + 'a,
+    B: Size + 'a,
+    C: Size + 'a,
+    D: Size + 'a,
+    E: Size + 'a,
+    F: Size + 'a,
+    G: Size + 'a,
+    H: Size + 'a,
+    I: Size + 'a,
+>()
+    ensures lent2 { Means ⟦<Lent2<'a, A, B> as Size>⟧
+        (λ v. pair_tree (A.plain v.0.now) (B.plain v.1.now))
+        (pair_format A.format B.format) }
+    ensures lent3 { Means ⟦<Lent3<'a, A, B, C> as Size>⟧
+        (λ v. triple_tree (A.plain v.0.now) (B.plain v.1.now) (C.plain v.2.now))
+        (triple_format A.format B.format C.format) }
+    ensures lent4 { Means ⟦<Lent4<'a, A, B, C, D> as Size>⟧
+        (λ v. pair_tree (pair_tree (A.plain v.0.now) (B.plain v.1.now)) (pair_tree (C.plain v.2.now) (D.plain v.3.now)))
+        (pair_format (pair_format A.format B.format) (pair_format C.format D.format)) }
+    ensures lent5 { Means ⟦<Lent5<'a, A, B, C, D, E> as Size>⟧
+        (λ v. pair_tree (triple_tree (A.plain v.0.now) (B.plain v.1.now) (C.plain v.2.now)) (pair_tree (D.plain v.3.now) (E.plain v.4.now)))
+        (pair_format (triple_format A.format B.format C.format) (pair_format D.format E.format)) }
+    ensures lent6 { Means ⟦<Lent6<'a, A, B, C, D, E, F> as Size>⟧
+        (λ v. pair_tree (triple_tree (A.plain v.0.now) (B.plain v.1.now) (C.plain v.2.now)) (triple_tree (D.plain v.3.now) (E.plain v.4.now) (F.plain v.5.now)))
+        (pair_format (triple_format A.format B.format C.format) (triple_format D.format E.format F.format)) }
+    ensures lent7 { Means ⟦<Lent7<'a, A, B, C, D, E, F, G> as Size>⟧
+        (λ v. triple_tree (triple_tree (A.plain v.0.now) (B.plain v.1.now) (C.plain v.2.now)) (pair_tree (D.plain v.3.now) (E.plain v.4.now)) (pair_tree (F.plain v.5.now) (G.plain v.6.now)))
+        (triple_format (triple_format A.format B.format C.format) (pair_format D.format E.format) (pair_format F.format G.format)) }
+    ensures lent8 { Means ⟦<Lent8<'a, A, B, C, D, E, F, G, H> as Size>⟧
+        (λ v. triple_tree (triple_tree (A.plain v.0.now) (B.plain v.1.now) (C.plain v.2.now)) (triple_tree (D.plain v.3.now) (E.plain v.4.now) (F.plain v.5.now)) (pair_tree (G.plain v.6.now) (H.plain v.7.now)))
+        (triple_format (triple_format A.format B.format C.format) (triple_format D.format E.format F.format) (pair_format G.format H.format)) }
+    ensures lent9 { Means ⟦<Lent9<'a, A, B, C, D, E, F, G, H, I> as Size>⟧
+        (λ v. triple_tree (triple_tree (A.plain v.0.now) (B.plain v.1.now) (C.plain v.2.now)) (triple_tree (D.plain v.3.now) (E.plain v.4.now) (F.plain v.5.now)) (triple_tree (G.plain v.6.now) (H.plain v.7.now) (I.plain v.8.now)))
+        (triple_format (triple_format A.format B.format C.format) (triple_format D.format E.format F.format) (triple_format G.format H.format I.format)) }
 {}
 
 /// Lists of elements after their length in bytes, a variable-length integer of at most 30 bits (RFC 9420, section
@@ -142,7 +185,7 @@ pub fn texts<'a>()
     ensures owned { Means ⟦<String as Size>⟧ (λ s. number_trees (string_bytes s)) text_format }
     ensures lent { Means ⟦<&'a str as Size>⟧ (λ s. number_trees s.now) text_format }
     ensures slice { SameNames ⟦<String as DeserializeBytes>⟧.names (λ x e. TextRefused e x) }
-    ensures source { SameSourceNames ⟦<String as Deserialize>⟧.names (λ coming old new e. TextSourceRefused e coming old new) }
+    ensures source { SameSourceNames ⟦<String as Deserialize>⟧.names TextSourceRefused }
 {}
 
 /// Byte vectors after their number, a variable-length integer of at most 30 bits (RFC 9420, section 2.1.2).
@@ -165,10 +208,10 @@ pub fn byte_vectors_refused()
     ensures secret_vl_bytes { SameNames ⟦<SecretVLBytes as DeserializeBytes>⟧.names (opaque_names variable_field) }
     ensures secret_vl_byte_vec { SameNames ⟦<SecretVLByteVec as DeserializeBytes>⟧.names (opaque_names variable_field) }
 
-    ensures vl_bytes_source { SameSourceNames ⟦<VLBytes as Deserialize>⟧.names (opaque_source_names variable_field) }
-    ensures vl_byte_vec_source { SameSourceNames ⟦<VLByteVec as Deserialize>⟧.names (opaque_source_names variable_field) }
-    ensures secret_vl_bytes_source { SameSourceNames ⟦<SecretVLBytes as Deserialize>⟧.names (opaque_source_names variable_field) }
-    ensures secret_vl_byte_vec_source { SameSourceNames ⟦<SecretVLByteVec as Deserialize>⟧.names (opaque_source_names variable_field) }
+    ensures vl_bytes_source { SameSourceNames ⟦<VLBytes as Deserialize>⟧.names (OpaqueSourceRefused variable_field) }
+    ensures vl_byte_vec_source { SameSourceNames ⟦<VLByteVec as Deserialize>⟧.names (OpaqueSourceRefused variable_field) }
+    ensures secret_vl_bytes_source { SameSourceNames ⟦<SecretVLBytes as Deserialize>⟧.names (OpaqueSourceRefused variable_field) }
+    ensures secret_vl_byte_vec_source { SameSourceNames ⟦<SecretVLByteVec as Deserialize>⟧.names (OpaqueSourceRefused variable_field) }
 {}
 
 /// What a length of one to four bytes is in the names of types (RFC 8446, section 3.4).
@@ -211,7 +254,7 @@ pub fn counted_bytes<'a, F: LengthField>()
     ensures is { Means ⟦<TlsByteVec<F> as Size>⟧ (λ v. number_trees (fixed_bytes_of v)) (counted_bytes_format F.field) }
     ensures lent { Means ⟦<&'a TlsByteVec<F> as Size>⟧ (λ v. number_trees (fixed_bytes_of v.now)) (counted_bytes_format F.field) }
     ensures slice { SameNames ⟦<TlsByteVec<F> as DeserializeBytes>⟧.names (opaque_names F.field) }
-    ensures source { SameSourceNames ⟦<TlsByteVec<F> as Deserialize>⟧.names (opaque_source_names F.field) }
+    ensures source { SameSourceNames ⟦<TlsByteVec<F> as Deserialize>⟧.names (OpaqueSourceRefused F.field) }
 {}
 
 /// Bytes that are lent.

@@ -1,12 +1,12 @@
 -- Bytes that are spelled by themselves, from the digits that they are.
-use Rattle.std.proofs.Common.{◌≡◌, ℕ, List, length, Bool, Option, None, Some, Result, Ok, Err, inl, inr, refl, sym, ap, ◌∙◌, subst, arith}
+use Rattle.std.proofs.Common.{◌≡◌, ℕ, List, length, Bool, Result, Ok, Err, inl, inr, refl, sym, ap, ◌∙◌, subst, arith}
 use Rattle.tls_codec_wire.specs.Counts.{Counts}
 use Rattle.tls_codec_wire.specs.Digits.{AreBytes, Digits, value}
 use Rattle.tls_codec_wire.specs.declared.error.Error.{Error}
 use Rattle.tls_codec_grammar.specs.Tree.{Number, number_trees}
 use Rattle.tls_codec_grammar.specs.Grammar.{Itself, array, number}
 use Rattle.tls_codec_grammar.specs.Shortest.{IsShortest}
-use Rattle.tls_codec_grammar.specs.Decoding.{Begins, GaveSpelling, NoneBegins, NoneComes, Refuses, RefusesSource}
+use Rattle.tls_codec_grammar.specs.Decoding.{Begins, GaveSpelling, NoneBegins, Refuses, RefusesSource}
 use Rattle.tls_codec_wire.specs.declared.device.Sink.{Ghosts}
 use Rattle.tls_codec_grammar.specs.Format.{array_format, number_format}
 use Rattle.tls_codec_grammar.specs.Encoding.{AppendsForm, Breaks, Sends}
@@ -38,10 +38,6 @@ module _ (k : ℕ) where
     spelled = record { width = b.spelled.width; bytes = b.spelled.bytes; number = refl };
   })
 
-  none_comes : (coming : Option (List ℕ)) → NoneComes (number k) coming → NoneComes (array k) coming
-  none_comes None none = tt
-  none_comes (Some x) none = none_begins x none
-
   pub array_refuses : (lean : Bool) (x : List ℕ) (e : Error) → Refuses (number k) lean x e → Refuses (array k) lean x e
   array_refuses lean x e r = record {
     cause = elim r.cause [
@@ -51,10 +47,10 @@ module _ (k : ℕ) where
     memory = r.memory;
   }
 
-  pub array_refuses_source : (lean : Bool) (coming : Option (List ℕ)) (old new : Counts) (e : Error) → RefusesSource (number k) lean coming old new e → RefusesSource (array k) lean coming old new e
-  array_refuses_source lean coming old new e r = record {
+  pub array_refuses_source : (lean : Bool) {old new : Counts} {e : Error} (x : List ℕ) → RefusesSource (number k) lean x old new e → RefusesSource (array k) lean x old new e
+  array_refuses_source lean {old} {new} {e} x r = record {
     cause = elim r.cause [
-      | inl none ↦ inl (none_comes coming none)
+      | inl none ↦ inl (none_begins x none)
       | inr out ↦ inr out
     ];
     memory = r.memory;

@@ -21,7 +21,7 @@ module _ (spells : Grammar) (x : List ℕ) where
   told_first front v None took p = absurd took
 
   -- where a spelling begins x, a source that tells x is refused for another cause
-  pub source_alone : (lean : Bool) (v : Tree) (rest : List ℕ) (old new : Counts) (e : Error) → Begins spells x v rest → RefusesSource spells lean (Some x) old new e → FaultOrNoMemory lean old new e
+  pub source_alone : (lean : Bool) (v : Tree) (rest : List ℕ) (old new : Counts) (e : Error) → Begins spells x v rest → RefusesSource spells lean x old new e → FaultOrNoMemory lean old new e
   source_alone lean v rest old new e b r = elim r.cause [
     | inl none ↦ absurd (none v rest b)
     | inr (inl fault) ↦ inl fault

@@ -1,18 +1,18 @@
 -- What a product's bytes begin with, from what its first part's begin with and the others'.
-use Rattle.std.proofs.Common.{◌≡◌, ℕ, List, [], ◌++◌, Bool, true, false, ◌&&◌, Option, None, Some, inl, inr, refl, sym, ap, ◌∙◌, append_assoc}
+use Rattle.std.proofs.Common.{◌≡◌, ℕ, List, [], ◌++◌, Bool, true, false, ◌&&◌, inl, inr, refl, sym, ap, ◌∙◌, append_assoc}
 use Rattle.std.proofs.lemmas.List.{append_cancel_left}
-use Rattle.std.specs.Io.KnownBytes.{Consumes}
 use Rattle.tls_codec_wire.specs.Counts.{Counts, NoneFell}
-use Rattle.tls_codec_wire.specs.Device.{GivesFromFront, GivesInOrder, GivesNothing, NoCountFalls}
+use Rattle.tls_codec_wire.specs.Device.{GivesInOrder, GivesNothing, NoCountFalls}
+use Rattle.tls_codec_wire.specs.Refused.{Causes}
 use Rattle.tls_codec_wire.specs.declared.device.Source.{Ghosts}
 use Rattle.tls_codec_wire.specs.declared.error.Error.{Error}
-use Rattle.tls_codec_wire.proofs.Given.{gave_on}
+use Rattle.tls_codec_wire.proofs.Refused.{refused_later, refused_so}
 use Rattle.tls_codec_grammar.specs.Tree.{Tree, Empty, Join}
 use Rattle.tls_codec_grammar.specs.Grammar.{Grammar, Reading, nothing, fields}
 use Rattle.tls_codec_grammar.specs.Lawful.{IsLawful, MeetsLaws}
-use Rattle.tls_codec_grammar.specs.Format.{Format, fields_format}
-use Rattle.tls_codec_grammar.specs.Decoding.{Begins, GaveSpelling, LeavesSource, NoneBegins, NoneComes, Refuses, RefusesSource}
-use Rattle.tls_codec_base.specs.Refusals.{IsSpelling, NamedBehind, SliceNames, SourceNamedBehind, SourceNames}
+use Rattle.tls_codec_grammar.specs.Format.{Format, fields_format, nothing_format}
+use Rattle.tls_codec_grammar.specs.Decoding.{Begins, GaveSpelling, LeavesSource, Named, NoneBegins, Refuses, RefusesSource}
+use Rattle.tls_codec_base.specs.Refusals.{IsSpelling, NamedBehind, SliceNames, fields_source_names}
 use Rattle.tls_codec_base.proofs.Coming.{named_behind}
 use Rattle.tls_codec_wire.proofs.Later.{fault_later, rose_later}
 
@@ -89,20 +89,10 @@ fields_given {S} {given} {first} {others} {a} {b} {c} {v} {vs} order p q = recor
   spelled = record { front = p.front; rest = q.front; whole = refl; first = p.spelled; second = q.spelled };
 }
 
-module _ (first others : Grammar) where
-  pub none_comes_at_first : (coming : Option (List ℕ)) → NoneComes first coming → NoneComes (fields first others) coming
-  none_comes_at_first None none = tt
-  none_comes_at_first (Some x) none = none_at_first first others x none
-
-  none_comes_at_others : (f : Tree → ℕ) → IsLawful first f → (old new : Option (List ℕ)) (front : List ℕ) (v : Tree) → Consumes old new front → first Reading front v → NoneComes others new → NoneComes (fields first others) old
-  none_comes_at_others f l None new front v took spelled none = tt
-  none_comes_at_others f l (Some x) None front v took spelled none = absurd took
-  none_comes_at_others f l (Some x) (Some y) front v took spelled none = none_at_others first others f l x v y (record { front = front; whole = took; spelled = spelled }) none
-
-pub fields_source_refuses_first : {first others : Grammar} {a : Bool} {coming : Option (List ℕ)} {before after : Counts} {e : Error} (b : Bool) → RefusesSource first a coming before after e → RefusesSource (fields first others) (a && b) coming before after e
-fields_source_refuses_first {first} {others} {a} {coming} {before} {after} {e} b r = record {
+pub fields_source_refuses_first : {first others : Grammar} {a : Bool} (b : Bool) {before after : Counts} {e : Error} (x : List ℕ) → RefusesSource first a x before after e → RefusesSource (fields first others) (a && b) x before after e
+fields_source_refuses_first {first} {others} {a} b {before} {after} {e} x r = record {
   cause = elim r.cause [
-    | inl none ↦ inl (none_comes_at_first first others coming none)
+    | inl none ↦ inl (none_at_first first others x none)
     | inr out ↦ inr out
   ];
   memory = λ h. elim (r.memory h) [
@@ -111,41 +101,46 @@ fields_source_refuses_first {first} {others} {a} {coming} {before} {after} {e} b
   ];
 }
 
-pub fields_source_refuses_others : {S : Type 0} {given : S → List ℕ → S → Type 0} {first others : Grammar} {f : Tree → ℕ} {b : Bool} {old new : S} {v : Tree} {after : Counts} {e : Error} (a : Bool) (coming : S → Option (List ℕ)) (counts : S → Counts) → GivesFromFront given coming → NoCountFalls given counts
-    → IsLawful first f → GaveSpelling given first old new v → RefusesSource others b (coming new) (counts new) after e → RefusesSource (fields first others) (a && b) (coming old) (counts old) after e
-fields_source_refuses_others {S} {given} {first} {others} {f} {b} {old} {new} {v} {after} {e} a coming counts from_front falls l p r =
-    let took : Consumes (coming old) (coming new) p.front = from_front old p.front new p.held in
-    let fell : NoneFell (counts old) (counts new) = falls old p.front new p.held in
-    record {
-      cause = elim r.cause [
-        | inl none ↦ inl (none_comes_at_others first others f l (coming old) (coming new) p.front v took p.spelled none)
-        | inr (inl fault) ↦ inr (inl (fault_later (counts old) (counts new) after fell fault))
-        | inr (inr out) ↦ inr (inr out)
-      ];
-      memory = λ h. elim (r.memory h) [
-        | inl not_lean ↦ inl (others_not_lean a b not_lean)
-        | inr rose ↦ inr (rose_later (counts old) (counts new) after fell rose)
-      ];
-    }
+pub fields_source_refuses_others : {first others : Grammar} {f : Tree → ℕ} {b : Bool} (a : Bool) {start before after : Counts} {e : Error} (front : List ℕ) {v : Tree} → IsLawful first f → NoneFell start before → first Reading front v
+    → (x : List ℕ) → RefusesSource others b x before after e → RefusesSource (fields first others) (a && b) (front ++ x) start after e
+fields_source_refuses_others {first} {others} {f} {b} a {start} {before} {after} {e} front {v} l fell spelled x r = record {
+  cause = elim r.cause [
+    | inl none ↦ inl (none_at_others first others f l (front ++ x) v x (record { front = front; whole = refl; spelled = spelled }) none)
+    | inr (inl fault) ↦ inr (inl (fault_later start before after fell fault))
+    | inr (inr out) ↦ inr (inr out)
+  ];
+  memory = λ h. elim (r.memory h) [
+    | inl not_lean ↦ inl (others_not_lean a b not_lean)
+    | inr rose ↦ inr (rose_later start before after fell rose)
+  ];
+}
 
 -- ---- the same over formats: one citation a field
 
 module _ {S : Type 0} {source : Ghosts S} {first : Format} (others : Format) {e : Error} where
   pub fields_leaves_first : {a b : S} → LeavesSource first source a b e → LeavesSource (fields_format first others) source a b e
-  fields_leaves_first p = record { gave = p.gave; refused = fields_source_refuses_first others.lean p.refused }
+  fields_leaves_first p = record { refused = refused_so (fields_source_refuses_first others.lean) p.refused }
 
-  pub fields_leaves_others : {a b c : S} {v : Tree} → GivesInOrder source.given → GivesFromFront source.given source.coming → NoCountFalls source.given source.counts → MeetsLaws first
+  pub fields_leaves_others : {a b c : S} {v : Tree} → GivesInOrder source.given → NoCountFalls source.given source.counts → MeetsLaws first
       → GaveSpelling source.given first.spells a b v → LeavesSource others source b c e → LeavesSource (fields_format first others) source a c e
-  fields_leaves_others order from_front falls l p q = record {
-    gave = gave_on order p.held q.gave;
-    refused = fields_source_refuses_others first.lean source.coming source.counts from_front falls l.spelled p q.refused;
-  }
+  fields_leaves_others {a} {b} order falls l p q = record { refused = refused_later p.front order p.held (fields_source_refuses_others first.lean p.front l.spelled (falls a p.front b p.held) p.spelled) q.refused }
 
--- ---- what the others name behind the first part: one citation a field
+  -- and what is named
+  module _ (first_names others_names : Causes) where
+    pub fields_named_first : {a b : S} → Named first first_names source a b e → Named (fields_format first others) (fields_source_names first first_names others_names) source a b e
+    fields_named_first p = record { refused = refused_so (λ x q. (fields_source_refuses_first others.lean x q.0, inl q)) p.refused }
+
+    pub fields_named_others : {a b c : S} {v : Tree} → GivesInOrder source.given → NoCountFalls source.given source.counts → MeetsLaws first
+        → GaveSpelling source.given first.spells a b v → Named others others_names source b c e → Named (fields_format first others) (fields_source_names first first_names others_names) source a c e
+    fields_named_others {a} {b} {c} {v} order falls l p q =
+        let fell = falls a p.front b p.held in
+        record { refused = refused_later p.front order p.held (λ x r. (fields_source_refuses_others first.lean p.front l.spelled fell p.spelled x r.0, inr (named_behind p.front fell (v, p.spelled) x r.1))) q.refused }
+
+-- the last part alone
+pub last_named : {S : Type 0} {source : Ghosts S} {last : Format} (names : Causes) {a b : S} {e : Error} → Named last names source a b e → Named (fields_format last nothing_format) names source a b e
+last_named names p = record { refused = refused_so (λ x q. (fields_source_refuses_first true x q.0, q.1)) p.refused }
+
+-- ---- what the others name behind the first part of a slice: one citation a field
 
 pub others_named : {first : Grammar} {x : List ℕ} {v : Tree} {rest : List ℕ} {e : Error} (names : SliceNames) → Begins first x v rest → names rest e → NamedBehind (IsSpelling first) names x e
 others_named {first} {x} {v} {rest} names p named = record { front = p.front; rest = rest; whole = p.whole; is_front = (v, p.spelled); named = named }
-
-pub others_named_source : {S : Type 0} {given : S → List ℕ → S → Type 0} {first : Grammar} {a b : S} {v : Tree} {after : Counts} {e : Error} (names : SourceNames) (coming : S → Option (List ℕ)) (counts : S → Counts) → GivesFromFront given coming → NoCountFalls given counts
-    → GaveSpelling given first a b v → names (coming b) (counts b) after e → SourceNamedBehind (IsSpelling first) names (coming a) (counts a) after e
-others_named_source {S} {given} {first} {a} {b} {v} names coming counts from_front falls p named = named_behind names coming counts from_front falls p.held (v, p.spelled) named

@@ -1,12 +1,14 @@
 pub mod ArrayCalls
 pub mod BothPaths
 pub mod Coming
+pub mod ToEnd
 pub mod FieldsDecoding
 pub mod FieldsEncoding
 pub mod FullValues
 pub mod ListReading
 pub mod ListSources
 pub mod ListWriting
+pub mod Memory
 pub mod NumberRunSources
 pub mod NumberRuns
 pub mod OptionDecoding
@@ -19,6 +21,7 @@ pub mod TextDecoding
 pub mod TextForms
 pub mod Trailing
 pub mod Turns
+pub mod Values
 pub mod VectorSinks
 pub mod Whole
 pub mod WholeElements

@@ -1,89 +1,84 @@
--- Numbers of one width in a row, of which a source may have too few.
-use Rattle.std.proofs.Common.{◌≡◌, ℕ, ◌<◌, ◌^◌, List, [], length, take, length-take-le, Option, None, Some, false, true, inl, inr, refl, ap, subst, ◌∙◌, arith, length-append}
-use Rattle.std.specs.Prelude.{option_map, Ok, Vec}
+-- Numbers of one width in a row, which a source has at hand.
+use Rattle.std.proofs.Common.{◌≡◌, ◌⊎◌, ℕ, ◌<◌, ◌≤◌, ◌^◌, List, [], length, Option, None, Some, inl, inr, refl, ap, subst, arith, length-append}
+use Rattle.std.specs.Prelude.{Ok, Vec}
 use Rattle.std.specs.Global.{Global}
-use Rattle.std.specs.Io.KnownBytes.{Consumes}
-use Rattle.tls_codec_wire.specs.Bounded.{GaveWithin, first_bytes, inner_of, limit_of}
-use Rattle.tls_codec_wire.specs.Device.{Gave, IsAtHand}
+use Rattle.tls_codec_wire.specs.Bounded.{first_bytes, gives_from_front_within, inner_of, limit_of}
+use Rattle.tls_codec_wire.specs.Counts.{Counts, stay}
+use Rattle.tls_codec_wire.specs.Device.{GivesFromFront, GivesNothing, IsAtHand}
+use Rattle.tls_codec_wire.specs.Refused.{RefusedFor, Seen, within}
+use Rattle.tls_codec_wire.specs.Transfer.{BytesRefused, IsReadFailure, ReadRefused}
 use Rattle.tls_codec_wire.specs.declared.bounded.Bounded.{Bounded}
 use Rattle.tls_codec_wire.specs.declared.device.Source.{Ghosts}
-use Rattle.tls_codec_wire.specs.Counts.{Counts, stay}
-use Rattle.tls_codec_wire.specs.Transfer.{BytesRefused, IsShortOf}
 use Rattle.tls_codec_wire.specs.declared.error.Error.{Error}
 use Rattle.tls_codec_wire.specs.declared.error.Error.TheVariants.{DecodingError, EndOfStream, InvalidVectorLength, OutOfMemory}
+use Rattle.tls_codec_wire.proofs.Refused.{refused_now, seen_told, seen_within}
 use Rattle.tls_codec_grammar.specs.Tree.{Empty, number_trees}
-use Rattle.tls_codec_grammar.specs.Grammar.{Grammar, Reading, content, number, sized}
-use Rattle.tls_codec_grammar.specs.Decoding.{GaveSpelling, NoneComes, RefusesSource}
-use Rattle.tls_codec_grammar.specs.Format.{number_format}
-use Rattle.tls_codec_base.specs.Refusals.{elements_source_names}
-use Rattle.tls_codec_base.specs.Runs.{ReadsRun, RefusesRun, number_source_names}
-use Rattle.tls_codec_base.specs.Turns.{RefusedAtOnce}
+use Rattle.tls_codec_grammar.specs.Grammar.{Reading, content, number, sized}
+use Rattle.tls_codec_grammar.specs.Decoding.{GaveSpelling, part_source_names}
+use Rattle.tls_codec_grammar.specs.Format.{content_format, number_format, sized_format}
 use Rattle.tls_codec_grammar.proofs.ByteContents.{bytes_content}
+use Rattle.tls_codec_base.specs.Refusals.{NamedWithin, elements_source_names}
+use Rattle.tls_codec_base.specs.Runs.{ReadsRun, RefusesRun}
+use Rattle.tls_codec_base.specs.Turns.{MemoryOrFault}
+use Rattle.tls_codec_base.proofs.Coming.{named_behind}
 
--- fewer bytes than n up to the limit n are no n bytes
-none_short : (n : ℕ) (inside : Grammar) (coming : Option (List ℕ)) → IsShortOf n (option_map (take n) coming) → NoneComes (sized n inside) coming
-none_short n inside None short = tt
-none_short n inside (Some x) short = λ v rest b. omega (arith, short, length-take-le n x (omega (arith, ap length b.whole, length-append b.front rest, b.spelled.0)))
+-- a read failed
+abbrev ReadFailed : Counts → Counts → Error → Type 0
+ReadFailed old new (DecodingError text) = IsReadFailure text old new
+ReadFailed old new _ = ⊥
 
--- why bytes up to the limit are not gathered is why the list is refused
-pub run_refused : (k n : ℕ) (coming : Option (List ℕ)) (old new : Counts) (e : Error) → n < 2 ^ 63 → BytesRefused e n (option_map (take n) coming) old new → RefusesSource (sized n (content (number k))) false coming old new e
-run_refused k n coming old new InvalidVectorLength small p = absurd (omega (arith, small, p))
-run_refused k n coming old new (DecodingError text) small p = record { cause = inr (inl p.1); memory = λ h. absurd cc }
-run_refused k n coming old new EndOfStream small p = record { cause = inl (none_short n _ coming p); memory = λ h. absurd cc }
-run_refused k n coming old new OutOfMemory small p = record { cause = inr (inr refl); memory = λ h. inl refl }
-run_refused k n coming old new _ small p = absurd p
+-- as many bytes as are at hand are told, so that they can't be missing
+at_hand_told : {S : Type 0} (source : Ghosts S) (hand : List ℕ) {a b : Bounded S} {x : List ℕ} → GivesFromFront source.given source.coming → 0 < length hand → IsAtHand hand (first_bytes source.coming a) → Seen (within source) a b x → length hand ≤ length x
+at_hand_told {S} source hand {a} {b} {x} from_front some first seen = told (first_bytes source.coming a) refl first
+  where
+    told : (coming : Option (List ℕ)) → first_bytes source.coming a ≡ coming → IsAtHand hand coming → length hand ≤ length x
+    told None e h = absurd (omega (arith, some, ap length h))
+    told (Some y) e h =
+        let same : x ≡ y = seen_told (gives_from_front_within source.given source.coming from_front) e seen in
+        omega (arith, ap length same, ap length h.1, length-append hand h.0)
 
-took_none : (coming : Option (List ℕ)) → Consumes coming coming []
-took_none None = tt
-took_none (Some x) = refl
+-- so only a fault and want of memory are left
+not_gathered_at_hand : (n : ℕ) (x : List ℕ) (old new : Counts) (e : Error) → n < 2 ^ 63 → n ≤ length x → BytesRefused n x old new e → (e ≡ OutOfMemory) ⊎ ReadFailed old new e
+not_gathered_at_hand n x old new InvalidVectorLength small all p = absurd (omega (arith, small, p))
+not_gathered_at_hand n x old new (DecodingError text) small all p = inr p
+not_gathered_at_hand n x old new EndOfStream small all p = absurd (omega (arith, p, all))
+not_gathered_at_hand n x old new OutOfMemory small all p = inl refl
+not_gathered_at_hand n x old new _ small all p = absurd p
 
--- and it is named so before the first number
-at_first : (k n : ℕ) (coming : Option (List ℕ)) (old new : Counts) (e : Error) → 0 < n → RefusesSource (number k) true (option_map (take n) coming) old new e → number_source_names k (option_map (take n) coming) old new e → elements_source_names (number_format k) (number_source_names k) n coming old new e
-at_first k n coming old new e some refused named = inr (
-  n,
-  record {
-    front = [];
-    behind = coming;
-    between = old;
-    took = took_none coming;
-    is_front = record { elements = (Empty, refl); fills = omega arith; some = some };
-    fell = stay old;
-    named = inl (refused, named);
-  },
+memory_or_fault : (old new : Counts) (e : Error) → (e ≡ OutOfMemory) ⊎ ReadFailed old new e → MemoryOrFault old new e
+memory_or_fault old new e (inl out) = inl out
+memory_or_fault old new (DecodingError text) (inr p) = inr p.1
+memory_or_fault old new _ (inr p) = absurd p
+
+-- and the list is refused, as it is before the first number
+run_refused : (k n : ℕ) (x : List ℕ) (old new : Counts) (e : Error) → 0 < n → (e ≡ OutOfMemory) ⊎ ReadFailed old new e → part_source_names (sized_format n (content_format (number_format k))) (elements_source_names (number_format k) (ReadRefused k) n) x old new e
+run_refused k n x old new e some (inl out) = (record { cause = inr (inr out); memory = λ h. inl refl }, inl out)
+run_refused k n x old new (DecodingError text) some (inr p) = (
+  record { cause = inr (inl p.1); memory = λ h. absurd cc },
+  inr (
+    n,
+    named_behind [] (stay old) (record { elements = (Empty, refl); fills = omega arith; some = some }) x (inl (record { cause = inr (inl p.1); memory = λ h. absurd cc }, p)),
+  ),
 )
-
--- where as many bytes are at hand, none can be missing
-pub run_named : (k n : ℕ) (coming : Option (List ℕ)) (hand : List ℕ) (old new : Counts) (e : Error) → 0 < n → n < 2 ^ 63 → length hand ≡ n → IsAtHand hand (option_map (take n) coming) → BytesRefused e n (option_map (take n) coming) old new → elements_source_names (number_format k) (number_source_names k) n coming old new e
-run_named k n coming hand old new InvalidVectorLength some small width first p = absurd (omega (arith, small, p))
-run_named k n coming hand old new (DecodingError text) some small width first p =
-    at_first k n coming old new (DecodingError text) some (record { cause = inr (inl p.1); memory = λ h. absurd cc }) p
-run_named k n None hand old new EndOfStream some small width first p =
-    at_first k n None old new EndOfStream some (record { cause = inl tt; memory = λ h. absurd cc }) tt
-run_named k n (Some x) hand old new EndOfStream some small width first p = absurd (omega (arith, p, width, ap length first.1, length-append hand first.0))
-run_named k n coming hand old new OutOfMemory some small width first p = inl refl
-run_named k n coming hand old new _ some small width first p = absurd p
-
--- so that only a fault and want of memory are left
-run_at_once : (n : ℕ) (coming : Option (List ℕ)) (hand : List ℕ) (old new : Counts) (e : Error) → n < 2 ^ 63 → length hand ≡ n → IsAtHand hand (option_map (take n) coming) → BytesRefused e n (option_map (take n) coming) old new → RefusedAtOnce coming old new e
-run_at_once n None hand old new e small width first p = tt
-run_at_once n (Some x) hand old new InvalidVectorLength small width first p = absurd (omega (arith, small, p))
-run_at_once n (Some x) hand old new (DecodingError text) small width first p = inr p.1
-run_at_once n (Some x) hand old new EndOfStream small width first p = absurd (omega (arith, p, width, ap length first.1, length-append hand first.0))
-run_at_once n (Some x) hand old new OutOfMemory small width first p = inl refl
-run_at_once n (Some x) hand old new _ small width first p = absurd p
+run_refused k n x old new _ some (inr p) = absurd p
 
 -- a run at hand that is not read
-pub run_not_read : {S : Type 0} {source : Ghosts S} {a b : Bounded S} {size : ℕ} {e : Error} (k : ℕ) (hand : List ℕ) → size ≡ limit_of a → 0 < size → size < 2 ^ 63 → length hand ≡ size → IsAtHand hand (first_bytes source.coming a) → Gave (GaveWithin source.given) a b
-    → BytesRefused e size (first_bytes source.coming a) (source.counts (inner_of a)) (source.counts (inner_of b)) → RefusesRun k source a b e
-run_not_read {S} {source} {a} {b} {size} {e} k hand fills some small width first gave refused =
-    let n = limit_of a in
-    let below : n < 2 ^ 63 = omega (arith, fills, small) in
-    let same = subst (λ (u : ℕ). BytesRefused e u (first_bytes source.coming a) (source.counts (inner_of a)) (source.counts (inner_of b))) fills refused in
+pub run_not_read : {S : Type 0} {source : Ghosts S} {a b : Bounded S} {size : ℕ} {e : Error} (k : ℕ) (hand : List ℕ) → GivesFromFront source.given source.coming → size ≡ limit_of a → 0 < size → size < 2 ^ 63 → length hand ≡ size → IsAtHand hand (first_bytes source.coming a)
+    → RefusedFor (within source) (BytesRefused size) a b e → RefusesRun k source a b e
+run_not_read {S} {source} {a} {b} {size} {e} k hand from_front fills some small width first p =
+    let all = at_hand_told source hand from_front (omega (arith, some, width)) first p.seen in
+    let why = not_gathered_at_hand size p.bytes (source.counts (inner_of a)) (source.counts (inner_of b)) e small (omega (arith, all, width)) p.cause in
+    let inner = seen_within p.seen in
     record {
-      at_once = run_at_once n _ hand _ _ e below (width ∙ fills) first same;
-      leaves = record { gave = record { bytes = gave.bytes; held = gave.held.held }; refused = run_refused k n _ _ _ e below same };
-      named = run_named k n _ hand _ _ e (omega (arith, fills, some)) below (width ∙ fills) first same;
+      named = record { refused = record { bytes = inner.bytes; seen = inner.seen; cause = run_refused k (limit_of a) inner.bytes (source.counts (inner_of a)) (source.counts (inner_of b)) e (omega (arith, fills, some)) why } };
+      at_once = memory_or_fault (source.counts (inner_of a)) (source.counts (inner_of b)) e why;
     }
+
+-- a run that was read, and for whose numbers there was no memory
+pub run_without_memory : {S : Type 0} {source : Ghosts S} (a b : Bounded S) {e : Error} (k : ℕ) {found : Option (Vec ℕ Global)} (digits : Vec ℕ Global) → GivesNothing source.given → ReadsRun k source a b (Ok found) → found ≡ Some digits → e ≡ OutOfMemory → NamedWithin (number_format k) (ReadRefused k) source a b e
+run_without_memory {source = source} a b k digits nothing p same out =
+    let run = subst (λ (o : Option (Vec ℕ Global)). ReadsRun k source a b (Ok o)) same p in
+    record { refused = refused_now digits.items nothing run.held (λ rest. (record { cause = inr (inr out); memory = λ h. inl refl }, inl out)) }
 
 -- a run of bytes is a list of them
 pub byte_run : {S : Type 0} (source : Ghosts S) (a b : Bounded S) (found : Option (Vec ℕ Global)) (bytes : Vec ℕ Global) → ReadsRun 1 source a b (Ok found) → found ≡ Some bytes → GaveSpelling source.given (sized (limit_of a) (content (number 1))) (inner_of a) (inner_of b) (number_trees bytes.items)

@@ -1,25 +1,25 @@
 -- What an option's bytes begin with, from what its payload's begin with.
-use Rattle.std.proofs.Common.{◌≡◌, ◌≢◌, ℕ, List, [], ◌∷◌, ◌++◌, length, get_or, Bool, Option, None, Some, inl, inr, refl, sym, ap, subst, ◌∙◌, arith}
-use Rattle.std.specs.Io.KnownBytes.{Consumes}
+use Rattle.std.proofs.Common.{◌≡◌, ◌≢◌, ℕ, List, [], ◌∷◌, ◌++◌, length, get_or, Bool, inl, inr, refl, sym, ap, subst, ◌∙◌, arith}
 use Rattle.tls_codec_wire.specs.Counts.{Counts, NoneFell}
 use Rattle.tls_codec_wire.specs.Device.{GivesInOrder}
 use Rattle.tls_codec_wire.specs.declared.error.Error.{Error}
-use Rattle.tls_codec_wire.specs.declared.error.Error.TheVariants.{DecodingError}
+use Rattle.tls_codec_wire.specs.declared.error.Error.TheVariants.{DecodingError, EndOfStream, OutOfMemory}
+use Rattle.tls_codec_wire.specs.Transfer.{ReadRefused}
 use Rattle.tls_codec_wire.proofs.Later.{fault_later, rose_later}
 use Rattle.tls_codec_grammar.specs.Tree.{Tree, Empty, Join}
 use Rattle.tls_codec_grammar.specs.Grammar.{Grammar, option}
-use Rattle.tls_codec_grammar.specs.Decoding.{Begins, NoneBegins, NoneComes, GaveSpelling, Refuses, RefusesSource}
+use Rattle.tls_codec_grammar.specs.Decoding.{Begins, NoneBegins, GaveSpelling, Refuses, RefusesSource}
 use Rattle.tls_codec_base.specs.Refusals.{IsOtherByte}
 
 -- a buffer of one byte
-one_byte : (buffer : List ℕ) (b : ℕ) → length buffer ≡ 1 → get_or buffer 0 0 ≡ b → buffer ≡ b ∷ []
-one_byte [] b width e = absurd (omega (arith, width))
-one_byte (x ∷ []) b width e = ap (λ (u : ℕ). u ∷ []) e
-one_byte (x ∷ y ∷ more) b width e = absurd (omega (arith, width))
+pub one_byte_buffer : (buffer : List ℕ) (b : ℕ) → length buffer ≡ 1 → get_or buffer 0 0 ≡ b → buffer ≡ b ∷ []
+one_byte_buffer [] b width e = absurd (omega (arith, width))
+one_byte_buffer (x ∷ []) b width e = ap (λ (u : ℕ). u ∷ []) e
+one_byte_buffer (x ∷ y ∷ more) b width e = absurd (omega (arith, width))
 
 -- another tag
 pub other_byte : (buffer : List ℕ) → length buffer ≡ 1 → get_or buffer 0 0 ≢ 0 → get_or buffer 0 0 ≢ 1 → IsOtherByte buffer
-other_byte buffer width zero one = (get_or buffer 0 0, one_byte buffer (get_or buffer 0 0) width refl, omega (arith, zero, one))
+other_byte buffer width zero one = (get_or buffer 0 0, one_byte_buffer buffer (get_or buffer 0 0) width refl, omega (arith, zero, one))
 
 module _ (payload : Grammar) where
   -- ---- from a slice
@@ -61,33 +61,30 @@ module _ (payload : Grammar) where
       absurd (one cc)
   none_with_other_tag tag x zero one _ rest p = absurd p.spelled
 
-  none_comes_with_other_tag : (old new : Option (List ℕ)) (buffer : List ℕ) → length buffer ≡ 1 → Consumes old new buffer → get_or buffer 0 0 ≢ 0 → get_or buffer 0 0 ≢ 1 → NoneComes (option payload) old
-  none_comes_with_other_tag None new buffer width took zero one = tt
-  none_comes_with_other_tag (Some xs) None buffer width took zero one = absurd took
-  none_comes_with_other_tag (Some xs) (Some ys) [] width took zero one = absurd (omega (arith, width))
-  none_comes_with_other_tag (Some xs) (Some ys) (tag ∷ []) width took zero one =
-      subst (NoneBegins (option payload)) (sym took) (none_with_other_tag tag ys zero one)
-  none_comes_with_other_tag (Some xs) (Some ys) (tag ∷ t ∷ more) width took zero one = absurd (omega (arith, width))
-
-  none_comes_behind : (old mid : Option (List ℕ)) (buffer : List ℕ) → length buffer ≡ 1 → Consumes old mid buffer → get_or buffer 0 0 ≡ 1 → NoneComes payload mid → NoneComes (option payload) old
-  none_comes_behind None mid buffer width took one none = tt
-  none_comes_behind (Some xs) None buffer width took one none = absurd took
-  none_comes_behind (Some xs) (Some ys) [] width took one none = absurd (omega (arith, width))
-  none_comes_behind (Some xs) (Some ys) (tag ∷ []) width took one none = none_behind xs ys (took ∙ ap (λ (u : ℕ). u ∷ ys) one) none
-  none_comes_behind (Some xs) (Some ys) (tag ∷ t ∷ more) width took one none = absurd (omega (arith, width))
-
   -- another tag is read
-  pub other_tag_refused : (lean : Bool) (coming new : Option (List ℕ)) (buffer : List ℕ) (before after : Counts) (text : _) → length buffer ≡ 1 → Consumes coming new buffer → get_or buffer 0 0 ≢ 0 → get_or buffer 0 0 ≢ 1 → RefusesSource (option payload) lean coming before after (DecodingError text)
-  other_tag_refused lean coming new buffer before after text width took zero one = record {
-    cause = inl (none_comes_with_other_tag coming new buffer width took zero one);
-    memory = λ h. absurd cc;
-  }
+  pub other_tag_refused : (lean : Bool) (buffer : List ℕ) → length buffer ≡ 1 → get_or buffer 0 0 ≢ 0 → get_or buffer 0 0 ≢ 1 → {before after : Counts} {text : _} (x : List ℕ) → RefusesSource (option payload) lean (buffer ++ x) before after (DecodingError text)
+  other_tag_refused lean (tag ∷ []) width zero one x = record { cause = inl (none_with_other_tag tag x zero one); memory = λ h. absurd cc }
+  other_tag_refused lean [] width zero one x = absurd (omega (arith, width))
+  other_tag_refused lean (tag ∷ t ∷ more) width zero one x = absurd (omega (arith, width))
+
+  -- no tag is read
+  pub no_tag_refused : (lean : Bool) (x : List ℕ) (before after : Counts) (e : Error) → ReadRefused 1 x before after e → RefusesSource (option payload) lean x before after e
+  no_tag_refused lean x before after (DecodingError text) p = record { cause = inr (inl p.1); memory = λ h. absurd cc }
+  no_tag_refused lean x before after OutOfMemory p = record { cause = inr (inr refl); memory = λ h. inr p }
+  no_tag_refused lean [] before after EndOfStream p = record { cause = inl none_in_nothing; memory = λ h. absurd cc }
+    where
+      none_in_nothing : NoneBegins (option payload) []
+      none_in_nothing Empty rest b = let h : [] ≡ 0 ∷ rest = b.whole ∙ ap (λ (u : List ℕ). u ++ rest) b.spelled in absurd cc
+      none_in_nothing (Join v Empty) rest b = let h : [] ≡ 1 ∷ (b.spelled.0 ++ rest) = b.whole ∙ ap (λ (u : List ℕ). u ++ rest) b.spelled.1 in absurd cc
+      none_in_nothing _ rest b = absurd b.spelled
+  no_tag_refused lean (b ∷ bs) before after EndOfStream p = absurd (omega (arith, p))
+  no_tag_refused lean x before after _ p = absurd p
 
   -- the payload is refused
-  pub payload_refused : (lean : Bool) (coming mid : Option (List ℕ)) (buffer : List ℕ) (start before after : Counts) (e : Error) → length buffer ≡ 1 → Consumes coming mid buffer → get_or buffer 0 0 ≡ 1 → NoneFell start before → RefusesSource payload lean mid before after e → RefusesSource (option payload) lean coming start after e
-  payload_refused lean coming mid buffer start before after e width took one fell r = record {
+  pub payload_refused : (lean : Bool) {start before after : Counts} {e : Error} (buffer : List ℕ) → length buffer ≡ 1 → get_or buffer 0 0 ≡ 1 → NoneFell start before → (x : List ℕ) → RefusesSource payload lean x before after e → RefusesSource (option payload) lean (buffer ++ x) start after e
+  payload_refused lean {start} {before} {after} {e} buffer width one fell x r = record {
     cause = elim r.cause [
-      | inl none ↦ inl (none_comes_behind coming mid buffer width took one none)
+      | inl none ↦ inl (none_behind (buffer ++ x) x (ap (λ (u : List ℕ). u ++ x) (one_byte_buffer buffer 1 width one)) none)
       | inr (inl fault) ↦ inr (inl (fault_later start before after fell fault))
       | inr (inr memory) ↦ inr (inr memory)
     ];
@@ -101,5 +98,5 @@ module _ (payload : Grammar) where
   option_given given a b c buffer v order width tag one q = record {
     front = buffer ++ q.front;
     held = order a buffer b q.front c tag q.held;
-    spelled = (q.front, ap (λ (u : List ℕ). u ++ q.front) (one_byte buffer 1 width one), q.spelled);
+    spelled = (q.front, ap (λ (u : List ℕ). u ++ q.front) (one_byte_buffer buffer 1 width one), q.spelled);
   }

@@ -1,26 +1,27 @@
 -- What a choice's bytes begin with, from what its tag begins with and the parts behind it.
-use Rattle.std.proofs.Common.{◌≡◌, ℕ, List, ◌++◌, Bool, true, false, ◌&&◌, Option, None, Some, Result, Ok, Err, inl, inr, sym, ap, subst, ◌∙◌, append_assoc}
+use Rattle.std.proofs.Common.{◌≡◌, ℕ, List, ◌++◌, Bool, true, false, ◌&&◌, Result, Ok, Err, inl, inr, refl, sym, ap, subst, ◌∙◌, append_assoc}
 use Rattle.std.specs.Prelude.{IfErr, IsErrAnd}
 use Rattle.std.specs.Borrow.{Bor}
-use Rattle.std.specs.Io.KnownBytes.{Consumes}
 use Rattle.std.proofs.lemmas.List.{append_cancel_left}
 use Rattle.tls_codec_wire.specs.Counts.{Counts, NoneFell}
-use Rattle.tls_codec_wire.specs.Device.{GivesFromFront, GivesInOrder, GivesNothing, NoCountFalls}
+use Rattle.tls_codec_wire.specs.Device.{GivesInOrder, GivesNothing, NoCountFalls}
+use Rattle.tls_codec_wire.specs.Refused.{Causes}
 use Rattle.tls_codec_wire.specs.Digits.{Digits}
+use Rattle.tls_codec_wire.specs.Transfer.{ReadRefused}
 use Rattle.tls_codec_wire.specs.declared.device.Source.{Ghosts}
 use Rattle.tls_codec_wire.specs.declared.error.Error.{Error}
 use Rattle.tls_codec_wire.specs.declared.error.Error.TheVariants.{UnknownValue}
-use Rattle.tls_codec_wire.proofs.Given.{gave_on}
+use Rattle.tls_codec_wire.proofs.Refused.{refused_later, refused_now, refused_so}
 use Rattle.tls_codec_grammar.specs.Tree.{Tree, Number, Empty, Join}
 use Rattle.tls_codec_grammar.specs.Grammar.{Grammar, Reading, number, nothing, fields}
 use Rattle.tls_codec_grammar.specs.Format.{Format, fields_format, nothing_format, number_format}
 use Rattle.tls_codec_grammar.specs.Lawful.{MeetsLaws}
-use Rattle.tls_codec_grammar.specs.Decoding.{Begins, GaveSpelling, LeavesSource, NoneBegins, NoneComes, Reads, Refuses, Splits}
+use Rattle.tls_codec_grammar.specs.Decoding.{Begins, GaveSpelling, LeavesSource, Named, NoneBegins, Reads, Refuses, RefusesSource, Splits}
 use Rattle.tls_codec_grammar.specs.Tagged.{MeetVariantLaws, Variants, tagged, tagged_format}
 use Rattle.tls_codec_wire.proofs.Later.{fault_later, rose_later}
-use Rattle.tls_codec_base.specs.Refusals.{SliceNames, SourceNames}
+use Rattle.tls_codec_base.specs.Refusals.{SliceNames}
 use Rattle.tls_codec_base.proofs.Coming.{named_behind}
-use Rattle.tls_codec_base.proofs.FieldsDecoding.{fields_begins, fields_given, none_at_first, none_comes_at_first, nothing_begins, nothing_given}
+use Rattle.tls_codec_base.proofs.FieldsDecoding.{fields_begins, fields_given, fields_leaves_first, last_named, none_at_first, nothing_begins, nothing_given}
 use Rattle.tls_codec_base.specs.TaggedNames.{tagged_names, tagged_source_names}
 
 -- ---- which fronts no choice has
@@ -35,11 +36,6 @@ module _ (k : ℕ) (variants : Variants) where
       let left : r ≡ b.spelled.rest ++ rest = append_cancel_left p.front r (b.spelled.rest ++ rest) (whole ∙ ap (λ (u : List ℕ). u ++ (b.spelled.rest ++ rest)) (sym tags.0)) in
       none vs rest (record { front = b.spelled.rest; whole = left; spelled = subst (λ (u : ℕ). (variants.parts u).spells Reading b.spelled.rest vs) same b.spelled.second })
   none_at_parts l x tag r p none _ rest b = absurd b.spelled
-
-  none_comes_at_firsts : MeetsLaws (number_format k) → (old new : Option (List ℕ)) (front : List ℕ) (tag : ℕ) → Consumes old new front → number k Reading front (Number tag) → NoneComes (variants.parts tag).spells new → NoneComes (tagged k variants) old
-  none_comes_at_firsts l None new front tag took spelled none = tt
-  none_comes_at_firsts l (Some x) None front tag took spelled none = absurd took
-  none_comes_at_firsts l (Some x) (Some r) front tag took spelled none = none_at_parts l x tag r (record { front = front; whole = took; spelled = spelled }) none
 
 -- ---- from a slice
 
@@ -95,75 +91,92 @@ pub part_given : {S : Type 0} {given : S → List ℕ → S → Type 0} {part : 
 part_given {S} {given} {part} {a} {b} {v} order gives p = fields_given order p (nothing_given gives b)
 
 pub part_leaves : {S : Type 0} {source : Ghosts S} {part : Format} {a b : S} {e : Error} → LeavesSource part source a b e → LeavesSource (fields_format part nothing_format) source a b e
-part_leaves {S} {source} {part} {a} {b} {e} p = record {
-  gave = p.gave;
-  refused = record {
-    cause = elim p.refused.cause [
-      | inl none ↦ inl (none_comes_at_first part.spells nothing (source.coming a) none)
-      | inr out ↦ inr out
-    ];
-    memory = λ h. elim (p.refused.memory h) [
-      | inl not_lean ↦ inl (ap (λ (u : Bool). u && true) not_lean)
-      | inr rose ↦ inr rose
-    ];
-  };
-}
+part_leaves p = fields_leaves_first nothing_format p
 
-none_comes_unknown : {variants : Variants} → MeetVariantLaws variants → (tag : ℕ) (coming : Option (List ℕ)) → variants.has tag ≡ false → NoneComes (variants.parts tag).spells coming
-none_comes_unknown m tag None none = tt
-none_comes_unknown m tag (Some x) none = λ v rest b. m.unknown tag none Reading b.front v b.spelled
+-- and what it names
+pub part_named : {S : Type 0} {source : Ghosts S} {part : Format} (names : Causes) {a b : S} {e : Error} → Named part names source a b e → Named (fields_format part nothing_format) names source a b e
+part_named names p = last_named names p
 
-module _ {k : ℕ} {variants : Variants} (l : MeetsLaws (number_format k)) (m : MeetVariantLaws variants) {S : Type 0} where
-  pub tagged_given : {given : S → List ℕ → S → Type 0} {a b c : S} {tag n : ℕ} {vs : Tree} → GivesInOrder given → GaveSpelling given (number k) a b (Number tag) → tag ≡ n → GaveSpelling given (variants.parts n).spells b c vs → GaveSpelling given (tagged k variants) a c (Join (Number n) vs)
-  tagged_given {given} {a} {b} {c} {tag} {n} {vs} order p same q =
-      let both = fields_given order (subst (λ (u : ℕ). GaveSpelling given (number k) a b (Number u)) same p) q in
-      record { front = both.front; held = both.held; spelled = both.spelled }
-
+module _ {k : ℕ} {variants : Variants} (l : MeetsLaws (number_format k)) (m : MeetVariantLaws variants) where
   -- the parts are refused
-  tagged_leaves : {source : Ghosts S} {a b c : S} {tag n : ℕ} {e : Error} → GivesInOrder source.given → GivesFromFront source.given source.coming → NoCountFalls source.given source.counts
-      → GaveSpelling source.given (number k) a b (Number tag) → tag ≡ n → LeavesSource (variants.parts n) source b c e → LeavesSource (tagged_format k variants) source a c e
-  tagged_leaves {source} {a} {b} {c} {tag} {n} {e} order from_front falls p same q =
-      let took : Consumes (source.coming a) (source.coming b) p.front = from_front a p.front b p.held in
-      let fell : NoneFell (source.counts a) (source.counts b) = falls a p.front b p.held in
-      record {
-        gave = gave_on order p.held q.gave;
-        refused = record {
-          cause = elim q.refused.cause [
-            | inl none ↦ inl (none_comes_at_firsts k variants l (source.coming a) (source.coming b) p.front n took (subst (λ (u : ℕ). number k Reading p.front (Number u)) same p.spelled) none)
-            | inr (inl fault) ↦ inr (inl (fault_later (source.counts a) (source.counts b) (source.counts c) fell fault))
-            | inr (inr out) ↦ inr (inr out)
-          ];
-          memory = λ h. elim (q.refused.memory h) [
-            | inl parts_not_lean ↦ inl (m.memory n parts_not_lean)
-            | inr rose ↦ inr (rose_later (source.counts a) (source.counts b) (source.counts c) fell rose)
-          ];
-        };
-      }
-
-  -- and that is handed on
-  pub tagged_reads : {T : Type 0} (plain : T → Tree) (source : Ghosts S) (a c : S) (result : Result T Error) {b : S} {tag n : ℕ} {e : Error} → GivesInOrder source.given → GivesFromFront source.given source.coming → NoCountFalls source.given source.counts
-      → IsErrAnd result (λ y. y ≡ e) → GaveSpelling source.given (number k) a b (Number tag) → tag ≡ n → LeavesSource (variants.parts n) source b c e → Reads (tagged_format k variants) plain source a c result
-  tagged_reads {T} plain source a c (Ok v) order from_front falls h p same q = absurd h
-  tagged_reads {T} plain source a c (Err y) order from_front falls h p same q = subst (λ (u : Error). LeavesSource (tagged_format k variants) source a c u) (sym h) (tagged_leaves order from_front falls p same q)
-
-  -- no variant has the tag
-  pub tagged_leaves_unknown : {source : Ghosts S} {a b : S} {tag n : ℕ} → GivesFromFront source.given source.coming → GaveSpelling source.given (number k) a b (Number tag) → variants.has tag ≡ false → LeavesSource (tagged_format k variants) source a b (UnknownValue n)
-  tagged_leaves_unknown {source} {a} {b} {tag} {n} from_front p none = record {
-    gave = record { bytes = p.front; held = p.held };
-    refused = record {
-      cause = inl (none_comes_at_firsts k variants l (source.coming a) (source.coming b) p.front tag (from_front a p.front b p.held) p.spelled (none_comes_unknown m tag (source.coming b) none));
-      memory = λ h. absurd cc;
-    };
+  parts_refused : {start before after : Counts} {e : Error} (front : List ℕ) (tag n : ℕ) → NoneFell start before → number k Reading front (Number tag) → tag ≡ n
+      → (x : List ℕ) → RefusesSource (variants.parts n).spells (variants.parts n).lean x before after e → RefusesSource (tagged k variants) variants.lean (front ++ x) start after e
+  parts_refused {start} {before} {after} {e} front tag n fell spelled same x q = record {
+    cause = elim q.cause [
+      | inl none ↦ inl (none_at_parts k variants l (front ++ x) n x (record { front = front; whole = refl; spelled = subst (λ (u : ℕ). number k Reading front (Number u)) same spelled }) none)
+      | inr (inl fault) ↦ inr (inl (fault_later start before after fell fault))
+      | inr (inr out) ↦ inr (inr out)
+    ];
+    memory = λ h. elim (q.memory h) [
+      | inl parts_not_lean ↦ inl (m.memory n parts_not_lean)
+      | inr rose ↦ inr (rose_later start before after fell rose)
+    ];
   }
 
--- what is named behind the tag
-pub tagged_named_source : {S T : Type 0} (result : Result T Error) {given : S → List ℕ → S → Type 0} {k : ℕ} (names : ℕ → SourceNames) {a b : S} {tag n : ℕ} {after : Counts} {e : Error} (coming : S → Option (List ℕ)) (counts : S → Counts) → GivesFromFront given coming → NoCountFalls given counts
-    → IsErrAnd result (λ y. y ≡ e) → GaveSpelling given (number k) a b (Number tag) → tag ≡ n → names n (coming b) (counts b) after e → IfErr result (tagged_source_names k names (coming a) (counts a) after)
-tagged_named_source {S} {T} (Ok v) names coming counts from_front falls h p same named = absurd h
-tagged_named_source {S} {T} (Err y) {given} {k} names {a} {b} {tag} {n} {after} {e} coming counts from_front falls h p same named =
-    inr (n, named_behind (names n) coming counts from_front falls p.held (subst (λ (u : ℕ). Digits k p.front u) same p.spelled) (subst (λ (u : Error). names n (coming b) (counts b) after u) (sym h) named))
+  -- the tag is refused
+  none_at_tag : (x : List ℕ) → NoneBegins (number k) x → NoneBegins (tagged k variants) x
+  none_at_tag x none (Join (Number n) vs) rest b = none (Number n) (b.spelled.rest ++ rest) (record {
+    front = b.spelled.front;
+    whole = b.whole ∙ ap (λ (u : List ℕ). u ++ rest) b.spelled.whole ∙ append_assoc b.spelled.front b.spelled.rest rest;
+    spelled = b.spelled.first;
+  })
+  none_at_tag x none _ rest b = absurd b.spelled
 
--- also of a tag that no variant has
-pub unknown_named_source : {S : Type 0} {given : S → List ℕ → S → Type 0} {k : ℕ} (names : ℕ → SourceNames) {a b : S} {tag n : ℕ} {after : Counts} (coming : S → Option (List ℕ)) (counts : S → Counts) → GivesFromFront given coming → NoCountFalls given counts
-    → GaveSpelling given (number k) a b (Number tag) → names tag (coming b) (counts b) after (UnknownValue n) → tagged_source_names k names (coming a) (counts a) after (UnknownValue n)
-unknown_named_source {S} {given} {k} names {a} {b} {tag} {n} {after} coming counts from_front falls p named = inr (tag, named_behind (names tag) coming counts from_front falls p.held p.spelled named)
+  tag_refused : {before after : Counts} {e : Error} (x : List ℕ) → RefusesSource (number k) true x before after e → RefusesSource (tagged k variants) variants.lean x before after e
+  tag_refused x r = record {
+    cause = elim r.cause [
+      | inl none ↦ inl (none_at_tag x none)
+      | inr out ↦ inr out
+    ];
+    memory = λ h. elim (r.memory h) [
+      | inl not_lean ↦ absurd cc
+      | inr rose ↦ inr rose
+    ];
+  }
+
+  pub tag_reads : {S T : Type 0} (plain : T → Tree) (source : Ghosts S) (a b : S) (result : Result T Error) {e : Error} → IsErrAnd result (λ y. y ≡ e) → LeavesSource (number_format k) source a b e → Reads (tagged_format k variants) plain source a b result
+  tag_reads plain source a b (Ok v) h p = absurd h
+  tag_reads plain source a b (Err y) h p = subst (λ (u : Error). LeavesSource (tagged_format k variants) source a b u) (sym h) (record { refused = refused_so tag_refused p.refused })
+
+  pub tag_named_source : {S T : Type 0} (source : Ghosts S) (a b : S) (result : Result T Error) (names : ℕ → Causes) {e : Error} → IsErrAnd result (λ y. y ≡ e) → Named (number_format k) (ReadRefused k) source a b e → IfErr result (Named (tagged_format k variants) (tagged_source_names k names) source a b)
+  tag_named_source source a b (Ok v) names h p = absurd h
+  tag_named_source source a b (Err y) names h p = subst (λ (u : Error). Named (tagged_format k variants) (tagged_source_names k names) source a b u) (sym h) (record { refused = refused_so (λ x q. (tag_refused x q.0, inl q.1)) p.refused })
+
+  -- no variant has the tag
+  unknown_refused : {before after : Counts} {tag n : ℕ} (front : List ℕ) → number k Reading front (Number tag) → variants.has tag ≡ false → (x : List ℕ) → RefusesSource (tagged k variants) variants.lean (front ++ x) before after (UnknownValue n)
+  unknown_refused {tag = tag} front spelled none x = record {
+    cause = inl (none_at_parts k variants l (front ++ x) tag x (record { front = front; whole = refl; spelled = spelled }) (λ v rest b. m.unknown tag none Reading b.front v b.spelled));
+    memory = λ h. absurd cc;
+  }
+
+  module _ {S : Type 0} where
+    pub tagged_given : {given : S → List ℕ → S → Type 0} {a b c : S} {tag n : ℕ} {vs : Tree} → GivesInOrder given → GaveSpelling given (number k) a b (Number tag) → tag ≡ n → GaveSpelling given (variants.parts n).spells b c vs → GaveSpelling given (tagged k variants) a c (Join (Number n) vs)
+    tagged_given {given} {a} {b} {c} {tag} {n} {vs} order p same q =
+        let both = fields_given order (subst (λ (u : ℕ). GaveSpelling given (number k) a b (Number u)) same p) q in
+        record { front = both.front; held = both.held; spelled = both.spelled }
+
+    -- and that is handed on
+    pub tagged_reads : {T : Type 0} (plain : T → Tree) (source : Ghosts S) (a c : S) (result : Result T Error) {b : S} {tag n : ℕ} {e : Error} → GivesInOrder source.given → NoCountFalls source.given source.counts
+        → IsErrAnd result (λ y. y ≡ e) → GaveSpelling source.given (number k) a b (Number tag) → tag ≡ n → LeavesSource (variants.parts n) source b c e → Reads (tagged_format k variants) plain source a c result
+    tagged_reads {T} plain source a c (Ok v) order falls h p same q = absurd h
+    tagged_reads {T} plain source a c (Err y) {b} {tag} {n} {e} order falls h p same q =
+        subst (λ (u : Error). LeavesSource (tagged_format k variants) source a c u) (sym h) (record { refused = refused_later p.front order p.held (parts_refused p.front tag n (falls a p.front b p.held) p.spelled same) q.refused })
+
+    -- with what is named
+    pub tagged_named_source : {T : Type 0} (source : Ghosts S) (a c : S) (result : Result T Error) (names : ℕ → Causes) {b : S} {tag n : ℕ} {e : Error} → GivesInOrder source.given → NoCountFalls source.given source.counts
+        → IsErrAnd result (λ y. y ≡ e) → GaveSpelling source.given (number k) a b (Number tag) → tag ≡ n → Named (variants.parts n) (names n) source b c e → IfErr result (Named (tagged_format k variants) (tagged_source_names k names) source a c)
+    tagged_named_source {T} source a c (Ok v) names order falls h p same q = absurd h
+    tagged_named_source {T} source a c (Err y) names {b} {tag} {n} {e} order falls h p same q =
+        let fell = falls a p.front b p.held in
+        let digits : Digits k p.front n = subst (λ (u : ℕ). Digits k p.front u) same p.spelled in
+        subst (λ (u : Error). Named (tagged_format k variants) (tagged_source_names k names) source a c u) (sym h)
+        (record { refused = refused_later p.front order p.held (λ x r. (parts_refused p.front tag n fell p.spelled same x r.0, inr (n, named_behind p.front fell digits x r.1))) q.refused })
+
+    -- no variant has the tag
+    pub tagged_leaves_unknown : {source : Ghosts S} {a b : S} {tag n : ℕ} → GivesNothing source.given → GaveSpelling source.given (number k) a b (Number tag) → variants.has tag ≡ false → LeavesSource (tagged_format k variants) source a b (UnknownValue n)
+    tagged_leaves_unknown nothing p none = record { refused = refused_now p.front nothing p.held (unknown_refused p.front p.spelled none) }
+
+    pub unknown_named_source : {source : Ghosts S} {a b : S} (names : ℕ → Causes) {tag n : ℕ} → GivesNothing source.given → NoCountFalls source.given source.counts → GaveSpelling source.given (number k) a b (Number tag) → variants.has tag ≡ false
+        → ((x : List ℕ) → names tag x (source.counts b) (source.counts b) (UnknownValue n)) → Named (tagged_format k variants) (tagged_source_names k names) source a b (UnknownValue n)
+    unknown_named_source {source} {a} {b} names {tag} nothing falls p none named =
+        record { refused = refused_now p.front nothing p.held (λ rest. (unknown_refused p.front p.spelled none rest, inr (tag, named_behind p.front (falls a p.front b p.held) p.spelled rest (named rest)))) }

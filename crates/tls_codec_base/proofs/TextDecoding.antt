@@ -1,14 +1,18 @@
 -- Texts, which are bytes that are UTF-8, read from a slice and from a source.
-use Rattle.std.proofs.Common.{ℕ, List, Bool, false, Option, None, Some, IsUtf8, inl, inr, refl, sym, subst, ◌∙◌}
-use Rattle.std.specs.Io.KnownBytes.{Consumes}
+use Rattle.std.proofs.Common.{ℕ, List, Bool, false, ◌++◌, IsUtf8, inl, inr, refl, sym, subst, ◌∙◌}
+use Rattle.std.specs.Prelude.{codes}
 use Rattle.tls_codec_wire.specs.Counts.{Counts}
-use Rattle.tls_codec_wire.specs.Device.{GivesFromFront}
+use Rattle.tls_codec_wire.specs.Device.{GivesNothing}
+use Rattle.tls_codec_wire.specs.declared.device.Source.{Ghosts}
 use Rattle.tls_codec_wire.specs.declared.error.Error.{Error}
 use Rattle.tls_codec_grammar.specs.Tree.{number_trees}
 use Rattle.tls_codec_grammar.specs.Grammar.{Reading, bytes, text}
-use Rattle.tls_codec_grammar.specs.Decoding.{Begins, GaveSpelling, NoneBegins, NoneComes, Refuses, RefusesSource}
+use Rattle.tls_codec_grammar.specs.Decoding.{Begins, GaveSpelling, Named, NoneBegins, Refuses, RefusesSource}
+use Rattle.tls_codec_grammar.specs.Errors.{Says}
+use Rattle.tls_codec_grammar.specs.Format.{text_format}
+use Rattle.tls_codec_wire.proofs.Refused.{refused_now}
 use Rattle.tls_codec_grammar.specs.laws.NumberLaws.{number_trees_one}
-use Rattle.tls_codec_grammar.specs.Opaque.{IsNoText, NoTextComes}
+use Rattle.tls_codec_grammar.specs.Opaque.{IsNoText, TextSourceRefused}
 use Rattle.tls_codec_grammar.specs.laws.ListLaws.{bytes_lawful}
 use Rattle.tls_codec_grammar.proofs.ByteContents.{content_bytes}
 use Rattle.tls_codec_base.proofs.TextForms.{text_from_bytes, text_to_bytes}
@@ -47,32 +51,20 @@ invalid_refuses {x} {e} p = record { cause = inl (invalid_begins_none x p); memo
 pub text_given : {S : Type 0} {given : S → List ℕ → S → Type 0} {a b : S} {c : List ℕ} → IsUtf8 c → GaveSpelling given bytes a b (number_trees c) → GaveSpelling given text a b (number_trees c)
 text_given {S} {given} {a} {b} {c} valid p = record { front = p.front; held = p.held; spelled = text_from_bytes Reading c p.front valid p.spelled }
 
-no_text_comes : (coming : Option (List ℕ)) → NoneComes bytes coming → NoneComes text coming
-no_text_comes None none = tt
-no_text_comes (Some x) none = no_text_begins x none
-
-pub text_source_refuses : {coming : Option (List ℕ)} {old new : Counts} {e : Error} → RefusesSource bytes false coming old new e → RefusesSource text false coming old new e
-text_source_refuses {coming} {old} {new} {e} r = record {
+pub text_source_refuses : {old new : Counts} {e : Error} (x : List ℕ) → RefusesSource bytes false x old new e → RefusesSource text false x old new e
+text_source_refuses {old} {new} {e} x r = record {
   cause = elim r.cause [
-    | inl none ↦ inl (no_text_comes coming none)
+    | inl none ↦ inl (no_text_begins x none)
     | inr other ↦ inr other
   ];
   memory = r.memory;
 }
 
-invalid_comes_first : (old new : Option (List ℕ)) (front c : List ℕ) → Consumes old new front → bytes Reading front (number_trees c) → (IsUtf8 c → ⊥) → NoTextComes old
-invalid_comes_first None new front c took spelled invalid = tt
-invalid_comes_first (Some x) None front c took spelled invalid = absurd took
-invalid_comes_first (Some x) (Some rest) front c took spelled invalid =
-    record { content = c; rest = rest; begins = record { front = front; whole = took; spelled = spelled }; invalid = invalid }
-
 -- bytes that are no UTF-8 were given
-pub invalid_comes : {S : Type 0} {given : S → List ℕ → S → Type 0} {a b : S} {c : List ℕ} (coming : S → Option (List ℕ)) → GivesFromFront given coming → GaveSpelling given bytes a b (number_trees c) → (IsUtf8 c → ⊥) → NoTextComes (coming a)
-invalid_comes {S} {given} {a} {b} {c} coming from_front p invalid = invalid_comes_first (coming a) (coming b) p.front c (from_front a p.front b p.held) p.spelled invalid
-
-invalid_comes_none : (coming : Option (List ℕ)) → NoTextComes coming → NoneComes text coming
-invalid_comes_none None p = tt
-invalid_comes_none (Some x) p = invalid_begins_none x p
-
-pub invalid_source_refuses : {coming : Option (List ℕ)} {old new : Counts} {e : Error} → NoTextComes coming → RefusesSource text false coming old new e
-invalid_source_refuses {coming} {old} {new} {e} p = record { cause = inl (invalid_comes_none coming p); memory = λ h. inl refl }
+pub invalid_named : {S : Type 0} {source : Ghosts S} {a b : S} {c : List ℕ} {e : Error} → GivesNothing source.given → GaveSpelling source.given bytes a b (number_trees c) → (IsUtf8 c → ⊥) → Says (codes "invalid utf8") e → Named text_format TextSourceRefused source a b e
+invalid_named {c = c} nothing p invalid says =
+    record {
+      refused = refused_now p.front nothing p.held (λ rest.
+          let no_text : IsNoText (p.front ++ rest) = record { content = c; rest = rest; begins = record { front = p.front; whole = refl; spelled = p.spelled }; invalid = invalid } in
+          (record { cause = inl (invalid_begins_none (p.front ++ rest) no_text); memory = λ h. inl refl }, inr (says, no_text)));
+    }

@@ -1,14 +1,13 @@
 -- Why decoders never return `TrailingData`: only a part can name it.
-use Rattle.std.proofs.Common.{◌≡◌, ◌⊎◌, ◌^◌, ℕ, List, Option, None, Some, inl, inr, refl}
-use Rattle.tls_codec_wire.specs.Numbers.{Comes}
-use Rattle.tls_codec_wire.specs.VarintCalls.{RefusesBelow}
+use Rattle.std.proofs.Common.{◌≡◌, ◌⊎◌, ℕ, List, inl, inr, refl}
+use Rattle.tls_codec_wire.specs.Refused.{Causes}
 use Rattle.tls_codec_wire.specs.declared.error.Error.TheVariants.{OutOfMemory, TrailingData}
 use Rattle.tls_codec_grammar.specs.Field.{Field}
 use Rattle.tls_codec_grammar.specs.Format.{Format}
 use Rattle.tls_codec_grammar.specs.Lawful.{MeetsFieldLaws}
 use Rattle.tls_codec_grammar.specs.Opaque.{OpaqueCopyRefused, OpaqueRefused, OpaqueSourceRefused, TextRefused, TextSourceRefused}
 use Rattle.tls_codec_grammar.specs.laws.FormatLaws.{variable_field_meets}
-use Rattle.tls_codec_base.specs.Refusals.{SliceNames, SourceNames, counted_list_names, counted_list_source_names, element_names, element_source_names, elements_names, elements_source_names, fields_names, fields_source_names, option_names, option_source_names}
+use Rattle.tls_codec_base.specs.Refusals.{SliceNames, counted_list_names, counted_list_source_names, element_names, element_source_names, elements_names, elements_source_names, fields_names, fields_source_names, option_names, option_source_names}
 use Rattle.tls_codec_base.specs.Trailing.{NeverTrailing, SourceNeverTrailing}
 
 -- ---- from a slice
@@ -54,41 +53,34 @@ text_never x (inr (inr p)) = p.0
 
 -- ---- from a source
 
-pub box_source_never : (content : SourceNames) → SourceNeverTrailing content → SourceNeverTrailing (λ coming old new e. (e ≡ OutOfMemory) ⊎ content coming old new e)
-box_source_never content never coming old new (inl p) = cc
-box_source_never content never coming old new (inr p) = never coming old new p
+pub box_source_never : (content : Causes) → SourceNeverTrailing content → SourceNeverTrailing (λ x old new e. (e ≡ OutOfMemory) ⊎ content x old new e)
+box_source_never content never x old new (inl p) = cc
+box_source_never content never x old new (inr p) = never x old new p
 
-pub option_source_never : (payload : SourceNames) → SourceNeverTrailing payload → SourceNeverTrailing (option_source_names payload)
-option_source_never payload never coming old new (inl p) = p
-option_source_never payload never coming old new (inr (inl p)) = p.named
-option_source_never payload never coming old new (inr (inr p)) = never p.behind p.between new p.named
+pub option_source_never : (payload : Causes) → SourceNeverTrailing payload → SourceNeverTrailing (option_source_names payload)
+option_source_never payload never x old new (inl p) = p
+option_source_never payload never x old new (inr (inl p)) = p.named
+option_source_never payload never x old new (inr (inr p)) = never p.rest p.between new p.named
 
-pub fields_source_never : (part : Format) (first others : SourceNames) → SourceNeverTrailing first → SourceNeverTrailing others → SourceNeverTrailing (fields_source_names part first others)
-fields_source_never part first others never_first never_others coming old new (inl p) = never_first coming old new p.1
-fields_source_never part first others never_first never_others coming old new (inr p) = never_others p.behind p.between new p.named
+pub fields_source_never : (part : Format) (first others : Causes) → SourceNeverTrailing first → SourceNeverTrailing others → SourceNeverTrailing (fields_source_names part first others)
+fields_source_never part first others never_first never_others x old new (inl p) = never_first x old new p.1
+fields_source_never part first others never_first never_others x old new (inr p) = never_others p.rest p.between new p.named
 
-element_source_never : (element : Format) (names : SourceNames) → SourceNeverTrailing names → (left : ℕ) → SourceNeverTrailing (element_source_names element names left)
-element_source_never element names never left coming old new (inl p) = never _ old new p.1
-element_source_never element names never left coming old new (inr p) = p.0
+element_source_never : (element : Format) (names : Causes) → SourceNeverTrailing names → (left : ℕ) → SourceNeverTrailing (element_source_names element names left)
+element_source_never element names never left x old new (inl p) = never _ old new p.1
+element_source_never element names never left x old new (inr p) = p.0
 
-elements_source_never : (element : Format) (names : SourceNames) → SourceNeverTrailing names → (n : ℕ) → SourceNeverTrailing (elements_source_names element names n)
-elements_source_never element names never n coming old new (inl p) = cc
-elements_source_never element names never n coming old new (inr p) = element_source_never element names never p.0 p.1.behind p.1.between new p.1.named
+elements_source_never : (element : Format) (names : Causes) → SourceNeverTrailing names → (n : ℕ) → SourceNeverTrailing (elements_source_names element names n)
+elements_source_never element names never n x old new (inl p) = cc
+elements_source_never element names never n x old new (inr p) = element_source_never element names never p.0 p.1.rest p.1.between new p.1.named
 
-none_comes : {Such : List ℕ → Type 0} → ((x : List ℕ) → Such x → ⊥) → (coming : Option (List ℕ)) → Comes Such coming → ⊥
-none_comes none None p = none p.0 p.1
-none_comes none (Some x) p = none x p
+pub list_source_never : {field : Field} (element : Format) (names : Causes) → MeetsFieldLaws field → SourceNeverTrailing names → SourceNeverTrailing (counted_list_source_names field element names)
+list_source_never element names m never x old new (inl p) = (m.named x TrailingData p).1 refl
+list_source_never element names m never x old new (inr p) = elements_source_never element names never p.0 p.1.rest p.1.between new p.1.named
 
-pub list_source_never : {field : Field} (element : Format) (names : SourceNames) → MeetsFieldLaws field → SourceNeverTrailing names → SourceNeverTrailing (counted_list_source_names field element names)
-list_source_never element names m never coming old new (inl p) = none_comes (λ x q. (m.named x TrailingData q).1 refl) coming p
-list_source_never element names m never coming old new (inr p) = elements_source_never element names never p.0 p.1.behind p.1.between new p.1.named
+pub bytes_source_never : {field : Field} → MeetsFieldLaws field → SourceNeverTrailing (OpaqueSourceRefused field)
+bytes_source_never m x old new p = (m.named x TrailingData p).1 refl
 
-pub bytes_source_never : {field : Field} → MeetsFieldLaws field → SourceNeverTrailing (λ coming old new e. OpaqueSourceRefused field e coming old new)
-bytes_source_never m coming old new p = none_comes (λ x q. (m.named x TrailingData q).1 refl) coming p
-
-pub text_source_never : SourceNeverTrailing (λ coming old new e. TextSourceRefused e coming old new)
-text_source_never coming old new (inl p) = bytes_source_never variable_field_meets coming old new p
-text_source_never coming old new (inr p) = p.0
-
-pub varint_source_never : (coming : Option (List ℕ)) → Comes (λ x. RefusesBelow (2 ^ 62) x TrailingData) coming → ⊥
-varint_source_never = none_comes (λ x q. q)
+pub text_source_never : SourceNeverTrailing TextSourceRefused
+text_source_never x old new (inl p) = bytes_source_never variable_field_meets x old new p
+text_source_never x old new (inr p) = p.0

@@ -1,12 +1,12 @@
 -- Turns of lists that are refused, and how many there are at most.
-use Rattle.std.proofs.Common.{◌≡◌, Bool, ℕ, ◌+◌, ◌≤◌, ◌⊎◌, List, ◌++◌, length, take, Option, None, Some, inl, inr, sym, ap, subst, ◌∙◌, arith, length-append}
+use Rattle.std.proofs.Common.{◌≡◌, Bool, ℕ, ◌+◌, ◌≤◌, ◌⊎◌, List, ◌++◌, length, take, Option, Some, inl, inr, refl, sym, ap, subst, ◌∙◌, arith, length-append}
 use Rattle.std.proofs.Math.Seq.{take-append-add}
-use Rattle.std.specs.Io.KnownBytes.{Consumes}
-use Rattle.std.specs.Prelude.{option_map, Ok, Vec}
+use Rattle.std.specs.Prelude.{Ok, Vec}
 use Rattle.std.specs.Global.{Global}
-use Rattle.tls_codec_wire.specs.Bounded.{GaveWithin, first_bytes, inner_of, limit_of}
+use Rattle.tls_codec_wire.specs.Bounded.{GaveWithin, inner_of, limit_of}
 use Rattle.tls_codec_wire.specs.Counts.{Counts, NoneFell}
-use Rattle.tls_codec_wire.specs.Device.{Gave, Gives, GivesFromFront, GivesInOrder, NoCountFalls}
+use Rattle.tls_codec_wire.specs.Device.{Gave, Gives, GivesInOrder, NoCountFalls}
+use Rattle.tls_codec_wire.specs.Refused.{Causes, RefusedFor, Seen}
 use Rattle.tls_codec_wire.specs.declared.bounded.Bounded.{Bounded}
 use Rattle.tls_codec_wire.specs.declared.device.Source.{Ghosts}
 use Rattle.tls_codec_wire.specs.declared.error.Error.{Error}
@@ -14,16 +14,16 @@ use Rattle.tls_codec_wire.specs.declared.error.Error.TheVariants.{OutOfMemory}
 use Rattle.tls_codec_grammar.specs.Tree.{Tree, trees}
 use Rattle.tls_codec_grammar.specs.Grammar.{Grammar, Reading, content, sized}
 use Rattle.tls_codec_grammar.specs.Lawful.{IsLawful}
-use Rattle.tls_codec_grammar.specs.Decoding.{AllGiven, AllRead, GaveSpelling, NoneComes, Refuses, RefusesSource}
+use Rattle.tls_codec_grammar.specs.Decoding.{AllGiven, AllRead, GaveSpelling, Refuses, RefusesSource}
 use Rattle.tls_codec_grammar.specs.Format.{Format}
-use Rattle.tls_codec_grammar.specs.Shortest.{IsHollow}
 use Rattle.tls_codec_wire.proofs.Later.{fault_later}
+use Rattle.tls_codec_wire.proofs.Refused.{refused_later, seen_gave}
 use Rattle.tls_codec_base.specs.WholeElements.{NoElementBegins}
-use Rattle.tls_codec_base.specs.Turns.{MemoryOrFault, SourceTurnedRefused, TurnedAll, TurnedAtMost, TurnedBy, TurnedEach, TurnedPast, TurnedWithin, TurnedWithinGiven}
+use Rattle.tls_codec_base.specs.Turns.{MemoryOrFault, TurnedAll, TurnedAtMost, TurnedBy, TurnedEach, TurnedPast, TurnedWithin, TurnedWithinGiven, source_turns, turns_of}
 use Rattle.tls_codec_base.specs.declared.lists.Turns.{Turns}
 use Rattle.tls_codec_base.proofs.ListReading.{ReadSoFar}
 use Rattle.tls_codec_base.proofs.ListSources.{GivenSoFar}
-use Rattle.tls_codec_base.proofs.WholeElements.{content_has_bytes, content_is_whole, none_behind_hollow, none_in_fewer, none_of_none, whole_are_most}
+use Rattle.tls_codec_base.proofs.WholeElements.{content_has_bytes, content_is_whole, none_in_fewer, none_of_none, whole_are_most}
 
 -- so many turns and no more
 at_most : {k n : ℕ} {old new : Turns} → TurnedBy k old new → k ≤ n → TurnedAtMost n old new
@@ -52,34 +52,23 @@ module _ (element : Grammar) (f : Tree → ℕ) (l : IsLawful element f) where
       let first : take n x ≡ p.front ++ take left rest = ap (take n) p.whole ∙ taken p.front rest n left p.fills in
       subst (λ (u : List ℕ). TurnedPast element u Excused old new) (sym first) (turned_past plain p.front (take left rest) xs p.spelled turned cause)
 
-  -- from a source
-  refused_turned_source : {T : Type 0} (plain : T → Tree) (coming behind : Option (List ℕ)) (front : List ℕ) (n left : ℕ) (xs : List T) (before after : Counts) (e : Error) (old new : Turns) → Consumes coming behind front → length front + left ≡ n → content element Reading front (trees plain xs) → TurnedBy (length xs + 1) old new
-      → MemoryOrFault before after e ⊎ (IsHollow element ⊎ NoneComes element (option_map (take left) behind)) → SourceTurnedRefused element n coming before after old new e
-  refused_turned_source plain None behind front n left xs before after e old new took fills spelled turned cause = tt
-  refused_turned_source plain (Some x) None front n left xs before after e old new took fills spelled turned cause = absurd took
-  refused_turned_source plain (Some x) (Some rest) front n left xs before after e old new took fills spelled turned cause =
-      refused_turned plain xs (record { front = front; whole = took; fills = fills; spelled = spelled }) turned (elim cause [
-        | inl excuse ↦ inl excuse
-        | inr (inl hollow) ↦ inr (none_behind_hollow element f l (take left rest) hollow)
-        | inr (inr none) ↦ inr (none_of_none none)
-      ])
-
-  module _ {S : Type 0} {given : Gives S} (coming : S → Option (List ℕ)) (counts : S → Counts) (from_front : GivesFromFront given coming) (falls : NoCountFalls given counts) where
-    -- behind some elements the source gives no other one, or the list is excused
-    pub refused_turned_given : {T : Type 0} (plain : T → Tree) (start : S) (n : ℕ) (a : Bounded S) (xs : List T) (after : Counts) (e : Error) (old new : Turns) → GivenSoFar given element start (inner_of a) n (limit_of a) (trees plain xs) → TurnedBy (length xs + 1) old new
-        → MemoryOrFault (counts (inner_of a)) after e ⊎ (IsHollow element ⊎ NoneComes element (first_bytes coming a)) → SourceTurnedRefused element n (coming start) (counts start) after old new e
-    refused_turned_given plain start n a xs after e old new p turned cause =
-        let fell : NoneFell (counts start) (counts (inner_of a)) = falls start p.front (inner_of a) p.held in
-        refused_turned_source plain (coming start) (coming (inner_of a)) p.front n (limit_of a) xs (counts start) after e old new (from_front start p.front (inner_of a) p.held) p.fills p.spelled turned (elim cause [
-          | inl (inl memory) ↦ inl (inl memory)
-          | inl (inr fault) ↦ inl (inr (fault_later (counts start) (counts (inner_of a)) after fell fault))
-          | inr none ↦ inr none
-        ])
+  -- from a source: after some elements no other one was seen, or the list is excused
+  pub refused_turned_given : {S : Type 0} {source : Ghosts S} {T : Type 0} (plain : T → Tree) {start mid end : S} {n left : ℕ} (xs : List T) {causes : Causes} {e : Error} {old new : Turns} → GivesInOrder source.given → NoCountFalls source.given source.counts
+      → GivenSoFar source.given element start mid n left (trees plain xs) → TurnedBy (length xs + 1) old new
+      → ((x : List ℕ) → causes x (source.counts mid) (source.counts end) e → MemoryOrFault (source.counts mid) (source.counts end) e ⊎ NoElementBegins element (take left x))
+      → RefusedFor source causes mid end e → RefusedFor source (source_turns element n old new) start end e
+  refused_turned_given {S} {source} plain {start} {mid} {end} {n} {left} xs {causes} {e} {old} {new} order falls p turned why =
+      let fell : NoneFell (source.counts start) (source.counts mid) = falls start p.front mid p.held in
+      refused_later p.front order p.held (λ x q. refused_turned plain xs (record { front = p.front; whole = refl; fills = p.fills; spelled = p.spelled }) turned (elim (why x q) [
+        | inl (inl memory) ↦ inl (inl memory)
+        | inl (inr fault) ↦ inl (inr (fault_later (source.counts start) (source.counts mid) (source.counts end) fell fault))
+        | inr none ↦ inr none
+      ]))
 
 -- why a source is refused
-pub why_refused : {element : Grammar} {lean : Bool} {coming : Option (List ℕ)} {before after : Counts} {e : Error} → RefusesSource element lean coming before after e → MemoryOrFault before after e ⊎ (IsHollow element ⊎ NoneComes element coming)
-why_refused r = elim r.cause [
-  | inl none ↦ inr (inr none)
+pub why_refused : {element : Grammar} {lean : Bool} (x : List ℕ) {before after : Counts} {e : Error} → RefusesSource element lean x before after e → MemoryOrFault before after e ⊎ NoElementBegins element x
+why_refused x r = elim r.cause [
+  | inl none ↦ inr (none_of_none none)
   | inr (inl fault) ↦ inl (inr fault)
   | inr (inr memory) ↦ inl (inl memory)
 ]
@@ -129,3 +118,9 @@ turned_within_attempt plain {S} {given} order {element} {start} {n} {a} {b} xs m
   held = order start p.front (inner_of a) q.bytes (inner_of b) p.held q.held.held;
   within = at_most turned (omega (arith, le, content_has_bytes plain element p.front xs p.spelled, p.fills, length-append p.front q.bytes));
 }
+
+-- where they were refused at once, none was added
+pub refused_within_given : {S : Type 0} {source : Ghosts S} {n : ℕ} {a b : S} {x : List ℕ} {old new : Turns} → GivesInOrder source.given → Seen source a b x → new ≡ old → TurnedWithinGiven source.given n a b old new
+refused_within_given order seen same =
+    let gave = seen_gave order seen in
+    record { bytes = gave.bytes; held = gave.held; within = record { more = omega (arith, ap turns_of same); most = omega (arith, ap turns_of same) } }

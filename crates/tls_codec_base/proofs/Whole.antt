@@ -1,5 +1,5 @@
 -- What all of the bytes spell, from what they begin with.
-use Rattle.std.proofs.Common.{◌≡◌, ℕ, List, [], ◌∷◌, ◌++◌, length, Some, Bool, true, false, inl, inr, refl, sym, ap, subst, ◌∙◌, append-nil, length-append, arith}
+use Rattle.std.proofs.Common.{◌≡◌, ℕ, List, [], ◌∷◌, ◌++◌, length, Bool, true, false, inl, inr, refl, sym, ap, subst, ◌∙◌, append-nil, length-append, arith}
 use Rattle.std.specs.Prelude.{◌==◌}
 use Rattle.std.proofs.lemmas.Bool.{eqb-true, eqb-false}
 use Rattle.tls_codec_wire.specs.Counts.{no_counts}
@@ -46,7 +46,7 @@ module _ (spells : Grammar) where
   slice_begins x front rest v whole spelled = record { front = front; whole = whole; spelled = spelled }
 
   -- a slice as a source has no fault and no shortage
-  pub slice_refuses : (lean : Bool) (x : List ℕ) (e : Error) → RefusesSource spells lean (Some x) no_counts no_counts e → Refuses spells lean x e
+  pub slice_refuses : (lean : Bool) (x : List ℕ) (e : Error) → RefusesSource spells lean x no_counts no_counts e → Refuses spells lean x e
   slice_refuses lean x e r = record {
     cause = elim r.cause [
       | inl none ↦ inl none

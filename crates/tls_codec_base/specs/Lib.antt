@@ -3,6 +3,7 @@ pub mod Turns
 pub mod Refusals
 pub mod Runs
 pub mod TaggedNames
+pub mod Values
 pub mod OwnMessages
 pub mod Trailing
 pub mod Paths

@@ -1,15 +1,15 @@
 -- Words of the table of types: what values stand for, how they are spelled, and which errors decoders name.
-use Rattle.std.specs.Prelude.{◌≡◌, ◌<◌, ◌↔◌, ℕ, Bool, IsTrue, List, Option, length}
+use Rattle.std.specs.Prelude.{◌≡◌, ◌<◌, ◌↔◌, ℕ, Bool, IsTrue, List, length}
 use Rattle.tls_codec_wire.specs.Counts.{Counts}
-use Rattle.tls_codec_wire.specs.Transfer.{ReadRefused}
+use Rattle.tls_codec_wire.specs.Refused.{Causes}
 use Rattle.tls_codec_wire.specs.declared.error.Error.{Error}
 use Rattle.tls_codec_wire.specs.declared.error.Error.TheVariants.{EndOfStream}
 use Rattle.tls_codec_grammar.specs.Tree.{Tree}
 use Rattle.tls_codec_grammar.specs.Grammar.{Direction}
 use Rattle.tls_codec_grammar.specs.Field.{Field}
 use Rattle.tls_codec_grammar.specs.Format.{Format}
-use Rattle.tls_codec_grammar.specs.Opaque.{OpaqueCopyRefused, OpaqueSourceRefused}
-use Rattle.tls_codec_base.specs.Refusals.{SliceNames, SourceNames}
+use Rattle.tls_codec_grammar.specs.Opaque.{OpaqueCopyRefused}
+use Rattle.tls_codec_base.specs.Refusals.{SliceNames}
 use Rattle.tls_codec_base.specs.declared.traits.Size.{Ghosts}
 
 -- two formats say the same of each value and of all bytes
@@ -30,24 +30,16 @@ abbrev pub SameNames : SliceNames → SliceNames → Type 0
 SameNames m n = (x : List ℕ) (e : Error) → m x e ↔ n x e
 
 -- the same from a source
-abbrev pub SameSourceNames : SourceNames → SourceNames → Type 0
-SameSourceNames m n = (coming : Option (List ℕ)) (old new : Counts) (e : Error) → m coming old new e ↔ n coming old new e
+abbrev pub SameSourceNames : Causes → Causes → Type 0
+SameSourceNames m n = (x : List ℕ) (old new : Counts) (e : Error) → m x old new e ↔ n x old new e
 
 -- fewer than k bytes are there
 abbrev pub too_few : ℕ → SliceNames
 too_few k x e = (e ≡ EndOfStream) × (length x < k)
 
--- k bytes are not read
-abbrev pub not_read : ℕ → SourceNames
-not_read k coming old new e = ReadRefused e k coming old new
-
 -- bytes after a length are not split off and copied
 abbrev pub opaque_names : Field → SliceNames
 opaque_names field x e = OpaqueCopyRefused field e x
-
--- they don't come
-abbrev pub opaque_source_names : Field → SourceNames
-opaque_source_names field coming old new e = OpaqueSourceRefused field e coming old new
 
 -- two length fields say the same of each number and of all bytes
 pub record SameField (f g : Field) : Type 0 where

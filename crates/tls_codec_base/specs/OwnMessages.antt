@@ -3,12 +3,20 @@
 use Rattle.std.proofs.Common.{ℕ, arith}
 use Rattle.tls_codec_grammar.specs.laws.FormatLaws.{number_meets}
 pub use Rattle.tls_codec_grammar.specs.Tree.{Tree, Number, Empty, Join, trees, number_trees, option_plain}
-pub use Rattle.tls_codec_grammar.specs.Format.{Format, number_format, varint_format, array_format, with_memory, option_format, nothing_format, fields_format, list_format, fixed_list_format, bytes_format, text_format}
+pub use Rattle.tls_codec_grammar.specs.Format.{Format, number_format, varint_format, array_format, with_memory, option_format, nothing_format, fields_format, pair_format, triple_format, list_format, fixed_list_format, bytes_format, text_format}
 pub use Rattle.tls_codec_grammar.specs.Tagged.{MeetVariantLaws, Variants, no_variant, variant, tagged_format}
 pub use Rattle.tls_codec_grammar.specs.Lawful.{MeetsLaws}
-pub use Rattle.tls_codec_grammar.specs.laws.FormatLaws.{array_meets, varint_meets, with_memory_meets, option_meets, nothing_meets, fields_meets, list_meets, fixed_list_meets, bytes_meets, text_meets}
+pub use Rattle.tls_codec_grammar.specs.laws.FormatLaws.{array_meets, varint_meets, with_memory_meets, option_meets, nothing_meets, fields_meets, pair_meets, triple_meets, list_meets, fixed_list_meets, bytes_meets, text_meets}
 pub use Rattle.tls_codec_grammar.specs.laws.TaggedLaws.{no_variant_meets, variant_meets, tagged_meets}
 pub use Rattle.tls_codec_base.specs.TaggedNames.{no_variant_names, no_variant_source_names, nothing_names, nothing_source_names, tagged_names, tagged_source_names, variant_names, variant_source_names}
+pub use Rattle.tls_codec_base.specs.Values.{values, values_format, values_meet, values_names, values_source_names}
+
+-- what a struct of two or three fields stands for
+abbrev pub pair_tree : (a b : Tree) → Tree
+pair_tree a b = Join a (Join b Empty)
+
+abbrev pub triple_tree : (a b c : Tree) → Tree
+triple_tree a b c = Join a (Join b (Join c Empty))
 
 -- bytes behind a length of k bytes (RFC 8446, section 3.4)
 abbrev pub fixed_bytes_format : ℕ → Format

@@ -1,34 +1,29 @@
 -- Which errors decoders of options, products and lists name: their parts' are handed on.
-use Rattle.std.specs.Prelude.{◌≡◌, ◌<◌, ◌+◌, ◌⊎◌, ℕ, List, [], ◌∷◌, ◌++◌, length, take, codes, Option, option_map}
-use Rattle.std.specs.Io.KnownBytes.{Consumes}
+use Rattle.std.specs.Prelude.{◌≡◌, ◌<◌, ◌+◌, ◌⊎◌, ℕ, List, [], ◌∷◌, ◌++◌, length, take, codes}
+use Rattle.tls_codec_wire.specs.Bounded.{inner_of, limit_of}
 use Rattle.tls_codec_wire.specs.Counts.{Counts, NoneFell}
+use Rattle.tls_codec_wire.specs.declared.bounded.Bounded.{Bounded}
+use Rattle.tls_codec_wire.specs.declared.device.Source.{Ghosts}
 use Rattle.tls_codec_wire.specs.Numbers.{NumberNotRead}
-use Rattle.tls_codec_wire.specs.Transfer.{ReadRefused}
+use Rattle.tls_codec_wire.specs.Refused.{Causes, Seen}
+use Rattle.tls_codec_wire.specs.Transfer.{EndRefused, ReadRefused}
 use Rattle.tls_codec_wire.specs.declared.error.Error.{Error}
 use Rattle.tls_codec_wire.specs.declared.error.Error.TheVariants.{EndOfStream, OutOfMemory}
 use Rattle.tls_codec_grammar.specs.Tree.{Tree}
 use Rattle.tls_codec_grammar.specs.Grammar.{Grammar, Reading, content}
 use Rattle.tls_codec_grammar.specs.Errors.{Says}
 use Rattle.tls_codec_grammar.specs.Field.{Field, variable_field}
-use Rattle.tls_codec_grammar.specs.Format.{Format}
+use Rattle.tls_codec_grammar.specs.Format.{Format, content_format, sized_format}
 use Rattle.tls_codec_grammar.specs.Shortest.{IsHollow}
-use Rattle.tls_codec_grammar.specs.Decoding.{Begins, Refuses, RefusesSource}
+use Rattle.tls_codec_grammar.specs.Decoding.{Begins, Named, Refuses, part_source_names}
 
 -- which errors are named, by the bytes
 abbrev pub SliceNames : Type 1
 SliceNames = List ℕ → Error → Type 0
 
--- by the bytes to come, where those are told, and by the counts before and after
-abbrev pub SourceNames : Type 1
-SourceNames = Option (List ℕ) → Counts → Counts → Error → Type 0
-
 -- a part refuses the bytes, with an error that it names
 abbrev pub part_names : Format → SliceNames → SliceNames
 part_names part names x e = Refuses part.spells part.lean x e × names x e
-
--- the same from a source
-abbrev pub part_source_names : Format → SourceNames → SourceNames
-part_source_names part names coming old new e = RefusesSource part.spells part.lean coming old new e × names coming old new e
 
 -- ---- what is named behind a prefix
 
@@ -40,16 +35,15 @@ pub record NamedBehind (Front : List ℕ → Type 0) (names : SliceNames) (x : L
   pub is_front : Front front
   pub named : names rest e
 
--- such a front was to come, and the error is one that is named of what came behind it, by the counts in between, none
--- of which had fallen
-pub record SourceNamedBehind (Front : List ℕ → Type 0) (names : SourceNames) (coming : Option (List ℕ)) (old new : Counts) (e : Error) : Type 0 where
+-- the same from a source of which x was seen, by the counts in between, none of which had fallen
+pub record SourceNamedBehind (Front : List ℕ → Type 0) (names : Causes) (x : List ℕ) (old new : Counts) (e : Error) : Type 0 where
   pub front : List ℕ
-  pub behind : Option (List ℕ)
+  pub rest : List ℕ
   pub between : Counts
-  pub took : Consumes coming behind front
+  pub whole : x ≡ front ++ rest
   pub is_front : Front front
   pub fell : NoneFell old between
-  pub named : names behind between new e
+  pub named : names rest between new e
 
 -- ---- options
 
@@ -71,11 +65,11 @@ option_names payload x e =
     ((x ≡ []) × (e ≡ EndOfStream)) ⊎ (NamedBehind IsOtherByte (λ rest error. IsOtherTag error) x e ⊎ NamedBehind IsPayloadTag payload x e)
 
 -- from a source: the tag isn't read, it is another one, or behind the tag 1 the payload is refused
-abbrev pub option_source_names : SourceNames → SourceNames
-option_source_names payload coming old new e =
-    ReadRefused e 1 coming old new
-    ⊎ (SourceNamedBehind IsOtherByte (λ behind before after error. IsOtherTag error) coming old new e
-    ⊎ SourceNamedBehind IsPayloadTag payload coming old new e)
+abbrev pub option_source_names : Causes → Causes
+option_source_names payload x old new e =
+    ReadRefused 1 x old new e
+    ⊎ (SourceNamedBehind IsOtherByte (λ rest before after error. IsOtherTag error) x old new e
+    ⊎ SourceNamedBehind IsPayloadTag payload x old new e)
 
 -- ---- products
 
@@ -88,9 +82,22 @@ abbrev pub fields_names : Format → (first others : SliceNames) → SliceNames
 fields_names part first others x e = part_names part first x e ⊎ NamedBehind (IsSpelling part.spells) others x e
 
 -- the same from a source
-abbrev pub fields_source_names : Format → (first others : SourceNames) → SourceNames
-fields_source_names part first others coming old new e =
-    part_source_names part first coming old new e ⊎ SourceNamedBehind (IsSpelling part.spells) others coming old new e
+abbrev pub fields_source_names : Format → (first others : Causes) → Causes
+fields_source_names part first others x old new e =
+    part_source_names part first x old new e ⊎ SourceNamedBehind (IsSpelling part.spells) others x old new e
+
+-- ---- the end of a source
+
+-- the source gave, or told, a spelling of v and no more
+pub record SawSpelling {S : Type 0} (source : Ghosts S) (spells : Grammar) (old new : S) (v : Tree) : Type 0 where
+  pub bytes : List ℕ
+  pub seen : Seen source old new bytes
+  pub spelled : spells Reading bytes v
+
+-- no value is read, or the source isn't at its end after one
+abbrev pub to_end_names : Format → Causes → Causes
+to_end_names f names x old new e =
+    part_source_names f names x old new e ⊎ SourceNamedBehind (IsSpelling f.spells) EndRefused x old new e
 
 -- ---- lists
 
@@ -124,15 +131,20 @@ elements_names element names n x e =
     (e ≡ OutOfMemory) ⊎ ((left : ℕ) × NamedBehind (IsRun element.spells n left) (element_names element names left) x e)
 
 -- of a source an element is refused that ends where the list does
-abbrev pub element_source_names : Format → SourceNames → ℕ → SourceNames
-element_source_names element names left coming old new e =
-    part_source_names element names (option_map (take left) coming) old new e ⊎ IsEmptyElement element.spells e
+abbrev pub element_source_names : Format → Causes → ℕ → Causes
+element_source_names element names left x old new e =
+    part_source_names element names (take left x) old new e ⊎ IsEmptyElement element.spells e
 
 -- from a source: there was no memory, or behind some elements the next one isn't taken
-abbrev pub elements_source_names : Format → SourceNames → ℕ → SourceNames
-elements_source_names element names n coming old new e =
+abbrev pub elements_source_names : Format → Causes → ℕ → Causes
+elements_source_names element names n x old new e =
     (e ≡ OutOfMemory)
-    ⊎ ((left : ℕ) × SourceNamedBehind (IsRun element.spells n left) (element_source_names element names left) coming old new e)
+    ⊎ ((left : ℕ) × SourceNamedBehind (IsRun element.spells n left) (element_source_names element names left) x old new e)
+
+-- the elements up to a source's limit are refused so
+abbrev pub NamedWithin : {S : Type 0} → Format → Causes → Ghosts S → Bounded S → Bounded S → Error → Type 0
+NamedWithin element names source old new e =
+    Named (sized_format (limit_of old) (content_format element)) (elements_source_names element names (limit_of old)) source (inner_of old) (inner_of new) e
 
 -- from a slice: the length is refused, or behind a length the elements are refused
 abbrev pub counted_list_names : Field → Format → SliceNames → SliceNames
@@ -140,14 +152,14 @@ counted_list_names field element names x e =
     field.refuses x e ⊎ ((n : ℕ) × NamedBehind (λ s. field.spells s n) (elements_names element names n) x e)
 
 -- from a source: the length isn't read, or behind it the elements are refused
-abbrev pub counted_list_source_names : Field → Format → SourceNames → SourceNames
-counted_list_source_names field element names coming old new e =
-    NumberNotRead field.refuses e coming old new
-    ⊎ ((n : ℕ) × SourceNamedBehind (λ s. field.spells s n) (elements_source_names element names n) coming old new e)
+abbrev pub counted_list_source_names : Field → Format → Causes → Causes
+counted_list_source_names field element names x old new e =
+    NumberNotRead field.refuses x old new e
+    ⊎ ((n : ℕ) × SourceNamedBehind (λ s. field.spells s n) (elements_source_names element names n) x old new e)
 
 -- the same of lists behind a variable-length integer
 abbrev pub list_names : Format → SliceNames → SliceNames
 list_names element names = counted_list_names variable_field element names
 
-abbrev pub list_source_names : Format → SourceNames → SourceNames
+abbrev pub list_source_names : Format → Causes → Causes
 list_source_names element names = counted_list_source_names variable_field element names

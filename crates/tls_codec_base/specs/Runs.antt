@@ -7,14 +7,9 @@ use Rattle.tls_codec_wire.specs.Transfer.{ReadRefused}
 use Rattle.tls_codec_wire.specs.declared.bounded.Bounded.{Bounded}
 use Rattle.tls_codec_wire.specs.declared.device.Source.{Ghosts}
 use Rattle.tls_codec_wire.specs.declared.error.Error.{Error}
-use Rattle.tls_codec_grammar.specs.Format.{content_format, number_format, sized_format}
-use Rattle.tls_codec_grammar.specs.Decoding.{LeavesSource}
-use Rattle.tls_codec_base.specs.Refusals.{SourceNames, elements_source_names}
-use Rattle.tls_codec_base.specs.Turns.{RefusedAtOnce}
-
--- which errors a number of k bytes names
-abbrev pub number_source_names : ℕ → SourceNames
-number_source_names k coming old new e = ReadRefused e k coming old new
+use Rattle.tls_codec_grammar.specs.Format.{number_format}
+use Rattle.tls_codec_base.specs.Refusals.{NamedWithin}
+use Rattle.tls_codec_base.specs.Turns.{MemoryOrFault}
 
 -- the source gave these bytes up to its limit: whole numbers of k bytes
 pub record GaveRun {S : Type 0} (k : ℕ) (source : Ghosts S) (old new : Bounded S) (digits : List ℕ) : Type 0 where
@@ -25,9 +20,8 @@ pub record GaveRun {S : Type 0} (k : ℕ) (source : Ghosts S) (old new : Bounded
 
 -- why it didn't
 pub record RefusesRun {S : Type 0} (k : ℕ) (source : Ghosts S) (old new : Bounded S) (e : Error) : Type 0 where
-  pub leaves : LeavesSource (sized_format (limit_of old) (content_format (number_format k))) source (inner_of old) (inner_of new) e
-  pub named : elements_source_names (number_format k) (number_source_names k) (limit_of old) (source.coming (inner_of old)) (source.counts (inner_of old)) (source.counts (inner_of new)) e
-  pub at_once : RefusedAtOnce (source.coming (inner_of old)) (source.counts (inner_of old)) (source.counts (inner_of new)) e
+  pub named : NamedWithin (number_format k) (ReadRefused k) source old new e
+  pub at_once : MemoryOrFault (source.counts (inner_of old)) (source.counts (inner_of new)) e
 
 -- the bytes that fill what a source may still give; or none, and nothing was taken
 abbrev pub ReadsRun : {S : Type 0} → ℕ → Ghosts S → Bounded S → Bounded S → Result (Option (Vec ℕ Global)) Error → Type 0

@@ -3,6 +3,7 @@ use Rattle.std.specs.Prelude.{◌≡◌, ◌≤◌, ◌⊎◌, ℕ, ◌+◌, ◌
 use Rattle.std.specs.Global.{Global}
 use Rattle.tls_codec_wire.specs.Counts.{Counts, FaultIsCounted}
 use Rattle.tls_codec_wire.specs.Device.{Gives}
+use Rattle.tls_codec_wire.specs.Refused.{Causes}
 use Rattle.tls_codec_wire.specs.declared.error.Error.{Error}
 use Rattle.tls_codec_wire.specs.declared.error.Error.TheVariants.{OutOfMemory}
 use Rattle.tls_codec_grammar.specs.Grammar.{Grammar}
@@ -38,11 +39,6 @@ TurnedAll old new (Err e) = new ≡ old
 abbrev pub MemoryOrFault : Counts → Counts → Error → Type 0
 MemoryOrFault before after e = (e ≡ OutOfMemory) ⊎ FaultIsCounted before after
 
--- where the bytes to come are told, elements are refused at once for no other cause
-abbrev pub RefusedAtOnce : Option (List ℕ) → Counts → Counts → Error → Type 0
-RefusedAtOnce None before after e = ⊤
-RefusedAtOnce (Some x) before after e = MemoryOrFault before after e
-
 -- ---- refused lists
 
 -- a list was refused that was to fill the bytes x: one turn more was added than x has whole elements, or at most that
@@ -55,10 +51,9 @@ pub record TurnedPast (spells : Grammar) (x : List ℕ) (Excused : Type 0) (old 
 abbrev pub TurnedRefused : Grammar → ℕ → List ℕ → Turns → Turns → Error → Type 0
 TurnedRefused spells n x old new e = TurnedPast spells (take n x) (e ≡ OutOfMemory) old new
 
--- from a source, where the bytes to come are told: excused where a fault was counted, too
-abbrev pub SourceTurnedRefused : Grammar → ℕ → Option (List ℕ) → Counts → Counts → Turns → Turns → Error → Type 0
-SourceTurnedRefused spells n None before after old new e = ⊤
-SourceTurnedRefused spells n (Some x) before after old new e = TurnedPast spells (take n x) (MemoryOrFault before after e) old new
+-- from a source of which x was seen: excused where a fault was counted, too
+abbrev pub source_turns : Grammar → ℕ → Turns → Turns → Causes
+source_turns spells n old new x before after e = TurnedPast spells (take n x) (MemoryOrFault before after e) old new
 
 -- ---- at most
 

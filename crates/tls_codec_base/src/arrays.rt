@@ -53,7 +53,7 @@ impl<const LEN: usize> SerializeBytes for [u8; LEN] {
 }
 
 impl<const LEN: usize> Deserialize for [u8; LEN] {
-    ghost names = { λ coming old new e. ReadRefused e LEN coming old new };
+    ghost names = { ReadRefused LEN };
 
     /// `EndOfStream`: fewer than `LEN` bytes come. The empty array asks for none.
     #[inline(always)]

@@ -37,7 +37,7 @@ impl<T: SerializeBytes> SerializeBytes for Box<T> {
 }
 
 impl<T: Deserialize> Deserialize for Box<T> {
-    ghost names = { λ coming old new e. (e ≡ OutOfMemory) ⊎ T.names coming old new e };
+    ghost names = { λ x old new e. (e ≡ OutOfMemory) ⊎ T.names x old new e };
 
     /// `OutOfMemory`: there is none for the box. Every other refusal is the content's.
     fn tls_deserialize<R: Source>(alloc: Global, bytes: &mut R) -> Result<Box<T>, Error> {

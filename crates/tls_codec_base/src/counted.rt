@@ -8,7 +8,7 @@ ghost use Rattle.tls_codec_grammar.specs.Tree.{trees};
 ghost use Rattle.tls_codec_grammar.specs.Announced.{content_sum};
 ghost use Rattle.tls_codec_grammar.specs.Field.{IsSafeGap};
 ghost use Rattle.tls_codec_grammar.specs.Format.{counted_list_format};
-ghost use Rattle.tls_codec_grammar.specs.Decoding.{Reads, Splits};
+ghost use Rattle.tls_codec_grammar.specs.Decoding.{Named, Reads, Splits};
 ghost use Rattle.tls_codec_grammar.specs.Encoding.{AppendRefused, Appended, AppendsForm, Makes, Writes};
 ghost use Rattle.tls_codec_base.specs.Refusals.{counted_list_names, counted_list_source_names};
 
@@ -155,7 +155,7 @@ pub fn read<F: LengthField, T: Deserialize, R: Source>(
     bytes: &mut R,
 ) -> Result<Vec<T>, Error>
     ensures reads { Reads (counted_list_format F.field T.format) (λ elements. trees T.plain elements.items) R.Source bytes.old bytes.new result }
-    ensures named { IfErr result (counted_list_source_names F.field T.format T.names (R.coming bytes.old) (R.counts bytes.old) (R.counts bytes.new)) }
+    ensures named { IfErr result (Named (counted_list_format F.field T.format) (counted_list_source_names F.field T.format T.names) R.Source bytes.old bytes.new) }
 {
     let length = F::read_length(bytes)?;
     let elements = lists::from_reader(alloc, bytes, length, &mut Turns::new())?;

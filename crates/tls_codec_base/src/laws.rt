@@ -1,6 +1,6 @@
 //! The laws of options, products, lists and texts, each from those of its parts; what they come to for
 //! spellings and shortest forms; what shortest forms of lists are, that equal bytes are spelled alike,
-//! and what a source that tells its bytes has left; that both decoders agree, that encoders refuse only
+//! and what a source that tells its bytes has left; that both decoders agree, for which bytes a source is refused, that encoders refuse only
 //! what has no form, and which values are full.
 //!
 //! The functions do nothing. Their contracts state the laws, and so are proved.
@@ -22,11 +22,13 @@ ghost use Rattle.tls_codec_grammar.specs.Spelled.{BeginsWithOne, EachHasNonempty
 mod encoders;
 mod full;
 mod paths;
+mod sources;
 
 use crate::traits::Size;
 pub use encoders::encoders_refuse_only_what_has_no_form;
 pub use full::{each_value_is_full, full_values_have_full_parts};
 pub use paths::both_paths_agree;
+pub use sources::sources_are_refused_for_what_they_show;
 use tls_codec_grammar::LengthField;
 use tls_codec_wire::{Sink, Source};
 

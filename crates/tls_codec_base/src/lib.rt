@@ -11,8 +11,11 @@
 //! - [`arrays`]: `[u8; LEN]`.
 //! - [`options`]: `Option<T>`.
 //! - [`products`]: `(T, U)`, `(T, U, V)`, `()` and `PhantomData<T>`.
-//! - [`boxes`]: `Box<T>`. [`lent`]: [`Lent`], a value that is lent, for messages of one's own.
+//! - [`boxes`]: `Box<T>`. [`lent`]: [`Lent`], a value that is lent, for messages of one's own;
+//!   [`lents`]: [`Lent2`] to [`Lent9`], so many of them in a row.
+//! - [`tags`]: [`unknown_value`], the refusal of a tag that an enum of one's own doesn't have.
 //! - [`lists`]: the engines that every list goes through. [`vectors`]: `Vec<T>` and `&[T]`.
+//! - [`ends`]: [`deserialize_to_end`], a value and the end of its source.
 //! - [`texts`]: `String` and `&str`, by [`opaque`], bytes behind their length.
 //! - [`laws`]: what is lawful if its parts are. [`refusals`]: where `TrailingData` and `InvalidVectorLength`
 //!   come. Both do nothing when they run.
@@ -21,18 +24,24 @@
 pub mod arrays;
 pub mod boxes;
 pub mod counted;
+pub mod ends;
 pub mod laws;
 pub mod lent;
+pub mod lents;
 pub mod lists;
 pub mod numbers;
 pub mod options;
 pub mod products;
 pub mod refusals;
+pub mod tags;
 pub mod texts;
 pub mod traits;
 pub mod varint;
 pub mod vectors;
 
+pub use ends::deserialize_to_end;
 pub use lent::Lent;
+pub use lents::{Lent2, Lent3, Lent4, Lent5, Lent6, Lent7, Lent8, Lent9};
+pub use tags::unknown_value;
 pub use tls_codec_grammar::{LengthField, opaque};
 pub use traits::{Deserialize, DeserializeBytes, Serialize, SerializeBytes, Size};

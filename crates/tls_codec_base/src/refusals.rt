@@ -36,7 +36,7 @@ pub fn single_values_are_never_trailing<const LEN: usize>()
 /// Nor does one of bytes behind a length, whatever its field.
 pub fn bytes_are_never_trailing<F: LengthField>()
     ensures bytes { NeverTrailing (λ x e. OpaqueCopyRefused F.field e x) }
-    ensures read { SourceNeverTrailing (λ coming old new e. OpaqueSourceRefused F.field e coming old new) }
+    ensures read { SourceNeverTrailing (OpaqueSourceRefused F.field) }
 {}
 
 /// Nor does one from a slice of an option, a product, a box or a list, if none of its parts does.

@@ -32,6 +32,7 @@ impl Serialize for String {
     }
 
     /// The refusals are those of a `&str`.
+    #[inline(always)]
     fn tls_serialize_into(&self, out: &mut Vec<u8>) -> Result<usize, Error> {
         self.as_str().tls_serialize_into(out)
     }
@@ -44,7 +45,7 @@ impl SerializeBytes for String {
 }
 
 impl Deserialize for String {
-    ghost names = { λ coming old new e. TextSourceRefused e coming old new };
+    ghost names = { TextSourceRefused };
 
     /// `EndOfStream`: there is no whole length, or fewer bytes come than it declares.
     /// `InvalidVectorLength`: the length has more bytes than it needs, or more than 30 bits.

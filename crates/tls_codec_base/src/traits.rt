@@ -1,5 +1,5 @@
 //! The five traits of a type with a spelling, and their contracts.
-ghost use Rattle.std.specs.Prelude.{◌≡◌, ◌⊎◌, List, Option, Some, ℕ, IfErr, IfSome, IsErrAnd};
+ghost use Rattle.std.specs.Prelude.{◌≡◌, ◌⊎◌, List, ℕ, IfErr, IfSome, IsErrAnd};
 ghost use Rattle.tls_codec_wire.specs.Bounded.{BorrowAlike, inner_of, limit_of};
 ghost use Rattle.tls_codec_wire.specs.Counts.{Counts, no_counts};
 ghost use Rattle.tls_codec_wire.specs.declared.error.Error.{Error};
@@ -7,9 +7,9 @@ ghost use Rattle.tls_codec_wire.specs.declared.error.Error.TheVariants.{InvalidV
 ghost use Rattle.tls_codec_grammar.specs.Tree.{Tree, trees};
 ghost use Rattle.tls_codec_grammar.specs.Format.{Format};
 ghost use Rattle.tls_codec_grammar.specs.Lawful.{MeetsLaws};
-ghost use Rattle.tls_codec_base.specs.Refusals.{elements_source_names};
-ghost use Rattle.tls_codec_base.specs.Turns.{RefusedAtOnce, TurnedAll};
-ghost use Rattle.tls_codec_grammar.specs.Decoding.{AllGiven, AllRead, LeavesBytes, Reads, ReadsWhole, Splits};
+ghost use Rattle.tls_codec_base.specs.Refusals.{NamedWithin};
+ghost use Rattle.tls_codec_base.specs.Turns.{MemoryOrFault, TurnedAll};
+ghost use Rattle.tls_codec_grammar.specs.Decoding.{AllGiven, AllRead, LeavesBytes, Named, Reads, ReadsWhole, Splits};
 ghost use Rattle.tls_codec_grammar.specs.Encoding.{AllSent, AppendsForm, Makes, Writes};
 
 use crate::lists::Turns;
@@ -102,13 +102,13 @@ pub trait SerializeBytes: Size {
 
 /// A type that is read from a source.
 pub trait Deserialize: Size + Drop {
-    // Which errors are named, by the bytes to come where those are told, and by the counts before and after.
-    ghost names: { Option (List ℕ) → Counts → Counts → Error → Type 0 } = { λ x old new e. Unit {0} };
+    // Which errors are named, by the bytes that were seen and by the counts before and after.
+    ghost names: { List ℕ → Counts → Counts → Error → Type 0 } = { λ x old new e. Unit {0} };
 
     /// The value that the bytes to come begin with. Just its spelling is taken.
     fn tls_deserialize<R: Source>(alloc: Global, bytes: &mut R) -> Result<Self, Error>
         ensures reads { Reads Self.format Self.plain R.Source bytes.old bytes.new result }
-        ensures named { IfErr result (names (R.coming bytes.old) (R.counts bytes.old) (R.counts bytes.new)) };
+        ensures named { IfErr result (Named Self.format names R.Source bytes.old bytes.new) };
 
     /// The value that all of the bytes spell, read as from a source.
     ///
@@ -117,7 +117,7 @@ pub trait Deserialize: Size + Drop {
     fn tls_deserialize_exact(alloc: Global, bytes: &[u8]) -> Result<Self, Error>
         ensures reads { ReadsWhole Self.format Self.plain bytes.now result }
         ensures named { IfErr result (λ e. ((e ≡ TrailingData) × LeavesBytes Self.format.spells bytes.now)
-            ⊎ names (Some bytes.now) no_counts no_counts e) }
+            ⊎ names bytes.now no_counts no_counts e) }
     {
         let mut rest = bytes;
         let value = Self::tls_deserialize(alloc, &mut rest)?;
@@ -139,10 +139,9 @@ pub trait Deserialize: Size + Drop {
     ) -> Result<Option<Vec<Self>>, Error>
         ensures same { BorrowAlike within.old within.new }
         ensures reads { AllGiven Self.format Self.plain R.Source within.old within.new result }
-        ensures named { IfErr result (elements_source_names Self.format names (limit_of within.old)
-            (R.coming (inner_of within.old)) (R.counts (inner_of within.old)) (R.counts (inner_of within.new))) }
+        ensures named { IfErr result (NamedWithin Self.format names R.Source within.old within.new) }
         ensures turned { TurnedAll turns.old turns.new result }
-        ensures at_once { IfErr result (RefusedAtOnce (R.coming (inner_of within.old)) (R.counts (inner_of within.old)) (R.counts (inner_of within.new))) }
+        ensures at_once { IfErr result (MemoryOrFault (R.counts (inner_of within.old)) (R.counts (inner_of within.new))) }
     {
         Ok(None)
     }

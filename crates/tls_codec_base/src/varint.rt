@@ -38,7 +38,7 @@ impl SerializeBytes for TlsVarInt {
 }
 
 impl Deserialize for TlsVarInt {
-    ghost names = { λ coming old new e. NumberNotRead (RefusesBelow (2 ^ 62)) e coming old new };
+    ghost names = { NumberNotRead (RefusesBelow (2 ^ 62)) };
 
     /// `EndOfStream`: fewer bytes come than the first one asks for, or none. `InvalidVectorLength`: these
     /// are more than the number needs.

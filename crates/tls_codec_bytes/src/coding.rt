@@ -46,7 +46,7 @@ impl<F: LengthField> SerializeBytes for TlsByteVec<F> {
 }
 
 impl<F: LengthField> Deserialize for TlsByteVec<F> {
-    ghost names = { λ coming old new e. OpaqueSourceRefused F.field e coming old new };
+    ghost names = { OpaqueSourceRefused F.field };
 
     /// `EndOfStream`: there is no whole length, or fewer bytes come than it declares.
     fn tls_deserialize<R: Source>(alloc: Global, src: &mut R) -> Result<TlsByteVec<F>, Error> {

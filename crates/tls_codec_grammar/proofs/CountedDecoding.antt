@@ -1,18 +1,20 @@
 -- What a length field with what it counts is read as, from what is read of both.
-use Rattle.std.proofs.Common.{◌≡◌, ℕ, List, ◌++◌, length, Bool, Option, None, Some, inl, inr, refl, sym, ap, subst, ◌∙◌, append_assoc}
+use Rattle.std.proofs.Common.{◌≡◌, ℕ, List, ◌++◌, length, Bool, inl, inr, refl, sym, ap, subst, ◌∙◌, append_assoc}
 use Rattle.std.proofs.lemmas.List.{append_cancel_left}
-use Rattle.std.specs.Io.KnownBytes.{Consumes}
 use Rattle.tls_codec_wire.specs.Counts.{Counts, NoneFell}
-use Rattle.tls_codec_wire.specs.Device.{GivesFromFront, GivesInOrder, NoCountFalls}
+use Rattle.tls_codec_wire.specs.Device.{GivesInOrder, NoCountFalls}
 use Rattle.tls_codec_wire.specs.Numbers.{BeginsNumber, GaveNumber, NoNumberBegins, NumberNotRead}
+use Rattle.tls_codec_wire.specs.Refused.{RefusedFor}
+use Rattle.tls_codec_wire.specs.declared.device.Source.{Ghosts}
 use Rattle.tls_codec_wire.specs.declared.error.Error.{Error}
 use Rattle.tls_codec_grammar.specs.Tree.{Tree}
 use Rattle.tls_codec_grammar.specs.Grammar.{Grammar, counted, sized}
 use Rattle.tls_codec_grammar.specs.Field.{Field}
 use Rattle.tls_codec_grammar.specs.Lawful.{MeetsFieldLaws}
-use Rattle.tls_codec_grammar.specs.Decoding.{Begins, GaveSpelling, NoneBegins, NoneComes, Refuses, RefusesSource}
+use Rattle.tls_codec_grammar.specs.Decoding.{Begins, GaveSpelling, NoneBegins, Refuses, RefusesSource}
 use Rattle.tls_codec_grammar.proofs.NumberRefusals.{number_refused, number_refuses}
 use Rattle.tls_codec_wire.proofs.Later.{fault_later, rose_later}
+use Rattle.tls_codec_wire.proofs.Refused.{refused_later}
 
 module _ {field : Field} (m : MeetsFieldLaws field) (inside : Grammar) where
   -- ---- from a slice
@@ -57,27 +59,22 @@ module _ {field : Field} (m : MeetsFieldLaws field) (inside : Grammar) where
     spelled = record { count = p.front; inside = q.front; whole = refl; counts = subst (field.spells p.front) (sym q.spelled.0) p.spelled; is_inside = q.spelled.1 };
   }
 
-  pub counted_none_comes_at_inside : (old new : Option (List ℕ)) (n : ℕ) (front : List ℕ) → Consumes old new front → field.spells front n → NoneComes (sized n inside) new → NoneComes (counted field.spells inside) old
-  counted_none_comes_at_inside None new n front took f none = tt
-  counted_none_comes_at_inside (Some x) None n front took f none = absurd took
-  counted_none_comes_at_inside (Some x) (Some behind) n front took f none = counted_none_at_inside x behind n front took f none
+  pub counted_refused : {lean : Bool} {start before after : Counts} {e : Error} (front : List ℕ) (n : ℕ) → NoneFell start before → field.spells front n → (y : List ℕ) → RefusesSource (sized n inside) lean y before after e → RefusesSource (counted field.spells inside) lean (front ++ y) start after e
+  counted_refused {lean} {start} {before} {after} {e} front n fell p y r = record {
+    cause = elim r.cause [
+      | inl none ↦ inl (counted_none_at_inside (front ++ y) y n front refl p none)
+      | inr (inl fault) ↦ inr (inl (fault_later start before after fell fault))
+      | inr (inr out) ↦ inr (inr out)
+    ];
+    memory = λ h. elim (r.memory h) [
+      | inl not_lean ↦ inl not_lean
+      | inr rose ↦ inr (rose_later start before after fell rose)
+    ];
+  }
 
-  pub counted_refused : {S : Type 0} {given : S → List ℕ → S → Type 0} {a b : S} {n : ℕ} {lean : Bool} {after : Counts} {e : Error} (coming : S → Option (List ℕ)) (counts : S → Counts) → GivesFromFront given coming → NoCountFalls given counts
-      → GaveNumber given field.spells a b n → RefusesSource (sized n inside) lean (coming b) (counts b) after e → RefusesSource (counted field.spells inside) lean (coming a) (counts a) after e
-  counted_refused {S} {given} {a} {b} {n} {lean} {after} {e} coming counts from_front falls p r =
-      let took : Consumes (coming a) (coming b) p.front = from_front a p.front b p.held in
-      let fell : NoneFell (counts a) (counts b) = falls a p.front b p.held in
-      record {
-        cause = elim r.cause [
-          | inl none ↦ inl (counted_none_comes_at_inside (coming a) (coming b) n p.front took p.spelled none)
-          | inr (inl fault) ↦ inr (inl (fault_later (counts a) (counts b) after fell fault))
-          | inr (inr out) ↦ inr (inr out)
-        ];
-        memory = λ h. elim (r.memory h) [
-          | inl not_lean ↦ inl not_lean
-          | inr rose ↦ inr (rose_later (counts a) (counts b) after fell rose)
-        ];
-      }
+  pub counted_leaves : {S : Type 0} {source : Ghosts S} {a b c : S} {n : ℕ} {lean : Bool} {e : Error} → GivesInOrder source.given → NoCountFalls source.given source.counts → GaveNumber source.given field.spells a b n
+      → RefusedFor source (RefusesSource (sized n inside) lean) b c e → RefusedFor source (RefusesSource (counted field.spells inside) lean) a c e
+  counted_leaves {S} {source} {a} {b} {c} {n} order falls p r = refused_later p.front order p.held (counted_refused p.front n (falls a p.front b p.held) p.spelled) r
 
   -- ---- the field is refused
 
@@ -85,5 +82,5 @@ module _ {field : Field} (m : MeetsFieldLaws field) (inside : Grammar) where
   pub count_refuses : {lean : Bool} (x : List ℕ) (e : Error) → field.refuses x e → Refuses (counted field.spells inside) lean x e
   count_refuses = number_refuses (λ x e p. counted_none_at_count x (m.none x e p)) m.named
 
-  pub count_refused : {lean : Bool} (e : Error) (coming : Option (List ℕ)) (old new : Counts) → NumberNotRead field.refuses e coming old new → RefusesSource (counted field.spells inside) lean coming old new e
+  pub count_refused : {lean : Bool} (e : Error) (x : List ℕ) (old new : Counts) → NumberNotRead field.refuses x old new e → RefusesSource (counted field.spells inside) lean x old new e
   count_refused = number_refused (λ x e p. counted_none_at_count x (m.none x e p)) m.named

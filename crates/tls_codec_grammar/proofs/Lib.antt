@@ -3,6 +3,7 @@ pub mod ByteContents
 pub mod CountedDecoding
 pub mod CountedEncoding
 pub mod LengthFields
+pub mod Named
 pub mod NumberCalls
 pub mod NumberRefusals
 pub mod OpaqueDecoding

@@ -1,11 +1,12 @@
 -- Bytes behind a length field, read from a slice and from a source.
-use Rattle.std.proofs.Common.{◌≡◌, ℕ, ◌<◌, List, ◌++◌, length, take, drop, take-append-drop, get_or, Bool, false, Option, None, Some, inl, inr, refl, sym, ap, subst, ◌∙◌, arith}
-use Rattle.tls_codec_wire.specs.Counts.{Counts}
-use Rattle.tls_codec_wire.specs.Device.{GivesFromFront, GivesInOrder, NoCountFalls}
+use Rattle.std.proofs.Common.{◌≡◌, ℕ, ◌<◌, List, ◌++◌, length, take, drop, take-append-drop, get_or, Bool, false, inl, ◌⊎◌, inr, refl, sym, ap, subst, ◌∙◌, arith}
+use Rattle.tls_codec_wire.specs.Counts.{Counts, NoneFell}
+use Rattle.tls_codec_wire.specs.Device.{GivesInOrder, NoCountFalls}
+use Rattle.tls_codec_wire.specs.Refused.{RefusedFor}
 use Rattle.tls_codec_wire.specs.Digits.{AreBytes}
-use Rattle.std.specs.Io.KnownBytes.{Consumes}
 use Rattle.tls_codec_wire.specs.Numbers.{BeginsNumber, GaveNumber, NumberNotRead}
-use Rattle.tls_codec_wire.specs.Transfer.{BytesRefused, IsShortOf}
+use Rattle.tls_codec_wire.specs.Transfer.{BytesRefused}
+use Rattle.tls_codec_wire.specs.declared.device.Source.{Ghosts}
 use Rattle.tls_codec_wire.specs.declared.error.Error.{Error}
 use Rattle.tls_codec_wire.specs.declared.error.Error.TheVariants.{DecodingError, EndOfStream, InvalidVectorLength, OutOfMemory}
 use Rattle.tls_codec_wire.proofs.Bytes.{are_bytes, AreBytes-left}
@@ -14,11 +15,12 @@ use Rattle.tls_codec_grammar.specs.Field.{Field, IsCutOff}
 use Rattle.tls_codec_grammar.specs.Format.{counted_bytes_format}
 use Rattle.tls_codec_grammar.specs.Grammar.{Reading, content, number}
 use Rattle.tls_codec_grammar.specs.Lawful.{MeetsFieldLaws}
-use Rattle.tls_codec_grammar.specs.Decoding.{Begins, GaveSpelling, NoneBegins, Refuses, RefusesSource}
-use Rattle.tls_codec_grammar.specs.Opaque.{EndsWithin, OpaqueSourceRefused}
+use Rattle.tls_codec_grammar.specs.Decoding.{Begins, GaveSpelling, Named, NoneBegins, Refuses, RefusesSource}
+use Rattle.tls_codec_grammar.specs.Opaque.{OpaqueSourceRefused}
 use Rattle.tls_codec_grammar.proofs.ByteContents.{AreBytes-right, bytes_content, sized_short}
 use Rattle.tls_codec_grammar.proofs.CountedDecoding.{count_refused, counted_begins, counted_given, counted_none_at_count, counted_none_at_inside}
 use Rattle.tls_codec_wire.proofs.Later.{fault_later}
+use Rattle.tls_codec_wire.proofs.Refused.{refused_later, refused_so}
 
 module _ {field : Field} (m : MeetsFieldLaws field) where
   -- ---- from a slice
@@ -45,38 +47,39 @@ module _ {field : Field} (m : MeetsFieldLaws field) where
       counted_given m (content (number 1)) order p (record { front = c; held = held; spelled = (width, bytes_content Reading c small) })
 
   -- why the length is not read is why the bytes are not
-  pub length_not_read : (e : Error) (coming : Option (List ℕ)) (old new : Counts) → NumberNotRead field.refuses e coming old new → OpaqueSourceRefused field e coming old new
-  length_not_read (DecodingError text) coming old new p = p
-  length_not_read OutOfMemory coming old new p = tt
-  length_not_read EndOfStream None old new p = tt
-  length_not_read EndOfStream (Some x) old new p = inl p
-  length_not_read e coming old new p = p
+  pub length_not_read : (e : Error) (x : List ℕ) (old new : Counts) → NumberNotRead field.refuses x old new e → OpaqueSourceRefused field x old new e
+  length_not_read (DecodingError text) x old new p = p
+  length_not_read OutOfMemory x old new p = tt
+  length_not_read EndOfStream x old new p = inl p
+  length_not_read e x old new p = p
 
-  -- where fewer bytes are to come than a length declares, they end within its content
-  ends_behind : (coming behind : Option (List ℕ)) (front : List ℕ) (n : ℕ) → Consumes coming behind front → field.spells front n → IsShortOf n behind → EndsWithin field coming
-  ends_behind None behind front n took p short = tt
-  ends_behind (Some x) None front n took p short = absurd took
-  ends_behind (Some x) (Some rest) front n took p short = inr (record { declared = n; behind = rest; begins = record { front = front; whole = took; spelled = p }; short = short })
-
-  -- why the bytes behind the length are not read
-  pub content_not_read : {S : Type 0} {given : S → List ℕ → S → Type 0} {a b : S} {n : ℕ} (e : Error) (coming : S → Option (List ℕ)) (counts : S → Counts) (after : Counts) → GivesFromFront given coming → NoCountFalls given counts
-      → GaveNumber given field.spells a b n → BytesRefused e n (coming b) (counts b) after → OpaqueSourceRefused field e (coming a) (counts a) after
-  content_not_read {S} {given} {a} {b} {n} InvalidVectorLength coming counts after from_front falls p r = absurd (omega (arith, m.below p.front n p.spelled, m.small, r))
-  content_not_read {S} {given} {a} {b} {n} (DecodingError text) coming counts after from_front falls p r =
-      (r.0, fault_later (counts a) (counts b) after (falls a p.front b p.held) r.1)
-  content_not_read {S} {given} {a} {b} {n} EndOfStream coming counts after from_front falls p r =
-      ends_behind (coming a) (coming b) p.front n (from_front a p.front b p.held) p.spelled r
-  content_not_read {S} {given} {a} {b} {n} OutOfMemory coming counts after from_front falls p r = tt
-  content_not_read {S} {given} {a} {b} {n} _ coming counts after from_front falls p r = absurd r
+  -- why the bytes after the length are not read
+  pub content_not_read : (e : Error) (start before after : Counts) (front : List ℕ) (n : ℕ) → NoneFell start before → field.spells front n → (y : List ℕ) → BytesRefused n y before after e → OpaqueSourceRefused field (front ++ y) start after e
+  content_not_read InvalidVectorLength start before after front n fell p y r = absurd (omega (arith, m.below front n p, m.small, r))
+  content_not_read (DecodingError text) start before after front n fell p y r = (r.0, fault_later start before after fell r.1)
+  content_not_read EndOfStream start before after front n fell p y r = inr (record { declared = n; behind = y; begins = record { front = front; whole = refl; spelled = p }; short = r })
+  content_not_read OutOfMemory start before after front n fell p y r = tt
+  content_not_read _ start before after front n fell p y r = absurd r
 
   -- and that is a refusal of the source
-  pub bytes_not_read : (e : Error) (coming : Option (List ℕ)) (old new : Counts) → OpaqueSourceRefused field e coming old new → RefusesSource (counted_bytes_format field).spells false coming old new e
-  bytes_not_read (DecodingError text) coming old new p = record { cause = inr (inl p.1); memory = λ h. absurd cc }
-  bytes_not_read OutOfMemory coming old new p = record { cause = inr (inr refl); memory = λ h. inl refl }
-  bytes_not_read EndOfStream None old new p = record { cause = inl tt; memory = λ h. absurd cc }
-  bytes_not_read EndOfStream (Some x) old new p = record { cause = inl (none_at_end x p); memory = λ h. absurd cc }
+  pub bytes_not_read : (e : Error) (x : List ℕ) (old new : Counts) → OpaqueSourceRefused field x old new e → RefusesSource (counted_bytes_format field).spells false x old new e
+  bytes_not_read (DecodingError text) x old new p = record { cause = inr (inl p.1); memory = λ h. absurd cc }
+  bytes_not_read OutOfMemory x old new p = record { cause = inr (inr refl); memory = λ h. inl refl }
+  bytes_not_read EndOfStream x old new p = record { cause = inl (none_at_end p); memory = λ h. absurd cc }
     where
-      none_at_end : (x : List ℕ) → EndsWithin field (Some x) → NoneBegins (counted_bytes_format field).spells x
-      none_at_end x (inl early) = counted_none_at_count m (content (number 1)) x (m.none x EndOfStream early)
-      none_at_end x (inr cut) = none_at_cut x cut
-  bytes_not_read e coming old new p = count_refused m (content (number 1)) e coming old new p
+      none_at_end : field.refuses x EndOfStream ⊎ IsCutOff field x → NoneBegins (counted_bytes_format field).spells x
+      none_at_end (inl early) = counted_none_at_count m (content (number 1)) x (m.none x EndOfStream early)
+      none_at_end (inr cut) = none_at_cut x cut
+  bytes_not_read e x old new p = count_refused m (content (number 1)) e x old new p
+
+  -- ---- the same over a source
+
+  module _ {S : Type 0} {source : Ghosts S} {a b : S} {e : Error} where
+    opaque_not_read : RefusedFor source (OpaqueSourceRefused field) a b e → Named (counted_bytes_format field) (OpaqueSourceRefused field) source a b e
+    opaque_not_read p = record { refused = refused_so (λ x q. (bytes_not_read e x _ _ q, q)) p }
+
+    pub opaque_length_not_read : RefusedFor source (NumberNotRead field.refuses) a b e → Named (counted_bytes_format field) (OpaqueSourceRefused field) source a b e
+    opaque_length_not_read p = opaque_not_read (refused_so (λ x. length_not_read e x _ _) p)
+
+    pub opaque_content_not_read : {mid : S} {n : ℕ} → GivesInOrder source.given → NoCountFalls source.given source.counts → GaveNumber source.given field.spells a mid n → RefusedFor source (BytesRefused n) mid b e → Named (counted_bytes_format field) (OpaqueSourceRefused field) source a b e
+    opaque_content_not_read {mid} {n} order falls p r = opaque_not_read (refused_later p.front order p.held (content_not_read e (source.counts a) (source.counts mid) (source.counts b) p.front n (falls a p.front mid p.held) p.spelled) r)

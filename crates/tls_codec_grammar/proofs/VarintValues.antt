@@ -1,5 +1,5 @@
 -- What calls on variable-length integers return, as values of a type.
-use Rattle.std.proofs.Common.{◌^◌, ℕ, List, Option, Result, Ok, Err, true, arith}
+use Rattle.std.proofs.Common.{◌^◌, ℕ, List, Result, Ok, Err, true, arith}
 use Rattle.std.specs.Prelude.{IfErr, IfOk}
 use Rattle.std.specs.Borrow.{Bor}
 use Rattle.tls_codec_wire.specs.Counts.{Counts, NoneFell}
@@ -33,8 +33,8 @@ varint_splits number x (Ok found) ok err = record { front = ok.front; whole = ok
 varint_splits number x (Err e) ok err = number_refuses (λ y u p. none_begins y (below_none (2 ^ 62) y u p)) (below_named (2 ^ 62)) x e err
 
 -- why a number is not read is why the value is refused
-pub varint_refused : (coming : Option (List ℕ)) (old new : Counts) (e : Error) → NumberNotRead (RefusesBelow (2 ^ 62)) e coming old new → RefusesSource varint true coming old new e
-varint_refused coming old new e p = number_refused (λ y u q. none_begins y (below_none (2 ^ 62) y u q)) (below_named (2 ^ 62)) e coming old new p
+pub varint_refused : (e : Error) (x : List ℕ) (old new : Counts) → NumberNotRead (RefusesBelow (2 ^ 62)) x old new e → RefusesSource varint true x old new e
+varint_refused = number_refused (λ y u q. none_begins y (below_none (2 ^ 62) y u q)) (below_named (2 ^ 62))
 
 -- ---- writing
 

@@ -3,7 +3,7 @@ use Rattle.std.specs.Prelude.{◌≡◌, ◌<◌, ◌⊎◌, ℕ, List, ◌++◌
 use Rattle.std.specs.Global.{Global}
 use Rattle.tls_codec_wire.specs.Counts.{Counts, FaultIsCounted, RoseBy}
 use Rattle.std.specs.Borrow.{Bor}
-use Rattle.tls_codec_wire.specs.Device.{Gave}
+use Rattle.tls_codec_wire.specs.Refused.{Causes, RefusedFor}
 use Rattle.tls_codec_wire.specs.Bounded.{inner_of, limit_of}
 use Rattle.tls_codec_wire.specs.declared.bounded.Bounded.{Bounded}
 use Rattle.tls_codec_wire.specs.declared.device.Source.{Ghosts}
@@ -70,24 +70,26 @@ ComesFirst spells None v new = ⊤
 ComesFirst spells (Some x) v None = ⊥
 ComesFirst spells (Some x) v (Some rest) = Begins spells x v rest
 
--- no prefix of the bytes to come, where they are told, is a spelling
-abbrev pub NoneComes : Grammar → Option (List ℕ) → Type 0
-NoneComes spells None = ⊤
-NoneComes spells (Some x) = NoneBegins spells x
-
--- why a source is refused: no prefix of what is to come is a spelling, a fault of the source was counted, or there
+-- why a source is refused of which x was seen: no prefix of x is a spelling, a fault of the source was counted, or there
 -- was no memory, which a lean type returns only where the source had none
-pub record RefusesSource (spells : Grammar) (lean : Bool) (coming : Option (List ℕ)) (old new : Counts) (e : Error) : Type 0 where
-  pub cause : NoneComes spells coming ⊎ (FaultIsCounted old new ⊎ (e ≡ OutOfMemory))
+pub record RefusesSource (spells : Grammar) (lean : Bool) (x : List ℕ) (old new : Counts) (e : Error) : Type 0 where
+  pub cause : NoneBegins spells x ⊎ (FaultIsCounted old new ⊎ (e ≡ OutOfMemory))
   pub memory : e ≡ OutOfMemory → (lean ≡ false) ⊎ RoseBy 1 old.shortages new.shortages
 
 -- ---- the decoders, by what they return
 
--- from a source, of which just a spelling is taken
+-- from a source
 pub record LeavesSource {S : Type 0} (f : Format) (source : Ghosts S) (old new : S) (e : Error) : Type 0 where
-  pub gave : Gave source.given old new
-  pub refused : RefusesSource f.spells f.lean (source.coming old) (source.counts old) (source.counts new) e
+  pub refused : RefusedFor source (RefusesSource f.spells f.lean) old new e
 
+-- a format is refused so, with an error that is among these
+abbrev pub part_source_names : Format → Causes → Causes
+part_source_names part names x old new e = RefusesSource part.spells part.lean x old new e × names x old new e
+
+pub record Named {S : Type 0} (f : Format) (names : Causes) (source : Ghosts S) (old new : S) (e : Error) : Type 0 where
+  pub refused : RefusedFor source (part_source_names f names) old new e
+
+-- from a source, of which just a spelling is taken
 abbrev pub Reads : {T S : Type 0} → Format → (T → Tree) → Ghosts S → S → S → Result T Error → Type 0
 Reads f plain source old new (Ok v) = GaveSpelling source.given f.spells old new (plain v)
 Reads f plain source old new (Err e) = LeavesSource f source old new e

@@ -1,7 +1,6 @@
 -- Why bytes and texts behind a length field are refused.
-use Rattle.std.specs.Prelude.{◌≡◌, ◌⊎◌, List, ℕ, codes, Option, None, Some, IsUtf8, ⊤}
+use Rattle.std.specs.Prelude.{◌≡◌, ◌⊎◌, List, ℕ, codes, IsUtf8, ⊤}
 use Rattle.tls_codec_wire.specs.Counts.{Counts}
-use Rattle.tls_codec_wire.specs.Numbers.{Comes}
 use Rattle.tls_codec_wire.specs.Transfer.{IsReadFailure}
 use Rattle.tls_codec_wire.specs.declared.error.Error.{Error}
 use Rattle.tls_codec_wire.specs.declared.error.Error.TheVariants.{DecodingError, EndOfStream, OutOfMemory}
@@ -20,17 +19,13 @@ OpaqueRefused field e x = field.refuses x e ⊎ (field.cut_off e × IsCutOff fie
 abbrev pub OpaqueCopyRefused : Field → Error → List ℕ → Type 0
 OpaqueCopyRefused field e x = ((e ≡ OutOfMemory) × BeginsSome (counted_bytes_format field).spells x) ⊎ OpaqueRefused field e x
 
--- the bytes to come, where they are told, end within a length or within what it declares
-abbrev pub EndsWithin : Field → Option (List ℕ) → Type 0
-EndsWithin field None = ⊤
-EndsWithin field (Some x) = field.refuses x EndOfStream ⊎ IsCutOff field x
-
--- why they are not read from a source: it failed, there was no memory, it ended, or the length is refused
-abbrev pub OpaqueSourceRefused : Field → Error → Option (List ℕ) → Counts → Counts → Type 0
-OpaqueSourceRefused field (DecodingError text) coming old new = IsReadFailure text old new
-OpaqueSourceRefused field OutOfMemory coming old new = ⊤
-OpaqueSourceRefused field EndOfStream coming old new = EndsWithin field coming
-OpaqueSourceRefused field e coming old new = Comes (λ x. field.refuses x e) coming
+-- why they are not read from a source of which x was seen: it failed, there was no memory, x ends within a length or
+-- within what it declares, or the length is refused
+abbrev pub OpaqueSourceRefused : Field → List ℕ → Counts → Counts → Error → Type 0
+OpaqueSourceRefused field x old new (DecodingError text) = IsReadFailure text old new
+OpaqueSourceRefused field x old new OutOfMemory = ⊤
+OpaqueSourceRefused field x old new EndOfStream = field.refuses x EndOfStream ⊎ IsCutOff field x
+OpaqueSourceRefused field x old new e = field.refuses x e
 
 -- x begins with bytes behind their length that are no UTF-8
 pub record IsNoText (x : List ℕ) : Type 0 where
@@ -45,12 +40,7 @@ abbrev pub TextRefused : Error → List ℕ → Type 0
 TextRefused e x =
     ((e ≡ OutOfMemory) × BeginsSome text x) ⊎ (OpaqueRefused variable_field e x ⊎ (Says (codes "invalid utf8") e × IsNoText x))
 
--- the bytes to come, where they are told, are no UTF-8
-abbrev pub NoTextComes : Option (List ℕ) → Type 0
-NoTextComes None = ⊤
-NoTextComes (Some x) = IsNoText x
-
--- why a text is not read from a source
-abbrev pub TextSourceRefused : Error → Option (List ℕ) → Counts → Counts → Type 0
-TextSourceRefused e coming old new =
-    OpaqueSourceRefused variable_field e coming old new ⊎ (Says (codes "invalid utf8") e × NoTextComes coming)
+-- why a text is not read from a source of which x was seen
+abbrev pub TextSourceRefused : List ℕ → Counts → Counts → Error → Type 0
+TextSourceRefused x old new e =
+    OpaqueSourceRefused variable_field x old new e ⊎ (Says (codes "invalid utf8") e × IsNoText x)

@@ -10,7 +10,7 @@ ghost use Rattle.tls_codec_grammar.specs.Tree.{Number};
 ghost use Rattle.tls_codec_grammar.specs.Format.{number_format};
 ghost use Rattle.tls_codec_grammar.specs.Grammar.{number};
 ghost use Rattle.tls_codec_grammar.specs.Shortest.{IsShortest};
-ghost use Rattle.tls_codec_grammar.specs.Decoding.{Reads, Splits};
+ghost use Rattle.tls_codec_grammar.specs.Decoding.{Named, Reads, Splits};
 ghost use Rattle.tls_codec_grammar.specs.Encoding.{AppendsForm, Writes};
 
 use std::alloc::Global;
@@ -41,7 +41,7 @@ pub fn read_digits<R: Source, const K: usize>(bytes: &mut R) -> Result<[u8; K], 
     ensures reads { Reads (number_format K) (λ digits. Number (value digits)) R.Source bytes.old bytes.new result }
     ensures width { IfOk result (λ digits. length digits ≡ K) }
     ensures bytes { IfOk result AreBytes }
-    ensures named { IfErr result (λ e. ReadRefused e K (R.coming bytes.old) (R.counts bytes.old) (R.counts bytes.new)) }
+    ensures named { IfErr result (Named (number_format K) (ReadRefused K) R.Source bytes.old bytes.new) }
     ensures calm { IfOk result (λ _. OnlyInterrupted (R.counts bytes.old) (R.counts bytes.new)) }
 {
     let mut digits = [0u8; K];

@@ -7,6 +7,7 @@
 ghost use Rattle.std.specs.Prelude.{◌≡◌, ◌≤◌, drop, MatchOption, IfErr, IfOk};
 ghost use Rattle.tls_codec_wire.specs.Counts.{OnlyInterrupted};
 ghost use Rattle.tls_codec_wire.specs.Device.{Gave};
+ghost use Rattle.tls_codec_wire.specs.Refused.{RefusedFor};
 ghost use Rattle.tls_codec_wire.specs.Numbers.{BeginsNumber, GaveNumber, NumberNotRead};
 ghost use Rattle.tls_codec_grammar.specs.Field.{Field};
 ghost use Rattle.tls_codec_grammar.specs.Lawful.{MeetsFieldLaws};
@@ -54,7 +55,7 @@ pub trait LengthField {
     fn read_length<R: Source>(src: &mut R) -> Result<usize, Error>
         ensures gave { Gave R.given src.old src.new }
         ensures ok { IfOk result (λ n. GaveNumber R.given field.spells src.old src.new n) }
-        ensures refused { IfErr result (λ e. NumberNotRead field.refuses e (R.coming src.old) (R.counts src.old) (R.counts src.new)) }
+        ensures refused { IfErr result (RefusedFor R.Source (NumberNotRead field.refuses) src.old src.new) }
         ensures calm { IfOk result (λ _. OnlyInterrupted (R.counts src.old) (R.counts src.new)) };
 
     /// The length that the bytes begin with, and the rest of them.

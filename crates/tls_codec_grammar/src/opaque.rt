@@ -6,7 +6,7 @@ ghost use Rattle.tls_codec_wire.specs.Digits.{AreBytes};
 ghost use Rattle.tls_codec_wire.specs.declared.error.Error.TheVariants.{InvalidVectorLength, OutOfMemory};
 ghost use Rattle.tls_codec_grammar.specs.Tree.{number_trees};
 ghost use Rattle.tls_codec_grammar.specs.Format.{counted_bytes_format};
-ghost use Rattle.tls_codec_grammar.specs.Decoding.{Reads, Splits};
+ghost use Rattle.tls_codec_grammar.specs.Decoding.{Named, Reads, Splits};
 ghost use Rattle.tls_codec_grammar.specs.Encoding.{AppendsForm, Makes, Writes};
 ghost use Rattle.tls_codec_grammar.specs.Opaque.{OpaqueCopyRefused, OpaqueRefused, OpaqueSourceRefused};
 
@@ -128,7 +128,7 @@ pub fn push(content: &mut Vec<u8>, byte: u8) -> Result<(), Error>
 /// are as in `read_bytes_bounded`.
 pub fn read<F: LengthField, R: Source>(alloc: Global, src: &mut R) -> Result<Vec<u8>, Error>
     ensures reads { Reads (counted_bytes_format F.field) (λ content. number_trees content.items) R.Source src.old src.new result }
-    ensures named { IfErr result (λ e. OpaqueSourceRefused F.field e (R.coming src.old) (R.counts src.old) (R.counts src.new)) }
+    ensures named { IfErr result (Named (counted_bytes_format F.field) (OpaqueSourceRefused F.field) R.Source src.old src.new) }
 {
     let length = F::read_length(src)?;
     let content = read_bytes_bounded(alloc, src, length)?;

@@ -159,7 +159,7 @@ impl SerializeBytes for VLByteVec {
 }
 
 impl Deserialize for VLByteVec {
-    ghost names = { λ coming old new e. OpaqueSourceRefused variable_field e coming old new };
+    ghost names = { OpaqueSourceRefused variable_field };
 
     /// `EndOfStream`: there is no whole length, or fewer bytes come than it declares.
     /// `InvalidVectorLength`: the length has more bytes than it needs, or more than 30 bits.

@@ -158,7 +158,7 @@ impl SerializeBytes for VLBytes {
 }
 
 impl Deserialize for VLBytes {
-    ghost names = { λ coming old new e. OpaqueSourceRefused variable_field e coming old new };
+    ghost names = { OpaqueSourceRefused variable_field };
 
     /// `EndOfStream`: there is no whole length, or fewer bytes come than it declares.
     /// `InvalidVectorLength`: the length has more bytes than it needs, or more than 30 bits.

@@ -5,11 +5,12 @@ use Rattle.std.proofs.Math.Nat.{pow-le-pow_right}
 use Rattle.tls_codec_wire.proofs.BigEndian.{value-snoc}
 use Rattle.tls_codec_wire.proofs.Bytes.{are_bytes, AreBytes-left}
 use Rattle.tls_codec_wire.specs.Digits.{AreBytes, value}
-use Rattle.std.specs.Io.KnownBytes.{Consumes}
-use Rattle.tls_codec_wire.specs.Counts.{Counts}
-use Rattle.tls_codec_wire.specs.Numbers.{Comes, NumberNotRead}
+use Rattle.tls_codec_wire.specs.Counts.{Counts, NoneFell}
+use Rattle.tls_codec_wire.specs.Numbers.{NumberNotRead}
+use Rattle.tls_codec_wire.specs.Transfer.{ReadRefused}
 use Rattle.tls_codec_wire.specs.declared.error.Error.{Error}
-use Rattle.tls_codec_wire.specs.declared.error.Error.TheVariants.{InvalidVectorLength}
+use Rattle.tls_codec_wire.specs.declared.error.Error.TheVariants.{DecodingError, EndOfStream, InvalidVectorLength, OutOfMemory}
+use Rattle.tls_codec_wire.proofs.Later.{fault_later, rose_later}
 use Rattle.tls_codec_wire.specs.Varint.{LaidOut, SpelledBelow, least_width}
 use Rattle.tls_codec_wire.specs.VarintCalls.{IsWideOrGreat, RefusesBelow, SaysWidth}
 
@@ -106,13 +107,23 @@ digits_read buffer {digits = digits} one first others count says number_is fits 
     let byte = subst AreBytes (one_byte buffer one) first in
     record { bytes = (byte.0, others); says = says; count = count; value = number_is; fits = fits }
 
--- they were all there, and spell nothing
-pub not_admitted : (limit : ℕ) {first more least number : ℕ} {digits : List ℕ} → HasDigits first more least number digits → (e : Error) (coming behind : Option (List ℕ)) (old new : Counts) → e ≡ InvalidVectorLength
-    → Consumes coming behind (first ∷ digits) → (number < least) ⊎ (limit ≤ number) → NumberNotRead (RefusesBelow limit) e coming old new
-not_admitted limit {first} {more} {least} {number} {digits} d e coming behind old new same took cause =
-    subst (λ (u : Error). NumberNotRead (RefusesBelow limit) u coming old new) (sym same) (comes coming behind took)
-  where
-    comes : (coming behind : Option (List ℕ)) → Consumes coming behind (first ∷ digits) → Comes (IsWideOrGreat limit) coming
-    comes None behind took = (_, wide_or_great d limit [] cause)
-    comes (Some x) None took = absurd took
-    comes (Some x) (Some rest) took = subst (IsWideOrGreat limit) (sym took) (wide_or_great d limit rest cause)
+-- they are all there, and spell nothing
+pub not_admitted : (limit : ℕ) {first more least number : ℕ} {digits : List ℕ} → HasDigits first more least number digits → (e : Error) (old new : Counts) → e ≡ InvalidVectorLength → (number < least) ⊎ (limit ≤ number)
+    → (rest : List ℕ) → NumberNotRead (RefusesBelow limit) ((first ∷ digits) ++ rest) old new e
+not_admitted limit {first} {more} {least} {number} {digits} d e old new same cause rest =
+    subst (NumberNotRead (RefusesBelow limit) ((first ∷ digits) ++ rest) old new) (sym same) (wide_or_great d limit rest cause)
+
+-- no byte was read
+pub no_first_byte : (limit : ℕ) (old new : Counts) (e : Error) (x : List ℕ) → ReadRefused 1 x old new e → NumberNotRead (RefusesBelow limit) x old new e
+no_first_byte limit old new (DecodingError text) x p = p
+no_first_byte limit old new OutOfMemory x p = p
+no_first_byte limit old new EndOfStream [] p = tt
+no_first_byte limit old new EndOfStream (b ∷ bs) p = absurd (omega (arith, p))
+no_first_byte limit old new _ x p = absurd p
+
+-- fewer were read than the first one asks for
+pub too_few_digits : (limit : ℕ) {first more least : ℕ} → SaysWidth first more least → {n : ℕ} → n ≡ more → (start old new : Counts) (e : Error) → NoneFell start old → (x : List ℕ) → ReadRefused n x old new e → NumberNotRead (RefusesBelow limit) (first ∷ x) start new e
+too_few_digits limit says same start old new (DecodingError text) fell x p = (p.0, fault_later start old new fell p.1)
+too_few_digits limit says same start old new OutOfMemory fell x p = rose_later start old new fell p
+too_few_digits limit says same start old new EndOfStream fell x p = omega (arith, p, same, says.width)
+too_few_digits limit says same start old new _ fell x p = absurd p

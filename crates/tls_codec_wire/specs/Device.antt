@@ -83,9 +83,9 @@ pub record PulledOnto {S : Type 0} (given : Gives S) (old new : S) (result : Res
 abbrev pub IsBeginning : List ℕ → List ℕ → Type 0
 IsBeginning p s = (rest : List ℕ) × (s ≡ p ++ rest)
 
--- these bytes come first, where the bytes to come are told
+-- these bytes come first; there are none where the bytes to come aren't told
 abbrev pub IsAtHand : List ℕ → Option (List ℕ) → Type 0
-IsAtHand bytes None = ⊤
+IsAtHand bytes None = bytes ≡ []
 IsAtHand bytes (Some xs) = IsBeginning bytes xs
 
 -- ---- what a sink has received

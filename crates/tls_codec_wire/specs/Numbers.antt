@@ -25,16 +25,11 @@ pub record GaveNumber {S : Type 0} (given : Gives S) (spells : List ℕ → ℕ 
   pub held : given old front new
   pub spelled : spells front n
 
--- the bytes to come are such; where they aren't told, some bytes are
-abbrev pub Comes : (List ℕ → Type 0) → Option (List ℕ) → Type 0
-Comes Such None = (x : List ℕ) × Such x
-Comes Such (Some x) = Such x
-
--- why a source is refused: it failed, it had no memory, or the bytes to come are refused so
-abbrev pub NumberNotRead : (List ℕ → Error → Type 0) → Error → Option (List ℕ) → Counts → Counts → Type 0
-NumberNotRead refuses (DecodingError text) coming old new = IsReadFailure text old new
-NumberNotRead refuses OutOfMemory coming old new = RoseBy 1 old.shortages new.shortages
-NumberNotRead refuses e coming old new = Comes (λ x. refuses x e) coming
+-- why none is read from a source: it failed, it had no memory, or the bytes are refused so
+abbrev pub NumberNotRead : (List ℕ → Error → Type 0) → List ℕ → Counts → Counts → Error → Type 0
+NumberNotRead refuses x old new (DecodingError text) = IsReadFailure text old new
+NumberNotRead refuses x old new OutOfMemory = RoseBy 1 old.shortages new.shortages
+NumberNotRead refuses x old new e = refuses x e
 
 -- ---- writing
 

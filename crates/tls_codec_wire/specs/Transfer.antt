@@ -2,7 +2,7 @@
 use Rattle.std.specs.Prelude.{◌≡◌, ◌<◌, ◌≤◌, ◌^◌, ℕ, List, length, codes, Option, None, Some, ⊤}
 use Rattle.std.proofs.Common.{Bor}
 use Rattle.tls_codec_wire.specs.declared.error.Error.{Error}
-use Rattle.tls_codec_wire.specs.declared.error.Error.TheVariants.{EncodingError, InvalidVectorLength, DecodingError, EndOfStream, OutOfMemory}
+use Rattle.tls_codec_wire.specs.declared.error.Error.TheVariants.{EncodingError, InvalidVectorLength, DecodingError, EndOfStream, OutOfMemory, TrailingData}
 use Rattle.tls_codec_wire.specs.declared.device.Fault.{Fault}
 use Rattle.tls_codec_wire.specs.declared.device.Fault.TheVariants.{Interrupted, NoMemory, Failed}
 use Rattle.tls_codec_wire.specs.Counts.{Counts, RoseBy, FaultIsCounted}
@@ -22,21 +22,28 @@ ErrorOfFault Failed row failed e = e ≡ failed
 abbrev pub IsReadFailure : Bor (List ℕ) → Counts → Counts → Type 0
 IsReadFailure text old new = (text.now ≡ codes "read failed") × FaultIsCounted old new
 
--- why n bytes are not read: the source failed, they were not there, or it had no memory
-abbrev pub ReadRefused : Error → ℕ → Option (List ℕ) → Counts → Counts → Type 0
-ReadRefused (DecodingError text) n coming old new = IsReadFailure text old new
-ReadRefused EndOfStream n coming old new = IsShortOf n coming
-ReadRefused OutOfMemory n coming old new = RoseBy 1 old.shortages new.shortages
-ReadRefused _ n coming old new = ⊥
+-- why n bytes are not read: the source failed, they are not there, or it had no memory
+abbrev pub ReadRefused : ℕ → List ℕ → Counts → Counts → Error → Type 0
+ReadRefused n x old new (DecodingError text) = IsReadFailure text old new
+ReadRefused n x old new EndOfStream = length x < n
+ReadRefused n x old new OutOfMemory = RoseBy 1 old.shortages new.shortages
+ReadRefused n x old new _ = ⊥
 
--- why no vector of the next n bytes is made: there is no vector of so many, the source failed, they were not there,
+-- why a source isn't at its end: others were seen, it failed, or it had no memory
+abbrev pub EndRefused : List ℕ → Counts → Counts → Error → Type 0
+EndRefused x old new TrailingData = 0 < length x
+EndRefused x old new (DecodingError text) = IsReadFailure text old new
+EndRefused x old new OutOfMemory = RoseBy 1 old.shortages new.shortages
+EndRefused x old new _ = ⊥
+
+-- why no vector of the next n bytes is made: there is no vector of so many, the source failed, they are not there,
 -- or there was no memory
-abbrev pub BytesRefused : Error → ℕ → Option (List ℕ) → Counts → Counts → Type 0
-BytesRefused InvalidVectorLength n coming old new = 2 ^ 63 ≤ n
-BytesRefused (DecodingError text) n coming old new = IsReadFailure text old new
-BytesRefused EndOfStream n coming old new = IsShortOf n coming
-BytesRefused OutOfMemory n coming old new = ⊤
-BytesRefused _ n coming old new = ⊥
+abbrev pub BytesRefused : ℕ → List ℕ → Counts → Counts → Error → Type 0
+BytesRefused n x old new InvalidVectorLength = 2 ^ 63 ≤ n
+BytesRefused n x old new (DecodingError text) = IsReadFailure text old new
+BytesRefused n x old new EndOfStream = length x < n
+BytesRefused n x old new OutOfMemory = ⊤
+BytesRefused n x old new _ = ⊥
 
 -- why a piece is not sent whole: the sink failed, or it had no memory
 abbrev pub WriteRefused : Error → Counts → Counts → Type 0

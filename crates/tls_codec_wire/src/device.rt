@@ -53,7 +53,7 @@ pub trait Source {
         ensures counted { PullIsCounted result (counts self.old) (counts self.new) };
 
     /// The bytes that it has at hand in memory, which are to come first. There are none where it
-    /// doesn't know.
+    /// doesn't tell what is to come.
     fn at_hand(&self) -> &[u8]
         ensures { IsAtHand result.now (coming self.now) }
     {

@@ -2,6 +2,7 @@
 ghost use Rattle.std.specs.Prelude.{◌≡◌, ◌<◌, ◌≤◌, ◌^◌, length, max, IfErr, IfOk};
 ghost use Rattle.tls_codec_wire.specs.Counts.{OnlyInterrupted};
 ghost use Rattle.tls_codec_wire.specs.Device.{Gave};
+ghost use Rattle.tls_codec_wire.specs.Refused.{RefusedFor};
 ghost use Rattle.tls_codec_wire.specs.Transfer.{BytesRefused};
 ghost use Rattle.tls_codec_wire.specs.declared.error.Error.TheVariants.{InvalidVectorLength};
 
@@ -33,7 +34,7 @@ pub fn read_bytes_bounded<R: Source>(
     ensures gave { Gave R.given src.old src.new }
     ensures ok { IfOk result (λ bytes. R.given src.old bytes.items src.new) }
     ensures count { IfOk result (λ bytes. length bytes.items ≡ len) }
-    ensures refused { IfErr result (λ e. BytesRefused e len (R.coming src.old) (R.counts src.old) (R.counts src.new)) }
+    ensures refused { IfErr result (RefusedFor R.Source (BytesRefused len) src.old src.new) }
     ensures too_long { 2 ^ 63 ≤ len → (result ≡ Err InvalidVectorLength) × (src.new ≡ src.old) }
     ensures calm { IfOk result (λ _. OnlyInterrupted (R.counts src.old) (R.counts src.new)) }
     ensures nothing_asked { len ≡ 0 → IfErr result (λ e. ⊥) × (src.new ≡ src.old) }

@@ -2,10 +2,9 @@
 //! are compared, ordered, hashed and copied.
 //!
 //! The functions do nothing. Their contracts state this, and so are proved.
-ghost use Rattle.std.specs.Prelude.{◌≡◌, ◌≢◌, ◌↔◌, ◌-◌, ◌^◌, ◌<◌, ◌≤◌, ◌++◌, ℕ, IsTrue, List, Some, Vec};
+ghost use Rattle.std.specs.Prelude.{◌≡◌, ◌≢◌, ◌↔◌, ◌-◌, ◌^◌, ◌<◌, ◌≤◌, ◌++◌, ℕ, IsTrue, List, Some, Vec, length, None};
 ghost use Rattle.std.specs.Borrow.{Bor};
 ghost use Rattle.std.specs.Global.{Global};
-ghost use Rattle.std.specs.Io.KnownBytes.{Consumes};
 ghost use Rattle.std.specs.IoError.{error_kind};
 ghost use Rattle.std.specs.Ordering.{nat_cmp};
 ghost use Rattle.std.specs.Hash as fed;
@@ -15,10 +14,11 @@ ghost use Rattle.std.specs.declared.io.Error as io;
 ghost use Rattle.std.specs.declared.io.ErrorKind.TheVariants.{UnexpectedEof};
 ghost use Rattle.std.specs.declared.num.TryFromIntError.{TryFromIntError};
 ghost use Rattle.tls_codec_wire.specs.Bounded.{first_bytes, inner_of, GaveWithin};
-ghost use Rattle.tls_codec_wire.specs.Counts.{no_counts, only_shortages, NoneFell};
+ghost use Rattle.tls_codec_wire.specs.Counts.{no_counts, only_shortages};
 ghost use Rattle.tls_codec_wire.specs.Foreign.{IsIoError};
 ghost use Rattle.tls_codec_wire.specs.Names.{AreSame};
-ghost use Rattle.tls_codec_wire.specs.Outside.{counts_of, wrapped};
+ghost use Rattle.tls_codec_wire.specs.Outside.{GaveOutside, counts_of, wrapped};
+ghost use Rattle.tls_codec_wire.specs.Refused.{Seen};
 ghost use Rattle.tls_codec_wire.specs.Uint24 as uint24;
 ghost use Rattle.tls_codec_wire.specs.VarintValue as varint;
 ghost use Rattle.tls_codec_wire.specs.declared.bounded.Bounded.{Bounded};
@@ -45,14 +45,23 @@ use std::num::TryFromIntError;
 
 // ---- what devices tell
 
-/// A wrapped reader tells the bytes that the reader tells, and has given what the reader lost. Its
-/// counts are its own.
+/// A wrapped reader tells the bytes that the reader tells. It has given what the reader lost, and so many
+/// bytes more than before. Its counts are its own.
 pub fn readers_outside_tell_what_is_to_come<R: Read>()
     ensures coming { (s : Outside R) → ⟦<Outside<R> as Source>⟧.coming s ≡ R.remaining (wrapped s) }
     ensures counts { (s : Outside R) → ⟦<Outside<R> as Source>⟧.counts s ≡ counts_of s }
     ensures given { (a b : Outside R) (g : List ℕ) → ⟦<Outside<R> as Source>⟧.given a g b ↔
-        (Consumes (R.remaining (wrapped a)) (R.remaining (wrapped b)) g
-        × NoneFell (counts_of a) (counts_of b)) }
+        GaveOutside R.remaining a g b }
+{}
+
+/// What a call has seen of a source is what was to come, where that is told, and what was given by a
+/// source that never tells any. It is never less than what was given.
+pub fn what_was_seen_was_told_or_given<R: Source>()
+    ensures told { (old new : R) (x y : List ℕ) → Seen R.Source old new x → R.coming old ≡ Some y → x ≡ y }
+    ensures untold { (old new : R) (x : List ℕ) → Seen R.Source old new x
+        → ((s : R) → R.coming s ≡ None) → R.given old x new }
+    ensures more { (old new : R) (x : List ℕ) → Seen R.Source old new x
+        → (g : List ℕ) × R.given old g new × (length g ≤ length x) }
 {}
 
 /// A wrapped writer tells the bytes that the writer tells. Its counts are its own.

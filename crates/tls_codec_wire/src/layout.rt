@@ -7,6 +7,7 @@ ghost use Rattle.std.specs.Prelude.{◌≡◌, ◌+◌, ◌*◌, ◌/◌, ◌^�
 ghost use Rattle.tls_codec_wire.specs.Counts.{NoneFell, OnlyInterrupted};
 ghost use Rattle.tls_codec_wire.specs.Device.{Gave};
 ghost use Rattle.tls_codec_wire.specs.Digits.{value};
+ghost use Rattle.tls_codec_wire.specs.Refused.{RefusedFor};
 ghost use Rattle.tls_codec_wire.specs.Numbers.{BeganNumber, BeginsNumber, GaveNumber, NumberNotRead, NumberNotSent, SentNumber};
 ghost use Rattle.tls_codec_wire.specs.Varint.{SpelledBelow, width_below};
 ghost use Rattle.tls_codec_wire.specs.VarintCalls.{IsLaidOut, RefusesBelow, SaysWidth};
@@ -20,11 +21,12 @@ use crate::transfer::{read_exactly, write_all};
 
 /// Reads a number. All bytes that the first one asks for are read before anything is refused but their
 /// end.
+#[inline(always)]
 pub(crate) fn read_below<R: Source, const LIMIT: u64>(src: &mut R) -> Result<u64, Error>
     requires { 2 ^ 30 ≤ LIMIT }
     ensures gave { Gave R.given src.old src.new }
     ensures ok { IfOk result (λ n. GaveNumber R.given (SpelledBelow LIMIT) src.old src.new n) }
-    ensures refused { IfErr result (λ e. NumberNotRead (RefusesBelow LIMIT) e (R.coming src.old) (R.counts src.old) (R.counts src.new)) }
+    ensures refused { IfErr result (RefusedFor R.Source (NumberNotRead (RefusesBelow LIMIT)) src.old src.new) }
     ensures calm { IfOk result (λ _. OnlyInterrupted (R.counts src.old) (R.counts src.new)) }
 {
     let mut first = [0u8; 1];
@@ -41,7 +43,23 @@ pub(crate) fn read_below<R: Source, const LIMIT: u64>(src: &mut R) -> Result<u64
 }
 
 /// The number that the bytes begin with, and the rest of them.
+#[inline(always)]
 pub(crate) fn split_below<const LIMIT: u64>(bytes: &[u8]) -> Result<(u64, &[u8]), Error>
+    requires { 2 ^ 30 ≤ LIMIT }
+    ensures ok { IfOk result (λ found. BeginsNumber (SpelledBelow LIMIT) bytes.now found.0 found.1.now) }
+    ensures err { IfErr result (RefusesBelow LIMIT bytes.now) }
+{
+    if let Some((first, rest)) = bytes.split_first() {
+        if *first < 0x40 {
+            return Ok((u64::from(*first), rest));
+        }
+    }
+    split_wider::<LIMIT>(bytes)
+}
+
+// The same, whatever the width: out of the way of the loops that read numbers of one byte.
+#[inline(never)]
+fn split_wider<const LIMIT: u64>(bytes: &[u8]) -> Result<(u64, &[u8]), Error>
     requires { 2 ^ 30 ≤ LIMIT }
     ensures ok { IfOk result (λ found. BeginsNumber (SpelledBelow LIMIT) bytes.now found.0 found.1.now) }
     ensures err { IfErr result (RefusesBelow LIMIT bytes.now) }
@@ -49,9 +67,6 @@ pub(crate) fn split_below<const LIMIT: u64>(bytes: &[u8]) -> Result<(u64, &[u8])
     let Some((first, rest)) = bytes.split_first() else {
         return Err(Error::EndOfStream);
     };
-    if *first < 0x40 {
-        return Ok((u64::from(*first), rest));
-    }
     let (more, least) = said_by(*first);
     if rest.len() < more {
         return Err(Error::EndOfStream);
@@ -75,7 +90,6 @@ fn said_by(first: u8) -> (usize, u64)
 }
 
 // The number of which `top` is the first digit and the others follow. One or three are read by no loop.
-#[inline(always)]
 fn number_from(top: u8, digits: &[u8]) -> u64
     requires top { top < 64 }
     requires digits { length digits.now < 8 }

@@ -10,7 +10,7 @@
 //! - [`memory`]: a slice as a source, a vector as a sink.
 //! - [`outside`]: [`Outside`], any `Read` or `Write` as a device.
 //! - [`bounded`]: [`Bounded`], the first bytes of another source.
-//! - [`transfer`]: [`read_exactly`] and [`write_all`]. [`gather`]: [`read_bytes_bounded`].
+//! - [`transfer`]: [`read_exactly`] and [`write_all`], and [`expect_end`]. [`gather`]: [`read_bytes_bounded`].
 //! - [`uint24`]: [`U24`], a number of 24 bits.
 //! - [`varint`]: [`TlsVarInt`], the number of a variable-length integer.
 //! - [`quic`]: variable-length integers, read and written. [`vlen`]: lengths as such integers. Both
@@ -39,6 +39,6 @@ pub use device::{Fault, Fill, Sink, Source};
 pub use error::Error;
 pub use gather::read_bytes_bounded;
 pub use outside::Outside;
-pub use transfer::{MOST_INTERRUPTIONS, read_exactly, write_all};
+pub use transfer::{MOST_INTERRUPTIONS, expect_end, read_exactly, write_all};
 pub use uint24::U24;
 pub use varint::TlsVarInt;

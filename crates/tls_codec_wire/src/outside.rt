@@ -1,10 +1,9 @@
 //! Any reader or writer of std as a device.
-ghost use Rattle.std.specs.Prelude.{◌≡◌};
-ghost use Rattle.std.proofs.KnownBytes.{Consumes-nil, Consumes-trans};
-ghost use Rattle.std.specs.Io.KnownBytes.{Consumes};
-ghost use Rattle.tls_codec_wire.specs.Counts.{no_counts, NoneFell, stay, fall_never};
-ghost use Rattle.tls_codec_wire.specs.Device.{FaultRaises};
-ghost use Rattle.tls_codec_wire.specs.Outside.{wrapped, counts_of, fault_of};
+ghost use Rattle.std.specs.Prelude.{◌≡◌, ◌≤◌, length, IfOk};
+ghost use Rattle.std.specs.Io.KnownBytes.{Appends};
+ghost use Rattle.tls_codec_wire.specs.Counts.{no_counts};
+ghost use Rattle.tls_codec_wire.specs.Device.{FaultRaises, GiveIsCounted, bytes_moved, count_moved};
+ghost use Rattle.tls_codec_wire.specs.Outside.{GaveOutside, MovedBy, counts_of, fault_of, gives_in_order_outside, gives_nothing_outside, moved_of, wrapped};
 
 use crate::device::{Fault, Sink, Source};
 use std::io::{ErrorKind, Read, Write};
@@ -13,10 +12,11 @@ use std::io::{ErrorKind, Read, Write};
 ///
 /// One `pull` or `give` is one `read` or `write`. An error of kind `Interrupted` is the fault
 /// `Interrupted`, one of kind `OutOfMemory` is `NoMemory`, every other is `Failed`. It tells its
-/// bytes where the wrapped one does.
+/// bytes where the wrapped one does, and counts them in any case.
 #[derive(Drop)]
 pub struct Outside<X> {
     inner: X,
+    moved: u64,
     failures: u64,
     interruptions: u64,
     shortages: u64,
@@ -27,9 +27,11 @@ impl<X> Outside<X> {
     pub fn new(inner: X) -> Outside<X>
         ensures wrapped { wrapped result ≡ inner }
         ensures counts { counts_of result ≡ no_counts }
+        ensures moved { moved_of result ≡ 0 }
     {
         Outside {
             inner,
+            moved: 0,
             failures: 0,
             interruptions: 0,
             shortages: 0,
@@ -41,6 +43,13 @@ impl<X> Outside<X> {
         ensures { result ≡ wrapped self }
     {
         self.inner
+    }
+
+    /// How many bytes it gave as a source, or took as a sink. It stays at `u64::MAX`.
+    pub fn moved(&self) -> u64
+        ensures { result ≡ moved_of self.now }
+    {
+        self.moved
     }
 
     /// How many calls failed: by an error of no kind that the other two count, or as a write that took no
@@ -69,6 +78,7 @@ impl<X> Outside<X> {
     fn count(&mut self, kind: ErrorKind) -> Fault
         ensures fault { result ≡ fault_of kind }
         ensures wrapped { self.new.inner ≡ self.old.inner }
+        ensures moved { moved_of self.new ≡ moved_of self.old }
         ensures counted { FaultRaises result (counts_of self.old) (counts_of self.new) }
     {
         match kind {
@@ -93,26 +103,25 @@ impl<R: Read> Source for Outside<R> {
 
     ghost counts = { counts_of };
 
-    ghost given = { λ a g b. Consumes (R.remaining a.inner) (R.remaining b.inner) g
-        × NoneFell (counts_of a) (counts_of b) };
+    ghost given = { GaveOutside R.remaining };
 
     fn pull(&mut self, into: &mut [u8]) -> Result<usize, Fault> {
         match self.inner.read(into) {
-            Ok(n) => Ok(n),
+            Ok(n) => {
+                self.moved = self.moved.saturating_add(n as u64);
+                Ok(n)
+            }
             Err(e) => Err(self.count(e.kind())),
         }
     }
 
-    ghost gives_nothing = { λ s. (Consumes-nil _, stay (counts_of s)) };
+    ghost gives_nothing = { gives_nothing_outside R.remaining };
 
-    ghost gives_in_order = { λ a xs b ys c p q. (
-      Consumes-trans _ _ _ _ _ p.0 q.0,
-      fall_never p.1 q.1,
-    ) };
+    ghost gives_in_order = { gives_in_order_outside R.remaining };
 
-    ghost gives_from_front = { λ a xs b p. p.0 };
+    ghost gives_from_front = { λ a xs b p. p.consumed };
 
-    ghost no_count_falls = { λ a xs b p. p.1 };
+    ghost no_count_falls = { λ a xs b p. p.fell };
 }
 
 impl<W: Write> Sink for Outside<W> {
@@ -120,9 +129,15 @@ impl<W: Write> Sink for Outside<W> {
 
     ghost counts = { counts_of };
 
-    fn give(&mut self, bytes: &[u8]) -> Result<usize, Fault> {
+    fn give(&mut self, bytes: &[u8]) -> Result<usize, Fault>
+        ensures bound { IfOk result (λ n. n ≤ length bytes.now) }
+        ensures took { Appends (W.contents self.old.inner) (W.contents self.new.inner) (bytes_moved result bytes.now) }
+        ensures counted { GiveIsCounted result (length bytes.now) (counts_of self.old) (counts_of self.new) }
+        ensures moved { MovedBy (count_moved result) self.old self.new }
+    {
         match self.inner.write(bytes) {
             Ok(n) => {
+                self.moved = self.moved.saturating_add(n as u64);
                 if n == 0 && !bytes.is_empty() {
                     self.failures = self.failures.saturating_add(1);
                 }

@@ -4,6 +4,7 @@
 ghost use Rattle.std.specs.Prelude.{◌≡◌, ◌^◌, IfErr, IfOk};
 ghost use Rattle.tls_codec_wire.specs.Counts.{NoneFell, OnlyInterrupted};
 ghost use Rattle.tls_codec_wire.specs.Device.{Gave};
+ghost use Rattle.tls_codec_wire.specs.Refused.{RefusedFor};
 ghost use Rattle.tls_codec_wire.specs.Numbers.{BeganNumber, BeginsNumber, GaveNumber, NumberNotRead, SentNumber};
 ghost use Rattle.tls_codec_wire.specs.Transfer.{WriteRefused};
 ghost use Rattle.tls_codec_wire.specs.Varint.{Varint, width_below};
@@ -31,7 +32,7 @@ const LIMIT: u64 = 0x4000_0000_0000_0000;
 pub fn read_varint<R: Source>(src: &mut R) -> Result<TlsVarInt, Error>
     ensures gave { Gave R.given src.old src.new }
     ensures ok { IfOk result (λ n. GaveNumber R.given Varint src.old src.new (number_of n)) }
-    ensures refused { IfErr result (λ e. NumberNotRead (RefusesBelow (2 ^ 62)) e (R.coming src.old) (R.counts src.old) (R.counts src.new)) }
+    ensures refused { IfErr result (RefusedFor R.Source (NumberNotRead (RefusesBelow (2 ^ 62))) src.old src.new) }
     ensures calm { IfOk result (λ _. OnlyInterrupted (R.counts src.old) (R.counts src.new)) }
 {
     let number = read_below::<R, LIMIT>(src)?;

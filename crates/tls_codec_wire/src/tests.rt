@@ -8,7 +8,7 @@ mod numbers;
 use crate::device::{Fault, Sink, Source};
 use crate::error::Error;
 use crate::outside::Outside;
-use crate::transfer::{read_exactly, write_all};
+use crate::transfer::{expect_end, read_exactly, write_all};
 use devices::{ENDED, Fives, Keeper, Plan};
 use std::alloc::AllocError;
 use std::test::Fail;
@@ -84,6 +84,33 @@ fn a_read_ends_as_its_source_does(rt: HostRuntime) {
             assert_eq!(rt; into, [5]);
         }
     }
+}
+
+// Each of these rows has a plan, what is returned of its end, and how many calls that took.
+#[test]
+fn a_source_is_at_its_end_or_not(rt: HostRuntime) {
+    let trailing = Err(Error::TrailingData);
+    for (bytes, interruptions, after, end, calls) in [
+        (0, 0, None, Ok(()), 1),
+        (2, 0, None, trailing, 1),
+        (2, 16, None, trailing, 17),
+        (2, 17, None, Err(READ_FAILED), 17),
+        (0, 0, FAILED, Err(READ_FAILED), 1),
+        (0, 0, NO_MEMORY, Err(Error::OutOfMemory), 1),
+    ] {
+        let mut src = Fives::new(Plan {
+            first: None,
+            bytes,
+            interruptions,
+            after,
+        });
+        assert_eq!(rt; expect_end(&mut src), end, "{bytes} bytes");
+        assert_eq!(rt; src.progress.calls, calls, "{bytes} bytes");
+    }
+    let mut src = [7].as_slice();
+    assert_eq!(rt; expect_end(&mut src), trailing);
+    assert!(rt; src.is_empty());
+    assert_eq!(rt; expect_end(&mut src), Ok(()));
 }
 
 #[test]

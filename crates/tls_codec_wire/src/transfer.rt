@@ -1,10 +1,12 @@
 //! Moving a piece whole.
-ghost use Rattle.std.specs.Prelude.{◌≡◌, ◌+◌, ◌<◌, length, IfErr, IfOk, OnOk};
+ghost use Rattle.std.specs.Prelude.{◌≡◌, ◌+◌, ◌<◌, [], length, IfErr, IfOk, OnOk};
 ghost use Rattle.std.specs.Io.KnownBytes.{Appends};
 ghost use Rattle.tls_codec_wire.specs.Counts.{NoneFell, OnlyInterrupted};
 ghost use Rattle.tls_codec_wire.specs.Device.{Gave, Received};
 ghost use Rattle.tls_codec_wire.specs.Digits.{AreBytes};
-ghost use Rattle.tls_codec_wire.specs.Transfer.{ErrorOfFault, ReadRefused, WriteRefused};
+ghost use Rattle.tls_codec_wire.specs.Refused.{RefusedFor, Seen};
+ghost use Rattle.tls_codec_wire.specs.Transfer.{EndRefused, ErrorOfFault, ReadRefused, WriteRefused};
+ghost use Rattle.tls_codec_wire.specs.declared.error.Error.TheVariants.{EndOfStream};
 ghost use Rattle.tls_codec_wire.specs.declared.device.Fault.TheVariants.{Interrupted};
 
 use crate::device::{Fault, Fill, Sink, Source};
@@ -34,9 +36,9 @@ pub fn read_exactly<R: Source>(src: &mut R, into: &mut [u8]) -> Result<(), Error
     ensures gave { Gave R.given src.old src.new }
     ensures filled { OnOk result (R.given src.old into.new src.new) }
     ensures bytes { OnOk result (AreBytes into.new) }
-    ensures refused { IfErr result (λ e. ReadRefused e (length into.old) (R.coming src.old)
-        (R.counts src.old) (R.counts src.new)) }
+    ensures refused { IfErr result (RefusedFor R.Source (ReadRefused (length into.old)) src.old src.new) }
     ensures calm { OnOk result (OnlyInterrupted (R.counts src.old) (R.counts src.new)) }
+    ensures ended { result ≡ Err EndOfStream → OnlyInterrupted (R.counts src.old) (R.counts src.new) }
     ensures nothing_asked { length into.old ≡ 0 → (result ≡ Ok tt) × (src.new ≡ src.old) }
 {
     if into.is_empty() {
@@ -54,9 +56,9 @@ fn read_as_it_comes<R: Source>(src: &mut R, into: &mut [u8]) -> Result<(), Error
     ensures gave { Gave R.given src.old src.new }
     ensures filled { OnOk result (R.given src.old into.new src.new) }
     ensures bytes { OnOk result (AreBytes into.new) }
-    ensures refused { IfErr result (λ e. ReadRefused e (length into.old) (R.coming src.old)
-        (R.counts src.old) (R.counts src.new)) }
+    ensures refused { IfErr result (RefusedFor R.Source (ReadRefused (length into.old)) src.old src.new) }
     ensures calm { OnOk result (OnlyInterrupted (R.counts src.old) (R.counts src.new)) }
+    ensures ended { result ≡ Err EndOfStream → OnlyInterrupted (R.counts src.old) (R.counts src.new) }
     ensures nothing_asked { length into.old ≡ 0 → (result ≡ Ok tt) × (src.new ≡ src.old) }
 {
     let mut at = 0;
@@ -72,6 +74,30 @@ fn read_as_it_comes<R: Source>(src: &mut R, into: &mut [u8]) -> Result<(), Error
         }
     }
     Ok(())
+}
+
+/// Returns `Ok` where no byte is to come.
+///
+/// `TrailingData`: a byte came, and it was taken. `DecodingError("read failed")` and `OutOfMemory` are as in
+/// [`read_exactly`].
+///
+/// ```rust
+/// let mut src = [1u8].as_slice();
+/// assert_eq!(rt; expect_end(&mut src), Err(Error::TrailingData));
+/// assert_eq!(rt; expect_end(&mut src), Ok(()));
+/// ```
+pub fn expect_end<R: Source>(src: &mut R) -> Result<(), Error>
+    ensures ok { OnOk result (Seen R.Source src.old src.new []) }
+    ensures gave { OnOk result (R.given src.old [] src.new) }
+    ensures calm { OnOk result (OnlyInterrupted (R.counts src.old) (R.counts src.new)) }
+    ensures refused { IfErr result (RefusedFor R.Source EndRefused src.old src.new) }
+{
+    let mut byte = [0u8; 1];
+    match read_exactly(src, &mut byte) {
+        Ok(()) => Err(Error::TrailingData),
+        Err(Error::EndOfStream) => Ok(()),
+        Err(error) => Err(error),
+    }
 }
 
 /// Sends all of a piece.

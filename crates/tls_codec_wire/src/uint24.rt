@@ -21,6 +21,14 @@ impl U24 {
     /// The greatest number, 16,777,215.
     pub const MAX: U24 = U24 { number: 0xff_ffff };
 
+    /// The number.
+    pub fn value(&self) -> u32
+        ensures number { result ≡ number_of self.now }
+        ensures within { result < 2 ^ 24 }
+    {
+        self.number
+    }
+
     /// The number that the bytes stand for, the most significant first.
     pub fn from_be_bytes(bytes: [u8; 3]) -> U24
         ensures { number_of result ≡ value bytes }

@@ -5,6 +5,7 @@
 ghost use Rattle.std.specs.Prelude.{◌≡◌, ◌^◌, ◌-◌, ◌<◌, ◌≤◌, ◌+◌, ◌++◌, length, vec_len, take, drop, is_ok, if◌then◌else◌, IfErr, IfOk, MatchOption, OnErr};
 ghost use Rattle.tls_codec_wire.specs.Counts.{NoneFell, OnlyInterrupted};
 ghost use Rattle.tls_codec_wire.specs.Device.{Gave};
+ghost use Rattle.tls_codec_wire.specs.Refused.{RefusedFor};
 ghost use Rattle.tls_codec_wire.specs.Numbers.{BeganNumber, BeginsNumber, GaveNumber, NumberNotRead, NumberNotSent, SentNumber};
 ghost use Rattle.tls_codec_wire.specs.Varint.{VectorLength, width_below};
 ghost use Rattle.tls_codec_wire.specs.VarintCalls.{InsertedLength, InsertRefused, RefusesBelow};
@@ -29,11 +30,12 @@ const LIMIT: u64 = 0x4000_0000;
 /// let mut src = [0x40u8, 0x25].as_slice();
 /// assert_eq!(rt; read_length(&mut src), Err(Error::InvalidVectorLength));
 /// ```
+#[inline(always)]
 pub fn read_length<R: Source>(src: &mut R) -> Result<(usize, usize), Error>
     ensures gave { Gave R.given src.old src.new }
     ensures ok { IfOk result (λ found. GaveNumber R.given VectorLength src.old src.new found.0) }
     ensures width { IfOk result (λ found. found.1 ≡ width_below (2 ^ 30) found.0) }
-    ensures refused { IfErr result (λ e. NumberNotRead (RefusesBelow (2 ^ 30)) e (R.coming src.old) (R.counts src.old) (R.counts src.new)) }
+    ensures refused { IfErr result (RefusedFor R.Source (NumberNotRead (RefusesBelow (2 ^ 30))) src.old src.new) }
     ensures calm { IfOk result (λ _. OnlyInterrupted (R.counts src.old) (R.counts src.new)) }
 {
     let length = read_below::<R, LIMIT>(src)?;
@@ -44,6 +46,7 @@ pub fn read_length<R: Source>(src: &mut R) -> Result<(usize, usize), Error>
 ///
 /// `EndOfStream`: there are fewer bytes than the first one asks for, or none. `InvalidVectorLength`:
 /// these are more than the length needs, or it is above the greatest.
+#[inline(always)]
 pub fn split_length(bytes: &[u8]) -> Result<(usize, &[u8]), Error>
     ensures ok { IfOk result (λ found. BeginsNumber VectorLength bytes.now found.0 found.1.now) }
     ensures err { IfErr result (RefusesBelow (2 ^ 30) bytes.now) }

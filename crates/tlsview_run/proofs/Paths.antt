@@ -1,5 +1,5 @@
 -- What the two paths return for the same bytes.
-use Rattle.std.proofs.Common.{◌≡◌, ◌≢◌, ℕ, List, [], ◌++◌, Bool, Some, inl, inr, refl, sym, ap, ◌∙◌, codes, arith}
+use Rattle.std.proofs.Common.{◌≡◌, ◌≢◌, ℕ, List, [], ◌++◌, Bool, inl, inr, refl, sym, ap, ◌∙◌, codes, arith}
 use Rattle.std.proofs.lemmas.List.{append_cancel_left}
 use Rattle.tls_codec.specs.OwnMessages.{Tree}
 use Rattle.tls_codec.specs.Calls.{Error}
@@ -22,7 +22,7 @@ slice_has_no_memory {spells} {lean} {x} {r} {v} {e} p q =
     elim p.cause [ inl none ↦ absurd (none v r q) | inr memory ↦ memory ]
 
 pub reader_has_no_memory : {spells : Grammar} {lean : Bool} {x r : List ℕ} {v : Tree} {e : Error}
-    → RefusesSource spells lean (Some x) no_counts no_counts e → Begins spells x v r → e ≡ OutOfMemory
+    → RefusesSource spells lean x no_counts no_counts e → Begins spells x v r → e ≡ OutOfMemory
 reader_has_no_memory {spells} {lean} {x} {r} {v} {e} p q =
     elim p.cause [ inl none ↦ absurd (none v r q) | inr (inl fault) ↦ absurd (no_fault fault) | inr (inr memory) ↦ memory ]
 

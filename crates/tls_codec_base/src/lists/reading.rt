@@ -1,11 +1,12 @@
 //! Elements that fill a declared number of bytes, from a slice and from a source.
 ghost use Rattle.std.specs.Prelude.{◌≡◌, [], IfErr, IfOk, IsOkAnd};
 ghost use Rattle.tls_codec_wire.specs.Bounded.{BorrowAlike, inner_of, limit_of};
+ghost use Rattle.tls_codec_wire.specs.Refused.{RefusedFor};
 ghost use Rattle.tls_codec_grammar.specs.Tree.{trees};
 ghost use Rattle.tls_codec_grammar.specs.Format.{content_format, sized_format};
-ghost use Rattle.tls_codec_grammar.specs.Decoding.{Reads, Splits};
-ghost use Rattle.tls_codec_base.specs.Refusals.{elements_names, elements_source_names};
-ghost use Rattle.tls_codec_base.specs.Turns.{SourceTurnedRefused, TurnedEach, TurnedRefused, TurnedWithin, TurnedWithinGiven};
+ghost use Rattle.tls_codec_grammar.specs.Decoding.{Named, Reads, Splits};
+ghost use Rattle.tls_codec_base.specs.Refusals.{NamedWithin, elements_names, elements_source_names};
+ghost use Rattle.tls_codec_base.specs.Turns.{TurnedEach, TurnedRefused, TurnedWithin, TurnedWithinGiven, source_turns};
 
 use crate::lists::Turns;
 use crate::traits::{Deserialize, DeserializeBytes};
@@ -77,9 +78,9 @@ pub fn from_reader<T: Deserialize, R: Source>(
     turns: &mut Turns,
 ) -> Result<Vec<T>, Error>
     ensures reads { Reads (sized_format length (content_format T.format)) (λ elements. trees T.plain elements.items) R.Source src.old src.new result }
-    ensures named { IfErr result (elements_source_names T.format T.names length (R.coming src.old) (R.counts src.old) (R.counts src.new)) }
+    ensures named { IfErr result (Named (sized_format length (content_format T.format)) (elements_source_names T.format T.names length) R.Source src.old src.new) }
     ensures turned { IfOk result (λ elements. TurnedEach elements.items turns.old turns.new) }
-    ensures refused { IfErr result (SourceTurnedRefused T.format.spells length (R.coming src.old) (R.counts src.old) (R.counts src.new) turns.old turns.new) }
+    ensures refused { IfErr result (RefusedFor R.Source (source_turns T.format.spells length turns.old turns.new) src.old src.new) }
     ensures bounded { TurnedWithinGiven R.given length src.old src.new turns.old turns.new }
     ensures nothing_asked { length ≡ 0 → IsOkAnd result (λ elements. elements.items ≡ []) × (src.new ≡ src.old) × (turns.new ≡ turns.old) }
 {
@@ -96,11 +97,10 @@ fn elements_within<T: Deserialize, R: Source>(
     ensures same { BorrowAlike within.old within.new }
     ensures reads { Reads (sized_format (limit_of within.old) (content_format T.format)) (λ elements. trees T.plain elements.items) R.Source
         (inner_of within.old) (inner_of within.new) result }
-    ensures named { IfErr result (elements_source_names T.format T.names (limit_of within.old)
-        (R.coming (inner_of within.old)) (R.counts (inner_of within.old)) (R.counts (inner_of within.new))) }
+    ensures named { IfErr result (NamedWithin T.format T.names R.Source within.old within.new) }
     ensures turned { IfOk result (λ elements. TurnedEach elements.items turns.old turns.new) }
-    ensures refused { IfErr result (SourceTurnedRefused T.format.spells (limit_of within.old) (R.coming (inner_of within.old))
-        (R.counts (inner_of within.old)) (R.counts (inner_of within.new)) turns.old turns.new) }
+    ensures refused { IfErr result (RefusedFor R.Source (source_turns T.format.spells (limit_of within.old) turns.old turns.new)
+        (inner_of within.old) (inner_of within.new)) }
     ensures bounded { TurnedWithinGiven R.given (limit_of within.old) (inner_of within.old) (inner_of within.new) turns.old turns.new }
     ensures nothing_asked { limit_of within.old ≡ 0 → IsOkAnd result (λ elements. elements.items ≡ []) × (inner_of within.new ≡ inner_of within.old) × (turns.new ≡ turns.old) }
 {
@@ -121,11 +121,10 @@ fn each_within<T: Deserialize, R: Source>(
     ensures same { BorrowAlike within.old within.new }
     ensures reads { Reads (sized_format (limit_of within.old) (content_format T.format)) (λ elements. trees T.plain elements.items) R.Source
         (inner_of within.old) (inner_of within.new) result }
-    ensures named { IfErr result (elements_source_names T.format T.names (limit_of within.old)
-        (R.coming (inner_of within.old)) (R.counts (inner_of within.old)) (R.counts (inner_of within.new))) }
+    ensures named { IfErr result (NamedWithin T.format T.names R.Source within.old within.new) }
     ensures turned { IfOk result (λ elements. TurnedEach elements.items turns.old turns.new) }
-    ensures refused { IfErr result (SourceTurnedRefused T.format.spells (limit_of within.old) (R.coming (inner_of within.old))
-        (R.counts (inner_of within.old)) (R.counts (inner_of within.new)) turns.old turns.new) }
+    ensures refused { IfErr result (RefusedFor R.Source (source_turns T.format.spells (limit_of within.old) turns.old turns.new)
+        (inner_of within.old) (inner_of within.new)) }
     ensures bounded { TurnedWithinGiven R.given (limit_of within.old) (inner_of within.old) (inner_of within.new) turns.old turns.new }
     ensures nothing_asked { limit_of within.old ≡ 0 → IsOkAnd result (λ elements. elements.items ≡ []) × (inner_of within.new ≡ inner_of within.old) × (turns.new ≡ turns.old) }
 {

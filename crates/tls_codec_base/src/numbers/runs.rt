@@ -1,16 +1,17 @@
 //! Numbers of one width in a row, read at once.
 ghost use Rattle.std.specs.Prelude.{◌≡◌, ◌<◌, ◌≤◌, ◌%◌, List, length, vec_capacity, vec_len, IfErr, IfOk, ⊤};
 ghost use Rattle.std.specs.Iterator.{DrainsIf, IsFinite};
-ghost use Rattle.tls_codec_wire.specs.Bounded.{BorrowAlike, inner_of, limit_of};
+ghost use Rattle.tls_codec_wire.specs.Bounded.{BorrowAlike, inner_of};
 ghost use Rattle.tls_codec_wire.specs.Digits.{value};
+ghost use Rattle.tls_codec_wire.specs.Transfer.{ReadRefused};
 ghost use Rattle.tls_codec_wire.specs.declared.error.Error.TheVariants.{OutOfMemory};
 ghost use Rattle.tls_codec_grammar.specs.Tree.{Number, trees};
 ghost use Rattle.tls_codec_grammar.specs.Grammar.{Reading, content, number};
 ghost use Rattle.tls_codec_grammar.specs.Format.{number_format};
 ghost use Rattle.tls_codec_grammar.specs.Decoding.{AllGiven, AllRead};
-ghost use Rattle.tls_codec_base.specs.Refusals.{elements_source_names};
-ghost use Rattle.tls_codec_base.specs.Turns.{RefusedAtOnce, TurnedAll};
-ghost use Rattle.tls_codec_base.specs.Runs.{ReadsRun, number_source_names};
+ghost use Rattle.tls_codec_base.specs.Refusals.{NamedWithin};
+ghost use Rattle.tls_codec_base.specs.Turns.{MemoryOrFault, TurnedAll};
+ghost use Rattle.tls_codec_base.specs.Runs.{ReadsRun};
 
 use super::groups::HasDigits;
 use crate::lists::Turns;
@@ -102,10 +103,9 @@ pub(crate) fn read_elements<T: HasDigits<K>, R: Source, const K: usize>(
     requires width { K ≤ 8 }
     ensures same { BorrowAlike within.old within.new }
     ensures reads { AllGiven (number_format K) (λ x. Number (T.number x)) R.Source within.old within.new result }
-    ensures named { IfErr result (elements_source_names (number_format K) (number_source_names K) (limit_of within.old)
-        (R.coming (inner_of within.old)) (R.counts (inner_of within.old)) (R.counts (inner_of within.new))) }
+    ensures named { IfErr result (NamedWithin (number_format K) (ReadRefused K) R.Source within.old within.new) }
     ensures turned { TurnedAll turns.old turns.new result }
-    ensures at_once { IfErr result (RefusedAtOnce (R.coming (inner_of within.old)) (R.counts (inner_of within.old)) (R.counts (inner_of within.new))) }
+    ensures at_once { IfErr result (MemoryOrFault (R.counts (inner_of within.old)) (R.counts (inner_of within.new))) }
 {
     let Some(digits) = read_run::<R, K>(alloc, within)? else {
         return Ok(None);

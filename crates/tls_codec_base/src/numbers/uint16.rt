@@ -70,7 +70,7 @@ impl SerializeBytes for u16 {
 }
 
 impl Deserialize for u16 {
-    ghost names = { λ coming old new e. ReadRefused e 2 coming old new };
+    ghost names = { ReadRefused 2 };
 
     /// `EndOfStream`: fewer than two bytes come.
     #[inline(always)]

@@ -71,7 +71,7 @@ impl SerializeBytes for U24 {
 }
 
 impl Deserialize for U24 {
-    ghost names = { λ coming old new e. ReadRefused e 3 coming old new };
+    ghost names = { ReadRefused 3 };
 
     /// `EndOfStream`: fewer than three bytes come.
     #[inline(always)]

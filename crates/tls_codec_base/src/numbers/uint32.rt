@@ -70,7 +70,7 @@ impl SerializeBytes for u32 {
 }
 
 impl Deserialize for u32 {
-    ghost names = { λ coming old new e. ReadRefused e 4 coming old new };
+    ghost names = { ReadRefused 4 };
 
     /// `EndOfStream`: fewer than four bytes come.
     #[inline(always)]

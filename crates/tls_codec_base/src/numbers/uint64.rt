@@ -70,7 +70,7 @@ impl SerializeBytes for u64 {
 }
 
 impl Deserialize for u64 {
-    ghost names = { λ coming old new e. ReadRefused e 8 coming old new };
+    ghost names = { ReadRefused 8 };
 
     /// `EndOfStream`: fewer than eight bytes come.
     #[inline(always)]

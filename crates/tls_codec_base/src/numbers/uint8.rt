@@ -58,7 +58,7 @@ impl SerializeBytes for u8 {
 }
 
 impl Deserialize for u8 {
-    ghost names = { λ coming old new e. ReadRefused e 1 coming old new };
+    ghost names = { ReadRefused 1 };
 
     /// `EndOfStream`: the byte isn't there.
     #[inline(always)]

@@ -37,7 +37,7 @@ impl<T> SerializeBytes for PhantomData<T> {
 }
 
 impl<T> Deserialize for PhantomData<T> {
-    ghost names = { λ coming old new e. ⊥ };
+    ghost names = { λ x old new e. ⊥ };
 
     /// Takes nothing and is never refused.
     fn tls_deserialize<R: Source>(_alloc: Global, _bytes: &mut R) -> Result<PhantomData<T>, Error> {

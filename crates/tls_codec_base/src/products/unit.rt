@@ -30,7 +30,7 @@ impl Serialize for () {
 }
 
 impl Deserialize for () {
-    ghost names = { λ coming old new e. ⊥ };
+    ghost names = { λ x old new e. ⊥ };
 
     /// Takes nothing and is never refused.
     fn tls_deserialize<R: Source>(_alloc: Global, _bytes: &mut R) -> Result<(), Error> {

@@ -4,6 +4,7 @@ ghost use Rattle.std.proofs.Common.{arith};
 ghost use Rattle.tls_codec_wire.specs.Counts.{OnlyInterrupted};
 ghost use Rattle.tls_codec_wire.specs.Device.{Gave};
 ghost use Rattle.tls_codec_wire.specs.Digits.{AreBytes, Digits, value};
+ghost use Rattle.tls_codec_wire.specs.Refused.{RefusedFor};
 ghost use Rattle.tls_codec_wire.specs.Numbers.{BeginsNumber, GaveNumber, NumberNotRead};
 ghost use Rattle.tls_codec_grammar.specs.Field.{RefusesDigits, fixed_field};
 ghost use Rattle.tls_codec_grammar.specs.laws.FormatLaws.{fixed_field_meets};
@@ -158,7 +159,7 @@ fn read_field<R: Source, const K: usize>(src: &mut R) -> Result<[u8; K], Error>
     ensures ok { IfOk result (λ digits. GaveNumber R.given (Digits K) src.old src.new (value digits)) }
     ensures width { IfOk result (λ digits. length digits ≡ K) }
     ensures bytes { IfOk result AreBytes }
-    ensures refused { IfErr result (λ e. NumberNotRead (RefusesDigits K) e (R.coming src.old) (R.counts src.old) (R.counts src.new)) }
+    ensures refused { IfErr result (RefusedFor R.Source (NumberNotRead (RefusesDigits K)) src.old src.new) }
     ensures calm { IfOk result (λ _. OnlyInterrupted (R.counts src.old) (R.counts src.new)) }
 {
     match read_digits(src) {

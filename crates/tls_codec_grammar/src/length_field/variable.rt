@@ -20,11 +20,13 @@ impl LengthField for TlsVarInt {
         vlen::length_form(length)
     }
 
+    #[inline(always)]
     fn read_length<R: Source>(src: &mut R) -> Result<usize, Error> {
         let (length, _) = vlen::read_length(src)?;
         Ok(length)
     }
 
+    #[inline(always)]
     fn split_length(bytes: &[u8]) -> Result<(usize, &[u8]), Error> {
         vlen::split_length(bytes)
     }

@@ -99,5 +99,6 @@ fn a_reader_outside_is_read_once_a_pull(rt: HostRuntime) {
     assert_eq!(rt; into, [5, 0]);
     let counts = (src.interruptions(), src.shortages(), src.failures());
     assert_eq!(rt; counts, (1, 1, 1));
+    assert_eq!(rt; src.moved(), 1);
     assert_eq!(rt; src.into_inner().reads, 4);
 }

@@ -12,10 +12,13 @@ fn a_number_of_24_bits_has_three_bytes(rt: HostRuntime) -> Result<(), Fail> {
     assert_eq!(rt; n.to_be_bytes(), [0x01, 0x00, 0x49]);
     assert_eq!(rt; U24::from_be_bytes([0x01, 0x00, 0x49]), n);
     assert_eq!(rt; usize::from(n), 65_609);
+    assert_eq!(rt; n.value(), 65_609);
     assert_eq!(rt; U24::try_from(16_777_216), Err(Error::LibraryError));
     assert_eq!(rt; U24::try_from(16_777_215), Ok(U24::MAX));
     assert_eq!(rt; usize::from(U24::MAX), 16_777_215);
+    assert_eq!(rt; U24::MAX.value(), 16_777_215);
     assert_eq!(rt; usize::from(U24::MIN), 0);
+    assert_eq!(rt; U24::MIN.value(), 0);
     assert_eq!(rt; U24::default(), U24::MIN);
     Ok(())
 }

@@ -1,10 +1,10 @@
-use Rattle.tls_codec_base.proofs.Trailing.{text_never, text_source_never, varint_source_never}
+use Rattle.tls_codec_base.proofs.Trailing.{text_never, text_source_never}
 use Rattle.tls_codec_base.proofs.refusals.single_values_are_never_trailing.Goals as goal
 
 pub returns : goal.returns
 returns g c = record {
   numbers = (λ x p. let h = p.0 in cc, λ x p. let h = p.0 in cc, λ x p. let h = p.0 in cc, λ x p. let h = p.0 in cc, λ x p. let h = p.0 in cc, λ x p. p);
-  numbers_read = (λ coming old new p. p, λ coming old new p. p, λ coming old new p. p, λ coming old new p. p, λ coming old new p. p, λ coming old new p. varint_source_never coming p);
+  numbers_read = (λ x old new p. p, λ x old new p. p, λ x old new p. p, λ x old new p. p, λ x old new p. p, λ x old new p. p);
   others = (λ x p. let h = p.0 in cc, text_never, λ x p. p);
-  others_read = (λ coming old new p. p, text_source_never, λ coming old new p. p);
+  others_read = (λ x old new p. p, text_source_never, λ x old new p. p);
 }

@@ -1,8 +1,9 @@
-use Rattle.std.proofs.Common.{rules, arith, ◌≡◌, List, ℕ, ◌∷◌, ◌++◌, get_or, length, length-take, subst}
-use Rattle.std.specs.Io.KnownBytes.{Consumes}
+use Rattle.std.proofs.Common.{rules, arith, ◌≡◌, List, ℕ, [], ◌∷◌, ◌++◌, get_or, length, length-take, length-take-le, subst}
 use Rattle.std.proofs.lemmas.Result.{err_from_is_err_and}
 use Rattle.tls_codec_wire.proofs.Given.{gave_then}
-use Rattle.tls_codec_wire.proofs.VarintReads.{digits_read, not_admitted, one_byte, spells_below}
+use Rattle.tls_codec_wire.proofs.Refused.{refused_later, refused_now, refused_so}
+use Rattle.tls_codec_wire.proofs.VarintReads.{digits_read, no_first_byte, not_admitted, one_byte, spells_below, too_few_digits}
+use Rattle.tls_codec_wire.specs.Counts.{calm_falls_never}
 use Rattle.tls_codec_wire.proofs.layout.read_below.Goals as goal
 
 pub returns-in_err-read_exactly-2-clause-gave : goal.returns-in_err-read_exactly-2-clause-gave
@@ -25,9 +26,10 @@ returns-in_err-number-clause-refused g c =
     let one : length first ≡ 1 = search rules in
     let width : length digits ≡ c.said_by-more.result.0 = omega (arith, simp length-take at c.read_exactly-2.auto.into) in
     let d = digits_read first one c.in_ok-read_exactly.ensures.bytes c.in_ok-read_exactly-2.ensures.bytes width c.said_by-more.ensures c.number_from.ensures.value c.number_from.ensures.fits in
-    let held = g.met.R.Source.gives_in_order _ _ _ _ _ c.in_ok-read_exactly.ensures.filled c.in_ok-read_exactly-2.ensures.filled in
-    let took = subst (λ (u : List ℕ). Consumes (g.R.Source.coming c.args.src.now) (g.R.Source.coming c.read_exactly-2.new.src) (u ++ digits)) (one_byte first one) (g.met.R.Source.gives_from_front _ _ _ held) in
-    rw (p.1, p.2) (not_admitted _ d _ _ _ _ _ c.in_err-number.ensures.0 took c.in_err-number.ensures.1)
+    let source = g.met.R.Source in
+    let held = source.gives_in_order _ _ _ _ _ c.in_ok-read_exactly.ensures.filled c.in_ok-read_exactly-2.ensures.filled in
+    let both = subst (λ (u : List ℕ). g.R.Source.given c.args.src.now (u ++ digits) c.read_exactly-2.new.src) (one_byte first one) held in
+    rw (p.1, p.2) (refused_now (get_or first 0 0 ∷ digits) source.gives_nothing both (not_admitted _ d _ _ _ c.in_err-number.ensures.0 c.in_err-number.ensures.1))
 
 pub returns-clause-ok : goal.returns-clause-ok
 returns-clause-ok g c =
@@ -42,3 +44,18 @@ returns-clause-ok g c =
       held = subst (λ (u : List ℕ). g.R.Source.given c.args.src.now (u ++ digits) c.read_exactly-2.new.src) (one_byte first one) held;
       spelled = spells_below d _ c.in_ok-number.ensures.0 c.in_ok-number.ensures.1 c.in_ok-number.ensures.2;
     }
+
+pub returns-in_err-read_exactly-clause-refused : goal.returns-in_err-read_exactly-clause-refused
+returns-in_err-read_exactly-clause-refused g c =
+    let p = err_from_is_err_and c.from_residual.result c.from_residual.ensures.1 in
+    rw (p.1, p.2) (refused_so (no_first_byte _ _ _ _) c.in_err-read_exactly.ensures.refused)
+
+pub returns-in_err-read_exactly-2-clause-refused : goal.returns-in_err-read_exactly-2-clause-refused
+returns-in_err-read_exactly-2-clause-refused g c =
+    let source = g.met.R.Source in
+    let p = err_from_is_err_and c.from_residual-in_err-read_exactly-2.result c.from_residual-in_err-read_exactly-2.ensures.1 in
+    let first = c.read_exactly.new.into in
+    let one : length first ≡ 1 = search rules in
+    let fell = calm_falls_never c.in_ok-read_exactly.ensures.calm in
+    let held = subst (λ (u : List ℕ). g.R.Source.given c.args.src.now u c.read_exactly.new.src) (one_byte first one) c.in_ok-read_exactly.ensures.filled in
+    rw (p.1, p.2) (refused_later (get_or first 0 0 ∷ []) source.gives_in_order held (too_few_digits _ c.said_by-more.ensures (length-take-le c.said_by-more.result.0 (0 ∷ 0 ∷ 0 ∷ 0 ∷ 0 ∷ 0 ∷ 0 ∷ []) (omega (arith, c.said_by-more.ensures.few))) _ _ _ _ fell) c.in_err-read_exactly-2.ensures.refused)

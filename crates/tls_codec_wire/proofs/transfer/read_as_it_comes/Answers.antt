@@ -1,7 +1,9 @@
-use Rattle.std.proofs.Common.{rules, arith, refl, subst, ℕ, List}
+use Rattle.std.proofs.Common.{rules, arith, ap, length-take-le, take, refl, subst, ℕ, List, Ok}
 use Rattle.tls_codec_wire.proofs.Bytes.{are_bytes}
 use Rattle.tls_codec_wire.proofs.Filling.{take-put_mid_more, take-put_mid_same}
+use Rattle.std.proofs.lemmas.Result.{err_from_is_err_and}
 use Rattle.tls_codec_wire.proofs.Given.{gave_both}
+use Rattle.tls_codec_wire.proofs.Refused.{ended, fault_refuses, refused_now}
 use Rattle.tls_codec_wire.specs.Counts.{calm_stays}
 use Rattle.tls_codec_wire.proofs.transfer.read_as_it_comes.Goals as goal
 
@@ -48,3 +50,18 @@ loop-at-init g c = record {
   bytes = are_bytes _ (λ i. omega (arith, c.type_inv.into i));
   untouched = λ none. refl;
 }
+
+pub returns-in-Ok-eq0-clause-refused : goal.returns-in-Ok-eq0-clause-refused
+returns-in-Ok-eq0-clause-refused g c =
+    let source = g.met.R.Source in
+    let none = c.in-Ok-eq0.field-0-test in
+    ended (take c.loop-at.at c.loop-at.into) _ source.gives_nothing source.gives_in_order c.loop-at.invariant.gave (subst (λ (k : ℕ). g.R.Source.given c.loop-at.src (take k c.pull.new.into) c.pull.new.self) none c.in-Ok-eq0.ensures.gave)
+    (c.in-Ok-eq0.ensures.end (ap Ok none) (search rules)) (omega (arith, length-take-le c.loop-at.at c.loop-at.into c.loop-at.invariant.within, c.loop-at-test.true))
+
+pub returns-in_err-row-in-Err-clause-refused : goal.returns-in_err-row-in-Err-clause-refused
+returns-in_err-row-in-Err-clause-refused g c =
+    let source = g.met.R.Source in
+    let before = c.loop-at.invariant in
+    let p = err_from_is_err_and c.from_residual.result c.from_residual.ensures.1 in
+    rw (p.1, p.2) (refused_now _ source.gives_nothing (source.gives_in_order _ _ _ _ _ before.gave c.pull.ensures.gave)
+    (λ rest. fault_refuses _ _ _ _ _ c.in-Err.fault _ _ _ refl before.counted before.calm c.in-Err.ensures.counted c.in_err-row-in-Err.ensures.err))

@@ -1,3 +1,5 @@
+use Rattle.std.proofs.Common.{refl}
+use Rattle.tls_codec.proofs.Refused.{told_cause}
 use Rattle.tlsview_run.proofs.Paths.{slice_has_no_memory, reader_has_no_memory, accepts, refuses}
 use Rattle.tlsview_run.proofs.view.view_of.Goals as goal
 
@@ -28,4 +30,4 @@ pub no_memory-requires : goal.no_memory-requires
 no_memory-requires g c =
     let begins = rw c.in-Ok-Err.is-0 at c.tls_deserialize_bytes-by_slice.ensures.splits in
     let refused = rw c.in-Ok-Err.is-1 at c.tls_deserialize-by_reader.ensures.reads in
-    reader_has_no_memory refused.refused begins
+    reader_has_no_memory (told_cause (λ a xs b q. q) refl refused.refused) begins

@@ -1,7 +1,6 @@
-use Rattle.std.proofs.Common.{inr}
 use Rattle.std.proofs.lemmas.Result.{err_from_is_err_and}
 use Rattle.tls_codec_grammar.specs.Format.{fields_format, nothing_format}
-use Rattle.tls_codec_base.proofs.FieldsDecoding.{fields_given, fields_leaves_first, fields_leaves_others, nothing_given, others_named_source}
+use Rattle.tls_codec_base.proofs.FieldsDecoding.{fields_given, fields_leaves_first, fields_leaves_others, fields_named_first, fields_named_others, last_named, nothing_given}
 use Rattle.tls_codec_base.proofs.products.pair.Tuple2Deserialize.tls_deserialize.Goals as goal
 
 pub returns-in_err-first-clause-reads : goal.returns-in_err-first-clause-reads
@@ -13,13 +12,18 @@ pub returns-in_err-second-clause-reads : goal.returns-in_err-second-clause-reads
 returns-in_err-second-clause-reads g c =
     let source = g.met.R.Source in
     let p = err_from_is_err_and c.from_residual-in_err-second.result c.from_residual-in_err-second.ensures.1 in
-    rw (p.1, p.2) (fields_leaves_others (fields_format g.U.Size.format nothing_format) source.gives_in_order source.gives_from_front source.no_count_falls g.met.T.Size.lawful c.in_ok-first.ensures.reads (fields_leaves_first nothing_format c.in_err-second.ensures.reads))
+    rw (p.1, p.2) (fields_leaves_others (fields_format g.U.Size.format nothing_format) source.gives_in_order source.no_count_falls g.met.T.Size.lawful c.in_ok-first.ensures.reads (fields_leaves_first nothing_format c.in_err-second.ensures.reads))
+
+pub returns-in_err-first-clause-named : goal.returns-in_err-first-clause-named
+returns-in_err-first-clause-named g c =
+    let p = err_from_is_err_and c.from_residual.result c.from_residual.ensures.1 in
+    rw (p.1, p.2) (fields_named_first (fields_format g.U.Size.format nothing_format) g.T.Deserialize.names g.U.Deserialize.names c.in_err-first.ensures.named)
 
 pub returns-in_err-second-clause-named : goal.returns-in_err-second-clause-named
 returns-in_err-second-clause-named g c =
     let source = g.met.R.Source in
     let p = err_from_is_err_and c.from_residual-in_err-second.result c.from_residual-in_err-second.ensures.1 in
-    rw (p.1, p.2) (inr (others_named_source _ _ _ source.gives_from_front source.no_count_falls c.in_ok-first.ensures.reads c.in_err-second.ensures.named))
+    rw (p.1, p.2) (fields_named_others (fields_format g.U.Size.format nothing_format) g.T.Deserialize.names g.U.Deserialize.names source.gives_in_order source.no_count_falls g.met.T.Size.lawful c.in_ok-first.ensures.reads (last_named g.U.Deserialize.names c.in_err-second.ensures.named))
 
 pub returns-clause-reads : goal.returns-clause-reads
 returns-clause-reads g c =

@@ -1,7 +1,7 @@
-use Rattle.std.proofs.Common.{inl, inr}
 use Rattle.std.proofs.lemmas.Result.{err_from_is_err_and}
 use Rattle.tls_codec_grammar.specs.Format.{fields_format, nothing_format}
-use Rattle.tls_codec_base.proofs.FieldsDecoding.{fields_given, fields_leaves_first, fields_leaves_others, nothing_given, others_named_source}
+use Rattle.tls_codec_base.proofs.FieldsDecoding.{fields_given, fields_leaves_first, fields_leaves_others, fields_named_first, fields_named_others, last_named, nothing_given}
+use Rattle.tls_codec_base.specs.Refusals.{fields_source_names}
 use Rattle.tls_codec_base.proofs.products.triple.Tuple3Deserialize.tls_deserialize.Goals as goal
 
 pub returns-in_err-first-clause-reads : goal.returns-in_err-first-clause-reads
@@ -13,25 +13,33 @@ pub returns-in_err-second-clause-reads : goal.returns-in_err-second-clause-reads
 returns-in_err-second-clause-reads g c =
     let source = g.met.R.Source in
     let p = err_from_is_err_and c.from_residual-in_err-second.result c.from_residual-in_err-second.ensures.1 in
-    rw (p.1, p.2) (fields_leaves_others (fields_format g.U.Size.format (fields_format g.V.Size.format nothing_format)) source.gives_in_order source.gives_from_front source.no_count_falls g.met.T.Size.lawful c.in_ok-first.ensures.reads (fields_leaves_first (fields_format g.V.Size.format nothing_format) c.in_err-second.ensures.reads))
+    rw (p.1, p.2) (fields_leaves_others (fields_format g.U.Size.format (fields_format g.V.Size.format nothing_format)) source.gives_in_order source.no_count_falls g.met.T.Size.lawful c.in_ok-first.ensures.reads (fields_leaves_first (fields_format g.V.Size.format nothing_format) c.in_err-second.ensures.reads))
 
 pub returns-in_err-third-clause-reads : goal.returns-in_err-third-clause-reads
 returns-in_err-third-clause-reads g c =
     let source = g.met.R.Source in
     let p = err_from_is_err_and c.from_residual-in_err-third.result c.from_residual-in_err-third.ensures.1 in
-    rw (p.1, p.2) (fields_leaves_others (fields_format g.U.Size.format (fields_format g.V.Size.format nothing_format)) source.gives_in_order source.gives_from_front source.no_count_falls g.met.T.Size.lawful c.in_ok-first.ensures.reads (fields_leaves_others (fields_format g.V.Size.format nothing_format) source.gives_in_order source.gives_from_front source.no_count_falls g.met.U.Size.lawful c.in_ok-second.ensures.reads (fields_leaves_first nothing_format c.in_err-third.ensures.reads)))
+    rw (p.1, p.2) (fields_leaves_others (fields_format g.U.Size.format (fields_format g.V.Size.format nothing_format)) source.gives_in_order source.no_count_falls g.met.T.Size.lawful c.in_ok-first.ensures.reads (fields_leaves_others (fields_format g.V.Size.format nothing_format) source.gives_in_order source.no_count_falls g.met.U.Size.lawful c.in_ok-second.ensures.reads (fields_leaves_first nothing_format c.in_err-third.ensures.reads)))
+
+pub returns-in_err-first-clause-named : goal.returns-in_err-first-clause-named
+returns-in_err-first-clause-named g c =
+    let p = err_from_is_err_and c.from_residual.result c.from_residual.ensures.1 in
+    rw (p.1, p.2) (fields_named_first (fields_format g.U.Size.format (fields_format g.V.Size.format nothing_format)) g.T.Deserialize.names (fields_source_names g.U.Size.format g.U.Deserialize.names g.V.Deserialize.names) c.in_err-first.ensures.named)
 
 pub returns-in_err-second-clause-named : goal.returns-in_err-second-clause-named
 returns-in_err-second-clause-named g c =
     let source = g.met.R.Source in
     let p = err_from_is_err_and c.from_residual-in_err-second.result c.from_residual-in_err-second.ensures.1 in
-    rw (p.1, p.2) (inr (others_named_source _ _ _ source.gives_from_front source.no_count_falls c.in_ok-first.ensures.reads (inl (c.in_err-second.ensures.reads.refused, c.in_err-second.ensures.named))))
+    let last = fields_format g.V.Size.format nothing_format in
+    rw (p.1, p.2) (fields_named_others (fields_format g.U.Size.format last) g.T.Deserialize.names (fields_source_names g.U.Size.format g.U.Deserialize.names g.V.Deserialize.names) source.gives_in_order source.no_count_falls g.met.T.Size.lawful c.in_ok-first.ensures.reads (fields_named_first last g.U.Deserialize.names g.V.Deserialize.names c.in_err-second.ensures.named))
 
 pub returns-in_err-third-clause-named : goal.returns-in_err-third-clause-named
 returns-in_err-third-clause-named g c =
     let source = g.met.R.Source in
     let p = err_from_is_err_and c.from_residual-in_err-third.result c.from_residual-in_err-third.ensures.1 in
-    rw (p.1, p.2) (inr (others_named_source _ _ _ source.gives_from_front source.no_count_falls c.in_ok-first.ensures.reads (inr (others_named_source _ _ _ source.gives_from_front source.no_count_falls c.in_ok-second.ensures.reads c.in_err-third.ensures.named))))
+    let last = fields_format g.V.Size.format nothing_format in
+    let third = fields_named_others last g.U.Deserialize.names g.V.Deserialize.names source.gives_in_order source.no_count_falls g.met.U.Size.lawful c.in_ok-second.ensures.reads (last_named g.V.Deserialize.names c.in_err-third.ensures.named) in
+    rw (p.1, p.2) (fields_named_others (fields_format g.U.Size.format last) g.T.Deserialize.names (fields_source_names g.U.Size.format g.U.Deserialize.names g.V.Deserialize.names) source.gives_in_order source.no_count_falls g.met.T.Size.lawful c.in_ok-first.ensures.reads third)
 
 pub returns-clause-reads : goal.returns-clause-reads
 returns-clause-reads g c =

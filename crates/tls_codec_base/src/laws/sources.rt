@@ -1,0 +1,33 @@
+//! What a refusal says of the bytes of a source, whether it tells those to come or not.
+ghost use Rattle.std.specs.Prelude.{◌≡◌, ℕ, List, None, Some};
+ghost use Rattle.tls_codec_wire.specs.declared.error.Error.{Error};
+ghost use Rattle.tls_codec_grammar.specs.Decoding.{LeavesSource, Named, RefusesSource};
+ghost use Rattle.tls_codec_grammar.specs.Tree.{Tree};
+ghost use Rattle.tls_codec_grammar.specs.Grammar.{Reading};
+ghost use Rattle.tls_codec_base.specs.Refusals.{SawSpelling};
+
+use crate::traits::Deserialize;
+use tls_codec_wire::Source;
+
+/// A source that tells the bytes to come is refused for those. One that never tells any, as a file or a
+/// socket, is refused for those that it gave: no prefix of them is a spelling, a fault was counted, or
+/// there was no memory.
+///
+/// What is read to the end of a source is all that was to come, or all that was given.
+pub fn sources_are_refused_for_what_they_show<T: Deserialize, R: Source>()
+    ensures told { (x : List ℕ) (old new : R) (e : Error) → R.coming old ≡ Some x
+        → LeavesSource T.format R.Source old new e
+        → RefusesSource T.format.spells T.format.lean x (R.counts old) (R.counts new) e }
+    ensures told_names { (x : List ℕ) (old new : R) (e : Error) → R.coming old ≡ Some x
+        → Named T.format T.names R.Source old new e
+        → T.names x (R.counts old) (R.counts new) e }
+    ensures untold { (old new : R) (e : Error) → ((s : R) → R.coming s ≡ None)
+        → LeavesSource T.format R.Source old new e
+        → (x : List ℕ) × R.given old x new
+        × RefusesSource T.format.spells T.format.lean x (R.counts old) (R.counts new) e }
+    ensures untold_names { (old new : R) (e : Error) → ((s : R) → R.coming s ≡ None)
+        → Named T.format T.names R.Source old new e
+        → (x : List ℕ) × R.given old x new × T.names x (R.counts old) (R.counts new) e }
+    ensures whole { (x : List ℕ) (old new : R) (v : Tree) → R.coming old ≡ Some x
+        → SawSpelling R.Source T.format.spells old new v → T.format.spells Reading x v }
+{}
