@@ -1,4 +1,5 @@
 //! What each call makes of a value or of bytes.
+use super::outside::{is_read_outside, is_refused_outside};
 use std::alloc::{AllocError, Global};
 use std::hash::{DefaultHasher, Hash, Hasher};
 use std::process::Abort;
@@ -123,7 +124,7 @@ pub(super) fn is_read_at_once<T: Deserialize + DeserializeBytes + PartialEq>(
     Ok(())
 }
 
-// The same, also where a source gives one byte a pull.
+// The same, also where a source gives one byte a pull, or tells nothing.
 pub(super) fn is_read<T: Deserialize + DeserializeBytes + PartialEq>(
     rt: &impl Abort,
     alloc: Global,
@@ -135,7 +136,8 @@ pub(super) fn is_read<T: Deserialize + DeserializeBytes + PartialEq>(
     let mut drip = Drip::new(bytes);
     let found = T::tls_deserialize(alloc, &mut drip)?;
     assert!(rt; found == *value);
-    is_left(rt, alloc, &mut drip, rest)
+    is_left(rt, alloc, &mut drip, rest)?;
+    is_read_outside(rt, alloc, bytes, value, rest)
 }
 
 // Each decoder reads the value from these bytes, and leaves none. The exact forms refuse a byte behind them.
@@ -207,4 +209,5 @@ pub(super) fn is_refused_by_each<T: Deserialize + DeserializeBytes>(
     assert_eq!(rt; refused, Some(by_reader));
     let refused = T::tls_deserialize(alloc, &mut Drip::new(bytes)).err();
     assert_eq!(rt; refused, Some(by_reader));
+    is_refused_outside::<T>(rt, alloc, bytes, by_reader);
 }

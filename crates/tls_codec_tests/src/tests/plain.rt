@@ -1,9 +1,9 @@
 //! Numbers, references, arrays, options, products, boxes and the exact forms.
 use super::OTHER_TAG;
-use super::each_call::{is_refused, is_spelled, is_spelled_alone, is_written_alone};
+use super::each_call::{is_refused, is_spelled, is_spelled_alone, is_written, is_written_alone};
 use std::marker::PhantomData;
 use std::test::Fail;
-use tls_codec::{Deserialize, DeserializeBytes, Error, Serialize, U24};
+use tls_codec::{Deserialize, DeserializeBytes, Error, Lent2, Lent9, Serialize, U24};
 
 #[test]
 fn numbers(rt: HostRuntime) -> Result<(), Fail> {
@@ -98,6 +98,34 @@ fn products(rt: HostRuntime) -> Result<(), Fail> {
     let _ = PhantomData::<u8>::tls_deserialize(alloc, &mut source)?;
     assert_eq!(rt; source, [0x07].as_slice());
     Ok(())
+}
+
+#[test]
+fn values_lent_in_a_row(rt: HostRuntime) -> Result<(), Fail> {
+    let alloc = rt.alloc();
+    let pair = Lent2(&0x05u8, &Some(0x0102u16));
+    is_written(&rt, alloc, &pair, &[0x05, 0x01, 0x01, 0x02])?;
+    let bytes = [1, 2, 3, 4, 5, 6, 7, 8, 9, 10, 1, 11, 12, 13, 14, 15, 16];
+    let three = U24::try_from(0x04_0506)?;
+    let (four, payload, last) = (0x0708_090au32, Some(11u8), (14u8, 15u8));
+    let nine = Lent9(
+        &1u8,
+        &0x0203u16,
+        &three,
+        &four,
+        &payload,
+        &[12u8, 13],
+        &last,
+        &(),
+        &16u8,
+    );
+    is_written(&rt, alloc, &nine, &bytes)?;
+    let read = (
+        (1u8, 0x0203u16, three),
+        (four, payload, [12u8, 13]),
+        (last, (), 16u8),
+    );
+    is_spelled(&rt, alloc, &read, &bytes)
 }
 
 #[test]

@@ -1,5 +1,6 @@
 //! What parts refuse, handed on by what they are parts of, and what the list engines count then.
 use super::each_call::is_refused;
+use super::outside::{PIECES, in_pieces};
 use super::{NO_BYTES, NOT_FILLED, OTHER_TAG};
 use std::alloc::Global;
 use std::process::Abort;
@@ -36,6 +37,13 @@ pub(super) fn is_refused_after<T: Deserialize + DeserializeBytes>(
     let refused = lists::from_reader::<T, &[u8]>(alloc, &mut source, length, &mut turns);
     assert_eq!(rt; refused.err(), Some(by_reader));
     assert_eq!(rt; turns.count(), count);
+    for most in PIECES {
+        let mut source = in_pieces(bytes, most);
+        let mut turns = Turns::new();
+        let refused = lists::from_reader::<T, _>(alloc, &mut source, length, &mut turns);
+        assert_eq!(rt; refused.err(), Some(by_reader), "pieces of {most}");
+        assert_eq!(rt; turns.count(), count, "pieces of {most}");
+    }
 }
 
 #[test]

@@ -1,0 +1,90 @@
+//! A source that tells nothing is refused as a slice of the bytes that it gave: no prefix of them is a spelling.
+ghost use Rattle.std.specs.Prelude.{◌≡◌, ◌++◌, ℕ, List, None, false, true, IfErr, refl};
+ghost use Rattle.std.proofs.Common.{rules};
+ghost use Rattle.std.proofs.lemmas.Grind.{common_steps};
+ghost use Rattle.tls_codec.specs.Devices.{no_counts, stay};
+ghost use Rattle.tls_codec.specs.Spellings.{Refuses, bytes, list, number, pair};
+
+use std::alloc::Global;
+use tls_codec::{Deserialize, Error, Fault, Source, VLBytes};
+
+// Gives its bytes, tells none of those to come, and never fails.
+#[derive(Drop)]
+struct Quiet<'a> {
+    left: &'a [u8],
+}
+
+impl Source for Quiet<'_> {
+    ghost coming = { λ _. None };
+
+    ghost counts = { λ _. no_counts };
+
+    ghost given = { λ a g b. a.left.now ≡ g ++ b.left.now };
+
+    fn pull(&mut self, into: &mut [u8]) -> Result<usize, Fault> {
+        self.left.pull(into)
+    }
+
+    ghost gives_nothing = { λ s. refl };
+
+    ghost gives_in_order = { λ a xs b ys c p q. Prim.search (rules, common_steps) };
+
+    ghost gives_from_front = { λ a xs b p. tt };
+
+    ghost no_count_falls = { λ a xs b p. stay no_counts };
+}
+
+// What it gave is refused: no prefix of that is a spelling, or there was no memory, for which a lean type never asks.
+fn value<T: Deserialize>(alloc: Global, src: &mut Quiet<'_>) -> Result<T, Error>
+    ensures { IfErr result (λ e. (x : List ℕ) × (src.old.left.now ≡ x ++ src.new.left.now) × Refuses T.format.spells T.format.lean x e) }
+{
+    T::tls_deserialize(alloc, src)
+}
+
+fn short(alloc: Global, src: &mut Quiet<'_>) -> Result<u16, Error>
+    ensures { IfErr result (λ e. (x : List ℕ) × (src.old.left.now ≡ x ++ src.new.left.now) × Refuses (number 2) true x e) }
+{
+    value(alloc, src)
+}
+
+fn two(alloc: Global, src: &mut Quiet<'_>) -> Result<(u8, u16), Error>
+    ensures { IfErr result (λ e. (x : List ℕ) × (src.old.left.now ≡ x ++ src.new.left.now) × Refuses (pair (number 1) (number 2)) true x e) }
+{
+    value(alloc, src)
+}
+
+fn shorts(alloc: Global, src: &mut Quiet<'_>) -> Result<Vec<u16>, Error>
+    ensures { IfErr result (λ e. (x : List ℕ) × (src.old.left.now ≡ x ++ src.new.left.now) × Refuses (list (number 2)) false x e) }
+{
+    value(alloc, src)
+}
+
+fn content(alloc: Global, src: &mut Quiet<'_>) -> Result<VLBytes, Error>
+    ensures { IfErr result (λ e. (x : List ℕ) × (src.old.left.now ≡ x ++ src.new.left.now) × Refuses bytes false x e) }
+{
+    value(alloc, src)
+}
+
+// Just the bytes that were asked for are taken.
+#[test]
+fn quiet_sources_are_refused(rt: HostRuntime) {
+    let alloc = rt.alloc();
+    let ends = Some(Error::EndOfStream);
+    let mut source = Quiet { left: &[1] };
+    assert_eq!(rt; short(alloc, &mut source).err(), ends);
+    assert!(rt; source.left.is_empty());
+    let mut source = Quiet { left: &[1, 2] };
+    assert_eq!(rt; two(alloc, &mut source).err(), ends);
+    assert!(rt; source.left.is_empty());
+    let mut source = Quiet {
+        left: &[3, 0, 1, 0, 2],
+    };
+    assert_eq!(rt; shorts(alloc, &mut source).err(), ends);
+    assert_eq!(rt; source.left, [0, 2].as_slice());
+    let mut source = Quiet { left: &[2, 1] };
+    assert_eq!(rt; content(alloc, &mut source).err(), ends);
+    assert!(rt; source.left.is_empty());
+    let mut source = Quiet { left: &[0, 7, 8] };
+    assert_eq!(rt; short(alloc, &mut source), Ok(7));
+    assert_eq!(rt; source.left, [8].as_slice());
+}
