@@ -4,17 +4,20 @@ ghost use Rattle.tls_codec_bench.specs.Figures.{IsOfCopy};
 ghost use Rattle.tls_codec_timing.specs.declared.cases.Case.TheVariants.{Copy1048576, Copy4096, Copy64};
 
 use std::alloc::Global;
-use std::cell::Cell;
+use std::cell::RefCell;
 use std::rt::Clock;
 use tls_codec_base::{Deserialize, DeserializeBytes, Serialize};
 use tls_codec_bytes::TlsByteVecU32;
-use tls_codec_timing::calls::{copy, copy_into, decode_reader, decode_slice, encode, encode_into};
+use tls_codec_timing::calls::{
+    copy, copy_into, decode_outside, decode_reader, decode_slice, encode, encode_into,
+};
 use tls_codec_timing::cases::Case;
 use tls_codec_timing::fault::BenchFault;
 use tls_codec_timing::noise::Noise;
 use tls_codec_timing::timing::time;
 use tls_codec_timing::values::FromNoise;
 use tls_codec_vec::TlsVecU32;
+use tls_codec_vectors::Log;
 use tls_codec_vl::VLBytes;
 
 // Lists, one in the other, so many deep.
@@ -40,7 +43,7 @@ pub struct Figures {
     pub into: u64,
     /// `tls_deserialize_bytes`, and letting go of the value.
     pub slice: u64,
-    /// `tls_deserialize` from a slice, and letting go of the value.
+    /// `tls_deserialize` from a slice, or from a `Read` outside, and letting go of the value.
     pub reader: u64,
 }
 
@@ -68,6 +71,12 @@ pub fn measure<C: Clock>(alloc: Global, clock: &C, case: Case) -> Result<Figures
         Case::Vl1048576 => measure_codec::<VLBytes, C>(alloc, clock, &[1_048_576]),
         Case::Fixed1048576 => measure_codec::<TlsByteVecU32, C>(alloc, clock, &[1_048_576]),
         Case::VlLists => measure_codec::<Vec<VLBytes>, C>(alloc, clock, &[1000, 32]),
+        Case::VlEmpty => measure_codec::<Vec<VLBytes>, C>(alloc, clock, &[1000, 0]),
+        Case::Text64 => measure_codec::<String, C>(alloc, clock, &[64]),
+        Case::Text4096 => measure_codec::<String, C>(alloc, clock, &[4096]),
+        Case::Log => measure_codec::<Log, C>(alloc, clock, &[16]),
+        Case::Vl4096Outside => measure_outside::<VLBytes, C>(alloc, clock, &[4096]),
+        Case::Numbers512Outside => measure_outside::<Vec<u16>, C>(alloc, clock, &[512]),
         Case::DeepOne => measure_codec::<Eight, C>(alloc, clock, &[1; 8]),
         Case::DeepTwo => measure_codec::<Eight, C>(alloc, clock, &[2; 8]),
         Case::Deep2 => measure_codec::<Two, C>(alloc, clock, &DEEP[14..]),
@@ -83,8 +92,11 @@ fn measure_copy<C: Clock>(alloc: Global, clock: &C, count: usize) -> Result<Figu
 {
     let bytes = Vec::<u8>::from_noise(alloc, &mut Noise::new(), &[count])?;
     let nanos = time(clock, || copy(alloc, &bytes).is_ok())?;
-    let reused = Cell::new(Vec::new(alloc));
-    let into = time(clock, || copy_into(alloc, &bytes, &reused).is_ok())?;
+    let reused = RefCell::new(Vec::new(alloc));
+    let into = time(clock, || match reused.try_borrow_mut() {
+        Ok(mut out) => copy_into(&bytes, &mut out).is_ok(),
+        Err(_) => false,
+    })?;
     Ok(Figures {
         bytes: count,
         encode: nanos,
@@ -108,8 +120,11 @@ where
         return Err(BenchFault::Refused);
     };
     let encode = time(clock, || encode(alloc, &value).is_ok())?;
-    let reused = Cell::new(Vec::new(alloc));
-    let into = time(clock, || encode_into(alloc, &value, &reused).is_ok())?;
+    let reused = RefCell::new(Vec::new(alloc));
+    let into = time(clock, || match reused.try_borrow_mut() {
+        Ok(mut out) => encode_into(&value, &mut out).is_ok(),
+        Err(_) => false,
+    })?;
     let slice = time(clock, || decode_slice::<T>(alloc, &bytes).is_ok())?;
     let reader = time(clock, || decode_reader::<T>(alloc, &bytes).is_ok())?;
     Ok(Figures {
@@ -119,4 +134,22 @@ where
         slice,
         reader,
     })
+}
+
+// The same, where the source of the last call doesn't have its bytes at hand.
+fn measure_outside<T, C: Clock>(
+    alloc: Global,
+    clock: &C,
+    shape: &[usize],
+) -> Result<Figures, BenchFault>
+where
+    T: FromNoise + Serialize + Deserialize + DeserializeBytes,
+{
+    let figures = measure_codec::<T, C>(alloc, clock, shape)?;
+    let value = T::from_noise(alloc, &mut Noise::new(), shape)?;
+    let Ok(bytes) = encode(alloc, &value) else {
+        return Err(BenchFault::Refused);
+    };
+    let reader = time(clock, || decode_outside::<T>(alloc, &bytes).is_ok())?;
+    Ok(Figures { reader, ..figures })
 }

@@ -48,8 +48,8 @@ fn a_call_takes_its_part_of_a_batch(rt: HostRuntime) {
 #[test]
 fn each_case_has_its_bytes(rt: HostRuntime) -> Result<(), Fail> {
     let sizes = [
-        64, 4096, 66, 4098, 66, 4098, 1026, 9, 518, 4102, 4106, 4114, 4130, 33_284, 33_004,
-        1_048_576, 1_048_580, 1_048_580, 1_048_580, 131_076, 131_076,
+        64, 4096, 66, 4098, 66, 4098, 4098, 66, 4098, 1026, 1026, 9, 518, 4102, 4106, 4114, 4130,
+        1925, 33_284, 33_004, 1002, 1_048_576, 1_048_580, 1_048_580, 1_048_580, 131_076, 131_076,
     ];
     assert_eq!(rt; sizes.len(), CASES.len());
     for (case, bytes) in CASES.into_iter().zip(sizes) {

@@ -1,12 +1,12 @@
 //! The calls that are timed. None is inlined, so that each builds what it returns.
-ghost use Rattle.std.specs.Prelude.{◌≡◌, [], length, IfOk};
+ghost use Rattle.std.specs.Prelude.{◌≡◌, length, IfOk};
 ghost use Rattle.tls_codec_grammar.specs.Shortest.{IsShortest};
 ghost use Rattle.tls_codec_timing.specs.Calls.{BeginsWith, IsLengthOf};
 
 use std::alloc::{AllocError, Global};
-use std::cell::Cell;
+use std::io::Cursor;
 use tls_codec_base::{Deserialize, DeserializeBytes, Serialize};
-use tls_codec_wire::Error;
+use tls_codec_wire::{Error, Outside};
 
 /// A copy of some bytes, in a vector of their own.
 #[inline(never)]
@@ -20,15 +20,12 @@ pub fn copy(alloc: Global, bytes: &[u8]) -> Result<Vec<u8>, AllocError>
 
 /// Copies some bytes into a vector that is used again, and returns how many.
 #[inline(never)]
-pub fn copy_into(alloc: Global, bytes: &[u8], reused: &Cell<Vec<u8>>) -> Result<usize, AllocError>
+pub fn copy_into(bytes: &[u8], reused: &mut Vec<u8>) -> Result<usize, AllocError>
     ensures { IfOk result (λ count. count ≡ length bytes.now) }
 {
-    let mut out = emptied(alloc, reused);
-    let copied = out.extend_from_slice(bytes);
-    let count = out.len();
-    reused.set(out);
-    copied?;
-    Ok(count)
+    reused.clear();
+    reused.extend_from_slice(bytes)?;
+    Ok(reused.len())
 }
 
 /// The shortest form of a value, in a vector of its own.
@@ -41,17 +38,11 @@ pub fn encode<T: Serialize>(alloc: Global, value: &T) -> Result<Vec<u8>, Error>
 
 /// The shortest form of a value, in a vector that is used again; returns how many bytes that is.
 #[inline(never)]
-pub fn encode_into<T: Serialize>(
-    alloc: Global,
-    value: &T,
-    reused: &Cell<Vec<u8>>,
-) -> Result<usize, Error>
+pub fn encode_into<T: Serialize>(value: &T, reused: &mut Vec<u8>) -> Result<usize, Error>
     ensures { IfOk result (IsLengthOf T.format.spells (T.plain value.now)) }
 {
-    let mut out = emptied(alloc, reused);
-    let written = value.tls_serialize_into(&mut out);
-    reused.set(out);
-    written
+    reused.clear();
+    value.tls_serialize_into(reused)
 }
 
 /// The value that the bytes begin with, by the slice path.
@@ -73,11 +64,12 @@ pub fn decode_reader<T: Deserialize>(alloc: Global, bytes: &[u8]) -> Result<T, E
     Ok(value)
 }
 
-// The vector in the cell, emptied; an empty one stands in the cell in its place.
-fn emptied(alloc: Global, reused: &Cell<Vec<u8>>) -> Vec<u8>
-    ensures { result.items ≡ [] }
+/// The value that the bytes begin with, by the reader path from a `Read`, which has no bytes at hand.
+#[inline(never)]
+pub fn decode_outside<T: Deserialize>(alloc: Global, bytes: &[u8]) -> Result<T, Error>
+    ensures { IfOk result (λ value. BeginsWith T.format.spells bytes.now (T.plain value)) }
 {
-    let mut out = reused.replace(Vec::new(alloc));
-    out.clear();
-    out
+    let mut src = Outside::new(Cursor::new(bytes));
+    let value = T::tls_deserialize(alloc, &mut src)?;
+    Ok(value)
 }

@@ -37,6 +37,18 @@ pub enum Case {
     Fixed1048576,
     /// 1,000 byte vectors of 32 bytes.
     VlLists,
+    /// 1,000 byte vectors of no bytes.
+    VlEmpty,
+    /// A text of 64 letters.
+    Text64,
+    /// A text of 4,096 letters.
+    Text4096,
+    /// A message of one's own, with 100 messages in it.
+    Log,
+    /// `Vl4096`, where the source doesn't have its bytes at hand.
+    Vl4096Outside,
+    /// `Numbers512`, where the source doesn't have its bytes at hand.
+    Numbers512Outside,
     /// Lists nested eight deep over one byte.
     DeepOne,
     /// Lists nested eight deep over 256 bytes, two elements in each.
@@ -54,22 +66,28 @@ pub enum Case {
 /// The cases, in the order in which they are timed.
 ///
 /// Those of a mebibyte come last: a byte vector of 4,096 was written more slowly behind them.
-pub const CASES: [Case; 21] = [
+pub const CASES: [Case; 27] = [
     Case::Copy64,
     Case::Copy4096,
     Case::Bytes64,
     Case::Bytes4096,
     Case::Vl64,
     Case::Vl4096,
+    Case::Vl4096Outside,
+    Case::Text64,
+    Case::Text4096,
     Case::Numbers512,
+    Case::Numbers512Outside,
     Case::DeepOne,
     Case::DeepTwo,
     Case::Deep2,
     Case::Deep4,
     Case::Deep8,
     Case::Deep16,
+    Case::Log,
     Case::Lists,
     Case::VlLists,
+    Case::VlEmpty,
     Case::Copy1048576,
     Case::Bytes1048576,
     Case::Vl1048576,
@@ -99,6 +117,12 @@ impl Case {
             Case::Vl1048576 => "VLBytes 1048576",
             Case::Fixed1048576 => "TlsByteVecU32 1048576",
             Case::VlLists => "Vec<VLBytes> 1000x32",
+            Case::VlEmpty => "Vec<VLBytes> 1000x0",
+            Case::Text64 => "String 64",
+            Case::Text4096 => "String 4096",
+            Case::Log => "Log, 100 leaves of 16-byte names",
+            Case::Vl4096Outside => "VLBytes 4096, outside",
+            Case::Numbers512Outside => "Vec<u16> 512, outside",
             Case::DeepOne => "8 deep, one element a level",
             Case::DeepTwo => "8 deep, two elements a level",
             Case::Deep2 => "2 deep 2x2048",

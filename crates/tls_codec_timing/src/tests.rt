@@ -1,15 +1,17 @@
 // What no clause says: that calls succeed, and which numbers and values come. `tls_codec_bench` tests `timing`.
-use crate::calls::{copy, copy_into, decode_reader, decode_slice, encode, encode_into};
+use crate::calls::{
+    copy, copy_into, decode_outside, decode_reader, decode_slice, encode, encode_into,
+};
 use crate::cases::{Case, names};
 use crate::fault::BenchFault;
 use crate::median::median;
 use crate::noise::Noise;
 use crate::values::FromNoise;
 use std::alloc::AllocError;
-use std::cell::Cell;
 use std::io;
 use std::io::ErrorKind;
 use std::test::Fail;
+use tls_codec_vectors::{Log, Step};
 
 #[test]
 fn each_name_stands_on_a_line(rt: HostRuntime) -> Result<(), Fail> {
@@ -46,6 +48,16 @@ fn a_value_has_the_shape_that_is_asked_for(rt: HostRuntime) -> Result<(), Fail> 
     assert_eq!(rt; value[0].as_slice(), [176u8, 155, 208].as_slice());
     let numbers = Vec::<u16>::from_noise(rt.alloc(), &mut Noise::new(), &[1])?;
     assert_eq!(rt; numbers.as_slice(), [5552u16].as_slice());
+    let text = String::from_noise(rt.alloc(), noise, &[3])?;
+    assert_eq!(rt; text.as_str(), "aaa");
+    let log = Log::from_noise(rt.alloc(), noise, &[16])?;
+    assert_eq!(rt; log.id.len(), 16);
+    assert_eq!(rt; log.leaves.len(), 100);
+    for (leaf, code) in log.leaves.iter().zip(0u16..) {
+        assert_eq!(rt; leaf.code, code);
+        assert_eq!(rt; leaf.name.as_slice().len(), 16);
+    }
+    assert!(rt; matches!(log.last, Some(Step::Jump(5))));
     Ok(())
 }
 
@@ -68,14 +80,15 @@ fn errors_of_std_are_faults(rt: HostRuntime) {
 #[test]
 fn the_calls_that_are_timed(rt: HostRuntime) -> Result<(), Fail> {
     let alloc = rt.alloc();
-    let reused = Cell::new(Vec::new(alloc));
+    let mut reused = Vec::new(alloc);
     let form = encode(alloc, &Some(7u16))?;
     assert_eq!(rt; form.as_slice(), [1u8, 0, 7].as_slice());
-    assert_eq!(rt; encode_into(alloc, &Some(7u16), &reused), Ok(3));
+    assert_eq!(rt; encode_into(&Some(7u16), &mut reused), Ok(3));
     assert_eq!(rt; copy(alloc, &form)?, form);
-    assert_eq!(rt; copy_into(alloc, &form, &reused)?, 3);
-    assert_eq!(rt; reused.into_inner(), form);
+    assert_eq!(rt; copy_into(&form, &mut reused)?, 3);
+    assert_eq!(rt; reused, form);
     assert_eq!(rt; decode_slice::<Option<u16>>(alloc, &form), Ok(Some(7)));
     assert_eq!(rt; decode_reader::<Option<u16>>(alloc, &form), Ok(Some(7)));
+    assert_eq!(rt; decode_outside::<Option<u16>>(alloc, &form), Ok(Some(7)));
     Ok(())
 }

@@ -3,6 +3,7 @@ use crate::noise::Noise;
 use std::alloc::{AllocError, Global};
 use tls_codec_bytes::TlsByteVec;
 use tls_codec_vec::TlsVec;
+use tls_codec_vectors::{Leaf, Log, Step};
 use tls_codec_vl::VLBytes;
 
 /// A type with values that come from a noise.
@@ -33,6 +34,38 @@ impl<T: FromNoise + Drop> FromNoise for Vec<T> {
             elements.push(T::from_noise(alloc, noise, inner)?)?;
         }
         Ok(elements)
+    }
+}
+
+// As many letters `a`, since random bytes are no text.
+impl FromNoise for String {
+    fn from_noise(
+        alloc: Global,
+        _noise: &mut Noise,
+        shape: &[usize],
+    ) -> Result<String, AllocError> {
+        let mut text = String::new(alloc);
+        for _ in 0..shape.first().copied().unwrap_or(0) {
+            text.push('a')?;
+        }
+        Ok(text)
+    }
+}
+
+// Leaves with the codes 0 to 99, and an identity and names of as many bytes as the shape says.
+impl FromNoise for Log {
+    fn from_noise(alloc: Global, noise: &mut Noise, shape: &[usize]) -> Result<Log, AllocError> {
+        let id = TlsByteVec::from_noise(alloc, noise, shape)?;
+        let mut leaves = Vec::new(alloc);
+        for code in 0..100u16 {
+            let name = VLBytes::from_noise(alloc, noise, shape)?;
+            leaves.push(Leaf { code, name })?;
+        }
+        Ok(Log {
+            id,
+            leaves: TlsVec::new(leaves),
+            last: Some(Step::Jump(5)),
+        })
     }
 }
 
