@@ -1,0 +1,204 @@
+#!/usr/bin/env python3
+"""Draws the pictures of the pages: `docs/pictures.py` writes message.svg, limits.svg and crates.svg beside it.
+
+Each colour is an attribute for light pages, and a style for dark ones. `docs/pictures.py FOLDER dark` writes the dark
+pictures with attributes alone, for a look at them by a program that knows no styles.
+"""
+import html
+import pathlib
+import sys
+
+HERE = pathlib.Path(__file__).resolve().parent
+WIDTH = 720
+MONO = "ui-monospace, Menlo, Consolas, 'DejaVu Sans Mono', monospace"
+SANS = "system-ui, 'Segoe UI', Helvetica, 'DejaVu Sans', sans-serif"
+# each role: its fill or stroke on a light page and on a dark one
+COLOURS = {
+    "paper": ("#ffffff", "#0d1117"),
+    "ink": ("#1f2328", "#e6edf3"),
+    "soft": ("#59636e", "#9198a1"),
+    "line": ("#818b98", "#656c76"),
+    "plain": ("#f6f8fa", "#161b22"),
+    "length": ("#b6d7ff", "#0c4a8f"),
+    "tag": ("#ffe08a", "#6e4b00"),
+    "end": ("#cf222e", "#ff7b72"),
+    "lib": ("#dbeafe", "#12325a"),
+}
+
+
+class Picture:
+    def __init__(self, height, title, dark=False):
+        self.height, self.title, self.dark, self.parts = height, title, dark, []
+
+    def colour(self, role):
+        return COLOURS[role][1 if self.dark else 0]
+
+    def text(self, x, y, words, size=13, role="ink", anchor="middle", font=SANS, bold=False):
+        weight = ' font-weight="600"' if bold else ""
+        self.parts.append(
+            f'<text class="f-{role}" x="{x}" y="{y}" font-family="{font}" font-size="{size}"{weight}'
+            f' text-anchor="{anchor}" fill="{self.colour(role)}">{html.escape(words)}</text>'
+        )
+
+    def box(self, x, y, width, height, role="plain", round=3):
+        self.parts.append(
+            f'<rect class="f-{role} s-line" x="{x}" y="{y}" width="{width}" height="{height}" rx="{round}"'
+            f' fill="{self.colour(role)}" stroke="{self.colour("line")}"/>'
+        )
+
+    def line(self, x1, y1, x2, y2, role="line", width=1.5, dashed=False):
+        dash = ' stroke-dasharray="5 4"' if dashed else ""
+        self.parts.append(
+            f'<line class="s-{role}" x1="{x1}" y1="{y1}" x2="{x2}" y2="{y2}" stroke="{self.colour(role)}"'
+            f' stroke-width="{width}"{dash}/>'
+        )
+
+    def bracket(self, x1, x2, y, tick, role="line"):
+        """A line from x1 to x2 with ends that point by `tick`."""
+        self.line(x1, y, x2, y, role)
+        self.line(x1, y, x1, y + tick, role)
+        self.line(x2, y, x2, y + tick, role)
+
+    def svg(self):
+        style = " ".join(
+            f".f-{role} {{ fill: {dark} }} .s-{role} {{ stroke: {dark} }}" for role, (_, dark) in COLOURS.items()
+        )
+        style = "" if self.dark else f"<style>@media (prefers-color-scheme: dark) {{ {style} }}</style>\n"
+        paper = f'<rect class="f-paper" width="{WIDTH}" height="{self.height}" fill="{self.colour("paper")}"/>'
+        return (
+            f'<svg xmlns="http://www.w3.org/2000/svg" viewBox="0 0 {WIDTH} {self.height}" width="{WIDTH}"'
+            f' height="{self.height}" role="img">\n<title>{html.escape(self.title)}</title>\n{style}{paper}\n'
+            + "\n".join(self.parts)
+            + "\n</svg>\n"
+        )
+
+
+def message(dark):
+    """The worked `Log` of tls_codec_vectors, byte by byte."""
+    p = Picture(272, "The bytes of a message, with its lengths", dark)
+    cell, left, top = 48, 24, 96
+    roles = "length plain length length plain plain length plain tag tag plain plain plain plain".split()
+    for at, (byte, role) in enumerate(zip("01 ab 00 04 00 01 01 07 01 02 00 00 00 05".split(), roles)):
+        p.box(left + at * cell, top, cell, 36, role)
+        p.text(left + at * cell + cell / 2, top + 24, byte, 16, font=MONO)
+
+    def span(first, last):
+        return left + first * cell + 4, left + (last + 1) * cell - 4
+
+    def centre(first, last):
+        return left + (first + last + 1) * cell / 2
+
+    p.text(WIDTH / 2, 26, "Log { id: [ab], leaves: [Leaf { code: 1, name: [07] }], last: Some(Jump(5)) }", 13, font=MONO)
+    for first, last, name, kind in (
+        (0, 1, "id", "TlsByteVecU8"),
+        (2, 7, "leaves", "TlsVecU16<Leaf>"),
+        (8, 13, "last", "Option<Step>"),
+    ):
+        p.bracket(*span(first, last), 84, 8)
+        p.text(centre(first, last), 60, name, 14, bold=True)
+        p.text(centre(first, last), 76, kind, 11, "soft", font=MONO)
+    for first, last, words in (
+        (0, 0, "length"), (2, 3, "length"), (4, 5, "code: u16"), (6, 6, "length"), (7, 7, "name"),
+        (8, 8, "Some"), (9, 9, "Jump"), (10, 13, "u32"),
+    ):
+        p.text(centre(first, last), top + 52, words, 11, "soft")
+    for first, last, y, words in ((1, 1, 162, "1 byte"), (7, 7, 162, "1 byte"), (4, 7, 192, "4 bytes: one Leaf")):
+        p.bracket(*span(first, last), y, -6)
+        p.text(centre(first, last), y + 15, words, 11)
+    for x, role, words in ((24, "length", "a length"), (124, "tag", "a tag"), (208, "plain", "content")):
+        p.box(x, 222, 16, 14, role, 2)
+        p.text(x + 22, 234, words, 12, anchor="start")
+    p.text(WIDTH - 24, 234, "the length of name is variable: its top bits are", 12, "soft", "end")
+    p.text(WIDTH - 24, 254, "00 in one byte, 01 in two, 10 in four", 12, "soft", "end")
+    return p
+
+
+def limits(dark):
+    """Nested declared lengths: why the paths name different errors."""
+    p = Picture(352, "Nested declared lengths, and what a slice and a source see", dark)
+    cell, left, top = 64, 40, 124
+    labels = {0: "length 5", 1: "length 2", 4: "length 2"}
+    for at, (byte, role) in enumerate(
+        zip("05 02 00 01 02 00 02".split(), "length length plain plain length plain plain".split())
+    ):
+        p.box(left + at * cell, top, cell, 38, role)
+        p.text(left + at * cell + cell / 2, top + 25, byte, 17, font=MONO)
+        p.text(left + at * cell + cell / 2, top + 54, labels.get(at, ""), 11, "soft")
+
+    def x(at):
+        return left + at * cell
+
+    p.text(left, 26, "Vec<Vec<u16>>", 14, anchor="start", font=MONO, bold=True)
+    p.text(left + 130, 26, "from 05 02 0001 02 0002: an element passes the end of its list", 13, "soft", "start")
+    p.bracket(x(1) + 3, x(6) - 3, 62, 8)
+    p.text((x(1) + x(6)) / 2, 54, "the outer list declares these 5 bytes", 12)
+    p.bracket(x(2) + 3, x(4) - 3, 104, 8)
+    p.text((x(2) + x(4)) / 2, 96, "the first list: 2 bytes", 12)
+    p.bracket(x(5) + 3, x(7) - 3, 104, 8, "end")
+    p.text((x(5) + x(7)) / 2, 96, "the second: 2 bytes", 12, "end")
+    p.line(x(6), 112, x(6), 238, "end", 2, dashed=True)
+    p.text(x(7) + 14, top + 17, "the dashed line is", 12, "end", "start")
+    p.text(x(7) + 14, top + 33, "the outer list's end", 12, "end", "start")
+    for y, name, last, sees in ((208, "slice", 7, "all bytes that are left"), (236, "source", 6, "no byte past the end")):
+        p.bracket(x(4) + 3, x(last) - 3, y, -8, "ink")
+        p.text(left, y - 1, f"a {name} shows", 12, anchor="start", bold=True)
+        p.text(left + 112, y - 1, sees, 12, "soft", "start")
+    for y, name, does, error in (
+        (272, "slice", "the second list is 02 0002; then its end is past the outer one:",
+         'DecodingError("elements do not fill the declared length")'),
+        (318, "source", "the second list is cut off after 02 00:", "EndOfStream"),
+    ):
+        p.text(left, y, name, 12, anchor="start", bold=True)
+        p.text(left + 66, y, does, 12, anchor="start")
+        p.text(left + 66, y + 18, error, 12, anchor="start", font=MONO)
+    return p
+
+
+def crates(dark):
+    """The layers of crates."""
+    p = Picture(440, "The layers of crates", dark)
+    left, right, high, gap = 110, 700, 42, 10
+
+    def box(x1, x2, row, name, words, role):
+        y = 16 + row * (high + gap)
+        p.box(x1, y, x2 - x1, high, role, 5)
+        p.text((x1 + x2) / 2, y + (18 if words else 26), name, 12, font=MONO, bold=True)
+        if words:
+            p.text((x1 + x2) / 2, y + 34, words, 11, "soft")
+
+    box(left, 204, 0, "tlsview, ..", "programs", "plain")
+    box(214, 338, 0, "tls_codec_memory", "tests", "plain")
+    box(left, 338, 1, "tlsview_run", "all of the program", "plain")
+    box(348, 466, 1, "tls_codec_tests", "tests", "plain")
+    box(left, 466, 2, "tls_codec_vectors", "messages; devices for tests", "plain")
+    box(476, 560, 2, "guide", "a program", "plain")
+    box(570, right, 2, "tls_codec_bench", "a program", "plain")
+    box(left, 560, 3, "tls_codec", "every public name; the words for messages of your own", "lib")
+    box(570, right, 3, "tls_codec_timing", "what it times", "plain")
+    wide = (right - left - 4 * gap) / 5
+    for at, (name, words) in enumerate(
+        (("_vl", "variable length"), ("_vec", "lists"), ("_bytes", "bytes"), ("_slice", "borrowed"), ("_secret", "cleared"))
+    ):
+        x1 = left + at * (wide + gap)
+        box(x1, x1 + wide, 4, name, words, "lib")
+    box(left, right, 5, "tls_codec_base", "five traits with their laws; types of std; engines of lists", "lib")
+    box(left, right, 6, "tls_codec_grammar", "formats and laws; digits, lengths, bytes after a length", "lib")
+    box(left, right, 7, "tls_codec_wire", "errors, devices, pieces moved whole", "lib")
+    p.line(left - 12, 172, left - 12, 422)
+    p.line(left - 12, 172, left - 6, 172)
+    p.line(left - 12, 422, left - 6, 422)
+    p.text(left - 20, 292, "the nine", 12, "soft", "end")
+    p.text(left - 20, 308, "that you copy", 12, "soft", "end")
+    return p
+
+
+PICTURES = {"message.svg": message, "limits.svg": limits, "crates.svg": crates}
+
+
+def main(folder=HERE, colours="light"):
+    for name, draw in PICTURES.items():
+        (pathlib.Path(folder) / name).write_text(draw(colours == "dark").svg())
+
+
+if __name__ == "__main__":
+    main(*sys.argv[1:])
