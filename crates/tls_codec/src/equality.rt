@@ -27,26 +27,35 @@ pub fn single_values_are_equal_where_alike<const LEN: usize>()
 /// Byte vectors.
 pub fn bytes_are_equal_where_alike<F: LengthField>()
     ensures vl_bytes { EqualWhereAlike ⟦<VLBytes as Size>⟧.plain ⟦<VLBytes as PartialEq>⟧.eq }
-    ensures vl_byte_vec { EqualWhereAlike ⟦<VLByteVec as Size>⟧.plain ⟦<VLByteVec as PartialEq>⟧.eq }
-    ensures secret_vl_bytes { EqualWhereAlike ⟦<SecretVLBytes as Size>⟧.plain ⟦<SecretVLBytes as PartialEq>⟧.eq }
-    ensures secret_vl_byte_vec { EqualWhereAlike ⟦<SecretVLByteVec as Size>⟧.plain ⟦<SecretVLByteVec as PartialEq>⟧.eq }
-    ensures counted { EqualWhereAlike ⟦<TlsByteVec<F> as Size>⟧.plain ⟦<TlsByteVec<F> as PartialEq>⟧.eq }
+    ensures vl_byte_vec { EqualWhereAlike ⟦<VLByteVec as Size>⟧.plain
+        ⟦<VLByteVec as PartialEq>⟧.eq }
+    ensures secret_vl_bytes { EqualWhereAlike ⟦<SecretVLBytes as Size>⟧.plain
+        ⟦<SecretVLBytes as PartialEq>⟧.eq }
+    ensures secret_vl_byte_vec { EqualWhereAlike ⟦<SecretVLByteVec as Size>⟧.plain
+        ⟦<SecretVLByteVec as PartialEq>⟧.eq }
+    ensures counted { EqualWhereAlike ⟦<TlsByteVec<F> as Size>⟧.plain
+        ⟦<TlsByteVec<F> as PartialEq>⟧.eq }
 {}
 
 /// Options and products, if their parts are.
 pub fn parts_are_equal_where_alike<T: Size + PartialEq, U: Size + PartialEq, V: Size + PartialEq>()
-    ensures options { EqualWhereAlike T.plain T.eq → EqualWhereAlike ⟦<Option<T> as Size>⟧.plain ⟦<Option<T> as PartialEq>⟧.eq }
+    ensures options { EqualWhereAlike T.plain T.eq
+        → EqualWhereAlike ⟦<Option<T> as Size>⟧.plain ⟦<Option<T> as PartialEq>⟧.eq }
     ensures pairs { EqualWhereAlike T.plain T.eq → EqualWhereAlike U.plain U.eq
         → EqualWhereAlike ⟦<(T, U) as Size>⟧.plain ⟦<(T, U) as PartialEq>⟧.eq }
-    ensures triples { EqualWhereAlike T.plain T.eq → EqualWhereAlike U.plain U.eq → EqualWhereAlike V.plain V.eq
+    ensures triples { EqualWhereAlike T.plain T.eq
+        → EqualWhereAlike U.plain U.eq
+        → EqualWhereAlike V.plain V.eq
         → EqualWhereAlike ⟦<(T, U, V) as Size>⟧.plain ⟦<(T, U, V) as PartialEq>⟧.eq }
 {}
 
 /// Lists, if their elements are.
 pub fn lists_are_equal_where_alike<F: LengthField, T: Size + PartialEq + Zeroize>()
-    ensures lists { EqualWhereAlike T.plain T.eq → EqualWhereAlike ⟦<Vec<T> as Size>⟧.plain ⟦<Vec<T> as PartialEq>⟧.eq }
+    ensures lists { EqualWhereAlike T.plain T.eq
+        → EqualWhereAlike ⟦<Vec<T> as Size>⟧.plain ⟦<Vec<T> as PartialEq>⟧.eq }
     ensures counted { EqualWhereAlike T.plain T.eq
         → EqualWhereAlike ⟦<TlsVec<F, T> as Size>⟧.plain ⟦<TlsVec<F, T> as PartialEq>⟧.eq }
     ensures secret { EqualWhereAlike T.plain T.eq
-        → EqualWhereAlike ⟦<SecretTlsVec<F, T> as Size>⟧.plain ⟦<SecretTlsVec<F, T> as PartialEq>⟧.eq }
+        → EqualWhereAlike ⟦<SecretTlsVec<F, T> as Size>⟧.plain
+        ⟦<SecretTlsVec<F, T> as PartialEq>⟧.eq }
 {}

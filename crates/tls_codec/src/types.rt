@@ -46,7 +46,8 @@ pub fn numbers<'a>()
 
     ensures u8_lent { Means ⟦<&'a u8 as Size>⟧ (λ n. Number n.now) (number_format 1) }
     ensures u16_lent { Means ⟦<&'a u16 as Size>⟧ (λ n. Number n.now) (number_format 2) }
-    ensures u24_lent { Means ⟦<&'a U24 as Size>⟧ (λ n. Number (uint24.number_of n.now)) (number_format 3) }
+    ensures u24_lent { Means ⟦<&'a U24 as Size>⟧ (λ n. Number (uint24.number_of n.now))
+        (number_format 3) }
     ensures u32_lent { Means ⟦<&'a u32 as Size>⟧ (λ n. Number n.now) (number_format 4) }
     ensures u64_lent { Means ⟦<&'a u64 as Size>⟧ (λ n. Number n.now) (number_format 8) }
 {}
@@ -84,14 +85,18 @@ pub fn arrays<const LEN: usize>()
 /// Options: a byte 0, or a byte 1 and the payload (RFC 9420, section 2.1.1).
 pub fn options<'a, T: Deserialize + DeserializeBytes>()
     ensures is { Means ⟦<Option<T> as Size>⟧ (option_plain T.plain) (option_format T.format) }
-    ensures lent { Means ⟦<&'a Option<T> as Size>⟧ (λ v. option_plain T.plain v.now) (option_format T.format) }
-    ensures slice { SameNames ⟦<Option<T> as DeserializeBytes>⟧.names (option_names T.DeserializeBytes.names) }
-    ensures source { SameSourceNames ⟦<Option<T> as Deserialize>⟧.names (option_source_names T.Deserialize.names) }
+    ensures lent { Means ⟦<&'a Option<T> as Size>⟧ (λ v. option_plain T.plain v.now)
+        (option_format T.format) }
+    ensures slice { SameNames ⟦<Option<T> as DeserializeBytes>⟧.names
+        (option_names T.DeserializeBytes.names) }
+    ensures source { SameSourceNames ⟦<Option<T> as Deserialize>⟧.names
+        (option_source_names T.Deserialize.names) }
 {}
 
 /// Pairs, their parts in a row.
 pub fn pairs<T: Deserialize + DeserializeBytes, U: Deserialize + DeserializeBytes>()
-    ensures is { Means ⟦<(T, U) as Size>⟧ (λ p. Join (T.plain p.0) (Join (U.plain p.1) Empty)) (pair_format T.format U.format) }
+    ensures is { Means ⟦<(T, U) as Size>⟧ (λ p. Join (T.plain p.0) (Join (U.plain p.1) Empty))
+        (pair_format T.format U.format) }
     ensures slice { SameNames ⟦<(T, U) as DeserializeBytes>⟧.names
         (fields_names T.format T.DeserializeBytes.names U.DeserializeBytes.names) }
     ensures source { SameSourceNames ⟦<(T, U) as Deserialize>⟧.names
@@ -104,12 +109,15 @@ pub fn triples<
     U: Deserialize + DeserializeBytes,
     V: Deserialize + DeserializeBytes,
 >()
-    ensures is { Means ⟦<(T, U, V) as Size>⟧ (λ p. Join (T.plain p.0) (Join (U.plain p.1) (Join (V.plain p.2) Empty)))
+    ensures is { Means ⟦<(T, U, V) as Size>⟧
+        (λ p. Join (T.plain p.0) (Join (U.plain p.1) (Join (V.plain p.2) Empty)))
         (triple_format T.format U.format V.format) }
     ensures slice { SameNames ⟦<(T, U, V) as DeserializeBytes>⟧.names
-        (fields_names T.format T.DeserializeBytes.names (fields_names U.format U.DeserializeBytes.names V.DeserializeBytes.names)) }
+        (fields_names T.format T.DeserializeBytes.names
+        (fields_names U.format U.DeserializeBytes.names V.DeserializeBytes.names)) }
     ensures source { SameSourceNames ⟦<(T, U, V) as Deserialize>⟧.names
-        (fields_source_names T.format T.Deserialize.names (fields_source_names U.format U.Deserialize.names V.Deserialize.names)) }
+        (fields_source_names T.format T.Deserialize.names
+        (fields_source_names U.format U.Deserialize.names V.Deserialize.names)) }
 {}
 
 /// Types of one value, of no bytes: they are never refused.
@@ -119,13 +127,15 @@ pub fn nothing<T>()
     ensures unit_source { SameSourceNames ⟦<() as Deserialize>⟧.names (λ x old new e. ⊥) }
     ensures phantom { Means ⟦<PhantomData<T> as Size>⟧ (λ v. Empty) nothing_format }
     ensures phantom_slice { SameNames ⟦<PhantomData<T> as DeserializeBytes>⟧.names (λ x e. ⊥) }
-    ensures phantom_source { SameSourceNames ⟦<PhantomData<T> as Deserialize>⟧.names (λ x old new e. ⊥) }
+    ensures phantom_source { SameSourceNames ⟦<PhantomData<T> as Deserialize>⟧.names
+        (λ x old new e. ⊥) }
 {}
 
 /// Boxes, as their content, for which a decoder takes memory; and what is lent, as what it is.
 pub fn boxes<'a, T: Deserialize + DeserializeBytes + 'a>()
     ensures is { Means ⟦<Box<T> as Size>⟧ (λ b. T.plain b.value) (with_memory T.format) }
-    ensures slice { SameNames ⟦<Box<T> as DeserializeBytes>⟧.names (λ x e. (e ≡ OutOfMemory) ⊎ T.DeserializeBytes.names x e) }
+    ensures slice { SameNames ⟦<Box<T> as DeserializeBytes>⟧.names
+        (λ x e. (e ≡ OutOfMemory) ⊎ T.DeserializeBytes.names x e) }
     ensures source { SameSourceNames ⟦<Box<T> as Deserialize>⟧.names
         (λ x old new e. (e ≡ OutOfMemory) ⊎ T.Deserialize.names x old new e) }
     ensures lent { Means ⟦<Lent<'a, T> as Size>⟧ (λ v. T.plain v.0.now) T.format }
@@ -151,33 +161,49 @@ pub fn lent_rows<
         (λ v. triple_tree (A.plain v.0.now) (B.plain v.1.now) (C.plain v.2.now))
         (triple_format A.format B.format C.format) }
     ensures lent4 { Means ⟦<Lent4<'a, A, B, C, D> as Size>⟧
-        (λ v. pair_tree (pair_tree (A.plain v.0.now) (B.plain v.1.now)) (pair_tree (C.plain v.2.now) (D.plain v.3.now)))
+        (λ v. pair_tree (pair_tree (A.plain v.0.now) (B.plain v.1.now))
+        (pair_tree (C.plain v.2.now) (D.plain v.3.now)))
         (pair_format (pair_format A.format B.format) (pair_format C.format D.format)) }
     ensures lent5 { Means ⟦<Lent5<'a, A, B, C, D, E> as Size>⟧
-        (λ v. pair_tree (triple_tree (A.plain v.0.now) (B.plain v.1.now) (C.plain v.2.now)) (pair_tree (D.plain v.3.now) (E.plain v.4.now)))
+        (λ v. pair_tree (triple_tree (A.plain v.0.now) (B.plain v.1.now) (C.plain v.2.now))
+        (pair_tree (D.plain v.3.now) (E.plain v.4.now)))
         (pair_format (triple_format A.format B.format C.format) (pair_format D.format E.format)) }
     ensures lent6 { Means ⟦<Lent6<'a, A, B, C, D, E, F> as Size>⟧
-        (λ v. pair_tree (triple_tree (A.plain v.0.now) (B.plain v.1.now) (C.plain v.2.now)) (triple_tree (D.plain v.3.now) (E.plain v.4.now) (F.plain v.5.now)))
-        (pair_format (triple_format A.format B.format C.format) (triple_format D.format E.format F.format)) }
+        (λ v. pair_tree (triple_tree (A.plain v.0.now) (B.plain v.1.now) (C.plain v.2.now))
+        (triple_tree (D.plain v.3.now) (E.plain v.4.now) (F.plain v.5.now)))
+        (pair_format (triple_format A.format B.format C.format)
+        (triple_format D.format E.format F.format)) }
     ensures lent7 { Means ⟦<Lent7<'a, A, B, C, D, E, F, G> as Size>⟧
-        (λ v. triple_tree (triple_tree (A.plain v.0.now) (B.plain v.1.now) (C.plain v.2.now)) (pair_tree (D.plain v.3.now) (E.plain v.4.now)) (pair_tree (F.plain v.5.now) (G.plain v.6.now)))
-        (triple_format (triple_format A.format B.format C.format) (pair_format D.format E.format) (pair_format F.format G.format)) }
+        (λ v. triple_tree (triple_tree (A.plain v.0.now) (B.plain v.1.now) (C.plain v.2.now))
+        (pair_tree (D.plain v.3.now) (E.plain v.4.now))
+        (pair_tree (F.plain v.5.now) (G.plain v.6.now)))
+        (triple_format (triple_format A.format B.format C.format) (pair_format D.format E.format)
+        (pair_format F.format G.format)) }
     ensures lent8 { Means ⟦<Lent8<'a, A, B, C, D, E, F, G, H> as Size>⟧
-        (λ v. triple_tree (triple_tree (A.plain v.0.now) (B.plain v.1.now) (C.plain v.2.now)) (triple_tree (D.plain v.3.now) (E.plain v.4.now) (F.plain v.5.now)) (pair_tree (G.plain v.6.now) (H.plain v.7.now)))
-        (triple_format (triple_format A.format B.format C.format) (triple_format D.format E.format F.format) (pair_format G.format H.format)) }
+        (λ v. triple_tree (triple_tree (A.plain v.0.now) (B.plain v.1.now) (C.plain v.2.now))
+        (triple_tree (D.plain v.3.now) (E.plain v.4.now) (F.plain v.5.now))
+        (pair_tree (G.plain v.6.now) (H.plain v.7.now)))
+        (triple_format (triple_format A.format B.format C.format)
+        (triple_format D.format E.format F.format) (pair_format G.format H.format)) }
     ensures lent9 { Means ⟦<Lent9<'a, A, B, C, D, E, F, G, H, I> as Size>⟧
-        (λ v. triple_tree (triple_tree (A.plain v.0.now) (B.plain v.1.now) (C.plain v.2.now)) (triple_tree (D.plain v.3.now) (E.plain v.4.now) (F.plain v.5.now)) (triple_tree (G.plain v.6.now) (H.plain v.7.now) (I.plain v.8.now)))
-        (triple_format (triple_format A.format B.format C.format) (triple_format D.format E.format F.format) (triple_format G.format H.format I.format)) }
+        (λ v. triple_tree (triple_tree (A.plain v.0.now) (B.plain v.1.now) (C.plain v.2.now))
+        (triple_tree (D.plain v.3.now) (E.plain v.4.now) (F.plain v.5.now))
+        (triple_tree (G.plain v.6.now) (H.plain v.7.now) (I.plain v.8.now)))
+        (triple_format (triple_format A.format B.format C.format)
+        (triple_format D.format E.format F.format) (triple_format G.format H.format I.format)) }
 {}
 
 /// Lists of elements after their length in bytes, a variable-length integer of at most 30 bits (RFC 9420, section
 /// 2.1.2).
 pub fn lists<'a, T: Deserialize + DeserializeBytes>()
     ensures is { Means ⟦<Vec<T> as Size>⟧ (λ v. trees T.plain v.items) (list_format T.format) }
-    ensures lent { Means ⟦<&'a Vec<T> as Size>⟧ (λ v. trees T.plain v.now.items) (list_format T.format) }
+    ensures lent { Means ⟦<&'a Vec<T> as Size>⟧ (λ v. trees T.plain v.now.items)
+        (list_format T.format) }
     ensures elements { Means ⟦<&'a [T] as Size>⟧ (λ v. trees T.plain v.now) (list_format T.format) }
-    ensures slice { SameNames ⟦<Vec<T> as DeserializeBytes>⟧.names (list_names T.format T.DeserializeBytes.names) }
-    ensures source { SameSourceNames ⟦<Vec<T> as Deserialize>⟧.names (list_source_names T.format T.Deserialize.names) }
+    ensures slice { SameNames ⟦<Vec<T> as DeserializeBytes>⟧.names
+        (list_names T.format T.DeserializeBytes.names) }
+    ensures source { SameSourceNames ⟦<Vec<T> as Deserialize>⟧.names
+        (list_source_names T.format T.Deserialize.names) }
 {}
 
 /// Texts: their UTF-8 after its length.
@@ -191,27 +217,42 @@ pub fn texts<'a>()
 /// Byte vectors after their number, a variable-length integer of at most 30 bits (RFC 9420, section 2.1.2).
 pub fn byte_vectors<'a>()
     ensures vl_bytes { Means ⟦<VLBytes as Size>⟧ (λ v. number_trees (bytes_of v)) bytes_format }
-    ensures vl_byte_vec { Means ⟦<VLByteVec as Size>⟧ (λ v. number_trees (vec_bytes_of v)) bytes_format }
-    ensures vl_byte_slice { Means ⟦<VLByteSlice<'a> as Size>⟧ (λ v. number_trees (slice_bytes_of v)) bytes_format }
-    ensures secret_vl_bytes { Means ⟦<SecretVLBytes as Size>⟧ (λ v. number_trees (secret_bytes_of v)) bytes_format }
-    ensures secret_vl_byte_vec { Means ⟦<SecretVLByteVec as Size>⟧ (λ v. number_trees (secret_vec_bytes_of v)) bytes_format }
+    ensures vl_byte_vec { Means ⟦<VLByteVec as Size>⟧ (λ v. number_trees (vec_bytes_of v))
+        bytes_format }
+    ensures vl_byte_slice { Means ⟦<VLByteSlice<'a> as Size>⟧ (λ v. number_trees (slice_bytes_of v))
+        bytes_format }
+    ensures secret_vl_bytes { Means ⟦<SecretVLBytes as Size>⟧
+        (λ v. number_trees (secret_bytes_of v)) bytes_format }
+    ensures secret_vl_byte_vec { Means ⟦<SecretVLByteVec as Size>⟧
+        (λ v. number_trees (secret_vec_bytes_of v)) bytes_format }
 
-    ensures vl_bytes_lent { Means ⟦<&'a VLBytes as Size>⟧ (λ v. number_trees (bytes_of v.now)) bytes_format }
-    ensures vl_byte_vec_lent { Means ⟦<&'a VLByteVec as Size>⟧ (λ v. number_trees (vec_bytes_of v.now)) bytes_format }
-    ensures vl_byte_slice_lent { Means ⟦<&'a VLByteSlice<'a> as Size>⟧ (λ v. number_trees (slice_bytes_of v.now)) bytes_format }
+    ensures vl_bytes_lent { Means ⟦<&'a VLBytes as Size>⟧ (λ v. number_trees (bytes_of v.now))
+        bytes_format }
+    ensures vl_byte_vec_lent { Means ⟦<&'a VLByteVec as Size>⟧
+        (λ v. number_trees (vec_bytes_of v.now)) bytes_format }
+    ensures vl_byte_slice_lent { Means ⟦<&'a VLByteSlice<'a> as Size>⟧
+        (λ v. number_trees (slice_bytes_of v.now)) bytes_format }
 {}
 
 /// Why they are not read.
 pub fn byte_vectors_refused()
-    ensures vl_bytes { SameNames ⟦<VLBytes as DeserializeBytes>⟧.names (opaque_names variable_field) }
-    ensures vl_byte_vec { SameNames ⟦<VLByteVec as DeserializeBytes>⟧.names (opaque_names variable_field) }
-    ensures secret_vl_bytes { SameNames ⟦<SecretVLBytes as DeserializeBytes>⟧.names (opaque_names variable_field) }
-    ensures secret_vl_byte_vec { SameNames ⟦<SecretVLByteVec as DeserializeBytes>⟧.names (opaque_names variable_field) }
+    ensures vl_bytes { SameNames ⟦<VLBytes as DeserializeBytes>⟧.names
+        (opaque_names variable_field) }
+    ensures vl_byte_vec { SameNames ⟦<VLByteVec as DeserializeBytes>⟧.names
+        (opaque_names variable_field) }
+    ensures secret_vl_bytes { SameNames ⟦<SecretVLBytes as DeserializeBytes>⟧.names
+        (opaque_names variable_field) }
+    ensures secret_vl_byte_vec { SameNames ⟦<SecretVLByteVec as DeserializeBytes>⟧.names
+        (opaque_names variable_field) }
 
-    ensures vl_bytes_source { SameSourceNames ⟦<VLBytes as Deserialize>⟧.names (OpaqueSourceRefused variable_field) }
-    ensures vl_byte_vec_source { SameSourceNames ⟦<VLByteVec as Deserialize>⟧.names (OpaqueSourceRefused variable_field) }
-    ensures secret_vl_bytes_source { SameSourceNames ⟦<SecretVLBytes as Deserialize>⟧.names (OpaqueSourceRefused variable_field) }
-    ensures secret_vl_byte_vec_source { SameSourceNames ⟦<SecretVLByteVec as Deserialize>⟧.names (OpaqueSourceRefused variable_field) }
+    ensures vl_bytes_source { SameSourceNames ⟦<VLBytes as Deserialize>⟧.names
+        (OpaqueSourceRefused variable_field) }
+    ensures vl_byte_vec_source { SameSourceNames ⟦<VLByteVec as Deserialize>⟧.names
+        (OpaqueSourceRefused variable_field) }
+    ensures secret_vl_bytes_source { SameSourceNames ⟦<SecretVLBytes as Deserialize>⟧.names
+        (OpaqueSourceRefused variable_field) }
+    ensures secret_vl_byte_vec_source { SameSourceNames ⟦<SecretVLByteVec as Deserialize>⟧.names
+        (OpaqueSourceRefused variable_field) }
 {}
 
 /// What a length of one to four bytes is in the names of types (RFC 8446, section 3.4).
@@ -225,47 +266,74 @@ pub fn lengths()
 
 /// Lists of elements after such a length, owned and lent, and those of secrets.
 pub fn vectors<'a, F: LengthField, T: Deserialize + DeserializeBytes + Zeroize>()
-    ensures list { Means ⟦<TlsVec<F, T> as Size>⟧ (λ v. trees T.plain (elements_of v)) (counted_list_format F.field T.format) }
-    ensures list_lent { Means ⟦<&'a TlsVec<F, T> as Size>⟧ (λ v. trees T.plain (elements_of v.now)) (counted_list_format F.field T.format) }
-    ensures list_slice { SameNames ⟦<TlsVec<F, T> as DeserializeBytes>⟧.names (counted_list_names F.field T.format T.DeserializeBytes.names) }
-    ensures list_source { SameSourceNames ⟦<TlsVec<F, T> as Deserialize>⟧.names (counted_list_source_names F.field T.format T.Deserialize.names) }
+    ensures list { Means ⟦<TlsVec<F, T> as Size>⟧ (λ v. trees T.plain (elements_of v))
+        (counted_list_format F.field T.format) }
+    ensures list_lent { Means ⟦<&'a TlsVec<F, T> as Size>⟧ (λ v. trees T.plain (elements_of v.now))
+        (counted_list_format F.field T.format) }
+    ensures list_slice { SameNames ⟦<TlsVec<F, T> as DeserializeBytes>⟧.names
+        (counted_list_names F.field T.format T.DeserializeBytes.names) }
+    ensures list_source { SameSourceNames ⟦<TlsVec<F, T> as Deserialize>⟧.names
+        (counted_list_source_names F.field T.format T.Deserialize.names) }
 
-    ensures secret { Means ⟦<SecretTlsVec<F, T> as Size>⟧ (λ v. trees T.plain (secret_elements_of v)) (counted_list_format F.field T.format) }
-    ensures secret_lent { Means ⟦<&'a SecretTlsVec<F, T> as Size>⟧ (λ v. trees T.plain (secret_elements_of v.now)) (counted_list_format F.field T.format) }
-    ensures secret_slice { SameNames ⟦<SecretTlsVec<F, T> as DeserializeBytes>⟧.names (counted_list_names F.field T.format T.DeserializeBytes.names) }
-    ensures secret_source { SameSourceNames ⟦<SecretTlsVec<F, T> as Deserialize>⟧.names (counted_list_source_names F.field T.format T.Deserialize.names) }
+    ensures secret { Means ⟦<SecretTlsVec<F, T> as Size>⟧
+        (λ v. trees T.plain (secret_elements_of v)) (counted_list_format F.field T.format) }
+    ensures secret_lent { Means ⟦<&'a SecretTlsVec<F, T> as Size>⟧
+        (λ v. trees T.plain (secret_elements_of v.now)) (counted_list_format F.field T.format) }
+    ensures secret_slice { SameNames ⟦<SecretTlsVec<F, T> as DeserializeBytes>⟧.names
+        (counted_list_names F.field T.format T.DeserializeBytes.names) }
+    ensures secret_source { SameSourceNames ⟦<SecretTlsVec<F, T> as Deserialize>⟧.names
+        (counted_list_source_names F.field T.format T.Deserialize.names) }
 {}
 
 /// Elements that are lent.
 pub fn slices<'a, T: Size + 'a>()
-    ensures one { Means ⟦<TlsSliceU8<'a, T> as Size>⟧ (λ v. trees T.plain (u8_elements_of v)) (fixed_list_format 1 T.format) }
-    ensures two { Means ⟦<TlsSliceU16<'a, T> as Size>⟧ (λ v. trees T.plain (u16_elements_of v)) (fixed_list_format 2 T.format) }
-    ensures three { Means ⟦<TlsSliceU24<'a, T> as Size>⟧ (λ v. trees T.plain (u24_elements_of v)) (fixed_list_format 3 T.format) }
-    ensures four { Means ⟦<TlsSliceU32<'a, T> as Size>⟧ (λ v. trees T.plain (u32_elements_of v)) (fixed_list_format 4 T.format) }
+    ensures one { Means ⟦<TlsSliceU8<'a, T> as Size>⟧ (λ v. trees T.plain (u8_elements_of v))
+        (fixed_list_format 1 T.format) }
+    ensures two { Means ⟦<TlsSliceU16<'a, T> as Size>⟧ (λ v. trees T.plain (u16_elements_of v))
+        (fixed_list_format 2 T.format) }
+    ensures three { Means ⟦<TlsSliceU24<'a, T> as Size>⟧ (λ v. trees T.plain (u24_elements_of v))
+        (fixed_list_format 3 T.format) }
+    ensures four { Means ⟦<TlsSliceU32<'a, T> as Size>⟧ (λ v. trees T.plain (u32_elements_of v))
+        (fixed_list_format 4 T.format) }
 
-    ensures one_lent { Means ⟦<&'a TlsSliceU8<'a, T> as Size>⟧ (λ v. trees T.plain (u8_elements_of v.now)) (fixed_list_format 1 T.format) }
-    ensures two_lent { Means ⟦<&'a TlsSliceU16<'a, T> as Size>⟧ (λ v. trees T.plain (u16_elements_of v.now)) (fixed_list_format 2 T.format) }
-    ensures three_lent { Means ⟦<&'a TlsSliceU24<'a, T> as Size>⟧ (λ v. trees T.plain (u24_elements_of v.now)) (fixed_list_format 3 T.format) }
-    ensures four_lent { Means ⟦<&'a TlsSliceU32<'a, T> as Size>⟧ (λ v. trees T.plain (u32_elements_of v.now)) (fixed_list_format 4 T.format) }
+    ensures one_lent { Means ⟦<&'a TlsSliceU8<'a, T> as Size>⟧
+        (λ v. trees T.plain (u8_elements_of v.now)) (fixed_list_format 1 T.format) }
+    ensures two_lent { Means ⟦<&'a TlsSliceU16<'a, T> as Size>⟧
+        (λ v. trees T.plain (u16_elements_of v.now)) (fixed_list_format 2 T.format) }
+    ensures three_lent { Means ⟦<&'a TlsSliceU24<'a, T> as Size>⟧
+        (λ v. trees T.plain (u24_elements_of v.now)) (fixed_list_format 3 T.format) }
+    ensures four_lent { Means ⟦<&'a TlsSliceU32<'a, T> as Size>⟧
+        (λ v. trees T.plain (u32_elements_of v.now)) (fixed_list_format 4 T.format) }
 {}
 
 /// Bytes after such a length, owned.
 pub fn counted_bytes<'a, F: LengthField>()
-    ensures is { Means ⟦<TlsByteVec<F> as Size>⟧ (λ v. number_trees (fixed_bytes_of v)) (counted_bytes_format F.field) }
-    ensures lent { Means ⟦<&'a TlsByteVec<F> as Size>⟧ (λ v. number_trees (fixed_bytes_of v.now)) (counted_bytes_format F.field) }
+    ensures is { Means ⟦<TlsByteVec<F> as Size>⟧ (λ v. number_trees (fixed_bytes_of v))
+        (counted_bytes_format F.field) }
+    ensures lent { Means ⟦<&'a TlsByteVec<F> as Size>⟧ (λ v. number_trees (fixed_bytes_of v.now))
+        (counted_bytes_format F.field) }
     ensures slice { SameNames ⟦<TlsByteVec<F> as DeserializeBytes>⟧.names (opaque_names F.field) }
-    ensures source { SameSourceNames ⟦<TlsByteVec<F> as Deserialize>⟧.names (OpaqueSourceRefused F.field) }
+    ensures source { SameSourceNames ⟦<TlsByteVec<F> as Deserialize>⟧.names
+        (OpaqueSourceRefused F.field) }
 {}
 
 /// Bytes that are lent.
 pub fn byte_slices<'a>()
-    ensures one { Means ⟦<TlsByteSliceU8<'a> as Size>⟧ (λ v. number_trees (u8_bytes_of v)) (fixed_bytes_format 1) }
-    ensures two { Means ⟦<TlsByteSliceU16<'a> as Size>⟧ (λ v. number_trees (u16_bytes_of v)) (fixed_bytes_format 2) }
-    ensures three { Means ⟦<TlsByteSliceU24<'a> as Size>⟧ (λ v. number_trees (u24_bytes_of v)) (fixed_bytes_format 3) }
-    ensures four { Means ⟦<TlsByteSliceU32<'a> as Size>⟧ (λ v. number_trees (u32_bytes_of v)) (fixed_bytes_format 4) }
+    ensures one { Means ⟦<TlsByteSliceU8<'a> as Size>⟧ (λ v. number_trees (u8_bytes_of v))
+        (fixed_bytes_format 1) }
+    ensures two { Means ⟦<TlsByteSliceU16<'a> as Size>⟧ (λ v. number_trees (u16_bytes_of v))
+        (fixed_bytes_format 2) }
+    ensures three { Means ⟦<TlsByteSliceU24<'a> as Size>⟧ (λ v. number_trees (u24_bytes_of v))
+        (fixed_bytes_format 3) }
+    ensures four { Means ⟦<TlsByteSliceU32<'a> as Size>⟧ (λ v. number_trees (u32_bytes_of v))
+        (fixed_bytes_format 4) }
 
-    ensures one_lent { Means ⟦<&'a TlsByteSliceU8<'a> as Size>⟧ (λ v. number_trees (u8_bytes_of v.now)) (fixed_bytes_format 1) }
-    ensures two_lent { Means ⟦<&'a TlsByteSliceU16<'a> as Size>⟧ (λ v. number_trees (u16_bytes_of v.now)) (fixed_bytes_format 2) }
-    ensures three_lent { Means ⟦<&'a TlsByteSliceU24<'a> as Size>⟧ (λ v. number_trees (u24_bytes_of v.now)) (fixed_bytes_format 3) }
-    ensures four_lent { Means ⟦<&'a TlsByteSliceU32<'a> as Size>⟧ (λ v. number_trees (u32_bytes_of v.now)) (fixed_bytes_format 4) }
+    ensures one_lent { Means ⟦<&'a TlsByteSliceU8<'a> as Size>⟧
+        (λ v. number_trees (u8_bytes_of v.now)) (fixed_bytes_format 1) }
+    ensures two_lent { Means ⟦<&'a TlsByteSliceU16<'a> as Size>⟧
+        (λ v. number_trees (u16_bytes_of v.now)) (fixed_bytes_format 2) }
+    ensures three_lent { Means ⟦<&'a TlsByteSliceU24<'a> as Size>⟧
+        (λ v. number_trees (u24_bytes_of v.now)) (fixed_bytes_format 3) }
+    ensures four_lent { Means ⟦<&'a TlsByteSliceU32<'a> as Size>⟧
+        (λ v. number_trees (u32_bytes_of v.now)) (fixed_bytes_format 4) }
 {}

@@ -30,7 +30,8 @@ const MOST_BEHIND: usize = 1 << 61;
 /// The announced length of a list: that of its elements, and the width of it, saturated at
 /// `usize::MAX`.
 pub fn announced_len<F: LengthField, T: Size>(elements: &[T]) -> usize
-    ensures { result ≡ (counted_list_format F.field T.format).announced (trees T.plain elements.now) }
+    ensures { result
+        ≡ (counted_list_format F.field T.format).announced (trees T.plain elements.now) }
 {
     match content_len(elements) {
         Ok(length) => F::width(length).saturating_add(length),
@@ -46,8 +47,10 @@ pub fn write<F: LengthField, T: Serialize, W: Sink>(
     writer: &mut W,
     elements: &[T],
 ) -> Result<usize, Error>
-    ensures writes { Writes (counted_list_format F.field T.format) (trees T.plain elements.now) W.Sink writer.old writer.new result }
-    ensures too_long { (counted_list_format F.field T.format).too_long (trees T.plain elements.now) → (result ≡ Err InvalidVectorLength) × (writer.new ≡ writer.old) }
+    ensures writes { Writes (counted_list_format F.field T.format) (trees T.plain elements.now)
+        W.Sink writer.old writer.new result }
+    ensures too_long { (counted_list_format F.field T.format).too_long (trees T.plain elements.now)
+        → (result ≡ Err InvalidVectorLength) × (writer.new ≡ writer.old) }
 {
     let length = content_len(elements)?;
     let width = write_length::<F, W>(writer, length)?;
@@ -64,9 +67,12 @@ pub fn append<F: LengthField, T: Serialize>(
     out: &mut Vec<u8>,
     elements: &[T],
 ) -> Result<usize, Error>
-    ensures appends { AppendsForm (counted_list_format F.field T.format) (trees T.plain elements.now) out.old.items out.new.items result }
+    ensures appends { AppendsForm (counted_list_format F.field T.format)
+        (trees T.plain elements.now) out.old.items out.new.items result }
     ensures too_long { (counted_list_format F.field T.format).too_long (trees T.plain elements.now)
-        → IsErrAnd result (λ e. (e ≡ OutOfMemory) ⊎ (counted_list_format F.field T.format).refuses (trees T.plain elements.now) e) }
+        → IsErrAnd result
+        (λ e. (e ≡ OutOfMemory)
+        ⊎ (counted_list_format F.field T.format).refuses (trees T.plain elements.now) e) }
 {
     let at = out.len();
     match append_behind_gap::<F, T>(out, elements) {
@@ -83,8 +89,12 @@ fn append_behind_gap<F: LengthField, T: Serialize>(
     out: &mut Vec<u8>,
     elements: &[T],
 ) -> Result<usize, Error>
-    ensures ok { IfOk result (λ n. Appended (counted_list_format F.field T.format) (trees T.plain elements.now) out.old.items out.new.items n) }
-    ensures err { IfErr result (λ e. AppendRefused (counted_list_format F.field T.format) (trees T.plain elements.now) out.old.items (take (length out.old.items) out.new.items) e) }
+    ensures ok { IfOk result
+        (λ n. Appended (counted_list_format F.field T.format) (trees T.plain elements.now)
+        out.old.items out.new.items n) }
+    ensures err { IfErr result
+        (λ e. AppendRefused (counted_list_format F.field T.format) (trees T.plain elements.now)
+        out.old.items (take (length out.old.items) out.new.items) e) }
 {
     let at = out.len();
     let gap = likely_width::<F, T>(at, elements.len());
@@ -101,9 +111,12 @@ pub fn to_vec<F: LengthField, T: SerializeBytes>(
     alloc: Global,
     elements: &[T],
 ) -> Result<Vec<u8>, Error>
-    ensures makes { Makes (counted_list_format F.field T.format) (trees T.plain elements.now) result }
+    ensures makes { Makes (counted_list_format F.field T.format) (trees T.plain elements.now)
+        result }
     ensures too_long { (counted_list_format F.field T.format).too_long (trees T.plain elements.now)
-        → IsErrAnd result (λ e. (e ≡ OutOfMemory) ⊎ (counted_list_format F.field T.format).refuses (trees T.plain elements.now) e) }
+        → IsErrAnd result
+        (λ e. (e ≡ OutOfMemory)
+        ⊎ (counted_list_format F.field T.format).refuses (trees T.plain elements.now) e) }
 {
     let mut bytes = Vec::new(alloc);
     let gap = likely_width::<F, T>(0, elements.len());
@@ -136,7 +149,8 @@ fn likely_width<F: LengthField, T: Size>(at: usize, count: usize) -> usize
 // How much room is asked for at once for these elements, behind so many bytes: just as much as they have,
 // or a guess that is never large.
 fn room_for<T: Size>(at: usize, elements: &[T]) -> usize
-    ensures { (result ≤ 2 ^ 16) ⊎ (result ≤ content_sum T.format.announced (trees T.plain elements.now)) }
+    ensures { (result ≤ 2 ^ 16)
+        ⊎ (result ≤ content_sum T.format.announced (trees T.plain elements.now)) }
 {
     let count = elements.len();
     match T::tls_fixed_len() {
@@ -154,8 +168,11 @@ pub fn read<F: LengthField, T: Deserialize, R: Source>(
     alloc: Global,
     bytes: &mut R,
 ) -> Result<Vec<T>, Error>
-    ensures reads { Reads (counted_list_format F.field T.format) (λ elements. trees T.plain elements.items) R.Source bytes.old bytes.new result }
-    ensures named { IfErr result (Named (counted_list_format F.field T.format) (counted_list_source_names F.field T.format T.names) R.Source bytes.old bytes.new) }
+    ensures reads { Reads (counted_list_format F.field T.format)
+        (λ elements. trees T.plain elements.items) R.Source bytes.old bytes.new result }
+    ensures named { IfErr result
+        (Named (counted_list_format F.field T.format)
+        (counted_list_source_names F.field T.format T.names) R.Source bytes.old bytes.new) }
 {
     let length = F::read_length(bytes)?;
     let elements = lists::from_reader(alloc, bytes, length, &mut Turns::new())?;
@@ -170,7 +187,8 @@ pub fn split<F: LengthField, T: DeserializeBytes>(
     alloc: Global,
     bytes: &[u8],
 ) -> Result<(Vec<T>, &[u8]), Error>
-    ensures splits { Splits (counted_list_format F.field T.format) (λ elements. trees T.plain elements.items) bytes.now result }
+    ensures splits { Splits (counted_list_format F.field T.format)
+        (λ elements. trees T.plain elements.items) bytes.now result }
     ensures named { IfErr result (counted_list_names F.field T.format T.names bytes.now) }
 {
     let (length, rest) = F::split_length(bytes)?;

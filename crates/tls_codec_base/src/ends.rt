@@ -18,9 +18,12 @@ use tls_codec_wire::{Error, Source, expect_end};
 /// assert_eq!(rt; deserialize_to_end::<u16, _>(alloc, &mut file), Err(Error::TrailingData));
 /// ```
 pub fn deserialize_to_end<T: Deserialize, R: Source>(alloc: Global, src: &mut R) -> Result<T, Error>
-    ensures gave { IfOk result (λ v. GaveSpelling R.given T.format.spells src.old src.new (T.plain v)) }
-    ensures whole { IfOk result (λ v. SawSpelling R.Source T.format.spells src.old src.new (T.plain v)) }
-    ensures refused { IfErr result (RefusedFor R.Source (to_end_names T.format T.names) src.old src.new) }
+    ensures gave { IfOk result
+        (λ v. GaveSpelling R.given T.format.spells src.old src.new (T.plain v)) }
+    ensures whole { IfOk result
+        (λ v. SawSpelling R.Source T.format.spells src.old src.new (T.plain v)) }
+    ensures refused { IfErr result
+        (RefusedFor R.Source (to_end_names T.format T.names) src.old src.new) }
 {
     let value = T::tls_deserialize(alloc, src)?;
     expect_end(src)?;

@@ -40,72 +40,117 @@ pub fn formats_are_lawful<T: Size, U: Size>()
     ensures lists { MeetsLaws (list_format T.format) }
     ensures fixed { (k : ℕ) → MeetsLaws (fixed_list_format k T.format) }
     ensures texts { MeetsLaws text_format }
-    ensures choices { (k m n : ℕ) → k < 2 ^ 64 → MeetsLaws (tagged_format k (variant m T.format (variant n U.format no_variant))) }
+    ensures choices { (k m n : ℕ)
+        → k < 2 ^ 64
+        → MeetsLaws (tagged_format k (variant m T.format (variant n U.format no_variant))) }
 {}
 
 /// No spelling of a type is a proper prefix of another, and bytes spell one value at most.
 pub fn spellings_are_prefix_free<T: Size>()
-    ensures prefix { (s t : List ℕ) (v w : Tree) → T.format.spells Reading s v → T.format.spells Reading t w → IsBeginning s t → s ≡ t }
-    ensures value { (s : List ℕ) (v w : Tree) → T.format.spells Reading s v → T.format.spells Reading s w → v ≡ w }
+    ensures prefix { (s t : List ℕ) (v w : Tree)
+        → T.format.spells Reading s v
+        → T.format.spells Reading t w
+        → IsBeginning s t
+        → s ≡ t }
+    ensures value { (s : List ℕ) (v w : Tree)
+        → T.format.spells Reading s v
+        → T.format.spells Reading s w
+        → v ≡ w }
 {}
 
 /// A list has a spelling just where each of its elements has one that isn't empty, and their shortest
 /// forms together have a number of bytes that its length field can hold.
 pub fn lists_are_spelled_where_their_elements_fit<F: LengthField, T: Size>()
-    ensures { (v : Tree) → HasReadingSpelling (counted_list_format F.field T.format).spells v
-        ↔ (EachHasNonemptySpelling T.format.spells v × FitTogether T.format.spells F.field.limit v) }
+    ensures { (v : Tree)
+        → HasReadingSpelling (counted_list_format F.field T.format).spells v
+        ↔ (EachHasNonemptySpelling T.format.spells v
+        × FitTogether T.format.spells F.field.limit v) }
 {}
 
 /// The shortest form of a full value, whatever is behind it, begins with just one spelling, which is of
 /// that value and leaves what is behind.
 pub fn shortest_forms_are_read_back<T: Size>()
-    ensures { (form rest : List ℕ) (v : Tree) → IsShortest T.format.spells form v → IsFull T.format.spells v → BeginsWithOne T.format.spells (form ++ rest) v rest }
+    ensures { (form rest : List ℕ) (v : Tree)
+        → IsShortest T.format.spells form v
+        → IsFull T.format.spells v
+        → BeginsWithOne T.format.spells (form ++ rest) v rest }
 {}
 
 /// A proper prefix of the shortest form of a full value begins with no spelling. So what a sink has received
 /// of it that failed before the end is refused by both decoders.
 pub fn forms_cut_short_have_no_spelling<T: Size>()
-    ensures { (part form : List ℕ) (v : Tree) → IsShortest T.format.spells form v → IsFull T.format.spells v → IsBeginning part form → length part < length form → NoneBegins T.format.spells part }
+    ensures { (part form : List ℕ) (v : Tree)
+        → IsShortest T.format.spells form v
+        → IsFull T.format.spells v
+        → IsBeginning part form
+        → length part < length form
+        → NoneBegins T.format.spells part }
 {}
 
 /// Whatever spells a value, in either direction, is its shortest form: there is no other spelling.
 pub fn spellings_are_shortest_forms<T: Size>()
-    ensures { (d : Direction) (s : List ℕ) (v : Tree) → T.format.spells d s v → IsShortest T.format.spells s v }
+    ensures { (d : Direction) (s : List ℕ) (v : Tree)
+        → T.format.spells d s v
+        → IsShortest T.format.spells s v }
 {}
 
 /// Bytes that were read are the encoding of the value that was read: whatever encoder writes that value
 /// again writes just these bytes.
 pub fn what_was_read_is_written_again<T: Size, R: Source, W: Sink>()
-    ensures given { (old new : R) (form : List ℕ) (v : Tree) → GaveSpelling R.given T.format.spells old new v → IsShortest T.format.spells form v → R.given old form new }
-    ensures made { (x rest : List ℕ) (v : Tree) (bytes : Vec ℕ Global) → Begins T.format.spells x v rest → Makes T.format v (Ok bytes) → x ≡ bytes.items ++ rest }
-    ensures appended { (x rest old new : List ℕ) (v : Tree) (n : ℕ) (b : Begins T.format.spells x v rest) → AppendsForm T.format v old new (Ok n) → new ≡ old ++ b.front }
-    ensures sent { (x rest : List ℕ) (v : Tree) (old new : W) (n : ℕ) (b : Begins T.format.spells x v rest) → Writes T.format v W.Sink old new (Ok n) → Appends (W.received old) (W.received new) b.front }
+    ensures given { (old new : R) (form : List ℕ) (v : Tree)
+        → GaveSpelling R.given T.format.spells old new v
+        → IsShortest T.format.spells form v
+        → R.given old form new }
+    ensures made { (x rest : List ℕ) (v : Tree) (bytes : Vec ℕ Global)
+        → Begins T.format.spells x v rest
+        → Makes T.format v (Ok bytes)
+        → x ≡ bytes.items ++ rest }
+    ensures appended { (x rest old new : List ℕ) (v : Tree) (n : ℕ)
+        (b : Begins T.format.spells x v rest)
+        → AppendsForm T.format v old new (Ok n)
+        → new ≡ old ++ b.front }
+    ensures sent { (x rest : List ℕ) (v : Tree) (old new : W) (n : ℕ)
+        (b : Begins T.format.spells x v rest)
+        → Writes T.format v W.Sink old new (Ok n)
+        → Appends (W.received old) (W.received new) b.front }
 {}
 
 /// Where the elements of a list all have shortest forms that together pass its length field, the list is
 /// refused before anything of it is sent.
 pub fn long_contents_are_too_long<F: LengthField, T: Size>()
-    ensures { (form : List ℕ) (v : Tree) → IsShortest (content T.format.spells) form v → F.field.limit ≤ length form → (counted_list_format F.field T.format).too_long v }
+    ensures { (form : List ℕ) (v : Tree)
+        → IsShortest (content T.format.spells) form v
+        → F.field.limit ≤ length form
+        → (counted_list_format F.field T.format).too_long v }
 {}
 
 /// The shortest content is the elements' shortest forms in a row.
 pub fn shortest_contents_are_in_a_row<T: Size>()
     ensures none { (form : List ℕ) → IsShortest (content T.format.spells) form Empty ↔ (form ≡ []) }
-    ensures more { (form : List ℕ) (v vs : Tree) → IsShortest (content T.format.spells) form (Join v vs)
-        ↔ Row form (λ a. IsShortest T.format.spells a v) (λ b. IsShortest (content T.format.spells) b vs) }
+    ensures more { (form : List ℕ) (v vs : Tree)
+        → IsShortest (content T.format.spells) form (Join v vs)
+        ↔ Row form (λ a. IsShortest T.format.spells a v)
+        (λ b. IsShortest (content T.format.spells) b vs) }
 {}
 
 /// Behind one form of length, equal bytes have equal spellings, in whatever type they stand: the
 /// spellings of their number, with the bytes behind them.
 pub fn equal_bytes_have_equal_spellings<F: LengthField>()
-    ensures bytes { (d : Direction) (s contents : List ℕ) → AreBytes contents
-        → ((counted_bytes_format F.field).spells d s (number_trees contents) ↔ Counted F.field.spells s (λ c. c ≡ contents)) }
-    ensures lists { (d : Direction) (s contents : List ℕ) → AreBytes contents
-        → ((counted_list_format F.field ⟦<u8 as Size>⟧.format).spells d s (trees ⟦<u8 as Size>⟧.plain contents) ↔ Counted F.field.spells s (λ c. c ≡ contents)) }
+    ensures bytes { (d : Direction) (s contents : List ℕ)
+        → AreBytes contents
+        → ((counted_bytes_format F.field).spells d s (number_trees contents)
+        ↔ Counted F.field.spells s (λ c. c ≡ contents)) }
+    ensures lists { (d : Direction) (s contents : List ℕ)
+        → AreBytes contents
+        → ((counted_list_format F.field ⟦<u8 as Size>⟧.format).spells d s
+        (trees ⟦<u8 as Size>⟧.plain contents)
+        ↔ Counted F.field.spells s (λ c. c ≡ contents)) }
 {}
 
 /// Where a source tells its bytes and has given just a spelling, the bytes that were to come begin
 /// with that spelling, and what is to come now is the rest of them.
 pub fn just_the_rest_is_to_come<T: Size, R: Source>()
-    ensures { (old : R) (v : Tree) (new : R) → GaveSpelling R.given T.format.spells old new v → ComesFirst T.format.spells (R.coming old) v (R.coming new) }
+    ensures { (old : R) (v : Tree) (new : R)
+        → GaveSpelling R.given T.format.spells old new v
+        → ComesFirst T.format.spells (R.coming old) v (R.coming new) }
 {}

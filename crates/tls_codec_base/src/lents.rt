@@ -69,7 +69,8 @@ impl<'a, A: Serialize, B: Serialize, C: Serialize> Serialize for Lent3<'a, A, B,
 pub struct Lent4<'a, A, B, C, D>(pub &'a A, pub &'a B, pub &'a C, pub &'a D);
 
 impl<'a, A: Size, B: Size, C: Size, D: Size> Size for Lent4<'a, A, B, C, D> {
-    ghost plain = { λ v. pair_tree (pair_tree (A.plain v.0.now) (B.plain v.1.now)) (pair_tree (C.plain v.2.now) (D.plain v.3.now)) };
+    ghost plain = { λ v. pair_tree (pair_tree (A.plain v.0.now) (B.plain v.1.now))
+        (pair_tree (C.plain v.2.now) (D.plain v.3.now)) };
 
     ghost format = { pair_format (pair_format A.format B.format) (pair_format C.format D.format) };
 
@@ -96,15 +97,19 @@ impl<'a, A: Serialize, B: Serialize, C: Serialize, D: Serialize> Serialize
 pub struct Lent5<'a, A, B, C, D, E>(pub &'a A, pub &'a B, pub &'a C, pub &'a D, pub &'a E);
 
 impl<'a, A: Size, B: Size, C: Size, D: Size, E: Size> Size for Lent5<'a, A, B, C, D, E> {
-    ghost plain = { λ v. pair_tree (triple_tree (A.plain v.0.now) (B.plain v.1.now) (C.plain v.2.now)) (pair_tree (D.plain v.3.now) (E.plain v.4.now)) };
+    ghost plain = { λ v. pair_tree
+        (triple_tree (A.plain v.0.now) (B.plain v.1.now) (C.plain v.2.now))
+        (pair_tree (D.plain v.3.now) (E.plain v.4.now)) };
 
-    ghost format = { pair_format (triple_format A.format B.format C.format) (pair_format D.format E.format) };
+    ghost format = { pair_format (triple_format A.format B.format C.format)
+        (pair_format D.format E.format) };
 
     fn tls_serialized_len(&self) -> usize {
         (Lent3(self.0, self.1, self.2), Lent2(self.3, self.4)).tls_serialized_len()
     }
 
-    ghost lawful = { pair_meets (triple_meets A.lawful B.lawful C.lawful) (pair_meets D.lawful E.lawful) };
+    ghost lawful = { pair_meets (triple_meets A.lawful B.lawful C.lawful)
+        (pair_meets D.lawful E.lawful) };
 }
 
 impl<'a, A: Serialize, B: Serialize, C: Serialize, D: Serialize, E: Serialize> Serialize
@@ -131,15 +136,19 @@ pub struct Lent6<'a, A, B, C, D, E, F>(
 
 impl<'a, A: Size, B: Size, C: Size, D: Size, E: Size, F: Size> Size
     for Lent6<'a, A, B, C, D, E, F> {
-    ghost plain = { λ v. pair_tree (triple_tree (A.plain v.0.now) (B.plain v.1.now) (C.plain v.2.now)) (triple_tree (D.plain v.3.now) (E.plain v.4.now) (F.plain v.5.now)) };
+    ghost plain = { λ v. pair_tree
+        (triple_tree (A.plain v.0.now) (B.plain v.1.now) (C.plain v.2.now))
+        (triple_tree (D.plain v.3.now) (E.plain v.4.now) (F.plain v.5.now)) };
 
-    ghost format = { pair_format (triple_format A.format B.format C.format) (triple_format D.format E.format F.format) };
+    ghost format = { pair_format (triple_format A.format B.format C.format)
+        (triple_format D.format E.format F.format) };
 
     fn tls_serialized_len(&self) -> usize {
         (Lent3(self.0, self.1, self.2), Lent3(self.3, self.4, self.5)).tls_serialized_len()
     }
 
-    ghost lawful = { pair_meets (triple_meets A.lawful B.lawful C.lawful) (triple_meets D.lawful E.lawful F.lawful) };
+    ghost lawful = { pair_meets (triple_meets A.lawful B.lawful C.lawful)
+        (triple_meets D.lawful E.lawful F.lawful) };
 }
 
 impl<
@@ -174,9 +183,13 @@ pub struct Lent7<'a, A, B, C, D, E, F, G>(
 
 impl<'a, A: Size, B: Size, C: Size, D: Size, E: Size, F: Size, G: Size> Size
     for Lent7<'a, A, B, C, D, E, F, G> {
-    ghost plain = { λ v. triple_tree (triple_tree (A.plain v.0.now) (B.plain v.1.now) (C.plain v.2.now)) (pair_tree (D.plain v.3.now) (E.plain v.4.now)) (pair_tree (F.plain v.5.now) (G.plain v.6.now)) };
+    ghost plain = { λ v. triple_tree
+        (triple_tree (A.plain v.0.now) (B.plain v.1.now) (C.plain v.2.now))
+        (pair_tree (D.plain v.3.now) (E.plain v.4.now))
+        (pair_tree (F.plain v.5.now) (G.plain v.6.now)) };
 
-    ghost format = { triple_format (triple_format A.format B.format C.format) (pair_format D.format E.format) (pair_format F.format G.format) };
+    ghost format = { triple_format (triple_format A.format B.format C.format)
+        (pair_format D.format E.format) (pair_format F.format G.format) };
 
     fn tls_serialized_len(&self) -> usize {
         (
@@ -187,7 +200,8 @@ impl<'a, A: Size, B: Size, C: Size, D: Size, E: Size, F: Size, G: Size> Size
             .tls_serialized_len()
     }
 
-    ghost lawful = { triple_meets (triple_meets A.lawful B.lawful C.lawful) (pair_meets D.lawful E.lawful) (pair_meets F.lawful G.lawful) };
+    ghost lawful = { triple_meets (triple_meets A.lawful B.lawful C.lawful)
+        (pair_meets D.lawful E.lawful) (pair_meets F.lawful G.lawful) };
 }
 
 impl<
@@ -234,9 +248,13 @@ pub struct Lent8<'a, A, B, C, D, E, F, G, H>(
 
 impl<'a, A: Size, B: Size, C: Size, D: Size, E: Size, F: Size, G: Size, H: Size> Size
     for Lent8<'a, A, B, C, D, E, F, G, H> {
-    ghost plain = { λ v. triple_tree (triple_tree (A.plain v.0.now) (B.plain v.1.now) (C.plain v.2.now)) (triple_tree (D.plain v.3.now) (E.plain v.4.now) (F.plain v.5.now)) (pair_tree (G.plain v.6.now) (H.plain v.7.now)) };
+    ghost plain = { λ v. triple_tree
+        (triple_tree (A.plain v.0.now) (B.plain v.1.now) (C.plain v.2.now))
+        (triple_tree (D.plain v.3.now) (E.plain v.4.now) (F.plain v.5.now))
+        (pair_tree (G.plain v.6.now) (H.plain v.7.now)) };
 
-    ghost format = { triple_format (triple_format A.format B.format C.format) (triple_format D.format E.format F.format) (pair_format G.format H.format) };
+    ghost format = { triple_format (triple_format A.format B.format C.format)
+        (triple_format D.format E.format F.format) (pair_format G.format H.format) };
 
     fn tls_serialized_len(&self) -> usize {
         (
@@ -247,7 +265,8 @@ impl<'a, A: Size, B: Size, C: Size, D: Size, E: Size, F: Size, G: Size, H: Size>
             .tls_serialized_len()
     }
 
-    ghost lawful = { triple_meets (triple_meets A.lawful B.lawful C.lawful) (triple_meets D.lawful E.lawful F.lawful) (pair_meets G.lawful H.lawful) };
+    ghost lawful = { triple_meets (triple_meets A.lawful B.lawful C.lawful)
+        (triple_meets D.lawful E.lawful F.lawful) (pair_meets G.lawful H.lawful) };
 }
 
 impl<
@@ -296,9 +315,13 @@ pub struct Lent9<'a, A, B, C, D, E, F, G, H, I>(
 
 impl<'a, A: Size, B: Size, C: Size, D: Size, E: Size, F: Size, G: Size, H: Size, I: Size> Size
     for Lent9<'a, A, B, C, D, E, F, G, H, I> {
-    ghost plain = { λ v. triple_tree (triple_tree (A.plain v.0.now) (B.plain v.1.now) (C.plain v.2.now)) (triple_tree (D.plain v.3.now) (E.plain v.4.now) (F.plain v.5.now)) (triple_tree (G.plain v.6.now) (H.plain v.7.now) (I.plain v.8.now)) };
+    ghost plain = { λ v. triple_tree
+        (triple_tree (A.plain v.0.now) (B.plain v.1.now) (C.plain v.2.now))
+        (triple_tree (D.plain v.3.now) (E.plain v.4.now) (F.plain v.5.now))
+        (triple_tree (G.plain v.6.now) (H.plain v.7.now) (I.plain v.8.now)) };
 
-    ghost format = { triple_format (triple_format A.format B.format C.format) (triple_format D.format E.format F.format) (triple_format G.format H.format I.format) };
+    ghost format = { triple_format (triple_format A.format B.format C.format)
+        (triple_format D.format E.format F.format) (triple_format G.format H.format I.format) };
 
     fn tls_serialized_len(&self) -> usize {
         (
@@ -309,7 +332,8 @@ impl<'a, A: Size, B: Size, C: Size, D: Size, E: Size, F: Size, G: Size, H: Size,
             .tls_serialized_len()
     }
 
-    ghost lawful = { triple_meets (triple_meets A.lawful B.lawful C.lawful) (triple_meets D.lawful E.lawful F.lawful) (triple_meets G.lawful H.lawful I.lawful) };
+    ghost lawful = { triple_meets (triple_meets A.lawful B.lawful C.lawful)
+        (triple_meets D.lawful E.lawful F.lawful) (triple_meets G.lawful H.lawful I.lawful) };
 }
 
 impl<

@@ -21,15 +21,23 @@ use tls_codec_wire::{TlsVarInt, U24};
 
 /// No decoder of a type without parts returns `TrailingData`.
 pub fn single_values_are_never_trailing<const LEN: usize>()
-    ensures numbers { NeverTrailing ⟦<u8 as DeserializeBytes>⟧.names × NeverTrailing ⟦<u16 as DeserializeBytes>⟧.names
-        × NeverTrailing ⟦<U24 as DeserializeBytes>⟧.names × NeverTrailing ⟦<u32 as DeserializeBytes>⟧.names
-        × NeverTrailing ⟦<u64 as DeserializeBytes>⟧.names × NeverTrailing ⟦<TlsVarInt as DeserializeBytes>⟧.names }
-    ensures numbers_read { SourceNeverTrailing ⟦<u8 as Deserialize>⟧.names × SourceNeverTrailing ⟦<u16 as Deserialize>⟧.names
-        × SourceNeverTrailing ⟦<U24 as Deserialize>⟧.names × SourceNeverTrailing ⟦<u32 as Deserialize>⟧.names
-        × SourceNeverTrailing ⟦<u64 as Deserialize>⟧.names × SourceNeverTrailing ⟦<TlsVarInt as Deserialize>⟧.names }
-    ensures others { NeverTrailing ⟦<[u8; LEN] as DeserializeBytes>⟧.names × NeverTrailing ⟦<String as DeserializeBytes>⟧.names
+    ensures numbers { NeverTrailing ⟦<u8 as DeserializeBytes>⟧.names
+        × NeverTrailing ⟦<u16 as DeserializeBytes>⟧.names
+        × NeverTrailing ⟦<U24 as DeserializeBytes>⟧.names
+        × NeverTrailing ⟦<u32 as DeserializeBytes>⟧.names
+        × NeverTrailing ⟦<u64 as DeserializeBytes>⟧.names
+        × NeverTrailing ⟦<TlsVarInt as DeserializeBytes>⟧.names }
+    ensures numbers_read { SourceNeverTrailing ⟦<u8 as Deserialize>⟧.names
+        × SourceNeverTrailing ⟦<u16 as Deserialize>⟧.names
+        × SourceNeverTrailing ⟦<U24 as Deserialize>⟧.names
+        × SourceNeverTrailing ⟦<u32 as Deserialize>⟧.names
+        × SourceNeverTrailing ⟦<u64 as Deserialize>⟧.names
+        × SourceNeverTrailing ⟦<TlsVarInt as Deserialize>⟧.names }
+    ensures others { NeverTrailing ⟦<[u8; LEN] as DeserializeBytes>⟧.names
+        × NeverTrailing ⟦<String as DeserializeBytes>⟧.names
         × NeverTrailing ⟦<() as DeserializeBytes>⟧.names }
-    ensures others_read { SourceNeverTrailing ⟦<[u8; LEN] as Deserialize>⟧.names × SourceNeverTrailing ⟦<String as Deserialize>⟧.names
+    ensures others_read { SourceNeverTrailing ⟦<[u8; LEN] as Deserialize>⟧.names
+        × SourceNeverTrailing ⟦<String as Deserialize>⟧.names
         × SourceNeverTrailing ⟦<() as Deserialize>⟧.names }
 {}
 
@@ -47,10 +55,17 @@ pub fn parts_are_never_trailing<
     V: DeserializeBytes,
 >()
     ensures boxes { NeverTrailing T.names → NeverTrailing ⟦<Box<T> as DeserializeBytes>⟧.names }
-    ensures options { NeverTrailing T.names → NeverTrailing ⟦<Option<T> as DeserializeBytes>⟧.names }
-    ensures pairs { NeverTrailing T.names → NeverTrailing U.names → NeverTrailing ⟦<(T, U) as DeserializeBytes>⟧.names }
-    ensures triples { NeverTrailing T.names → NeverTrailing U.names → NeverTrailing V.names → NeverTrailing ⟦<(T, U, V) as DeserializeBytes>⟧.names }
-    ensures lists { NeverTrailing T.names → NeverTrailing (counted_list_names F.field T.format T.names) }
+    ensures options { NeverTrailing T.names
+        → NeverTrailing ⟦<Option<T> as DeserializeBytes>⟧.names }
+    ensures pairs { NeverTrailing T.names
+        → NeverTrailing U.names
+        → NeverTrailing ⟦<(T, U) as DeserializeBytes>⟧.names }
+    ensures triples { NeverTrailing T.names
+        → NeverTrailing U.names
+        → NeverTrailing V.names
+        → NeverTrailing ⟦<(T, U, V) as DeserializeBytes>⟧.names }
+    ensures lists { NeverTrailing T.names
+        → NeverTrailing (counted_list_names F.field T.format T.names) }
 {}
 
 /// Nor does one from a source.
@@ -60,20 +75,32 @@ pub fn parts_read_are_never_trailing<
     U: Deserialize,
     V: Deserialize,
 >()
-    ensures boxes { SourceNeverTrailing T.names → SourceNeverTrailing ⟦<Box<T> as Deserialize>⟧.names }
-    ensures options { SourceNeverTrailing T.names → SourceNeverTrailing ⟦<Option<T> as Deserialize>⟧.names }
-    ensures pairs { SourceNeverTrailing T.names → SourceNeverTrailing U.names → SourceNeverTrailing ⟦<(T, U) as Deserialize>⟧.names }
-    ensures triples { SourceNeverTrailing T.names → SourceNeverTrailing U.names → SourceNeverTrailing V.names → SourceNeverTrailing ⟦<(T, U, V) as Deserialize>⟧.names }
-    ensures lists { SourceNeverTrailing T.names → SourceNeverTrailing (counted_list_source_names F.field T.format T.names) }
+    ensures boxes { SourceNeverTrailing T.names
+        → SourceNeverTrailing ⟦<Box<T> as Deserialize>⟧.names }
+    ensures options { SourceNeverTrailing T.names
+        → SourceNeverTrailing ⟦<Option<T> as Deserialize>⟧.names }
+    ensures pairs { SourceNeverTrailing T.names
+        → SourceNeverTrailing U.names
+        → SourceNeverTrailing ⟦<(T, U) as Deserialize>⟧.names }
+    ensures triples { SourceNeverTrailing T.names
+        → SourceNeverTrailing U.names
+        → SourceNeverTrailing V.names
+        → SourceNeverTrailing ⟦<(T, U, V) as Deserialize>⟧.names }
+    ensures lists { SourceNeverTrailing T.names
+        → SourceNeverTrailing (counted_list_source_names F.field T.format T.names) }
 {}
 
 /// Where the elements of a list all have shortest forms that together pass its length field, encoders to memory
 /// refuse the list as `InvalidVectorLength`, or for want of memory.
 pub fn long_contents_are_refused<F: LengthField, T: Size>()
     ensures appended { (form : List ℕ) (v : Tree) (old new : List ℕ) (result : Result ℕ Error)
-        → IsShortest (content T.format.spells) form v → F.field.limit ≤ length form → AppendsForm (counted_list_format F.field T.format) v old new result
+        → IsShortest (content T.format.spells) form v
+        → F.field.limit ≤ length form
+        → AppendsForm (counted_list_format F.field T.format) v old new result
         → IsErrAnd result (λ e. (e ≡ InvalidVectorLength) ⊎ (e ≡ OutOfMemory)) }
     ensures made { (form : List ℕ) (v : Tree) (result : Result (Vec ℕ Global) Error)
-        → IsShortest (content T.format.spells) form v → F.field.limit ≤ length form → Makes (counted_list_format F.field T.format) v result
+        → IsShortest (content T.format.spells) form v
+        → F.field.limit ≤ length form
+        → Makes (counted_list_format F.field T.format) v result
         → IsErrAnd result (λ e. (e ≡ InvalidVectorLength) ⊎ (e ≡ OutOfMemory)) }
 {}

@@ -59,15 +59,19 @@ pub trait Serialize: Size {
     /// Appends the value's shortest form to what the sink has received, and returns how many bytes
     /// that is, saturated at `usize::MAX`.
     fn tls_serialize<W: Sink>(&self, writer: &mut W) -> Result<usize, Error>
-        ensures writes { Writes Self.format (Self.plain self.now) W.Sink writer.old writer.new result }
-        ensures too_long { Self.format.too_long (Self.plain self.now) → (result ≡ Err InvalidVectorLength) × (writer.new ≡ writer.old) };
+        ensures writes { Writes Self.format (Self.plain self.now) W.Sink writer.old writer.new
+            result }
+        ensures too_long { Self.format.too_long (Self.plain self.now)
+            → (result ≡ Err InvalidVectorLength) × (writer.new ≡ writer.old) };
 
     /// Appends the value's shortest form to a vector, and returns how many bytes that is. After a
     /// refusal the vector's bytes are those from before.
     fn tls_serialize_into(&self, out: &mut Vec<u8>) -> Result<usize, Error>
-        ensures appends { AppendsForm Self.format (Self.plain self.now) out.old.items out.new.items result }
+        ensures appends { AppendsForm Self.format (Self.plain self.now) out.old.items out.new.items
+            result }
         ensures too_long { Self.format.too_long (Self.plain self.now)
-            → IsErrAnd result (λ e. (e ≡ OutOfMemory) ⊎ Self.format.refuses (Self.plain self.now) e) }
+            → IsErrAnd result
+            (λ e. (e ≡ OutOfMemory) ⊎ Self.format.refuses (Self.plain self.now) e) }
     {
         let at = out.len();
         match self.tls_serialize(out) {
@@ -83,7 +87,8 @@ pub trait Serialize: Size {
     fn tls_serialize_detached(&self, alloc: Global) -> Result<Vec<u8>, Error>
         ensures makes { Makes Self.format (Self.plain self.now) result }
         ensures too_long { Self.format.too_long (Self.plain self.now)
-            → IsErrAnd result (λ e. (e ≡ OutOfMemory) ⊎ Self.format.refuses (Self.plain self.now) e) }
+            → IsErrAnd result
+            (λ e. (e ≡ OutOfMemory) ⊎ Self.format.refuses (Self.plain self.now) e) }
     {
         let mut bytes = Vec::new(alloc);
         self.tls_serialize_into(&mut bytes)?;
@@ -97,7 +102,8 @@ pub trait SerializeBytes: Size {
     fn tls_serialize_bytes(&self, alloc: Global) -> Result<Vec<u8>, Error>
         ensures makes { Makes Self.format (Self.plain self.now) result }
         ensures too_long { Self.format.too_long (Self.plain self.now)
-            → IsErrAnd result (λ e. (e ≡ OutOfMemory) ⊎ Self.format.refuses (Self.plain self.now) e) };
+            → IsErrAnd result
+            (λ e. (e ≡ OutOfMemory) ⊎ Self.format.refuses (Self.plain self.now) e) };
 }
 
 /// A type that is read from a source.
@@ -116,7 +122,8 @@ pub trait Deserialize: Size + Drop {
     /// [`tls_deserialize`](Deserialize::tls_deserialize).
     fn tls_deserialize_exact(alloc: Global, bytes: &[u8]) -> Result<Self, Error>
         ensures reads { ReadsWhole Self.format Self.plain bytes.now result }
-        ensures named { IfErr result (λ e. ((e ≡ TrailingData) × LeavesBytes Self.format.spells bytes.now)
+        ensures named { IfErr result
+            (λ e. ((e ≡ TrailingData) × LeavesBytes Self.format.spells bytes.now)
             ⊎ names bytes.now no_counts no_counts e) }
     {
         let mut rest = bytes;
@@ -139,9 +146,11 @@ pub trait Deserialize: Size + Drop {
     ) -> Result<Option<Vec<Self>>, Error>
         ensures same { BorrowAlike within.old within.new }
         ensures reads { AllGiven Self.format Self.plain R.Source within.old within.new result }
-        ensures named { IfErr result (NamedWithin Self.format names R.Source within.old within.new) }
+        ensures named { IfErr result
+            (NamedWithin Self.format names R.Source within.old within.new) }
         ensures turned { TurnedAll turns.old turns.new result }
-        ensures at_once { IfErr result (MemoryOrFault (R.counts (inner_of within.old)) (R.counts (inner_of within.new))) }
+        ensures at_once { IfErr result
+            (MemoryOrFault (R.counts (inner_of within.old)) (R.counts (inner_of within.new))) }
     {
         Ok(None)
     }
@@ -163,7 +172,8 @@ pub trait DeserializeBytes: Size + Drop {
     /// [`tls_deserialize_bytes`](DeserializeBytes::tls_deserialize_bytes).
     fn tls_deserialize_exact_bytes(alloc: Global, bytes: &[u8]) -> Result<Self, Error>
         ensures reads { ReadsWhole Self.format Self.plain bytes.now result }
-        ensures named { IfErr result (λ e. ((e ≡ TrailingData) × LeavesBytes Self.format.spells bytes.now)
+        ensures named { IfErr result
+            (λ e. ((e ≡ TrailingData) × LeavesBytes Self.format.spells bytes.now)
             ⊎ names bytes.now e) }
     {
         let (value, rest) = Self::tls_deserialize_bytes(alloc, bytes)?;

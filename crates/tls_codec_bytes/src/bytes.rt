@@ -85,8 +85,13 @@ impl<F> TlsByteVec<F> {
         alloc: Global,
         iter: I,
     ) -> Result<TlsByteVec<F>, Error>
-        requires { (it : I.IntoIter) → I.into_iter_gives iter it → I.IntoIter.can_next it × IsFinite (I.IntoIter.remaining it) }
-        ensures ok { IfOk result (λ v. (it : I.IntoIter) × I.into_iter_gives iter it × Drains I.IntoIter.next_gives it (bytes_of v)) }
+        requires { (it : I.IntoIter)
+            → I.into_iter_gives iter it
+            → I.IntoIter.can_next it × IsFinite (I.IntoIter.remaining it) }
+        ensures ok { IfOk result
+            (λ v. (it : I.IntoIter)
+            × I.into_iter_gives iter it
+            × Drains I.IntoIter.next_gives it (bytes_of v)) }
         ensures err { IfErr result (λ e. e ≡ OutOfMemory) }
     {
         let vec = collected(alloc, iter)?;
@@ -150,7 +155,8 @@ impl<F> TlsByteVec<F> {
 
     /// Appends a byte. `OutOfMemory`: there was no memory for it, and the bytes are as they were.
     pub fn push(&mut self, byte: u8) -> Result<(), Error>
-        ensures content { bytes_of self.new ≡ (if is_ok result then bytes_of self.old ++ byte ∷ [] else bytes_of self.old) }
+        ensures content { bytes_of self.new
+            ≡ (if is_ok result then bytes_of self.old ++ byte ∷ [] else bytes_of self.old) }
         ensures err { IfErr result (λ e. e ≡ OutOfMemory) }
     {
         opaque::push(&mut self.vec, byte)

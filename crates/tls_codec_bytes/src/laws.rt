@@ -18,28 +18,47 @@ use tls_codec_wire::U24;
 
 /// A conversion from or to a `Vec<u8>` keeps the bytes.
 pub fn conversions_keep_the_bytes<F>()
-    ensures to { (content : Vec ℕ Global) (v : TlsByteVec F) → ⟦<TlsByteVec<F> as From<Vec<u8>>>⟧.from_gives content v ↔ (bytes_of v ≡ content.items) }
-    ensures back { (v : TlsByteVec F) (content : Vec ℕ Global) → ⟦<Vec<u8> as From<TlsByteVec<F>>>⟧.from_gives v content ↔ (content.items ≡ bytes_of v) }
+    ensures to { (content : Vec ℕ Global) (v : TlsByteVec F)
+        → ⟦<TlsByteVec<F> as From<Vec<u8>>>⟧.from_gives content v
+        ↔ (bytes_of v ≡ content.items) }
+    ensures back { (v : TlsByteVec F) (content : Vec ℕ Global)
+        → ⟦<Vec<u8> as From<TlsByteVec<F>>>⟧.from_gives v content
+        ↔ (content.items ≡ bytes_of v) }
 {}
 
 /// `v[i]` is the byte at a place below the length.
 pub fn places_give_their_bytes<F>()
-    ensures allowed { (v : TlsByteVec F) (i : ℕ) → ⟦<TlsByteVec<F> as Index<usize>>⟧.can_index v i ↔ (i < length (bytes_of v)) }
-    ensures given { (v : TlsByteVec F) (i x : ℕ) → ⟦<TlsByteVec<F> as Index<usize>>⟧.index_gives v i x ↔ (slice_get (bytes_of v) i ≡ Some x) }
+    ensures allowed { (v : TlsByteVec F) (i : ℕ)
+        → ⟦<TlsByteVec<F> as Index<usize>>⟧.can_index v i
+        ↔ (i < length (bytes_of v)) }
+    ensures given { (v : TlsByteVec F) (i x : ℕ)
+        → ⟦<TlsByteVec<F> as Index<usize>>⟧.index_gives v i x
+        ↔ (slice_get (bytes_of v) i ≡ Some x) }
 {}
 
 /// The four names have the spellings of a list of bytes whose length has one to four bytes (RFC 8446,
 /// section 3.4).
 pub fn byte_vecs_are_bytes_behind_one_to_four_bytes()
-    ensures one { (d : Direction) (b : List ℕ) (v : Tree) → ⟦<TlsByteVec<u8> as Size>⟧.format.spells d b v ↔ fixed_list 1 (number 1) d b v }
-    ensures two { (d : Direction) (b : List ℕ) (v : Tree) → ⟦<TlsByteVec<u16> as Size>⟧.format.spells d b v ↔ fixed_list 2 (number 1) d b v }
-    ensures three { (d : Direction) (b : List ℕ) (v : Tree) → ⟦<TlsByteVec<U24> as Size>⟧.format.spells d b v ↔ fixed_list 3 (number 1) d b v }
-    ensures four { (d : Direction) (b : List ℕ) (v : Tree) → ⟦<TlsByteVec<u32> as Size>⟧.format.spells d b v ↔ fixed_list 4 (number 1) d b v }
+    ensures one { (d : Direction) (b : List ℕ) (v : Tree)
+        → ⟦<TlsByteVec<u8> as Size>⟧.format.spells d b v
+        ↔ fixed_list 1 (number 1) d b v }
+    ensures two { (d : Direction) (b : List ℕ) (v : Tree)
+        → ⟦<TlsByteVec<u16> as Size>⟧.format.spells d b v
+        ↔ fixed_list 2 (number 1) d b v }
+    ensures three { (d : Direction) (b : List ℕ) (v : Tree)
+        → ⟦<TlsByteVec<U24> as Size>⟧.format.spells d b v
+        ↔ fixed_list 3 (number 1) d b v }
+    ensures four { (d : Direction) (b : List ℕ) (v : Tree)
+        → ⟦<TlsByteVec<u32> as Size>⟧.format.spells d b v
+        ↔ fixed_list 4 (number 1) d b v }
 {}
 
 /// Two byte vectors are equal where their bytes are, and are hashed as the slice of their bytes is,
 /// whatever the length field.
 pub fn byte_vecs_are_compared_by_their_bytes<F>()
-    ensures equal { (x y : TlsByteVec F) → IsTrue (⟦<TlsByteVec<F> as PartialEq>⟧.eq x y) ↔ (bytes_of x ≡ bytes_of y) }
-    ensures hashed { (x : TlsByteVec F) → ⟦<TlsByteVec<F> as Hash>⟧.hash_input x ≡ fed.slice fed.u8 (bytes_of x) }
+    ensures equal { (x y : TlsByteVec F)
+        → IsTrue (⟦<TlsByteVec<F> as PartialEq>⟧.eq x y)
+        ↔ (bytes_of x ≡ bytes_of y) }
+    ensures hashed { (x : TlsByteVec F)
+        → ⟦<TlsByteVec<F> as Hash>⟧.hash_input x ≡ fed.slice fed.u8 (bytes_of x) }
 {}

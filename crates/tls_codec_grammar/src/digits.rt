@@ -38,10 +38,12 @@ pub fn split_digits<const K: usize>(bytes: &[u8]) -> Result<([u8; K], &[u8]), Er
 /// in [`read_exactly`].
 #[inline(always)]
 pub fn read_digits<R: Source, const K: usize>(bytes: &mut R) -> Result<[u8; K], Error>
-    ensures reads { Reads (number_format K) (λ digits. Number (value digits)) R.Source bytes.old bytes.new result }
+    ensures reads { Reads (number_format K) (λ digits. Number (value digits)) R.Source bytes.old
+        bytes.new result }
     ensures width { IfOk result (λ digits. length digits ≡ K) }
     ensures bytes { IfOk result AreBytes }
-    ensures named { IfErr result (Named (number_format K) (ReadRefused K) R.Source bytes.old bytes.new) }
+    ensures named { IfErr result
+        (Named (number_format K) (ReadRefused K) R.Source bytes.old bytes.new) }
     ensures calm { IfOk result (λ _. OnlyInterrupted (R.counts bytes.old) (R.counts bytes.new)) }
 {
     let mut digits = [0u8; K];
@@ -51,7 +53,8 @@ pub fn read_digits<R: Source, const K: usize>(bytes: &mut R) -> Result<[u8; K], 
 
 /// Sends digits, and returns how many they are. Every refusal is the sink's, as in [`write_all`].
 pub fn write_digits<W: Sink>(writer: &mut W, digits: &[u8]) -> Result<usize, Error>
-    ensures writes { Writes (number_format (length digits.now)) (Number (value digits.now)) W.Sink writer.old writer.new result }
+    ensures writes { Writes (number_format (length digits.now)) (Number (value digits.now)) W.Sink
+        writer.old writer.new result }
     ensures bytes { AreBytes digits.now }
 {
     write_all(writer, digits)?;
@@ -60,7 +63,8 @@ pub fn write_digits<W: Sink>(writer: &mut W, digits: &[u8]) -> Result<usize, Err
 
 /// Digits as a vector. `OutOfMemory`: there was no memory for it.
 pub fn digits_vector(alloc: Global, digits: &[u8]) -> Result<Vec<u8>, Error>
-    ensures ok { IfOk result (λ bytes. IsShortest (number (length digits.now)) bytes.items (Number (value digits.now))) }
+    ensures ok { IfOk result
+        (λ bytes. IsShortest (number (length digits.now)) bytes.items (Number (value digits.now))) }
     ensures err { IfErr result (λ e. e ≡ OutOfMemory) }
     ensures bytes { AreBytes digits.now }
 {
@@ -74,7 +78,8 @@ pub fn digits_vector(alloc: Global, digits: &[u8]) -> Result<Vec<u8>, Error>
 /// `OutOfMemory`: there was no memory for them, and the bytes are as they were.
 #[inline(always)]
 pub fn append_digits(out: &mut Vec<u8>, digits: &[u8]) -> Result<usize, Error>
-    ensures appends { AppendsForm (number_format (length digits.now)) (Number (value digits.now)) out.old.items out.new.items result }
+    ensures appends { AppendsForm (number_format (length digits.now)) (Number (value digits.now))
+        out.old.items out.new.items result }
     ensures bytes { AreBytes digits.now }
 {
     out.extend_from_slice(digits)?;

@@ -55,14 +55,16 @@ pub trait LengthField {
     fn read_length<R: Source>(src: &mut R) -> Result<usize, Error>
         ensures gave { Gave R.given src.old src.new }
         ensures ok { IfOk result (λ n. GaveNumber R.given field.spells src.old src.new n) }
-        ensures refused { IfErr result (RefusedFor R.Source (NumberNotRead field.refuses) src.old src.new) }
+        ensures refused { IfErr result
+            (RefusedFor R.Source (NumberNotRead field.refuses) src.old src.new) }
         ensures calm { IfOk result (λ _. OnlyInterrupted (R.counts src.old) (R.counts src.new)) };
 
     /// The length that the bytes begin with, and the rest of them.
     ///
     /// The refusals are the field's, as in [`read_length`](LengthField::read_length).
     fn split_length(bytes: &[u8]) -> Result<(usize, &[u8]), Error>
-        ensures ok { IfOk result (λ found. BeginsNumber field.spells bytes.now found.0 found.1.now) }
+        ensures ok { IfOk result
+            (λ found. BeginsNumber field.spells bytes.now found.0 found.1.now) }
         ensures err { IfErr result (field.refuses bytes.now) };
 
     /// How bytes are refused that are fewer than the field before them declares, where they are taken

@@ -27,8 +27,10 @@ pub fn announced_len<F: LengthField>(content: &[u8]) -> usize
 /// `InvalidVectorLength`: there are more bytes than the greatest length, and nothing was sent. Every
 /// other refusal is the sink's, as in `write_all`.
 pub fn write<F: LengthField, W: Sink>(sink: &mut W, content: &[u8]) -> Result<usize, Error>
-    ensures writes { Writes (counted_bytes_format F.field) (number_trees content.now) W.Sink sink.old sink.new result }
-    ensures too_long { (counted_bytes_format F.field).too_long (number_trees content.now) → (result ≡ Err InvalidVectorLength) × (sink.new ≡ sink.old) }
+    ensures writes { Writes (counted_bytes_format F.field) (number_trees content.now) W.Sink
+        sink.old sink.new result }
+    ensures too_long { (counted_bytes_format F.field).too_long (number_trees content.now)
+        → (result ≡ Err InvalidVectorLength) × (sink.new ≡ sink.old) }
 {
     let width = write_length::<F, W>(sink, content.len())?;
     write_all(sink, content)?;
@@ -41,10 +43,14 @@ pub fn write<F: LengthField, W: Sink>(sink: &mut W, content: &[u8]) -> Result<us
 /// After a refusal the vector's bytes are those from before.
 #[inline(always)]
 pub fn append<F: LengthField>(out: &mut Vec<u8>, content: &[u8]) -> Result<usize, Error>
-    ensures appends { AppendsForm (counted_bytes_format F.field) (number_trees content.now) out.old.items out.new.items result }
+    ensures appends { AppendsForm (counted_bytes_format F.field) (number_trees content.now)
+        out.old.items out.new.items result }
     ensures too_long { (counted_bytes_format F.field).too_long (number_trees content.now)
-        → IsErrAnd result (λ e. (e ≡ OutOfMemory) ⊎ (counted_bytes_format F.field).refuses (number_trees content.now) e) }
-    ensures at_once { (counted_bytes_format F.field).too_long (number_trees content.now) → result ≡ Err InvalidVectorLength }
+        → IsErrAnd result
+        (λ e. (e ≡ OutOfMemory)
+        ⊎ (counted_bytes_format F.field).refuses (number_trees content.now) e) }
+    ensures at_once { (counted_bytes_format F.field).too_long (number_trees content.now)
+        → result ≡ Err InvalidVectorLength }
 {
     let Some(found) = F::form(content.len()) else {
         return Err(Error::InvalidVectorLength);
@@ -61,8 +67,11 @@ pub fn append<F: LengthField>(out: &mut Vec<u8>, content: &[u8]) -> Result<usize
 pub fn to_vec<F: LengthField>(alloc: Global, content: &[u8]) -> Result<Vec<u8>, Error>
     ensures makes { Makes (counted_bytes_format F.field) (number_trees content.now) result }
     ensures too_long { (counted_bytes_format F.field).too_long (number_trees content.now)
-        → IsErrAnd result (λ e. (e ≡ OutOfMemory) ⊎ (counted_bytes_format F.field).refuses (number_trees content.now) e) }
-    ensures at_once { (counted_bytes_format F.field).too_long (number_trees content.now) → result ≡ Err InvalidVectorLength }
+        → IsErrAnd result
+        (λ e. (e ≡ OutOfMemory)
+        ⊎ (counted_bytes_format F.field).refuses (number_trees content.now) e) }
+    ensures at_once { (counted_bytes_format F.field).too_long (number_trees content.now)
+        → result ≡ Err InvalidVectorLength }
 {
     let mut form = Vec::new(alloc);
     append::<F>(&mut form, content)?;
@@ -75,7 +84,8 @@ pub fn to_vec<F: LengthField>(alloc: Global, content: &[u8]) -> Result<Vec<u8>, 
 /// [`split_length`](LengthField::split_length). Where fewer bytes are behind it than it declares, it is the
 /// field's [`cut_off`](LengthField::cut_off).
 pub fn split<F: LengthField>(whole: &[u8]) -> Result<(&[u8], &[u8]), Error>
-    ensures splits { Splits (record (counted_bytes_format F.field) { lean = true }) (λ found. number_trees found.now) whole.now result }
+    ensures splits { Splits (record (counted_bytes_format F.field) { lean = true })
+        (λ found. number_trees found.now) whole.now result }
     ensures named { IfErr result (λ e. OpaqueRefused F.field e whole.now) }
 {
     let (length, rest) = F::split_length(whole)?;
@@ -89,7 +99,8 @@ pub fn split<F: LengthField>(whole: &[u8]) -> Result<(&[u8], &[u8]), Error>
 ///
 /// `OutOfMemory`: there was none for the copy of bytes that are all there. Every other refusal is as in [`split`].
 pub fn split_copied<F: LengthField>(alloc: Global, whole: &[u8]) -> Result<(Vec<u8>, &[u8]), Error>
-    ensures splits { Splits (counted_bytes_format F.field) (λ content. number_trees content.items) whole.now result }
+    ensures splits { Splits (counted_bytes_format F.field) (λ content. number_trees content.items)
+        whole.now result }
     ensures named { IfErr result (λ e. OpaqueCopyRefused F.field e whole.now) }
 {
     let (content, rest) = split::<F>(whole)?;
@@ -112,7 +123,8 @@ pub fn copied(alloc: Global, content: &[u8]) -> Result<Vec<u8>, Error>
 
 /// Appends a byte. `OutOfMemory`: the bytes are as they were.
 pub fn push(content: &mut Vec<u8>, byte: u8) -> Result<(), Error>
-    ensures content { content.new.items ≡ (if is_ok result then content.old.items ++ byte ∷ [] else content.old.items) }
+    ensures content { content.new.items
+        ≡ (if is_ok result then content.old.items ++ byte ∷ [] else content.old.items) }
     ensures err { IfErr result (λ e. e ≡ OutOfMemory) }
 {
     match content.push(byte) {
@@ -127,8 +139,11 @@ pub fn push(content: &mut Vec<u8>, byte: u8) -> Result<(), Error>
 /// refused as in [`read_length`](LengthField::read_length). `DecodingError("read failed")` and `OutOfMemory`
 /// are as in `read_bytes_bounded`.
 pub fn read<F: LengthField, R: Source>(alloc: Global, src: &mut R) -> Result<Vec<u8>, Error>
-    ensures reads { Reads (counted_bytes_format F.field) (λ content. number_trees content.items) R.Source src.old src.new result }
-    ensures named { IfErr result (Named (counted_bytes_format F.field) (OpaqueSourceRefused F.field) R.Source src.old src.new) }
+    ensures reads { Reads (counted_bytes_format F.field) (λ content. number_trees content.items)
+        R.Source src.old src.new result }
+    ensures named { IfErr result
+        (Named (counted_bytes_format F.field) (OpaqueSourceRefused F.field) R.Source src.old
+        src.new) }
 {
     let length = F::read_length(src)?;
     let content = read_bytes_bounded(alloc, src, length)?;

@@ -20,36 +20,57 @@ use tls_codec_wire::U24;
 
 /// A conversion from or to a `Vec` keeps the elements.
 pub fn conversions_keep_the_elements<F, T: Zeroize>()
-    ensures to { (elements : Vec T Global) (v : SecretTlsVec F T) → ⟦<SecretTlsVec<F, T> as From<Vec<T>>>⟧.from_gives elements v ↔ (elements_of v ≡ elements.items) }
-    ensures back { (v : SecretTlsVec F T) (elements : Vec T Global) → ⟦<Vec<T> as From<SecretTlsVec<F, T>>>⟧.from_gives v elements ↔ (elements.items ≡ elements_of v) }
+    ensures to { (elements : Vec T Global) (v : SecretTlsVec F T)
+        → ⟦<SecretTlsVec<F, T> as From<Vec<T>>>⟧.from_gives elements v
+        ↔ (elements_of v ≡ elements.items) }
+    ensures back { (v : SecretTlsVec F T) (elements : Vec T Global)
+        → ⟦<Vec<T> as From<SecretTlsVec<F, T>>>⟧.from_gives v elements
+        ↔ (elements.items ≡ elements_of v) }
 {}
 
 /// `v[i]` is the element at a place below the length.
 pub fn places_give_their_elements<F, T: Zeroize>()
-    ensures allowed { (v : SecretTlsVec F T) (i : ℕ) → ⟦<SecretTlsVec<F, T> as Index<usize>>⟧.can_index v i ↔ (i < length (elements_of v)) }
-    ensures given { (v : SecretTlsVec F T) (i : ℕ) (x : T) → ⟦<SecretTlsVec<F, T> as Index<usize>>⟧.index_gives v i x ↔ (x ≡ slice_index_or (elements_of v) i x) }
+    ensures allowed { (v : SecretTlsVec F T) (i : ℕ)
+        → ⟦<SecretTlsVec<F, T> as Index<usize>>⟧.can_index v i
+        ↔ (i < length (elements_of v)) }
+    ensures given { (v : SecretTlsVec F T) (i : ℕ) (x : T)
+        → ⟦<SecretTlsVec<F, T> as Index<usize>>⟧.index_gives v i x
+        ↔ (x ≡ slice_index_or (elements_of v) i x) }
 {}
 
 /// A secret vector is cleared where it is empty.
 pub fn cleared_secret_vectors_are_empty<F, T: Zeroize>()
-    ensures { (v : SecretTlsVec F T) → ⟦<SecretTlsVec<F, T> as Zeroize>⟧.cleared v ↔ (elements_of v ≡ []) }
+    ensures { (v : SecretTlsVec F T)
+        → ⟦<SecretTlsVec<F, T> as Zeroize>⟧.cleared v
+        ↔ (elements_of v ≡ []) }
 {}
 
 /// The four names have the spellings of a list whose length has one to four bytes (RFC 8446, section
 /// 3.4).
 pub fn secret_vectors_are_lists_behind_one_to_four_bytes<T: Size + Zeroize>()
-    ensures one { (d : Direction) (b : List ℕ) (v : Tree) → ⟦<SecretTlsVec<u8, T> as Size>⟧.format.spells d b v ↔ fixed_list 1 T.format.spells d b v }
-    ensures two { (d : Direction) (b : List ℕ) (v : Tree) → ⟦<SecretTlsVec<u16, T> as Size>⟧.format.spells d b v ↔ fixed_list 2 T.format.spells d b v }
-    ensures three { (d : Direction) (b : List ℕ) (v : Tree) → ⟦<SecretTlsVec<U24, T> as Size>⟧.format.spells d b v ↔ fixed_list 3 T.format.spells d b v }
-    ensures four { (d : Direction) (b : List ℕ) (v : Tree) → ⟦<SecretTlsVec<u32, T> as Size>⟧.format.spells d b v ↔ fixed_list 4 T.format.spells d b v }
+    ensures one { (d : Direction) (b : List ℕ) (v : Tree)
+        → ⟦<SecretTlsVec<u8, T> as Size>⟧.format.spells d b v
+        ↔ fixed_list 1 T.format.spells d b v }
+    ensures two { (d : Direction) (b : List ℕ) (v : Tree)
+        → ⟦<SecretTlsVec<u16, T> as Size>⟧.format.spells d b v
+        ↔ fixed_list 2 T.format.spells d b v }
+    ensures three { (d : Direction) (b : List ℕ) (v : Tree)
+        → ⟦<SecretTlsVec<U24, T> as Size>⟧.format.spells d b v
+        ↔ fixed_list 3 T.format.spells d b v }
+    ensures four { (d : Direction) (b : List ℕ) (v : Tree)
+        → ⟦<SecretTlsVec<u32, T> as Size>⟧.format.spells d b v
+        ↔ fixed_list 4 T.format.spells d b v }
 {}
 
 /// Two secret vectors are equal where they have as many elements and these are equal, place by place.
 pub fn secret_vectors_are_compared_by_their_elements<F, T: PartialEq + Zeroize>()
-    ensures { (x y : SecretTlsVec F T) → ⟦<SecretTlsVec<F, T> as PartialEq>⟧.eq x y ≡ pointwise T.eq (elements_of x) (elements_of y) }
+    ensures { (x y : SecretTlsVec F T)
+        → ⟦<SecretTlsVec<F, T> as PartialEq>⟧.eq x y
+        ≡ pointwise T.eq (elements_of x) (elements_of y) }
 {}
 
 /// A secret vector is hashed as the slice of its elements is.
 pub fn secret_vectors_are_hashed_by_their_elements<F, T: Eq + Hash + Zeroize>()
-    ensures { (x : SecretTlsVec F T) → ⟦<SecretTlsVec<F, T> as Hash>⟧.hash_input x ≡ fed.slice T.hash_input (elements_of x) }
+    ensures { (x : SecretTlsVec F T)
+        → ⟦<SecretTlsVec<F, T> as Hash>⟧.hash_input x ≡ fed.slice T.hash_input (elements_of x) }
 {}

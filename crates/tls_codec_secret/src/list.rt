@@ -157,7 +157,8 @@ impl<F, T: Zeroize> SecretTlsVec<F, T> {
     /// Appends an element. `OutOfMemory`: there was no memory for it, and the list is as it was. The
     /// element is dropped then, and isn't cleared before.
     pub fn push(&mut self, value: T) -> Result<(), Error>
-        ensures elements { elements_of self.new ≡ (if is_ok result then elements_of self.old ++ value ∷ [] else elements_of self.old) }
+        ensures elements { elements_of self.new
+            ≡ (if is_ok result then elements_of self.old ++ value ∷ [] else elements_of self.old) }
         ensures err { IfErr result (λ e. e ≡ OutOfMemory) }
     {
         match self.vec.push(value) {
@@ -181,8 +182,12 @@ impl<F, T: Zeroize> SecretTlsVec<F, T> {
         alloc: Global,
         iter: I,
     ) -> Result<SecretTlsVec<F, T>, Error>
-        requires ends { IsFiniteIterable I.into_iter_gives I.IntoIter.can_next I.IntoIter.remaining iter }
-        ensures ok { IfOk result (λ v. (it : I.IntoIter) × I.into_iter_gives iter it × Drains I.IntoIter.next_gives it (elements_of v)) }
+        requires ends { IsFiniteIterable I.into_iter_gives I.IntoIter.can_next I.IntoIter.remaining
+            iter }
+        ensures ok { IfOk result
+            (λ v. (it : I.IntoIter)
+            × I.into_iter_gives iter it
+            × Drains I.IntoIter.next_gives it (elements_of v)) }
         ensures err { IfErr result (λ e. e ≡ OutOfMemory) }
     {
         let vec = collected(alloc, iter)?;

@@ -18,12 +18,28 @@ use crate::{
 
 /// A copy of a wrapper equals it.
 pub fn copies_are_equal<'a, T: 'a>()
-    ensures one { (v copy : TlsSliceU8 T) → ⟦<TlsSliceU8<'a, T> as Clone>⟧.is_clone v copy ↔ (copy ≡ v) }
-    ensures two { (v copy : TlsSliceU16 T) → ⟦<TlsSliceU16<'a, T> as Clone>⟧.is_clone v copy ↔ (copy ≡ v) }
-    ensures three { (v copy : TlsSliceU24 T) → ⟦<TlsSliceU24<'a, T> as Clone>⟧.is_clone v copy ↔ (copy ≡ v) }
-    ensures four { (v copy : TlsSliceU32 T) → ⟦<TlsSliceU32<'a, T> as Clone>⟧.is_clone v copy ↔ (copy ≡ v) }
-    ensures one_bytes { (v copy : TlsByteSliceU8) → ⟦<TlsByteSliceU8<'a> as Clone>⟧.is_clone v copy ↔ (copy ≡ v) }
-    ensures two_bytes { (v copy : TlsByteSliceU16) → ⟦<TlsByteSliceU16<'a> as Clone>⟧.is_clone v copy ↔ (copy ≡ v) }
-    ensures three_bytes { (v copy : TlsByteSliceU24) → ⟦<TlsByteSliceU24<'a> as Clone>⟧.is_clone v copy ↔ (copy ≡ v) }
-    ensures four_bytes { (v copy : TlsByteSliceU32) → ⟦<TlsByteSliceU32<'a> as Clone>⟧.is_clone v copy ↔ (copy ≡ v) }
+    ensures one { (v copy : TlsSliceU8 T)
+        → ⟦<TlsSliceU8<'a, T> as Clone>⟧.is_clone v copy
+        ↔ (copy ≡ v) }
+    ensures two { (v copy : TlsSliceU16 T)
+        → ⟦<TlsSliceU16<'a, T> as Clone>⟧.is_clone v copy
+        ↔ (copy ≡ v) }
+    ensures three { (v copy : TlsSliceU24 T)
+        → ⟦<TlsSliceU24<'a, T> as Clone>⟧.is_clone v copy
+        ↔ (copy ≡ v) }
+    ensures four { (v copy : TlsSliceU32 T)
+        → ⟦<TlsSliceU32<'a, T> as Clone>⟧.is_clone v copy
+        ↔ (copy ≡ v) }
+    ensures one_bytes { (v copy : TlsByteSliceU8)
+        → ⟦<TlsByteSliceU8<'a> as Clone>⟧.is_clone v copy
+        ↔ (copy ≡ v) }
+    ensures two_bytes { (v copy : TlsByteSliceU16)
+        → ⟦<TlsByteSliceU16<'a> as Clone>⟧.is_clone v copy
+        ↔ (copy ≡ v) }
+    ensures three_bytes { (v copy : TlsByteSliceU24)
+        → ⟦<TlsByteSliceU24<'a> as Clone>⟧.is_clone v copy
+        ↔ (copy ≡ v) }
+    ensures four_bytes { (v copy : TlsByteSliceU32)
+        → ⟦<TlsByteSliceU32<'a> as Clone>⟧.is_clone v copy
+        ↔ (copy ≡ v) }
 {}

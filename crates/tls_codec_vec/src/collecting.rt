@@ -14,8 +14,12 @@ pub fn collected<T: Drop, I: IntoIterator<Item = T>>(
     alloc: Global,
     iter: I,
 ) -> Result<Vec<T>, Error>
-    requires ends { IsFiniteIterable I.into_iter_gives I.IntoIter.can_next I.IntoIter.remaining iter }
-    ensures ok { IfOk result (λ vec. (it : I.IntoIter) × I.into_iter_gives iter it × Drains I.IntoIter.next_gives it vec.items) }
+    requires ends { IsFiniteIterable I.into_iter_gives I.IntoIter.can_next I.IntoIter.remaining
+        iter }
+    ensures ok { IfOk result
+        (λ vec. (it : I.IntoIter)
+        × I.into_iter_gives iter it
+        × Drains I.IntoIter.next_gives it vec.items) }
     ensures err { IfErr result (λ e. e ≡ OutOfMemory) }
 {
     let mut vec = Vec::new(alloc);

@@ -135,7 +135,8 @@ impl<F, T: Drop> TlsVec<F, T> {
     /// Appends an element. `OutOfMemory`: there was no memory for it, the list is as it was, and the
     /// element is dropped.
     pub fn push(&mut self, value: T) -> Result<(), Error>
-        ensures elements { elements_of self.new ≡ (if is_ok result then elements_of self.old ++ value ∷ [] else elements_of self.old) }
+        ensures elements { elements_of self.new
+            ≡ (if is_ok result then elements_of self.old ++ value ∷ [] else elements_of self.old) }
         ensures err { IfErr result (λ e. e ≡ OutOfMemory) }
     {
         match self.vec.push(value) {
@@ -159,8 +160,12 @@ impl<F, T: Drop> TlsVec<F, T> {
         alloc: Global,
         iter: I,
     ) -> Result<TlsVec<F, T>, Error>
-        requires ends { IsFiniteIterable I.into_iter_gives I.IntoIter.can_next I.IntoIter.remaining iter }
-        ensures ok { IfOk result (λ v. (it : I.IntoIter) × I.into_iter_gives iter it × Drains I.IntoIter.next_gives it (elements_of v)) }
+        requires ends { IsFiniteIterable I.into_iter_gives I.IntoIter.can_next I.IntoIter.remaining
+            iter }
+        ensures ok { IfOk result
+            (λ v. (it : I.IntoIter)
+            × I.into_iter_gives iter it
+            × Drains I.IntoIter.next_gives it (elements_of v)) }
         ensures err { IfErr result (λ e. e ≡ OutOfMemory) }
     {
         let vec = collected(alloc, iter)?;

@@ -90,7 +90,8 @@ impl<D> Failing<D> {
         ensures called { Called self.old self.new }
         ensures inner { inner_of self.new ≡ inner_of self.old }
         ensures fails { FailsNext self.old → FailsAsPlanned result self.old self.new }
-        ensures passes { ¬ FailsNext self.old → (result ≡ Ok tt) × (own_counts self.new ≡ own_counts self.old) }
+        ensures passes { ¬ FailsNext self.old
+            → (result ≡ Ok tt) × (own_counts self.new ≡ own_counts self.old) }
     {
         self.calls = self.calls.saturating_add(1);
         if !self.plan.includes(self.calls) {
@@ -116,10 +117,14 @@ impl<R: Source> Source for Failing<R> {
         ensures bound { IfOk result (λ n. n ≤ length into.new) }
         ensures gave { GaveBehind R.given self.old (bytes_moved result into.new) self.new }
         ensures end { result ≡ Ok 0 → 0 < length into.old → IsAtEnd (R.coming (inner_of self.new)) }
-        ensures counted { PullIsCounted result (counts_with R.counts self.old) (counts_with R.counts self.new) }
+        ensures counted { PullIsCounted result (counts_with R.counts self.old)
+            (counts_with R.counts self.new) }
         ensures called { Called self.old self.new }
-        ensures fails { FailsNext self.old → FailsAsPlanned result self.old self.new × (inner_of self.new ≡ inner_of self.old) }
-        ensures passes { ¬ FailsNext self.old → PullIsCounted result (R.counts (inner_of self.old)) (R.counts (inner_of self.new)) × (own_counts self.new ≡ own_counts self.old) }
+        ensures fails { FailsNext self.old
+            → FailsAsPlanned result self.old self.new × (inner_of self.new ≡ inner_of self.old) }
+        ensures passes { ¬ FailsNext self.old
+            → PullIsCounted result (R.counts (inner_of self.old)) (R.counts (inner_of self.new))
+            × (own_counts self.new ≡ own_counts self.old) }
     {
         self.turn()?;
         let n = self.inner.pull(into)?;
@@ -142,11 +147,17 @@ impl<W: Sink> Sink for Failing<W> {
 
     fn give(&mut self, bytes: &[u8]) -> Result<usize, Fault>
         ensures bound { IfOk result (λ n. n ≤ length bytes.now) }
-        ensures took { Appends (W.received (inner_of self.old)) (W.received (inner_of self.new)) (bytes_moved result bytes.now) }
-        ensures counted { GiveIsCounted result (length bytes.now) (counts_with W.counts self.old) (counts_with W.counts self.new) }
+        ensures took { Appends (W.received (inner_of self.old)) (W.received (inner_of self.new))
+            (bytes_moved result bytes.now) }
+        ensures counted { GiveIsCounted result (length bytes.now) (counts_with W.counts self.old)
+            (counts_with W.counts self.new) }
         ensures called { Called self.old self.new }
-        ensures fails { FailsNext self.old → FailsAsPlanned result self.old self.new × (inner_of self.new ≡ inner_of self.old) }
-        ensures passes { ¬ FailsNext self.old → GiveIsCounted result (length bytes.now) (W.counts (inner_of self.old)) (W.counts (inner_of self.new)) × (own_counts self.new ≡ own_counts self.old) }
+        ensures fails { FailsNext self.old
+            → FailsAsPlanned result self.old self.new × (inner_of self.new ≡ inner_of self.old) }
+        ensures passes { ¬ FailsNext self.old
+            → GiveIsCounted result (length bytes.now) (W.counts (inner_of self.old))
+            (W.counts (inner_of self.new))
+            × (own_counts self.new ≡ own_counts self.old) }
     {
         self.turn()?;
         let n = self.inner.give(bytes)?;

@@ -36,7 +36,8 @@ impl Sink for Trickle {
 
     fn give(&mut self, bytes: &[u8]) -> Result<usize, Fault>
         ensures bound { IfOk result (λ n. n ≤ length bytes.now) }
-        ensures took { Appends (Some (bytes_taken self.old)) (Some (bytes_taken self.new)) (bytes_moved result bytes.now) }
+        ensures took { Appends (Some (bytes_taken self.old)) (Some (bytes_taken self.new))
+            (bytes_moved result bytes.now) }
         ensures counted { GiveIsCounted result (length bytes.now) only_shortages only_shortages }
         ensures one { IfOk result (λ n. n ≡ min 1 (length bytes.now)) }
     {

@@ -21,13 +21,27 @@ use std::hash::Hash;
 
 /// A conversion from or to a `Vec<u8>` keeps the bytes, and a copy of what is lent equals it.
 pub fn conversions_and_copies_keep_the_bytes<'a>()
-    ensures to_vl_bytes { (content : Vec ℕ Global) (v : VLBytes) → ⟦<VLBytes as From<Vec<u8>>>⟧.from_gives content v ↔ (bytes_of v ≡ content.items) }
-    ensures from_vl_bytes { (v : VLBytes) (content : Vec ℕ Global) → ⟦<Vec<u8> as From<VLBytes>>⟧.from_gives v content ↔ (content.items ≡ bytes_of v) }
-    ensures to_vl_byte_vec { (content : Vec ℕ Global) (v : VLByteVec) → ⟦<VLByteVec as From<Vec<u8>>>⟧.from_gives content v ↔ (vec_bytes_of v ≡ content.items) }
-    ensures from_vl_byte_vec { (v : VLByteVec) (content : Vec ℕ Global) → ⟦<Vec<u8> as From<VLByteVec>>⟧.from_gives v content ↔ (content.items ≡ vec_bytes_of v) }
-    ensures to_secret_vl_bytes { (content : Vec ℕ Global) (v : SecretVLBytes) → ⟦<SecretVLBytes as From<Vec<u8>>>⟧.from_gives content v ↔ (secret_bytes_of v ≡ content.items) }
-    ensures to_secret_vl_byte_vec { (content : Vec ℕ Global) (v : SecretVLByteVec) → ⟦<SecretVLByteVec as From<Vec<u8>>>⟧.from_gives content v ↔ (secret_vec_bytes_of v ≡ content.items) }
-    ensures vl_byte_slice { (v copy : VLByteSlice) → ⟦<VLByteSlice<'a> as Clone>⟧.is_clone v copy ↔ (copy ≡ v) }
+    ensures to_vl_bytes { (content : Vec ℕ Global) (v : VLBytes)
+        → ⟦<VLBytes as From<Vec<u8>>>⟧.from_gives content v
+        ↔ (bytes_of v ≡ content.items) }
+    ensures from_vl_bytes { (v : VLBytes) (content : Vec ℕ Global)
+        → ⟦<Vec<u8> as From<VLBytes>>⟧.from_gives v content
+        ↔ (content.items ≡ bytes_of v) }
+    ensures to_vl_byte_vec { (content : Vec ℕ Global) (v : VLByteVec)
+        → ⟦<VLByteVec as From<Vec<u8>>>⟧.from_gives content v
+        ↔ (vec_bytes_of v ≡ content.items) }
+    ensures from_vl_byte_vec { (v : VLByteVec) (content : Vec ℕ Global)
+        → ⟦<Vec<u8> as From<VLByteVec>>⟧.from_gives v content
+        ↔ (content.items ≡ vec_bytes_of v) }
+    ensures to_secret_vl_bytes { (content : Vec ℕ Global) (v : SecretVLBytes)
+        → ⟦<SecretVLBytes as From<Vec<u8>>>⟧.from_gives content v
+        ↔ (secret_bytes_of v ≡ content.items) }
+    ensures to_secret_vl_byte_vec { (content : Vec ℕ Global) (v : SecretVLByteVec)
+        → ⟦<SecretVLByteVec as From<Vec<u8>>>⟧.from_gives content v
+        ↔ (secret_vec_bytes_of v ≡ content.items) }
+    ensures vl_byte_slice { (v copy : VLByteSlice)
+        → ⟦<VLByteSlice<'a> as Clone>⟧.is_clone v copy
+        ↔ (copy ≡ v) }
 {}
 
 /// A number is cleared where it is 0, an array where it holds zeros, and a vector where it is empty.
@@ -36,52 +50,95 @@ pub fn cleared_values_hold_nothing<const LEN: usize, T: Zeroize>()
     ensures two_bytes { (n : ℕ) → ⟦<u16 as Zeroize>⟧.cleared n ↔ (n ≡ 0) }
     ensures four_bytes { (n : ℕ) → ⟦<u32 as Zeroize>⟧.cleared n ↔ (n ≡ 0) }
     ensures eight_bytes { (n : ℕ) → ⟦<u64 as Zeroize>⟧.cleared n ↔ (n ≡ 0) }
-    ensures array { (bytes : List ℕ) → ⟦<[u8; LEN] as Zeroize>⟧.cleared bytes ↔ (bytes ≡ replicate LEN 0) }
+    ensures array { (bytes : List ℕ)
+        → ⟦<[u8; LEN] as Zeroize>⟧.cleared bytes
+        ↔ (bytes ≡ replicate LEN 0) }
     ensures list { (list : Vec T Global) → ⟦<Vec<T> as Zeroize>⟧.cleared list ↔ (list.items ≡ []) }
     ensures vl_bytes { (v : VLBytes) → ⟦<VLBytes as Zeroize>⟧.cleared v ↔ (bytes_of v ≡ []) }
-    ensures vl_byte_vec { (v : VLByteVec) → ⟦<VLByteVec as Zeroize>⟧.cleared v ↔ (vec_bytes_of v ≡ []) }
-    ensures secret_vl_bytes { (v : SecretVLBytes) → ⟦<SecretVLBytes as Zeroize>⟧.cleared v ↔ (secret_bytes_of v ≡ []) }
-    ensures secret_vl_byte_vec { (v : SecretVLByteVec) → ⟦<SecretVLByteVec as Zeroize>⟧.cleared v ↔ (secret_vec_bytes_of v ≡ []) }
+    ensures vl_byte_vec { (v : VLByteVec)
+        → ⟦<VLByteVec as Zeroize>⟧.cleared v
+        ↔ (vec_bytes_of v ≡ []) }
+    ensures secret_vl_bytes { (v : SecretVLBytes)
+        → ⟦<SecretVLBytes as Zeroize>⟧.cleared v
+        ↔ (secret_bytes_of v ≡ []) }
+    ensures secret_vl_byte_vec { (v : SecretVLByteVec)
+        → ⟦<SecretVLByteVec as Zeroize>⟧.cleared v
+        ↔ (secret_vec_bytes_of v ≡ []) }
 {}
 
 /// `{:?}` prints the type's name and the bytes in braces, those of secrets too.
 pub fn bytes_are_printed<'a>()
-    ensures vl_bytes { (v : VLBytes) → ⟦<VLBytes as Debug>⟧.debug_output v ≡ Some (debug_text (codes "VLBytes") (bytes_of v)) }
-    ensures vl_byte_vec { (v : VLByteVec) → ⟦<VLByteVec as Debug>⟧.debug_output v ≡ Some (debug_text (codes "VLByteVec") (vec_bytes_of v)) }
-    ensures vl_byte_slice { (v : VLByteSlice) → ⟦<VLByteSlice<'a> as Debug>⟧.debug_output v ≡ Some (debug_text (codes "VLByteSlice") (slice_bytes_of v)) }
-    ensures secret_vl_bytes { (v : SecretVLBytes) → ⟦<SecretVLBytes as Debug>⟧.debug_output v ≡ Some (debug_text (codes "SecretVLBytes") (secret_bytes_of v)) }
-    ensures secret_vl_byte_vec { (v : SecretVLByteVec) → ⟦<SecretVLByteVec as Debug>⟧.debug_output v ≡ Some (debug_text (codes "SecretVLByteVec") (secret_vec_bytes_of v)) }
+    ensures vl_bytes { (v : VLBytes)
+        → ⟦<VLBytes as Debug>⟧.debug_output v ≡ Some (debug_text (codes "VLBytes") (bytes_of v)) }
+    ensures vl_byte_vec { (v : VLByteVec)
+        → ⟦<VLByteVec as Debug>⟧.debug_output v
+        ≡ Some (debug_text (codes "VLByteVec") (vec_bytes_of v)) }
+    ensures vl_byte_slice { (v : VLByteSlice)
+        → ⟦<VLByteSlice<'a> as Debug>⟧.debug_output v
+        ≡ Some (debug_text (codes "VLByteSlice") (slice_bytes_of v)) }
+    ensures secret_vl_bytes { (v : SecretVLBytes)
+        → ⟦<SecretVLBytes as Debug>⟧.debug_output v
+        ≡ Some (debug_text (codes "SecretVLBytes") (secret_bytes_of v)) }
+    ensures secret_vl_byte_vec { (v : SecretVLByteVec)
+        → ⟦<SecretVLByteVec as Debug>⟧.debug_output v
+        ≡ Some (debug_text (codes "SecretVLByteVec") (secret_vec_bytes_of v)) }
 {}
 
 /// Two `VLBytes` are equal where their bytes are, are ordered at the first byte in which they differ,
 /// the shorter first where there is none, and are hashed as the slice of their bytes is.
 pub fn vl_bytes_are_compared_by_their_bytes()
-    ensures equal { (x y : VLBytes) → IsTrue (⟦<VLBytes as PartialEq>⟧.eq x y) ↔ (bytes_of x ≡ bytes_of y) }
-    ensures ordered { (x y : VLBytes) → ⟦<VLBytes as Ord>⟧.cmp x y ≡ slice_cmp nat_cmp (bytes_of x) (bytes_of y) }
-    ensures partly { (x y : VLBytes) → ⟦<VLBytes as PartialOrd>⟧.partial_cmp x y ≡ Some (slice_cmp nat_cmp (bytes_of x) (bytes_of y)) }
-    ensures hashed { (x : VLBytes) → ⟦<VLBytes as Hash>⟧.hash_input x ≡ fed.slice fed.u8 (bytes_of x) }
+    ensures equal { (x y : VLBytes)
+        → IsTrue (⟦<VLBytes as PartialEq>⟧.eq x y)
+        ↔ (bytes_of x ≡ bytes_of y) }
+    ensures ordered { (x y : VLBytes)
+        → ⟦<VLBytes as Ord>⟧.cmp x y ≡ slice_cmp nat_cmp (bytes_of x) (bytes_of y) }
+    ensures partly { (x y : VLBytes)
+        → ⟦<VLBytes as PartialOrd>⟧.partial_cmp x y
+        ≡ Some (slice_cmp nat_cmp (bytes_of x) (bytes_of y)) }
+    ensures hashed { (x : VLBytes)
+        → ⟦<VLBytes as Hash>⟧.hash_input x ≡ fed.slice fed.u8 (bytes_of x) }
 {}
 
 /// The same of `VLByteVec`.
 pub fn vl_byte_vecs_are_compared_by_their_bytes()
-    ensures equal { (x y : VLByteVec) → IsTrue (⟦<VLByteVec as PartialEq>⟧.eq x y) ↔ (vec_bytes_of x ≡ vec_bytes_of y) }
-    ensures ordered { (x y : VLByteVec) → ⟦<VLByteVec as Ord>⟧.cmp x y ≡ slice_cmp nat_cmp (vec_bytes_of x) (vec_bytes_of y) }
-    ensures partly { (x y : VLByteVec) → ⟦<VLByteVec as PartialOrd>⟧.partial_cmp x y ≡ Some (slice_cmp nat_cmp (vec_bytes_of x) (vec_bytes_of y)) }
-    ensures hashed { (x : VLByteVec) → ⟦<VLByteVec as Hash>⟧.hash_input x ≡ fed.slice fed.u8 (vec_bytes_of x) }
+    ensures equal { (x y : VLByteVec)
+        → IsTrue (⟦<VLByteVec as PartialEq>⟧.eq x y)
+        ↔ (vec_bytes_of x ≡ vec_bytes_of y) }
+    ensures ordered { (x y : VLByteVec)
+        → ⟦<VLByteVec as Ord>⟧.cmp x y ≡ slice_cmp nat_cmp (vec_bytes_of x) (vec_bytes_of y) }
+    ensures partly { (x y : VLByteVec)
+        → ⟦<VLByteVec as PartialOrd>⟧.partial_cmp x y
+        ≡ Some (slice_cmp nat_cmp (vec_bytes_of x) (vec_bytes_of y)) }
+    ensures hashed { (x : VLByteVec)
+        → ⟦<VLByteVec as Hash>⟧.hash_input x ≡ fed.slice fed.u8 (vec_bytes_of x) }
 {}
 
 /// The same of `SecretVLBytes`.
 pub fn secret_vl_bytes_are_compared_by_their_bytes()
-    ensures equal { (x y : SecretVLBytes) → IsTrue (⟦<SecretVLBytes as PartialEq>⟧.eq x y) ↔ (secret_bytes_of x ≡ secret_bytes_of y) }
-    ensures ordered { (x y : SecretVLBytes) → ⟦<SecretVLBytes as Ord>⟧.cmp x y ≡ slice_cmp nat_cmp (secret_bytes_of x) (secret_bytes_of y) }
-    ensures partly { (x y : SecretVLBytes) → ⟦<SecretVLBytes as PartialOrd>⟧.partial_cmp x y ≡ Some (slice_cmp nat_cmp (secret_bytes_of x) (secret_bytes_of y)) }
-    ensures hashed { (x : SecretVLBytes) → ⟦<SecretVLBytes as Hash>⟧.hash_input x ≡ fed.slice fed.u8 (secret_bytes_of x) }
+    ensures equal { (x y : SecretVLBytes)
+        → IsTrue (⟦<SecretVLBytes as PartialEq>⟧.eq x y)
+        ↔ (secret_bytes_of x ≡ secret_bytes_of y) }
+    ensures ordered { (x y : SecretVLBytes)
+        → ⟦<SecretVLBytes as Ord>⟧.cmp x y
+        ≡ slice_cmp nat_cmp (secret_bytes_of x) (secret_bytes_of y) }
+    ensures partly { (x y : SecretVLBytes)
+        → ⟦<SecretVLBytes as PartialOrd>⟧.partial_cmp x y
+        ≡ Some (slice_cmp nat_cmp (secret_bytes_of x) (secret_bytes_of y)) }
+    ensures hashed { (x : SecretVLBytes)
+        → ⟦<SecretVLBytes as Hash>⟧.hash_input x ≡ fed.slice fed.u8 (secret_bytes_of x) }
 {}
 
 /// The same of `SecretVLByteVec`.
 pub fn secret_vl_byte_vecs_are_compared_by_their_bytes()
-    ensures equal { (x y : SecretVLByteVec) → IsTrue (⟦<SecretVLByteVec as PartialEq>⟧.eq x y) ↔ (secret_vec_bytes_of x ≡ secret_vec_bytes_of y) }
-    ensures ordered { (x y : SecretVLByteVec) → ⟦<SecretVLByteVec as Ord>⟧.cmp x y ≡ slice_cmp nat_cmp (secret_vec_bytes_of x) (secret_vec_bytes_of y) }
-    ensures partly { (x y : SecretVLByteVec) → ⟦<SecretVLByteVec as PartialOrd>⟧.partial_cmp x y ≡ Some (slice_cmp nat_cmp (secret_vec_bytes_of x) (secret_vec_bytes_of y)) }
-    ensures hashed { (x : SecretVLByteVec) → ⟦<SecretVLByteVec as Hash>⟧.hash_input x ≡ fed.slice fed.u8 (secret_vec_bytes_of x) }
+    ensures equal { (x y : SecretVLByteVec)
+        → IsTrue (⟦<SecretVLByteVec as PartialEq>⟧.eq x y)
+        ↔ (secret_vec_bytes_of x ≡ secret_vec_bytes_of y) }
+    ensures ordered { (x y : SecretVLByteVec)
+        → ⟦<SecretVLByteVec as Ord>⟧.cmp x y
+        ≡ slice_cmp nat_cmp (secret_vec_bytes_of x) (secret_vec_bytes_of y) }
+    ensures partly { (x y : SecretVLByteVec)
+        → ⟦<SecretVLByteVec as PartialOrd>⟧.partial_cmp x y
+        ≡ Some (slice_cmp nat_cmp (secret_vec_bytes_of x) (secret_vec_bytes_of y)) }
+    ensures hashed { (x : SecretVLByteVec)
+        → ⟦<SecretVLByteVec as Hash>⟧.hash_input x ≡ fed.slice fed.u8 (secret_vec_bytes_of x) }
 {}

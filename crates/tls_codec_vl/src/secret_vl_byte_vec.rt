@@ -85,7 +85,10 @@ impl SecretVLByteVec {
 
     /// Appends a byte. `OutOfMemory`: there was no memory for it, and the bytes are as they were.
     pub fn push(&mut self, byte: u8) -> Result<(), Error>
-        ensures content { secret_vec_bytes_of self.new ≡ (if is_ok result then secret_vec_bytes_of self.old ++ byte ∷ [] else secret_vec_bytes_of self.old) }
+        ensures content { secret_vec_bytes_of self.new
+            ≡ (if is_ok result then secret_vec_bytes_of self.old
+            ++ byte
+            ∷ [] else secret_vec_bytes_of self.old) }
         ensures err { IfErr result (λ e. e ≡ OutOfMemory) }
     {
         self.0.push(byte)
@@ -93,7 +96,8 @@ impl SecretVLByteVec {
 
     /// Takes the last byte, if there is one.
     pub fn pop(&mut self) -> Option<u8>
-        ensures { MatchOption result ((secret_vec_bytes_of self.old ≡ []) × (secret_vec_bytes_of self.new ≡ []))
+        ensures { MatchOption result
+            ((secret_vec_bytes_of self.old ≡ []) × (secret_vec_bytes_of self.new ≡ []))
             (λ byte. secret_vec_bytes_of self.old ≡ secret_vec_bytes_of self.new ++ byte ∷ []) }
     {
         self.0.pop()
@@ -125,7 +129,8 @@ impl Drop for SecretVLByteVec {
 }
 
 impl fmt::Debug for SecretVLByteVec {
-    ghost debug_output = { λ v. Some (debug_text (codes "SecretVLByteVec") (secret_vec_bytes_of v)) };
+    ghost debug_output = { λ v. Some
+        (debug_text (codes "SecretVLByteVec") (secret_vec_bytes_of v)) };
 
     /// **Prints the secret bytes.**
     fn fmt<W: fmt::Write>(&self, f: &mut fmt::Formatter<W>) -> fmt::Result {

@@ -85,7 +85,10 @@ impl SecretVLBytes {
 
     /// Appends a byte. `OutOfMemory`: there was no memory for it, and the bytes are as they were.
     pub fn push(&mut self, byte: u8) -> Result<(), Error>
-        ensures content { secret_bytes_of self.new ≡ (if is_ok result then secret_bytes_of self.old ++ byte ∷ [] else secret_bytes_of self.old) }
+        ensures content { secret_bytes_of self.new
+            ≡ (if is_ok result then secret_bytes_of self.old
+            ++ byte
+            ∷ [] else secret_bytes_of self.old) }
         ensures err { IfErr result (λ e. e ≡ OutOfMemory) }
     {
         self.0.push(byte)
@@ -93,7 +96,8 @@ impl SecretVLBytes {
 
     /// Takes the last byte, if there is one.
     pub fn pop(&mut self) -> Option<u8>
-        ensures { MatchOption result ((secret_bytes_of self.old ≡ []) × (secret_bytes_of self.new ≡ []))
+        ensures { MatchOption result
+            ((secret_bytes_of self.old ≡ []) × (secret_bytes_of self.new ≡ []))
             (λ byte. secret_bytes_of self.old ≡ secret_bytes_of self.new ++ byte ∷ []) }
     {
         self.0.pop()

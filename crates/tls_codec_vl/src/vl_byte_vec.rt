@@ -76,7 +76,8 @@ impl VLByteVec {
 
     /// Appends a byte. `OutOfMemory`: there was no memory for it, and the bytes are as they were.
     pub fn push(&mut self, byte: u8) -> Result<(), Error>
-        ensures content { vec_bytes_of self.new ≡ (if is_ok result then vec_bytes_of self.old ++ byte ∷ [] else vec_bytes_of self.old) }
+        ensures content { vec_bytes_of self.new
+            ≡ (if is_ok result then vec_bytes_of self.old ++ byte ∷ [] else vec_bytes_of self.old) }
         ensures err { IfErr result (λ e. e ≡ OutOfMemory) }
     {
         opaque::push(&mut self.0, byte)

@@ -75,7 +75,8 @@ impl VLBytes {
 
     /// Appends a byte. `OutOfMemory`: there was no memory for it, and the bytes are as they were.
     pub fn push(&mut self, byte: u8) -> Result<(), Error>
-        ensures content { bytes_of self.new ≡ (if is_ok result then bytes_of self.old ++ byte ∷ [] else bytes_of self.old) }
+        ensures content { bytes_of self.new
+            ≡ (if is_ok result then bytes_of self.old ++ byte ∷ [] else bytes_of self.old) }
         ensures err { IfErr result (λ e. e ≡ OutOfMemory) }
     {
         opaque::push(&mut self.0, byte)

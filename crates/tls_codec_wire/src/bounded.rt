@@ -57,8 +57,11 @@ impl<R: Source> Source for Bounded<'_, R> {
     fn pull(&mut self, into: &mut [u8]) -> Result<usize, Fault>
         ensures bound { IfOk result (λ n. n ≤ length into.new) }
         ensures gave { GaveWithin R.given self.old (bytes_moved result into.new) self.new }
-        ensures end { result ≡ Ok 0 → 0 < length into.old → IsAtEnd (first_bytes R.coming self.new) }
-        ensures counted { PullIsCounted result (R.counts (inner_of self.old)) (R.counts (inner_of self.new)) }
+        ensures end { result ≡ Ok 0
+            → 0 < length into.old
+            → IsAtEnd (first_bytes R.coming self.new) }
+        ensures counted { PullIsCounted result (R.counts (inner_of self.old))
+            (R.counts (inner_of self.new)) }
         ensures at_limit { limit_of self.old ≡ 0 → (result ≡ Ok 0) × (self.new ≡ self.old) }
     {
         let Bounded { inner, limit } = self;
@@ -82,7 +85,8 @@ impl<R: Source> Source for Bounded<'_, R> {
     #[inline(always)]
     fn fill_at_hand(&mut self, into: &mut [u8]) -> Fill
         ensures filled { result ≡ Full → GaveWithin R.given self.old into.new self.new }
-        ensures too_few { result ≡ TooFew → IsShortOf (length into.old) (first_bytes R.coming self.old) × (self.new ≡ self.old) }
+        ensures too_few { result ≡ TooFew
+            → IsShortOf (length into.old) (first_bytes R.coming self.old) × (self.new ≡ self.old) }
         ensures unknown { result ≡ Unknown → self.new ≡ self.old }
         ensures calm { R.counts (inner_of self.new) ≡ R.counts (inner_of self.old) }
         ensures beyond { limit_of self.old < length into.old → result ≡ TooFew }
@@ -102,10 +106,16 @@ impl<R: Source> Source for Bounded<'_, R> {
     #[inline(always)]
     fn pull_onto(&mut self, out: &mut Vec<u8>, most: usize) -> Result<usize, Fault>
         ensures bound { IfOk result (λ n. n ≤ most) }
-        ensures gave { PulledOnto (GaveWithin R.given) self.old self.new result out.old.items out.new.items }
-        ensures end { result ≡ Ok 0 → 0 < most → vec_len out.old < vec_capacity out.old → IsAtEnd (first_bytes R.coming self.new) }
-        ensures counted { PullIsCounted result (R.counts (inner_of self.old)) (R.counts (inner_of self.new)) }
-        ensures at_limit { limit_of self.old ≡ 0 → (result ≡ Ok 0) × (self.new ≡ self.old) × (out.new ≡ out.old) }
+        ensures gave { PulledOnto (GaveWithin R.given) self.old self.new result out.old.items
+            out.new.items }
+        ensures end { result ≡ Ok 0
+            → 0 < most
+            → vec_len out.old < vec_capacity out.old
+            → IsAtEnd (first_bytes R.coming self.new) }
+        ensures counted { PullIsCounted result (R.counts (inner_of self.old))
+            (R.counts (inner_of self.new)) }
+        ensures at_limit { limit_of self.old ≡ 0
+            → (result ≡ Ok 0) × (self.new ≡ self.old) × (out.new ≡ out.old) }
     {
         let Bounded { inner, limit } = self;
         if *limit == 0 {

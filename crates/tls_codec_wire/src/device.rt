@@ -66,7 +66,8 @@ pub trait Source {
     /// that doesn't know what it has returns `Unknown`.
     fn fill_at_hand(&mut self, _into: &mut [u8]) -> Fill
         ensures filled { result ≡ Full → given self.old _into.new self.new }
-        ensures too_few { result ≡ TooFew → IsShortOf (length _into.old) (coming self.old) × (self.new ≡ self.old) }
+        ensures too_few { result ≡ TooFew
+            → IsShortOf (length _into.old) (coming self.old) × (self.new ≡ self.old) }
         ensures unknown { result ≡ Unknown → self.new ≡ self.old }
         ensures calm { counts self.new ≡ counts self.old }
     {
@@ -81,7 +82,10 @@ pub trait Source {
     fn pull_onto(&mut self, out: &mut Vec<u8>, most: usize) -> Result<usize, Fault>
         ensures bound { IfOk result (λ n. n ≤ most) }
         ensures gave { PulledOnto given self.old self.new result out.old.items out.new.items }
-        ensures end { result ≡ Ok 0 → 0 < most → vec_len out.old < vec_capacity out.old → IsAtEnd (coming self.new) }
+        ensures end { result ≡ Ok 0
+            → 0 < most
+            → vec_len out.old < vec_capacity out.old
+            → IsAtEnd (coming self.new) }
         ensures counted { PullIsCounted result (counts self.old) (counts self.new) }
     {
         let mut chunk = [0u8; CHUNK];
@@ -114,6 +118,8 @@ pub trait Sink {
     /// failure, and is counted as one. Behind a fault nothing was received.
     fn give(&mut self, bytes: &[u8]) -> Result<usize, Fault>
         ensures bound { IfOk result (λ n. n ≤ length bytes.now) }
-        ensures took { Appends (received self.old) (received self.new) (bytes_moved result bytes.now) }
-        ensures counted { GiveIsCounted result (length bytes.now) (counts self.old) (counts self.new) };
+        ensures took { Appends (received self.old) (received self.new)
+            (bytes_moved result bytes.now) }
+        ensures counted { GiveIsCounted result (length bytes.now) (counts self.old)
+            (counts self.new) };
 }

@@ -57,7 +57,10 @@ pub fn readers_outside_tell_what_is_to_come<R: Read>()
 /// What a call has seen of a source is what was to come, where that is told, and what was given by a
 /// source that never tells any. It is never less than what was given.
 pub fn what_was_seen_was_told_or_given<R: Source>()
-    ensures told { (old new : R) (x y : List ℕ) → Seen R.Source old new x → R.coming old ≡ Some y → x ≡ y }
+    ensures told { (old new : R) (x y : List ℕ)
+        → Seen R.Source old new x
+        → R.coming old ≡ Some y
+        → x ≡ y }
     ensures untold { (old new : R) (x : List ℕ) → Seen R.Source old new x
         → ((s : R) → R.coming s ≡ None) → R.given old x new }
     ensures more { (old new : R) (x : List ℕ) → Seen R.Source old new x
@@ -135,7 +138,9 @@ pub fn errors_of_std_become_errors()
 
 /// Two `U24` are equal where their numbers are, and a copy of one has its number.
 pub fn uint24s_are_compared_by_their_numbers()
-    ensures equal { (x y : U24) → IsTrue (⟦<U24 as PartialEq>⟧.eq x y) ↔ (uint24.number_of x ≡ uint24.number_of y) }
+    ensures equal { (x y : U24)
+        → IsTrue (⟦<U24 as PartialEq>⟧.eq x y)
+        ↔ (uint24.number_of x ≡ uint24.number_of y) }
     ensures copied { (x y : U24) → ⟦<U24 as Clone>⟧.is_clone x y → y ≡ x }
 {}
 
@@ -154,10 +159,16 @@ pub fn uint24s_are_made_of_their_numbers()
 /// Two `TlsVarInt` are equal where their numbers are, are ordered as these, and are hashed as the
 /// number is. A copy of one has its number.
 pub fn varints_are_compared_by_their_numbers()
-    ensures equal { (x y : TlsVarInt) → IsTrue (⟦<TlsVarInt as PartialEq>⟧.eq x y) ↔ (varint.number_of x ≡ varint.number_of y) }
-    ensures ordered { (x y : TlsVarInt) → ⟦<TlsVarInt as Ord>⟧.cmp x y ≡ nat_cmp (varint.number_of x) (varint.number_of y) }
-    ensures partly { (x y : TlsVarInt) → ⟦<TlsVarInt as PartialOrd>⟧.partial_cmp x y ≡ Some (nat_cmp (varint.number_of x) (varint.number_of y)) }
-    ensures hashed { (x : TlsVarInt) → ⟦<TlsVarInt as Hash>⟧.hash_input x ≡ fed.u64 (varint.number_of x) }
+    ensures equal { (x y : TlsVarInt)
+        → IsTrue (⟦<TlsVarInt as PartialEq>⟧.eq x y)
+        ↔ (varint.number_of x ≡ varint.number_of y) }
+    ensures ordered { (x y : TlsVarInt)
+        → ⟦<TlsVarInt as Ord>⟧.cmp x y ≡ nat_cmp (varint.number_of x) (varint.number_of y) }
+    ensures partly { (x y : TlsVarInt)
+        → ⟦<TlsVarInt as PartialOrd>⟧.partial_cmp x y
+        ≡ Some (nat_cmp (varint.number_of x) (varint.number_of y)) }
+    ensures hashed { (x : TlsVarInt)
+        → ⟦<TlsVarInt as Hash>⟧.hash_input x ≡ fed.u64 (varint.number_of x) }
     ensures copied { (x y : TlsVarInt) → ⟦<TlsVarInt as Clone>⟧.is_clone x y → y ≡ x }
 {}
 

@@ -26,7 +26,8 @@ pub(crate) fn read_below<R: Source, const LIMIT: u64>(src: &mut R) -> Result<u64
     requires { 2 ^ 30 ≤ LIMIT }
     ensures gave { Gave R.given src.old src.new }
     ensures ok { IfOk result (λ n. GaveNumber R.given (SpelledBelow LIMIT) src.old src.new n) }
-    ensures refused { IfErr result (RefusedFor R.Source (NumberNotRead (RefusesBelow LIMIT)) src.old src.new) }
+    ensures refused { IfErr result
+        (RefusedFor R.Source (NumberNotRead (RefusesBelow LIMIT)) src.old src.new) }
     ensures calm { IfOk result (λ _. OnlyInterrupted (R.counts src.old) (R.counts src.new)) }
 {
     let mut first = [0u8; 1];
@@ -46,7 +47,8 @@ pub(crate) fn read_below<R: Source, const LIMIT: u64>(src: &mut R) -> Result<u64
 #[inline(always)]
 pub(crate) fn split_below<const LIMIT: u64>(bytes: &[u8]) -> Result<(u64, &[u8]), Error>
     requires { 2 ^ 30 ≤ LIMIT }
-    ensures ok { IfOk result (λ found. BeginsNumber (SpelledBelow LIMIT) bytes.now found.0 found.1.now) }
+    ensures ok { IfOk result
+        (λ found. BeginsNumber (SpelledBelow LIMIT) bytes.now found.0 found.1.now) }
     ensures err { IfErr result (RefusesBelow LIMIT bytes.now) }
 {
     if let Some((first, rest)) = bytes.split_first() {
@@ -61,7 +63,8 @@ pub(crate) fn split_below<const LIMIT: u64>(bytes: &[u8]) -> Result<(u64, &[u8])
 #[inline(never)]
 fn split_wider<const LIMIT: u64>(bytes: &[u8]) -> Result<(u64, &[u8]), Error>
     requires { 2 ^ 30 ≤ LIMIT }
-    ensures ok { IfOk result (λ found. BeginsNumber (SpelledBelow LIMIT) bytes.now found.0 found.1.now) }
+    ensures ok { IfOk result
+        (λ found. BeginsNumber (SpelledBelow LIMIT) bytes.now found.0 found.1.now) }
     ensures err { IfErr result (RefusesBelow LIMIT bytes.now) }
 {
     let Some((first, rest)) = bytes.split_first() else {
@@ -138,12 +141,16 @@ pub(crate) fn write_below<W: Sink, const LIMIT: u64>(
 ) -> Result<usize, Error>
     requires least { 2 ^ 30 ≤ LIMIT }
     requires greatest { LIMIT ≤ 2 ^ 62 }
-    ensures ok { IfOk result (SentNumber (SpelledBelow LIMIT) (W.received sink.old) (W.received sink.new) number) }
-    ensures beginning { number < LIMIT → BeganNumber (SpelledBelow LIMIT) (W.received sink.old) (W.received sink.new) number }
+    ensures ok { IfOk result
+        (SentNumber (SpelledBelow LIMIT) (W.received sink.old) (W.received sink.new) number) }
+    ensures beginning { number < LIMIT
+        → BeganNumber (SpelledBelow LIMIT) (W.received sink.old) (W.received sink.new) number }
     ensures counts { NoneFell (W.counts sink.old) (W.counts sink.new) }
-    ensures refused { IfErr result (λ e. NumberNotSent LIMIT e number (W.counts sink.old) (W.counts sink.new)) }
+    ensures refused { IfErr result
+        (λ e. NumberNotSent LIMIT e number (W.counts sink.old) (W.counts sink.new)) }
     ensures calm { IfOk result (λ _. OnlyInterrupted (W.counts sink.old) (W.counts sink.new)) }
-    ensures too_great { LIMIT ≤ number → (result ≡ Err InvalidVectorLength) × (sink.new ≡ sink.old) }
+    ensures too_great { LIMIT ≤ number
+        → (result ≡ Err InvalidVectorLength) × (sink.new ≡ sink.old) }
 {
     let Some(found) = form_below::<LIMIT>(number) else {
         return Err(Error::InvalidVectorLength);

@@ -33,7 +33,8 @@ impl Source for &[u8] {
     #[inline(always)]
     fn fill_at_hand(&mut self, into: &mut [u8]) -> Fill
         ensures filled { result ≡ Full → self.old.now ≡ into.new ++ self.new.now }
-        ensures too_few { result ≡ TooFew → (length self.old.now < length into.old) × (self.new ≡ self.old) }
+        ensures too_few { result ≡ TooFew
+            → (length self.old.now < length into.old) × (self.new ≡ self.old) }
         ensures unknown { result ≡ Unknown → self.new ≡ self.old }
         ensures calm { no_counts ≡ no_counts }
         ensures known { result ≡ Unknown → ⊥ }

@@ -131,8 +131,10 @@ impl<W: Write> Sink for Outside<W> {
 
     fn give(&mut self, bytes: &[u8]) -> Result<usize, Fault>
         ensures bound { IfOk result (λ n. n ≤ length bytes.now) }
-        ensures took { Appends (W.contents self.old.inner) (W.contents self.new.inner) (bytes_moved result bytes.now) }
-        ensures counted { GiveIsCounted result (length bytes.now) (counts_of self.old) (counts_of self.new) }
+        ensures took { Appends (W.contents self.old.inner) (W.contents self.new.inner)
+            (bytes_moved result bytes.now) }
+        ensures counted { GiveIsCounted result (length bytes.now) (counts_of self.old)
+            (counts_of self.new) }
         ensures moved { MovedBy (count_moved result) self.old self.new }
     {
         match self.inner.write(bytes) {

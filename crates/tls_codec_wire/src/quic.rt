@@ -32,7 +32,8 @@ const LIMIT: u64 = 0x4000_0000_0000_0000;
 pub fn read_varint<R: Source>(src: &mut R) -> Result<TlsVarInt, Error>
     ensures gave { Gave R.given src.old src.new }
     ensures ok { IfOk result (λ n. GaveNumber R.given Varint src.old src.new (number_of n)) }
-    ensures refused { IfErr result (RefusedFor R.Source (NumberNotRead (RefusesBelow (2 ^ 62))) src.old src.new) }
+    ensures refused { IfErr result
+        (RefusedFor R.Source (NumberNotRead (RefusesBelow (2 ^ 62))) src.old src.new) }
     ensures calm { IfOk result (λ _. OnlyInterrupted (R.counts src.old) (R.counts src.new)) }
 {
     let number = read_below::<R, LIMIT>(src)?;
@@ -44,7 +45,8 @@ pub fn read_varint<R: Source>(src: &mut R) -> Result<TlsVarInt, Error>
 /// `EndOfStream`: there are fewer bytes than the first one asks for, or none. `InvalidVectorLength`:
 /// these are more than the number needs.
 pub fn split_varint(bytes: &[u8]) -> Result<(TlsVarInt, &[u8]), Error>
-    ensures ok { IfOk result (λ found. BeginsNumber Varint bytes.now (number_of found.0) found.1.now) }
+    ensures ok { IfOk result
+        (λ found. BeginsNumber Varint bytes.now (number_of found.0) found.1.now) }
     ensures err { IfErr result (RefusesBelow (2 ^ 62) bytes.now) }
 {
     let (number, rest) = split_below::<LIMIT>(bytes)?;
@@ -55,8 +57,10 @@ pub fn split_varint(bytes: &[u8]) -> Result<(TlsVarInt, &[u8]), Error>
 ///
 /// Every refusal is the sink's, as in [`write_all`](crate::write_all).
 pub fn write_varint<W: Sink>(sink: &mut W, n: TlsVarInt) -> Result<usize, Error>
-    ensures ok { IfOk result (SentNumber Varint (W.received sink.old) (W.received sink.new) (number_of n)) }
-    ensures beginning { BeganNumber Varint (W.received sink.old) (W.received sink.new) (number_of n) }
+    ensures ok { IfOk result
+        (SentNumber Varint (W.received sink.old) (W.received sink.new) (number_of n)) }
+    ensures beginning { BeganNumber Varint (W.received sink.old) (W.received sink.new)
+        (number_of n) }
     ensures counts { NoneFell (W.counts sink.old) (W.counts sink.new) }
     ensures refused { IfErr result (λ e. WriteRefused e (W.counts sink.old) (W.counts sink.new)) }
     ensures calm { IfOk result (λ _. OnlyInterrupted (W.counts sink.old) (W.counts sink.new)) }

@@ -36,9 +36,11 @@ pub fn read_exactly<R: Source>(src: &mut R, into: &mut [u8]) -> Result<(), Error
     ensures gave { Gave R.given src.old src.new }
     ensures filled { OnOk result (R.given src.old into.new src.new) }
     ensures bytes { OnOk result (AreBytes into.new) }
-    ensures refused { IfErr result (RefusedFor R.Source (ReadRefused (length into.old)) src.old src.new) }
+    ensures refused { IfErr result
+        (RefusedFor R.Source (ReadRefused (length into.old)) src.old src.new) }
     ensures calm { OnOk result (OnlyInterrupted (R.counts src.old) (R.counts src.new)) }
-    ensures ended { result ≡ Err EndOfStream → OnlyInterrupted (R.counts src.old) (R.counts src.new) }
+    ensures ended { result ≡ Err EndOfStream
+        → OnlyInterrupted (R.counts src.old) (R.counts src.new) }
     ensures nothing_asked { length into.old ≡ 0 → (result ≡ Ok tt) × (src.new ≡ src.old) }
 {
     if into.is_empty() {
@@ -56,9 +58,11 @@ fn read_as_it_comes<R: Source>(src: &mut R, into: &mut [u8]) -> Result<(), Error
     ensures gave { Gave R.given src.old src.new }
     ensures filled { OnOk result (R.given src.old into.new src.new) }
     ensures bytes { OnOk result (AreBytes into.new) }
-    ensures refused { IfErr result (RefusedFor R.Source (ReadRefused (length into.old)) src.old src.new) }
+    ensures refused { IfErr result
+        (RefusedFor R.Source (ReadRefused (length into.old)) src.old src.new) }
     ensures calm { OnOk result (OnlyInterrupted (R.counts src.old) (R.counts src.new)) }
-    ensures ended { result ≡ Err EndOfStream → OnlyInterrupted (R.counts src.old) (R.counts src.new) }
+    ensures ended { result ≡ Err EndOfStream
+        → OnlyInterrupted (R.counts src.old) (R.counts src.new) }
     ensures nothing_asked { length into.old ≡ 0 → (result ≡ Ok tt) × (src.new ≡ src.old) }
 {
     let mut at = 0;

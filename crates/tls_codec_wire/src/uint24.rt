@@ -62,7 +62,8 @@ impl TryFrom<usize> for U24 {
 
     type Error = Error;
 
-    ghost try_from_gives = { λ n r. MatchResult r (λ u. (number_of u ≡ n) × (n < 2 ^ 24)) (λ e. (e ≡ LibraryError) × (2 ^ 24 ≤ n)) };
+    ghost try_from_gives = { λ n r. MatchResult r (λ u. (number_of u ≡ n) × (n < 2 ^ 24))
+        (λ e. (e ≡ LibraryError) × (2 ^ 24 ≤ n)) };
 
     /// `LibraryError`: the number takes more than 24 bits.
     fn try_from(value: usize) -> Result<U24, Error> {

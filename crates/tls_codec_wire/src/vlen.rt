@@ -35,7 +35,8 @@ pub fn read_length<R: Source>(src: &mut R) -> Result<(usize, usize), Error>
     ensures gave { Gave R.given src.old src.new }
     ensures ok { IfOk result (λ found. GaveNumber R.given VectorLength src.old src.new found.0) }
     ensures width { IfOk result (λ found. found.1 ≡ width_below (2 ^ 30) found.0) }
-    ensures refused { IfErr result (RefusedFor R.Source (NumberNotRead (RefusesBelow (2 ^ 30))) src.old src.new) }
+    ensures refused { IfErr result
+        (RefusedFor R.Source (NumberNotRead (RefusesBelow (2 ^ 30))) src.old src.new) }
     ensures calm { IfOk result (λ _. OnlyInterrupted (R.counts src.old) (R.counts src.new)) }
 {
     let length = read_below::<R, LIMIT>(src)?;
@@ -66,12 +67,16 @@ pub fn split_length(bytes: &[u8]) -> Result<(usize, &[u8]), Error>
 /// assert_eq!(rt; out.as_slice(), [0x40, 0x40].as_slice());
 /// ```
 pub fn write_length<W: Sink>(sink: &mut W, content_length: usize) -> Result<usize, Error>
-    ensures ok { IfOk result (SentNumber VectorLength (W.received sink.old) (W.received sink.new) content_length) }
-    ensures beginning { content_length < 2 ^ 30 → BeganNumber VectorLength (W.received sink.old) (W.received sink.new) content_length }
+    ensures ok { IfOk result
+        (SentNumber VectorLength (W.received sink.old) (W.received sink.new) content_length) }
+    ensures beginning { content_length < 2 ^ 30
+        → BeganNumber VectorLength (W.received sink.old) (W.received sink.new) content_length }
     ensures counts { NoneFell (W.counts sink.old) (W.counts sink.new) }
-    ensures refused { IfErr result (λ e. NumberNotSent (2 ^ 30) e content_length (W.counts sink.old) (W.counts sink.new)) }
+    ensures refused { IfErr result
+        (λ e. NumberNotSent (2 ^ 30) e content_length (W.counts sink.old) (W.counts sink.new)) }
     ensures calm { IfOk result (λ _. OnlyInterrupted (W.counts sink.old) (W.counts sink.new)) }
-    ensures too_long { 2 ^ 30 ≤ content_length → (result ≡ Err InvalidVectorLength) × (sink.new ≡ sink.old) }
+    ensures too_long { 2 ^ 30 ≤ content_length
+        → (result ≡ Err InvalidVectorLength) × (sink.new ≡ sink.old) }
 {
     write_below::<W, LIMIT>(sink, content_length as u64)
 }
@@ -108,9 +113,12 @@ pub fn insert_length(out: &mut Vec<u8>, at: usize) -> Result<usize, Error>
     requires { at ≤ vec_len out.old }
     ensures ok { IfOk result (InsertedLength out.old.items out.new.items at) }
     ensures kept { OnErr result (out.new.items ≡ out.old.items) }
-    ensures refused { IfErr result (λ e. InsertRefused e (length out.old.items - at) (length out.old.items)) }
+    ensures refused { IfErr result
+        (λ e. InsertRefused e (length out.old.items - at) (length out.old.items)) }
     ensures too_long { 2 ^ 30 ≤ length out.old.items - at → result ≡ Err InvalidVectorLength }
-    ensures passed { 2 ^ 63 ≤ length out.old.items + width_below (2 ^ 30) (length out.old.items - at) → result ≡ Err InvalidVectorLength }
+    ensures passed { 2 ^ 63
+        ≤ length out.old.items + width_below (2 ^ 30) (length out.old.items - at)
+        → result ≡ Err InvalidVectorLength }
 {
     let content_length = out.len() - at;
     let width = length_width(content_length);
@@ -136,7 +144,9 @@ pub fn insert_length(out: &mut Vec<u8>, at: usize) -> Result<usize, Error>
 #[inline(always)]
 pub fn insert_bytes(out: &mut Vec<u8>, at: usize, bytes: &[u8]) -> Result<(), Error>
     requires { at ≤ vec_len out.old }
-    ensures items { out.new.items ≡ (if is_ok result then take at out.old.items ++ (bytes.now ++ drop at out.old.items) else out.old.items) }
+    ensures items { out.new.items
+        ≡ (if is_ok result then take at out.old.items
+        ++ (bytes.now ++ drop at out.old.items) else out.old.items) }
     ensures err { IfErr result (λ e. e ≡ OutOfMemory) }
 {
     let end = out.len();

@@ -22,7 +22,8 @@ pub fn answer<R: Source, W: Sink>(
     input: &mut R,
     out: &mut W,
 ) -> u8
-    ensures { Answers R.Source W.Sink input.old input.new out.old out.new (argument_of words) result }
+    ensures { Answers R.Source W.Sink input.old input.new out.old out.new (argument_of words)
+        result }
 {
     match argument(words) {
         Ok(kind) => {

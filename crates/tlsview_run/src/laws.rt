@@ -14,14 +14,29 @@ use std::alloc::AllocError;
 pub fn faults_are_compared_by_their_variants()
     ensures equal { (x y : ViewFault) → IsTrue (⟦<ViewFault as PartialEq>⟧.eq x y) ↔ (x ≡ y) }
     ensures copied { (x y : ViewFault) → ⟦<ViewFault as Clone>⟧.is_clone x y → y ≡ x }
-    ensures refused { (e : AllocError) (x : ViewFault) → ⟦<ViewFault as From<AllocError>>⟧.from_gives e x → x ≡ ViewFault.Memory }
+    ensures refused { (e : AllocError) (x : ViewFault)
+        → ⟦<ViewFault as From<AllocError>>⟧.from_gives e x
+        → x ≡ ViewFault.Memory }
 {}
 
 /// The names of the table are these fifteen, and no others.
 pub fn there_are_fifteen_kinds()
     ensures count { length kinds ≡ 15 }
-    ensures named { map (λ kind. kind.name) kinds ≡
-        codes "u16" ∷ codes "varint" ∷ codes "option-u16" ∷ codes "vec-u8" ∷ codes "vec-u16"
-        ∷ codes "vec-vec-u16" ∷ codes "string" ∷ codes "mixed" ∷ codes "vlbytes" ∷ codes "vec-vlbytes"
-        ∷ codes "vecu8-u16" ∷ codes "bytevecu32" ∷ codes "leaf" ∷ codes "step" ∷ codes "log" ∷ [] }
+    ensures named { map (λ kind. kind.name) kinds
+        ≡ codes "u16"
+        ∷ codes "varint"
+        ∷ codes "option-u16"
+        ∷ codes "vec-u8"
+        ∷ codes "vec-u16"
+        ∷ codes "vec-vec-u16"
+        ∷ codes "string"
+        ∷ codes "mixed"
+        ∷ codes "vlbytes"
+        ∷ codes "vec-vlbytes"
+        ∷ codes "vecu8-u16"
+        ∷ codes "bytevecu32"
+        ∷ codes "leaf"
+        ∷ codes "step"
+        ∷ codes "log"
+        ∷ [] }
 {}

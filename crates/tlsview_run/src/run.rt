@@ -53,7 +53,8 @@ fn run_as<T: Show, R: Source, W: Sink>(
     input: &mut R,
     out: &mut W,
 ) -> Result<bool, ViewFault>
-    ensures runs { RunsBy (IsView T.format.spells T.text) R.Source W.Sink input.old input.new out.old out.new result }
+    ensures runs { RunsBy (IsView T.format.spells T.text) R.Source W.Sink input.old input.new
+        out.old out.new result }
     ensures gave { Gave R.given input.old input.new }
     ensures input_counts { NoneFell (R.counts input.old) (R.counts input.new) }
     ensures sink_counts { NoneFell (W.counts out.old) (W.counts out.new) }

@@ -16,7 +16,8 @@ pub trait Show: Serialize + Deserialize + DeserializeBytes {
 
     /// Appends the value's text.
     fn show(&self, alloc: Global, out: &mut String) -> Result<(), AllocError>
-        ensures { OnOk result (string_bytes out.new ≡ string_bytes out.old ++ text (Self.plain self.now)) };
+        ensures { OnOk result
+            (string_bytes out.new ≡ string_bytes out.old ++ text (Self.plain self.now)) };
 }
 
 impl Show for u8 {
@@ -160,8 +161,12 @@ fn push_triple<T: Show, U: Show, V: Show>(
     second: &U,
     third: &V,
 ) -> Result<(), AllocError>
-    ensures { OnOk result (string_bytes out.new ≡ string_bytes out.old
-        ++ triple_text T.text U.text V.text (Join (T.plain first.now) (Join (U.plain second.now) (Join (V.plain third.now) Empty)))) }
+    ensures { OnOk result
+        (string_bytes out.new
+        ≡ string_bytes out.old
+        ++ triple_text T.text U.text V.text
+        (Join (T.plain first.now)
+        (Join (U.plain second.now) (Join (V.plain third.now) Empty)))) }
 {
     out.push('(')?;
     first.show(alloc, out)?;
@@ -174,7 +179,10 @@ fn push_triple<T: Show, U: Show, V: Show>(
 
 /// Appends the text of a list.
 fn push_list<T: Show>(alloc: Global, out: &mut String, elements: &[T]) -> Result<(), AllocError>
-    ensures { OnOk result (string_bytes out.new ≡ string_bytes out.old ++ list_text T.text (trees T.plain elements.now)) }
+    ensures { OnOk result
+        (string_bytes out.new
+        ≡ string_bytes out.old
+        ++ list_text T.text (trees T.plain elements.now)) }
 {
     out.push('[')?;
     push_elements(alloc, out, elements)?;
@@ -183,7 +191,10 @@ fn push_list<T: Show>(alloc: Global, out: &mut String, elements: &[T]) -> Result
 
 /// Appends the texts of some elements, with commas between them.
 fn push_elements<T: Show>(alloc: Global, out: &mut String, elements: &[T]) -> Result<(), AllocError>
-    ensures { OnOk result (string_bytes out.new ≡ string_bytes out.old ++ elements_text T.text (trees T.plain elements.now)) }
+    ensures { OnOk result
+        (string_bytes out.new
+        ≡ string_bytes out.old
+        ++ elements_text T.text (trees T.plain elements.now)) }
 {
     let Some((first, others)) = elements.split_first() else {
         return Ok(());
@@ -199,10 +210,12 @@ fn push_elements<T: Show>(alloc: Global, out: &mut String, elements: &[T]) -> Re
 /// Appends the hex of some bytes, and `-` for none.
 #[tactic(auto, using(crate::proofs::Bytes::numbers_again))]
 pub fn push_hex(alloc: Global, out: &mut String, bytes: &[u8]) -> Result<(), AllocError>
-    ensures hex { OnOk result (string_bytes out.new ≡ string_bytes out.old ++ hex_or_dash bytes.now) }
+    ensures hex { OnOk result
+        (string_bytes out.new ≡ string_bytes out.old ++ hex_or_dash bytes.now) }
 
     // These are the texts of values that are bytes.
-    ensures text { OnOk result (string_bytes out.new ≡ string_bytes out.old ++ bytes_text (number_trees bytes.now)) }
+    ensures text { OnOk result
+        (string_bytes out.new ≡ string_bytes out.old ++ bytes_text (number_trees bytes.now)) }
 {
     if bytes.is_empty() {
         return out.push_str("-");

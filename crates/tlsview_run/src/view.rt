@@ -21,7 +21,8 @@ pub struct View {
 ///
 /// `Memory` is an `OutOfMemory` of either path, or memory that the lines ask for.
 pub fn view_of<T: Show>(alloc: Global, bytes: &[u8]) -> Result<View, ViewFault>
-    ensures ok { IfOk result (λ view. IsView T.format.spells T.text bytes.now view.accepted (string_bytes view.lines)) }
+    ensures ok { IfOk result
+        (λ view. IsView T.format.spells T.text bytes.now view.accepted (string_bytes view.lines)) }
     ensures err { IfErr result (λ fault. fault ≡ ViewFault.Memory) }
 {
     let mut left = bytes;
@@ -97,7 +98,9 @@ fn show_refusal(out: &mut String, path: &str, error: Error) -> Result<(), ViewFa
 /// A value that was read has a shortest form, no longer than what was read, so that an encoder
 /// refuses it for memory alone.
 fn show_least<T: Show>(alloc: Global, out: &mut String, value: &T) -> Result<(), AllocError>
-    ensures { OnOk result (AppendsLeast T.format.spells (T.plain value.now) (string_bytes out.old) (string_bytes out.new)) }
+    ensures { OnOk result
+        (AppendsLeast T.format.spells (T.plain value.now) (string_bytes out.old)
+        (string_bytes out.new)) }
 {
     let Ok(form) = value.tls_serialize_detached(alloc) else {
         return Err(AllocError);

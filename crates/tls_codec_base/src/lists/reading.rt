@@ -29,12 +29,16 @@ pub fn from_slice<'a, T: DeserializeBytes>(
     length: usize,
     turns: &mut Turns,
 ) -> Result<(Vec<T>, &'a [u8]), Error>
-    ensures splits { Splits (sized_format length (content_format T.format)) (λ elements. trees T.plain elements.items) bytes.now result }
+    ensures splits { Splits (sized_format length (content_format T.format))
+        (λ elements. trees T.plain elements.items) bytes.now result }
     ensures named { IfErr result (elements_names T.format T.names length bytes.now) }
     ensures turned { IfOk result (λ found. TurnedEach found.0.items turns.old turns.new) }
-    ensures refused { IfErr result (TurnedRefused T.format.spells length bytes.now turns.old turns.new) }
+    ensures refused { IfErr result
+        (TurnedRefused T.format.spells length bytes.now turns.old turns.new) }
     ensures bounded { TurnedWithin length bytes.now turns.old turns.new }
-    ensures nothing_asked { length ≡ 0 → IsOkAnd result (λ found. (found.0.items ≡ []) × (found.1.now ≡ bytes.now)) × (turns.new ≡ turns.old) }
+    ensures nothing_asked { length ≡ 0
+        → IsOkAnd result (λ found. (found.0.items ≡ []) × (found.1.now ≡ bytes.now))
+        × (turns.new ≡ turns.old) }
 {
     if length > 0 && length <= bytes.len() {
         let (front, behind) = bytes.split_at(length);
@@ -77,12 +81,20 @@ pub fn from_reader<T: Deserialize, R: Source>(
     length: usize,
     turns: &mut Turns,
 ) -> Result<Vec<T>, Error>
-    ensures reads { Reads (sized_format length (content_format T.format)) (λ elements. trees T.plain elements.items) R.Source src.old src.new result }
-    ensures named { IfErr result (Named (sized_format length (content_format T.format)) (elements_source_names T.format T.names length) R.Source src.old src.new) }
+    ensures reads { Reads (sized_format length (content_format T.format))
+        (λ elements. trees T.plain elements.items) R.Source src.old src.new result }
+    ensures named { IfErr result
+        (Named (sized_format length (content_format T.format))
+        (elements_source_names T.format T.names length) R.Source src.old src.new) }
     ensures turned { IfOk result (λ elements. TurnedEach elements.items turns.old turns.new) }
-    ensures refused { IfErr result (RefusedFor R.Source (source_turns T.format.spells length turns.old turns.new) src.old src.new) }
+    ensures refused { IfErr result
+        (RefusedFor R.Source (source_turns T.format.spells length turns.old turns.new) src.old
+        src.new) }
     ensures bounded { TurnedWithinGiven R.given length src.old src.new turns.old turns.new }
-    ensures nothing_asked { length ≡ 0 → IsOkAnd result (λ elements. elements.items ≡ []) × (src.new ≡ src.old) × (turns.new ≡ turns.old) }
+    ensures nothing_asked { length ≡ 0
+        → IsOkAnd result (λ elements. elements.items ≡ [])
+        × (src.new ≡ src.old)
+        × (turns.new ≡ turns.old) }
 {
     let mut within = Bounded::new(src, length as u64);
     elements_within(alloc, &mut within, turns)
@@ -95,14 +107,21 @@ fn elements_within<T: Deserialize, R: Source>(
     turns: &mut Turns,
 ) -> Result<Vec<T>, Error>
     ensures same { BorrowAlike within.old within.new }
-    ensures reads { Reads (sized_format (limit_of within.old) (content_format T.format)) (λ elements. trees T.plain elements.items) R.Source
-        (inner_of within.old) (inner_of within.new) result }
+    ensures reads { Reads (sized_format (limit_of within.old) (content_format T.format))
+        (λ elements. trees T.plain elements.items) R.Source (inner_of within.old)
+        (inner_of within.new) result }
     ensures named { IfErr result (NamedWithin T.format T.names R.Source within.old within.new) }
     ensures turned { IfOk result (λ elements. TurnedEach elements.items turns.old turns.new) }
-    ensures refused { IfErr result (RefusedFor R.Source (source_turns T.format.spells (limit_of within.old) turns.old turns.new)
+    ensures refused { IfErr result
+        (RefusedFor R.Source
+        (source_turns T.format.spells (limit_of within.old) turns.old turns.new)
         (inner_of within.old) (inner_of within.new)) }
-    ensures bounded { TurnedWithinGiven R.given (limit_of within.old) (inner_of within.old) (inner_of within.new) turns.old turns.new }
-    ensures nothing_asked { limit_of within.old ≡ 0 → IsOkAnd result (λ elements. elements.items ≡ []) × (inner_of within.new ≡ inner_of within.old) × (turns.new ≡ turns.old) }
+    ensures bounded { TurnedWithinGiven R.given (limit_of within.old) (inner_of within.old)
+        (inner_of within.new) turns.old turns.new }
+    ensures nothing_asked { limit_of within.old ≡ 0
+        → IsOkAnd result (λ elements. elements.items ≡ [])
+        × (inner_of within.new ≡ inner_of within.old)
+        × (turns.new ≡ turns.old) }
 {
     if within.limit() > 0 {
         if let Some(elements) = T::tls_read_elements(alloc, within, turns)? {
@@ -119,14 +138,21 @@ fn each_within<T: Deserialize, R: Source>(
     turns: &mut Turns,
 ) -> Result<Vec<T>, Error>
     ensures same { BorrowAlike within.old within.new }
-    ensures reads { Reads (sized_format (limit_of within.old) (content_format T.format)) (λ elements. trees T.plain elements.items) R.Source
-        (inner_of within.old) (inner_of within.new) result }
+    ensures reads { Reads (sized_format (limit_of within.old) (content_format T.format))
+        (λ elements. trees T.plain elements.items) R.Source (inner_of within.old)
+        (inner_of within.new) result }
     ensures named { IfErr result (NamedWithin T.format T.names R.Source within.old within.new) }
     ensures turned { IfOk result (λ elements. TurnedEach elements.items turns.old turns.new) }
-    ensures refused { IfErr result (RefusedFor R.Source (source_turns T.format.spells (limit_of within.old) turns.old turns.new)
+    ensures refused { IfErr result
+        (RefusedFor R.Source
+        (source_turns T.format.spells (limit_of within.old) turns.old turns.new)
         (inner_of within.old) (inner_of within.new)) }
-    ensures bounded { TurnedWithinGiven R.given (limit_of within.old) (inner_of within.old) (inner_of within.new) turns.old turns.new }
-    ensures nothing_asked { limit_of within.old ≡ 0 → IsOkAnd result (λ elements. elements.items ≡ []) × (inner_of within.new ≡ inner_of within.old) × (turns.new ≡ turns.old) }
+    ensures bounded { TurnedWithinGiven R.given (limit_of within.old) (inner_of within.old)
+        (inner_of within.new) turns.old turns.new }
+    ensures nothing_asked { limit_of within.old ≡ 0
+        → IsOkAnd result (λ elements. elements.items ≡ [])
+        × (inner_of within.new ≡ inner_of within.old)
+        × (turns.new ≡ turns.old) }
 {
     let mut elements = Vec::new(alloc);
     'elements: while within.limit() > 0 {

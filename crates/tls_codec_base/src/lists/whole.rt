@@ -8,5 +8,8 @@ use crate::traits::Size;
 
 /// There is one number of whole elements at the front of some bytes.
 pub fn whole_elements_are_one_number<T: Size>()
-    ensures { (m n : ℕ) (x : List ℕ) → WholeElements T.format.spells m x → WholeElements T.format.spells n x → m ≡ n }
+    ensures { (m n : ℕ) (x : List ℕ)
+        → WholeElements T.format.spells m x
+        → WholeElements T.format.spells n x
+        → m ≡ n }
 {}

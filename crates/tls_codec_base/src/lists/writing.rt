@@ -18,8 +18,11 @@ use tls_codec_wire::{Error, Sink};
 /// assert_eq!(rt; content_len(&[1u16, 2]), Ok(4));
 /// ```
 pub fn content_len<T: Size>(elements: &[T]) -> Result<usize, Error>
-    ensures ok { IfOk result (λ n. n ≡ content_sum T.format.announced (trees T.plain elements.now)) }
-    ensures err { IfErr result (λ e. (e ≡ InvalidVectorLength) × (2 ^ 64 ≤ content_sum T.format.announced (trees T.plain elements.now))) }
+    ensures ok { IfOk result
+        (λ n. n ≡ content_sum T.format.announced (trees T.plain elements.now)) }
+    ensures err { IfErr result
+        (λ e. (e ≡ InvalidVectorLength)
+        × (2 ^ 64 ≤ content_sum T.format.announced (trees T.plain elements.now))) }
 {
     match T::tls_fixed_len() {
         Some(each) => product(elements.len(), each),
@@ -40,8 +43,11 @@ fn product(count: usize, each: usize) -> Result<usize, Error>
 
 // The same, one element after another.
 fn sum_of_lengths<T: Size>(elements: &[T]) -> Result<usize, Error>
-    ensures ok { IfOk result (λ n. n ≡ content_sum T.format.announced (trees T.plain elements.now)) }
-    ensures err { IfErr result (λ e. (e ≡ InvalidVectorLength) × (2 ^ 64 ≤ content_sum T.format.announced (trees T.plain elements.now))) }
+    ensures ok { IfOk result
+        (λ n. n ≡ content_sum T.format.announced (trees T.plain elements.now)) }
+    ensures err { IfErr result
+        (λ e. (e ≡ InvalidVectorLength)
+        × (2 ^ 64 ≤ content_sum T.format.announced (trees T.plain elements.now))) }
 {
     let mut sum: usize = 0;
     for element in elements {
@@ -62,7 +68,8 @@ fn sum_of_lengths<T: Size>(elements: &[T]) -> Result<usize, Error>
 /// assert_eq!(rt; out.as_slice(), [0, 1, 0, 2].as_slice());
 /// ```
 pub fn write<T: Serialize, W: Sink>(sink: &mut W, elements: &[T]) -> Result<usize, Error>
-    ensures { Writes (content_format T.format) (trees T.plain elements.now) W.Sink sink.old sink.new result }
+    ensures { Writes (content_format T.format) (trees T.plain elements.now) W.Sink sink.old sink.new
+        result }
 {
     match T::tls_send_elements(elements, sink)? {
         Some(sent) => Ok(sent),
@@ -72,7 +79,8 @@ pub fn write<T: Serialize, W: Sink>(sink: &mut W, elements: &[T]) -> Result<usiz
 
 // The same, one element after another.
 fn write_each<T: Serialize, W: Sink>(sink: &mut W, elements: &[T]) -> Result<usize, Error>
-    ensures { Writes (content_format T.format) (trees T.plain elements.now) W.Sink sink.old sink.new result }
+    ensures { Writes (content_format T.format) (trees T.plain elements.now) W.Sink sink.old sink.new
+        result }
 {
     let mut sent: usize = 0;
     for element in elements {
@@ -93,7 +101,8 @@ fn write_each<T: Serialize, W: Sink>(sink: &mut W, elements: &[T]) -> Result<usi
 /// assert_eq!(rt; out.as_slice(), [9, 0, 1, 0, 2].as_slice());
 /// ```
 pub fn append<T: Serialize>(out: &mut Vec<u8>, elements: &[T]) -> Result<usize, Error>
-    ensures { AppendsForm (content_format T.format) (trees T.plain elements.now) out.old.items out.new.items result }
+    ensures { AppendsForm (content_format T.format) (trees T.plain elements.now) out.old.items
+        out.new.items result }
 {
     match append_at_once(out, elements)? {
         Some(length) => Ok(length),
@@ -118,7 +127,8 @@ fn append_at_once<T: Size>(out: &mut Vec<u8>, elements: &[T]) -> Result<Option<u
 
 // The same, one element after another.
 fn append_each<T: Serialize>(out: &mut Vec<u8>, elements: &[T]) -> Result<usize, Error>
-    ensures { AppendsForm (content_format T.format) (trees T.plain elements.now) out.old.items out.new.items result }
+    ensures { AppendsForm (content_format T.format) (trees T.plain elements.now) out.old.items
+        out.new.items result }
 {
     let at = out.len();
     for element in elements {
@@ -140,7 +150,8 @@ pub fn append_bytes<T: SerializeBytes>(
     out: &mut Vec<u8>,
     elements: &[T],
 ) -> Result<usize, Error>
-    ensures { AppendsForm (content_format T.format) (trees T.plain elements.now) out.old.items out.new.items result }
+    ensures { AppendsForm (content_format T.format) (trees T.plain elements.now) out.old.items
+        out.new.items result }
 {
     match append_at_once(out, elements)? {
         Some(length) => Ok(length),
@@ -154,7 +165,8 @@ fn append_each_form<T: SerializeBytes>(
     out: &mut Vec<u8>,
     elements: &[T],
 ) -> Result<usize, Error>
-    ensures { AppendsForm (content_format T.format) (trees T.plain elements.now) out.old.items out.new.items result }
+    ensures { AppendsForm (content_format T.format) (trees T.plain elements.now) out.old.items
+        out.new.items result }
 {
     let at = out.len();
     for element in elements {

@@ -34,7 +34,8 @@ pub(crate) fn send_run<T: HasDigits<K>, W: Sink, const K: usize>(
     sink: &mut W,
 ) -> Result<usize, Error>
     requires { K ≤ 8 }
-    ensures { Writes (content_format (number_format K)) (trees (λ x. Number (T.number x)) numbers.now) W.Sink sink.old sink.new result }
+    ensures { Writes (content_format (number_format K))
+        (trees (λ x. Number (T.number x)) numbers.now) W.Sink sink.old sink.new result }
 {
     let mut sent: usize = 0;
     let mut rest = numbers;
@@ -54,7 +55,8 @@ fn send_group<T: HasDigits<K>, W: Sink, const K: usize>(
 ) -> Result<usize, Error>
     requires width { K ≤ 8 }
     requires size { length group.now ≤ GROUP }
-    ensures { Writes (content_format (number_format K)) (trees (λ x. Number (T.number x)) group.now) W.Sink sink.old sink.new result }
+    ensures { Writes (content_format (number_format K)) (trees (λ x. Number (T.number x)) group.now)
+        W.Sink sink.old sink.new result }
 {
     let mut digits = [[0u8; K]; GROUP];
     for i in 0..group.len() {

@@ -66,7 +66,10 @@ fn numbers_of<T: HasDigits<K>, const K: usize>(
 ) -> Result<Vec<T>, Error>
     requires some { 0 < K }
     requires width { K ≤ 8 }
-    ensures ok { IfOk result (λ numbers. length digits.now % K ≡ 0 → content (number K) Reading digits.now (trees (λ x. Number (T.number x)) numbers.items)) }
+    ensures ok { IfOk result
+        (λ numbers. length digits.now % K ≡ 0
+        → content (number K) Reading digits.now
+        (trees (λ x. Number (T.number x)) numbers.items)) }
     ensures err { IfErr result (λ e. e ≡ OutOfMemory) }
 {
     let (groups, _) = digits.as_chunks::<K>();
@@ -102,10 +105,13 @@ pub(crate) fn read_elements<T: HasDigits<K>, R: Source, const K: usize>(
     requires some { 0 < K }
     requires width { K ≤ 8 }
     ensures same { BorrowAlike within.old within.new }
-    ensures reads { AllGiven (number_format K) (λ x. Number (T.number x)) R.Source within.old within.new result }
-    ensures named { IfErr result (NamedWithin (number_format K) (ReadRefused K) R.Source within.old within.new) }
+    ensures reads { AllGiven (number_format K) (λ x. Number (T.number x)) R.Source within.old
+        within.new result }
+    ensures named { IfErr result
+        (NamedWithin (number_format K) (ReadRefused K) R.Source within.old within.new) }
     ensures turned { TurnedAll turns.old turns.new result }
-    ensures at_once { IfErr result (MemoryOrFault (R.counts (inner_of within.old)) (R.counts (inner_of within.new))) }
+    ensures at_once { IfErr result
+        (MemoryOrFault (R.counts (inner_of within.old)) (R.counts (inner_of within.new))) }
 {
     let Some(digits) = read_run::<R, K>(alloc, within)? else {
         return Ok(None);

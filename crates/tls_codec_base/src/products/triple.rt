@@ -52,7 +52,8 @@ impl<T: Serialize, U: Serialize, V: Serialize> Serialize for (T, U, V) {
 }
 
 impl<T: Deserialize, U: Deserialize, V: Deserialize> Deserialize for (T, U, V) {
-    ghost names = { fields_source_names T.format T.names (fields_source_names U.format U.names V.names) };
+    ghost names = { fields_source_names T.format T.names
+        (fields_source_names U.format U.names V.names) };
 
     /// Every refusal is that of a part.
     fn tls_deserialize<R: Source>(alloc: Global, bytes: &mut R) -> Result<(T, U, V), Error> {

@@ -156,10 +156,12 @@ fn last_digits<const K: usize>(length: usize, greatest: usize) -> Option<([u8; 8
 fn read_field<R: Source, const K: usize>(src: &mut R) -> Result<[u8; K], Error>
     requires { 0 < K }
     ensures gave { Gave R.given src.old src.new }
-    ensures ok { IfOk result (λ digits. GaveNumber R.given (Digits K) src.old src.new (value digits)) }
+    ensures ok { IfOk result
+        (λ digits. GaveNumber R.given (Digits K) src.old src.new (value digits)) }
     ensures width { IfOk result (λ digits. length digits ≡ K) }
     ensures bytes { IfOk result AreBytes }
-    ensures refused { IfErr result (RefusedFor R.Source (NumberNotRead (RefusesDigits K)) src.old src.new) }
+    ensures refused { IfErr result
+        (RefusedFor R.Source (NumberNotRead (RefusesDigits K)) src.old src.new) }
     ensures calm { IfOk result (λ _. OnlyInterrupted (R.counts src.old) (R.counts src.new)) }
 {
     match read_digits(src) {
@@ -171,7 +173,8 @@ fn read_field<R: Source, const K: usize>(src: &mut R) -> Result<[u8; K], Error>
 // The K bytes of a length that the bytes begin with, and the rest of them.
 #[inline(always)]
 fn split_field<const K: usize>(bytes: &[u8]) -> Result<([u8; K], &[u8]), Error>
-    ensures ok { IfOk result (λ found. BeginsNumber (Digits K) bytes.now (value found.0) found.1.now) }
+    ensures ok { IfOk result
+        (λ found. BeginsNumber (Digits K) bytes.now (value found.0) found.1.now) }
     ensures width { IfOk result (λ found. length found.0 ≡ K) }
     ensures bytes { IfOk result (λ found. AreBytes found.0) }
     ensures err { IfErr result (RefusesDigits K bytes.now) }

@@ -18,12 +18,17 @@ pub fn write_length<F: LengthField, W: Sink>(
     sink: &mut W,
     content_length: usize,
 ) -> Result<usize, Error>
-    ensures ok { IfOk result (SentNumber F.field.spells (W.received sink.old) (W.received sink.new) content_length) }
-    ensures beginning { content_length < F.field.limit → BeganNumber F.field.spells (W.received sink.old) (W.received sink.new) content_length }
+    ensures ok { IfOk result
+        (SentNumber F.field.spells (W.received sink.old) (W.received sink.new) content_length) }
+    ensures beginning { content_length < F.field.limit
+        → BeganNumber F.field.spells (W.received sink.old) (W.received sink.new) content_length }
     ensures counts { NoneFell (W.counts sink.old) (W.counts sink.new) }
-    ensures refused { IfErr result (λ e. NumberNotSent F.field.limit e content_length (W.counts sink.old) (W.counts sink.new)) }
+    ensures refused { IfErr result
+        (λ e. NumberNotSent F.field.limit e content_length (W.counts sink.old)
+        (W.counts sink.new)) }
     ensures calm { IfOk result (λ _. OnlyInterrupted (W.counts sink.old) (W.counts sink.new)) }
-    ensures too_long { F.field.limit ≤ content_length → (result ≡ Err InvalidVectorLength) × (sink.new ≡ sink.old) }
+    ensures too_long { F.field.limit ≤ content_length
+        → (result ≡ Err InvalidVectorLength) × (sink.new ≡ sink.old) }
 {
     let Some(found) = F::form(content_length) else {
         return Err(Error::InvalidVectorLength);
@@ -51,7 +56,8 @@ pub fn open_gap(out: &mut Vec<u8>, width: usize, room: usize) -> Result<(), Allo
 // Appends a few bytes and then others, and asks for room once. One, two or four are stored by no call.
 #[inline(always)]
 pub(crate) fn append_both(out: &mut Vec<u8>, few: &[u8], bytes: &[u8]) -> Result<(), AllocError>
-    ensures { out.new.items ≡ (if is_ok result then out.old.items ++ (few.now ++ bytes.now) else out.old.items) }
+    ensures { out.new.items
+        ≡ (if is_ok result then out.old.items ++ (few.now ++ bytes.now) else out.old.items) }
 {
     match few.len() {
         1 => append_with_room(out, &few[..1], bytes),
@@ -64,7 +70,8 @@ pub(crate) fn append_both(out: &mut Vec<u8>, few: &[u8], bytes: &[u8]) -> Result
 // Appends a few bytes and then others, and asks for room once.
 #[inline(always)]
 fn append_with_room(out: &mut Vec<u8>, few: &[u8], bytes: &[u8]) -> Result<(), AllocError>
-    ensures { out.new.items ≡ (if is_ok result then out.old.items ++ (few.now ++ bytes.now) else out.old.items) }
+    ensures { out.new.items
+        ≡ (if is_ok result then out.old.items ++ (few.now ++ bytes.now) else out.old.items) }
 {
     make_room(out, few.len().saturating_add(bytes.len()))?;
     append_few(out, few)?;
@@ -86,7 +93,8 @@ fn make_room(out: &mut Vec<u8>, more: usize) -> Result<(), AllocError>
 // Appends a few bytes. One, two or four are stored by no call.
 #[inline(always)]
 fn append_few(out: &mut Vec<u8>, bytes: &[u8]) -> Result<(), AllocError>
-    ensures items { out.new.items ≡ (if is_ok result then out.old.items ++ bytes.now else out.old.items) }
+    ensures items { out.new.items
+        ≡ (if is_ok result then out.old.items ++ bytes.now else out.old.items) }
     ensures room { vec_capacity out.old ≤ vec_capacity out.new }
 {
     match bytes.len() {
@@ -100,7 +108,8 @@ fn append_few(out: &mut Vec<u8>, bytes: &[u8]) -> Result<(), AllocError>
 // Appends a byte.
 #[inline(always)]
 fn append_one(out: &mut Vec<u8>, byte: u8) -> Result<(), AllocError>
-    ensures items { out.new.items ≡ (if is_ok result then out.old.items ++ byte ∷ [] else out.old.items) }
+    ensures items { out.new.items
+        ≡ (if is_ok result then out.old.items ++ byte ∷ [] else out.old.items) }
     ensures room { vec_capacity out.old ≤ vec_capacity out.new }
 {
     match out.push(byte) {
@@ -120,7 +129,8 @@ pub fn fill_gap<F: LengthField>(out: &mut Vec<u8>, at: usize, gap: usize) -> Res
     requires { at + gap ≤ vec_len out.old }
     ensures ok { IfOk result (λ width. FilledGap F.field out.old.items out.new.items at gap width) }
     ensures kept { OnErr result (take at out.new.items ≡ take at out.old.items) }
-    ensures refused { IfErr result (λ e. GapRefused F.field e at (length out.old.items - (at + gap))) }
+    ensures refused { IfErr result
+        (λ e. GapRefused F.field e at (length out.old.items - (at + gap))) }
 {
     let content_length = out.len() - at - gap;
     let Some(found) = F::form(content_length) else {
@@ -138,9 +148,13 @@ pub fn fill_gap<F: LengthField>(out: &mut Vec<u8>, at: usize, gap: usize) -> Res
 fn fill_with(out: &mut Vec<u8>, at: usize, gap: usize, form: &[u8]) -> Result<(), Error>
     requires place { at + gap ≤ vec_len out.old }
     requires small { length form.now ≤ 8 }
-    ensures ok { OnOk result (out.new.items ≡ take at out.old.items ++ (form.now ++ drop (at + gap) out.old.items)) }
+    ensures ok { OnOk result
+        (out.new.items ≡ take at out.old.items ++ (form.now ++ drop (at + gap) out.old.items)) }
     ensures kept { OnErr result (out.new.items ≡ out.old.items) }
-    ensures err { IfErr result (λ e. (e ≡ OutOfMemory) ⊎ ((e ≡ InvalidVectorLength) × (2 ^ 63 ≤ length out.old.items - gap + length form.now))) }
+    ensures err { IfErr result
+        (λ e. (e ≡ OutOfMemory)
+        ⊎ ((e ≡ InvalidVectorLength)
+        × (2 ^ 63 ≤ length out.old.items - gap + length form.now))) }
 {
     match form.len() {
         1 => fit_and_put(out, at, gap, &form[..1]),
@@ -155,9 +169,13 @@ fn fill_with(out: &mut Vec<u8>, at: usize, gap: usize, form: &[u8]) -> Result<()
 fn fit_and_put(out: &mut Vec<u8>, at: usize, gap: usize, form: &[u8]) -> Result<(), Error>
     requires place { at + gap ≤ vec_len out.old }
     requires small { length form.now ≤ 8 }
-    ensures ok { OnOk result (out.new.items ≡ take at out.old.items ++ (form.now ++ drop (at + gap) out.old.items)) }
+    ensures ok { OnOk result
+        (out.new.items ≡ take at out.old.items ++ (form.now ++ drop (at + gap) out.old.items)) }
     ensures kept { OnErr result (out.new.items ≡ out.old.items) }
-    ensures err { IfErr result (λ e. (e ≡ OutOfMemory) ⊎ ((e ≡ InvalidVectorLength) × (2 ^ 63 ≤ length out.old.items - gap + length form.now))) }
+    ensures err { IfErr result
+        (λ e. (e ≡ OutOfMemory)
+        ⊎ ((e ≡ InvalidVectorLength)
+        × (2 ^ 63 ≤ length out.old.items - gap + length form.now))) }
 {
     if form.len() != gap {
         fit_gap(out, at, gap, form.len())?;
@@ -173,7 +191,9 @@ fn fit_gap(out: &mut Vec<u8>, at: usize, gap: usize, width: usize) -> Result<(),
     requires small { width ≤ 8 }
     ensures ok { OnOk result (FitGap out.old.items out.new.items at gap width) }
     ensures kept { OnErr result (out.new.items ≡ out.old.items) }
-    ensures err { IfErr result (λ e. (e ≡ OutOfMemory) ⊎ ((e ≡ InvalidVectorLength) × (2 ^ 63 ≤ length out.old.items - gap + width))) }
+    ensures err { IfErr result
+        (λ e. (e ≡ OutOfMemory)
+        ⊎ ((e ≡ InvalidVectorLength) × (2 ^ 63 ≤ length out.old.items - gap + width))) }
 {
     if width <= gap {
         remove_bytes(out, at + width, gap - width);
@@ -189,7 +209,9 @@ fn widen_gap(out: &mut Vec<u8>, at: usize, more: usize) -> Result<(), Error>
     requires small { more ≤ 8 }
     ensures ok { OnOk result (FitGap out.old.items out.new.items at 0 more) }
     ensures kept { OnErr result (out.new.items ≡ out.old.items) }
-    ensures err { IfErr result (λ e. (e ≡ OutOfMemory) ⊎ ((e ≡ InvalidVectorLength) × (2 ^ 63 ≤ length out.old.items + more))) }
+    ensures err { IfErr result
+        (λ e. (e ≡ OutOfMemory)
+        ⊎ ((e ≡ InvalidVectorLength) × (2 ^ 63 ≤ length out.old.items + more))) }
 {
     if more > isize::MAX as usize - out.len() {
         return Err(Error::InvalidVectorLength);
@@ -245,7 +267,9 @@ fn cut_out(out: &mut Vec<u8>, at: usize, count: usize)
 #[inline(always)]
 fn overwrite(out: &mut Vec<u8>, at: usize, bytes: &[u8])
     requires { at + length bytes.now ≤ vec_len out.old }
-    ensures { out.new.items ≡ take at out.old.items ++ (bytes.now ++ drop (at + length bytes.now) out.old.items) }
+    ensures { out.new.items
+        ≡ take at out.old.items
+        ++ (bytes.now ++ drop (at + length bytes.now) out.old.items) }
 {
     out[at..at + bytes.len()].copy_from_slice(bytes);
 }

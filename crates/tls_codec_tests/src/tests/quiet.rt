@@ -36,31 +36,44 @@ impl Source for Quiet<'_> {
 
 // What it gave is refused: no prefix of that is a spelling, or there was no memory, for which a lean type never asks.
 fn value<T: Deserialize>(alloc: Global, src: &mut Quiet<'_>) -> Result<T, Error>
-    ensures { IfErr result (λ e. (x : List ℕ) × (src.old.left.now ≡ x ++ src.new.left.now) × Refuses T.format.spells T.format.lean x e) }
+    ensures { IfErr result
+        (λ e. (x : List ℕ)
+        × (src.old.left.now ≡ x ++ src.new.left.now)
+        × Refuses T.format.spells T.format.lean x e) }
 {
     T::tls_deserialize(alloc, src)
 }
 
 fn short(alloc: Global, src: &mut Quiet<'_>) -> Result<u16, Error>
-    ensures { IfErr result (λ e. (x : List ℕ) × (src.old.left.now ≡ x ++ src.new.left.now) × Refuses (number 2) true x e) }
+    ensures { IfErr result
+        (λ e. (x : List ℕ)
+        × (src.old.left.now ≡ x ++ src.new.left.now)
+        × Refuses (number 2) true x e) }
 {
     value(alloc, src)
 }
 
 fn two(alloc: Global, src: &mut Quiet<'_>) -> Result<(u8, u16), Error>
-    ensures { IfErr result (λ e. (x : List ℕ) × (src.old.left.now ≡ x ++ src.new.left.now) × Refuses (pair (number 1) (number 2)) true x e) }
+    ensures { IfErr result
+        (λ e. (x : List ℕ)
+        × (src.old.left.now ≡ x ++ src.new.left.now)
+        × Refuses (pair (number 1) (number 2)) true x e) }
 {
     value(alloc, src)
 }
 
 fn shorts(alloc: Global, src: &mut Quiet<'_>) -> Result<Vec<u16>, Error>
-    ensures { IfErr result (λ e. (x : List ℕ) × (src.old.left.now ≡ x ++ src.new.left.now) × Refuses (list (number 2)) false x e) }
+    ensures { IfErr result
+        (λ e. (x : List ℕ)
+        × (src.old.left.now ≡ x ++ src.new.left.now)
+        × Refuses (list (number 2)) false x e) }
 {
     value(alloc, src)
 }
 
 fn content(alloc: Global, src: &mut Quiet<'_>) -> Result<VLBytes, Error>
-    ensures { IfErr result (λ e. (x : List ℕ) × (src.old.left.now ≡ x ++ src.new.left.now) × Refuses bytes false x e) }
+    ensures { IfErr result
+        (λ e. (x : List ℕ) × (src.old.left.now ≡ x ++ src.new.left.now) × Refuses bytes false x e) }
 {
     value(alloc, src)
 }

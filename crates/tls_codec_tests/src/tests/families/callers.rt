@@ -32,7 +32,8 @@ fn put(list: &mut TlsVecU8<u16>, at: usize, element: u16)
 }
 
 fn keep_above(list: &mut TlsVecU8<u16>, least: u16)
-    ensures { elements_of list.new ≡ filter (λ element. nat_lt least element) (elements_of list.old) }
+    ensures { elements_of list.new
+        ≡ filter (λ element. nat_lt least element) (elements_of list.old) }
 {
     list.retain(|element| *element > least);
 }
