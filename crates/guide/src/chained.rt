@@ -1,4 +1,4 @@
-//! [`Chained`], a source of one's own.
+//! [`Chained`], a source of your own.
 ghost use Rattle.std.specs.Prelude.{◌≡◌, ◌++◌, Some, refl};
 ghost use Rattle.std.proofs.Common.{rules};
 ghost use Rattle.std.proofs.lemmas.Grind.{common_steps};
@@ -7,7 +7,7 @@ ghost use Rattle.guide.specs.Guide.{left_of};
 
 use tls_codec::{Fault, Source};
 
-/// Two slices, one behind the other, as a ring of bytes that were received lends them.
+/// Two slices, one after the other, as a ring buffer lends received bytes.
 #[derive(Drop)]
 pub struct Chained<'a> {
     first: &'a [u8],

@@ -1,10 +1,10 @@
-//! [`Extension`], a message of one's own.
+//! [`Extension`], a message of your own.
 ghost use Rattle.guide.specs.Guide.{extension_format, extension_meets, extension_plain};
 
 use std::alloc::Global;
 use tls_codec::{Deserialize, Error, Lent, Serialize, Sink, Size, Source, VLBytes};
 
-/// An extension of MLS (RFC 9420, section 7.2): its type, and its data behind a variable-length length.
+/// An extension of MLS (RFC 9420, section 7.2): its type, and its data after a variable-length length.
 #[derive(Drop)]
 pub struct Extension {
     pub extension_type: u16,

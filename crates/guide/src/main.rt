@@ -3,9 +3,9 @@
 //!
 //! It is a program as a user of `tls_codec` writes it; docs/GUIDE.md goes through it.
 //!
-//! - [`extension`]: [`Extension`](extension::Extension), a message of one's own.
+//! - [`extension`]: [`Extension`](extension::Extension), a message of your own.
 //! - [`rewrite`]: [`rewrite`](rewrite::rewrite), from any source to any sink.
-//! - [`chained`]: [`Chained`](chained::Chained), a source of one's own.
+//! - [`chained`]: [`Chained`](chained::Chained), a source of your own.
 //! - [`aad`]: [`PrivateContentAad`](aad::PrivateContentAad), a message of four fields.
 #![tactic(auto)]
 

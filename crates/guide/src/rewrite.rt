@@ -7,7 +7,7 @@ use tls_codec::{Deserialize, Error, Serialize, Sink, Source};
 
 /// Reads an extension from a source, sends its shortest form to a sink, and returns how many bytes that is.
 ///
-/// Nothing is sent where none is read.
+/// If none is read, nothing is sent.
 pub fn rewrite<R: Source, W: Sink>(
     alloc: Global,
     input: &mut R,

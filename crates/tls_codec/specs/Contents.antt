@@ -1,4 +1,4 @@
--- For what values of the library's types hold: numbers, bytes and lists of elements; and the names of these types.
+-- For what values of the library's types hold: numbers, bytes and lists of elements. And the names of these types.
 pub use Rattle.tls_codec_wire.specs.Uint24.{number_of as uint24_of}
 pub use Rattle.tls_codec_wire.specs.VarintValue.{number_of as varint_of}
 pub use Rattle.tls_codec_vl.specs.Contents.{bytes_of, vec_bytes_of, slice_bytes_of, secret_bytes_of, secret_vec_bytes_of}

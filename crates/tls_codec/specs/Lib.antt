@@ -1,5 +1,5 @@
 -- Each word is found in one of these.
--- For messages of one's own: what they stand for, their formats, and the laws that they cite.
+-- For messages of your own: what they stand for, their formats, and the laws that they cite.
 pub use Rattle.tls_codec_base.specs.OwnMessages
 pub mod Contents
 pub mod Calls

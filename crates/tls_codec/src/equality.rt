@@ -1,7 +1,7 @@
-//! Values that stand for one tree are equal, so that what was read is equal to what was written.
+//! Values that stand for one tree are equal. So what was read is equal to what was written.
 //!
-//! Of a type of one's own that is for it to say. The functions do nothing: their contracts state this, and so are
-//! proved.
+//! A type of your own has to say this for itself. The functions do nothing: their contracts state this, and so
+//! are proved.
 ghost use Rattle.std.specs.Prelude.{◌≡◌};
 ghost use Rattle.tls_codec_base.specs.Meanings.{EqualWhereAlike};
 

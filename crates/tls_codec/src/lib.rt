@@ -1,23 +1,25 @@
 //! The presentation language of TLS (RFC 8446, section 3), and the variable-length vectors of MLS
-//! (RFC 9420, section 2.1.2): every name that a user needs, in one place.
+//! (RFC 9420, section 2.1.2). Every name that a user needs is here.
 //!
 //! - The traits: [`Size`], [`Serialize`], [`SerializeBytes`], [`Deserialize`], [`DeserializeBytes`].
-//!   They stand for integers, arrays, options, pairs and triples, boxes, vectors and texts of `std`.
+//!   Integers, arrays, options, pairs and triples, boxes, vectors and strings of `std` have them.
 //! - What bytes come from and go to: [`Source`], [`Sink`], [`Bounded`], [`Outside`]; and the [`Error`]
-//!   that each call names.
-//! - [`U24`] and [`TlsVarInt`], numbers of three bytes and of one to eight.
-//! - Byte vectors behind a variable-length length: [`VLBytes`], [`VLByteVec`], [`VLByteSlice`].
-//! - Vectors behind a length of one to four bytes: [`TlsVecU8`] and siblings; of bytes
-//!   [`TlsByteVecU8`] and siblings; wrappers of slices [`TlsSliceU8`], [`TlsByteSliceU8`] and siblings.
+//!   that a call returns if it rejects bytes or a value, or fails.
+//! - [`U24`], a number of three bytes, and [`TlsVarInt`], a variable-length integer (varint) of one
+//!   to eight bytes.
+//! - Byte vectors after a variable-length length: [`VLBytes`], [`VLByteVec`], [`VLByteSlice`].
+//! - Vectors after a length of one to four bytes: [`TlsVecU8`] and siblings; of bytes [`TlsByteVecU8`]
+//!   and siblings; wrappers of slices [`TlsSliceU8`], [`TlsByteSliceU8`] and siblings.
 //! - Key material that is cleared when it is dropped: [`SecretVLBytes`], [`SecretVLByteVec`],
 //!   [`SecretTlsVecU8`] and siblings, and [`Zeroize`].
 //! - [`vlen`]: lengths as variable-length integers. [`lists`]: the engines that every list goes through.
-//! - [`deserialize_to_end`]: a value and the end of its source, as of a file that holds one message;
+//! - [`deserialize_to_end`]: a value and the end of its source, as in a file that holds one message;
 //!   [`expect_end`]: the end alone.
-//! - [`Lent`]: a value that is lent, by which messages of one's own are written; [`Lent2`] to [`Lent9`]: so
-//!   many of them in a row.
-//! - [`unknown_value`]: the refusal of a tag that an enum of one's own doesn't have.
-//! - [`laws`]: what holds of the spellings of every type with the traits. [`refusals`]: where two errors come.
+//! - [`Lent`]: a lent value, to write messages of your own; [`Lent2`] to [`Lent9`]: two to nine of them in
+//!   a row.
+//! - [`unknown_value`]: the refusal of a tag that an enum of your own doesn't have.
+//! - [`laws`]: what holds of the spellings of every type with the traits. [`refusals`]: where two errors come
+//!   from.
 #![tactic(auto)]
 
 pub mod equality;

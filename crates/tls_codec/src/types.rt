@@ -1,9 +1,9 @@
 //! The table of types: what the values of each public type stand for, how they are spelled, and which errors its
 //! decoders name.
 //!
-//! A line for each type, and one for references to it. The functions do nothing: each line is a clause,
-//! and so is proved. What an `impl` says of its type has to be what stands here. The formats are explained in
-//! docs/DEFINITIONS.md, and a slice or a source that a decoder refuses in docs/REFUSALS.md.
+//! Each type has a line, and references to it have one. The functions do nothing: each line is a clause, and so
+//! is proved. What an `impl` says of its type has to be what the table says. The formats are explained in
+//! docs/DEFINITIONS.md, and a refused slice or source in docs/REFUSALS.md.
 ghost use Rattle.std.specs.Prelude.{◌≡◌, ◌⊎◌, ◌^◌, string_bytes};
 ghost use Rattle.tls_codec_wire.specs.Numbers.{NumberNotRead};
 ghost use Rattle.tls_codec_wire.specs.Transfer.{ReadRefused};
@@ -52,7 +52,7 @@ pub fn numbers<'a>()
     ensures u64_lent { Means ⟦<&'a u64 as Size>⟧ (λ n. Number n.now) (number_format 8) }
 {}
 
-/// Why numbers are not read: `EndOfStream` for too few bytes; a source may fail.
+/// Why numbers are not read: `EndOfStream` for too few bytes, or the source failed.
 pub fn numbers_refused()
     ensures u8 { SameNames ⟦<u8 as DeserializeBytes>⟧.names (too_few 1) }
     ensures u16 { SameNames ⟦<u16 as DeserializeBytes>⟧.names (too_few 2) }
@@ -67,7 +67,8 @@ pub fn numbers_refused()
     ensures u64_source { SameSourceNames ⟦<u64 as Deserialize>⟧.names (ReadRefused 8) }
 {}
 
-/// Variable-length integers below 2^62, in the least width (RFC 9000, section 16; RFC 9420, section 2.1.2).
+/// Variable-length integers (varints) below 2^62, in the least width (RFC 9000, section 16; RFC 9420,
+/// section 2.1.2).
 pub fn variable_length_integers()
     ensures is { Means ⟦<TlsVarInt as Size>⟧ (λ n. Number (varint.number_of n)) varint_format }
     ensures slice { SameNames ⟦<TlsVarInt as DeserializeBytes>⟧.names (RefusesBelow (2 ^ 62)) }
@@ -131,7 +132,7 @@ pub fn nothing<T>()
         (λ x old new e. ⊥) }
 {}
 
-/// Boxes, as their content, for which a decoder takes memory; and what is lent, as what it is.
+/// Boxes, as their content; a decoder takes memory for the box. And lent values, as what they are.
 pub fn boxes<'a, T: Deserialize + DeserializeBytes + 'a>()
     ensures is { Means ⟦<Box<T> as Size>⟧ (λ b. T.plain b.value) (with_memory T.format) }
     ensures slice { SameNames ⟦<Box<T> as DeserializeBytes>⟧.names
@@ -141,7 +142,7 @@ pub fn boxes<'a, T: Deserialize + DeserializeBytes + 'a>()
     ensures lent { Means ⟦<Lent<'a, T> as Size>⟧ (λ v. T.plain v.0.now) T.format }
 {}
 
-/// Values in a row that are lent: two or three as the pair and the triple, and more as pairs and triples of those.
+/// Lent values in a row: two or three as the pair and the triple, and more as pairs and triples of those.
 pub fn lent_rows<
     'a,
     A: Size + 'a,
@@ -193,8 +194,8 @@ pub fn lent_rows<
         (triple_format D.format E.format F.format) (triple_format G.format H.format I.format)) }
 {}
 
-/// Lists of elements after their length in bytes, a variable-length integer of at most 30 bits (RFC 9420, section
-/// 2.1.2).
+/// Lists of elements after their length in bytes, a variable-length integer of at most 30 bits (RFC 9420,
+/// section 2.1.2).
 pub fn lists<'a, T: Deserialize + DeserializeBytes>()
     ensures is { Means ⟦<Vec<T> as Size>⟧ (λ v. trees T.plain v.items) (list_format T.format) }
     ensures lent { Means ⟦<&'a Vec<T> as Size>⟧ (λ v. trees T.plain v.now.items)
@@ -206,7 +207,7 @@ pub fn lists<'a, T: Deserialize + DeserializeBytes>()
         (list_source_names T.format T.Deserialize.names) }
 {}
 
-/// Texts: their UTF-8 after its length.
+/// Strings: their UTF-8 after its length.
 pub fn texts<'a>()
     ensures owned { Means ⟦<String as Size>⟧ (λ s. number_trees (string_bytes s)) text_format }
     ensures lent { Means ⟦<&'a str as Size>⟧ (λ s. number_trees s.now) text_format }
@@ -214,7 +215,8 @@ pub fn texts<'a>()
     ensures source { SameSourceNames ⟦<String as Deserialize>⟧.names TextSourceRefused }
 {}
 
-/// Byte vectors after their number, a variable-length integer of at most 30 bits (RFC 9420, section 2.1.2).
+/// Byte vectors: the bytes after their number, a variable-length integer of at most 30 bits (RFC 9420,
+/// section 2.1.2).
 pub fn byte_vectors<'a>()
     ensures vl_bytes { Means ⟦<VLBytes as Size>⟧ (λ v. number_trees (bytes_of v)) bytes_format }
     ensures vl_byte_vec { Means ⟦<VLByteVec as Size>⟧ (λ v. number_trees (vec_bytes_of v))
@@ -255,7 +257,8 @@ pub fn byte_vectors_refused()
         (OpaqueSourceRefused variable_field) }
 {}
 
-/// What a length of one to four bytes is in the names of types (RFC 8446, section 3.4).
+/// Length fields: one to four bytes in the names of types (RFC 8446, section 3.4), and a
+/// variable-length one.
 pub fn lengths()
     ensures one { SameField ⟦<u8 as LengthField>⟧.field (fixed_field 1) }
     ensures two { SameField ⟦<u16 as LengthField>⟧.field (fixed_field 2) }

@@ -15,12 +15,12 @@ use Rattle.tls_codec_grammar.specs.Decoding.{Begins, Refuses, RefusesSource, Ref
 use Rattle.tls_codec_base.specs.Paths.{BothRead, FaultOrNoMemory, NoMemory}
 
 module _ (spells : Grammar) (x : List ℕ) where
-  -- x begins with a spelling that a source gave which told x, and the source tells the rest
+  -- x begins with a spelling, given by a source which told x, and the source tells the rest
   told_first : (front : List ℕ) (v : Tree) (now : Option (List ℕ)) → Consumes (Some x) now front → spells Reading front v → (rest : List ℕ) × (now ≡ Some rest) × Begins spells x v rest
   told_first front v (Some rest) took p = (rest, refl, record { front = front; whole = took; spelled = p })
   told_first front v None took p = absurd took
 
-  -- where a spelling begins x, a source that tells x is refused for another cause
+  -- if a spelling begins x, a source that tells x is refused for another cause
   pub source_alone : (lean : Bool) (v : Tree) (rest : List ℕ) (old new : Counts) (e : Error) → Begins spells x v rest → RefusesSource spells lean x old new e → FaultOrNoMemory lean old new e
   source_alone lean v rest old new e b r = elim r.cause [
     | inl none ↦ absurd (none v rest b)
@@ -35,7 +35,7 @@ module _ (spells : Grammar) (x : List ℕ) where
     | inr memory ↦ (memory, r.memory memory)
   ]
 
-  -- where x is a spelling, there was no memory for all of it
+  -- if x is a spelling, there was no memory for all of it
   pub whole_alone : (lean : Bool) (v : Tree) (e : Error) → spells Reading x v → RefusesWhole spells lean x e → NoMemory lean e
   whole_alone lean v e p r = elim r.cause [
     | inl none ↦ absurd (none v p)

@@ -34,7 +34,7 @@ fields_begins {first} {others} {x} {v} {r} {vs} {rest} p q = record {
 }
 
 module _ (first others : Grammar) where
-  -- where no first part begins, no product does
+  -- if no first part begins, no product does
   pub none_at_first : (x : List ℕ) → NoneBegins first x → NoneBegins (fields first others) x
   none_at_first x none (Join v vs) rest b = none v (b.spelled.rest ++ rest) (record {
     front = b.spelled.front;
@@ -43,7 +43,7 @@ module _ (first others : Grammar) where
   })
   none_at_first x none _ rest b = absurd b.spelled
 
-  -- where the others don't begin behind the first part, no product does
+  -- if the others don't begin after the first part, no product does
   none_at_others : (f : Tree → ℕ) → IsLawful first f → (x : List ℕ) (v : Tree) (r : List ℕ) → Begins first x v r → NoneBegins others r → NoneBegins (fields first others) x
   none_at_others f l x v r p none (Join w ws) rest b =
       let behind : x ≡ b.spelled.front ++ (b.spelled.rest ++ rest) =
@@ -54,7 +54,7 @@ module _ (first others : Grammar) where
       none ws rest (record { front = b.spelled.rest; whole = left; spelled = b.spelled.second })
   none_at_others f l x v r p none _ rest b = absurd b.spelled
 
--- a product is not lean where a part isn't
+-- a product is not lean if a part isn't
 first_not_lean : (a b : Bool) → a ≡ false → (a && b) ≡ false
 first_not_lean a b e = ap (λ (u : Bool). u && b) e
 
@@ -140,7 +140,7 @@ module _ {S : Type 0} {source : Ghosts S} {first : Format} (others : Format) {e 
 pub last_named : {S : Type 0} {source : Ghosts S} {last : Format} (names : Causes) {a b : S} {e : Error} → Named last names source a b e → Named (fields_format last nothing_format) names source a b e
 last_named names p = record { refused = refused_so (λ x q. (fields_source_refuses_first true x q.0, q.1)) p.refused }
 
--- ---- what the others name behind the first part of a slice: one citation a field
+-- ---- what the others name after the first part of a slice: one citation a field
 
 pub others_named : {first : Grammar} {x : List ℕ} {v : Tree} {rest : List ℕ} {e : Error} (names : SliceNames) → Begins first x v rest → names rest e → NamedBehind (IsSpelling first) names x e
 others_named {first} {x} {v} {rest} names p named = record { front = p.front; rest = rest; whole = p.whole; is_front = (v, p.spelled); named = named }

@@ -42,7 +42,7 @@ fields_full {first} {others} l m s v vs p = (
   λ full t q. row_map (λ u. first Writing u v) (λ u. others Writing u vs) (λ u. first Reading u v) (λ u. others Reading u vs) t full.0 full.1 q,
 )
 
--- what stands behind a tag is full where the choice is
+-- what comes after a tag is full if the choice is
 pub choice_full : (k : ℕ) {parts : Grammar} {f : Tree → ℕ} → IsLawful parts f → (s : List ℕ) (tag : ℕ) (vs : Tree) → fields (number k) parts Writing s (Join (Number tag) vs)
     → (IsFull (fields (number k) parts) (Join (Number tag) vs) ↔ IsFull parts vs)
 choice_full k {parts} l s tag vs p = (
@@ -76,7 +76,7 @@ module _ (element : Grammar) (f : Tree → ℕ) (l : IsLawful element f) where
   each_full c (Join v vs) p = (alone_full l p.front v p.first.0, each_full p.rest vs p.second)
   each_full c (Number n) p = p
 
-  -- where one of them is, the type isn't hollow
+  -- if one of them is, the type isn't hollow
   not_hollow : (s : List ℕ) (v : Tree) → element Reading s v → 0 < length s → IsHollow element → ⊥
   not_hollow s v p some hollow =
       let same = l.one [] s s [] hollow.0 v hollow.1 p (sym (append-nil s)) in
@@ -87,7 +87,7 @@ module _ (element : Grammar) (f : Tree → ℕ) (l : IsLawful element f) where
   parts_of_read c (Join v vs) p = inr (not_hollow p.front v p.first.0 p.first.1, each_full c (Join v vs) p)
   parts_of_read c (Number n) p = absurd p
 
--- what is counted is full where it is so without its length
+-- what is counted is full if it is so without its length
 pub counted_full : (field : List ℕ → ℕ → Type 0) (inside : Grammar) (v : Tree) → IsFull inside v → IsFull (counted field inside) v
 counted_full field inside v full t p = record { count = p.count; inside = p.inside; whole = p.whole; counts = p.counts; is_inside = full p.inside p.is_inside }
 

@@ -21,7 +21,7 @@ pub record ReadSoFar (element : Grammar) (x : List ℕ) (n left : ℕ) (v : Tree
 pub read_none : (element : Grammar) (x : List ℕ) (n : ℕ) → ReadSoFar element x n n Empty x
 read_none element x n = record { front = []; whole = refl; fills = omega arith; spelled = refl }
 
--- a content and an element behind it are a content
+-- a content and then an element are a content
 pub content_more : {T : Type 0} (plain : T → Tree) (element : Grammar) (c : List ℕ) (xs : List T) (s : List ℕ) (x : T) → content element Reading c (trees plain xs) → element Reading s (plain x) → 0 < length s → content element Reading (c ++ s) (trees plain (xs ++ x ∷ []))
 content_more plain element c [] s x p q some = record { front = s; rest = []; whole = ap (λ (u : List ℕ). u ++ s) p ∙ sym (append-nil s); first = (q, some); second = refl }
 content_more plain element c (y ∷ ys) s x p q some = record {
@@ -52,7 +52,7 @@ module _ (element : Grammar) (f : Tree → ℕ) (l : IsLawful element f) where
     pub some : 0 < length begins.front
     pub fits : length c + length begins.front ≤ length d
 
-  -- a longer content goes on with an element behind a shorter one
+  -- a longer content goes on with an element after a shorter one
   next : (c r d t : List ℕ) (v w : Tree) → content element Reading c v → content element Reading d w → c ++ r ≡ d ++ t → length c < length d → Next c r d
   next c r d t Empty Empty p q e lt = absurd (omega (arith, ap length p, ap length q))
   next c r d t Empty (Join w ws) p q e lt = record {
@@ -77,11 +77,11 @@ module _ (element : Grammar) (f : Tree → ℕ) (l : IsLawful element f) where
       }
   next c r d t _ _ p q e lt = absurd search
 
-  -- where the list is there, it goes on with an element behind what was read
+  -- if the list is there, it goes on with an element after what was read
   pub next_of : (x : List ℕ) (n left : ℕ) (v : Tree) (rest : List ℕ) (p : ReadSoFar element x n left v rest) → 0 < left → (w : Tree) (t : List ℕ) (b : Begins (sized n (content element)) x w t) → Next p.front rest b.front
   next_of x n left v rest p lt w t b = next p.front rest b.front t v w p.spelled b.spelled.1 (sym p.whole ∙ b.whole) (omega (arith, p.fills, b.spelled.0))
 
-  -- where no element begins what is left, no list does
+  -- if no element begins what is left, no list does
   none_behind : (x : List ℕ) (n left : ℕ) (v : Tree) (rest : List ℕ) → ReadSoFar element x n left v rest → 0 < left → NoneBegins element rest → NoneBegins (sized n (content element)) x
   none_behind x n left v rest p lt none w t b = let h = next_of x n left v rest p lt w t b in none h.tree h.behind h.begins
 
@@ -102,7 +102,7 @@ module _ (element : Grammar) (f : Tree → ℕ) (l : IsLawful element f) where
       let e = l.one b.front h.begins.front behind h.behind u h.tree b.spelled h.begins.spelled (sym b.whole ∙ h.begins.whole) in
       (omega (arith, ap length e.0, h.some), omega (arith, ap length e.0, h.fits, p.fills, q.spelled.0))
 
-  -- where an element of no bytes is found, or one of too many, no list begins the bytes
+  -- if an element of no bytes is found, or one of too many, no list begins the bytes
   pub none_if_empty : (x : List ℕ) (n left : ℕ) (v : Tree) (rest : List ℕ) (u : Tree) (behind : List ℕ) → ReadSoFar element x n left v rest → 0 < left → Begins element rest u behind → length rest - length behind ≡ 0 → NoneBegins (sized n (content element)) x
   none_if_empty x n left v rest u behind p lt b e w t q =
       let h = found_length x n left v rest u behind p lt b w t q in

@@ -45,7 +45,7 @@ module _ {S : Type 0} (given : S → List ℕ → S → Type 0) (element : Gramm
     }
 
 module _ (element : Grammar) (f : Tree → ℕ) (l : IsLawful element f) where
-  -- where no element begins the bytes up to the list's end, no list begins the bytes
+  -- if no element begins the bytes up to the list's end, no list begins the bytes
   none_within : (x : List ℕ) (n left : ℕ) (v : Tree) (rest : List ℕ) → ReadSoFar element x n left v rest → 0 < left → NoneBegins element (take left rest) → NoneBegins (sized n (content element)) x
   none_within x n left v rest p lt none w t b =
       let h = next_of element f l x n left v rest p lt w t b in
@@ -79,7 +79,7 @@ given_empty {S} {given} {element} {a} {b} {u} p same =
     let empty : p.front ≡ [] = nil_from_length p.front (omega (arith, same, p.held.fell)) in
     (u, subst (λ (s : List ℕ). element Reading s u) empty p.spelled)
 
--- what was read, and what was seen behind it
+-- what was read, and what was seen after it
 read_so_far : {S : Type 0} {given : S → List ℕ → S → Type 0} {element : Grammar} {start mid : S} {n left : ℕ} {v : Tree} (p : GivenSoFar given element start mid n left v) (x : List ℕ) → ReadSoFar element (p.front ++ x) n left v x
 read_so_far p x = record { front = p.front; whole = refl; fills = p.fills; spelled = p.spelled }
 

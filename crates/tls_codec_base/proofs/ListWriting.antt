@@ -51,7 +51,7 @@ counted_passes width f v h = omega (arith, content_passes f v h)
 
 -- ---- the form so far
 
--- behind the form so far of all, the shortest form of what is left makes the shortest form of all, which has no
+-- after the form so far of all, the shortest form of what is left makes the shortest form of all, which has no
 -- other beginning; and an error that is named for what is left is named for all
 pub record FormSoFar (element : Format) (all left : Tree) (form : List ℕ) : Type 0 where
   pub onward : (c : List ℕ) → IsShortest (content element.spells) c left → IsShortest (content element.spells) (form ++ c) all
@@ -66,7 +66,7 @@ form_all {element} {all} {left} {form} p e =
     let none : IsShortest (content element.spells) [] left = subst (λ (u : Tree). IsShortest (content element.spells) [] u) (sym e) (record { spelled = refl; least = λ t q. inl q }) in
     subst (λ (s : List ℕ). IsShortest (content element.spells) s all) (append-nil form) (p.onward [] none)
 
--- the parts of the shortest form of all: the form so far, the next element's and what is behind that
+-- the parts of the shortest form of all: the form so far, the next element's and the rest after it
 pub record NextForm (element : Grammar) (all x vs : Tree) (form s : List ℕ) : Type 0 where
   pub next : List ℕ
   pub others : List ℕ
@@ -109,7 +109,7 @@ module _ {element : Format} (l : MeetsLaws element) where
 
 -- ---- many elements at once
 
--- what is behind a part of what is left
+-- what comes after a part of what is left
 pub form_behind : {element : Format} {all left behind : Tree} {form more : List ℕ} → FormSoFar element all left form → FormSoFar element left behind more → FormSoFar element all behind (form ++ more)
 form_behind {element} {all} {left} {behind} {form} {more} p q = record {
   onward = λ c r. subst (λ (u : List ℕ). IsShortest (content element.spells) u all) (sym (append_assoc form more c)) (p.onward (more ++ c) (q.onward c r));

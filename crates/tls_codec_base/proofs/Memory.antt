@@ -1,4 +1,4 @@
--- A value that was given, and for which there was no memory.
+-- A value that was given, but no memory was there for it.
 use Rattle.std.proofs.Common.{◌≡◌, ◌⊎◌, ℕ, List, Bool, false, Result, Ok, Err, inl, inr, refl}
 use Rattle.std.specs.Prelude.{IfErr, IfOk}
 use Rattle.tls_codec_wire.specs.Device.{GivesNothing}

@@ -37,7 +37,7 @@ at_hand_told {S} source hand {a} {b} {x} from_front some first seen = told (firs
         let same : x ≡ y = seen_told (gives_from_front_within source.given source.coming from_front) e seen in
         omega (arith, ap length same, ap length h.1, length-append hand h.0)
 
--- so only a fault and want of memory are left
+-- so only a fault and running out of memory are left
 not_gathered_at_hand : (n : ℕ) (x : List ℕ) (old new : Counts) (e : Error) → n < 2 ^ 63 → n ≤ length x → BytesRefused n x old new e → (e ≡ OutOfMemory) ⊎ ReadFailed old new e
 not_gathered_at_hand n x old new InvalidVectorLength small all p = absurd (omega (arith, small, p))
 not_gathered_at_hand n x old new (DecodingError text) small all p = inr p
@@ -74,7 +74,7 @@ run_not_read {S} {source} {a} {b} {size} {e} k hand from_front fills some small 
       at_once = memory_or_fault (source.counts (inner_of a)) (source.counts (inner_of b)) e why;
     }
 
--- a run that was read, and for whose numbers there was no memory
+-- a run that was read, but there was no memory for its numbers
 pub run_without_memory : {S : Type 0} {source : Ghosts S} (a b : Bounded S) {e : Error} (k : ℕ) {found : Option (Vec ℕ Global)} (digits : Vec ℕ Global) → GivesNothing source.given → ReadsRun k source a b (Ok found) → found ≡ Some digits → e ≡ OutOfMemory → NamedWithin (number_format k) (ReadRefused k) source a b e
 run_without_memory {source = source} a b k digits nothing p same out =
     let run = subst (λ (o : Option (Vec ℕ Global)). ReadsRun k source a b (Ok o)) same p in

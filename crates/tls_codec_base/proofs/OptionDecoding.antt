@@ -31,7 +31,7 @@ module _ (payload : Grammar) where
     spelled = (p.front, refl, p.spelled);
   }
 
-  -- where no payload begins behind the tag, no option does
+  -- if no payload begins after the tag, no option does
   none_behind : (b x : List ℕ) → b ≡ 1 ∷ x → NoneBegins payload x → NoneBegins (option payload) b
   none_behind b x e none Empty rest p =
       let h : 1 ∷ x ≡ 0 ∷ rest = sym e ∙ p.whole ∙ ap (λ (u : List ℕ). u ++ rest) p.spelled in

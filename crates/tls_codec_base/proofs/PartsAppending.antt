@@ -71,7 +71,7 @@ appended_behind {f} {g} {v} {w} {a} {b} {c} {m} {n} p q = q.held ∙ ap (λ (u :
 
 -- ---- lists
 
--- the form so far stands behind what the vector had
+-- the form so far comes after what the vector had
 pub record AppendedSoFar (element : Format) (all left : Tree) (old new : List ℕ) : Type 0 where
   pub form : List ℕ
   pub so_far : FormSoFar element all left form

@@ -1,4 +1,4 @@
--- What a choice's bytes begin with, from what its tag begins with and the parts behind it.
+-- What a choice's bytes begin with, from what its tag begins with and the parts after it.
 use Rattle.std.proofs.Common.{◌≡◌, ℕ, List, ◌++◌, Bool, true, false, ◌&&◌, Result, Ok, Err, inl, inr, refl, sym, ap, subst, ◌∙◌, append_assoc}
 use Rattle.std.specs.Prelude.{IfErr, IsErrAnd}
 use Rattle.std.specs.Borrow.{Bor}
@@ -27,7 +27,7 @@ use Rattle.tls_codec_base.specs.TaggedNames.{tagged_names, tagged_source_names}
 -- ---- which fronts no choice has
 
 module _ (k : ℕ) (variants : Variants) where
-  -- where the parts of the tag's variant don't begin behind it, no choice does
+  -- if the parts of the tag's variant don't begin after it, no choice does
   none_at_parts : MeetsLaws (number_format k) → (x : List ℕ) (tag : ℕ) (r : List ℕ) → Begins (number k) x (Number tag) r → NoneBegins (variants.parts tag).spells r → NoneBegins (tagged k variants) x
   none_at_parts l x tag r p none (Join (Number m) vs) rest b =
       let whole : p.front ++ r ≡ b.spelled.front ++ (b.spelled.rest ++ rest) = sym p.whole ∙ b.whole ∙ ap (λ (u : List ℕ). u ++ rest) b.spelled.whole ∙ append_assoc b.spelled.front b.spelled.rest rest in
@@ -53,7 +53,7 @@ part_refuses {part} {others} {lean} {x} {e} r = record {
 }
 
 module _ {k : ℕ} {variants : Variants} (l : MeetsLaws (number_format k)) (m : MeetVariantLaws variants) where
-  -- the tag is n, and behind it are the parts of its variant
+  -- the tag is n, and after it come the parts of its variant
   pub tagged_begins : {x : List ℕ} {tag : ℕ} {r : List ℕ} {n : ℕ} {vs : Tree} {rest : List ℕ} → Begins (number k) x (Number tag) r → tag ≡ n → Begins (variants.parts n).spells r vs rest → Begins (tagged k variants) x (Join (Number n) vs) rest
   tagged_begins {x} {tag} {r} {n} {vs} {rest} p same q =
       let both = fields_begins (subst (λ (u : ℕ). Begins (number k) x (Number u) r) same p) q in
@@ -78,7 +78,7 @@ module _ {k : ℕ} {variants : Variants} (l : MeetsLaws (number_format k)) (m : 
     memory = λ h. absurd cc;
   }
 
--- what is named behind the tag
+-- what is named after the tag
 pub tagged_named : {T : Type 0} (result : Result T Error) {k : ℕ} (names : ℕ → SliceNames) {x : List ℕ} {tag : ℕ} {r : List ℕ} {n : ℕ} {e : Error} → IsErrAnd result (λ y. y ≡ e) → Begins (number k) x (Number tag) r → tag ≡ n → names n r e → IfErr result (tagged_names k names x)
 tagged_named {T} (Ok v) names h p same named = absurd h
 tagged_named {T} (Err y) {k} names {x} {tag} {r} {n} {e} h p same named =

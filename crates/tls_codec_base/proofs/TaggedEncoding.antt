@@ -1,4 +1,4 @@
--- What is written of a choice, from what is written of its tag and of the parts behind it, as a product.
+-- What is written of a choice, as a product: from what is written of its tag and of the parts after it.
 use Rattle.std.proofs.Common.{◌⊎◌, ℕ, List, inl, inr, Result, Ok, Err, Vec, arith}
 use Rattle.std.specs.Global.{Global}
 use Rattle.tls_codec_wire.specs.declared.device.Sink.{Ghosts}
@@ -49,7 +49,7 @@ module _ (k n : ℕ) {variants : Variants} (m : MeetVariantLaws variants) (vs : 
   tagged_writes sink a b (Ok j) p = tagged_sends p
   tagged_writes sink a b (Err e) p = tagged_breaks p
 
-  -- behind what a vector has
+  -- after what a vector has
   pub tagged_appends : (old new : List ℕ) (r : Result ℕ Error) → AppendsForm (fields_format (number_format k) (variants.parts n)) (Join (Number n) vs) old new r → AppendsForm (tagged_format k variants) (Join (Number n) vs) old new r
   tagged_appends old new (Ok j) p = record {
     form = p.form;

@@ -22,7 +22,7 @@ use Rattle.tls_codec_base.proofs.TextForms.{text_from_bytes, text_to_bytes}
 pub text_begin : {x c rest : List ℕ} → IsUtf8 c → Begins bytes x (number_trees c) rest → Begins text x (number_trees c) rest
 text_begin {x} {c} {rest} valid p = record { front = p.front; whole = p.whole; spelled = text_from_bytes Reading c p.front valid p.spelled }
 
--- where no bytes begin behind their length, no text does
+-- if no bytes begin after their length, no text does
 no_text_begins : (x : List ℕ) → NoneBegins bytes x → NoneBegins text x
 no_text_begins x none v rest b = none v rest (record { front = b.front; whole = b.whole; spelled = text_to_bytes Reading v b.front b.spelled })
 
@@ -35,7 +35,7 @@ text_refuses {lean} {x} {e} r = record {
   memory = λ h. refl;
 }
 
--- nor where they are no UTF-8
+-- nor if they are not UTF-8
 invalid_begins_none : (x : List ℕ) → IsNoText x → NoneBegins text x
 invalid_begins_none x p v rest b =
     let found = text_to_bytes Reading v b.front b.spelled in
@@ -60,7 +60,7 @@ text_source_refuses {old} {new} {e} x r = record {
   memory = r.memory;
 }
 
--- bytes that are no UTF-8 were given
+-- bytes that are not UTF-8 were given
 pub invalid_named : {S : Type 0} {source : Ghosts S} {a b : S} {c : List ℕ} {e : Error} → GivesNothing source.given → GaveSpelling source.given bytes a b (number_trees c) → (IsUtf8 c → ⊥) → Says (codes "invalid utf8") e → Named text_format TextSourceRefused source a b e
 invalid_named {c = c} nothing p invalid says =
     record {

@@ -34,7 +34,7 @@ taken : (front rest : List ℕ) (n left : ℕ) → length front + left ≡ n →
 taken front rest n left fills = ap (λ (k : ℕ). take k (front ++ rest)) (sym fills) ∙ take-append-add front rest left
 
 module _ (element : Grammar) (f : Tree → ℕ) (l : IsLawful element f) where
-  -- behind some elements the list is refused where no other one begins, or it is excused
+  -- after some elements the list is refused if no other one begins, or it is excused
   turned_past : {T : Type 0} (plain : T → Tree) (front tail : List ℕ) (xs : List T) {Excused : Type 0} {old new : Turns} → content element Reading front (trees plain xs) → TurnedBy (length xs + 1) old new → Excused ⊎ NoElementBegins element tail
       → TurnedPast element (front ++ tail) Excused old new
   turned_past plain front tail xs spelled turned cause = record {
@@ -119,7 +119,7 @@ turned_within_attempt plain {S} {given} order {element} {start} {n} {a} {b} xs m
   within = at_most turned (omega (arith, le, content_has_bytes plain element p.front xs p.spelled, p.fills, length-append p.front q.bytes));
 }
 
--- where they were refused at once, none was added
+-- if they were refused at once, none was added
 pub refused_within_given : {S : Type 0} {source : Ghosts S} {n : ℕ} {a b : S} {x : List ℕ} {old new : Turns} → GivesInOrder source.given → Seen source a b x → new ≡ old → TurnedWithinGiven source.given n a b old new
 refused_within_given order seen same =
     let gave = seen_gave order seen in

@@ -17,7 +17,7 @@ nothing_left [] e = refl
 nothing_left (b ∷ bs) e = absurd (omega (arith, e))
 
 module _ (spells : Grammar) where
-  -- where nothing is left, all of the bytes are the spelling
+  -- if nothing is left, all of the bytes are the spelling
   pub begins_whole : (x : List ℕ) (v : Tree) (rest : List ℕ) → Begins spells x v rest → true ≡ (length rest == 0) → spells Reading x v
   begins_whole x v rest b empty =
       let none : rest ≡ [] = nothing_left rest (eqb-true (length rest) 0 (sym empty)) in
@@ -61,7 +61,7 @@ module _ (spells : Grammar) where
   }
 
 module _ (spells : Grammar) (f : Tree → ℕ) (l : IsLawful spells f) where
-  -- where a byte is left, the whole is no spelling
+  -- if a byte is left, the whole is no spelling
   pub refuses_trailing : (lean : Bool) (x : List ℕ) (v : Tree) (rest : List ℕ) → Begins spells x v rest → false ≡ (length rest == 0) → RefusesWhole spells lean x TrailingData
   refuses_trailing lean x v rest b some = record {
     cause = inl (λ w p.

@@ -48,7 +48,7 @@ module _ (element : Grammar) (f : Tree → ℕ) (l : IsLawful element f) where
       let rests : p.rest ≡ q.rest = append_cancel_left p.front p.rest q.rest (both ∙ ap (λ (u : List ℕ). u ++ q.rest) (sym same.0)) in
       ap suc (one_number m n p.rest p.second (subst (WholeElements element n) (sym rests) q.second))
 
-  -- where an element is spelled by no bytes, no other one begins
+  -- if an element is spelled by no bytes, no other one begins
   pub none_behind_hollow : (x : List ℕ) → IsHollow element → NoElementBegins element x
   none_behind_hollow x h row =
       let same = l.one [] row.front x row.rest h.0 row.first.0.0 h.1 row.first.0.1 row.whole in
@@ -61,7 +61,7 @@ module _ (element : Grammar) (f : Tree → ℕ) (l : IsLawful element f) where
       let same = l.one b.front row.front rest (row.rest ++ drop left x) v row.first.0.0 b.spelled row.first.0.1 (sym b.whole ∙ back) in
       omega (arith, long, ap length same.0, ap length b.whole, length-append b.front rest, ap length row.whole, length-append row.front row.rest, length-take left x)
 
--- where nothing begins, no element does
+-- if nothing begins, no element does
 pub none_of_none : {element : Grammar} {x : List ℕ} → NoneBegins element x → NoElementBegins element x
 none_of_none none row = none row.first.0.0 row.rest (record { front = row.front; whole = row.whole; spelled = row.first.0.1 })
 

@@ -4,7 +4,7 @@ use Rattle.tls_codec_grammar.specs.Tree.{Tree, Number, Empty, Join}
 use Rattle.tls_codec_grammar.specs.Grammar.{Grammar}
 use Rattle.tls_codec_grammar.specs.Shortest.{IsFull, IsShortest}
 
--- where v has a form, it is full exactly if P holds
+-- if v has a form, it is full exactly if P holds
 abbrev pub IsFullIf : Grammar → Tree → Type 0 → Type 0
 IsFullIf spells v P = (form : List ℕ) → IsShortest spells form v → (IsFull spells v ↔ P)
 

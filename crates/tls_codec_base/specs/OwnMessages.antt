@@ -1,5 +1,5 @@
--- The words by which a message of one's own says what it stands for and which bytes spell it, and the laws that it cites:
--- one for each field of a struct, and one for each variant of an enum.
+-- The words by which a message of your own says what it stands for and which bytes spell it. And the laws that it
+-- cites: one for each field of a struct, and one for each variant of an enum.
 use Rattle.std.proofs.Common.{ℕ, arith}
 use Rattle.tls_codec_grammar.specs.laws.FormatLaws.{number_meets}
 pub use Rattle.tls_codec_grammar.specs.Tree.{Tree, Number, Empty, Join, trees, number_trees, option_plain}
@@ -18,11 +18,11 @@ pair_tree a b = Join a (Join b Empty)
 abbrev pub triple_tree : (a b c : Tree) → Tree
 triple_tree a b c = Join a (Join b (Join c Empty))
 
--- bytes behind a length of k bytes (RFC 8446, section 3.4)
+-- bytes after a length of k bytes (RFC 8446, section 3.4)
 abbrev pub fixed_bytes_format : ℕ → Format
 fixed_bytes_format k = fixed_list_format k (number_format 1)
 
--- ---- laws of numbers, and of bytes behind a length of k bytes
+-- ---- laws of numbers, and of bytes after a length of k bytes
 
 pub u8_meets : MeetsLaws (number_format 1)
 u8_meets = number_meets 1 (omega arith)

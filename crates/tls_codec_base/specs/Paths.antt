@@ -19,6 +19,6 @@ pub record BothRead {T S : Type 0} (f : Format) (plain : T → Tree) (source : G
 abbrev pub NoMemory : Bool → Error → Type 0
 NoMemory lean e = (e ≡ OutOfMemory) × (lean ≡ false)
 
--- a fault of the source was counted, or there was no memory, which a lean type returns only where the source had none
+-- a fault of the source was counted, or there was no memory; a lean type returns that only if the source had none
 abbrev pub FaultOrNoMemory : Bool → Counts → Counts → Error → Type 0
 FaultOrNoMemory lean old new e = FaultIsCounted old new ⊎ ((e ≡ OutOfMemory) × ((lean ≡ false) ⊎ RoseBy 1 old.shortages new.shortages))

@@ -25,7 +25,7 @@ SliceNames = List ℕ → Error → Type 0
 abbrev pub part_names : Format → SliceNames → SliceNames
 part_names part names x e = Refuses part.spells part.lean x e × names x e
 
--- ---- what is named behind a prefix
+-- ---- what is named after a prefix
 
 -- x has such a front, and the error is one that is named of the rest
 pub record NamedBehind (Front : List ℕ → Type 0) (names : SliceNames) (x : List ℕ) (e : Error) : Type 0 where
@@ -47,7 +47,7 @@ pub record SourceNamedBehind (Front : List ℕ → Type 0) (names : Causes) (x :
 
 -- ---- options
 
--- the byte behind which the payload follows
+-- the byte that the payload follows
 abbrev pub IsPayloadTag : List ℕ → Type 0
 IsPayloadTag s = s ≡ 1 ∷ []
 
@@ -59,12 +59,12 @@ IsOtherByte s = (tag : ℕ) × (s ≡ tag ∷ []) × (1 < tag)
 abbrev pub IsOtherTag : Error → Type 0
 IsOtherTag = Says (codes "option tag is not 0 or 1")
 
--- from a slice: there is no tag, it is another one, or behind the tag 1 the payload is refused
+-- from a slice: there is no tag, it is another one, or after the tag 1 the payload is refused
 abbrev pub option_names : SliceNames → SliceNames
 option_names payload x e =
     ((x ≡ []) × (e ≡ EndOfStream)) ⊎ (NamedBehind IsOtherByte (λ rest error. IsOtherTag error) x e ⊎ NamedBehind IsPayloadTag payload x e)
 
--- from a source: the tag isn't read, it is another one, or behind the tag 1 the payload is refused
+-- from a source: the tag isn't read, it is another one, or after the tag 1 the payload is refused
 abbrev pub option_source_names : Causes → Causes
 option_source_names payload x old new e =
     ReadRefused 1 x old new e
@@ -77,7 +77,7 @@ option_source_names payload x old new e =
 abbrev pub IsSpelling : Grammar → List ℕ → Type 0
 IsSpelling spells s = (v : Tree) × spells Reading s v
 
--- from a slice: the first part is refused, or behind a spelling of it the others are
+-- from a slice: the first part is refused, or after a spelling of it the others are
 abbrev pub fields_names : Format → (first others : SliceNames) → SliceNames
 fields_names part first others x e = part_names part first x e ⊎ NamedBehind (IsSpelling part.spells) others x e
 
@@ -125,17 +125,17 @@ element_names element names left x e =
     ⊎ (IsEmptyElement element.spells e
     ⊎ (Says (codes "elements do not fill the declared length") e × Overruns element.spells left x))
 
--- from a slice: there was no memory, or behind some elements the next one isn't taken
+-- from a slice: there was no memory, or after some elements the next one isn't taken
 abbrev pub elements_names : Format → SliceNames → ℕ → SliceNames
 elements_names element names n x e =
     (e ≡ OutOfMemory) ⊎ ((left : ℕ) × NamedBehind (IsRun element.spells n left) (element_names element names left) x e)
 
--- of a source an element is refused that ends where the list does
+-- from a source: an element is refused that ends where the list does
 abbrev pub element_source_names : Format → Causes → ℕ → Causes
 element_source_names element names left x old new e =
     part_source_names element names (take left x) old new e ⊎ IsEmptyElement element.spells e
 
--- from a source: there was no memory, or behind some elements the next one isn't taken
+-- from a source: there was no memory, or after some elements the next one isn't taken
 abbrev pub elements_source_names : Format → Causes → ℕ → Causes
 elements_source_names element names n x old new e =
     (e ≡ OutOfMemory)
@@ -146,18 +146,18 @@ abbrev pub NamedWithin : {S : Type 0} → Format → Causes → Ghosts S → Bou
 NamedWithin element names source old new e =
     Named (sized_format (limit_of old) (content_format element)) (elements_source_names element names (limit_of old)) source (inner_of old) (inner_of new) e
 
--- from a slice: the length is refused, or behind a length the elements are refused
+-- from a slice: the length is refused, or after a length the elements are refused
 abbrev pub counted_list_names : Field → Format → SliceNames → SliceNames
 counted_list_names field element names x e =
     field.refuses x e ⊎ ((n : ℕ) × NamedBehind (λ s. field.spells s n) (elements_names element names n) x e)
 
--- from a source: the length isn't read, or behind it the elements are refused
+-- from a source: the length isn't read, or after it the elements are refused
 abbrev pub counted_list_source_names : Field → Format → Causes → Causes
 counted_list_source_names field element names x old new e =
     NumberNotRead field.refuses x old new e
     ⊎ ((n : ℕ) × SourceNamedBehind (λ s. field.spells s n) (elements_source_names element names n) x old new e)
 
--- the same of lists behind a variable-length integer
+-- the same of lists after a variable-length integer
 abbrev pub list_names : Format → SliceNames → SliceNames
 list_names element names = counted_list_names variable_field element names
 

@@ -29,7 +29,7 @@ pub record TurnedAtMost (n : ℕ) (old new : Turns) : Type 0 where
 
 -- ---- elements at once
 
--- elements that are read at once take a turn each; where there are none, or they are refused, none was added
+-- elements that are read at once take a turn each; if there are none, or they are refused, none was added
 abbrev pub TurnedAll : {T : Type 0} → Turns → Turns → Result (Option (Vec T Global)) Error → Type 0
 TurnedAll old new (Ok (Some elements)) = TurnedEach elements.items old new
 TurnedAll old new (Ok None) = new ≡ old
@@ -41,17 +41,17 @@ MemoryOrFault before after e = (e ≡ OutOfMemory) ⊎ FaultIsCounted before aft
 
 -- ---- refused lists
 
--- a list was refused that was to fill the bytes x: one turn more was added than x has whole elements, or at most that
--- where it is excused
+-- a list was refused that was to fill the bytes x: one turn more was added than x has whole elements; if it is
+-- excused, at most that
 pub record TurnedPast (spells : Grammar) (x : List ℕ) (Excused : Type 0) (old new : Turns) : Type 0 where
   pub at_most : (m : ℕ) → WholeElements spells m x → TurnedAtMost (m + 1) old new
   pub exactly : Excused ⊎ ((m : ℕ) × WholeElements spells m x × TurnedBy (m + 1) old new)
 
--- from a slice x, of which it was to fill the first n bytes: excused where it ran out of memory
+-- from a slice x, whose first n bytes it was to fill: excused if it ran out of memory
 abbrev pub TurnedRefused : Grammar → ℕ → List ℕ → Turns → Turns → Error → Type 0
 TurnedRefused spells n x old new e = TurnedPast spells (take n x) (e ≡ OutOfMemory) old new
 
--- from a source of which x was seen: excused where a fault was counted, too
+-- from a source of which x was seen: excused also if a fault was counted
 abbrev pub source_turns : Grammar → ℕ → Turns → Turns → Causes
 source_turns spells n old new x before after e = TurnedPast spells (take n x) (MemoryOrFault before after e) old new
 

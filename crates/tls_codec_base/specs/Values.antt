@@ -1,4 +1,4 @@
--- A number in k bytes that is one of some values (RFC 8446, section 3.5): a tag with nothing behind it.
+-- A number in k bytes that is one of some values (RFC 8446, section 3.5): a tag with nothing after it.
 use Rattle.std.specs.Prelude.{◌≡◌, ℕ, List, Bool, true, false}
 use Rattle.tls_codec_wire.specs.Refused.{Causes}
 use Rattle.tls_codec_wire.specs.declared.error.Error.TheVariants.{UnknownValue}
@@ -12,7 +12,7 @@ use Rattle.tls_codec_grammar.specs.laws.TaggedLaws.{no_variant_meets}
 use Rattle.tls_codec_base.specs.Refusals.{SliceNames}
 use Rattle.tls_codec_base.specs.TaggedNames.{tagged_names, tagged_source_names}
 
--- nothing stands behind a tag that is one of the values
+-- nothing comes after a tag that is one of the values
 abbrev pub values : (ℕ → Bool) → Variants
 values has = record { has = has; parts = λ tag. either_format (has tag) nothing_format no_format; lean = true }
 

@@ -1,4 +1,4 @@
-//! `Box<T>`: the spelling of its content. A decoder takes memory for it.
+//! `Box<T>`: its spelling is that of its content. A decoder takes memory for it.
 ghost use Rattle.std.specs.Prelude.{◌≡◌, ◌⊎◌, IfErr, IfOk};
 ghost use Rattle.tls_codec_wire.specs.declared.error.Error.TheVariants.{OutOfMemory};
 ghost use Rattle.tls_codec_grammar.specs.Format.{with_memory};
@@ -39,7 +39,7 @@ impl<T: SerializeBytes> SerializeBytes for Box<T> {
 impl<T: Deserialize> Deserialize for Box<T> {
     ghost names = { λ x old new e. (e ≡ OutOfMemory) ⊎ T.names x old new e };
 
-    /// `OutOfMemory`: there is none for the box. Every other refusal is the content's.
+    /// `OutOfMemory`: allocation of the box failed. Every other refusal is the content's.
     fn tls_deserialize<R: Source>(alloc: Global, bytes: &mut R) -> Result<Box<T>, Error> {
         let content = T::tls_deserialize(alloc, bytes)?;
         boxed(alloc, content)
@@ -49,7 +49,7 @@ impl<T: Deserialize> Deserialize for Box<T> {
 impl<T: DeserializeBytes> DeserializeBytes for Box<T> {
     ghost names = { λ x e. (e ≡ OutOfMemory) ⊎ T.names x e };
 
-    /// `OutOfMemory`: there is none for the box. Every other refusal is the content's.
+    /// `OutOfMemory`: allocation of the box failed. Every other refusal is the content's.
     fn tls_deserialize_bytes(alloc: Global, bytes: &[u8]) -> Result<(Box<T>, &[u8]), Error> {
         let (content, rest) = T::tls_deserialize_bytes(alloc, bytes)?;
         let content = boxed(alloc, content)?;

@@ -1,7 +1,7 @@
-//! Elements behind a length field, whatever the field (RFC 8446, section 3.4).
+//! Elements after a length field, whatever the field (RFC 8446, section 3.4).
 //!
-//! `Vec<T>`, `&[T]` and each family of vectors go through the calls here, which know of an element and
-//! of a length field their traits' contracts alone.
+//! `Vec<T>`, `&[T]` and each family of vectors go through the calls here. The calls know of an element
+//! and of a length field only their traits' contracts.
 ghost use Rattle.std.specs.Prelude.{◌≡◌, ◌≤◌, ◌⊎◌, ◌^◌, length, take, IfErr, IfOk, IsErrAnd};
 ghost use Rattle.tls_codec_wire.specs.declared.error.Error.TheVariants.{InvalidVectorLength, OutOfMemory};
 ghost use Rattle.tls_codec_grammar.specs.Tree.{trees};
@@ -18,17 +18,18 @@ use std::alloc::Global;
 use tls_codec_grammar::length_field::{LengthField, fill_gap, open_gap, write_length};
 use tls_codec_wire::{Error, Sink, Source};
 
-/// How many bytes an element likely has, where elements have no one width.
+/// How many bytes an element likely has, if elements have no one width.
 const LIKELY_LENGTH: usize = 64;
 
-/// For how many bytes of elements of no one width room is asked for at once: those of no bytes need none.
+/// For how many bytes of elements room is requested at once, if they have no one width: those of no bytes
+/// need none.
 const MOST_ROOM: usize = 1 << 16;
 
-/// A gap for a length is left behind at most so many bytes.
+/// A gap for a length is left only after this many bytes or fewer.
 const MOST_BEHIND: usize = 1 << 61;
 
-/// The announced length of a list: that of its elements, and the width of it, saturated at
-/// `usize::MAX`.
+/// The announced length of a list: the length of its elements plus the width of that length,
+/// saturated at `usize::MAX`.
 pub fn announced_len<F: LengthField, T: Size>(elements: &[T]) -> usize
     ensures { result
         ≡ (counted_list_format F.field T.format).announced (trees T.plain elements.now) }
@@ -60,9 +61,9 @@ pub fn write<F: LengthField, T: Serialize, W: Sink>(
 
 /// Appends a list's shortest form to a vector, and returns how many bytes that is.
 ///
-/// `InvalidVectorLength`: the elements have more bytes than the greatest length, or the vector would
-/// pass `isize::MAX` bytes. Every other refusal is an element's, or `OutOfMemory`. No announced length is
-/// asked for. After a refusal the vector's bytes are those from before.
+/// `InvalidVectorLength`: the elements have more bytes than the greatest length, or the vector would pass
+/// `isize::MAX` bytes. Every other refusal is an element's, or `OutOfMemory`. No element is asked for its
+/// announced length. After a refusal the vector has the bytes from before.
 pub fn append<F: LengthField, T: Serialize>(
     out: &mut Vec<u8>,
     elements: &[T],
@@ -84,7 +85,7 @@ pub fn append<F: LengthField, T: Serialize>(
     }
 }
 
-// The same, but that bytes stay behind those from before after a refusal.
+// The same, but after a refusal more bytes may be left after those from before.
 fn append_behind_gap<F: LengthField, T: Serialize>(
     out: &mut Vec<u8>,
     elements: &[T],
@@ -104,7 +105,7 @@ fn append_behind_gap<F: LengthField, T: Serialize>(
     Ok(out.len() - at)
 }
 
-/// A list's shortest form, of elements that are written to vectors of their own.
+/// A list's shortest form. Each element is written to a vector of its own first.
 ///
 /// The refusals are those of [`append`].
 pub fn to_vec<F: LengthField, T: SerializeBytes>(
@@ -126,17 +127,17 @@ pub fn to_vec<F: LengthField, T: SerializeBytes>(
     Ok(bytes)
 }
 
-// How wide the length of so many elements is likely to be behind so many bytes: a guess, which is right
-// where the elements have one width.
+// How wide the length of `count` elements is likely to be after `at` bytes. It is a guess, and right if
+// the elements have one width.
 //
-// There is none behind so many bytes that the guess may be what passes the greatest vector.
+// If the gap itself might make the vector too long, it is 0.
 fn likely_width<F: LengthField, T: Size>(at: usize, count: usize) -> usize
     ensures { IsSafeGap at result }
 {
     if at > MOST_BEHIND {
         return 0;
     }
-    // Where the number is a constant, so is its width.
+    // If the number is a constant, so is its width.
     let width = match T::tls_fixed_len() {
         Some(each) => F::width(count.saturating_mul(each)),
         None if count == 0 => F::width(0),
@@ -146,8 +147,8 @@ fn likely_width<F: LengthField, T: Size>(at: usize, count: usize) -> usize
     width.min(8)
 }
 
-// How much room is asked for at once for these elements, behind so many bytes: just as much as they have,
-// or a guess that is never large.
+// How much room is requested at once for these elements, after `at` bytes: just as much as they have, or
+// a guess that is never large.
 fn room_for<T: Size>(at: usize, elements: &[T]) -> usize
     ensures { (result ≤ 2 ^ 16)
         ⊎ (result ≤ content_sum T.format.announced (trees T.plain elements.now)) }
@@ -160,7 +161,7 @@ fn room_for<T: Size>(at: usize, elements: &[T]) -> usize
     }
 }
 
-/// The list that the bytes to come spell. Just its spelling is taken.
+/// The list that the bytes to come spell. Only its spelling is taken.
 ///
 /// The length is refused as in [`LengthField::read_length`]. Every other refusal is that of
 /// [`lists::from_reader`](crate::lists::from_reader).

@@ -1,7 +1,9 @@
-//! The laws of options, products, lists and texts, each from those of its parts; what they come to for
-//! spellings and shortest forms; what shortest forms of lists are, that equal bytes are spelled alike,
-//! and what a source that tells its bytes has left; that both decoders agree, for which bytes a source is refused, that encoders refuse only
-//! what has no form, and which values are full.
+//! The laws of options, products, lists and strings, each from the laws of its parts. Then:
+//!
+//! - what these laws mean for spellings and for shortest forms, those of lists among them;
+//! - that equal bytes are spelled alike, and what is left of a source that tells its bytes;
+//! - that both decoders agree, and for which bytes a source is refused;
+//! - that encoders refuse only what has no form, and which values are full.
 //!
 //! The functions do nothing. Their contracts state the laws, and so are proved.
 ghost use Rattle.std.specs.Prelude.{◌≡◌, ◌↔◌, ℕ, ◌<◌, ◌≤◌, ◌^◌, List, [], ◌++◌, length, Vec};
@@ -58,7 +60,7 @@ pub fn spellings_are_prefix_free<T: Size>()
         → v ≡ w }
 {}
 
-/// A list has a spelling just where each of its elements has one that isn't empty, and their shortest
+/// A list has a spelling exactly if each of its elements has one that isn't empty, and their shortest
 /// forms together have a number of bytes that its length field can hold.
 pub fn lists_are_spelled_where_their_elements_fit<F: LengthField, T: Size>()
     ensures { (v : Tree)
@@ -67,8 +69,8 @@ pub fn lists_are_spelled_where_their_elements_fit<F: LengthField, T: Size>()
         × FitTogether T.format.spells F.field.limit v) }
 {}
 
-/// The shortest form of a full value, whatever is behind it, begins with just one spelling, which is of
-/// that value and leaves what is behind.
+/// The shortest form of a full value, whatever comes after it, begins with exactly one spelling. That
+/// one is of this value, and leaves what comes after.
 pub fn shortest_forms_are_read_back<T: Size>()
     ensures { (form rest : List ℕ) (v : Tree)
         → IsShortest T.format.spells form v
@@ -76,8 +78,8 @@ pub fn shortest_forms_are_read_back<T: Size>()
         → BeginsWithOne T.format.spells (form ++ rest) v rest }
 {}
 
-/// A proper prefix of the shortest form of a full value begins with no spelling. So what a sink has received
-/// of it that failed before the end is refused by both decoders.
+/// A proper prefix of the shortest form of a full value begins with no spelling. So if a sink failed before
+/// the end, both decoders reject what it received.
 pub fn forms_cut_short_have_no_spelling<T: Size>()
     ensures { (part form : List ℕ) (v : Tree)
         → IsShortest T.format.spells form v
@@ -94,8 +96,8 @@ pub fn spellings_are_shortest_forms<T: Size>()
         → IsShortest T.format.spells s v }
 {}
 
-/// Bytes that were read are the encoding of the value that was read: whatever encoder writes that value
-/// again writes just these bytes.
+/// Bytes that were read are the canonical encoding of the value that was read: any encoder that writes
+/// that value again writes exactly these bytes (the round trip).
 pub fn what_was_read_is_written_again<T: Size, R: Source, W: Sink>()
     ensures given { (old new : R) (form : List ℕ) (v : Tree)
         → GaveSpelling R.given T.format.spells old new v
@@ -115,8 +117,8 @@ pub fn what_was_read_is_written_again<T: Size, R: Source, W: Sink>()
         → Appends (W.received old) (W.received new) b.front }
 {}
 
-/// Where the elements of a list all have shortest forms that together pass its length field, the list is
-/// refused before anything of it is sent.
+/// If the elements of a list all have shortest forms that together pass its length field, the list is
+/// refused before any of it is sent.
 pub fn long_contents_are_too_long<F: LengthField, T: Size>()
     ensures { (form : List ℕ) (v : Tree)
         → IsShortest (content T.format.spells) form v
@@ -133,8 +135,8 @@ pub fn shortest_contents_are_in_a_row<T: Size>()
         (λ b. IsShortest (content T.format.spells) b vs) }
 {}
 
-/// Behind one form of length, equal bytes have equal spellings, in whatever type they stand: the
-/// spellings of their number, with the bytes behind them.
+/// After one form of length, equal bytes have equal spellings, whatever type they are in: the
+/// spellings of their number, and then the bytes.
 pub fn equal_bytes_have_equal_spellings<F: LengthField>()
     ensures bytes { (d : Direction) (s contents : List ℕ)
         → AreBytes contents
@@ -147,7 +149,7 @@ pub fn equal_bytes_have_equal_spellings<F: LengthField>()
         ↔ Counted F.field.spells s (λ c. c ≡ contents)) }
 {}
 
-/// Where a source tells its bytes and has given just a spelling, the bytes that were to come begin
+/// If a source tells its bytes and has given just a spelling, the bytes that were to come begin
 /// with that spelling, and what is to come now is the rest of them.
 pub fn just_the_rest_is_to_come<T: Size, R: Source>()
     ensures { (old : R) (v : Tree) (new : R)

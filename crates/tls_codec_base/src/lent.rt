@@ -3,8 +3,8 @@ use crate::traits::{Serialize, SerializeBytes, Size};
 use std::alloc::Global;
 use tls_codec_wire::{Error, Sink};
 
-/// A value that is lent: it is written as the value itself is, so that a message is written as the
-/// tuple of its parts.
+/// A lent value. It is written as the value itself is, so a message is written as the tuple of its
+/// parts.
 #[derive(Drop)]
 pub struct Lent<'a, T>(pub &'a T);
 

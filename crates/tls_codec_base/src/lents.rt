@@ -1,9 +1,9 @@
-//! [`Lent2`] to [`Lent9`]: so many values that are lent, written in a row, for messages of four
-//! fields and more.
+//! [`Lent2`] to [`Lent9`]: two to nine lent values, written in a row, for messages of four fields and
+//! more.
 //!
-//! Each is the tuple of its values; from four on it is a tuple of the smaller ones, and its value is
-//! read as the tuple that nests in the same way: `Lent5` as `((A, B, C), (D, E))`. All of them are lent
-//! for one lifetime, so that a tuple of these is one type to the borrow checker.
+//! Each is the tuple of its values. From four on it is a tuple of the smaller ones, and its value is
+//! read as the tuple that nests in the same way: `Lent5` as `((A, B, C), (D, E))`. All of its values
+//! are lent for one lifetime, so that a tuple of these is one type to the borrow checker.
 ghost use Rattle.tls_codec_grammar.specs.Format.{pair_format, triple_format};
 ghost use Rattle.tls_codec_grammar.specs.laws.FormatLaws.{pair_meets, triple_meets};
 ghost use Rattle.tls_codec_base.specs.OwnMessages.{pair_tree, triple_tree};

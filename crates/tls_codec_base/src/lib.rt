@@ -1,24 +1,25 @@
 //! What a type of the TLS presentation language is (RFC 8446, section 3): five traits, with the
 //! grammar of each type, the laws it meets and the contracts of its decoders and encoders.
 //!
-//! The layer above relies on the contracts of [`traits`] alone, and so do the types here that have
-//! parameters: a decoder accepts just the inputs that begin with a spelling, gives its one value
-//! and leaves the rest unread; an encoder writes the shortest form of its value.
+//! The layer above relies only on the contracts of [`traits`], and so do the types here that have
+//! parameters. A decoder accepts exactly the inputs that begin with a spelling, gives its one value
+//! and leaves the rest unread. An encoder writes the shortest form of its value, its canonical
+//! encoding.
 //!
 //! - [`traits`]: [`Size`], [`Serialize`], [`SerializeBytes`], [`Deserialize`], [`DeserializeBytes`].
 //! - [`numbers`]: `u8`, `u16`, `U24`, `u32` and `u64`.
-//! - [`varint`]: `TlsVarInt`.
+//! - [`varint`]: `TlsVarInt`, variable-length integers.
 //! - [`arrays`]: `[u8; LEN]`.
 //! - [`options`]: `Option<T>`.
 //! - [`products`]: `(T, U)`, `(T, U, V)`, `()` and `PhantomData<T>`.
-//! - [`boxes`]: `Box<T>`. [`lent`]: [`Lent`], a value that is lent, for messages of one's own;
-//!   [`lents`]: [`Lent2`] to [`Lent9`], so many of them in a row.
-//! - [`tags`]: [`unknown_value`], the refusal of a tag that an enum of one's own doesn't have.
+//! - [`boxes`]: `Box<T>`. [`lent`]: [`Lent`], a lent value, for messages of your own; [`lents`]:
+//!   [`Lent2`] to [`Lent9`], two to nine of them in a row.
+//! - [`tags`]: [`unknown_value`], the refusal of a tag that an enum of your own doesn't have.
 //! - [`lists`]: the engines that every list goes through. [`vectors`]: `Vec<T>` and `&[T]`.
 //! - [`ends`]: [`deserialize_to_end`], a value and the end of its source.
-//! - [`texts`]: `String` and `&str`, by [`opaque`], bytes behind their length.
+//! - [`texts`]: `String` and `&str`, by [`opaque`], bytes after their length.
 //! - [`laws`]: what is lawful if its parts are. [`refusals`]: where `TrailingData` and `InvalidVectorLength`
-//!   come. Both do nothing when they run.
+//!   come from. Both do nothing when they run.
 #![tactic(auto)]
 
 pub mod arrays;

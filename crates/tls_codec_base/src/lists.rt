@@ -1,7 +1,7 @@
 //! Lists: elements in a row, which fill a declared number of bytes (RFC 8446, section 3.4).
 //!
-//! Each list type's calls go through the engines here, which know of an element its traits'
-//! contracts alone.
+//! Each list type's calls go through the engines here. The engines know of an element only its
+//! traits' contracts.
 ghost use Rattle.std.specs.Prelude.{◌≡◌, ◌<◌, ◌^◌};
 
 mod reading;
@@ -14,8 +14,8 @@ pub use writing::{append, append_bytes, content_len, write};
 
 /// How often a list engine tried to read an element.
 ///
-/// It grows by one with each attempt, also with one that is refused, up to `u64::MAX`; with elements
-/// that are read at once, by their number.
+/// It grows by one with each attempt, also with a refused one, up to `u64::MAX`. If elements are
+/// read at once, it grows by their number.
 ///
 /// ```rust
 /// let mut turns = Turns::new();

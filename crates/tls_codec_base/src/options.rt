@@ -11,10 +11,10 @@ use crate::traits::{Deserialize, DeserializeBytes, Serialize, SerializeBytes, Si
 use std::alloc::Global;
 use tls_codec_wire::{Error, Sink, Source, read_exactly, write_all};
 
-/// Behind it nothing follows.
+/// Nothing follows it.
 const NONE: u8 = 0;
 
-/// Behind it the payload follows.
+/// The payload follows it.
 const SOME: u8 = 1;
 
 const OTHER_TAG: Error = Error::DecodingError("option tag is not 0 or 1");
@@ -152,7 +152,7 @@ impl<T: SerializeBytes> SerializeBytes for &Option<T> {
     }
 }
 
-// The tag and what is behind it, as a vector.
+// The tag and what comes after it, as a vector.
 fn vector(alloc: Global, tag: u8, content: &[u8]) -> Result<Vec<u8>, Error>
     ensures ok { IfOk result (λ bytes. bytes.items ≡ tag ∷ content.now) }
     ensures err { IfErr result (λ e. e ≡ OutOfMemory) }

@@ -1,8 +1,8 @@
-//! Products: the parts' spellings in a row (RFC 8446, section 3.6), with nothing in front of them,
-//! between them or behind them.
+//! Products: the parts' spellings in a row (RFC 8446, section 3.6), with nothing before, between or
+//! after them.
 //!
-//! Their proofs rest on lemmas about a first part and the others behind it, and about no parts, so
-//! that a struct of any number of fields takes one citation a field.
+//! Their proofs rest on lemmas about a first part and the others after it, and about no parts. So a
+//! struct takes one citation for each field, however many it has.
 
 mod pair;
 mod phantom;

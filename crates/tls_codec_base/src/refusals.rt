@@ -1,5 +1,6 @@
-//! Where two errors come: `TrailingData` from the exact forms alone, for no decoder of the types here returns
-//! it; and `InvalidVectorLength` where the shortest forms of elements together pass their length field.
+//! Where two errors come from. No decoder of the types here returns `TrailingData`: the exact forms do, and
+//! the calls that look for the end of a source. `InvalidVectorLength` comes if the shortest forms of elements
+//! together pass their length field.
 //!
 //! The functions do nothing. Their contracts state the laws, and so are proved.
 ghost use Rattle.std.specs.Prelude.{◌≡◌, ◌≤◌, ◌⊎◌, ℕ, List, length, IsErrAnd, Result, Vec};
@@ -41,7 +42,7 @@ pub fn single_values_are_never_trailing<const LEN: usize>()
         × SourceNeverTrailing ⟦<() as Deserialize>⟧.names }
 {}
 
-/// Nor does one of bytes behind a length, whatever its field.
+/// Nor does one of bytes after a length, whatever its field.
 pub fn bytes_are_never_trailing<F: LengthField>()
     ensures bytes { NeverTrailing (λ x e. OpaqueCopyRefused F.field e x) }
     ensures read { SourceNeverTrailing (OpaqueSourceRefused F.field) }
@@ -90,8 +91,8 @@ pub fn parts_read_are_never_trailing<
         → SourceNeverTrailing (counted_list_source_names F.field T.format T.names) }
 {}
 
-/// Where the elements of a list all have shortest forms that together pass its length field, encoders to memory
-/// refuse the list as `InvalidVectorLength`, or for want of memory.
+/// If the elements of a list all have shortest forms that together pass its length field, encoders to memory
+/// refuse the list as `InvalidVectorLength`, or because memory ran out.
 pub fn long_contents_are_refused<F: LengthField, T: Size>()
     ensures appended { (form : List ℕ) (v : Tree) (old new : List ℕ) (result : Result ℕ Error)
         → IsShortest (content T.format.spells) form v

@@ -49,7 +49,7 @@ impl Deserialize for String {
 
     /// `EndOfStream`: there is no whole length, or fewer bytes come than it declares.
     /// `InvalidVectorLength`: the length has more bytes than it needs, or more than 30 bits.
-    /// `DecodingError("invalid utf8")`: the bytes are no text.
+    /// `DecodingError("invalid utf8")`: the bytes are not valid UTF-8.
     fn tls_deserialize<R: Source>(alloc: Global, bytes: &mut R) -> Result<String, Error> {
         let content = opaque::read::<TlsVarInt, R>(alloc, bytes)?;
         match String::from_utf8(content) {
@@ -64,8 +64,8 @@ impl DeserializeBytes for String {
 
     /// `InvalidVectorLength`: the length has more bytes than it needs, or more than 30 bits.
     /// `EndOfStream`: there is no whole length. `DecodingError("declared content is not there")`:
-    /// fewer bytes are behind it than it declares. `DecodingError("invalid utf8")`: the bytes are no
-    /// text.
+    /// fewer bytes come after it than it declares. `DecodingError("invalid utf8")`: the bytes are
+    /// not valid UTF-8.
     fn tls_deserialize_bytes(alloc: Global, bytes: &[u8]) -> Result<(String, &[u8]), Error> {
         let (content, rest) = opaque::split::<TlsVarInt>(bytes)?;
         let Ok(text) = std::str::from_utf8(content) else {
@@ -95,8 +95,8 @@ impl Serialize for &str {
         opaque::write::<TlsVarInt, W>(writer, self.as_bytes())
     }
 
-    /// `InvalidVectorLength`: there are more bytes than the greatest length. `OutOfMemory`: there was
-    /// none.
+    /// `InvalidVectorLength`: there are more bytes than the greatest length. `OutOfMemory`:
+    /// allocation failed.
     #[inline(always)]
     fn tls_serialize_into(&self, out: &mut Vec<u8>) -> Result<usize, Error> {
         opaque::append::<TlsVarInt>(out, self.as_bytes())

@@ -18,8 +18,8 @@ use tls_codec_wire::{Bounded, Error, Sink, Source};
 
 /// A type whose values have spellings in bytes.
 ///
-/// For contracts it carries what a value stands for and its format: which bytes spell it, its
-/// announced length, and which errors there are where no bytes do.
+/// For contracts it carries what a value stands for, and its format: which bytes spell it, its
+/// announced length, and which errors there are if no bytes do.
 pub trait Size {
     // What a value stands for.
     ghost plain: { Self → Tree };
@@ -27,14 +27,15 @@ pub trait Size {
     // What is said of its spellings.
     ghost format: { Format };
 
-    /// The number of bytes of the value's shortest form, saturated at `usize::MAX`.
+    /// The number of bytes of the value's shortest form, its canonical encoding, saturated at
+    /// `usize::MAX`.
     fn tls_serialized_len(&self) -> usize
         ensures { result ≡ format.announced (plain self.now) };
 
-    /// The number of bytes of each value's shortest form, where all values have as many; none where they
-    /// don't, or where that isn't known.
+    /// The number of bytes of each value's shortest form, if all values have as many. It is none if they
+    /// don't, or if that isn't known.
     ///
-    /// Provided; a type of fixed width may tell it, and lengths of its lists need no sums then.
+    /// Provided. A type of fixed width may return it; then lengths of its lists need no sums.
     fn tls_fixed_len() -> Option<usize>
         ensures { IfSome result (λ n. (v : Self) → format.announced (plain v) ≡ n) }
     {
@@ -42,9 +43,9 @@ pub trait Size {
     }
 
     /// Sends the elements' shortest forms in a row, and returns how many bytes that is, saturated at
-    /// `usize::MAX`; none and nothing is sent where such elements are sent one by one.
+    /// `usize::MAX`. It is none, and nothing is sent, if such elements are sent one by one.
     ///
-    /// Provided; a type of fixed width may do it at once, and every list then goes through here.
+    /// Provided. A type of fixed width may do it at once, and every list then goes through here.
     fn tls_send_elements<W: Sink>(elements: &[Self], sink: &mut W) -> Result<Option<usize>, Error>
         ensures { AllSent format (trees plain elements.now) W.Sink sink.old sink.new result }
     {
@@ -65,7 +66,7 @@ pub trait Serialize: Size {
             → (result ≡ Err InvalidVectorLength) × (writer.new ≡ writer.old) };
 
     /// Appends the value's shortest form to a vector, and returns how many bytes that is. After a
-    /// refusal the vector's bytes are those from before.
+    /// refusal the vector has the bytes from before.
     fn tls_serialize_into(&self, out: &mut Vec<u8>) -> Result<usize, Error>
         ensures appends { AppendsForm Self.format (Self.plain self.now) out.old.items out.new.items
             result }
@@ -111,7 +112,7 @@ pub trait Deserialize: Size + Drop {
     // Which errors are named, by the bytes that were seen and by the counts before and after.
     ghost names: { List ℕ → Counts → Counts → Error → Type 0 } = { λ x old new e. Unit {0} };
 
-    /// The value that the bytes to come begin with. Just its spelling is taken.
+    /// The value that the bytes to come begin with. Only its spelling is taken.
     fn tls_deserialize<R: Source>(alloc: Global, bytes: &mut R) -> Result<Self, Error>
         ensures reads { Reads Self.format Self.plain R.Source bytes.old bytes.new result }
         ensures named { IfErr result (Named Self.format names R.Source bytes.old bytes.new) };
@@ -134,11 +135,11 @@ pub trait Deserialize: Size + Drop {
         Ok(value)
     }
 
-    /// The elements that fill what a source may still give, each of which is a turn; none, and nothing
-    /// is taken, where such elements are read one by one.
+    /// The elements that fill what a source may still give, each of which is a turn. It is none, and
+    /// nothing is taken, if such elements are read one by one.
     ///
-    /// Provided; a type of fixed width may do it at once, and every list then goes through here. It
-    /// leaves to the engine what is refused for the bytes that come.
+    /// Provided. A type of fixed width may do it at once, and every list then goes through here. If
+    /// the bytes that come are to be refused, it leaves that to the engine.
     fn tls_read_elements<R: Source>(
         _alloc: Global,
         within: &mut Bounded<R>,
@@ -183,11 +184,11 @@ pub trait DeserializeBytes: Size + Drop {
         Ok(value)
     }
 
-    /// The elements that all of these bytes spell in a row; none where such elements are read one by
-    /// one.
+    /// The elements that all of these bytes spell in a row. It is none if such elements are read one
+    /// by one.
     ///
-    /// Provided; a type of fixed width may do it at once, and every list then goes through here.
-    /// `OutOfMemory`: there was none.
+    /// Provided. A type of fixed width may do it at once, and every list then goes through here.
+    /// `OutOfMemory`: allocation failed.
     fn tls_elements(_alloc: Global, bytes: &[u8]) -> Result<Option<Vec<Self>>, Error>
         ensures { AllRead Self.format Self.plain bytes.now result }
     {

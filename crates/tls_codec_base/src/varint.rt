@@ -1,5 +1,5 @@
-//! `TlsVarInt`, the variable-length integer in its least width (RFC 9000, section 16; RFC 9420, section
-//! 2.1.2).
+//! `TlsVarInt`, the variable-length integer (varint) in its least width (RFC 9000, section 16;
+//! RFC 9420, section 2.1.2).
 ghost use Rattle.std.specs.Prelude.{◌^◌};
 ghost use Rattle.tls_codec_wire.specs.Numbers.{NumberNotRead};
 ghost use Rattle.tls_codec_wire.specs.VarintCalls.{RefusesBelow};
@@ -40,8 +40,8 @@ impl SerializeBytes for TlsVarInt {
 impl Deserialize for TlsVarInt {
     ghost names = { NumberNotRead (RefusesBelow (2 ^ 62)) };
 
-    /// `EndOfStream`: fewer bytes come than the first one asks for, or none. `InvalidVectorLength`: these
-    /// are more than the number needs.
+    /// `EndOfStream`: fewer bytes come than the first one asks for, or none. `InvalidVectorLength`: the
+    /// number has more bytes than it needs.
     fn tls_deserialize<R: Source>(_alloc: Global, bytes: &mut R) -> Result<TlsVarInt, Error> {
         let n = read_varint(bytes)?;
         Ok(n)
@@ -52,7 +52,7 @@ impl DeserializeBytes for TlsVarInt {
     ghost names = { RefusesBelow (2 ^ 62) };
 
     /// `EndOfStream`: there are fewer bytes than the first one asks for, or none. `InvalidVectorLength`:
-    /// these are more than the number needs.
+    /// the number has more bytes than it needs.
     fn tls_deserialize_bytes(_alloc: Global, bytes: &[u8]) -> Result<(TlsVarInt, &[u8]), Error> {
         split_varint(bytes)
     }

@@ -20,7 +20,7 @@ use tls_codec_vec::TlsVecU32;
 use tls_codec_vectors::Log;
 use tls_codec_vl::VLBytes;
 
-// Lists, one in the other, so many deep.
+// Nested lists, so many deep.
 type Two = Vec<Vec<u8>>;
 
 type Four = Vec<Vec<Two>>;
@@ -29,7 +29,8 @@ type Eight = Vec<Vec<Vec<Vec<Four>>>>;
 
 type Sixteen = Vec<Vec<Vec<Vec<Vec<Vec<Vec<Vec<Eight>>>>>>>>;
 
-// Two lists of 2,048 bytes in one, and that one in others that have no more. Fewer deep are its end.
+// Two lists of 2,048 bytes in one, and that one in others that hold nothing else. Fewer levels are
+// its end.
 const DEEP: [usize; 16] = [1, 1, 1, 1, 1, 1, 1, 1, 1, 1, 1, 1, 1, 1, 2, 2048];
 
 /// How many bytes a case has, and how many nanoseconds each of its calls takes.
@@ -37,13 +38,13 @@ const DEEP: [usize; 16] = [1, 1, 1, 1, 1, 1, 1, 1, 1, 1, 1, 1, 1, 1, 2, 2048];
 pub struct Figures {
     /// The bytes that are written and read.
     pub bytes: usize,
-    /// `tls_serialize_detached`, and letting go of the vector.
+    /// `tls_serialize_detached`, and dropping the vector.
     pub encode: u64,
     /// `tls_serialize_into` a vector that is used again and again.
     pub into: u64,
-    /// `tls_deserialize_bytes`, and letting go of the value.
+    /// `tls_deserialize_bytes`, and dropping the value.
     pub slice: u64,
-    /// `tls_deserialize` from a slice, or from a `Read` outside, and letting go of the value.
+    /// `tls_deserialize` from a slice, or from a `Read` outside, and dropping the value.
     pub reader: u64,
 }
 
@@ -86,7 +87,7 @@ pub fn measure<C: Clock>(alloc: Global, clock: &C, case: Case) -> Result<Figures
     }
 }
 
-// Times the copy of so many bytes.
+// Times the copy of `count` bytes.
 fn measure_copy<C: Clock>(alloc: Global, clock: &C, count: usize) -> Result<Figures, BenchFault>
     ensures { IfOk result (IsOfCopy count) }
 {
@@ -136,7 +137,7 @@ where
     })
 }
 
-// The same, where the source of the last call doesn't have its bytes at hand.
+// The same, but the source of the last call doesn't have its bytes at hand.
 fn measure_outside<T, C: Clock>(
     alloc: Global,
     clock: &C,

@@ -1,13 +1,13 @@
 //! `tls_codec_bench` times the codecs of `tls_codec_base`.
 //!
-//! With no argument it prints the names of its cases, one a line. With the argument `run` it prints
-//! a line for each case: its name, the bytes of its spelling, and the nanoseconds of a call of
-//! `tls_serialize_detached`, of `tls_serialize_into` a vector that is used again, of
-//! `tls_deserialize_bytes` and of `tls_deserialize` over a slice, with tabs between. In the rows that end
-//! with `outside`, the last one is over a `Cursor`, which has no bytes at hand. A figure is the
-//! median of 15 batches of at least 20 milliseconds. With any other argument it ends with status 1.
+//! With no argument it prints the names of its cases, one a line. With the argument `run` it prints a
+//! line for each case, with tabs between: its name, the bytes of its spelling, and the nanoseconds of a
+//! call of `tls_serialize_detached`, of `tls_serialize_into` a vector that is used again, of
+//! `tls_deserialize_bytes` and of `tls_deserialize` over a slice. In the rows that end with `outside`,
+//! the last one is over a `Cursor`, which has no bytes at hand. A figure is the median of 15 batches of
+//! at least 20 milliseconds. With any other argument it ends with status 1.
 //!
-//! [`figures`] has the figures of a case; what it is timed by stands in `tls_codec_timing`.
+//! [`figures`] has the figures of a case. What times them is in `tls_codec_timing`.
 #![tactic(auto)]
 
 mod figures;

@@ -1,4 +1,4 @@
-// What no clause says: that calls succeed, and figures by a clock that is known.
+// What no clause says: calls succeed, and which figures a known clock gives.
 use crate::figures::{Figures, measure};
 use std::cell::Cell;
 use std::io;

@@ -1,4 +1,4 @@
--- What a byte vector ends as, where a `&mut` to one of its bytes is returned.
+-- What a byte vector ends as, if a `&mut` to one of its bytes is returned.
 use Rattle.std.specs.Prelude.{ℕ}
 use Rattle.std.specs.Borrow.{Lends, Fml, RattleType, MutBor, u8}
 use Rattle.std.specs.Vec.{with_item}

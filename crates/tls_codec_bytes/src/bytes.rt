@@ -1,4 +1,4 @@
-//! [`TlsByteVec`], bytes that it owns, and its own calls.
+//! [`TlsByteVec`], owned bytes, and its own calls.
 ghost use Rattle.std.specs.Prelude.{◌≡◌, ◌<◌, ◌^◌, ◌↔◌, ℕ, [], ◌∷◌, ◌++◌, is_ok, if◌then◌else◌, length, IfErr, IfOk, IsOk, IsTrue, MatchOption, Some, option_copied, slice_get};
 ghost use Rattle.std.specs.Borrow.{sem};
 ghost use Rattle.std.specs.Fn.{CalledAt};
@@ -19,9 +19,9 @@ use tls_codec_base::{LengthField, opaque};
 use tls_codec_vec::collecting::collected;
 use tls_codec_wire::{Error, U24};
 
-/// Bytes, which are spelled behind their number as the length field `F`.
+/// Bytes. Their spelling is their number as the length field `F`, and then the bytes.
 ///
-/// They are compared and hashed as the list of them is.
+/// They are compared and hashed as a list of bytes is.
 ///
 /// ```rust
 /// let id = TlsByteVecU16::from_slice(alloc, &[0x00, 0xaa])?;
@@ -35,16 +35,16 @@ pub struct TlsByteVec<F> {
     field: PhantomData<F>,
 }
 
-/// At most 255 bytes, behind a length of one byte.
+/// At most 255 bytes, after a length of one byte.
 pub type TlsByteVecU8 = TlsByteVec<u8>;
 
-/// At most 65,535 bytes, behind a length of two bytes.
+/// At most 65,535 bytes, after a length of two bytes.
 pub type TlsByteVecU16 = TlsByteVec<u16>;
 
-/// At most 16,777,215 bytes, behind a length of three bytes.
+/// At most 16,777,215 bytes, after a length of three bytes.
 pub type TlsByteVecU24 = TlsByteVec<U24>;
 
-/// At most 4,294,967,295 bytes, behind a length of four bytes.
+/// At most 4,294,967,295 bytes, after a length of four bytes.
 pub type TlsByteVecU32 = TlsByteVec<u32>;
 
 impl<F> TlsByteVec<F> {
@@ -59,7 +59,7 @@ impl<F> TlsByteVec<F> {
         }
     }
 
-    /// No bytes. It takes no memory until the first one is pushed.
+    /// No bytes. It allocates nothing until the first one is pushed.
     pub fn default(alloc: Global) -> TlsByteVec<F>
         ensures { bytes_of result ≡ [] }
     {
@@ -68,7 +68,7 @@ impl<F> TlsByteVec<F> {
 
     /// A copy of these bytes.
     ///
-    /// `OutOfMemory`: there was no memory for it. No bytes ask for none.
+    /// `OutOfMemory`: there was no memory for it. If there are no bytes, nothing is allocated.
     pub fn from_slice(alloc: Global, content: &[u8]) -> Result<TlsByteVec<F>, Error>
         ensures ok { IfOk result (λ v. bytes_of v ≡ content.now) }
         ensures err { IfErr result (λ e. e ≡ OutOfMemory) }
@@ -180,8 +180,8 @@ impl<F> TlsByteVec<F> {
         self.vec.remove(index)
     }
 
-    /// Keeps the bytes at which `keep` returns true, in their order. It is asked once for each byte,
-    /// from the first on.
+    /// Keeps the bytes at which `keep` returns true, in their order. It is called once for each
+    /// byte, from the first on.
     pub fn retain<K: FnMut(&u8) -> bool>(&mut self, keep: K)
         requires { K.IsAlwaysCallable keep }
         ensures { IsFiltered (CalledAt K.FnMut) keep (bytes_of self.old) (bytes_of self.new) }

@@ -31,8 +31,8 @@ impl<F: LengthField> Serialize for TlsByteVec<F> {
         opaque::write::<F, W>(writer, self.as_slice())
     }
 
-    /// `InvalidVectorLength`: there are more bytes than the length field counts. `OutOfMemory`: there
-    /// was none.
+    /// `InvalidVectorLength`: there are more bytes than the length field counts. `OutOfMemory`:
+    /// allocation failed.
     #[inline(always)]
     fn tls_serialize_into(&self, out: &mut Vec<u8>) -> Result<usize, Error> {
         opaque::append::<F>(out, self.as_slice())
@@ -58,7 +58,7 @@ impl<F: LengthField> Deserialize for TlsByteVec<F> {
 impl<F: LengthField> DeserializeBytes for TlsByteVec<F> {
     ghost names = { λ x e. OpaqueCopyRefused F.field e x };
 
-    /// `EndOfStream`: there is no whole length, or behind one of one to four bytes there are fewer
+    /// `EndOfStream`: there is no whole length, or fewer bytes come after a length of one to four
     /// bytes than it declares.
     fn tls_deserialize_bytes(alloc: Global, whole: &[u8]) -> Result<(TlsByteVec<F>, &[u8]), Error> {
         let (copy, rest) = opaque::split_copied::<F>(alloc, whole)?;

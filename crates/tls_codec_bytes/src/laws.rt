@@ -1,5 +1,5 @@
-//! Byte vectors are spelled as bytes behind one to four bytes; what conversions and places give; and that they are
-//! compared and hashed as the lists of their bytes are.
+//! Byte vectors are spelled as bytes after a length of one to four bytes. What conversions and places give. Byte
+//! vectors are compared and hashed as the lists of their bytes are.
 //!
 //! The functions do nothing. Their contracts state this, and so are proved.
 ghost use Rattle.std.specs.Prelude.{◌≡◌, ◌↔◌, ◌<◌, ℕ, IsTrue, List, Some, Vec, length, slice_get};
@@ -53,7 +53,7 @@ pub fn byte_vecs_are_bytes_behind_one_to_four_bytes()
         ↔ fixed_list 4 (number 1) d b v }
 {}
 
-/// Two byte vectors are equal where their bytes are, and are hashed as the slice of their bytes is,
+/// Two byte vectors are equal if their bytes are, and are hashed as the slice of their bytes is,
 /// whatever the length field.
 pub fn byte_vecs_are_compared_by_their_bytes<F>()
     ensures equal { (x y : TlsByteVec F)

@@ -1,7 +1,8 @@
-//! Byte vectors behind a length of one to four bytes (RFC 8446, section 3.4): `opaque` of TLS 1.3, such
+//! Byte vectors after a length of one to four bytes (RFC 8446, section 3.4): `opaque` of TLS 1.3, such
 //! as `opaque session_id<0..32>`.
 //!
-//! Their bytes are moved in bulk. A declared length asks for no memory: room is made as the bytes come.
+//! Their bytes are moved in bulk. A declared length allocates nothing: memory is requested as the bytes
+//! come.
 //!
 //! - [`bytes`]: [`TlsByteVec`] and its own calls, under a name for each width.
 //! - [`coding`]: how it is written and read.

@@ -23,7 +23,7 @@ cut_off {a} {b} {c} {n} form cut e held = cut ∙ ap (λ (k : ℕ). take k b) e 
 pub whole_appended : {f : Format} {v : Tree} {form old new : List ℕ} {n : ℕ} → IsShortest f.spells form v → new ≡ old ++ form → n ≡ length form → Appended f v old new n
 whole_appended {f} {v} {form} p held count = record { form = form; shortest = p; held = held; count = count }
 
--- the form and what stands before it pass the greatest vector
+-- the form and what comes before it pass the greatest vector
 pub form_too_long : {f : Format} {v : Tree} {form old new : List ℕ} → new ≡ old → IsShortest f.spells form v → 2 ^ 63 ≤ length old + length form → AppendRefused f v old new InvalidVectorLength
 form_too_long {f} {v} {form} kept p long = record {
   kept = kept;
@@ -31,7 +31,7 @@ form_too_long {f} {v} {form} kept p long = record {
 }
 
 -- a part is refused: what its format names for it the whole's names for the whole, whose shortest forms are no shorter
--- than the part's behind what stands before it
+-- than the part's after what comes before it
 pub part_refused : {part : Format} {v : Tree} {b c : List ℕ} {e : Error} (whole : Format) (w : Tree) (a d : List ℕ) → AppendRefused part v b c e → d ≡ a → (part.refuses v e → whole.refuses w e)
     → ((s : List ℕ) → IsShortest whole.spells s w → (x : List ℕ) × IsShortest part.spells x v × (length b + length x ≤ length a + length s)) → AppendRefused whole w a d e
 part_refused whole w a d p kept named forms = record {
@@ -50,7 +50,7 @@ part_refused whole w a d p kept named forms = record {
 
 -- ---- vectors of their own
 
--- nothing is appended where no vector is made
+-- nothing is appended if no vector is made
 pub vector_not_appended : {f : Format} {v : Tree} {old new : List ℕ} {e : Error} → new ≡ old → RefusesVector f v e → AppendRefused f v old new e
 vector_not_appended kept p = record {
   kept = kept;
@@ -74,13 +74,13 @@ empty_refused h p = record {
   ];
 }
 
--- ---- what stands behind its length
+-- ---- what comes after its length
 
 -- what is too long has no form
 pub too_long_no_form : {f : Format} {v : Tree} {form : List ℕ} → MeetsLaws f → f.too_long v → IsShortest f.spells form v → ⊥
 too_long_no_form {f} {v} {form} l long p = l.unspelled v InvalidVectorLength (l.long v long) form p.spelled
 
--- and is refused for want of memory, or by a name of the format
+-- and is refused because memory ran out, or by a name of the format
 pub long_refused : {f : Format} {v : Tree} {e : Error} {Passes : Type 0} → MeetsLaws f → f.too_long v → (e ≡ OutOfMemory) ⊎ (f.refuses v e ⊎ ((e ≡ InvalidVectorLength) × Passes)) → (e ≡ OutOfMemory) ⊎ f.refuses v e
 long_refused l long (inl memory) = inl memory
 long_refused l long (inr (inl named)) = inr named
@@ -88,7 +88,7 @@ long_refused {f} {v} l long (inr (inr passes)) = inr (subst (f.refuses v) (sym p
 
 module _ {field : Field} (m : MeetsFieldLaws field) {inside : Format} (l : MeetsLawsInside inside) where
   module _ {sum : Tree → ℕ} {v : Tree} where
-    -- the length stands in the gap before the inside
+    -- the length is in the gap before the inside
     pub counted_appended : {a b c d : List ℕ} {at gap k width n : ℕ} → at ≡ length a → OpenedGap a b gap → Appended inside v b c k → FilledGap field c d at gap width → n ≡ length d - at → Appended (counted_format field sum inside) v a d n
     counted_appended {a} {b} {c} {d} {at} {gap} {k} {width} {n} e o p q h =
         let place : at + gap ≡ length b = omega (arith, e, o.count, ap length o.held, length-append a o.gap) in
@@ -104,7 +104,7 @@ module _ {field : Field} (m : MeetsFieldLaws field) {inside : Format} (l : Meets
           count = omega (arith, h, e, ap length held, length-append a (q.form ++ p.form));
         }
 
-    -- the inside is refused behind its gap
+    -- the inside is refused after its gap
     pub inside_not_appended : {a b c d : List ℕ} {gap : ℕ} {e : Error} → OpenedGap a b gap → IsSafeGap (length a) gap → AppendRefused inside v b c e → d ≡ a → AppendRefused (counted_format field sum inside) v a d e
     inside_not_appended {a} {b} {c} {d} {gap} {e} o safe p kept = record {
       kept = kept;
@@ -157,7 +157,7 @@ module _ {field : Field} (m : MeetsFieldLaws field) {inside : Format} (l : Meets
         }
     gap_not_filled _ is_sum e o p kept q = absurd q
 
--- what stood before a gap is left of a vector whose bytes before it are as they were
+-- what was before a gap is left of a vector whose bytes before it are as they were
 pub kept_before_gap : {f : Format} {v : Tree} {a b c : List ℕ} (d : List ℕ) {at gap k : ℕ} → at ≡ length a → OpenedGap a b gap → Appended f v b c k → take at d ≡ take at c → take (length a) d ≡ a
 kept_before_gap {f} {v} {a} {b} {c} d {at} e o p same =
     let whole : c ≡ a ++ (o.gap ++ p.form) = p.held ∙ ap (λ (u : List ℕ). u ++ p.form) o.held ∙ append_assoc a o.gap p.form in

@@ -8,7 +8,7 @@ use Rattle.tls_codec_grammar.specs.Announced.{capped, content_length, counted_le
 use Rattle.tls_codec_grammar.specs.Decoding.{NoneBegins}
 use Rattle.tls_codec_grammar.specs.laws.NumberLaws.{number_trees_one}
 
--- what is behind a prefix of bytes is bytes
+-- what comes after a prefix of bytes is bytes
 pub AreBytes-right : (a b : List ℕ) → AreBytes (a ++ b) → AreBytes b
 AreBytes-right [] b h = h
 AreBytes-right (x ∷ xs) b h = AreBytes-right xs b h.1
@@ -69,7 +69,7 @@ bytes_announced width c fits =
 pub sized_short : (n : ℕ) (inside : Grammar) (x : List ℕ) → length x < n → NoneBegins (sized n inside) x
 sized_short n inside x lt v rest b = omega (arith, ap length b.whole, length-append b.front rest, b.spelled.0)
 
--- behind a length field, bytes are spelled as the field's spelling of their number, and themselves
+-- after a length field, bytes are spelled as the field's spelling of their number, and themselves
 pub bytes_counted : (spells : List ℕ → ℕ → Type 0) (d : Direction) (s c : List ℕ) → AreBytes c → (counted spells (content (number 1)) d s (number_trees c) ↔ Counted spells s (λ u. u ≡ c))
 bytes_counted spells d s c bytes = (
   λ p. record { count = p.count; inside = p.inside; whole = p.whole; counts = p.counts; is_inside = content_same_bytes d p.inside c p.is_inside },

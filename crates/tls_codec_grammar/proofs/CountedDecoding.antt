@@ -26,13 +26,13 @@ module _ {field : Field} (m : MeetsFieldLaws field) (inside : Grammar) where
     spelled = record { count = p.front; inside = b.front; whole = refl; counts = subst (field.spells p.front) (sym b.spelled.0) p.spelled; is_inside = b.spelled.1 };
   }
 
-  -- where no length begins, nothing counted does
+  -- if no length begins, nothing counted does
   pub counted_none_at_count : (x : List ℕ) → NoNumberBegins field.spells x → NoneBegins (counted field.spells inside) x
   counted_none_at_count x none v rest b =
       let p = b.spelled in
       none (length p.inside) (p.inside ++ rest) (record { front = p.count; whole = b.whole ∙ ap (λ (u : List ℕ). u ++ rest) p.whole ∙ append_assoc p.count p.inside rest; spelled = p.counts })
 
-  -- where so many bytes of the inside don't begin behind the length, nothing counted does
+  -- if so many bytes of the inside don't begin after the length, nothing counted does
   pub counted_none_at_inside : (x behind : List ℕ) (n : ℕ) (a : List ℕ) → x ≡ a ++ behind → field.spells a n → NoneBegins (sized n inside) behind → NoneBegins (counted field.spells inside) x
   counted_none_at_inside x behind n a e f none v rest b =
       let p = b.spelled in
@@ -78,7 +78,7 @@ module _ {field : Field} (m : MeetsFieldLaws field) (inside : Grammar) where
 
   -- ---- the field is refused
 
-  -- the field is refused where the bytes begin with no length
+  -- the field is refused if the bytes begin with no length
   pub count_refuses : {lean : Bool} (x : List ℕ) (e : Error) → field.refuses x e → Refuses (counted field.spells inside) lean x e
   count_refuses = number_refuses (λ x e p. counted_none_at_count x (m.none x e p)) m.named
 

@@ -44,11 +44,11 @@ module _ {field : Field} (m : MeetsFieldLaws field) {inside : Format} (l : Meets
   counted_bytes : {v : Tree} {a c : List ℕ} → (p : CountsInside field.spells (inside.announced v) a) → inside.spells Writing c v → p.n ≡ length c
   counted_bytes {v} {a} {c} p q = omega (arith, p.is_announced, p.fits, l.spelled.announces c v q)
 
-  -- the shortest form is the inside behind the field for it
+  -- the shortest form is the field, and then the inside that it counts
   pub counted_split : {v : Tree} (s : List ℕ) → IsShortest (counted field.spells inside.spells) s v → (c : List ℕ) × (a : List ℕ) × (s ≡ a ++ c) × IsShortest inside.spells c v × field.spells a (length c)
   counted_split {v} s q = (q.spelled.inside, q.spelled.count, q.spelled.whole, alone_inside l.spelled q.spelled.inside v q.spelled.is_inside, q.spelled.counts)
 
-  -- which is the one that counts what is inside
+  -- and that field is the one that counts what is inside
   pub counted_form : {v : Tree} {a : List ℕ} → CountsInside field.spells (inside.announced v) a → (s : List ℕ) → IsShortest (counted field.spells inside.spells) s v → (c : List ℕ) × (s ≡ a ++ c) × IsShortest inside.spells c v
   counted_form {v} {a} p s q =
       let h = counted_split s q in

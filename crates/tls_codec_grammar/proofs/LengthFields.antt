@@ -30,14 +30,14 @@ slice_form P b k width le p =
     let size : length (drop k b) ≡ 8 - k = omega (arith, width, parts, ap length (take-append-drop k b), length-take-le k b (omega (arith, width, le))) in
     subst P (sym (ap (λ (n : ℕ). take n (drop k b)) (sym size) ∙ take-length (drop k b))) p
 
--- the first bytes behind a place
+-- the first bytes after a place
 part_behind : (at w : ℕ) (a : List ℕ) → at + w ≤ length a → (take (at + w) a ≡ take at a ++ take w (drop at a)) × (length (take w (drop at a)) ≡ w)
 part_behind at w a le =
     let parts = length-append (take at a) (drop at a) in
     let rest : w ≤ length (drop at a) = omega (arith, le, parts, ap length (take-append-drop at a), length-take-le at a (omega (arith, le))) in
     (take-add at w a, length-take-le w (drop at a) rest)
 
--- bytes more stand behind it
+-- more bytes come after it
 pub gap_widened : {a b : List ℕ} {at gap more width : ℕ} → FitGap a b (at + gap) 0 more → at + gap ≤ length a → width ≡ gap + more → FitGap a b at gap width
 gap_widened {a} {b} {at} {gap} {more} {width} p le e =
     let part = part_behind at gap a le in

@@ -1,4 +1,4 @@
--- What a refused number is to a value that begins with one.
+-- What a refused number means for a value that begins with one.
 use Rattle.std.proofs.Common.{◌≡◌, ◌≢◌, ◌<◌, List, ℕ, length, Bool, true, inl, inr, ap, refl, subst, arith, length-append}
 use Rattle.tls_codec_wire.specs.Counts.{Counts}
 use Rattle.tls_codec_wire.specs.Numbers.{NumberNotRead}
@@ -30,7 +30,7 @@ none_in_fewer : (k : ℕ) (x : List ℕ) → length x < k → NoneBegins (number
 none_in_fewer k x short (Number n) rest b = omega (arith, short, b.spelled.width, ap length b.whole, length-append b.front rest)
 none_in_fewer k x short _ rest b = absurd b.spelled
 
--- where k bytes are not read, no number of as many is
+-- if k bytes are not read, no number of as many is
 digits_not_read : (k : ℕ) (e : Error) (x : List ℕ) (old new : Counts) → ReadRefused k x old new e → RefusesSource (number k) true x old new e
 digits_not_read k (DecodingError text) x old new p = record { cause = inr (inl p.1); memory = λ h. absurd cc }
 digits_not_read k EndOfStream x old new p = record { cause = inl (none_in_fewer k x p); memory = λ h. absurd cc }

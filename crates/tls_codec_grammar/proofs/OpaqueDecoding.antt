@@ -1,4 +1,4 @@
--- Bytes behind a length field, read from a slice and from a source.
+-- Bytes after a length field, read from a slice and from a source.
 use Rattle.std.proofs.Common.{◌≡◌, ℕ, ◌<◌, List, ◌++◌, length, take, drop, take-append-drop, get_or, Bool, false, inl, ◌⊎◌, inr, refl, sym, ap, subst, ◌∙◌, arith}
 use Rattle.tls_codec_wire.specs.Counts.{Counts, NoneFell}
 use Rattle.tls_codec_wire.specs.Device.{GivesInOrder, NoCountFalls}
@@ -25,7 +25,7 @@ use Rattle.tls_codec_wire.proofs.Refused.{refused_later, refused_so}
 module _ {field : Field} (m : MeetsFieldLaws field) where
   -- ---- from a slice
 
-  -- where the length says so, the front behind it is the content
+  -- if the length says so, the front after it is the content
   pub bytes_begin : (x : List ℕ) {behind c rest : List ℕ} {n : ℕ} → ((i : ℕ) → get_or x i 0 < 256) → BeginsNumber field.spells x n behind → c ≡ take n behind → rest ≡ drop n behind → length c ≡ n → Begins (counted_bytes_format field).spells x (number_trees c) rest
   bytes_begin x {behind} {c} {rest} {n} small p front back width =
       let whole : behind ≡ c ++ rest = sym (take-append-drop n behind) ∙ ap (λ (u : List ℕ). u ++ drop n behind) (sym front) ∙ ap (λ (u : List ℕ). c ++ u) (sym back) in
@@ -33,7 +33,7 @@ module _ {field : Field} (m : MeetsFieldLaws field) where
       let content_small : AreBytes c = AreBytes-left c rest (subst AreBytes whole behind_small) in
       counted_begins m (content (number 1)) p (record { front = c; whole = whole; spelled = (width, bytes_content Reading c content_small) })
 
-  -- what is cut off begins with no bytes behind their length
+  -- what is cut off begins with no bytes after their length
   none_at_cut : (x : List ℕ) → IsCutOff field x → NoneBegins (counted_bytes_format field).spells x
   none_at_cut x p = counted_none_at_inside m (content (number 1)) x p.behind p.declared p.begins.front p.begins.whole p.begins.spelled (sized_short p.declared (content (number 1)) p.behind p.short)
 

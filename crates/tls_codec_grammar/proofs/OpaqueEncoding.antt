@@ -1,4 +1,4 @@
--- Bytes that are sent behind a length field.
+-- Bytes that are sent after a length field.
 use Rattle.std.proofs.Common.{◌≡◌, ℕ, ◌+◌, List, [], ◌∷◌, ◌++◌, length, length-append, refl, arith}
 use Rattle.std.specs.Io.KnownBytes.{Appends}
 use Rattle.tls_codec_wire.specs.Counts.{NoneFell}
@@ -21,7 +21,7 @@ use Rattle.tls_codec_grammar.proofs.ByteContents.{bytes_length, bytes_shortest}
 use Rattle.tls_codec_grammar.proofs.CountedEncoding.{field_breaks_inside, field_sends}
 use Rattle.tls_codec_grammar.proofs.Sent.{breaks_whole}
 
--- bytes as what stands behind a length field
+-- bytes as what comes after a length field
 pub byte_contents_meet : MeetsLawsInside (content_format (number_format 1))
 byte_contents_meet = content_meets (number_meets 1 (omega arith))
 
@@ -39,13 +39,13 @@ module _ {field : Field} (m : MeetsFieldLaws field) (c : List ℕ) (small : AreB
         let sent : Sends (content_format (number_format 1)) (number_trees c) sink mid new (capped (length c)) = record { form = c; shortest = bytes_shortest c small; held = held; count = refl; fell = later } in
         field_sends m byte_contents_meet (bytes_length c) p fell sent (omega (arith, count))
 
-    -- their length was sent, and a beginning of them
+    -- their length was sent, and then a prefix of them
     pub bytes_broken : {old new : S} (mid : S) {width : ℕ} {e : Error} → SentNumber field.spells (sink.received old) (sink.received mid) (length c) width → NoneFell (sink.counts old) (sink.counts mid) → Received (sink.received mid) (sink.received new) c → WriteRefused e (sink.counts mid) (sink.counts new) → NoneFell (sink.counts mid) (sink.counts new)
         → Breaks (counted_bytes_format field) (number_trees c) sink old new e
     bytes_broken {old} {new} mid {width} {e} p fell received refused later =
         field_breaks_inside m byte_contents_meet (bytes_length c) p fell (breaks_whole (content_format (number_format 1)) _ c (bytes_shortest c small) sink mid new e received refused later)
 
-  -- bytes behind their length, in a vector
+  -- bytes after their length, in a vector
   pub bytes_appended : {old new : List ℕ} (form : List ℕ) → field.spells form (length c) → {n : ℕ} → new ≡ old ++ (form ++ c) → n ≡ length form + length c → Appended (counted_bytes_format field) (number_trees c) old new n
   bytes_appended {old} {new} form counts {n} held count = record {
     form = form ++ c;

@@ -22,7 +22,7 @@ use Rattle.tls_codec_grammar.proofs.Sent.{breaks_whole}
 
 -- ---- reading
 
--- where no spelling of a number begins, none of a value does
+-- if no spelling of a number begins, none of a value does
 none_begins : (x : List ℕ) → NoNumberBegins Varint x → NoneBegins varint x
 none_begins x none (Number n) rest b = none n rest (record { front = b.front; whole = b.whole; spelled = b.spelled })
 none_begins x none _ rest b = absurd b.spelled

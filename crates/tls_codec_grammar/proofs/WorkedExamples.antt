@@ -51,7 +51,7 @@ no_great_length n p = below_none (2 ^ 30) (0xc0 ∷ 0 ∷ 0 ∷ 0 ∷ 0x40 ∷ 0
   cause = inr (omega arith);
 }) n [] (record { front = 0xc0 ∷ 0 ∷ 0 ∷ 0 ∷ 0x40 ∷ 0 ∷ 0 ∷ 0 ∷ []; whole = refl; spelled = p })
 
--- in any width 0 would have two spellings, which a length field has not
+-- in any width 0 would have two spellings, and a length field allows one at most
 pub no_field_of_any_width : (width : ℕ → ℕ) → IsLengthField LaidOut width → ⊥
 no_field_of_any_width width l =
     let one : LaidOut (0 ∷ []) 0 = (0, 0, record { top = omega arith; low = omega arith; first = refl; width = refl; bytes = tt; number = refl }) in

@@ -31,7 +31,7 @@ pub record BeginsSome (spells : Grammar) (x : List ℕ) : Type 0 where
 abbrev pub NoneBegins : Grammar → List ℕ → Type 0
 NoneBegins spells x = (v : Tree) (rest : List ℕ) → Begins spells x v rest → ⊥
 
--- why x is refused: no prefix of it is a spelling, or there was no memory, for which a lean type never asks
+-- why x is refused: no prefix of it is a spelling, or there was no memory; a lean type never requests any
 pub record Refuses (spells : Grammar) (lean : Bool) (x : List ℕ) (e : Error) : Type 0 where
   pub cause : NoneBegins spells x ⊎ (e ≡ OutOfMemory)
   pub memory : e ≡ OutOfMemory → lean ≡ false
@@ -49,7 +49,7 @@ pub record LeavesBytes (spells : Grammar) (x : List ℕ) : Type 0 where
   pub begins : Begins spells x value rest
   pub some : 0 < length rest
 
--- why x is refused as a whole: it is no spelling, or there was no memory, for which a lean type never asks. Where a
+-- why x is refused as a whole: it is no spelling, or there was no memory; a lean type never requests any. If a
 -- proper prefix of it is a spelling, that is what is returned, or that there was no memory.
 pub record RefusesWhole (spells : Grammar) (lean : Bool) (x : List ℕ) (e : Error) : Type 0 where
   pub cause : NoneSpelled spells x ⊎ (e ≡ OutOfMemory)
@@ -64,14 +64,14 @@ pub record GaveSpelling {S : Type 0} (given : S → List ℕ → S → Type 0) (
   pub held : given old front new
   pub spelled : spells Reading front v
 
--- the bytes that were to come, where they are told, begin with a spelling of v, and the rest is to come now
+-- the bytes that were to come, if they are told, begin with a spelling of v, and the rest is to come now
 abbrev pub ComesFirst : Grammar → Option (List ℕ) → Tree → Option (List ℕ) → Type 0
 ComesFirst spells None v new = ⊤
 ComesFirst spells (Some x) v None = ⊥
 ComesFirst spells (Some x) v (Some rest) = Begins spells x v rest
 
--- why a source is refused of which x was seen: no prefix of x is a spelling, a fault of the source was counted, or there
--- was no memory, which a lean type returns only where the source had none
+-- why a source is refused, of which x was seen: no prefix of x is a spelling, a fault of the source was counted, or
+-- there was no memory; a lean type returns that only if the source had none
 pub record RefusesSource (spells : Grammar) (lean : Bool) (x : List ℕ) (old new : Counts) (e : Error) : Type 0 where
   pub cause : NoneBegins spells x ⊎ (FaultIsCounted old new ⊎ (e ≡ OutOfMemory))
   pub memory : e ≡ OutOfMemory → (lean ≡ false) ⊎ RoseBy 1 old.shortages new.shortages

@@ -24,8 +24,8 @@ pub record Sends {S : Type 0} (f : Format) (v : Tree) (sink : Ghosts S) (old new
   pub count : n ≡ capped (length form)
   pub fell : NoneFell (sink.counts old) (sink.counts new)
 
--- the sink kept what it had, and where v has a shortest form it received a beginning of that; the error is tied to a
--- count of the sink, or is one that the format names for v
+-- the sink kept what it had, and if v has a shortest form it received a prefix of that; the error is tied to a count
+-- of the sink, or is one that the format names for v
 pub record Breaks {S : Type 0} (f : Format) (v : Tree) (sink : Ghosts S) (old new : S) (e : Error) : Type 0 where
   pub sent : List ℕ
   pub held : Appends (sink.received old) (sink.received new) sent
@@ -60,20 +60,20 @@ abbrev pub Makes : Format → Tree → Result (Vec ℕ Global) Error → Type 0
 Makes f v (Ok bytes) = IsShortest f.spells bytes.items v
 Makes f v (Err e) = RefusesVector f v e
 
--- ---- behind what a vector has
+-- ---- after what a vector has
 
--- the shortest form of v stands behind the old bytes, and has n bytes
+-- the shortest form of v comes after the old bytes, and has n bytes
 pub record Appended (f : Format) (v : Tree) (old new : List ℕ) (n : ℕ) : Type 0 where
   pub form : List ℕ
   pub shortest : IsShortest f.spells form v
   pub held : new ≡ old ++ form
   pub count : n ≡ length form
 
--- behind so many bytes, each shortest form of v passes `isize::MAX` bytes
+-- after so many bytes, each shortest form of v passes `isize::MAX` bytes
 abbrev pub PassesVectorBehind : ℕ → Grammar → Tree → Type 0
 PassesVectorBehind n spells v = (form : List ℕ) → IsShortest spells form v → 2 ^ 63 ≤ n + length form
 
--- the bytes are the old ones: there was no memory, the format names the error for v, or its shortest form behind them
+-- the bytes are the old ones: there was no memory, the format names the error for v, or its shortest form after them
 -- passes the greatest vector
 pub record AppendRefused (f : Format) (v : Tree) (old new : List ℕ) (e : Error) : Type 0 where
   pub kept : new ≡ old

@@ -1,4 +1,4 @@
--- Length fields: what stands before a content and says how many bytes that has.
+-- Length fields: what comes before a content and says how many bytes the content has.
 use Rattle.std.specs.Prelude.{◌≡◌, ◌+◌, ◌-◌, ◌^◌, ◌<◌, ◌≤◌, ◌⊎◌, ℕ, List, ◌++◌, length, take, drop, codes, ⊤}
 use Rattle.tls_codec_wire.specs.Digits.{Digits}
 use Rattle.tls_codec_wire.specs.Numbers.{BeginsNumber}
@@ -17,7 +17,7 @@ pub record Field : Type 1 where
   pub limit : ℕ
   -- why bytes begin with no spelling, by the error that says so
   pub refuses : List ℕ → Error → Type 0
-  -- which errors name a slice that has fewer bytes behind the field than it declares, where bytes are not read one by one
+  -- which errors name a slice that has fewer bytes after the field than it declares, if bytes are not read one by one
   pub cut_off : Error → Type 0
 
 -- a variable-length integer of at most 30 bits (RFC 9420, section 2.1.2)
@@ -41,7 +41,7 @@ fixed_field k = record { spells = Digits k; width = λ n. k; limit = 256 ^ k; re
 
 -- ---- the content
 
--- x begins with a length, and has fewer bytes behind it
+-- x begins with a length, and fewer bytes come after it
 pub record IsCutOff (field : Field) (x : List ℕ) : Type 0 where
   pub declared : ℕ
   pub behind : List ℕ
@@ -50,33 +50,33 @@ pub record IsCutOff (field : Field) (x : List ℕ) : Type 0 where
 
 -- ---- to a vector
 
--- the spelling of the number of bytes behind a gap stands in its place, of so many bytes; the gap began at a place
--- and had a width
+-- the spelling of the number of bytes after a gap is in the place of the gap, of so many bytes; the gap began at a
+-- place and had a width
 pub record FilledGap (field : Field) (old new : List ℕ) (at gap width : ℕ) : Type 0 where
   pub form : List ℕ
   pub spelled : field.spells form (length old - (at + gap))
   pub held : new ≡ take at old ++ (form ++ drop (at + gap) old)
   pub count : width ≡ length form
 
--- why a gap before n bytes is not filled: none holds the length, the vector would pass `isize::MAX` bytes behind so many
+-- why a gap before n bytes is not filled: none holds the length, the vector would pass `isize::MAX` bytes after so many
 -- bytes, or there was no memory
 abbrev pub GapRefused : Field → Error → ℕ → ℕ → Type 0
 GapRefused field InvalidVectorLength at n = (field.limit ≤ n) ⊎ (2 ^ 63 ≤ at + field.width n + n)
 GapRefused field OutOfMemory at n = ⊤
 GapRefused field _ at n = ⊥
 
--- so many bytes stand behind the old ones
+-- so many bytes come after the old ones
 pub record OpenedGap (old new : List ℕ) (width : ℕ) : Type 0 where
   pub gap : List ℕ
   pub held : new ≡ old ++ gap
   pub count : length gap ≡ width
 
--- the gap at a place has another width, and what stood before and behind it does so now
+-- the gap at a place has another width; what came before and after it does so now
 pub record FitGap (old new : List ℕ) (at gap width : ℕ) : Type 0 where
   pub between : List ℕ
   pub held : new ≡ take at old ++ (between ++ drop (at + gap) old)
   pub count : length between ≡ width
 
--- a gap behind so many bytes that can't be what passes the greatest vector, since no field counts so much
+-- a gap after so many bytes that can't be what passes the greatest vector, since no field counts so much
 abbrev pub IsSafeGap : ℕ → ℕ → Type 0
 IsSafeGap at gap = (gap ≡ 0) ⊎ ((gap ≤ 8) × (at ≤ 2 ^ 61))

@@ -74,7 +74,7 @@ pair_format first second = fields_format first (fields_format second nothing_for
 abbrev pub triple_format : (first second third : Format) → Format
 triple_format first second third = fields_format first (fields_format second (fields_format third nothing_format))
 
--- ---- what stands behind a length field
+-- ---- what comes after a length field
 
 -- an element's errors are handed on
 abbrev pub content_refuses : (Tree → Error → Type 0) → Tree → Error → Type 0
@@ -109,7 +109,7 @@ counted_format field sum inside = record {
   too_long = λ v. field.limit ≤ sum v;
 }
 
--- elements behind any length field
+-- elements after any length field
 abbrev pub counted_list_format : Field → Format → Format
 counted_list_format field element = counted_format field (content_sum element.announced) (content_format element)
 
@@ -119,7 +119,7 @@ list_format element = counted_list_format variable_field element
 abbrev pub fixed_list_format : ℕ → Format → Format
 fixed_list_format k element = counted_list_format (fixed_field k) element
 
--- bytes behind any length field
+-- bytes after any length field
 abbrev pub counted_bytes_format : Field → Format
 counted_bytes_format field = counted_list_format field (number_format 1)
 

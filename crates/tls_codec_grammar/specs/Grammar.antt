@@ -4,8 +4,8 @@ use Rattle.tls_codec_wire.specs.Digits.{AreBytes, Digits}
 use Rattle.tls_codec_wire.specs.Varint.{Varint, VectorLength}
 use Rattle.tls_codec_grammar.specs.Tree.{Tree, Number, Empty, Join, number_trees}
 
--- There are two grammars, in one definition with a switch: the one by which bytes are read, and the wider one by
--- which they are written. They differ in `Admits` alone (the crate's rule).
+-- There are two grammars, in one definition with a switch: bytes are read by one, and written by the other,
+-- which is wider. They differ in `Admits` alone (the crate's rule).
 pub data Direction : Type 0 where
   Reading : Direction
   Writing : Direction
@@ -39,7 +39,7 @@ array k d b v = Itself k b v
 
 -- ---- options (the crate's rule; RFC 9420, section 2.1.1)
 
--- the byte 0 spells no payload, and the byte 1 with a spelling of the payload behind it spells one
+-- the byte 0 spells no payload, and the byte 1 with a spelling of the payload after it spells one
 abbrev pub option : Grammar → Grammar
 option payload d b (Number n) = ⊥
 option payload d b Empty = b ≡ 0 ∷ []
@@ -88,7 +88,7 @@ content element d c (Number n) = ⊥
 content element d c Empty = c ≡ []
 content element d c (Join v vs) = Row c (λ s. element d s v × Admits d s) (λ s. content element d s vs)
 
--- a length field, and behind it what it counts, in bytes
+-- a length field, and after it what it counts, in bytes
 pub record Counted (field : List ℕ → ℕ → Type 0) (b : List ℕ) (Inside : List ℕ → Type 0) : Type 0 where
   pub count : List ℕ
   pub inside : List ℕ
@@ -99,15 +99,15 @@ pub record Counted (field : List ℕ → ℕ → Type 0) (b : List ℕ) (Inside 
 abbrev pub counted : (List ℕ → ℕ → Type 0) → Grammar → Grammar
 counted field inside d b v = Counted field b (λ c. inside d c v)
 
--- n bytes of what may stand behind a length field
+-- n bytes of what may come after a length field
 abbrev pub sized : ℕ → Grammar → Grammar
 sized n inside d c v = (length c ≡ n) × inside d c v
 
--- a list behind a variable-length length (RFC 9420, section 2.1.2)
+-- a list after a variable-length length (RFC 9420, section 2.1.2)
 abbrev pub list : Grammar → Grammar
 list element = counted VectorLength (content element)
 
--- a list behind a length of k bytes (RFC 8446, section 3.4)
+-- a list after a length of k bytes (RFC 8446, section 3.4)
 abbrev pub fixed_list : ℕ → Grammar → Grammar
 fixed_list k element = counted (Digits k) (content element)
 

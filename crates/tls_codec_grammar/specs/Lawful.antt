@@ -20,8 +20,8 @@ pub record IsLawful (spells : Grammar) (announced : Tree → ℕ) : Type 0 where
   -- the announced length is that of the spelling
   pub announces : (s : List ℕ) (v : Tree) → spells Writing s v → announced v ≡ capped (length s)
 
--- The same laws for what stands behind a length field, which says where it ends: there only one value is asked of
--- one byte list.
+-- The same laws for what comes after a length field, which says where it ends. There the laws ask only that one
+-- byte list has one value.
 pub record IsLawfulInside (inside : Grammar) (announced : Tree → ℕ) : Type 0 where
   pub same : (c : List ℕ) (v w : Tree) → inside Reading c v → inside Reading c w → v ≡ w
   pub alone : (c d : List ℕ) (v : Tree) → inside Writing c v → inside Writing d v → c ≡ d
@@ -34,8 +34,8 @@ pub record IsLengthField (field : List ℕ → ℕ → Type 0) (width : ℕ → 
   pub alone : (a b : List ℕ) (n : ℕ) → field a n → field b n → a ≡ b
   pub measures : (a : List ℕ) (n : ℕ) → field a n → width n ≡ length a
 
--- The laws of a length field with its limit, which memory can't pass: each number below it has a spelling, and no other;
--- and bytes that it refuses begin with no spelling.
+-- The laws of a length field with its limit, which memory can't pass: each number below it has a spelling, and no
+-- other; and bytes that it refuses begin with no spelling.
 pub record MeetsFieldLaws (field : Field) : Type 0 where
   pub counts : IsLengthField field.spells field.width
   pub each : (n : ℕ) → n < field.limit → (b : List ℕ) × field.spells b n
@@ -53,7 +53,7 @@ pub record MeetsLaws (f : Format) : Type 0 where
   pub not_memory : (v : Tree) → f.refuses v OutOfMemory → ⊥
   pub long : (v : Tree) → f.too_long v → f.refuses v InvalidVectorLength
 
--- The same for what stands behind a length field.
+-- The same for what comes after a length field.
 pub record MeetsLawsInside (f : Format) : Type 0 where
   pub spelled : IsLawfulInside f.spells f.announced
   pub unspelled : (v : Tree) (e : Error) → f.refuses v e → HasNoSpelling f.spells v

@@ -1,4 +1,4 @@
--- Why bytes and texts behind a length field are refused.
+-- Why bytes and texts after a length field are refused.
 use Rattle.std.specs.Prelude.{◌≡◌, ◌⊎◌, List, ℕ, codes, IsUtf8, ⊤}
 use Rattle.tls_codec_wire.specs.Counts.{Counts}
 use Rattle.tls_codec_wire.specs.Transfer.{IsReadFailure}
@@ -19,7 +19,7 @@ OpaqueRefused field e x = field.refuses x e ⊎ (field.cut_off e × IsCutOff fie
 abbrev pub OpaqueCopyRefused : Field → Error → List ℕ → Type 0
 OpaqueCopyRefused field e x = ((e ≡ OutOfMemory) × BeginsSome (counted_bytes_format field).spells x) ⊎ OpaqueRefused field e x
 
--- why they are not read from a source of which x was seen: it failed, there was no memory, x ends within a length or
+-- why they are not read from a source: x was seen of it; it failed, there was no memory, x ends within a length or
 -- within what it declares, or the length is refused
 abbrev pub OpaqueSourceRefused : Field → List ℕ → Counts → Counts → Error → Type 0
 OpaqueSourceRefused field x old new (DecodingError text) = IsReadFailure text old new
@@ -27,7 +27,7 @@ OpaqueSourceRefused field x old new OutOfMemory = ⊤
 OpaqueSourceRefused field x old new EndOfStream = field.refuses x EndOfStream ⊎ IsCutOff field x
 OpaqueSourceRefused field x old new e = field.refuses x e
 
--- x begins with bytes behind their length that are no UTF-8
+-- x begins with a length, and then bytes that are not UTF-8
 pub record IsNoText (x : List ℕ) : Type 0 where
   pub content : List ℕ
   pub rest : List ℕ
@@ -40,7 +40,7 @@ abbrev pub TextRefused : Error → List ℕ → Type 0
 TextRefused e x =
     ((e ≡ OutOfMemory) × BeginsSome text x) ⊎ (OpaqueRefused variable_field e x ⊎ (Says (codes "invalid utf8") e × IsNoText x))
 
--- why a text is not read from a source of which x was seen
+-- why a text is not read from a source, of which x was seen
 abbrev pub TextSourceRefused : List ℕ → Counts → Counts → Error → Type 0
 TextSourceRefused x old new e =
     OpaqueSourceRefused variable_field x old new e ⊎ (Says (codes "invalid utf8") e × IsNoText x)

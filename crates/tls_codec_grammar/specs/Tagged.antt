@@ -1,4 +1,4 @@
--- A tag, and behind it the parts of the variant that has it (RFC 8446, section 3.8).
+-- A tag, and after it the parts of the variant that has it (RFC 8446, section 3.8).
 use Rattle.std.specs.Prelude.{◌≡◌, ◌+◌, ◌==◌, ◌&&◌, ◌||◌, ℕ, List, Bool, true, false}
 use Rattle.tls_codec_wire.specs.declared.error.Error.{Error}
 use Rattle.tls_codec_grammar.specs.Tree.{Tree, Number, Join}
@@ -10,7 +10,7 @@ use Rattle.tls_codec_grammar.specs.Lawful.{MeetsLaws}
 pub record Variants : Type 1 where
   -- which tags there are
   pub has : ℕ → Bool
-  -- what stands behind each tag
+  -- what comes after each tag
   pub parts : ℕ → Format
   -- decoders take no memory, whatever the tag is
   pub lean : Bool
@@ -27,7 +27,7 @@ abbrev pub either_format : Bool → Format → Format → Format
 either_format true these those = these
 either_format false these those = those
 
--- the variant of this tag has these parts, and what stands behind another tag is told by the others
+-- the variant of this tag has these parts; the others tell what comes after another tag
 abbrev pub variant : ℕ → Format → Variants → Variants
 variant own parts others = record {
   has = λ tag. (tag == own) || others.has tag;
@@ -59,8 +59,8 @@ tagged_format k variants = record {
   too_long = λ v. ⊥;
 }
 
--- The laws of variants: what stands behind each tag meets the laws; no bytes stand behind a tag that isn't there; and
--- where decoders of one variant take memory, not all of them take none.
+-- The laws of variants: what comes after each tag meets the laws; no bytes come after a tag that isn't there; and if
+-- decoders of one variant take memory, not all of them take none.
 pub record MeetVariantLaws (variants : Variants) : Type 0 where
   pub parts : (tag : ℕ) → MeetsLaws (variants.parts tag)
   pub unknown : (tag : ℕ) → variants.has tag ≡ false → (d : Direction) (s : List ℕ) (v : Tree) → (variants.parts tag).spells d s v → ⊥

@@ -32,7 +32,7 @@ pub fn split_digits<const K: usize>(bytes: &[u8]) -> Result<([u8; K], &[u8]), Er
     Ok((*digits, rest))
 }
 
-/// The next digits to come. Just these are taken.
+/// The next digits to come. Only these are taken.
 ///
 /// `EndOfStream`: fewer bytes come. `DecodingError("read failed")` and `OutOfMemory` are the source's, as
 /// in [`read_exactly`].

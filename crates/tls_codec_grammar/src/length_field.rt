@@ -1,7 +1,7 @@
-//! Length fields: what stands before a content and says how many bytes that has (RFC 8446, section
-//! 3.4; RFC 9420, section 2.1.2).
+//! Length fields: what comes before a content and says how many bytes the content has (RFC 8446, section 3.4;
+//! RFC 9420, section 2.1.2).
 //!
-//! [`TlsVarInt`] is one, up to 2^30 - 1, and so are `u8`, `u16`, `U24` and `u32`. What stands behind a length goes
+//! [`TlsVarInt`] is one, up to 2^30 - 1, and so are `u8`, `u16`, `U24` and `u32`. What comes after a length goes
 //! through calls that are generic over the field: [`opaque`](crate::opaque) for bytes, and `counted` of
 //! `tls_codec_base` for elements.
 ghost use Rattle.std.specs.Prelude.{◌≡◌, ◌≤◌, drop, MatchOption, IfErr, IfOk};
@@ -21,9 +21,9 @@ mod writing;
 pub(crate) use writing::append_both;
 pub use writing::{fill_gap, open_gap, write_length};
 
-/// What stands before a content and says how many bytes that has.
+/// What comes before a content and says how many bytes the content has.
 ///
-/// The type stands for the form of a length, and no value of it is made. A user's own form of lengths
+/// The type stands for the form of a length, and no value of it is made. Your own form of lengths
 /// implements this too.
 ///
 /// ```rust
@@ -32,26 +32,26 @@ pub use writing::{fill_gap, open_gap, write_length};
 /// assert_eq!(u16::width(3), 2);
 /// ```
 pub trait LengthField {
-    // Which bytes spell which length, how many of them, and up to where.
+    // Which bytes spell which length, how many of them, and up to which limit.
     ghost field: { Field };
 
-    /// How many bytes a length has. Announced lengths count it also where the length passes the greatest
-    /// one: then it is whatever the field says.
+    /// How many bytes a length has. Announced lengths also count it if the length passes the greatest
+    /// one; then it is whatever the field says.
     fn width(length: usize) -> usize
         ensures { result ≡ field.width length };
 
-    /// The bytes of a length, which are what stands in these eight from this place on; none where the
-    /// length passes the greatest one.
+    /// The bytes of a length: those of these eight from this place on. It is none if the length
+    /// passes the greatest one.
     fn form(length: usize) -> Option<([u8; 8], usize)>
         ensures { MatchOption result (field.limit ≤ length)
             (λ form. (form.1 ≤ 8) × field.spells (drop form.1 form.0) length) };
 
-    /// Reads a length. Just its bytes are taken.
+    /// Reads a length. Only its bytes are taken.
     ///
     /// `DecodingError("read failed")` and `OutOfMemory` are the source's, as in
     /// [`read_exactly`](tls_codec_wire::read_exactly). Every other refusal is the field's: `EndOfStream`
-    /// where the bytes end within a length, and of a [`TlsVarInt`] `InvalidVectorLength`, where they are
-    /// more than it needs, or it is above the greatest.
+    /// if the bytes end within a length. Of a [`TlsVarInt`] it is also `InvalidVectorLength`, if the
+    /// length has more bytes than it needs, or is above the greatest.
     fn read_length<R: Source>(src: &mut R) -> Result<usize, Error>
         ensures gave { Gave R.given src.old src.new }
         ensures ok { IfOk result (λ n. GaveNumber R.given field.spells src.old src.new n) }
@@ -67,8 +67,8 @@ pub trait LengthField {
             (λ found. BeginsNumber field.spells bytes.now found.0 found.1.now) }
         ensures err { IfErr result (field.refuses bytes.now) };
 
-    /// How bytes are refused that are fewer than the field before them declares, where they are taken
-    /// at once and not as elements.
+    /// How bytes are refused if there are fewer than the field before them declares, and they are
+    /// taken at once and not as elements.
     fn cut_off() -> Error
         ensures { field.cut_off result };
 

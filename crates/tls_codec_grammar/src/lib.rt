@@ -1,12 +1,12 @@
 //! What the formats of the TLS presentation language are (RFC 8446, section 3): which bytes spell
 //! which value, which laws a format meets, and what decoders and encoders of it return.
 //!
-//! The definitions stand in `specs`. The calls here need no trait of a value: they know the width of
-//! a number, or the form of a length.
+//! The definitions are in `specs`. The calls here need no trait of a value: they know the width of a
+//! number, or the form of a length.
 //!
-//! - [`digits`]: numbers of so many bytes.
-//! - [`length_field`]: [`LengthField`], what stands before a content and says how many bytes that has.
-//! - [`opaque`]: bytes behind their length, as byte vectors and texts have them.
+//! - [`digits`]: numbers of k bytes.
+//! - [`length_field`]: [`LengthField`], what comes before a content and says how many bytes it has.
+//! - [`opaque`]: bytes after their length, as in byte vectors and strings.
 //! - [`examples`]: the definitions at work. It does nothing when it runs.
 #![tactic(auto)]
 

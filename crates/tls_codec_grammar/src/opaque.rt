@@ -1,6 +1,6 @@
-//! Bytes behind a length field, whatever the field: the `opaque` of RFC 8446, section 3.4.
+//! Bytes after a length field, whatever the field: the `opaque` of RFC 8446, section 3.4.
 //!
-//! Byte vectors and texts go through the calls here, which move the bytes in bulk.
+//! Byte vectors and strings go through the calls here, which move the bytes in bulk.
 ghost use Rattle.std.specs.Prelude.{◌≡◌, ◌⊎◌, [], ◌∷◌, ◌++◌, is_ok, if◌then◌else◌, length, true, IfErr, IfOk, IsErrAnd, IsOk};
 ghost use Rattle.tls_codec_wire.specs.Digits.{AreBytes};
 ghost use Rattle.tls_codec_wire.specs.declared.error.Error.TheVariants.{InvalidVectorLength, OutOfMemory};
@@ -14,7 +14,8 @@ use crate::length_field::{LengthField, append_both, write_length};
 use std::alloc::Global;
 use tls_codec_wire::{Error, Sink, Source, read_bytes_bounded, write_all};
 
-/// The announced length of some bytes: their number, and the width of it, saturated at `usize::MAX`.
+/// The announced length of some bytes: their number plus the width of that length, saturated at
+/// `usize::MAX`.
 pub fn announced_len<F: LengthField>(content: &[u8]) -> usize
     ensures { result ≡ (counted_bytes_format F.field).announced (number_trees content.now) }
 {
@@ -39,8 +40,8 @@ pub fn write<F: LengthField, W: Sink>(sink: &mut W, content: &[u8]) -> Result<us
 
 /// Appends the shortest form of some bytes to a vector, and returns how many bytes that is.
 ///
-/// `InvalidVectorLength`: there are more bytes than the greatest length. `OutOfMemory`: there was none.
-/// After a refusal the vector's bytes are those from before.
+/// `InvalidVectorLength`: there are more bytes than the greatest length. `OutOfMemory`: allocation
+/// failed. After a refusal the vector has the bytes from before.
 #[inline(always)]
 pub fn append<F: LengthField>(out: &mut Vec<u8>, content: &[u8]) -> Result<usize, Error>
     ensures appends { AppendsForm (counted_bytes_format F.field) (number_trees content.now)
@@ -80,9 +81,8 @@ pub fn to_vec<F: LengthField>(alloc: Global, content: &[u8]) -> Result<Vec<u8>, 
 
 /// The bytes that a prefix of `whole` spells, and the rest of it. Neither is copied.
 ///
-/// Where no length begins it, the refusal is that of
-/// [`split_length`](LengthField::split_length). Where fewer bytes are behind it than it declares, it is the
-/// field's [`cut_off`](LengthField::cut_off).
+/// If no length begins it, the refusal is that of [`split_length`](LengthField::split_length). If fewer
+/// bytes come after the length than it declares, it is the field's [`cut_off`](LengthField::cut_off).
 pub fn split<F: LengthField>(whole: &[u8]) -> Result<(&[u8], &[u8]), Error>
     ensures splits { Splits (record (counted_bytes_format F.field) { lean = true })
         (λ found. number_trees found.now) whole.now result }
@@ -97,7 +97,8 @@ pub fn split<F: LengthField>(whole: &[u8]) -> Result<(&[u8], &[u8]), Error>
 
 /// A copy of the bytes that a prefix of `whole` spells, and the rest of it, which isn't copied.
 ///
-/// `OutOfMemory`: there was none for the copy of bytes that are all there. Every other refusal is as in [`split`].
+/// `OutOfMemory`: allocation failed for the copy of bytes that are all there. Every other refusal is as in
+/// [`split`].
 pub fn split_copied<F: LengthField>(alloc: Global, whole: &[u8]) -> Result<(Vec<u8>, &[u8]), Error>
     ensures splits { Splits (counted_bytes_format F.field) (λ content. number_trees content.items)
         whole.now result }
@@ -110,7 +111,7 @@ pub fn split_copied<F: LengthField>(alloc: Global, whole: &[u8]) -> Result<(Vec<
 
 /// A vector of these bytes.
 ///
-/// `OutOfMemory`: there was no memory for it. No bytes ask for none.
+/// `OutOfMemory`: there was no memory for it. If there are no bytes, nothing is allocated.
 pub fn copied(alloc: Global, content: &[u8]) -> Result<Vec<u8>, Error>
     ensures ok { IfOk result (λ copy. copy.items ≡ content.now) }
     ensures err { IfErr result (λ e. e ≡ OutOfMemory) }
@@ -133,9 +134,9 @@ pub fn push(content: &mut Vec<u8>, byte: u8) -> Result<(), Error>
     }
 }
 
-/// The bytes that the bytes to come spell. Just their spelling is taken.
+/// The bytes that the bytes to come spell. Only their spelling is taken.
 ///
-/// Room is asked for as they come. `EndOfStream`: fewer bytes come than the length declares. The length is
+/// Room is requested as they come. `EndOfStream`: fewer bytes come than the length declares. The length is
 /// refused as in [`read_length`](LengthField::read_length). `DecodingError("read failed")` and `OutOfMemory`
 /// are as in `read_bytes_bounded`.
 pub fn read<F: LengthField, R: Source>(alloc: Global, src: &mut R) -> Result<Vec<u8>, Error>
@@ -151,8 +152,8 @@ pub fn read<F: LengthField, R: Source>(alloc: Global, src: &mut R) -> Result<Vec
     Ok(content)
 }
 
-/// Does nothing. What a slice refers to is known to be bytes; of a vector's items that isn't known
-/// before.
+/// Does nothing. The prover knows that what a slice refers to is bytes. Of a vector's items it
+/// doesn't know that before.
 pub fn see_bytes(_content: &[u8])
     ensures { AreBytes _content.now }
 {}

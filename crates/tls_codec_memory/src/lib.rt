@@ -1,8 +1,8 @@
-//! Requests for memory that are refused, one at a time: what each call that asks for memory returns then,
-//! and that what it was lent is as it was.
+//! Out of memory: one allocation fails at a time. What each call that allocates returns then, and that
+//! what it was lent is as it was.
 //!
-//! It has tests alone. Each passes in an ordinary run, and in one in which any one request is refused: the
-//! Nth of each test, by `rt try --test --fail-alloc N`.
+//! The crate has only tests. Each passes in an ordinary run, and in a run in which any one request is
+//! refused: the Nth of each test, by `rt try --test --fail-alloc N`.
 #![tactic(auto)]
 
 #[cfg(test)]

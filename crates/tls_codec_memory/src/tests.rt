@@ -1,7 +1,7 @@
-//! Each call knows how many requests for memory it makes. It is refused where one of these is, and nowhere
-//! else; then it is made once more, and returns what it returns in an ordinary run.
+//! Each call knows how many requests for memory it makes. It is refused if one of these is, and never
+//! else. Then it is made once more, and returns what it returns in an ordinary run.
 
-// What a call returns that makes so many requests. Where one of them is refused the call has to be refused, what
+// What a call returns that makes so many requests. If one of them is refused, the call has to be refused, what
 // it was lent is looked at, and the call is made again.
 macro_rules! told {
     ($rt:expr, $requests:expr, $count:expr, $call:expr) => {
@@ -45,8 +45,8 @@ struct Requests {
 }
 
 impl Requests {
-    // The refused request is told by a file, which has as many bytes as its number; where there is none, none is
-    // refused.
+    // A file tells the refused request: it has as many bytes as the request's number. If there is no file, none
+    // is refused.
     fn new(files: &impl Files) -> Result<Requests, Fail> {
         let mut bytes = [0u8; 32];
         let refused = match File::open(files, "refused") {
@@ -70,7 +70,8 @@ impl Requests {
     }
 }
 
-// A vector of these bytes without room for more, so that whatever makes it longer asks for memory.
+// A vector of these bytes without room for more, so that making it longer in any way requests
+// memory.
 fn full(
     rt: &impl Abort,
     alloc: Global,

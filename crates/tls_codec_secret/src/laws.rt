@@ -1,5 +1,5 @@
-//! Secret vectors are spelled as lists behind one to four bytes; what conversions, places and clearing give; and that
-//! they are compared and hashed as the lists of their elements are.
+//! Secret vectors are spelled as lists after a length of one to four bytes. What conversions, places and clearing
+//! give. Secret vectors are compared and hashed as the lists of their elements are.
 //!
 //! The functions do nothing. Their contracts state this, and so are proved.
 ghost use Rattle.std.specs.Prelude.{◌≡◌, ◌↔◌, ◌<◌, ℕ, List, [], Vec, length, slice_index_or};
@@ -38,7 +38,7 @@ pub fn places_give_their_elements<F, T: Zeroize>()
         ↔ (x ≡ slice_index_or (elements_of v) i x) }
 {}
 
-/// A secret vector is cleared where it is empty.
+/// A secret vector is cleared if it is empty.
 pub fn cleared_secret_vectors_are_empty<F, T: Zeroize>()
     ensures { (v : SecretTlsVec F T)
         → ⟦<SecretTlsVec<F, T> as Zeroize>⟧.cleared v
@@ -62,7 +62,7 @@ pub fn secret_vectors_are_lists_behind_one_to_four_bytes<T: Size + Zeroize>()
         ↔ fixed_list 4 T.format.spells d b v }
 {}
 
-/// Two secret vectors are equal where they have as many elements and these are equal, place by place.
+/// Two secret vectors are equal if they have as many elements and these are equal, place by place.
 pub fn secret_vectors_are_compared_by_their_elements<F, T: PartialEq + Zeroize>()
     ensures { (x y : SecretTlsVec F T)
         → ⟦<SecretTlsVec<F, T> as PartialEq>⟧.eq x y

@@ -1,5 +1,5 @@
-//! Vectors of key material behind a length of one to four bytes (RFC 8446, section 3.4): the lists of
-//! `tls_codec_vec`, which clear their elements when they are dropped.
+//! Vectors of key material after a length of one to four bytes (RFC 8446, section 3.4): the lists of
+//! `tls_codec_vec`, but they clear their elements when they are dropped.
 //!
 //! - [`list`]: [`SecretTlsVec`] and its calls, and the names [`SecretTlsVecU8`], [`SecretTlsVecU16`],
 //!   [`SecretTlsVecU24`] and [`SecretTlsVecU32`].

@@ -21,15 +21,15 @@ use tls_codec_wire::{Error, U24};
 mod indexing;
 mod show;
 
-/// A list of key material, which is spelled behind the number of its bytes. `F` is the form of that number.
+/// A list of key material. Its spelling is the number of its bytes, in the form `F`, and then the elements.
 ///
-/// Dropping it clears each element, and then drops them. The elements leave it as they are by
-/// [`into_vec`](SecretTlsVec::into_vec), `pop`, `remove` and the conversion to a `Vec`; then it is for their
-/// owner to clear them.
+/// Dropping it clears each element, and then drops them. [`into_vec`](SecretTlsVec::into_vec), `pop`,
+/// `remove` and the conversion to a `Vec` give elements away as they are; then their owner has to clear
+/// them.
 ///
-/// It is compared and hashed as the list is. Nothing keeps it from holding more bytes than `F` can count:
-/// then it is `InvalidVectorLength` from each encoder. **`{:?}` prints its elements.** An encoder's output
-/// is a copy that nothing clears, and so is what a `push` that made the list move leaves behind.
+/// It is compared and hashed as the list is. It may hold more bytes than `F` can count; then each encoder
+/// returns `InvalidVectorLength`. **`{:?}` prints its elements.** An encoder's output is a copy that nothing
+/// clears. So is what a `push` leaves in memory if it made the list move.
 ///
 /// ```rust
 /// let mut shares = SecretTlsVecU8::from_slice(alloc, &[1u16, 2])?;
@@ -83,7 +83,7 @@ impl<F, T: Zeroize> SecretTlsVec<F, T> {
         }
     }
 
-    /// No elements. No memory is asked for.
+    /// No elements. It allocates nothing.
     pub fn default(alloc: Global) -> SecretTlsVec<F, T>
         ensures { elements_of result ≡ [] }
     {
@@ -145,7 +145,7 @@ impl<F, T: Zeroize> SecretTlsVec<F, T> {
         self.vec.pop()
     }
 
-    /// Takes the element at a place, which isn't cleared. Those behind it move one place to the front.
+    /// Takes the element at a place. It isn't cleared. Those after it move one place to the front.
     pub fn remove(&mut self, index: usize) -> T
         requires { index < length (elements_of self.old) }
         ensures value { slice_get (elements_of self.old) index ≡ Some result }
@@ -167,8 +167,8 @@ impl<F, T: Zeroize> SecretTlsVec<F, T> {
         }
     }
 
-    /// Keeps the elements for which the closure returns true, in their order. It is asked once for each
-    /// element, from the first to the last. The others are dropped, and aren't cleared before.
+    /// Keeps the elements for which the closure returns true, in their order. It is called once for
+    /// each element, from the first to the last. The others are dropped, and aren't cleared before.
     pub fn retain<P: FnMut(&T) -> bool>(&mut self, f: P)
         requires { P.IsAlwaysCallable f }
         ensures { IsFiltered (CalledAt P.FnMut) f (elements_of self.old) (elements_of self.new) }
@@ -219,7 +219,7 @@ impl<F, T: Zeroize + Clone> SecretTlsVec<F, T> {
 }
 
 impl<F: LengthField, T: Zeroize> SecretTlsVec<F, T> {
-    /// The number of bytes of the length in front of the elements: 1, 2, 3 or 4 under the names by width.
+    /// The number of bytes of the length before the elements: 1, 2, 3 or 4 for the names by width.
     pub fn len_len() -> usize
         ensures { result ≡ F.field.width 0 }
     {

@@ -10,7 +10,7 @@ use std::alloc::Global;
 use tls_codec_base::{Serialize, Size, opaque};
 use tls_codec_wire::{Error, Sink, U24};
 
-/// Borrowed bytes, behind their number, which has one byte.
+/// Borrowed bytes, written after their number, which has one byte.
 ///
 /// They are written as a byte vector of these bytes would be, and none is made.
 ///
@@ -49,7 +49,7 @@ impl<'a> Serialize for TlsByteSliceU8<'a> {
         opaque::write::<u8, W>(writer, self.0)
     }
 
-    /// `InvalidVectorLength`: there are more than 255 bytes. `OutOfMemory`: there was none.
+    /// `InvalidVectorLength`: there are more than 255 bytes. `OutOfMemory`: allocation failed.
     #[inline(always)]
     fn tls_serialize_into(&self, out: &mut Vec<u8>) -> Result<usize, Error> {
         opaque::append::<u8>(out, self.0)
@@ -90,7 +90,7 @@ impl<'a> Serialize for &TlsByteSliceU8<'a> {
     }
 }
 
-/// Borrowed bytes, behind their number, which has two bytes.
+/// Borrowed bytes, written after their number, which has two bytes.
 #[derive(Clone, Copy)]
 pub struct TlsByteSliceU16<'a>(pub &'a [u8]);
 
@@ -122,7 +122,7 @@ impl<'a> Serialize for TlsByteSliceU16<'a> {
         opaque::write::<u16, W>(writer, self.0)
     }
 
-    /// `InvalidVectorLength`: there are more than 65,535 bytes. `OutOfMemory`: there was none.
+    /// `InvalidVectorLength`: there are more than 65,535 bytes. `OutOfMemory`: allocation failed.
     #[inline(always)]
     fn tls_serialize_into(&self, out: &mut Vec<u8>) -> Result<usize, Error> {
         opaque::append::<u16>(out, self.0)
@@ -163,7 +163,7 @@ impl<'a> Serialize for &TlsByteSliceU16<'a> {
     }
 }
 
-/// Borrowed bytes, behind their number, which has three bytes.
+/// Borrowed bytes, written after their number, which has three bytes.
 #[derive(Clone, Copy)]
 pub struct TlsByteSliceU24<'a>(pub &'a [u8]);
 
@@ -195,7 +195,8 @@ impl<'a> Serialize for TlsByteSliceU24<'a> {
         opaque::write::<U24, W>(writer, self.0)
     }
 
-    /// `InvalidVectorLength`: there are more than 16,777,215 bytes. `OutOfMemory`: there was none.
+    /// `InvalidVectorLength`: there are more than 16,777,215 bytes. `OutOfMemory`: allocation
+    /// failed.
     #[inline(always)]
     fn tls_serialize_into(&self, out: &mut Vec<u8>) -> Result<usize, Error> {
         opaque::append::<U24>(out, self.0)
@@ -236,7 +237,7 @@ impl<'a> Serialize for &TlsByteSliceU24<'a> {
     }
 }
 
-/// Borrowed bytes, behind their number, which has four bytes.
+/// Borrowed bytes, written after their number, which has four bytes.
 #[derive(Clone, Copy)]
 pub struct TlsByteSliceU32<'a>(pub &'a [u8]);
 
@@ -268,7 +269,8 @@ impl<'a> Serialize for TlsByteSliceU32<'a> {
         opaque::write::<u32, W>(writer, self.0)
     }
 
-    /// `InvalidVectorLength`: there are more than 4,294,967,295 bytes. `OutOfMemory`: there was none.
+    /// `InvalidVectorLength`: there are more than 4,294,967,295 bytes. `OutOfMemory`: allocation
+    /// failed.
     #[inline(always)]
     fn tls_serialize_into(&self, out: &mut Vec<u8>) -> Result<usize, Error> {
         opaque::append::<u32>(out, self.0)

@@ -9,7 +9,7 @@ use std::alloc::{AllocError, Global};
 use tls_codec_base::{Serialize, Size, counted};
 use tls_codec_wire::{Error, Sink, U24};
 
-/// Borrowed elements, behind their length in bytes, which has one byte.
+/// Borrowed elements, written after their length in bytes, which has one byte.
 ///
 /// They are written as a vector of these elements would be, and none is made.
 ///
@@ -98,7 +98,7 @@ impl<'a, T: Serialize> Serialize for &TlsSliceU8<'a, T> {
     }
 }
 
-/// Borrowed elements, behind their length in bytes, which has two bytes.
+/// Borrowed elements, written after their length in bytes, which has two bytes.
 pub struct TlsSliceU16<'a, T>(pub &'a [T]);
 
 impl<'a, T> Clone for TlsSliceU16<'a, T> {
@@ -180,7 +180,7 @@ impl<'a, T: Serialize> Serialize for &TlsSliceU16<'a, T> {
     }
 }
 
-/// Borrowed elements, behind their length in bytes, which has three bytes.
+/// Borrowed elements, written after their length in bytes, which has three bytes.
 pub struct TlsSliceU24<'a, T>(pub &'a [T]);
 
 impl<'a, T> Clone for TlsSliceU24<'a, T> {
@@ -262,7 +262,7 @@ impl<'a, T: Serialize> Serialize for &TlsSliceU24<'a, T> {
     }
 }
 
-/// Borrowed elements, behind their length in bytes, which has four bytes.
+/// Borrowed elements, written after their length in bytes, which has four bytes.
 pub struct TlsSliceU32<'a, T>(pub &'a [T]);
 
 impl<'a, T> Clone for TlsSliceU32<'a, T> {

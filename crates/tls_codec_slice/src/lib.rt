@@ -1,5 +1,5 @@
-//! Wrappers around slices, which write what is lent behind a length of one to four bytes (RFC 8446,
-//! section 3.4).
+//! Wrappers around slices. They write borrowed content after a length of one to four bytes
+//! (RFC 8446, section 3.4).
 //!
 //! No vector is built. What they write is read by the vectors of the same width.
 //!

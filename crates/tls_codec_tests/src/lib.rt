@@ -1,7 +1,7 @@
-//! Worked values of the public types, by each call: the bytes that each encoder writes of them, what
-//! each decoder reads from bytes, and what it refuses.
+//! Worked values of the public types, by each call: the bytes that each encoder writes, what each
+//! decoder reads, and what it rejects.
 //!
-//! It has tests alone, which stand above the libraries so that none of those is proved twice.
+//! The crate has only tests. It is above the libraries so that none of those is proved twice.
 #![tactic(auto)]
 
 #[cfg(test)]

@@ -2,7 +2,7 @@
 use Rattle.std.specs.Prelude.{◌≡◌, ℕ, ◌/◌, List, length, slice_index, IsPermutation}
 use Rattle.std.specs.List.Sorted.{IsNonDecreasing}
 
--- once the figures are in order, this one stands in the middle
+-- once the figures are in order, this one is in the middle
 pub record IsMedian (figures : List ℕ) (middle : ℕ) : Type 0 where
   pub ordered : List ℕ
   pub same : IsPermutation figures ordered

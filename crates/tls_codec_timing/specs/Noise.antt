@@ -6,7 +6,8 @@ use Rattle.tls_codec_timing.specs.declared.noise.Noise.{Noise}
 abbrev pub state_of : Noise → ℕ
 state_of noise = noise.state
 
--- the state behind a state: three shifts, by 13 to the left, 7 to the right and 17 to the left, each joined by "exclusive or"
+-- the state after a state: three shifts, by 13 to the left, 7 to the right and 17 to the left, each joined by
+-- "exclusive or"
 abbrev pub shifted : ℕ → ℕ
 shifted x =
     let a = bit_xor x (x * 2 ^ 13 % 2 ^ 64) in

@@ -23,7 +23,7 @@ pub enum Case {
     Numbers512,
     /// 65,536 numbers of 16 bits.
     Numbers65536,
-    /// The same behind a length of four bytes.
+    /// The same after a length of four bytes.
     FixedNumbers65536,
     /// 256 lists of 64 numbers of 16 bits.
     Lists,
@@ -33,7 +33,7 @@ pub enum Case {
     Vl4096,
     /// A mebibyte, moved in bulk.
     Vl1048576,
-    /// The same behind a length of four bytes.
+    /// The same after a length of four bytes.
     Fixed1048576,
     /// 1,000 byte vectors of 32 bytes.
     VlLists,
@@ -43,11 +43,11 @@ pub enum Case {
     Text64,
     /// A text of 4,096 letters.
     Text4096,
-    /// A message of one's own, with 100 messages in it.
+    /// A message of your own, with 100 messages in it.
     Log,
-    /// `Vl4096`, where the source doesn't have its bytes at hand.
+    /// `Vl4096`, from a source that doesn't have its bytes at hand.
     Vl4096Outside,
-    /// `Numbers512`, where the source doesn't have its bytes at hand.
+    /// `Numbers512`, from a source that doesn't have its bytes at hand.
     Numbers512Outside,
     /// Lists nested eight deep over one byte.
     DeepOne,
@@ -65,7 +65,7 @@ pub enum Case {
 
 /// The cases, in the order in which they are timed.
 ///
-/// Those of a mebibyte come last: a byte vector of 4,096 was written more slowly behind them.
+/// Those of a mebibyte come last: a byte vector of 4,096 was written more slowly after them.
 pub const CASES: [Case; 27] = [
     Case::Copy64,
     Case::Copy4096,

@@ -10,7 +10,7 @@ use std::io;
 pub enum BenchFault {
     /// There is another argument than `run` alone.
     Argument,
-    /// The clock stands still.
+    /// The clock doesn't move.
     Clock,
     /// Memory was refused.
     Memory,

@@ -9,7 +9,7 @@ use std::time::Instant;
 /// The least nanoseconds of a batch.
 const BATCH_NANOS: u64 = 20_000_000;
 
-/// The least nanoseconds of a round, behind which the clock is read.
+/// The least nanoseconds of a round. The clock is read after it.
 const ROUND_NANOS: u64 = 1_000_000;
 
 /// A round has fewer calls than 2 to the power of this.
@@ -20,7 +20,7 @@ const MOST_ROUNDS: u32 = 1_000_000;
 
 /// The nanoseconds that a call takes: the median of the batches.
 ///
-/// The call returns whether it succeeded. `Refused`: it didn't. `Clock`: the clock stands still.
+/// The call returns whether it succeeded. `Refused`: it didn't. `Clock`: the clock doesn't move.
 pub fn time<C: Clock, F: Fn() -> bool>(clock: &C, call: F) -> Result<u64, BenchFault>
     requires { F.IsAlwaysCallable call }
 {
@@ -51,7 +51,7 @@ fn calls_a_round<C: Clock, F: Fn() -> bool>(clock: &C, call: &F) -> Result<u64, 
     Err(BenchFault::Clock)
 }
 
-// The nanoseconds of so many calls.
+// The nanoseconds of `calls` calls.
 fn round<C: Clock, F: Fn() -> bool>(clock: &C, call: &F, calls: u64) -> Result<u64, BenchFault>
     requires { F.IsAlwaysCallable call.now }
 {
@@ -78,7 +78,7 @@ fn batch<C: Clock, F: Fn() -> bool>(clock: &C, call: &F, calls: u64) -> Result<u
     Err(BenchFault::Clock)
 }
 
-// Makes so many calls.
+// Makes `calls` calls.
 fn repeat<F: Fn() -> bool>(call: &F, calls: u64) -> Result<(), BenchFault>
     requires { F.IsAlwaysCallable call.now }
 {

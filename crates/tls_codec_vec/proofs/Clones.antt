@@ -12,7 +12,7 @@ cloned_same is_clone (x ∷ xs) (y ∷ ys) same each =
     let others = cloned_same is_clone xs ys (λ k d below. same (suc k) d (omega (arith, below))) each.1 in
     λ i. first i ∷ others i
 
--- behind no elements, clones of xs are xs
+-- after no elements, clones of xs are xs
 pub appended_same : {T : Type 0} (is_clone : T → T → Type 0) (old new xs : List T) → old ≡ [] → ClonesAreEqual is_clone xs → AppendsClones is_clone old new xs → new ≡ xs
 appended_same is_clone old new xs none same clones =
     clones.1 ∙ (ap (λ o. o ++ clones.0) none ∙ cloned_same is_clone xs clones.0 same clones.2)

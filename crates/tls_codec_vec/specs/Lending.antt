@@ -1,4 +1,4 @@
--- What a vector ends as, where a `&mut` to an element is returned.
+-- What a vector ends as, if a `&mut` to an element is returned.
 use Rattle.std.specs.Prelude.{ℕ}
 use Rattle.std.specs.Borrow.{Fml, Lends, MutBor, RattleType}
 use Rattle.tls_codec_vec.specs.Contents.{with_element}

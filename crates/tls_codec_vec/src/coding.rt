@@ -41,7 +41,7 @@ impl<F: LengthField, T: Deserialize> Deserialize for TlsVec<F, T> {
 
     /// `EndOfStream`: there is no whole length, or an element passes the end that it declares.
     /// `DecodingError("vector element consumed 0 bytes")`: an element takes no byte. Every other refusal
-    /// is an element's, the source's or it ran out of memory.
+    /// is an element's, the source's, or `OutOfMemory`.
     fn tls_deserialize<R: Source>(alloc: Global, bytes: &mut R) -> Result<TlsVec<F, T>, Error> {
         let elements = counted::read::<F, T, R>(alloc, bytes)?;
         Ok(TlsVec::new(elements))

@@ -1,5 +1,5 @@
-//! Vectors are spelled as lists behind one to four bytes; what conversions and places give; and that they are compared
-//! and hashed as the lists of their elements are.
+//! Vectors are spelled as lists after a length of one to four bytes. What conversions and places give. Vectors are
+//! compared and hashed as the lists of their elements are.
 //!
 //! The functions do nothing. Their contracts state this, and so are proved.
 ghost use Rattle.std.specs.Prelude.{◌≡◌, ◌↔◌, ◌<◌, ℕ, List, Vec, length, slice_index_or};
@@ -54,7 +54,7 @@ pub fn vectors_are_lists_behind_one_to_four_bytes<T: Size>()
         ↔ fixed_list 4 T.format.spells d b v }
 {}
 
-/// Two vectors are equal where they have as many elements and these are equal, place by place.
+/// Two vectors are equal if they have as many elements and these are equal, place by place.
 pub fn vectors_are_compared_by_their_elements<F, T: PartialEq>()
     ensures { (x y : TlsVec F T)
         → ⟦<TlsVec<F, T> as PartialEq>⟧.eq x y ≡ pointwise T.eq (elements_of x) (elements_of y) }

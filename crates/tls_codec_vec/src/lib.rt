@@ -1,4 +1,4 @@
-//! Vectors behind a length of one to four bytes (RFC 8446, section 3.4): the lists of TLS messages.
+//! Vectors after a length of one to four bytes (RFC 8446, section 3.4): the lists of TLS messages.
 //!
 //! A vector is the number of bytes of its elements, and then the elements in a row. It is one type over
 //! the length field, [`TlsVec`], with a name for each width.

@@ -19,10 +19,10 @@ use tls_codec_wire::{Error, U24};
 mod indexing;
 mod show;
 
-/// A list of elements, which are spelled behind the number of their bytes. `F` is the form of that number.
+/// A list of elements. Its spelling is the number of its bytes, in the form `F`, and then the elements.
 ///
-/// It is compared and hashed as the list is. Nothing keeps it from holding more bytes than `F` can count:
-/// then it is `InvalidVectorLength` from each encoder.
+/// It is compared and hashed as the list is. It may hold more bytes than `F` can count; then each encoder
+/// returns `InvalidVectorLength`.
 ///
 /// ```rust
 /// let suites = TlsVecU16::from_slice(alloc, &[0x1301u16, 0x1302])?;
@@ -60,7 +60,7 @@ impl<F, T> TlsVec<F, T> {
         }
     }
 
-    /// No elements. No memory is asked for.
+    /// No elements. It allocates nothing.
     pub fn default(alloc: Global) -> TlsVec<F, T>
         ensures { elements_of result ≡ [] }
     {
@@ -120,7 +120,7 @@ impl<F, T> TlsVec<F, T> {
         self.vec.pop()
     }
 
-    /// Takes the element at a place, which is below [`len`](TlsVec::len). Those behind it move one place
+    /// Takes the element at a place, which is below [`len`](TlsVec::len). Those after it move one place
     /// to the front.
     pub fn remove(&mut self, index: usize) -> T
         requires { index < length (elements_of self.old) }
@@ -145,8 +145,8 @@ impl<F, T: Drop> TlsVec<F, T> {
         }
     }
 
-    /// Keeps the elements for which the closure returns true, in their order. It is asked once for each
-    /// element, from the first to the last.
+    /// Keeps the elements for which the closure returns true, in their order. It is called once for
+    /// each element, from the first to the last.
     pub fn retain<P: FnMut(&T) -> bool>(&mut self, f: P)
         requires { P.IsAlwaysCallable f }
         ensures { IsFiltered (CalledAt P.FnMut) f (elements_of self.old) (elements_of self.new) }
@@ -197,7 +197,7 @@ impl<F, T: Clone> TlsVec<F, T> {
 }
 
 impl<F: LengthField, T> TlsVec<F, T> {
-    /// The number of bytes of the length in front of the elements: 1, 2, 3 or 4 under the names by width.
+    /// The number of bytes of the length before the elements: 1, 2, 3 or 4 for the names by width.
     pub fn len_len() -> usize
         ensures { result ≡ F.field.width 0 }
     {

@@ -20,7 +20,7 @@ vector_of t = t.out
 abbrev pub bytes_taken : Trickle → List ℕ
 bytes_taken t = t.out.items
 
--- ---- a device of which some calls fail
+-- ---- a device with some calls that fail
 
 abbrev pub inner_of : {D : Type 0} → Failing D → D
 inner_of f = f.inner

@@ -19,7 +19,7 @@ leaf_format = fields_format (number_format 2) (fields_format bytes_format nothin
 pub leaf_meets : MeetsLaws leaf_format
 leaf_meets = fields_meets u16_meets (fields_meets bytes_meets nothing_meets)
 
--- ---- a step: a tag of one byte, and what the tag's variant has behind it
+-- ---- a step: a tag of one byte, and what the tag's variant has after it
 
 abbrev pub step_plain : Step → Tree
 step_plain Ping = Join (Number 0) Empty

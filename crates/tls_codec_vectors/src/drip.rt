@@ -10,7 +10,7 @@ use tls_codec::{Fault, Source};
 
 /// Bytes that come one a call, whatever room a caller has.
 ///
-/// Nothing is at hand, so that a decoder sees each byte come.
+/// Nothing is at hand, so a decoder sees each byte come.
 #[derive(Drop)]
 pub struct Drip<'a> {
     left: &'a [u8],

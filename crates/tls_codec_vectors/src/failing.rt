@@ -1,4 +1,4 @@
-//! [`Failing`], a device of which some calls in a row return a fault.
+//! [`Failing`], a device with some calls in a row that return a fault.
 ghost use Rattle.std.specs.Prelude.{◌≡◌, ◌<◌, ◌≤◌, ◌↔◌, IsTrue, length, IfOk};
 ghost use Rattle.std.specs.Io.KnownBytes.{Appends, IsAtEnd};
 ghost use Rattle.tls_codec.specs.Devices.{GiveIsCounted, PullIsCounted, bytes_moved, no_counts};
@@ -23,11 +23,11 @@ impl Plan {
     }
 }
 
-/// A source or a sink of which some calls in a row return a fault, and all others go to the device
+/// A source or a sink with some calls in a row that return a fault. All other calls go to the device
 /// inside.
 ///
-/// Nothing is at hand, so that each byte of a source comes by a call that may fail. As a device it counts
-/// its own faults and those of the one inside.
+/// Nothing is at hand, so each byte of a source comes by a call that may fail. As a device it counts its
+/// own faults and those of the device inside.
 #[derive(Drop)]
 pub struct Failing<D> {
     inner: D,
@@ -39,8 +39,8 @@ pub struct Failing<D> {
 }
 
 impl<D> Failing<D> {
-    /// A device of which the calls `at` to `at + times - 1` return `fault`. The first call has the number
-    /// 1, and the number stays at `u64::MAX`.
+    /// A device whose calls `at` to `at + times - 1` return `fault`. The first call has the number 1, and
+    /// the number stays at `u64::MAX`.
     pub fn new(inner: D, at: u64, times: u64, fault: Fault) -> Failing<D>
         ensures inner { inner_of result ≡ inner }
         ensures plan { plan_of result ≡ record { at = at; times = times; fault = fault } }
@@ -85,7 +85,7 @@ impl<D> Failing<D> {
         self.shortages
     }
 
-    // Counts a call, and its fault where it returns one.
+    // Counts a call, and its fault if it returns one.
     fn turn(&mut self) -> Result<(), Fault>
         ensures called { Called self.old self.new }
         ensures inner { inner_of self.new ≡ inner_of self.old }

@@ -1,5 +1,5 @@
-//! Equal vectors have equal hashes, byte vectors are ordered as lists of bytes, messages are equal where their fields
-//! are, and a step has one spelling.
+//! Equal vectors have equal hashes. Byte vectors are ordered as lists of bytes. Messages are equal if their fields
+//! are. A step has one spelling.
 //!
 //! The functions do nothing. Their contracts state this, and so are proved.
 ghost use Rattle.std.specs.Prelude.{◌≡◌, ◌⊎◌, ◌↔◌, ◌&&◌, ℕ, [], ◌∷◌, IsTrue, Some};
@@ -19,8 +19,8 @@ use tls_codec::{
     SecretTlsVec, SecretVLByteVec, SecretVLBytes, TlsByteVec, TlsVec, VLByteVec, VLBytes, Zeroize,
 };
 
-/// Equal lists feed every hasher the same, so that their hashes are equal. Of elements just that is asked
-/// which `Eq` and `Hash` demand of each type: equality is an equivalence, and equal ones are hashed alike.
+/// Equal lists feed every hasher the same, so that their hashes are equal. Of elements this asks only what
+/// `Eq` and `Hash` demand of each type: equality is an equivalence, and equal ones are hashed alike.
 pub fn equal_vectors_have_equal_hashes<F, T: Eq + Hash>()
     ensures { (x y : TlsVec F T)
         → IsTrue (⟦<TlsVec<F, T> as PartialEq>⟧.eq x y)
@@ -35,7 +35,7 @@ pub fn equal_secret_vectors_have_equal_hashes<F, T: Eq + Hash + Zeroize>()
         ≡ ⟦<SecretTlsVec<F, T> as Hash>⟧.hash_input y }
 {}
 
-/// The same of byte vectors, behind whatever length, secret ones too.
+/// The same of byte vectors, after any length, secret ones too.
 pub fn equal_byte_vectors_have_equal_hashes<F>()
     ensures fixed { (x y : TlsByteVec F)
         → IsTrue (⟦<TlsByteVec<F> as PartialEq>⟧.eq x y)
@@ -54,8 +54,8 @@ pub fn equal_byte_vectors_have_equal_hashes<F>()
         → ⟦<SecretVLByteVec as Hash>⟧.hash_input x ≡ ⟦<SecretVLByteVec as Hash>⟧.hash_input y }
 {}
 
-/// `VLBytes` and `VLByteVec` are ordered as lists of bytes: at the first byte in which they differ, and the
-/// shorter first where there is none.
+/// `VLBytes` and `VLByteVec` are ordered as lists of bytes: at the first byte in which they differ. If
+/// there is none, the shorter one comes first.
 pub fn byte_vectors_are_ordered_as_lists_of_bytes()
     ensures bytes { (x y : VLBytes)
         → ⟦<VLBytes as Ord>⟧.cmp x y ≡ slice_cmp nat_cmp (bytes_of x) (bytes_of y) }
@@ -69,7 +69,7 @@ pub fn byte_vectors_are_ordered_as_lists_of_bytes()
         ≡ Some (slice_cmp nat_cmp (vec_bytes_of x) (vec_bytes_of y)) }
 {}
 
-/// Two messages are equal where their fields are.
+/// Two messages are equal if their fields are.
 pub fn messages_are_compared_by_their_fields()
     ensures leaf { (x y : Leaf)
         → IsTrue (⟦<Leaf as PartialEq>⟧.eq x y)
@@ -82,7 +82,7 @@ pub fn messages_are_compared_by_their_fields()
         && ⟦<Option<Step> as PartialEq>⟧.eq x.last y.last)) }
 {}
 
-/// Where the bytes 03 00 spelled [`Step::Ping`](crate::Step::Ping) too, steps would meet no laws, whatever they
+/// If the bytes 03 00 spelled [`Step::Ping`](crate::Step::Ping) too, steps would meet no laws, whatever they
 /// announced: a value has at most one spelling.
 pub fn second_spelling_of_ping_is_unlawful()
     ensures { (announced : Tree → ℕ)

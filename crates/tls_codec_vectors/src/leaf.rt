@@ -6,7 +6,7 @@ use tls_codec::{
     Deserialize, DeserializeBytes, Error, Lent, Serialize, Sink, Size, Source, VLBytes,
 };
 
-/// A code of two bytes and a name behind a variable-length length, in a row.
+/// A code of two bytes, and then a name after a variable-length length.
 ///
 /// ```rust
 /// let name = VLBytes::from_array(alloc, &[0x07])?;

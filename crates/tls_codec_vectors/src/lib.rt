@@ -1,18 +1,18 @@
-//! Messages of a user's own, proved to be as lawful as the types that they are made of.
+//! Messages of your own: structs and enums, proved to be as lawful as the types that they are made of.
 //!
-//! They stand on [`tls_codec`] alone. A struct is read as the tuple of its fields and written as the
-//! tuple of its lent fields, and nothing of that is proved by hand. An enum reads its tag and then what
-//! the tag's variant has; each variant has a line of proof to a call.
+//! They use [`tls_codec`] alone. A struct is read as the tuple of its fields and written as the tuple
+//! of its lent fields; nothing of that is proved by hand. An enum reads its tag and then what the tag's
+//! variant has; each variant has a line of proof for each call.
 //!
 //! - [`leaf`]: [`Leaf`], a struct of two fields.
 //! - [`step`]: [`Step`], an enum with a tag of one byte.
 //! - [`log`]: [`Log`], a struct of the two.
 //! - [`laws`]: equality, hash and order of the vectors that messages are made of.
 //!
-//! Beside them stand devices for tests, which show how a device of one's own is proved:
+//! There are devices for tests too. They show how a device of your own is proved:
 //!
 //! - [`drip`]: [`Drip`], a source of one byte a call. [`trickle`]: [`Trickle`], such a sink.
-//! - [`failing`]: [`Failing`], a device of which some calls fail.
+//! - [`failing`]: [`Failing`], a device with some calls that fail.
 #![tactic(auto)]
 
 pub mod drip;

@@ -1,4 +1,4 @@
-//! [`Log`], of other messages.
+//! [`Log`], made of other messages.
 ghost use Rattle.tls_codec_vectors.specs.Messages.{log_format, log_meets, log_plain};
 
 use crate::{Leaf, Step};

@@ -1,4 +1,4 @@
-//! [`Step`], a tag and what its variant has behind it.
+//! [`Step`], a tag and what its variant has after it.
 ghost use Rattle.std.specs.Prelude.{◌≡◌};
 ghost use Rattle.tls_codec_vectors.specs.Messages.{step_format, step_meets, step_plain};
 ghost use Rattle.tls_codec.specs.OwnMessages.{no_variant_names, no_variant_source_names, nothing_names, nothing_source_names, tagged_names, tagged_source_names, variant_names, variant_source_names};
@@ -19,8 +19,8 @@ fn unknown(tag: u8) -> Error
     Error::UnknownValue(u64::from(tag))
 }
 
-/// What to do next: the tag 0, the tag 1 and a text behind a variable-length length, or the tag 2 and a
-/// number of four bytes.
+/// What to do next: the tag 0; the tag 1 and a string after a variable-length length; or the tag 2 and
+/// a number of four bytes.
 ///
 /// ```rust
 /// let bytes = Step::Jump(5).tls_serialize_detached(alloc)?;
@@ -75,7 +75,7 @@ impl Deserialize for Step {
         no_variant_source_names))) };
 
     /// `UnknownValue`: no step has the tag. `EndOfStream`: no byte comes for it. Every other refusal is
-    /// that of what is behind it.
+    /// that of what comes after the tag.
     fn tls_deserialize<R: Source>(alloc: Global, src: &mut R) -> Result<Step, Error> {
         let tag = u8::tls_deserialize(alloc, src)?;
         match tag {
@@ -101,7 +101,7 @@ impl DeserializeBytes for Step {
         no_variant_names))) };
 
     /// `UnknownValue`: no step has the tag. `EndOfStream`: there is no byte for it. Every other refusal
-    /// is that of what is behind it.
+    /// is that of what comes after the tag.
     fn tls_deserialize_bytes(alloc: Global, whole: &[u8]) -> Result<(Step, &[u8]), Error> {
         let (tag, rest) = u8::tls_deserialize_bytes(alloc, whole)?;
         match tag {

@@ -24,8 +24,8 @@ fn worked_log(alloc: Global) -> Result<Log, Fail> {
     })
 }
 
-// The value is announced and written as these bytes, also behind what a vector has, and both paths read
-// it of them with a byte behind, which they leave; also where the bytes come one a call.
+// The value is announced and written as these bytes, also after what a vector has. Both paths read it
+// from them with a byte after them, which they leave, also if the bytes come one a call.
 fn is_spelled<T: Serialize + Deserialize + DeserializeBytes + PartialEq>(
     rt: &impl Abort,
     alloc: Global,
@@ -58,7 +58,7 @@ fn is_spelled<T: Serialize + Deserialize + DeserializeBytes + PartialEq>(
     Ok(())
 }
 
-// Both paths refuse these bytes by this name, also where they come one a call.
+// Both paths refuse these bytes by this name, also if they come one a call.
 fn is_refused<T: Deserialize + DeserializeBytes>(
     rt: &impl Abort,
     alloc: Global,

@@ -6,7 +6,7 @@ ghost use Rattle.tls_codec_vectors.specs.Devices.{bytes_taken, vector_of};
 
 use tls_codec::{Fault, Sink};
 
-/// A vector that takes one byte a call, behind those that it has.
+/// A vector that takes one byte a call, after those that it has.
 #[derive(Drop)]
 pub struct Trickle {
     out: Vec<u8>,
@@ -20,7 +20,7 @@ impl Trickle {
         Trickle { out }
     }
 
-    /// The vector, with what was received behind what it had.
+    /// The vector, with what was received after what it had.
     pub fn into_inner(self) -> Vec<u8>
         ensures { result ≡ vector_of self }
     {
@@ -28,7 +28,7 @@ impl Trickle {
     }
 }
 
-// It fails for memory alone, and promises nothing of that, as the vector does.
+// It fails for memory alone, and promises nothing of memory, as the vector does.
 impl Sink for Trickle {
     ghost received = { λ s. Some (bytes_taken s) };
 

@@ -1,4 +1,4 @@
-//! What conversions, copies and clearing come to; and that vectors are compared, ordered, hashed and printed as the
+//! What conversions, copies and clearing give. And that vectors are compared, ordered, hashed and printed as the
 //! lists of their bytes are.
 //!
 //! The functions do nothing. Their contracts state this, and so are proved.
@@ -44,7 +44,7 @@ pub fn conversions_and_copies_keep_the_bytes<'a>()
         ↔ (copy ≡ v) }
 {}
 
-/// A number is cleared where it is 0, an array where it holds zeros, and a vector where it is empty.
+/// A number is cleared if it is 0, an array if it holds zeros, and a vector if it is empty.
 pub fn cleared_values_hold_nothing<const LEN: usize, T: Zeroize>()
     ensures one_byte { (n : ℕ) → ⟦<u8 as Zeroize>⟧.cleared n ↔ (n ≡ 0) }
     ensures two_bytes { (n : ℕ) → ⟦<u16 as Zeroize>⟧.cleared n ↔ (n ≡ 0) }
@@ -84,8 +84,8 @@ pub fn bytes_are_printed<'a>()
         ≡ Some (debug_text (codes "SecretVLByteVec") (secret_vec_bytes_of v)) }
 {}
 
-/// Two `VLBytes` are equal where their bytes are, are ordered at the first byte in which they differ,
-/// the shorter first where there is none, and are hashed as the slice of their bytes is.
+/// Two `VLBytes` are equal if their bytes are. They are ordered at the first byte in which they
+/// differ, the shorter first if there is none. They are hashed as the slice of their bytes is.
 pub fn vl_bytes_are_compared_by_their_bytes()
     ensures equal { (x y : VLBytes)
         → IsTrue (⟦<VLBytes as PartialEq>⟧.eq x y)

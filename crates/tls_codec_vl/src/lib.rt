@@ -1,8 +1,9 @@
-//! Byte vectors behind a variable-length length (RFC 9420, section 2.1.2): the type that messages of
-//! MLS are mostly made of.
+//! Byte vectors after a variable-length length (RFC 9420, section 2.1.2): the type that messages of MLS are
+//! mostly made of.
 //!
-//! Their bytes are moved in bulk from any source; those of a `Vec<u8>`, which has the same spellings, where
-//! the source has them in memory. A declared length asks for no memory: room is made as the bytes come.
+//! Their bytes are moved in bulk from any source. Those of a `Vec<u8>`, which has the same spellings, are
+//! moved in bulk if the source has them in memory. A declared length allocates nothing: memory is requested
+//! as the bytes come.
 //!
 //! - [`vl_bytes`]: [`VLBytes`]. [`vl_byte_vec`]: [`VLByteVec`], which is the same under another name.
 //! - [`vl_byte_slice`]: [`VLByteSlice`], borrowed bytes, which are written and not read.

@@ -18,12 +18,13 @@ use tls_codec_wire::{Error, Sink, Source};
 /// Bytes as key material: a [`VLByteVec`] that sets them to 0 and empties itself when it is dropped. It gives
 /// no `Vec<u8>`.
 ///
-/// They are spelled behind their number as a variable-length integer, and compared, ordered and hashed as
-/// the list of them is. This is a [`SecretVLBytes`](crate::SecretVLBytes) under another name.
+/// Their spelling is their number as a variable-length integer, and then the bytes. They are compared,
+/// ordered and hashed as the list of them is. This is a [`SecretVLBytes`](crate::SecretVLBytes) under another
+/// name.
 ///
 /// **`{:?}` PRINTS THE SECRET BYTES**, as the Rust crate's does: keep it out of logs. Comparing takes as long
-/// as the bytes agree. An encoder's output is a copy that nothing clears, and so is what a push that made
-/// the vector move leaves behind.
+/// as the bytes agree: it isn't constant-time. An encoder's output is a copy that nothing clears. So is what
+/// a push leaves in memory if it made the vector move.
 ///
 /// ```rust
 /// let key = SecretVLByteVec::from_array(alloc, &[0x00, 0xaa])?;
@@ -42,7 +43,7 @@ impl SecretVLByteVec {
 
     /// A copy of these bytes, which are left as they are.
     ///
-    /// `OutOfMemory`: there was no memory for it. No bytes ask for none.
+    /// `OutOfMemory`: there was no memory for it. If there are no bytes, nothing is allocated.
     pub fn from_slice(alloc: Global, content: &[u8]) -> Result<SecretVLByteVec, Error>
         ensures ok { IfOk result (λ v. secret_vec_bytes_of v ≡ content.now) }
         ensures err { IfErr result (λ e. e ≡ OutOfMemory) }
@@ -157,8 +158,8 @@ impl Serialize for SecretVLByteVec {
         self.0.tls_serialize(writer)
     }
 
-    /// `InvalidVectorLength`: there are more bytes than the greatest length. `OutOfMemory`: there was
-    /// none.
+    /// `InvalidVectorLength`: there are more bytes than the greatest length. `OutOfMemory`:
+    /// allocation failed.
     fn tls_serialize_into(&self, out: &mut Vec<u8>) -> Result<usize, Error> {
         self.0.tls_serialize_into(out)
     }
@@ -180,7 +181,7 @@ impl DeserializeBytes for SecretVLByteVec {
 
     /// `InvalidVectorLength`: the length has more bytes than it needs, or more than 30 bits.
     /// `EndOfStream`: there is no whole length. `DecodingError("declared content is not there")`:
-    /// fewer bytes are behind it than it declares.
+    /// fewer bytes come after it than it declares.
     fn tls_deserialize_bytes(
         alloc: Global,
         whole: &[u8],

@@ -12,7 +12,7 @@ use std::fmt;
 use tls_codec_base::{Serialize, SerializeBytes, Size, opaque};
 use tls_codec_wire::{Error, Sink, TlsVarInt};
 
-/// Borrowed bytes, which are spelled behind their number as a variable-length integer.
+/// Borrowed bytes. Their spelling is their number as a variable-length integer, and then the bytes.
 ///
 /// It is written as a [`VLBytes`](crate::VLBytes) of these bytes is, and needs no copy of them.
 ///
@@ -60,8 +60,8 @@ impl<'a> Serialize for VLByteSlice<'a> {
         opaque::write::<TlsVarInt, W>(writer, self.as_slice())
     }
 
-    /// `InvalidVectorLength`: there are more bytes than the greatest length. `OutOfMemory`: there was
-    /// none.
+    /// `InvalidVectorLength`: there are more bytes than the greatest length. `OutOfMemory`:
+    /// allocation failed.
     #[inline(always)]
     fn tls_serialize_into(&self, out: &mut Vec<u8>) -> Result<usize, Error> {
         opaque::append::<TlsVarInt>(out, self.as_slice())

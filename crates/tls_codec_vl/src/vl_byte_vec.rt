@@ -1,4 +1,4 @@
-//! [`VLByteVec`], bytes that it owns.
+//! [`VLByteVec`], owned bytes.
 ghost use Rattle.std.specs.Prelude.{◌≡◌, [], ◌∷◌, ◌++◌, codes, is_ok, if◌then◌else◌, length, IfErr, IfOk, IsOk, MatchOption, Some};
 ghost use Rattle.tls_codec_wire.specs.declared.error.Error.TheVariants.{OutOfMemory};
 ghost use Rattle.tls_codec_grammar.specs.Tree.{number_trees};
@@ -16,7 +16,7 @@ use std::fmt;
 use tls_codec_base::{Deserialize, DeserializeBytes, Serialize, SerializeBytes, Size, opaque};
 use tls_codec_wire::{Error, Sink, Source, TlsVarInt};
 
-/// Bytes, which are spelled behind their number as a variable-length integer.
+/// Bytes. Their spelling is their number as a variable-length integer, and then the bytes.
 ///
 /// They are compared, ordered and hashed as the list of them is. This is a
 /// [`VLBytes`](crate::VLBytes) under another name.
@@ -38,7 +38,7 @@ impl VLByteVec {
 
     /// A copy of these bytes.
     ///
-    /// `OutOfMemory`: there was no memory for it. No bytes ask for none.
+    /// `OutOfMemory`: there was no memory for it. If there are no bytes, nothing is allocated.
     pub fn from_slice(alloc: Global, content: &[u8]) -> Result<VLByteVec, Error>
         ensures ok { IfOk result (λ v. vec_bytes_of v ≡ content.now) }
         ensures err { IfErr result (λ e. e ≡ OutOfMemory) }
@@ -145,8 +145,8 @@ impl Serialize for VLByteVec {
         opaque::write::<TlsVarInt, W>(writer, self.as_slice())
     }
 
-    /// `InvalidVectorLength`: there are more bytes than the greatest length. `OutOfMemory`: there was
-    /// none.
+    /// `InvalidVectorLength`: there are more bytes than the greatest length. `OutOfMemory`:
+    /// allocation failed.
     #[inline(always)]
     fn tls_serialize_into(&self, out: &mut Vec<u8>) -> Result<usize, Error> {
         opaque::append::<TlsVarInt>(out, self.as_slice())
@@ -175,7 +175,7 @@ impl DeserializeBytes for VLByteVec {
 
     /// `InvalidVectorLength`: the length has more bytes than it needs, or more than 30 bits.
     /// `EndOfStream`: there is no whole length. `DecodingError("declared content is not there")`:
-    /// fewer bytes are behind it than it declares.
+    /// fewer bytes come after it than it declares.
     fn tls_deserialize_bytes(alloc: Global, whole: &[u8]) -> Result<(VLByteVec, &[u8]), Error> {
         let (copy, rest) = opaque::split_copied::<TlsVarInt>(alloc, whole)?;
         Ok((VLByteVec::new(copy), rest))

@@ -2,13 +2,13 @@
 ghost use Rattle.std.specs.Prelude.{◌≡◌, [], length, replicate};
 ghost use Rattle.std.specs.List.{All};
 
-/// A value that can be cleared in place, as key material is before it is let go.
+/// A value that can be cleared in place, as key material is before it is dropped.
 ///
-/// What "cleared" is, each type says: an integer is 0, an array holds zeros, a list is empty, and each of
-/// its elements was cleared before. A type of one's own names its own.
+/// Each type says what "cleared" is: an integer is 0, an array holds zeros, a list is empty after each of
+/// its elements was cleared. A type of your own says it too.
 ///
-/// Nothing is promised of memory that was freed, since the compiler may leave out stores that nothing reads,
-/// nor of copies that were made before.
+/// Nothing is promised of freed memory, since the compiler may leave out stores that nothing reads. Nor is
+/// it of copies that were made before.
 ///
 /// ```rust
 /// let mut key = [7u8; 3];

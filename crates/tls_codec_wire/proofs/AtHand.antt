@@ -4,7 +4,7 @@ use Rattle.std.specs.Prelude.{option_map}
 use Rattle.std.proofs.lemmas.List.{nil_from_length, take-append-le}
 use Rattle.tls_codec_wire.specs.Device.{IsAtHand}
 
--- a prefix of what is at hand comes first of the first bytes, where it passes neither
+-- a prefix of what is at hand comes first of the first bytes, if it passes neither
 pub at_hand_within : (coming : Option (List ℕ)) (bytes : List ℕ) (n limit : ℕ) → n ≤ limit → n ≤ length bytes
     → IsAtHand bytes coming → IsAtHand (take n bytes) (option_map (take limit) coming)
 at_hand_within None bytes n limit below within h = nil_from_length (take n bytes) (length-take-le n bytes within ∙ omega (arith, within, ap length h))

@@ -20,7 +20,7 @@ pub AreBytes-high_first : (k n : ℕ) → AreBytes (bytes_high_first k n)
 AreBytes-high_first zero n = tt
 AreBytes-high_first (suc k) n = (byte_at_below k n, AreBytes-high_first k n)
 
--- one more byte in front of the low k bytes
+-- one more byte before the low k bytes
 one_more_high : (k n : ℕ) → byte_at k n * 256 ^ k + n % 256 ^ k ≡ n % 256 ^ suc k
 one_more_high zero n = omega arith
 one_more_high (suc k) n =

@@ -1,4 +1,4 @@
--- Lists of which each element is known to be a byte.
+-- Lists whose elements are all known to be bytes.
 use Rattle.std.proofs.Common.{ℕ, suc, ◌<◌, List, [], ◌∷◌, ◌++◌, get_or}
 use Rattle.tls_codec_wire.specs.Digits.{AreBytes}
 

@@ -5,7 +5,7 @@ use Rattle.std.specs.Io.KnownBytes.{Appends}
 use Rattle.std.proofs.KnownBytes.{Appends-trans}
 use Rattle.tls_codec_wire.specs.Device.{Received}
 
--- a call that moves k bytes of what stands behind the first n leaves a longer beginning
+-- a call that moves k bytes of what comes after the first n leaves a longer prefix
 pub appends_more : (a b c : Option (List ℕ)) (n k : ℕ) (bytes : List ℕ)
     → Appends a b (take n bytes) → Appends b c (take k (take (length bytes - n) (drop n bytes)))
     → Appends a c (take (n + k) bytes)
@@ -14,7 +14,7 @@ appends_more a b c n k bytes p q =
     (ap (λ xs. take n bytes ++ take k xs) (take_rest bytes n) ∙ sym (take-add n k bytes))
     (Appends-trans a b c (take n bytes) _ p q)
 
--- so the sink has received a beginning
+-- so the sink has received a prefix
 pub received_more : (a b c : Option (List ℕ)) (n k : ℕ) (bytes : List ℕ)
     → Appends a b (take n bytes) → Appends b c (take k (take (length bytes - n) (drop n bytes)))
     → Received a c bytes

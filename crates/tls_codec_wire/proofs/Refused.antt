@@ -57,7 +57,7 @@ module _ {S : Type 0} {source : Ghosts S} where
       no_less (Some y) None took = absurd took
       no_less (Some y) (Some z) took = omega (arith, ap length took, length-append p.rest z)
 
-  -- where nothing was seen, nothing was given
+  -- if nothing was seen, nothing was given
   pub seen_nothing : {old new : S} → GivesInOrder source.given → GivesFromFront source.given source.coming → Seen source old new [] → source.given old [] new
   seen_nothing {old} {new} order from_front p = none p.front p.rest p.gave p.goes_on (source.coming p.at) (from_front p.at p.rest new p.goes_on) p.whole
     where
@@ -71,7 +71,7 @@ module _ {S : Type 0} {source : Ghosts S} where
           lost (Some y) q = omega (arith, ap length whole, ap length q)
       none (b ∷ bs) rest gave on told took whole = absurd (omega (arith, ap length whole))
 
-  -- of one that never tells any, what it gave was seen
+  -- if the source never tells any, what it gave was seen
   pub seen_untold : {old new : S} {x : List ℕ} → GivesInOrder source.given → ((s : S) → source.coming s ≡ None) → Seen source old new x → source.given old x new
   seen_untold {old} {new} {x} order never p =
       subst (λ (u : List ℕ). source.given old u new) (sym (p.whole ∙ ap (λ (u : Option (List ℕ)). p.front ++ told_or u p.rest) (never p.at))) (order old p.front p.at p.rest new p.gave p.goes_on)
@@ -101,7 +101,7 @@ module _ {S : Type 0} {source : Ghosts S} where
       none_left None end = append-nil (front ++ []) ∙ append-nil front
       none_left (Some rest) end = ap (λ (u : List ℕ). (front ++ []) ++ u) end ∙ append-nil (front ++ []) ∙ append-nil front
 
-  -- none is taken where fewer are to come
+  -- none is taken if fewer are to come
   pub too_few : {old new : S} (n : ℕ) → GivesNothing source.given → 0 < n → IsShortOf n (source.coming old) → new ≡ old → RefusedFor source (ReadRefused n) old new EndOfStream
   too_few {old} {new} n nothing some short same = record {
     bytes = _;

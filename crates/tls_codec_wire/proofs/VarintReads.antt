@@ -64,7 +64,7 @@ module _ {first more least number : ℕ} {digits : List ℕ} (d : HasDigits firs
   lays_out : LaidOut (first ∷ digits) number
   lays_out = laid_out first number digits d.bytes (omega (arith, d.says.width, d.count)) d.value
 
-  -- they spell it, where they are as many as it needs and it is below the limit
+  -- they spell it, if they are as many as it needs and it is below the limit
   pub spells_below : (limit : ℕ) {n : ℕ} → n ≡ number → least ≤ number → number < limit → SpelledBelow limit (first ∷ digits) n
   spells_below limit same needed below =
       let fits : number < 64 * 256 ^ more = subst (λ (k : ℕ). number < 64 * 256 ^ k) d.count d.fits in

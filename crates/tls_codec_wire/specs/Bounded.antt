@@ -10,7 +10,7 @@ use Rattle.tls_codec_wire.specs.Device.{Gives, GivesFromFront, GivesInOrder, Giv
 abbrev pub limit_of : {R : Type 0} → Bounded R → ℕ
 limit_of b = b.limit
 
--- the inner source as it stands
+-- the inner source as it is
 abbrev pub inner_of : {R : Type 0} → Bounded R → R
 inner_of b = b.inner.now
 

@@ -8,7 +8,7 @@ pub record Counts : Type 0 where
   pub interruptions : ℕ
   pub shortages : ℕ
 
--- where a count stays once it is there
+-- a count stays at this number once it is there
 abbrev pub count_limit : ℕ
 count_limit = 2 ^ 64 - 1
 
@@ -16,7 +16,7 @@ count_limit = 2 ^ 64 - 1
 abbrev pub raised : ℕ → ℕ
 raised n = max n (min (n + 1) count_limit)
 
--- a count rose by n at least, or stands at its limit
+-- a count rose by n at least, or is at its limit
 abbrev pub RoseBy : ℕ → ℕ → ℕ → Type 0
 RoseBy n old new = min (old + n) count_limit ≤ new
 

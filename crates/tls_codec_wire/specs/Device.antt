@@ -16,7 +16,7 @@ bytes_moved result buffer = take (count_moved result) buffer
 
 -- ---- counts
 
--- the counts stand at these numbers
+-- the counts are these numbers
 abbrev pub StandAt : Counts → (failures interruptions shortages : ℕ) → Type 0
 StandAt counts f i s = (counts.failures ≡ f) × (counts.interruptions ≡ i) × (counts.shortages ≡ s)
 
@@ -31,7 +31,7 @@ abbrev pub PullIsCounted : Result ℕ Fault → Counts → Counts → Type 0
 PullIsCounted (Ok n) old new = StandAt new old.failures old.interruptions old.shortages
 PullIsCounted (Err fault) old new = FaultRaises fault old new
 
--- so did a call of `give`, for which no byte of a nonempty piece is a failure
+-- so did a call of `give`: if it takes no byte of a nonempty piece, that is a failure
 abbrev pub GiveIsCounted : Result ℕ Fault → ℕ → Counts → Counts → Type 0
 GiveIsCounted (Ok n) size old new =
     (n ≡ 0 → 0 < size → new.failures ≡ raised old.failures)
@@ -72,25 +72,25 @@ pub record Gave {S : Type 0} (given : Gives S) (old new : S) : Type 0 where
   pub bytes : List ℕ
   pub held : given old bytes new
 
--- the bytes that a call moved stand behind those of a vector
+-- the bytes that a call moved come after those of a vector
 pub record PulledOnto {S : Type 0} (given : Gives S) (old new : S) (result : Result ℕ Fault) (before after : List ℕ) : Type 0 where
   pub bytes : List ℕ
   pub held : given old bytes new
   pub appended : after ≡ before ++ bytes
   pub count : length bytes ≡ count_moved result
 
--- p is a beginning of s
+-- p is a prefix of s
 abbrev pub IsBeginning : List ℕ → List ℕ → Type 0
 IsBeginning p s = (rest : List ℕ) × (s ≡ p ++ rest)
 
--- these bytes come first; there are none where the bytes to come aren't told
+-- these bytes come first; there are none if the bytes to come aren't told
 abbrev pub IsAtHand : List ℕ → Option (List ℕ) → Type 0
 IsAtHand bytes None = bytes ≡ []
 IsAtHand bytes (Some xs) = IsBeginning bytes xs
 
 -- ---- what a sink has received
 
--- a beginning of these bytes was received
+-- a prefix of these bytes was received
 pub record Received (old new : Option (List ℕ)) (bytes : List ℕ) : Type 0 where
   pub front : List ℕ
   pub held : Appends old new front

@@ -33,14 +33,14 @@ NumberNotRead refuses x old new e = refuses x e
 
 -- ---- writing
 
--- the sink received a spelling of n behind what it had, of so many bytes
+-- the sink received a spelling of n after what it had, of so many bytes
 pub record SentNumber (spells : List ℕ → ℕ → Type 0) (old new : Option (List ℕ)) (n width : ℕ) : Type 0 where
   pub form : List ℕ
   pub spelled : spells form n
   pub held : Appends old new form
   pub count : width ≡ length form
 
--- the sink received a beginning of a spelling of n
+-- the sink received a prefix of a spelling of n
 pub record BeganNumber (spells : List ℕ → ℕ → Type 0) (old new : Option (List ℕ)) (n : ℕ) : Type 0 where
   pub form : List ℕ
   pub spelled : spells form n

@@ -6,13 +6,13 @@ use Rattle.tls_codec_wire.specs.declared.bounded.Bounded.{Bounded}
 use Rattle.tls_codec_wire.specs.declared.device.Source.{Ghosts}
 use Rattle.tls_codec_wire.specs.declared.error.Error.{Error}
 
--- the bytes to come, where they are told, else those that were given
+-- the bytes to come, if they are told, else those that were given
 abbrev pub told_or : Option (List ℕ) → List ℕ → List ℕ
 told_or None gave = gave
 told_or (Some told) gave = told
 
--- x is what a call has seen: the bytes that the source gave up to some point, and after them those that were to come
--- there, where it told them, else those that it gave from there on
+-- x is what a call has seen: the bytes that the source gave up to some point; and after them those that were to come
+-- there, if it told them, else those that it gave from there on
 pub record Seen {S : Type 0} (source : Ghosts S) (old new : S) (x : List ℕ) : Type 0 where
   pub front : List ℕ
   pub at : S

@@ -7,12 +7,12 @@ use Rattle.tls_codec_wire.specs.declared.device.Fault.{Fault}
 use Rattle.tls_codec_wire.specs.declared.device.Fault.TheVariants.{Interrupted, NoMemory, Failed}
 use Rattle.tls_codec_wire.specs.Counts.{Counts, RoseBy, FaultIsCounted}
 
--- fewer than n bytes were to come, where that is told
+-- fewer than n bytes were to come, if that is told
 abbrev pub IsShortOf : ℕ → Option (List ℕ) → Type 0
 IsShortOf n None = ⊤
 IsShortOf n (Some xs) = length xs < n
 
--- the error that a fault is after so many interruptions in a row, where it is not tried again: 16 are tried
+-- the error that a fault is after so many interruptions in a row, if it is not tried again: 16 are tried
 abbrev pub ErrorOfFault : Fault → ℕ → Error → Error → Type 0
 ErrorOfFault Interrupted row failed e = (16 ≤ row) × (e ≡ failed)
 ErrorOfFault NoMemory row failed e = e ≡ OutOfMemory

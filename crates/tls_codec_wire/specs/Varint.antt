@@ -1,4 +1,5 @@
--- Variable-length integers (RFC 9000, section 16) and lengths (RFC 9420, section 2.1.2): which bytes spell which number.
+-- Variable-length integers (varints; RFC 9000, section 16) and lengths (RFC 9420, section 2.1.2): which bytes spell
+-- which number.
 use Rattle.std.specs.Prelude.{◌≡◌, ℕ, suc, ◌+◌, ◌*◌, ◌^◌, ◌<◌, List, [], ◌∷◌, length, nat_lt, if◌then◌else◌}
 use Rattle.tls_codec_wire.specs.Digits.{AreBytes, value}
 

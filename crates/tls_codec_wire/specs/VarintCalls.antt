@@ -46,7 +46,7 @@ pub record IsLaidOut (n mark width : ℕ) : Type 0 where
 
 -- ---- putting a length before what it counts
 
--- the spelling of the number of bytes behind a place stands before them, of so many bytes
+-- the spelling of the number of bytes after a place comes before them, and has so many bytes
 pub record InsertedLength (old new : List ℕ) (at width : ℕ) : Type 0 where
   pub form : List ℕ
   pub spelled : VectorLength form (length old - at)

@@ -8,10 +8,10 @@ ghost use Rattle.tls_codec_wire.specs.declared.device.Fill.TheVariants.{Full, To
 
 use crate::device::{Fault, Fill, Source};
 
-/// The first `limit` bytes of a source that is borrowed, as a source.
+/// The first `limit` bytes of a borrowed source, as a source.
 ///
-/// Once this is gone, the inner source stands just behind the bytes that were given. One may be
-/// taken over another.
+/// Once this is gone, the inner source is just after the bytes that were given. One `Bounded` may
+/// be over another.
 ///
 /// ```rust
 /// let mut src = [1u8, 2, 3].as_slice();
@@ -28,7 +28,7 @@ pub struct Bounded<'a, R> {
 }
 
 impl<'a, R: Source> Bounded<'a, R> {
-    /// The first `limit` bytes of a source, or fewer where it ends before.
+    /// The first `limit` bytes of a source, or fewer if it ends before.
     pub fn new(inner: &'a mut R, limit: u64) -> Bounded<'a, R>
         ensures limit { limit_of result ≡ limit }
         ensures inner { inner_of result ≡ inner.old }

@@ -31,11 +31,11 @@ pub enum Fill {
 /// How many bytes a source that fills buffers alone moves at once onto a vector.
 const CHUNK: usize = 4096;
 
-/// Where bytes come from, as a file, a socket or a slice.
+/// Where bytes come from: a file, a socket or a slice.
 ///
 /// [`Outside`](crate::Outside) makes one of any `std::io::Read`.
 pub trait Source {
-    // The bytes to come, where the source tells them.
+    // The bytes to come, if the source tells them.
     ghost coming: { Self → Option (List ℕ) };
 
     // How often it failed, was interrupted and had no memory.
@@ -44,15 +44,15 @@ pub trait Source {
     // Between these two states the source has given these bytes, and nothing else.
     ghost given: { Self → List ℕ → Self → Type 0 };
 
-    /// Fills a prefix of the buffer with the next bytes, and returns how many. It is 0 for a buffer
-    /// with room only at the end of the bytes. Behind a fault nothing was taken.
+    /// Fills a prefix of the buffer with the next bytes, and returns how many. For a buffer with
+    /// room, 0 means the end of the bytes. After a fault nothing was taken.
     fn pull(&mut self, into: &mut [u8]) -> Result<usize, Fault>
         ensures bound { IfOk result (λ n. n ≤ length into.new) }
         ensures gave { given self.old (bytes_moved result into.new) self.new }
         ensures end { result ≡ Ok 0 → 0 < length into.old → IsAtEnd (coming self.new) }
         ensures counted { PullIsCounted result (counts self.old) (counts self.new) };
 
-    /// The bytes that it has at hand in memory, which are to come first. There are none where it
+    /// The bytes that it has at hand in memory, which are to come first. There are none if it
     /// doesn't tell what is to come.
     fn at_hand(&self) -> &[u8]
         ensures { IsAtHand result.now (coming self.now) }
@@ -60,9 +60,9 @@ pub trait Source {
         &[]
     }
 
-    /// Fills the whole buffer with the next bytes, where it has as many at hand in memory.
+    /// Fills the whole buffer with the next bytes, if it has as many at hand in memory.
     ///
-    /// A number is read by one such call, in place of a loop over [`pull`](Source::pull). A source
+    /// A number is read by one such call, instead of a loop over [`pull`](Source::pull). A source
     /// that doesn't know what it has returns `Unknown`.
     fn fill_at_hand(&mut self, _into: &mut [u8]) -> Fill
         ensures filled { result ≡ Full → given self.old _into.new self.new }
@@ -74,9 +74,9 @@ pub trait Source {
         Fill::Unknown
     }
 
-    /// Puts the next bytes behind those of a vector, as many as it has room for and `most` at most,
-    /// and returns how many. It never grows the vector. It is 0 for a vector with room only at the
-    /// end of the bytes. Behind a fault nothing was taken.
+    /// Puts the next bytes after those of a vector, as many as it has room for and `most` at most,
+    /// and returns how many. It never grows the vector. For a vector with room, 0 means the end of
+    /// the bytes. After a fault nothing was taken.
     ///
     /// A source that has its bytes in memory writes its own, which copies them once.
     fn pull_onto(&mut self, out: &mut Vec<u8>, most: usize) -> Result<usize, Fault>
@@ -104,18 +104,18 @@ pub trait Source {
     ghost no_count_falls: { NoCountFalls given counts };
 }
 
-/// Where bytes go, as a file, a socket or a vector.
+/// Where bytes go: a file, a socket or a vector.
 ///
 /// [`Outside`](crate::Outside) makes one of any `std::io::Write`.
 pub trait Sink {
-    // The bytes received, where the sink tells them.
+    // The bytes received, if the sink tells them.
     ghost received: { Self → Option (List ℕ) };
 
     // How often it failed, was interrupted and had no memory.
     ghost counts: { Self → Counts };
 
-    /// Takes a prefix of the piece, and returns how many bytes. No byte of a nonempty piece is a
-    /// failure, and is counted as one. Behind a fault nothing was received.
+    /// Takes a prefix of the piece, and returns how many bytes. If it takes no byte of a nonempty
+    /// piece, that is a failure, and is counted as one. After a fault nothing was received.
     fn give(&mut self, bytes: &[u8]) -> Result<usize, Fault>
         ensures bound { IfOk result (λ n. n ≤ length bytes.now) }
         ensures took { Appends (received self.old) (received self.new)

@@ -1,4 +1,4 @@
-//! What a codec refuses.
+//! Errors: why a codec rejects bytes or a value.
 ghost use Rattle.std.specs.Prelude.{◌≡◌};
 ghost use Rattle.tls_codec_wire.specs.Names.{name_of};
 ghost use Rattle.tls_codec_wire.specs.Foreign.{ErrorOfIo};
@@ -12,11 +12,11 @@ use std::{fmt, io};
 
 /// Why bytes were not read, or a value was not written.
 ///
-/// Texts are constants, so that making an error takes no memory. `Display` prints the `Debug`
-/// text, as `EndOfStream` or `UnknownValue(7)`.
+/// Texts are constants, so making an error takes no memory. `Display` prints the `Debug` text, as
+/// `EndOfStream` or `UnknownValue(7)`.
 #[derive(Clone, Copy, PartialEq, Eq, Debug)]
 pub enum Error {
-    /// A value could not be written, also where the sink failed.
+    /// A value could not be written, also if the sink failed.
     EncodingError(&'static str),
     /// A list's content passes its length field, or a vector would pass `isize::MAX` bytes.
     InvalidVectorLength,
@@ -28,11 +28,11 @@ pub enum Error {
     DecodingError(&'static str),
     /// Fewer bytes came than the value asks for.
     EndOfStream,
-    /// A value was read where all bytes were to be used, and a byte is left.
+    /// All bytes were to be used, and a byte is left.
     TrailingData,
     /// A tag that a user's own type doesn't know.
     UnknownValue(u64),
-    /// A number passes the type it was to become.
+    /// A number is too large for the type it was to become.
     LibraryError,
     /// Memory was refused.
     OutOfMemory,

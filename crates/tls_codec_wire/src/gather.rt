@@ -16,8 +16,8 @@ const FIRST_ROOM: usize = 4096;
 
 /// A vector of the next `len` bytes.
 ///
-/// Room is asked for as the bytes come: for 4,096 at first, and then for as many as came or are at
-/// hand, so that a length without its bytes costs nothing. `InvalidVectorLength`: `len` is above
+/// Room is requested as the bytes come: for 4,096 at first, and then for as many as came or are at
+/// hand. So a length without its bytes costs nothing. `InvalidVectorLength`: `len` is above
 /// `isize::MAX`, and nothing was taken. `OutOfMemory`: the source or the vector had none. Every
 /// other refusal, and interruptions, are as in [`read_exactly`](crate::read_exactly).
 ///
@@ -57,8 +57,8 @@ pub fn read_bytes_bounded<R: Source>(
     Ok(bytes)
 }
 
-// How much room is asked for where so many bytes came, and others are at hand: before one came little,
-// and then for what is at hand, or as much as came.
+// How much room is requested if `came` bytes came and others are at hand: little before any came, and
+// then for what is at hand, or as much as came.
 fn room_for(came: usize, at_hand: &[u8]) -> usize
     ensures some { 0 < result }
     ensures first { came ≡ 0 → result ≤ 4096 }

@@ -45,8 +45,8 @@ use std::num::TryFromIntError;
 
 // ---- what devices tell
 
-/// A wrapped reader tells the bytes that the reader tells. It has given what the reader lost, and so many
-/// bytes more than before. Its counts are its own.
+/// A wrapped reader tells the bytes that the reader tells. It has given what the reader lost, and counts
+/// these bytes. Its counts are its own.
 pub fn readers_outside_tell_what_is_to_come<R: Read>()
     ensures coming { (s : Outside R) → ⟦<Outside<R> as Source>⟧.coming s ≡ R.remaining (wrapped s) }
     ensures counts { (s : Outside R) → ⟦<Outside<R> as Source>⟧.counts s ≡ counts_of s }
@@ -54,8 +54,8 @@ pub fn readers_outside_tell_what_is_to_come<R: Read>()
         GaveOutside R.remaining a g b }
 {}
 
-/// What a call has seen of a source is what was to come, where that is told, and what was given by a
-/// source that never tells any. It is never less than what was given.
+/// What a call has seen of a source is what was to come, if that is told. Of a source that never
+/// tells any it is what was given. It is never less than what was given.
 pub fn what_was_seen_was_told_or_given<R: Source>()
     ensures told { (old new : R) (x y : List ℕ)
         → Seen R.Source old new x
@@ -98,13 +98,13 @@ pub fn first_bytes_are_the_inner_sources<R: Source>()
         ↔ GaveWithin R.given a g b }
 {}
 
-/// Two faults are equal where their variants are. A copy of a fault is that fault.
+/// Two faults are equal if their variants are. A copy of a fault is that fault.
 pub fn faults_are_compared_by_their_variants()
     ensures equal { (x y : Fault) → IsTrue (⟦<Fault as PartialEq>⟧.eq x y) ↔ (x ≡ y) }
     ensures copied { (x y : Fault) → ⟦<Fault as Clone>⟧.is_clone x y → y ≡ x }
 {}
 
-/// So it is with what came of filling a buffer.
+/// The same for what came of filling a buffer.
 pub fn fills_are_compared_by_their_variants()
     ensures equal { (x y : Fill) → IsTrue (⟦<Fill as PartialEq>⟧.eq x y) ↔ (x ≡ y) }
     ensures copied { (x y : Fill) → ⟦<Fill as Clone>⟧.is_clone x y → y ≡ x }
@@ -112,7 +112,7 @@ pub fn fills_are_compared_by_their_variants()
 
 // ---- errors
 
-/// Two errors are equal where their variants are, and the text or the number in them. A copy of an
+/// Two errors are equal if their variants are, and the text or the number in them. A copy of an
 /// error is that error.
 pub fn errors_are_compared_by_their_parts()
     ensures equal { (x y : Error) → IsTrue (⟦<Error as PartialEq>⟧.eq x y) ↔ AreSame x y }
@@ -136,7 +136,7 @@ pub fn errors_of_std_become_errors()
 
 // ---- numbers
 
-/// Two `U24` are equal where their numbers are, and a copy of one has its number.
+/// Two `U24` are equal if their numbers are, and a copy of one has its number.
 pub fn uint24s_are_compared_by_their_numbers()
     ensures equal { (x y : U24)
         → IsTrue (⟦<U24 as PartialEq>⟧.eq x y)
@@ -144,7 +144,7 @@ pub fn uint24s_are_compared_by_their_numbers()
     ensures copied { (x y : U24) → ⟦<U24 as Clone>⟧.is_clone x y → y ≡ x }
 {}
 
-/// A `U24` is made of each number of 24 bits, and of no other, and that number is made of it. The
+/// Each number of 24 bits makes a `U24`, no other does, and the `U24` makes that number again. The
 /// default is 0.
 pub fn uint24s_are_made_of_their_numbers()
     ensures made { (n : ℕ) (x : U24) → ⟦<U24 as TryFrom<usize>>⟧.try_from_gives n (Ok x)
@@ -156,7 +156,7 @@ pub fn uint24s_are_made_of_their_numbers()
     ensures default { (x : U24) → ⟦<U24 as Default>⟧.is_default x → uint24.number_of x ≡ 0 }
 {}
 
-/// Two `TlsVarInt` are equal where their numbers are, are ordered as these, and are hashed as the
+/// Two `TlsVarInt` are equal if their numbers are. They are ordered as these, and hashed as the
 /// number is. A copy of one has its number.
 pub fn varints_are_compared_by_their_numbers()
     ensures equal { (x y : TlsVarInt)
@@ -172,7 +172,8 @@ pub fn varints_are_compared_by_their_numbers()
     ensures copied { (x y : TlsVarInt) → ⟦<TlsVarInt as Clone>⟧.is_clone x y → y ≡ x }
 {}
 
-/// A `TlsVarInt` is made of each number below 2^62, and of no other, and that number is made of it.
+/// Each number below 2^62 makes a `TlsVarInt`, no other does, and the `TlsVarInt` makes that number
+/// again.
 pub fn varints_are_made_of_their_numbers()
     ensures made { (n : ℕ) (x : TlsVarInt) → ⟦<TlsVarInt as TryFrom<u64>>⟧.try_from_gives n (Ok x)
         → (varint.number_of x ≡ n) × (n < 2 ^ 62) }

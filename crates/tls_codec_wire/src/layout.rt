@@ -2,7 +2,7 @@
 //!
 //! The top two bits of the first byte say how many bytes there are: 1, 2, 4 or 8. The other bits are
 //! the number, the most significant first. Integers and lengths are read and written here, each with
-//! a limit of its own.
+//! its own limit.
 ghost use Rattle.std.specs.Prelude.{◌≡◌, ◌+◌, ◌*◌, ◌/◌, ◌^◌, ◌<◌, ◌≤◌, ◌⊎◌, drop, length, IfErr, IfOk, MatchOption, MatchResult};
 ghost use Rattle.tls_codec_wire.specs.Counts.{NoneFell, OnlyInterrupted};
 ghost use Rattle.tls_codec_wire.specs.Device.{Gave};
@@ -19,8 +19,8 @@ use crate::transfer::{read_exactly, write_all};
 
 // ---- reading
 
-/// Reads a number. All bytes that the first one asks for are read before anything is refused but their
-/// end.
+/// Reads a number. All bytes that the first one asks for are read before anything is refused, except
+/// that they end early.
 #[inline(always)]
 pub(crate) fn read_below<R: Source, const LIMIT: u64>(src: &mut R) -> Result<u64, Error>
     requires { 2 ^ 30 ≤ LIMIT }
@@ -59,7 +59,7 @@ pub(crate) fn split_below<const LIMIT: u64>(bytes: &[u8]) -> Result<(u64, &[u8])
     split_wider::<LIMIT>(bytes)
 }
 
-// The same, whatever the width: out of the way of the loops that read numbers of one byte.
+// The same, whatever the width. It is kept out of the loops that read numbers of one byte.
 #[inline(never)]
 fn split_wider<const LIMIT: u64>(bytes: &[u8]) -> Result<(u64, &[u8]), Error>
     requires { 2 ^ 30 ≤ LIMIT }
@@ -92,7 +92,8 @@ fn said_by(first: u8) -> (usize, u64)
     }
 }
 
-// The number of which `top` is the first digit and the others follow. One or three are read by no loop.
+// The number whose first digit is `top`, with the others after it. One or three are read without a
+// loop.
 fn number_from(top: u8, digits: &[u8]) -> u64
     requires top { top < 64 }
     requires digits { length digits.now < 8 }
@@ -121,7 +122,7 @@ fn number_of_each(top: u8, digits: &[u8]) -> u64
     number
 }
 
-// The number, where its bytes are as many as it needs and it is below the limit.
+// The number, if it has as many bytes as it needs and is below the limit.
 fn admit<const LIMIT: u64>(number: u64, least: u64) -> Result<u64, Error>
     ensures { MatchResult result (λ n. (n ≡ number) × (least ≤ number) × (number < LIMIT))
         (λ e. (e ≡ InvalidVectorLength) × ((number < least) ⊎ (LIMIT ≤ number))) }
@@ -161,8 +162,8 @@ pub(crate) fn write_below<W: Sink, const LIMIT: u64>(
     Ok(form.len())
 }
 
-/// The spelling of a number, which is what stands in these bytes from this place on; none from the
-/// limit on.
+/// The spelling of a number: what is in these bytes from this place on. It is none from the limit
+/// on.
 #[inline(always)]
 pub(crate) fn form_below<const LIMIT: u64>(number: u64) -> Option<([u8; 8], usize)>
     requires least { 2 ^ 30 ≤ LIMIT }
@@ -187,8 +188,8 @@ pub(crate) fn width_below<const LIMIT: u64>(number: u64) -> usize
     }
 }
 
-// What the top bits of the spelling are worth, and how many bytes they say. The limit is asked last, so
-// that each width stays a constant where the form is used.
+// What the top bits of the spelling are worth, and how many bytes they say. The limit is checked last,
+// so that each width stays a constant where the form is used.
 #[inline(always)]
 fn layout<const LIMIT: u64>(n: u64) -> Option<(u64, usize)>
     requires least { 2 ^ 30 ≤ LIMIT }

@@ -1,20 +1,20 @@
 //! What moves bytes under a TLS codec: the errors it returns, the devices that bytes come from and
 //! go to, and the two calls that move a piece whole.
 //!
-//! The layer above relies on one thing: [`read_exactly`] and [`write_all`] move a piece whole, or a
-//! beginning of it and then return a named error that is tied to a count of the device or to bytes
-//! that aren't there.
+//! The layer above relies on one thing: [`read_exactly`] and [`write_all`] move a piece whole; or
+//! they move a prefix of it and return a named error. The error is tied to a count of the device or
+//! to bytes that aren't there.
 //!
-//! - [`error`]: [`Error`], what a codec refuses.
+//! - [`error`]: [`Error`], why a codec rejects bytes or a value.
 //! - [`device`]: [`Source`] and [`Sink`], and [`Fault`], why one call of them moved nothing.
 //! - [`memory`]: a slice as a source, a vector as a sink.
 //! - [`outside`]: [`Outside`], any `Read` or `Write` as a device.
 //! - [`bounded`]: [`Bounded`], the first bytes of another source.
 //! - [`transfer`]: [`read_exactly`] and [`write_all`], and [`expect_end`]. [`gather`]: [`read_bytes_bounded`].
 //! - [`uint24`]: [`U24`], a number of 24 bits.
-//! - [`varint`]: [`TlsVarInt`], the number of a variable-length integer.
+//! - [`varint`]: [`TlsVarInt`], the number of a variable-length integer (varint).
 //! - [`quic`]: variable-length integers, read and written. [`vlen`]: lengths as such integers. Both
-//!   stand on `layout`, numbers below a limit in the least width.
+//!   use `layout`, numbers below a limit in the least width.
 //! - [`laws`]: what devices tell, and what errors and numbers stand for.
 #![tactic(auto)]
 

@@ -67,8 +67,8 @@ impl Source for &[u8] {
     ghost no_count_falls = { λ a xs b p. stay no_counts };
 }
 
-// Appends, and fails for memory alone. Its shortages stand at the greatest count, so that nothing
-// is promised of memory.
+// Appends, and fails for memory alone. Its count of shortages is at the limit, so that nothing is
+// promised of memory.
 impl Sink for Vec<u8> {
     ghost received = { λ v. Some v.items };
 

@@ -11,8 +11,8 @@ use std::io::{ErrorKind, Read, Write};
 /// A `Read` as a [`Source`], or a `Write` as a [`Sink`], with counts of what went wrong.
 ///
 /// One `pull` or `give` is one `read` or `write`. An error of kind `Interrupted` is the fault
-/// `Interrupted`, one of kind `OutOfMemory` is `NoMemory`, every other is `Failed`. It tells its
-/// bytes where the wrapped one does, and counts them in any case.
+/// `Interrupted`, and one of kind `OutOfMemory` is `NoMemory`. Every other is `Failed`, a timeout
+/// (`TimedOut`) too. It tells its bytes if the wrapped one does, and counts them in any case.
 #[derive(Drop)]
 pub struct Outside<X> {
     inner: X,
@@ -38,7 +38,7 @@ impl<X> Outside<X> {
         }
     }
 
-    /// The reader or writer inside. Whatever it has given or taken, it stands just behind that.
+    /// The reader or writer inside. Whatever it has given or taken, it is just after that.
     pub fn into_inner(self) -> X
         ensures { result ≡ wrapped self }
     {
@@ -52,22 +52,22 @@ impl<X> Outside<X> {
         self.moved
     }
 
-    /// How many calls failed: by an error of no kind that the other two count, or as a write that took no
-    /// byte of some. It stays at `u64::MAX`.
+    /// How many calls failed: by an error of a kind that the other two don't count, or as a write that
+    /// took no byte of some. It stays at `u64::MAX`.
     pub fn failures(&self) -> u64
         ensures { result ≡ (counts_of self.now).failures }
     {
         self.failures
     }
 
-    /// How many calls an error of kind `Interrupted` ended. It stays at `u64::MAX`.
+    /// How many calls ended by an error of kind `Interrupted`. It stays at `u64::MAX`.
     pub fn interruptions(&self) -> u64
         ensures { result ≡ (counts_of self.now).interruptions }
     {
         self.interruptions
     }
 
-    /// How many calls an error of kind `OutOfMemory` ended. It stays at `u64::MAX`.
+    /// How many calls ended by an error of kind `OutOfMemory`. It stays at `u64::MAX`.
     pub fn shortages(&self) -> u64
         ensures { result ≡ (counts_of self.now).shortages }
     {

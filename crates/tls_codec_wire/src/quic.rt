@@ -1,6 +1,7 @@
-//! Variable-length integers (RFC 9000, section 16), in the least width (RFC 9420, section 2.1.2).
+//! Variable-length integers (varints; RFC 9000, section 16), in the least width (RFC 9420,
+//! section 2.1.2).
 //!
-//! A number in more bytes than it needs is refused.
+//! A number in more bytes than it needs is rejected: its encoding isn't canonical.
 ghost use Rattle.std.specs.Prelude.{◌≡◌, ◌^◌, IfErr, IfOk};
 ghost use Rattle.tls_codec_wire.specs.Counts.{NoneFell, OnlyInterrupted};
 ghost use Rattle.tls_codec_wire.specs.Device.{Gave};
@@ -21,9 +22,9 @@ const LIMIT: u64 = 0x4000_0000_0000_0000;
 
 /// Reads a number.
 ///
-/// `EndOfStream`: fewer bytes come than the first one asks for, or none. `InvalidVectorLength`: these
-/// are more than the number needs. `DecodingError("read failed")` and `OutOfMemory` are the source's, as
-/// in [`read_exactly`](crate::read_exactly).
+/// `EndOfStream`: fewer bytes come than the first one asks for, or none. `InvalidVectorLength`: the
+/// number has more bytes than it needs. `DecodingError("read failed")` and `OutOfMemory` are the
+/// source's, as in [`read_exactly`](crate::read_exactly).
 ///
 /// ```rust
 /// let mut src = [0x40u8, 0x40].as_slice();
@@ -43,7 +44,7 @@ pub fn read_varint<R: Source>(src: &mut R) -> Result<TlsVarInt, Error>
 /// The number that the bytes begin with, and the rest of them.
 ///
 /// `EndOfStream`: there are fewer bytes than the first one asks for, or none. `InvalidVectorLength`:
-/// these are more than the number needs.
+/// the number has more bytes than it needs.
 pub fn split_varint(bytes: &[u8]) -> Result<(TlsVarInt, &[u8]), Error>
     ensures ok { IfOk result
         (λ found. BeginsNumber Varint bytes.now (number_of found.0) found.1.now) }
@@ -69,7 +70,7 @@ pub fn write_varint<W: Sink>(sink: &mut W, n: TlsVarInt) -> Result<usize, Error>
     Ok(width)
 }
 
-/// How many bytes a number has. It is 0 above [`TlsVarInt::MAX`], where there is no spelling.
+/// How many bytes a number has. It is 0 above [`TlsVarInt::MAX`], since there is no spelling.
 pub fn least_width(n: u64) -> usize
     ensures { result ≡ width_below (2 ^ 62) n }
 {

@@ -1,4 +1,4 @@
-// What no clause says: printed texts, that calls succeed, and which interruptions stand in a row.
+// What no clause says: printed texts, that calls succeed, and which interruptions are in a row.
 mod bounded;
 mod devices;
 mod faults;

@@ -12,16 +12,16 @@ ghost use Rattle.tls_codec_wire.specs.declared.device.Fault.TheVariants.{Interru
 use crate::device::{Fault, Fill, Sink, Source};
 use crate::error::Error;
 
-/// How many interruptions in a row are tried again: a call that is interrupted once more is refused.
+/// How many interruptions in a row are tried again. A call that is interrupted once more is refused.
 pub const MOST_INTERRUPTIONS: u8 = 16;
 
 /// Fills the buffer with the next bytes.
 ///
-/// They are taken in one step where the source has them at hand, and none is taken where it knows that
-/// there are fewer. Else a call that is interrupted is tried again, up to [`MOST_INTERRUPTIONS`] times
-/// in a row; a call that moves a byte starts the row anew. `EndOfStream`: fewer bytes came than the
-/// buffer has room for. `DecodingError("read failed")`: the source failed, or was interrupted more
-/// often in a row. `OutOfMemory`: the source had none. After a refusal the buffer's content is open.
+/// If the source has them at hand, they are taken in one step. If it knows that there are fewer, none
+/// is taken. Else a call that is interrupted is tried again, up to [`MOST_INTERRUPTIONS`] times in a
+/// row; a call that moves a byte starts the row anew. `EndOfStream`: fewer bytes came than the buffer
+/// has room for. `DecodingError("read failed")`: the source failed, or was interrupted more often in a
+/// row. `OutOfMemory`: the source had none. After a refusal nothing is said of the buffer's content.
 /// An empty buffer makes no call.
 ///
 /// ```rust
@@ -80,7 +80,7 @@ fn read_as_it_comes<R: Source>(src: &mut R, into: &mut [u8]) -> Result<(), Error
     Ok(())
 }
 
-/// Returns `Ok` where no byte is to come.
+/// Returns `Ok` if no byte is to come.
 ///
 /// `TrailingData`: a byte came, and it was taken. `DecodingError("read failed")` and `OutOfMemory` are as in
 /// [`read_exactly`].
@@ -109,7 +109,7 @@ pub fn expect_end<R: Source>(src: &mut R) -> Result<(), Error>
 /// A call that is interrupted is tried again, up to [`MOST_INTERRUPTIONS`] times in a row; a call
 /// that moves a byte starts the row anew. `EncodingError("write failed")`: the sink failed, took no
 /// byte, or was interrupted more often in a row. `OutOfMemory`: the sink had none. After a refusal
-/// the sink has received a beginning of the piece. An empty piece makes no call.
+/// the sink has received a prefix of the piece. An empty piece makes no call.
 ///
 /// ```rust
 /// let mut out = Vec::new(alloc);
@@ -139,8 +139,8 @@ pub fn write_all<W: Sink>(sink: &mut W, bytes: &[u8]) -> Result<(), Error>
     Ok(())
 }
 
-// How many interruptions in a row there are after a fault that is tried again; else the error that it is,
-// which is `failed` for all but running out of memory.
+// How many interruptions in a row there are after a fault that is tried again. Else the error that it is:
+// `failed`, unless it ran out of memory.
 #[inline(always)]
 pub(crate) fn after_fault(fault: Fault, row: u8, failed: Error) -> Result<u8, Error>
     ensures ok { IfOk result (λ next. (fault ≡ Interrupted) × (row < 16) × (next ≡ row + 1)) }

@@ -1,4 +1,4 @@
-//! Variable-length integers (RFC 9000, section 16): the type of their numbers.
+//! Variable-length integers (varints; RFC 9000, section 16): the type of their numbers.
 ghost use Rattle.std.specs.Prelude.{◌≡◌, ◌<◌, ◌≤◌, ◌^◌, MatchResult};
 ghost use Rattle.tls_codec_wire.specs.declared.error.Error.TheVariants.{InvalidVectorLength};
 

@@ -1,7 +1,7 @@
 //! Lengths as variable-length integers (RFC 9420, section 2.1.2).
 //!
 //! A length has at most 30 bits, so 1, 2 or 4 bytes: the greatest is 1,073,741,823. In more bytes than it
-//! needs it is refused.
+//! needs it is rejected: that encoding isn't canonical.
 ghost use Rattle.std.specs.Prelude.{◌≡◌, ◌^◌, ◌-◌, ◌<◌, ◌≤◌, ◌+◌, ◌++◌, length, vec_len, take, drop, is_ok, if◌then◌else◌, IfErr, IfOk, MatchOption, OnErr};
 ghost use Rattle.tls_codec_wire.specs.Counts.{NoneFell, OnlyInterrupted};
 ghost use Rattle.tls_codec_wire.specs.Device.{Gave};
@@ -18,10 +18,10 @@ use crate::layout::{form_below, read_below, split_below, width_below, write_belo
 // The numbers from this one on are no lengths.
 const LIMIT: u64 = 0x4000_0000;
 
-/// Reads a length, and how many bytes it has.
+/// Reads a length, and returns it and how many bytes it has.
 ///
-/// `EndOfStream`: fewer bytes come than the first one asks for, or none. `InvalidVectorLength`: these
-/// are more than the length needs, or it is above the greatest. `DecodingError("read failed")` and
+/// `EndOfStream`: fewer bytes come than the first one asks for, or none. `InvalidVectorLength`: the
+/// length has more bytes than it needs, or is above the greatest. `DecodingError("read failed")` and
 /// `OutOfMemory` are the source's, as in [`read_exactly`](crate::read_exactly).
 ///
 /// ```rust
@@ -46,7 +46,7 @@ pub fn read_length<R: Source>(src: &mut R) -> Result<(usize, usize), Error>
 /// The length that the bytes begin with, and the rest of them.
 ///
 /// `EndOfStream`: there are fewer bytes than the first one asks for, or none. `InvalidVectorLength`:
-/// these are more than the length needs, or it is above the greatest.
+/// the length has more bytes than it needs, or is above the greatest.
 #[inline(always)]
 pub fn split_length(bytes: &[u8]) -> Result<(usize, &[u8]), Error>
     ensures ok { IfOk result (λ found. BeginsNumber VectorLength bytes.now found.0 found.1.now) }
@@ -81,8 +81,8 @@ pub fn write_length<W: Sink>(sink: &mut W, content_length: usize) -> Result<usiz
     write_below::<W, LIMIT>(sink, content_length as u64)
 }
 
-/// The bytes of a length, which are what stands in these eight from this place on; none above the
-/// greatest length.
+/// The bytes of a length: those of these eight from this place on. It is none above the greatest
+/// length.
 #[inline(always)]
 pub fn length_form(content_length: usize) -> Option<([u8; 8], usize)>
     ensures { MatchOption result (2 ^ 30 ≤ content_length)
@@ -98,11 +98,11 @@ pub fn length_width(content_length: usize) -> usize
     width_below::<LIMIT>(content_length as u64)
 }
 
-/// Puts a length before the bytes of a vector that it counts, which stand behind `at`, and returns how
-/// many bytes it has.
+/// Puts a length before the bytes of a vector that it counts, which are those from `at` on. Returns
+/// how many bytes the length has.
 ///
 /// `InvalidVectorLength`: these are more bytes than the greatest length, or the vector would pass
-/// `isize::MAX` bytes. `OutOfMemory`: there was none. After a refusal the vector is as it was.
+/// `isize::MAX` bytes. `OutOfMemory`: allocation failed. After a refusal the vector is as it was.
 ///
 /// ```rust
 /// let mut out = Vec::from_slice(alloc, &[0xaa, 1, 2])?;
@@ -129,7 +129,7 @@ pub fn insert_length(out: &mut Vec<u8>, at: usize) -> Result<usize, Error>
         return Err(Error::InvalidVectorLength);
     };
     let (form, from) = found;
-    // Where the width is a constant, moving so many bytes is no call.
+    // If the width is a constant, moving the bytes is no call.
     match from {
         7 => insert_bytes(out, at, &form[7..])?,
         6 => insert_bytes(out, at, &form[6..])?,
@@ -138,9 +138,9 @@ pub fn insert_length(out: &mut Vec<u8>, at: usize) -> Result<usize, Error>
     Ok(width)
 }
 
-/// Puts bytes before those of a vector that stand behind `at`.
+/// Puts bytes before those of a vector from `at` on.
 ///
-/// `OutOfMemory`: there was none, and the vector is as it was.
+/// `OutOfMemory`: allocation failed, and the vector is as it was.
 #[inline(always)]
 pub fn insert_bytes(out: &mut Vec<u8>, at: usize, bytes: &[u8]) -> Result<(), Error>
     requires { at ≤ vec_len out.old }

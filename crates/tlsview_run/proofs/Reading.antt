@@ -16,7 +16,7 @@ pub gave_no_more : {S : Type 0} {given : Gives S} {a b c : S} {xs : List ℕ} �
 gave_no_more {S} {given} {a} {b} {c} {xs} order p q =
     subst (λ (l : List ℕ). given a l c) (append-nil xs) (order a xs b [] c p q)
 
--- nothing but interruptions was counted, also where one was counted last
+-- nothing but interruptions was counted, also if one was counted last
 pub interrupted_again : {a b c : Counts} → OnlyInterrupted a b → FaultRaises Interrupted b c → OnlyInterrupted a c
 interrupted_again {a} {b} {c} p q = record {
   failures = q.0 ∙ p.failures;

@@ -23,7 +23,7 @@ use Rattle.tlsview_run.specs.declared.fault.ViewFault.TheVariants.{Kind, Long, R
 abbrev pub Words : Type 0
 Words = Result (IntoIter (String Global) Global) io.Error
 
--- the word behind the program's name, where it is the only one
+-- the word after the program's name, if it is the only one
 abbrev pub argument_in : List (List ℕ) → Result (List ℕ) ViewFault
 argument_in (program ∷ argument ∷ []) = Ok argument
 argument_in _ = Err Kind
@@ -40,7 +40,7 @@ argument_of (Err error) = Err (fault_without_words (error_kind error))
 
 -- ---- the line and the status
 
--- what is printed where there is no view: nothing where the sink failed
+-- what is printed if there is no view: nothing if the sink failed
 abbrev pub fault_line : ViewFault → List ℕ
 fault_line Kind = codes "error kind" ++ line_feed
 fault_line Long = codes "error long" ++ line_feed
@@ -49,7 +49,7 @@ fault_line Hex = codes "error hex" ++ line_feed
 fault_line Memory = codes "error memory" ++ line_feed
 fault_line Write = []
 
--- what is printed behind a run
+-- what is printed after a run
 abbrev pub line_of : Result Bool ViewFault → List ℕ
 line_of (Ok accepted) = []
 line_of (Err fault) = fault_line fault
@@ -60,7 +60,7 @@ status_of (Ok true) = 0
 status_of (Ok false) = 1
 status_of (Err fault) = 2
 
--- the sink received a line, and counted nothing but interruptions; or it received a beginning, and is to blame
+-- the sink received a line, and counted nothing but interruptions; or it received a prefix, and is to blame
 abbrev pub TellsLine : {T : Type 0} → SinkGhosts T → T → T → List ℕ → Type 0
 TellsLine sink before after line =
     (Appends (sink.received before) (sink.received after) line × OnlyInterrupted (sink.counts before) (sink.counts after))
@@ -87,8 +87,8 @@ abbrev pub Answers : {S T : Type 0} → SourceGhosts S → SinkGhosts T → S �
 Answers source sink old new before after (Ok kind) status = RunsAndTells kind source sink old new before after status
 Answers source sink old new before after (Err fault) status = TellsFault fault sink old new before after status
 
--- the program ended as it does by some words, from an input of which these bytes were to come and into a sink that had
--- received these; neither had counted anything
+-- the program ended as it does by some words; its input had these bytes to come and its sink had received these;
+-- neither had counted anything
 pub record EndsBySomeWords {S T : Type 0} (source : SourceGhosts S) (sink : SinkGhosts T) (coming received : Option (List ℕ)) (code : ExitCode) : Type 0 where
   pub words : Words
   pub old : S

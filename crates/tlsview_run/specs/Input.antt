@@ -30,7 +30,7 @@ lower_digits_in text = map lower_digit (digits_in text)
 abbrev pub StandsFor : List ℕ → List ℕ → Type 0
 StandsFor text bytes = decode_of (digits_in text) ≡ Ok bytes
 
--- the digits of the text are no hex
+-- the digits of the text are not hex
 abbrev pub IsNoHex : List ℕ → Type 0
 IsNoHex text = (e : FromHexError) × (decode_of (digits_in text) ≡ Err e)
 
@@ -46,12 +46,12 @@ WhyNoBytes text _ = ⊥
 abbrev pub longest : ℕ
 longest = 1048576
 
--- the bytes that were to come, where they are told, are these
+-- the bytes that were to come, if they are told, are these
 abbrev pub IsWhole : Option (List ℕ) → List ℕ → Type 0
 IsWhole None text = ⊤
 IsWhole (Some coming) text = coming ≡ text
 
--- more bytes were to come, where they are told, than an input may have
+-- more bytes were to come, if they are told, than an input may have
 abbrev pub IsTooLong : Option (List ℕ) → Type 0
 IsTooLong None = ⊤
 IsTooLong (Some coming) = longest < length coming

@@ -31,7 +31,7 @@ pub record SentView {S T : Type 0} (views : Views) (source : SourceGhosts S) (si
 abbrev pub SinkIsToBlame : Counts → Counts → Type 0
 SinkIsToBlame old new = FaultIsCounted old new ⊎ RoseBy 1 old.shortages new.shortages
 
--- the sink received a beginning of such lines, and is to blame
+-- the sink received a prefix of such lines, and is to blame
 pub record BrokeOff {S T : Type 0} (views : Views) (source : SourceGhosts S) (sink : SinkGhosts T) (old new : S) (before after : T) : Type 0 where
   pub accepted : Bool
   pub lines : List ℕ
@@ -39,13 +39,13 @@ pub record BrokeOff {S T : Type 0} (views : Views) (source : SourceGhosts S) (si
   pub received : Received (sink.received before) (sink.received after) lines
   pub blame : SinkIsToBlame (sink.counts before) (sink.counts after)
 
--- the input gave a text that is no hex
+-- the input gave a text that is not hex
 pub record GaveNoHex {S : Type 0} (source : SourceGhosts S) (old new : S) : Type 0 where
   pub text : List ℕ
   pub read : GaveAll source old new text
   pub no_hex : IsNoHex text
 
--- why there is no view, where the kind is one and the sink is as it was
+-- why there is no view, if the kind is one and the sink is as it was
 abbrev pub WhyNoView : {S : Type 0} → SourceGhosts S → S → S → ViewFault → Type 0
 WhyNoView source old new Hex = GaveNoHex source old new
 WhyNoView source old new fault = WhyNoText source old new fault
@@ -56,7 +56,7 @@ RunsBy views source sink old new before after (Ok accepted) = SentView views sou
 RunsBy views source sink old new before after (Err Write) = BrokeOff views source sink old new before after
 RunsBy views source sink old new before after (Err fault) = WhyNoView source old new fault × (after ≡ before)
 
--- what a run does where there is no such kind
+-- what a run does if there is no such kind
 pub record RefusesKind {S T : Type 0} (old new : S) (before after : T) (result : Result Bool ViewFault) : Type 0 where
   pub refused : result ≡ Err Kind
   pub unread : new ≡ old

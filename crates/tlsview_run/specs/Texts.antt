@@ -57,7 +57,7 @@ bytes_text v = hex_or_dash (map number_in (parts v))
 abbrev pub leaf_text : Tree → List ℕ
 leaf_text = pair_text number_text bytes_text
 
--- a step is the name of its tag, 0, 1 or 2, and then what is behind the tag
+-- a step is the name of its tag, 0, 1 or 2, and then what comes after the tag
 abbrev pub step_text : Tree → List ℕ
 step_text (Join (Number zero) Empty) = codes "ping"
 step_text (Join (Number (suc zero)) (Join text Empty)) = codes "note " ++ bytes_text text

@@ -24,7 +24,7 @@ refused_line path name = path ++ codes " refused " ++ name ++ line_feed
 abbrev pub least_line : List ℕ → List ℕ
 least_line form = codes "least " ++ hex_or_dash form ++ line_feed
 
--- the line of v's shortest form stands behind what was there
+-- the line of v's shortest form comes after what was there
 pub record AppendsLeast (spells : Grammar) (v : Tree) (old new : List ℕ) : Type 0 where
   pub form : List ℕ
   pub shortest : IsShortest spells form v

@@ -13,9 +13,9 @@ use tls_codec::{Sink, Source, write_all};
 
 /// Runs the kind that the words name, sends the line of a refusal, and returns the exit status.
 ///
-/// The words are the program's name and its arguments, or why std gives none: `Memory` where it had none,
-/// and else `Kind`, since one of them, the name among them, isn't UTF-8. A line that the sink refuses is not
-/// sent again, and the status stays.
+/// The words are the program's name and its arguments, or why std gives none. Then the fault is `Memory` if
+/// memory ran out, and else `Kind`: one of the words, the name among them, isn't UTF-8. If the sink refuses
+/// a line, it is not sent again, and the status stays.
 pub fn answer<R: Source, W: Sink>(
     alloc: Global,
     words: io::Result<Args>,
@@ -52,7 +52,7 @@ fn argument(words: io::Result<Args>) -> Result<String, ViewFault>
     }
 }
 
-/// The word behind the program's name, where it is the only one.
+/// The word after the program's name, if it is the only one.
 fn only_argument(mut words: Args) -> Option<String>
     ensures { MatchOption result
         (argument_in (map string_bytes (into_iter_items words)) ≡ Err ViewFault.Kind)

@@ -14,16 +14,16 @@ pub enum ViewFault {
     Long,
     /// The input failed.
     Read,
-    /// The digits of the input are no hex.
+    /// The digits of the input are not hex.
     Hex,
     /// Memory was refused.
     Memory,
-    /// The sink failed, and has received a beginning of the view.
+    /// The sink failed, and has received a prefix of the view.
     Write,
 }
 
 impl ViewFault {
-    /// The line that the program prints in place of a view, and no text for `Write`.
+    /// The line that the program prints instead of a view. It is empty for `Write`.
     pub fn line(&self) -> &'static str
         ensures { result.now ≡ fault_line self.now }
     {

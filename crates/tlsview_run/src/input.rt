@@ -13,7 +13,7 @@ use tls_codec::{Fault, MOST_INTERRUPTIONS, Source};
 /// The greatest number of bytes that an input may have.
 const LONGEST: usize = 1_048_576;
 
-/// The most bytes that are asked for in one call.
+/// The most bytes that are requested in one call.
 const PIECE: usize = 4096;
 
 /// Reads the input to its end. Of an input that is too long it takes one byte more than an input
@@ -72,7 +72,7 @@ pub fn decode(alloc: Global, text: &[u8]) -> Result<Vec<u8>, ViewFault>
 
 /// The text without its tabs, line feeds, carriage returns and spaces.
 ///
-/// It is copied whole first, by one request for memory: a `collect` goes on where a request is refused.
+/// It is copied whole first, by one request for memory: a `collect` goes on if a request is refused.
 fn without_blanks(alloc: Global, text: &[u8]) -> Result<Vec<u8>, AllocError>
     ensures { IfOk result (λ digits. digits.items ≡ digits_in text.now) }
 {

@@ -9,7 +9,7 @@ ghost use Rattle.tlsview_run.specs.declared.fault.ViewFault.{ViewFault};
 use crate::fault::ViewFault;
 use std::alloc::AllocError;
 
-/// Faults are equal where they are the same variant, and a copy of one is that fault. Refused memory is
+/// Faults are equal if they are the same variant, and a copy of one is that fault. Refused memory is
 /// `Memory`.
 pub fn faults_are_compared_by_their_variants()
     ensures equal { (x y : ViewFault) → IsTrue (⟦<ViewFault as PartialEq>⟧.eq x y) ↔ (x ≡ y) }

@@ -1,8 +1,8 @@
 //! `tlsview KIND` shows how bytes are read as a value of one type.
 //!
-//! It reads a hex text from standard input to its end, drops the tabs, line feeds, carriage returns
-//! and spaces in it, and prints what each of the two decoders returns for the bytes, and the
-//! value's shortest form:
+//! It reads a hex text from standard input to its end, and drops the tabs, line feeds, carriage
+//! returns and spaces in it. Then it prints what each of the two decoders returns for the bytes,
+//! and the value's shortest form:
 //!
 //! ```text
 //! $ echo 010007ee | tlsview option-u16
@@ -12,9 +12,9 @@
 //! ```
 //!
 //! Bytes that begin with no spelling give two lines such as `slice refused EndOfStream`. The exit
-//! status is 0 where a value is read, 1 where none is, and 2 where there is no view: then the only
-//! line is `error kind`, `error long`, `error read`, `error hex` or `error memory`, and there is
-//! none where standard output failed.
+//! status is 0 if a value is read, 1 if none is, and 2 if there is no view. Then the only line is
+//! `error kind`, `error long`, `error read`, `error hex` or `error memory`; if standard output
+//! failed, there is none.
 //!
 //! The program's crate has only a `main` that calls [`program`], so that stored runs with other
 //! arguments are programs of the same text.

@@ -90,7 +90,8 @@ fn an_input_has_a_greatest_length(rt: HostRuntime) -> Result<(), Fail> {
     Ok(())
 }
 
-// The list is behind its length: one byte below 64, and from there two that begin with the bits 01.
+// The list comes after its length: one byte below 64, and from there two that begin with the bits
+// 01.
 #[test]
 fn a_list_of_each_size_is_read(rt: HostRuntime) -> Result<(), Fail> {
     for size in 0..=600usize {

@@ -52,7 +52,8 @@ pub fn view_of<T: Show>(alloc: Global, bytes: &[u8]) -> Result<View, ViewFault>
     }
 }
 
-/// The two paths accept the same bytes, so one that refuses what the other accepts has no memory.
+/// The two paths accept the same bytes, so one that refuses what the other accepts is out of
+/// memory.
 fn no_memory(_error: Error) -> ViewFault
     requires { _error ≡ OutOfMemory }
     ensures { result ≡ ViewFault.Memory }
@@ -95,8 +96,8 @@ fn show_refusal(out: &mut String, path: &str, error: Error) -> Result<(), ViewFa
 
 /// Appends the line of the value's shortest form.
 ///
-/// A value that was read has a shortest form, no longer than what was read, so that an encoder
-/// refuses it for memory alone.
+/// A value that was read has a shortest form, no longer than what was read. So an encoder refuses
+/// it only if memory runs out.
 fn show_least<T: Show>(alloc: Global, out: &mut String, value: &T) -> Result<(), AllocError>
     ensures { OnOk result
         (AppendsLeast T.format.spells (T.plain value.now) (string_bytes out.old)

@@ -1,11 +1,11 @@
 //! `tlsview` over a table of inputs, as one stored run.
 //!
-//! Each row of standard input has a kind and the hex of some bytes, `-` for none, with a tab between.
-//! The program prints the row again, and after it the exit status of `tlsview` and what that prints,
-//! each line feed as `\n`, with tabs between. Where an accepted input isn't the encoding of its value and
-//! the rest, it prints a line that says so.
+//! Each row of standard input has a kind and the hex of some bytes, `-` for none, with a tab between. The
+//! program prints the row again. After it come the exit status of `tlsview` and what `tlsview` prints,
+//! each line feed as `\n`, with tabs between. If an accepted input isn't the encoding of its value and
+//! the rest, the program prints a line that says so.
 //!
-//! The rows of `stdout` are the answers of an independent implementation, and not of this one.
+//! The rows of `stdout` are the answers of an independent implementation, not of this one.
 #![tactic(auto)]
 
 use std::alloc::{AllocError, Global};

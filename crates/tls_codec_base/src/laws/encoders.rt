@@ -11,8 +11,8 @@ ghost use Rattle.tls_codec_base.specs.Encoders.{NoVectorOf};
 use crate::traits::Size;
 use tls_codec_wire::Sink;
 
-/// A value that has a shortest form is refused only by the sink, which has received a beginning of
-/// it; for want of memory; or where the vector, with what it had, would pass `isize::MAX` bytes.
+/// A value that has a shortest form is refused only by the sink, which has received a prefix of it;
+/// because memory ran out; or because the vector, with what it had, would pass `isize::MAX` bytes.
 pub fn encoders_refuse_only_what_has_no_form<T: Size, W: Sink>()
     ensures sent { (form : List ℕ) (v : Tree) (old new : W) (e : Error)
         → IsShortest T.format.spells form v → Writes T.format v W.Sink old new (Err e)

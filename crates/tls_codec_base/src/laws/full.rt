@@ -1,5 +1,4 @@
-//! Which values are full: of those that have a form, the ones that hold no nonempty list of a hollow
-//! type.
+//! Which values are full: those that have a form and hold no nonempty list of a hollow type.
 ghost use Rattle.std.specs.Prelude.{◌≡◌, ◌↔◌, ◌⊎◌, ℕ, List};
 ghost use Rattle.tls_codec_grammar.specs.Format.{array_format, counted_bytes_format, counted_list_format, nothing_format, number_format, option_format, pair_format, text_format, triple_format, varint_format, with_memory};
 ghost use Rattle.tls_codec_grammar.specs.Grammar.{Reading};
@@ -11,7 +10,7 @@ ghost use Rattle.tls_codec_base.specs.Full.{EachIsFull, IsFullIf};
 use crate::traits::Size;
 use tls_codec_grammar::LengthField;
 
-/// Numbers, arrays, integers, units, byte vectors and texts are always full.
+/// Numbers, arrays, integers, units, byte vectors and strings are always full.
 pub fn each_value_is_full<F: LengthField>()
     ensures numbers { (k : ℕ) (v : Tree) → IsFull (number_format k).spells v }
     ensures arrays { (k : ℕ) (v : Tree) → IsFull (array_format k).spells v }
@@ -22,8 +21,8 @@ pub fn each_value_is_full<F: LengthField>()
 {}
 
 /// A value that has a form is full exactly if the form is read as it. Options, pairs, triples,
-/// boxes and choices with a tag are full exactly if their parts are; a list is, exactly if it is
-/// empty, or its elements are full and their type isn't hollow.
+/// boxes and choices with a tag are full exactly if their parts are. A list is full exactly if it
+/// is empty, or its elements are full and their type isn't hollow.
 pub fn full_values_have_full_parts<F: LengthField, T: Size, U: Size, V: Size>()
     ensures read { (form : List ℕ) (v : Tree) → IsShortest T.format.spells form v
         → (IsFull T.format.spells v ↔ T.format.spells Reading form v) }

@@ -10,8 +10,8 @@ use crate::traits::Deserialize;
 use tls_codec_wire::Source;
 
 /// A source that tells the bytes to come is refused for those. One that never tells any, as a file or a
-/// socket, is refused for those that it gave: no prefix of them is a spelling, a fault was counted, or
-/// there was no memory.
+/// socket, is refused for the bytes that it gave: no prefix of them is a spelling, a fault was counted,
+/// or memory ran out.
 ///
 /// What is read to the end of a source is all that was to come, or all that was given.
 pub fn sources_are_refused_for_what_they_show<T: Deserialize, R: Source>()

@@ -17,12 +17,12 @@ const NO_BYTES: Error = Error::DecodingError("vector element consumed 0 bytes");
 
 const NOT_FILLED: Error = Error::DecodingError("elements do not fill the declared length");
 
-/// The elements that fill the first `length` bytes exactly, and the bytes behind those.
+/// The elements that fill the first `length` bytes exactly, and the bytes after those.
 ///
 /// Each element is read from all that is left of the bytes. Its own refusal is handed on.
 /// `DecodingError("vector element consumed 0 bytes")`: an element's spelling is empty.
 /// `DecodingError("elements do not fill the declared length")`: an element passes the declared end.
-/// With `length` 0 there is no element, no turn and no need of memory.
+/// If `length` is 0, there is no element, no turn and no need of memory.
 pub fn from_slice<'a, T: DeserializeBytes>(
     alloc: Global,
     bytes: &'a [u8],
@@ -69,12 +69,12 @@ pub fn from_slice<'a, T: DeserializeBytes>(
     Ok((elements, rest))
 }
 
-/// The elements that the next `length` bytes are filled with exactly. Just these bytes are taken.
+/// The elements that fill the next `length` bytes exactly. Only these bytes are taken.
 ///
-/// Each element is read from a source that ends where the list does. Its own refusal is handed on,
-/// which is `EndOfStream` where it passes the declared end.
-/// `DecodingError("vector element consumed 0 bytes")`: an element's spelling is empty. With `length`
-/// 0 there is no element, no turn and no need of memory, and the source isn't asked.
+/// Each element is read from a source that ends where the list does. Its own refusal is handed on;
+/// if it passes the declared end, that is `EndOfStream`.
+/// `DecodingError("vector element consumed 0 bytes")`: an element's spelling is empty. If `length`
+/// is 0, there is no element, no turn and no need of memory, and the source isn't asked.
 pub fn from_reader<T: Deserialize, R: Source>(
     alloc: Global,
     src: &mut R,

@@ -110,7 +110,7 @@ pub fn append<T: Serialize>(out: &mut Vec<u8>, elements: &[T]) -> Result<usize, 
     }
 }
 
-// The same at once; none and nothing where such elements are appended one by one.
+// The same at once. It is none, and nothing is appended, if such elements are appended one by one.
 fn append_at_once<T: Size>(out: &mut Vec<u8>, elements: &[T]) -> Result<Option<usize>, Error>
     ensures { AllAppended T.format (trees T.plain elements.now) out.old.items out.new.items result }
 {
@@ -143,8 +143,8 @@ fn append_each<T: Serialize>(out: &mut Vec<u8>, elements: &[T]) -> Result<usize,
 /// Appends the elements' shortest forms in a row, each made by `tls_serialize_bytes`, and returns how
 /// many bytes that is.
 ///
-/// A refusal is an element's, or `InvalidVectorLength` where the vector would pass `isize::MAX` bytes.
-/// It leaves the vector's bytes as they were.
+/// A refusal is an element's, or `InvalidVectorLength` if the vector would pass `isize::MAX` bytes. It
+/// leaves the vector's bytes as they were.
 pub fn append_bytes<T: SerializeBytes>(
     alloc: Global,
     out: &mut Vec<u8>,

@@ -8,7 +8,8 @@ ghost use Rattle.tls_codec_grammar.specs.Encoding.{Writes};
 
 use tls_codec_wire::{Error, Sink, write_all};
 
-// How many numbers are sent at once: their digits stand on the stack meanwhile, since an encoder asks
+// How many numbers are sent at once. Their digits are on the stack meanwhile, since an encoder
+// requests no memory but the sink's.
 // for no memory but the sink's.
 const GROUP: usize = 64;
 
@@ -28,7 +29,7 @@ pub(crate) trait HasDigits<const K: usize>: Drop {
 
 // Sends the numbers' digits in a row, and returns how many bytes that is, saturated at `usize::MAX`.
 //
-// A width is at most that of `u64`, so that memory has an array of a group's digits.
+// A width is at most that of `u64`, so that memory can hold an array of a group's digits.
 pub(crate) fn send_run<T: HasDigits<K>, W: Sink, const K: usize>(
     numbers: &[T],
     sink: &mut W,

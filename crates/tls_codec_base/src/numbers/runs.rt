@@ -19,8 +19,8 @@ use std::alloc::{AllocError, Global};
 use tls_codec_grammar::opaque::see_bytes;
 use tls_codec_wire::{Bounded, Error, Source, read_bytes_bounded};
 
-// The digits of all numbers of K bytes that a source may still give, where it has them at hand; else
-// none, and nothing is taken.
+// The digits of all numbers of K bytes that a source may still give, if it has them at hand. Else it
+// is none, and nothing is taken.
 pub(crate) fn read_run<R: Source, const K: usize>(
     alloc: Global,
     within: &mut Bounded<R>,
@@ -38,8 +38,8 @@ pub(crate) fn read_run<R: Source, const K: usize>(
     Ok(Some(digits))
 }
 
-// All items, for so many of which room is asked at once. Where that is refused there is no second request,
-// as there is in `collect`.
+// All items. Room for `room` of them is requested at once. If that is refused, there is no second request,
+// unlike in `collect`.
 #[inline(always)]
 fn collected<T: Drop, I: Iterator<Item = T> + Drop>(
     alloc: Global,
@@ -59,7 +59,7 @@ fn collected<T: Drop, I: Iterator<Item = T> + Drop>(
 
 // The numbers of these digits.
 //
-// A width is at most that of `u64`, so that memory has an array of its digits.
+// A width is at most that of `u64`, so that memory can hold an array of its digits.
 fn numbers_of<T: HasDigits<K>, const K: usize>(
     alloc: Global,
     digits: &[u8],
@@ -80,7 +80,7 @@ fn numbers_of<T: HasDigits<K>, const K: usize>(
     Ok(numbers)
 }
 
-// The numbers whose digits are all of these bytes; none where a byte is left over.
+// The numbers that all of these bytes are the digits of; none if a byte is left over.
 pub(crate) fn elements_of<T: HasDigits<K>, const K: usize>(
     alloc: Global,
     bytes: &[u8],
@@ -95,8 +95,8 @@ pub(crate) fn elements_of<T: HasDigits<K>, const K: usize>(
     Ok(Some(numbers_of::<T, K>(alloc, bytes)?))
 }
 
-// The numbers that a source may still give, where their digits are at hand; else none, and nothing
-// is taken.
+// The numbers that a source may still give, if their digits are at hand. Else it is none, and
+// nothing is taken.
 pub(crate) fn read_elements<T: HasDigits<K>, R: Source, const K: usize>(
     alloc: Global,
     within: &mut Bounded<R>,

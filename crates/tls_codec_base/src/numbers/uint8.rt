@@ -67,7 +67,7 @@ impl Deserialize for u8 {
         Ok(u8::from_be_bytes(digits))
     }
 
-    /// The bytes are read at once, where they are at hand.
+    /// The bytes are read at once, if they are at hand.
     fn tls_read_elements<R: Source>(
         alloc: Global,
         within: &mut Bounded<R>,

@@ -1,4 +1,4 @@
--- What follows where a value has at most one writing spelling.
+-- What follows if a value has at most one writing spelling.
 use Rattle.std.proofs.Common.{ℕ, List, subst, inl}
 use Rattle.tls_codec_grammar.specs.Tree.{Tree}
 use Rattle.tls_codec_grammar.specs.Grammar.{Grammar, Reading, Writing}

@@ -69,7 +69,7 @@ pair_meets l m = fields_meets l (fields_meets m nothing_meets)
 pub triple_meets : {first second third : Format} → MeetsLaws first → MeetsLaws second → MeetsLaws third → MeetsLaws (triple_format first second third)
 triple_meets l m n = fields_meets l (fields_meets m (fields_meets n nothing_meets))
 
--- ---- what stands behind a length field
+-- ---- what comes after a length field
 
 pub content_meets : {element : Format} → MeetsLaws element → MeetsLawsInside (content_format element)
 content_meets {element} l = record { spelled = content_lawful _ _ l.spelled; unspelled = unspelled; not_memory = not_memory }
@@ -89,7 +89,7 @@ utf8_meets =
     let l = content_meets (number_meets 1 (omega arith)) in
     record { spelled = utf8_lawful; unspelled = λ v e p s q. l.unspelled v e p s q.0; not_memory = l.not_memory }
 
--- the announced length of a content is the sum, where that is no greater
+-- the announced length of a content is the sum, if that is no greater
 pub content_length_sum : (f : Tree → ℕ) (v : Tree) → content_length f v ≡ capped (content_sum f v)
 content_length_sum f (Number n) = omega arith
 content_length_sum f Empty = omega arith
@@ -141,7 +141,7 @@ fixed_field_meets k small = record {
     named x EndOfStream p = (λ h. cc, λ h. cc)
     named x _ p = absurd p
 
--- a length field and what it counts, where no field holds the limit
+-- a length field and what it counts, if no field holds the limit
 counted_meets : (field : Field) {sum : Tree → ℕ} {inside : Format} → IsLengthField field.spells field.width → ((a : List ℕ) (n : ℕ) → field.spells a n → n < field.limit)
     → MeetsLawsInside inside → ((c : List ℕ) (v : Tree) → inside.spells Writing c v → sum v ≤ length c) → MeetsLaws (counted_format field sum inside)
 counted_meets field {sum} {inside} m below l fits = record {

@@ -1,4 +1,4 @@
--- The laws of what stands behind a length field, and of lists and texts.
+-- The laws of what comes after a length field, and of lists and texts.
 use Rattle.std.proofs.Common.{◌≡◌, ◌↔◌, ℕ, ◌+◌, ◌^◌, List, ◌++◌, length, refl, sym, ap, subst, ◌∙◌, inl, inr, append_assoc, arith, length-append}
 use Rattle.std.proofs.lemmas.List.{append_cancel_left}
 use Rattle.std.proofs.lemmas.Bool.{cases_lt}
@@ -70,7 +70,7 @@ module _ (element : Grammar) (f : Tree → ℕ) (l : IsLawful element f) where
   content_announces s (Join v vs) p = omega (arith, ap length p.whole, length-append p.front p.rest, l.announces p.front v p.first.0, content_announces p.rest vs p.second)
   content_announces s (Number n) p = absurd p
 
-  -- contents of lawful elements meet the laws of what stands behind a length field
+  -- contents of lawful elements meet the laws of what comes after a length field
   pub content_lawful : IsLawfulInside (content element) (content_length f)
   content_lawful = record {
     same = λ c v w p q. content_same c c v w p q refl;
@@ -94,7 +94,7 @@ bytes_one _ s t p q = absurd search
 pub byte_lawful : IsLawful (number 1) (λ v. 1)
 byte_lawful = number_lawful 1 (omega arith)
 
--- contents of texts meet the laws of what stands behind a length field
+-- contents of texts meet the laws of what comes after a length field
 pub utf8_lawful : IsLawfulInside utf8 (content_length (λ v. 1))
 utf8_lawful = record {
   same = λ c v w p q. content_same (number 1) (λ v. 1) byte_lawful c c v w p.0 q.0 refl;
@@ -105,7 +105,7 @@ utf8_lawful = record {
 
 -- ---- what a length field counts
 
--- where what is counted has 2 ^ 64 bytes or more, the greatest number is announced, whatever the field
+-- if what is counted has 2 ^ 64 bytes or more, the greatest number is announced, whatever the field
 pub capped_counted : (width : ℕ → ℕ) (c n a : ℕ) → c ≡ capped n → width n ≡ a → capped (width c + c) ≡ capped (a + n)
 capped_counted width c n a e m = elim (cases_lt n (2 ^ 64)) [
   | inl lt ↦ let same : c ≡ n = omega arith in omega (arith, ap width same)

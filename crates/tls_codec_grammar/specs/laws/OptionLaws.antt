@@ -6,7 +6,7 @@ use Rattle.tls_codec_grammar.specs.Shortest.{IsShortest}
 use Rattle.tls_codec_grammar.specs.Announced.{capped, option_length}
 use Rattle.tls_codec_grammar.specs.Lawful.{IsLawful}
 
--- the byte 1 and the payload's shortest form behind it are the shortest form of a payload
+-- the byte 1 and then the payload's shortest form are the shortest form of a payload
 pub option_some : (payload : Grammar) (v : Tree) (a : List ℕ) → IsShortest payload a v → IsShortest (option payload) (1 ∷ a) (Join v Empty)
 option_some payload v a p = record {
   spelled = (a, refl, p.spelled);

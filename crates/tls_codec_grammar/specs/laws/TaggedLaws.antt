@@ -99,6 +99,6 @@ module _ (k : ℕ) (small : k < 2 ^ 64) (variants : Variants) (l : MeetVariantLa
     long = λ v p. absurd p;
   }
 
--- a choice meets the laws, if what stands behind each tag does
+-- a choice meets the laws, if what comes after each tag does
 pub tagged_meets : (k : ℕ) {variants : Variants} → k < 2 ^ 64 → MeetVariantLaws variants → MeetsLaws (tagged_format k variants)
 tagged_meets k {variants} small l = tagged_all k small variants l

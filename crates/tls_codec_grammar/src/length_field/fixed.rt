@@ -137,7 +137,7 @@ impl LengthField for u32 {
     ghost lawful = { fixed_field_meets 4 (Prim.omega arith) };
 }
 
-// The last K bytes of a length, of which the greatest is this.
+// The last K bytes of a length, if it is `greatest` at most.
 #[inline(always)]
 fn last_digits<const K: usize>(length: usize, greatest: usize) -> Option<([u8; 8], usize)>
     requires width { K ≤ 8 }

@@ -10,7 +10,7 @@ const NOT_THERE: Error = Error::DecodingError("declared content is not there");
 impl LengthField for TlsVarInt {
     ghost field = { variable_field };
 
-    /// It is 0 where the length passes the greatest one.
+    /// It is 0 if the length passes the greatest one.
     fn width(length: usize) -> usize {
         vlen::length_width(length)
     }

@@ -1,4 +1,4 @@
-//! Lengths sent to a sink, appended to a vector, and put before a content that stands there already.
+//! Lengths sent to a sink, appended to a vector, and put before a content that is already there.
 ghost use Rattle.std.specs.Prelude.{◌≡◌, ◌<◌, ◌≤◌, ◌⊎◌, ◌^◌, ◌+◌, ◌-◌, [], ◌∷◌, ◌++◌, length, vec_len, vec_capacity, take, drop, is_ok, if◌then◌else◌, IfErr, IfOk, OnErr, OnOk};
 ghost use Rattle.tls_codec_wire.specs.Counts.{NoneFell, OnlyInterrupted};
 ghost use Rattle.tls_codec_wire.specs.Numbers.{BeganNumber, NumberNotSent, SentNumber};
@@ -39,8 +39,8 @@ pub fn write_length<F: LengthField, W: Sink>(
     Ok(form.len())
 }
 
-/// Leaves a gap of so many bytes for a length that isn't known yet, and asks for room for so many more
-/// behind it. An error: there was no memory for both, and the bytes are as they were.
+/// Leaves a gap of `width` bytes for a length that isn't known yet, and requests room for `room` bytes
+/// after it. An error: there was no memory for both, and the bytes are as they were.
 #[inline(always)]
 pub fn open_gap(out: &mut Vec<u8>, width: usize, room: usize) -> Result<(), AllocError>
     requires { width ≤ 8 }
@@ -53,7 +53,8 @@ pub fn open_gap(out: &mut Vec<u8>, width: usize, room: usize) -> Result<(), Allo
     append_few(out, &empty[..width])
 }
 
-// Appends a few bytes and then others, and asks for room once. One, two or four are stored by no call.
+// Appends a few bytes and then others, and requests room once. One, two or four bytes are stored
+// without a call.
 #[inline(always)]
 pub(crate) fn append_both(out: &mut Vec<u8>, few: &[u8], bytes: &[u8]) -> Result<(), AllocError>
     ensures { out.new.items
@@ -67,7 +68,7 @@ pub(crate) fn append_both(out: &mut Vec<u8>, few: &[u8], bytes: &[u8]) -> Result
     }
 }
 
-// Appends a few bytes and then others, and asks for room once.
+// Appends a few bytes and then others, and requests room once.
 #[inline(always)]
 fn append_with_room(out: &mut Vec<u8>, few: &[u8], bytes: &[u8]) -> Result<(), AllocError>
     ensures { out.new.items
@@ -78,7 +79,7 @@ fn append_with_room(out: &mut Vec<u8>, few: &[u8], bytes: &[u8]) -> Result<(), A
     out.extend_from_slice(bytes)
 }
 
-// Asks for room for so many more bytes. A vector that has none yet gets just as much, and this is no call.
+// Requests room for `more` further bytes. A vector that has none yet gets exactly as much, without a call.
 #[inline(always)]
 fn make_room(out: &mut Vec<u8>, more: usize) -> Result<(), AllocError>
     ensures items { out.new.items ≡ out.old.items }
@@ -90,7 +91,7 @@ fn make_room(out: &mut Vec<u8>, more: usize) -> Result<(), AllocError>
     out.reserve(more)
 }
 
-// Appends a few bytes. One, two or four are stored by no call.
+// Appends a few bytes. One, two or four are stored without a call.
 #[inline(always)]
 fn append_few(out: &mut Vec<u8>, bytes: &[u8]) -> Result<(), AllocError>
     ensures items { out.new.items
@@ -118,12 +119,12 @@ fn append_one(out: &mut Vec<u8>, byte: u8) -> Result<(), AllocError>
     }
 }
 
-/// Puts the length of the bytes behind a gap in its place, and returns how many bytes it has. Those
-/// behind it are moved only where the gap has another width.
+/// Puts the length of the bytes after a gap into the gap, and returns how many bytes the length
+/// has. The bytes after the gap are moved only if the gap has another width.
 ///
 /// `InvalidVectorLength`: they are more than the greatest length, or the vector would pass
-/// `isize::MAX` bytes. `OutOfMemory`: there was none for a wider length. After a refusal the bytes
-/// before the gap are as they were.
+/// `isize::MAX` bytes. `OutOfMemory`: allocation failed for a wider length. After a refusal the
+/// bytes before the gap are as they were.
 #[inline(always)]
 pub fn fill_gap<F: LengthField>(out: &mut Vec<u8>, at: usize, gap: usize) -> Result<usize, Error>
     requires { at + gap ≤ vec_len out.old }
@@ -142,8 +143,8 @@ pub fn fill_gap<F: LengthField>(out: &mut Vec<u8>, at: usize, gap: usize) -> Res
     Ok(form.len())
 }
 
-// Puts these bytes in the place of a gap, and moves what stands behind it where they are not as many. One,
-// two or four are stored by no call.
+// Puts these bytes into a gap. If they are not as many as it has, moves what comes after it. One, two or
+// four bytes are stored without a call.
 #[inline(always)]
 fn fill_with(out: &mut Vec<u8>, at: usize, gap: usize, form: &[u8]) -> Result<(), Error>
     requires place { at + gap ≤ vec_len out.old }
@@ -184,7 +185,7 @@ fn fit_and_put(out: &mut Vec<u8>, at: usize, gap: usize, form: &[u8]) -> Result<
     Ok(())
 }
 
-// Makes a gap as wide as this, and moves what stands behind it.
+// Makes a gap as wide as this, and moves what comes after it.
 #[inline(always)]
 fn fit_gap(out: &mut Vec<u8>, at: usize, gap: usize, width: usize) -> Result<(), Error>
     requires place { at + gap ≤ vec_len out.old }
@@ -203,7 +204,7 @@ fn fit_gap(out: &mut Vec<u8>, at: usize, gap: usize, width: usize) -> Result<(),
     Ok(())
 }
 
-// Moves what stands behind a place by so many bytes.
+// Moves what comes after the place `at` by `more` bytes.
 fn widen_gap(out: &mut Vec<u8>, at: usize, more: usize) -> Result<(), Error>
     requires place { at ≤ vec_len out.old }
     requires small { more ≤ 8 }
@@ -223,7 +224,7 @@ fn widen_gap(out: &mut Vec<u8>, at: usize, more: usize) -> Result<(), Error>
     }
 }
 
-// Moves what stands behind a place by so many bytes: at once, where these are a constant.
+// Moves what comes after the place `at` by `width` bytes: at once, if that is a constant.
 #[inline(always)]
 fn insert_gap(out: &mut Vec<u8>, at: usize, width: usize) -> Result<(), Error>
     requires place { at ≤ vec_len out.old }
@@ -237,7 +238,7 @@ fn insert_gap(out: &mut Vec<u8>, at: usize, width: usize) -> Result<(), Error>
     Ok(())
 }
 
-// Takes so many bytes out of a vector, which stand behind a place.
+// Takes `count` bytes out of a vector, from the place `at` on.
 fn remove_bytes(out: &mut Vec<u8>, at: usize, count: usize)
     requires { at + count ≤ vec_len out.old }
     ensures { out.new.items ≡ take at out.old.items ++ drop (at + count) out.old.items }
@@ -252,7 +253,7 @@ fn remove_bytes(out: &mut Vec<u8>, at: usize, count: usize)
     }
 }
 
-// Takes so many bytes out of a vector, which stand behind a place: at once, where these are a constant.
+// Takes `count` bytes out of a vector, from the place `at` on: at once, if `count` is a constant.
 #[inline(always)]
 fn cut_out(out: &mut Vec<u8>, at: usize, count: usize)
     requires { at + count ≤ vec_len out.old }
@@ -263,7 +264,7 @@ fn cut_out(out: &mut Vec<u8>, at: usize, count: usize)
     out.truncate(end - count);
 }
 
-// Writes bytes over those of a vector that stand behind a place.
+// Writes bytes over those of a vector from the place `at` on.
 #[inline(always)]
 fn overwrite(out: &mut Vec<u8>, at: usize, bytes: &[u8])
     requires { at + length bytes.now ≤ vec_len out.old }

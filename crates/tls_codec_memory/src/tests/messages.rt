@@ -175,7 +175,7 @@ fn a_message_is_read(rt: HostRuntime) -> Result<(), Fail> {
     Ok(())
 }
 
-// Byte vectors on both sides of where their length gets wider, each a prefix of the one before.
+// Byte vectors on both sides of where their length gets wider. Each is a prefix of the one before.
 #[test]
 fn bytes_are_written(rt: HostRuntime) -> Result<(), Fail> {
     let alloc = rt.alloc();

@@ -1,4 +1,4 @@
-//! The calls that ask for memory, of each type with bytes of its own.
+//! The calls that request memory, of each type with bytes of its own.
 use super::{Requests, full};
 use std::alloc::Global;
 use std::process::Abort;

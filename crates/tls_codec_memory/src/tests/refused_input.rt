@@ -1,6 +1,6 @@
-//! Input that is refused for its bytes keeps its refusal, whatever a length in it declares: memory is asked for only
-//! where bytes are there that need it. A box of nothing makes a request of its own; the element that it would be is
-//! refused before the list asks for room.
+//! Input that is rejected for its bytes keeps its refusal, whatever a length in it declares: memory is requested
+//! only if the bytes that need it are there. A box of nothing makes a request of its own; the element that it would
+//! be is refused before the list requests room.
 use super::Requests;
 use std::alloc::Global;
 use std::process::Abort;
@@ -9,7 +9,7 @@ use tls_codec::{Deserialize, DeserializeBytes, Error, TlsByteVecU32, VLBytes};
 
 const EMPTY_ELEMENT: Error = Error::DecodingError("vector element consumed 0 bytes");
 
-// Three bytes, of which the greatest length is declared.
+// Three bytes, after the greatest length.
 const LONG_BYTES: [u8; 7] = [0xff, 0xff, 0xff, 0xff, 1, 2, 3];
 
 const CUT_OFF: Error = Error::DecodingError("declared content is not there");

@@ -1,4 +1,4 @@
-//! A run of `tlsview`. Its sink takes no memory, so that what is refused is the run's own request.
+//! A run of `tlsview`. Its sink takes no memory, so what is refused is the run's own request.
 use super::Requests;
 use std::test::Fail;
 use tls_codec::Outside;

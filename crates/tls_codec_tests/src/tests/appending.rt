@@ -1,4 +1,4 @@
-//! Encoders into one buffer, and a type of which no value has a spelling.
+//! Encoders into one buffer, and a type that has no spelling for any value.
 ghost use Rattle.std.specs.Prelude.{◌≡◌, true};
 ghost use Rattle.tls_codec.specs.Errors.{InvalidInput};
 ghost use Rattle.tls_codec.specs.OwnMessages.{Empty};
@@ -7,7 +7,7 @@ use std::alloc::Global;
 use std::test::Fail;
 use tls_codec::{Error, Serialize, SerializeBytes, Sink, Size, lists};
 
-// No bytes spell it, and more are announced than there are.
+// No bytes spell it, and more bytes are announced than there are.
 #[derive(Drop)]
 struct Huge;
 
@@ -66,7 +66,7 @@ fn lists_longer_than_any_length(rt: HostRuntime) -> Result<(), Fail> {
     Ok(())
 }
 
-// What stands before the part that is refused has been sent.
+// What comes before the refused part has been sent.
 #[test]
 fn a_refused_part_comes_after_what_was_sent(rt: HostRuntime) {
     let mut sink = Vec::new(rt.alloc());
@@ -94,7 +94,7 @@ fn a_refused_element_leaves_the_vector(rt: HostRuntime) -> Result<(), Fail> {
     Ok(())
 }
 
-// With an allocation refused in turn (`rt try --test --fail-alloc N`) the other arm is run.
+// If each allocation is refused in turn (`rt try --test --fail-alloc N`), the other arm is run.
 #[test]
 fn appended_whole_or_not_at_all(rt: HostRuntime) {
     let Ok(mut out) = [0xaa, 0xbb].to_vec(rt.alloc()) else {

@@ -20,7 +20,7 @@ pub(super) fn hash_of<T: Hash>(value: &T) -> u64 {
     state.finish()
 }
 
-// The value is announced and written as these bytes, also behind what a vector has.
+// The value is announced and written as these bytes, also after what a vector has.
 pub(super) fn is_written<T: Serialize>(
     rt: &impl Abort,
     alloc: Global,
@@ -58,7 +58,7 @@ pub(super) fn is_written_alone<T: Serialize + SerializeBytes>(
     Ok(())
 }
 
-// Each encoder refuses the value as too long, with so much announced. A sink receives these bytes, and a
+// Each encoder refuses the value as too long, with so much announced. A sink receives these bytes. A
 // vector that is appended to is as it was.
 pub(super) fn is_too_long<T: Serialize>(
     rt: &impl Abort,
@@ -124,7 +124,7 @@ pub(super) fn is_read_at_once<T: Deserialize + DeserializeBytes + PartialEq>(
     Ok(())
 }
 
-// The same, also where a source gives one byte a pull, or tells nothing.
+// The same, also if a source gives one byte a pull, or tells nothing.
 pub(super) fn is_read<T: Deserialize + DeserializeBytes + PartialEq>(
     rt: &impl Abort,
     alloc: Global,
@@ -140,7 +140,7 @@ pub(super) fn is_read<T: Deserialize + DeserializeBytes + PartialEq>(
     is_read_outside(rt, alloc, bytes, value, rest)
 }
 
-// Each decoder reads the value from these bytes, and leaves none. The exact forms refuse a byte behind them.
+// Each decoder reads the value from these bytes, and leaves none. The exact forms refuse a byte after them.
 pub(super) fn is_read_whole<T: Deserialize + DeserializeBytes + PartialEq>(
     rt: &impl Abort,
     alloc: Global,
@@ -161,7 +161,7 @@ pub(super) fn is_read_whole<T: Deserialize + DeserializeBytes + PartialEq>(
     Ok(())
 }
 
-// The value is written as these bytes, and each decoder reads it of them.
+// The round trip: the value is written as these bytes, and each decoder reads it from them.
 pub(super) fn is_spelled<T: Serialize + Deserialize + DeserializeBytes + PartialEq>(
     rt: &impl Abort,
     alloc: Global,

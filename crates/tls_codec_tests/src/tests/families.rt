@@ -1,4 +1,4 @@
-//! Vectors, byte vectors and wrappers of slices behind a length of one to four bytes, and secrets of the
+//! Vectors, byte vectors and wrappers of slices after a length of one to four bytes, and secrets of the
 //! same lengths.
 mod bytes;
 mod callers;
@@ -58,7 +58,7 @@ fn a_wide_length_within_a_list_is_refused(rt: HostRuntime) -> Result<(), Fail> {
     is_spelled(&rt, alloc, &list, &[0x02, 0x01, 0xaa])
 }
 
-// A number, four bytes behind a length of two, and three behind one of three, in one vector.
+// A number, four bytes after a length of two, and three after one of three, in one vector.
 fn are_written_in_a_row(
     rt: &impl Abort,
     alloc: Global,

@@ -1,4 +1,4 @@
-//! The laws over types, each called at one, beside what it says of some bytes.
+//! The laws over types. Each is called at one type, next to what it says of some bytes.
 use std::alloc::Global;
 use std::process::Abort;
 use std::test::Fail;

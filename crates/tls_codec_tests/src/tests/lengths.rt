@@ -1,4 +1,4 @@
-//! Length fields, and lengths that are put in front of what they count.
+//! Length fields, and lengths that are put before what they count.
 use super::each_call::{filled, is_written_alone};
 use std::alloc::Global;
 use std::process::Abort;
@@ -59,8 +59,8 @@ fn long_lengths_have_no_spelling(rt: HostRuntime) {
     assert!(rt; TlsVarInt::form(1_073_741_824).is_none());
 }
 
-// A list whose one element is a list of so many zeros. The gap that is left for the outer length has
-// two bytes, and the length has one, two and four.
+// A list whose one element is a list of so many zeros. The gap for the outer length has two bytes;
+// the length has one, two and four.
 #[test]
 fn lengths_of_each_width_are_put_in_front(rt: HostRuntime) -> Result<(), Fail> {
     let alloc = rt.alloc();

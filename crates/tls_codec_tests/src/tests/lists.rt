@@ -1,4 +1,4 @@
-//! Lists behind a variable-length length, and the engines.
+//! Lists after a variable-length length, and the engines.
 use super::each_call::{
     is_left, is_read_whole, is_refused, is_refused_by_each, is_spelled, is_spelled_alone,
     is_written, is_written_alone,
@@ -51,7 +51,7 @@ fn lists_of_bytes_and_options(rt: HostRuntime) -> Result<(), Fail> {
     Ok(())
 }
 
-// A length in more bytes than it needs, and one of 31 bits. Of both all bytes are read first.
+// A length in more bytes than it needs, and one of 31 bits. All bytes of both are read first.
 #[test]
 fn lengths_that_none_has(rt: HostRuntime) {
     let alloc = rt.alloc();
@@ -107,7 +107,7 @@ fn lists_in_products(rt: HostRuntime) -> Result<(), Fail> {
     is_written(&rt, alloc, &(7u8, numbers, Some("é")), &bytes)
 }
 
-// A proper prefix is refused, and not for what is behind a value.
+// A proper prefix is rejected, and not for what comes after a value.
 #[test]
 fn prefixes_of_a_product_are_refused(rt: HostRuntime) {
     let alloc = rt.alloc();

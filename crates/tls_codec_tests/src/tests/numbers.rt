@@ -1,4 +1,4 @@
-//! Variable-length integers, each in its least width and in no wider one.
+//! Variable-length integers (varints), each in its least width and in no wider one.
 use super::each_call::{is_refused, is_spelled_alone};
 use std::test::Fail;
 use tls_codec::{Error, TlsVarInt};

@@ -1,4 +1,4 @@
-//! Any reader of std as a source: it tells no byte to come, and gives its bytes in pieces.
+//! Any reader of std as a source. It tells no byte to come, and gives its bytes in pieces.
 use super::each_call::is_left;
 use std::alloc::Global;
 use std::io;
@@ -8,7 +8,7 @@ use std::test::Fail;
 use tls_codec::{Deserialize, Error, Fault, Outside, deserialize_to_end, expect_end};
 use tls_codec_vectors::{Drip, Failing};
 
-// Gives so many bytes a call at most.
+// Gives at most so many bytes a call.
 #[derive(Drop)]
 pub(super) struct Pieces<'a> {
     left: &'a [u8],

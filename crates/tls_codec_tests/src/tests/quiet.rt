@@ -1,4 +1,5 @@
-//! A source that tells nothing is refused as a slice of the bytes that it gave: no prefix of them is a spelling.
+//! A source that tells nothing is refused as a slice of the bytes that it gave is: no prefix of them is a
+//! spelling.
 ghost use Rattle.std.specs.Prelude.{◌≡◌, ◌++◌, ℕ, List, None, false, true, IfErr, refl};
 ghost use Rattle.std.proofs.Common.{rules};
 ghost use Rattle.std.proofs.lemmas.Grind.{common_steps};
@@ -34,7 +35,7 @@ impl Source for Quiet<'_> {
     ghost no_count_falls = { λ a xs b p. stay no_counts };
 }
 
-// What it gave is refused: no prefix of that is a spelling, or there was no memory, for which a lean type never asks.
+// What it gave is refused: no prefix of it is a spelling, or memory ran out. A lean type never requests memory.
 fn value<T: Deserialize>(alloc: Global, src: &mut Quiet<'_>) -> Result<T, Error>
     ensures { IfErr result
         (λ e. (x : List ℕ)
@@ -78,7 +79,7 @@ fn content(alloc: Global, src: &mut Quiet<'_>) -> Result<VLBytes, Error>
     value(alloc, src)
 }
 
-// Just the bytes that were asked for are taken.
+// Only the bytes that were asked for are taken.
 #[test]
 fn quiet_sources_are_refused(rt: HostRuntime) {
     let alloc = rt.alloc();

@@ -1,4 +1,4 @@
-//! What parts refuse, handed on by what they are parts of, and what the list engines count then.
+//! What parts refuse is handed on by what they are parts of. And what the list engines count then.
 use super::each_call::is_refused;
 use super::outside::{PIECES, in_pieces};
 use super::{NO_BYTES, NOT_FILLED, OTHER_TAG};
@@ -61,7 +61,7 @@ fn turns_of_refused_elements(rt: HostRuntime) {
     assert_eq!(rt; turns.count(), 0);
 }
 
-// A body that asks for the declared room has no memory for it.
+// A body that requests the declared room runs out of memory.
 #[test]
 fn room_by_declared_length(rt: HostRuntime) {
     let alloc = rt.alloc();

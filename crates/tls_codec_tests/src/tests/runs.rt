@@ -1,4 +1,4 @@
-//! Lists of numbers, which go at once where their bytes are at hand, and one by one where not.
+//! Lists of numbers. They go at once if their bytes are at hand, and one by one if not.
 use super::NOT_FILLED;
 use super::each_call::is_left;
 use super::refusals::is_refused_after;
@@ -9,8 +9,8 @@ use tls_codec::lists::{self, Turns};
 use tls_codec::{Deserialize, DeserializeBytes, Error, Serialize, SerializeBytes, U24};
 use tls_codec_vectors::Drip;
 
-// The engines write the elements as these bytes, and read them from a prefix of more, each element by
-// a turn.
+// The engines write the elements as these bytes, and read them from a prefix of more bytes. Each
+// element takes a turn.
 fn is_a_run<T: Serialize + SerializeBytes + Deserialize + DeserializeBytes + PartialEq>(
     rt: &impl Abort,
     alloc: Global,

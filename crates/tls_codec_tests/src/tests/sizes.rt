@@ -26,7 +26,7 @@ fn sizes_to(alloc: Global, most: usize) -> Result<Vec<usize>, AllocError> {
     Ok(sizes)
 }
 
-// The content behind its length: one byte below 64, two that begin with the bits 01 below 16,384, and
+// The content after its length: one byte below 64, two that begin with the bits 01 below 16,384, and
 // from there four that begin with 10.
 fn spelled(alloc: Global, content: &[u8]) -> Result<Vec<u8>, AllocError> {
     let [.., top, high, middle, low] = content.len().to_be_bytes();
@@ -39,7 +39,8 @@ fn spelled(alloc: Global, content: &[u8]) -> Result<Vec<u8>, AllocError> {
     Ok(form)
 }
 
-// Each decoder reads the value from these bytes, few of them also one byte a pull, which takes long.
+// Each decoder reads the value from these bytes. Few bytes are also read one byte a pull, which
+// takes long.
 fn is_read_back<T: Deserialize + DeserializeBytes + PartialEq>(
     rt: &impl Abort,
     alloc: Global,
@@ -56,7 +57,7 @@ fn is_read_back<T: Deserialize + DeserializeBytes + PartialEq>(
     Ok(())
 }
 
-// A copy has the whole content, and a byte is put behind it.
+// A copy has the whole content, and a byte is put after it.
 macro_rules! is_copied_and_grows {
     ($rt:expr, $owned:ident, $content:ident) => {
         let copy = $owned.clone()?;
@@ -141,7 +142,7 @@ fn sizes_of_texts(rt: HostRuntime) -> Result<(), Fail> {
     Ok(())
 }
 
-// So many byte vectors without a byte, and what they are spelled as.
+// So many byte vectors without a byte, and their spelling.
 fn empty_vectors(alloc: Global, count: usize) -> Result<(Vec<VLBytes>, Vec<u8>), AllocError> {
     let mut list = Vec::new(alloc);
     for _at in 0..count {

@@ -1,4 +1,4 @@
-//! Texts behind their length.
+//! Strings after their length.
 use super::each_call::{
     is_read, is_refused, is_refused_by_each, is_spelled_alone, is_written_alone,
 };

@@ -22,7 +22,8 @@ fn a_trickle_appends(rt: HostRuntime) -> Result<(), Fail> {
     Ok(())
 }
 
-// A call that is not planned is the call of the device inside, with the whole buffer or piece.
+// A call that is not planned to fail is the call of the device inside, with the whole buffer or
+// piece.
 #[test]
 fn whole_pieces_are_handed_on(rt: HostRuntime) {
     let mut source = Failing::new([1u8, 2, 3].as_slice(), 2, 1, Fault::Failed);
@@ -45,7 +46,7 @@ fn a_length_one_byte_a_call(rt: HostRuntime) {
     );
 }
 
-// Behind the bytes of the log no call is made, so that a fault at the fifteenth never comes.
+// After the bytes of the log no call is made, so a fault at the fifteenth call never comes.
 #[test]
 fn a_log_from_a_source_that_fails(rt: HostRuntime) -> Result<(), Fail> {
     let alloc = rt.alloc();
@@ -129,7 +130,7 @@ fn a_pair_into_a_sink_that_fails(rt: HostRuntime) -> Result<(), Fail> {
     Ok(())
 }
 
-// They are counted in a row, and a byte that came begins another one.
+// They are counted in a row, and a byte that comes begins another row.
 #[test]
 fn interruptions_over_whole_call(rt: HostRuntime) {
     let alloc = rt.alloc();

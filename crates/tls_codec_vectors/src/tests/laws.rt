@@ -107,7 +107,7 @@ fn both_paths_read_the_first_leaf(rt: HostRuntime) -> Result<(), Fail> {
     Ok(())
 }
 
-// At most 255 bytes stand behind one byte of length. Units are written as no bytes, which are read as an
+// At most 255 bytes come after one byte of length. Units are written as no bytes, which are read as an
 // empty list.
 #[test]
 fn lists_that_fit_are_written_and_read(rt: HostRuntime) -> Result<(), Fail> {
@@ -181,7 +181,7 @@ fn equal_vectors_are_hashed_alike(rt: HostRuntime) -> Result<(), Fail> {
     Ok(())
 }
 
-// The first byte in which they differ decides, and else the shorter one is less.
+// The first byte in which they differ decides. If there is none, the shorter one is less.
 #[test]
 fn byte_vectors_have_the_order_of_their_bytes(rt: HostRuntime) -> Result<(), Fail> {
     byte_vectors_are_ordered_as_lists_of_bytes();

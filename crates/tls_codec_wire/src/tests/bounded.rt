@@ -13,7 +13,7 @@ use std::alloc::Global;
 use std::process::Abort;
 use std::test::Fail;
 
-// Has so many bytes left, and notes whether a vector had more room for them than the greater of 4,096
+// Has so many bytes left. It notes whether a vector had more room for them than the greater of 4,096
 // and what came.
 #[derive(Drop)]
 struct RoomWatcher {
@@ -77,7 +77,7 @@ impl Source for BufferWatcher {
     ghost no_count_falls = { λ a xs b p. stay no_counts };
 }
 
-// Two bytes are read within a limit of two, and none behind them.
+// Two bytes are read within a limit of two, and none after them.
 fn are_two_bytes<R: Source>(rt: &impl Abort, src: &mut R) {
     let mut inner = Bounded::new(src, 2);
     let mut bytes = [0; 2];
@@ -86,7 +86,7 @@ fn are_two_bytes<R: Source>(rt: &impl Abort, src: &mut R) {
     assert_eq!(rt; read_exactly(&mut inner, &mut [0]), Err(Error::EndOfStream));
 }
 
-// They are read so within a limit of three, of which one is left, and the byte behind them too.
+// They are read so within a limit of three, which leaves one, and the byte after them too.
 fn are_three_bytes<R: Source>(rt: &impl Abort, src: &mut R) {
     let mut outer = Bounded::new(src, 3);
     are_two_bytes(rt, &mut outer);
@@ -149,7 +149,7 @@ fn bytes_are_gathered(rt: HostRuntime) -> Result<(), Fail> {
     Ok(())
 }
 
-// A vector has at most `isize::MAX` bytes. Where it can't hold so many, none are taken.
+// A vector has at most `isize::MAX` bytes. If it can't hold so many, none are taken.
 #[test]
 fn bytes_that_are_not_there_are_refused(rt: HostRuntime) {
     let most = isize::MAX as usize;

@@ -8,8 +8,8 @@ use std::io;
 use std::io::{ErrorKind, Read, Write};
 use std::marker::Model;
 
-// A device refuses its first call by a fault, where it has one. Then it moves so many bytes, one a
-// call, and each is preceded by so many interruptions. After them it treats each call the same: a
+// A device refuses its first call by a fault, if it has one. Then it moves so many bytes, one a
+// call, and so many interruptions come before each. After them it treats each call the same: a
 // fault, or no byte.
 #[derive(Clone, Copy)]
 pub struct Plan {

@@ -1,4 +1,4 @@
-// A fault is returned at once, and no call is made behind it, nor behind the end.
+// A fault is returned at once. No call is made after it, nor after the end.
 use super::devices::{ENDED, FailingFirst, Fives, Keeper, Plan};
 use crate::device::{Fault, Source};
 use crate::error::Error;

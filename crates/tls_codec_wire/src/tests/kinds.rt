@@ -1,4 +1,4 @@
-// Each kind of error that std names, as a fault and as an error.
+// Each kind of error that std names, a timeout among them, as a fault and as an error.
 use super::devices::Failing;
 use crate::device::{Fault, Sink, Source};
 use crate::error::Error;
@@ -9,7 +9,7 @@ use std::process::Abort;
 
 const IO_ERROR: Error = Error::DecodingError("io error");
 
-// What an error of this kind is, where a reader or a writer outside fails by it, and what it becomes.
+// What an error of this kind is if a reader or a writer outside fails by it, and what it becomes.
 fn kind_is(rt: &impl Abort, kind: ErrorKind, fault: Fault, error: Error) {
     let mut src = Outside::new(Failing { kind });
     assert_eq!(rt; src.pull(&mut [0]), Err(fault), "{kind:?}");

@@ -53,7 +53,7 @@ fn a_program_ends_by_its_words(rt: HostRuntime) -> Result<(), Fail> {
     Ok(())
 }
 
-// Where the words can't be read.
+// If the words can't be read.
 #[test]
 fn a_program_without_words_says_why(rt: HostRuntime) {
     for (kind, printed) in [
@@ -94,7 +94,7 @@ fn a_program_says_how_its_input_failed(rt: HostRuntime) -> Result<(), Fail> {
 }
 
 // Each of these rows has a kind, the first call of the sink that fails, how many do, and what it received.
-// Later calls work, and nothing is said behind a failed write.
+// Later calls work, and nothing is said after a failed write.
 #[test]
 fn a_program_ends_as_its_sink_does(rt: HostRuntime) -> Result<(), Fail> {
     for (kind, at, times, fault, received) in [

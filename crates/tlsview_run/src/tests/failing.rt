@@ -1,4 +1,4 @@
-// Runs from an input and into a sink of which some calls in a row fail.
+// Runs from an input and into a sink with some calls in a row that fail.
 use crate::fault::ViewFault;
 use crate::run::run;
 use std::io;
@@ -8,7 +8,8 @@ use tls_codec_vectors::{Drip, Failing, Trickle};
 
 const VIEW: &str = "slice ok some 7 rest ee\nreader ok some 7 rest ee\nleast 010007\n";
 
-// Each call fails in turn, the first as well as the one that finds the end. Behind the end there is none.
+// Each call fails in turn, the first as well as the one that finds the end. After the end there is no
+// call.
 #[test]
 fn a_run_ends_as_its_input_does(rt: HostRuntime) {
     for (times, fault, outcome) in [
@@ -58,7 +59,7 @@ fn a_sink_that_fails_has_a_beginning(rt: HostRuntime) {
     }
 }
 
-// Sixteen interruptions precede each of the first two bytes, so that they are no more in a row.
+// Sixteen interruptions come before each of the first two bytes, so that they are no more in a row.
 #[test]
 fn interruptions_over_whole_run(rt: HostRuntime) {
     let fault = Fault::Interrupted;
@@ -94,7 +95,8 @@ impl Write for Broken {
     }
 }
 
-// Of the errors of std only want of memory has a name of its own, and that for an input alone.
+// Of the errors of std only running out of memory has a name of its own, and that for an input
+// alone.
 #[test]
 fn errors_of_std_are_read_and_write(rt: HostRuntime) {
     for (kind, fault) in [

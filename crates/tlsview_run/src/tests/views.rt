@@ -2,8 +2,8 @@
 use super::run_on;
 use std::test::Fail;
 
-// Each of these rows has a kind and the hex of some bytes, and of what they begin with the value's
-// text, the rest's hex, and the shortest form's.
+// Each of these rows has a kind and the hex of some bytes. Then come the text of the value that
+// they begin with, the rest's hex, and the shortest form's.
 #[test]
 fn values_are_shown(rt: HostRuntime) -> Result<(), Fail> {
     for (kind, text, value, rest, least) in [

@@ -28,7 +28,7 @@ module _ (element : Grammar) (f : Tree → ℕ) (l : IsLawful element f) where
   stays_nonempty : (s t : List ℕ) (v : Tree) → Part element Reading v s → element Writing t v → Part element Reading v t
   stays_nonempty s t v p q = subst (Part element Reading v) (l.alone s t v (l.written s v p.0) q) p
 
-  -- and is read where the elements have spellings that aren't empty
+  -- and is read if the elements have spellings that aren't empty
   row_is_read : (c : List ℕ) (v : Tree) → EachHasNonemptySpelling element v → ShortestInARow element c v → content element Reading c v
   row_is_read c Empty e p = p
   row_is_read c (Join v vs) e p = row_map (λ s. IsShortest element s v) (λ s. ShortestInARow element s vs) (Part element Reading v) (λ s. content element Reading s vs) c (λ s q. stays_nonempty e.0.0 s v (e.0.1, e.0.2) q.spelled) (λ s q. row_is_read s vs e.1 q) p

@@ -1,4 +1,4 @@
-//! Lists of byte vectors, and bytes behind others.
+//! Lists of byte vectors, and bytes after others.
 use crate::tests::each_call::{is_refused, is_spelled_alone};
 use std::test::Fail;
 use tls_codec::{Error, VLBytes};

@@ -6,7 +6,7 @@ use std::process::Abort;
 use std::test::Fail;
 use tls_codec::{Error, Serialize, SerializeBytes, VLByteSlice, VLByteVec, VLBytes};
 
-// The value is announced and written in so many bytes, which begin with these.
+// The value is announced and written in so many bytes. They begin with these.
 fn begins<T: Serialize>(
     rt: &impl Abort,
     alloc: Global,

@@ -1,11 +1,11 @@
-//! Elements and bytes behind each length.
+//! Elements and bytes after each length.
 use std::alloc::Global;
 use std::process::Abort;
 use std::test::Fail;
 use tls_codec_base::{LengthField, counted, opaque};
 use tls_codec_wire::{Error, TlsVarInt, U24};
 
-// The elements 1 and 2 as `u16`, and as bytes the content 9, 8, are this behind their length.
+// The elements 1 and 2 as `u16` after their length, and the bytes 9, 8 after theirs, are these.
 fn stand_behind<F: LengthField>(
     rt: &impl Abort,
     alloc: Global,

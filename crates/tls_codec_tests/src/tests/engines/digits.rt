@@ -1,4 +1,4 @@
-//! Calls on digits, and lengths that are sent or put into a gap, as encoders of one's own use them.
+//! Calls on digits, and lengths that are sent or put into a gap, as your own encoders use them.
 use std::alloc::Global;
 use std::process::Abort;
 use std::test::Fail;
@@ -31,7 +31,7 @@ fn digits_by_each_call(rt: HostRuntime) -> Result<(), Fail> {
     Ok(())
 }
 
-// The bytes 9, 8 behind their length, which is put into a gap of two bytes, and sent by itself.
+// The bytes 9, 8 after their length, which is put into a gap of two bytes, and sent by itself.
 fn is_put<F: LengthField>(rt: &impl Abort, alloc: Global, form: &[u8]) -> Result<(), Fail> {
     let mut out = [0xaa].to_vec(alloc)?;
     open_gap(&mut out, 2, 2)?;

@@ -1,4 +1,4 @@
-//! What a caller's own contract says of a list, by those of the calls.
+//! What a caller's own contract says of a list, by the contracts of the calls.
 ghost use Rattle.std.specs.Prelude.{◌≡◌, ◌<◌, ◌≤◌, nat_lt, filter, length, slice_set, IfOk};
 ghost use Rattle.tls_codec.specs.Contents.{elements_of};
 

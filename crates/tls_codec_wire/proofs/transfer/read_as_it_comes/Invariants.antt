@@ -1,4 +1,4 @@
--- What came stands in the buffer, and a row of interruptions was counted.
+-- What came is in the buffer, and a row of interruptions was counted.
 use Rattle.std.proofs.Common.{length, take, ◌-◌, ◌≡◌, ◌+◌, ◌*◌, ◌≤◌}
 use Rattle.tls_codec_wire.specs.Counts.{OnlyInterrupted, RoseBy}
 use Rattle.tls_codec_wire.specs.Digits.{AreBytes}

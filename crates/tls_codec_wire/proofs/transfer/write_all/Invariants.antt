@@ -1,4 +1,4 @@
--- The sink has what stands before the place, and a row of interruptions was counted.
+-- The sink has what comes before the place, and a row of interruptions was counted.
 use Rattle.std.proofs.Common.{length, take, ◌-◌, ◌≡◌, ◌+◌, ◌*◌, ◌≤◌}
 use Rattle.std.specs.Io.KnownBytes.{Appends}
 use Rattle.tls_codec_wire.specs.Counts.{OnlyInterrupted, RoseBy}

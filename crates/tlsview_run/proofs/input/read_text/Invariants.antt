@@ -1,4 +1,4 @@
--- What came stands in the text.
+-- What came is in the text.
 use Rattle.std.proofs.Common.{length, ◌+◌, ◌-◌, ◌≤◌}
 use Rattle.tls_codec.specs.Devices.{OnlyInterrupted}
 use Rattle.tlsview_run.specs.Input.{longest}

@@ -4,7 +4,7 @@ use Rattle.tls_codec.specs.OwnMessages.{Tree, trees}
 use Rattle.tlsview_run.specs.Texts.{parts}
 use Rattle.tlsview_run.proofs.show.push_elements.Given as goal
 
--- the texts of the elements that are left, each behind a comma
+-- the texts of the elements that are left, each after a comma
 abbrev left_text : {T : Type 0} → (Tree → List ℕ) → (T → Tree) → List T → List ℕ
 left_text text plain left = flat_map (λ v. codes "," ++ text v) (parts (trees plain left))
 

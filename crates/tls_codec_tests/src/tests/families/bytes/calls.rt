@@ -66,7 +66,7 @@ fn calls_on_each_width(rt: HostRuntime) -> Result<(), Fail> {
     Ok(())
 }
 
-// It is asked once for each byte, from the first on.
+// It is called once for each byte, from the first on.
 #[test]
 fn each_byte_is_asked_for_once(rt: HostRuntime) -> Result<(), Fail> {
     let alloc = rt.alloc();
