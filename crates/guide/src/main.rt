@@ -12,6 +12,8 @@
 pub mod aad;
 pub mod chained;
 pub mod extension;
+#[cfg(test)]
+mod readme;
 pub mod rewrite;
 #[cfg(test)]
 mod tests;
