@@ -1,5 +1,6 @@
 -- What one call of a device does, and what a source gives in a row of calls.
-use Rattle.std.specs.Prelude.{◌≡◌, ℕ, ◌<◌, List, [], ◌++◌, length, take, Option, None, Some, Result, Ok, Err, ⊤}
+use Rattle.std.specs.Prelude.{◌≡◌, ℕ, ◌<◌, Bool, true, false, List, [], ◌++◌, length, take, Option, None, Some, Result, Ok, Err, Vec, ⊤}
+use Rattle.std.specs.Global.{Global}
 use Rattle.std.specs.Io.KnownBytes.{Consumes, Appends}
 use Rattle.tls_codec_wire.specs.declared.device.Fault.{Fault}
 use Rattle.tls_codec_wire.specs.declared.device.Fault.TheVariants.{Interrupted, NoMemory, Failed}
@@ -79,13 +80,18 @@ pub record PulledOnto {S : Type 0} (given : Gives S) (old new : S) (result : Res
   pub appended : after ≡ before ++ bytes
   pub count : length bytes ≡ count_moved result
 
+-- just so many bytes were given and appended to a vector, or nothing was
+abbrev pub AppendedAtHand : {S : Type 0} → Gives S → S → S → ℕ → Bool → Vec ℕ Global → Vec ℕ Global → Type 0
+AppendedAtHand given old new n true before after = PulledOnto given old new (Ok n) before.items after.items
+AppendedAtHand given old new n false before after = (new ≡ old) × (after ≡ before)
+
 -- p is a prefix of s
 abbrev pub IsBeginning : List ℕ → List ℕ → Type 0
 IsBeginning p s = (rest : List ℕ) × (s ≡ p ++ rest)
 
--- these bytes come first; there are none if the bytes to come aren't told
+-- these bytes come first, if the bytes to come are told
 abbrev pub IsAtHand : List ℕ → Option (List ℕ) → Type 0
-IsAtHand bytes None = bytes ≡ []
+IsAtHand bytes None = ⊤
 IsAtHand bytes (Some xs) = IsBeginning bytes xs
 
 -- ---- what a sink has received

@@ -104,6 +104,19 @@ impl<R: Source> Source for Bounded<'_, R> {
     }
 
     #[inline(always)]
+    fn append_at_hand(&mut self, out: &mut Vec<u8>, n: usize) -> bool {
+        let Bounded { inner, limit } = self;
+        if n as u64 > *limit {
+            return false;
+        }
+        let done = inner.append_at_hand(out, n);
+        if done {
+            *limit -= n as u64;
+        }
+        done
+    }
+
+    #[inline(always)]
     fn pull_onto(&mut self, out: &mut Vec<u8>, most: usize) -> Result<usize, Fault>
         ensures bound { IfOk result (λ n. n ≤ most) }
         ensures gave { PulledOnto (GaveWithin R.given) self.old self.new result out.old.items

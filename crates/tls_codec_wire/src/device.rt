@@ -2,7 +2,7 @@
 ghost use Rattle.std.specs.Prelude.{◌≡◌, ℕ, ◌+◌, ◌<◌, ◌≤◌, List, length, Option, IfOk, vec_capacity, vec_len};
 ghost use Rattle.std.specs.Io.KnownBytes.{Appends, IsAtEnd};
 ghost use Rattle.tls_codec_wire.specs.Counts.{Counts};
-ghost use Rattle.tls_codec_wire.specs.Device.{bytes_moved, GiveIsCounted, GivesFromFront, GivesInOrder, GivesNothing, IsAtHand, NoCountFalls, PullIsCounted, PulledOnto};
+ghost use Rattle.tls_codec_wire.specs.Device.{AppendedAtHand, bytes_moved, GiveIsCounted, GivesFromFront, GivesInOrder, GivesNothing, IsAtHand, NoCountFalls, PullIsCounted, PulledOnto};
 ghost use Rattle.tls_codec_wire.specs.Transfer.{IsShortOf};
 ghost use Rattle.tls_codec_wire.specs.declared.device.Fill.TheVariants.{Full, TooFew, Unknown};
 
@@ -53,7 +53,7 @@ pub trait Source {
         ensures counted { PullIsCounted result (counts self.old) (counts self.new) };
 
     /// The bytes that it has at hand in memory, which are to come first. There are none if it
-    /// doesn't tell what is to come.
+    /// doesn't know.
     fn at_hand(&self) -> &[u8]
         ensures { IsAtHand result.now (coming self.now) }
     {
@@ -72,6 +72,17 @@ pub trait Source {
         ensures calm { counts self.new ≡ counts self.old }
     {
         Fill::Unknown
+    }
+
+    /// Appends the next `n` bytes to a vector, if it has as many at hand in memory and the vector has
+    /// room for them, and returns whether it did. If not, nothing was taken.
+    ///
+    /// A list of numbers is read by one such call.
+    fn append_at_hand(&mut self, _out: &mut Vec<u8>, _n: usize) -> bool
+        ensures appended { AppendedAtHand given self.old self.new _n result _out.old _out.new }
+        ensures calm { counts self.new ≡ counts self.old }
+    {
+        false
     }
 
     /// Puts the next bytes after those of a vector, as many as it has room for and `most` at most,

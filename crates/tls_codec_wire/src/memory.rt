@@ -50,6 +50,17 @@ impl Source for &[u8] {
     }
 
     #[inline(always)]
+    fn append_at_hand(&mut self, out: &mut Vec<u8>, n: usize) -> bool {
+        if n > self.len() || n > out.capacity() - out.len() {
+            return false;
+        }
+        let (front, left) = self.split_at(n);
+        let _ = out.extend_from_slice(front);
+        *self = left;
+        true
+    }
+
+    #[inline(always)]
     fn pull_onto(&mut self, out: &mut Vec<u8>, most: usize) -> Result<usize, Fault> {
         let n = self.len().min(most).min(out.capacity() - out.len());
         let (front, behind) = self.split_at(n);

@@ -17,7 +17,7 @@ use super::groups::HasDigits;
 use crate::lists::Turns;
 use std::alloc::{AllocError, Global};
 use tls_codec_grammar::opaque::see_bytes;
-use tls_codec_wire::{Bounded, Error, Source, read_bytes_bounded};
+use tls_codec_wire::{Bounded, Error, Source};
 
 // The digits of all numbers of K bytes that a source may still give, if it has them at hand. Else it
 // is none, and nothing is taken.
@@ -33,7 +33,10 @@ pub(crate) fn read_run<R: Source, const K: usize>(
     if size == 0 || size % K != 0 || within.limit() != size as u64 {
         return Ok(None);
     }
-    let digits = read_bytes_bounded(alloc, within, size)?;
+    let mut digits = Vec::with_capacity(alloc, size)?;
+    if !within.append_at_hand(&mut digits, size) {
+        return Ok(None);
+    }
     see_bytes(&digits);
     Ok(Some(digits))
 }

@@ -1,4 +1,4 @@
-use Rattle.std.proofs.Common.{arith}
+use Rattle.std.proofs.Common.{refl}
 use Rattle.std.proofs.lemmas.Result.{err_from_is_err_and}
 use Rattle.tls_codec_base.proofs.NumberRunSources.{run_not_read}
 use Rattle.tls_codec_base.proofs.numbers.runs.read_run.Goals as goal
@@ -6,4 +6,4 @@ use Rattle.tls_codec_base.proofs.numbers.runs.read_run.Goals as goal
 pub returns-in_err-digits-clause-run : goal.returns-in_err-digits-clause-run
 returns-in_err-digits-clause-run g c =
     let p = err_from_is_err_and c.from_residual.result c.from_residual.ensures.1 in
-    rw (p.1, p.2) (run_not_read g.row.K _ g.met.R.Source.gives_from_front (omega arith) (omega arith) (omega arith) (omega arith) c.at_hand-size.ensures c.in_err-digits.ensures.refused)
+    rw (p.1, p.2) (run_not_read g.row.K g.met.R.Source.gives_nothing refl)
