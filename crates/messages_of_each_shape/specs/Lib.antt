@@ -1,0 +1,15 @@
+pub mod Certificate
+pub mod CipherSuite
+pub mod ContentTypeData
+pub mod Credential
+pub mod Framed
+pub mod LeafNode
+pub mod LeafNodeOrigin
+pub mod Level
+pub mod Lifetime
+pub mod Lists
+pub mod NameType
+pub mod Package
+pub mod Side
+pub mod Version
+pub mod Wide

@@ -1,0 +1,47 @@
+//! How many bytes a tag has.
+ghost use Rattle.std.specs.Prelude.{◌≡◌, ◌<◌, ◌+◌, ◌^◌, ◌↔◌, IfSome, IsTrue};
+ghost use Rattle.tls_codec_plan.specs.Width.{is_tag_width};
+
+/// 1, 2, 4 or 8 bytes.
+#[derive(Clone, Copy)]
+pub struct Width {
+    pub bytes: usize,
+    /// The greatest number of so many bytes.
+    pub most: u64,
+    ghost is_width: { IsTrue (is_tag_width bytes) },
+    ghost is_most: { most + 1 ≡ 256 ^ bytes },
+}
+
+impl Width {
+    /// So many bytes, if a tag may have so many.
+    pub fn new(bytes: usize) -> Option<Width>
+        ensures { IfSome result (λ width. width.bytes ≡ bytes) }
+    {
+        match bytes {
+            1 => Some(Width {
+                bytes: 1,
+                most: 0xff,
+            }),
+            2 => Some(Width {
+                bytes: 2,
+                most: 0xffff,
+            }),
+            4 => Some(Width {
+                bytes: 4,
+                most: 0xffff_ffff,
+            }),
+            8 => Some(Width {
+                bytes: 8,
+                most: u64::MAX,
+            }),
+            _ => None,
+        }
+    }
+
+    /// Whether a number has so many bytes.
+    pub fn holds(&self, number: u64) -> bool
+        ensures { IsTrue result ↔ (number < 256 ^ self.now.bytes) }
+    {
+        number <= self.most
+    }
+}
