@@ -42,7 +42,11 @@ pub struct Progress {
 impl Model for Progress {
     ghost Value = { Counts };
 
-    ghost view = { λ p. record { failures = p.failures; interruptions = p.interruptions; shortages = p.shortages } };
+    ghost view = { λ p. record {
+      failures = p.failures;
+      interruptions = p.interruptions;
+      shortages = p.shortages;
+    } };
 }
 
 impl Progress {
