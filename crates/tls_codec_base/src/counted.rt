@@ -50,7 +50,7 @@ pub fn write<F: LengthField, T: Serialize, W: Sink>(
 ) -> Result<usize, Error>
     ensures writes { Writes (counted_list_format F.field T.format) (trees T.plain elements.now)
         W.Sink writer.old writer.new result }
-    ensures out_of_bounds { (counted_list_format F.field T.format).out_of_bounds (trees T.plain elements.now)
+    ensures too_long { (counted_list_format F.field T.format).too_long (trees T.plain elements.now)
         → (result ≡ Err InvalidVectorLength) × (writer.new ≡ writer.old) }
 {
     let length = content_len(elements)?;
@@ -70,7 +70,7 @@ pub fn append<F: LengthField, T: Serialize>(
 ) -> Result<usize, Error>
     ensures appends { AppendsForm (counted_list_format F.field T.format)
         (trees T.plain elements.now) out.old.items out.new.items result }
-    ensures out_of_bounds { (counted_list_format F.field T.format).out_of_bounds (trees T.plain elements.now)
+    ensures too_long { (counted_list_format F.field T.format).too_long (trees T.plain elements.now)
         → IsErrAnd result
         (λ e. (e ≡ OutOfMemory)
         ⊎ (counted_list_format F.field T.format).refuses (trees T.plain elements.now) e) }
@@ -114,7 +114,7 @@ pub fn to_vec<F: LengthField, T: SerializeBytes>(
 ) -> Result<Vec<u8>, Error>
     ensures makes { Makes (counted_list_format F.field T.format) (trees T.plain elements.now)
         result }
-    ensures out_of_bounds { (counted_list_format F.field T.format).out_of_bounds (trees T.plain elements.now)
+    ensures too_long { (counted_list_format F.field T.format).too_long (trees T.plain elements.now)
         → IsErrAnd result
         (λ e. (e ≡ OutOfMemory)
         ⊎ (counted_list_format F.field T.format).refuses (trees T.plain elements.now) e) }

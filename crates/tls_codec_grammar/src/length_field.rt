@@ -14,12 +14,10 @@ ghost use Rattle.tls_codec_grammar.specs.Lawful.{MeetsFieldLaws};
 
 use tls_codec_wire::{Error, Source};
 
-mod bounded;
 mod fixed;
 mod variable;
 mod writing;
 
-pub use bounded::Within;
 pub(crate) use writing::append_both;
 pub use writing::{fill_gap, open_gap, write_length};
 
@@ -34,18 +32,18 @@ pub use writing::{fill_gap, open_gap, write_length};
 /// assert_eq!(u16::width(3), 2);
 /// ```
 pub trait LengthField {
-    // Which bytes spell which length, how many of them, and which lengths there are.
+    // Which bytes spell which length, how many of them, and up to which limit.
     ghost field: { Field };
 
-    /// How many bytes a length has. Announced lengths also count it if the field doesn't hold the length;
-    /// then it is whatever the field says.
+    /// How many bytes a length has. Announced lengths also count it if the length passes the greatest
+    /// one; then it is whatever the field says.
     fn width(length: usize) -> usize
         ensures { result ≡ field.width length };
 
-    /// The bytes of a length: those of these eight from this place on. It is none if the field
-    /// doesn't hold the length.
+    /// The bytes of a length: those of these eight from this place on. It is none if the length
+    /// passes the greatest one.
     fn form(length: usize) -> Option<([u8; 8], usize)>
-        ensures { MatchOption result (field.holds length → ⊥)
+        ensures { MatchOption result (field.limit ≤ length)
             (λ form. (form.1 ≤ 8) × field.spells (drop form.1 form.0) length) };
 
     /// Reads a length. Only its bytes are taken.

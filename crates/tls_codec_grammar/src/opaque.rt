@@ -30,7 +30,7 @@ pub fn announced_len<F: LengthField>(content: &[u8]) -> usize
 pub fn write<F: LengthField, W: Sink>(sink: &mut W, content: &[u8]) -> Result<usize, Error>
     ensures writes { Writes (counted_bytes_format F.field) (number_trees content.now) W.Sink
         sink.old sink.new result }
-    ensures out_of_bounds { (counted_bytes_format F.field).out_of_bounds (number_trees content.now)
+    ensures too_long { (counted_bytes_format F.field).too_long (number_trees content.now)
         → (result ≡ Err InvalidVectorLength) × (sink.new ≡ sink.old) }
 {
     let width = write_length::<F, W>(sink, content.len())?;
@@ -46,11 +46,11 @@ pub fn write<F: LengthField, W: Sink>(sink: &mut W, content: &[u8]) -> Result<us
 pub fn append<F: LengthField>(out: &mut Vec<u8>, content: &[u8]) -> Result<usize, Error>
     ensures appends { AppendsForm (counted_bytes_format F.field) (number_trees content.now)
         out.old.items out.new.items result }
-    ensures out_of_bounds { (counted_bytes_format F.field).out_of_bounds (number_trees content.now)
+    ensures too_long { (counted_bytes_format F.field).too_long (number_trees content.now)
         → IsErrAnd result
         (λ e. (e ≡ OutOfMemory)
         ⊎ (counted_bytes_format F.field).refuses (number_trees content.now) e) }
-    ensures at_once { (counted_bytes_format F.field).out_of_bounds (number_trees content.now)
+    ensures at_once { (counted_bytes_format F.field).too_long (number_trees content.now)
         → result ≡ Err InvalidVectorLength }
 {
     let Some(found) = F::form(content.len()) else {
@@ -67,11 +67,11 @@ pub fn append<F: LengthField>(out: &mut Vec<u8>, content: &[u8]) -> Result<usize
 /// `InvalidVectorLength`: there are more bytes than the greatest length.
 pub fn to_vec<F: LengthField>(alloc: Global, content: &[u8]) -> Result<Vec<u8>, Error>
     ensures makes { Makes (counted_bytes_format F.field) (number_trees content.now) result }
-    ensures out_of_bounds { (counted_bytes_format F.field).out_of_bounds (number_trees content.now)
+    ensures too_long { (counted_bytes_format F.field).too_long (number_trees content.now)
         → IsErrAnd result
         (λ e. (e ≡ OutOfMemory)
         ⊎ (counted_bytes_format F.field).refuses (number_trees content.now) e) }
-    ensures at_once { (counted_bytes_format F.field).out_of_bounds (number_trees content.now)
+    ensures at_once { (counted_bytes_format F.field).too_long (number_trees content.now)
         → result ≡ Err InvalidVectorLength }
 {
     let mut form = Vec::new(alloc);

@@ -19,7 +19,7 @@ impl Size for Huge {
       announced = λ v. 0xffff_ffff_ffff_ffff;
       lean = true;
       refuses = λ v e. e ≡ InvalidInput;
-      out_of_bounds = λ v. ⊥;
+      too_long = λ v. ⊥;
     } };
 
     fn tls_serialized_len(&self) -> usize {

@@ -1,4 +1,4 @@
-use Rattle.std.proofs.Common.{◌≡◌, ◌⊎◌, ⊥, ℕ, List, length, subst, Result, Ok, Err, Vec, inl, inr, arith}
+use Rattle.std.proofs.Common.{◌≡◌, ◌≤◌, ◌⊎◌, ℕ, List, length, Result, Ok, Err, Vec, inl, inr, arith}
 use Rattle.std.specs.Prelude.{IsErrAnd}
 use Rattle.std.specs.Global.{Global}
 use Rattle.tls_codec_wire.specs.declared.error.Error.{Error}
@@ -12,12 +12,12 @@ use Rattle.tls_codec_grammar.specs.Lawful.{MeetsFieldLaws, MeetsLaws}
 use Rattle.tls_codec_grammar.specs.Encoding.{AppendsForm, Makes}
 use Rattle.tls_codec_grammar.specs.laws.FormatLaws.{content_length_sum, content_meets, counted_list_meets}
 use Rattle.tls_codec_grammar.specs.laws.ListLaws.{content_announces}
-use Rattle.tls_codec_grammar.proofs.Appending.{out_of_bounds_no_form}
-use Rattle.tls_codec_base.proofs.refusals.contents_out_of_bounds_are_refused.Goals as goal
+use Rattle.tls_codec_grammar.proofs.Appending.{too_long_no_form}
+use Rattle.tls_codec_base.proofs.refusals.long_contents_are_refused.Goals as goal
 
-module _ {field : Field} {element : Format} (m : MeetsFieldLaws field) (l : MeetsLaws element) (v : Tree) {form : List ℕ} (p : IsShortest (content element.spells) form v) (long : field.holds (length form) → ⊥) where
-  out_of_bounds : (counted_list_format field element).out_of_bounds v
-  out_of_bounds held = long (subst field.holds (omega (arith, content_announces _ _ l.spelled form v p.spelled, content_length_sum element.announced v, m.small _ held)) held)
+module _ {field : Field} {element : Format} (m : MeetsFieldLaws field) (l : MeetsLaws element) (v : Tree) {form : List ℕ} (p : IsShortest (content element.spells) form v) (long : field.limit ≤ length form) where
+  too_long : (counted_list_format field element).too_long v
+  too_long = omega (arith, long, content_announces _ _ l.spelled form v p.spelled, content_length_sum element.announced v, m.small)
 
   -- no element names the refusal
   names : {e : Error} {Passes : Type 0} → (e ≡ OutOfMemory) ⊎ ((counted_list_format field element).refuses v e ⊎ ((e ≡ InvalidVectorLength) × Passes)) → (e ≡ InvalidVectorLength) ⊎ (e ≡ OutOfMemory)
@@ -27,11 +27,11 @@ module _ {field : Field} {element : Format} (m : MeetsFieldLaws field) (l : Meet
   names (inr (inr passes)) = inl passes.0
 
   not_appended : (old new : List ℕ) (result : Result ℕ Error) → AppendsForm (counted_list_format field element) v old new result → IsErrAnd result (λ e. (e ≡ InvalidVectorLength) ⊎ (e ≡ OutOfMemory))
-  not_appended old new (Ok n) q = out_of_bounds_no_form (counted_list_meets m l) out_of_bounds q.shortest
+  not_appended old new (Ok n) q = too_long_no_form (counted_list_meets m l) too_long q.shortest
   not_appended old new (Err e) q = names q.cause
 
   not_made : (result : Result (Vec ℕ Global) Error) → Makes (counted_list_format field element) v result → IsErrAnd result (λ e. (e ≡ InvalidVectorLength) ⊎ (e ≡ OutOfMemory))
-  not_made (Ok bytes) q = out_of_bounds_no_form (counted_list_meets m l) out_of_bounds q
+  not_made (Ok bytes) q = too_long_no_form (counted_list_meets m l) too_long q
   not_made (Err e) q = names q.cause
 
 pub returns : goal.returns
