@@ -1,10 +1,10 @@
 //! Bytes of a source, gathered in a vector as they come.
-ghost use Rattle.std.specs.Prelude.{◌≡◌, ◌<◌, ◌≤◌, ◌^◌, length, max, IfErr, IfOk};
+ghost use Rattle.std.specs.Prelude.{◌≡◌, ◌<◌, ◌≤◌, ◌^◌, ◌↔◌, length, max, IsTrue, IfErr, IfOk, MatchOption};
 ghost use Rattle.tls_codec_wire.specs.Counts.{OnlyInterrupted};
 ghost use Rattle.tls_codec_wire.specs.Device.{Gave};
 ghost use Rattle.tls_codec_wire.specs.Refused.{RefusedFor};
 ghost use Rattle.tls_codec_wire.specs.Transfer.{BytesRefused};
-ghost use Rattle.tls_codec_wire.specs.declared.error.Error.TheVariants.{InvalidVectorLength};
+ghost use Rattle.tls_codec_wire.specs.declared.error.Error.TheVariants.{InvalidVectorLength, OutOfMemory};
 
 use crate::device::Source;
 use crate::error::Error;
@@ -16,10 +16,11 @@ const FIRST_ROOM: usize = 4096;
 
 /// A vector of the next `len` bytes.
 ///
-/// Room is requested as the bytes come: for 4,096 at first, and then for as many as came or are at
-/// hand. So a length without its bytes costs nothing. `InvalidVectorLength`: `len` is above
-/// `isize::MAX`, and nothing was taken. `OutOfMemory`: the source or the vector had none. Every
-/// other refusal, and interruptions, are as in [`read_exactly`](crate::read_exactly).
+/// Room for bytes at hand is requested once. Else it is requested as they come: for 4,096 at first, and
+/// then for as many as came or are at hand. So a length without its bytes costs nothing.
+/// `InvalidVectorLength`: `len` is above `isize::MAX`, and nothing was taken. `OutOfMemory`: the source
+/// or the vector had none. Every other refusal, and interruptions, are as in
+/// [`read_exactly`](crate::read_exactly).
 ///
 /// ```rust
 /// let mut src = [1u8, 2, 3].as_slice();
@@ -42,6 +43,49 @@ pub fn read_bytes_bounded<R: Source>(
     if len > isize::MAX as usize {
         return Err(Error::InvalidVectorLength);
     }
+    if len == 0 {
+        return Ok(Vec::new(alloc));
+    }
+    match take_at_hand(alloc, src, len)? {
+        Some(bytes) => Ok(bytes),
+        None => gather(alloc, src, len),
+    }
+}
+
+// The next `len` bytes, if they are at hand. Else it is none, and nothing is taken.
+#[inline(always)]
+fn take_at_hand<R: Source>(alloc: Global, src: &mut R, len: usize) -> Result<Option<Vec<u8>>, Error>
+    ensures taken { IfOk result
+        (λ taken. MatchOption taken (src.new ≡ src.old)
+        (λ bytes. R.given src.old bytes.items src.new × (length bytes.items ≡ len))) }
+    ensures err { IfErr result (λ e. (e ≡ OutOfMemory) × (src.new ≡ src.old)) }
+    ensures calm { R.counts src.new ≡ R.counts src.old }
+{
+    if !are_at_hand(len, src.at_hand()) {
+        return Ok(None);
+    }
+    let mut bytes = Vec::with_capacity(alloc, len)?;
+    if src.append_at_hand(&mut bytes, len) {
+        return Ok(Some(bytes));
+    }
+    Ok(None)
+}
+
+// Whether so many bytes are at hand, so that room for all of them may be requested at once.
+fn are_at_hand(len: usize, at_hand: &[u8]) -> bool
+    ensures { IsTrue result ↔ (len ≤ length at_hand.now) }
+{
+    len <= at_hand.len()
+}
+
+// The same bytes, as they come.
+fn gather<R: Source>(alloc: Global, src: &mut R, len: usize) -> Result<Vec<u8>, Error>
+    ensures gave { Gave R.given src.old src.new }
+    ensures ok { IfOk result (λ bytes. R.given src.old bytes.items src.new) }
+    ensures count { IfOk result (λ bytes. length bytes.items ≡ len) }
+    ensures refused { IfErr result (RefusedFor R.Source (BytesRefused len) src.old src.new) }
+    ensures calm { IfOk result (λ _. OnlyInterrupted (R.counts src.old) (R.counts src.new)) }
+{
     let mut bytes = Vec::new(alloc);
     let mut row = 0;
     while bytes.len() < len {

@@ -3,11 +3,12 @@
 //! The top two bits of the first byte say how many bytes there are: 1, 2, 4 or 8. The other bits are
 //! the number, the most significant first. Integers and lengths are read and written here, each with
 //! its own limit.
-ghost use Rattle.std.specs.Prelude.{◌≡◌, ◌+◌, ◌*◌, ◌/◌, ◌^◌, ◌<◌, ◌≤◌, ◌⊎◌, drop, length, IfErr, IfOk, MatchOption, MatchResult};
+ghost use Rattle.std.specs.Prelude.{◌≡◌, ◌+◌, ◌*◌, ◌/◌, ◌^◌, ◌<◌, ◌≤◌, ◌⊎◌, drop, length, IfErr, IfOk, OnOk, MatchOption, MatchResult};
 ghost use Rattle.tls_codec_wire.specs.Counts.{NoneFell, OnlyInterrupted};
 ghost use Rattle.tls_codec_wire.specs.Device.{Gave};
-ghost use Rattle.tls_codec_wire.specs.Digits.{value};
+ghost use Rattle.tls_codec_wire.specs.Digits.{AreBytes, value};
 ghost use Rattle.tls_codec_wire.specs.Refused.{RefusedFor};
+ghost use Rattle.tls_codec_wire.specs.Transfer.{ReadRefused};
 ghost use Rattle.tls_codec_wire.specs.Numbers.{BeganNumber, BeginsNumber, GaveNumber, NumberNotRead, NumberNotSent, SentNumber};
 ghost use Rattle.tls_codec_wire.specs.Varint.{SpelledBelow, width_below};
 ghost use Rattle.tls_codec_wire.specs.VarintCalls.{IsLaidOut, RefusesBelow, SaysWidth};
@@ -38,9 +39,25 @@ pub(crate) fn read_below<R: Source, const LIMIT: u64>(src: &mut R) -> Result<u64
     let (more, least) = said_by(first[0]);
     let mut buffer = [0u8; 7];
     let digits = &mut buffer[..more];
-    read_exactly(src, digits)?;
+    read_few(src, digits)?;
     let number = admit::<LIMIT>(number_from(first[0] % 64, digits), least)?;
     Ok(number)
+}
+
+// Fills the buffer, as `read_exactly` does. One byte is copied without a call.
+#[inline(always)]
+fn read_few<R: Source>(src: &mut R, into: &mut [u8]) -> Result<(), Error>
+    ensures gave { Gave R.given src.old src.new }
+    ensures filled { OnOk result (R.given src.old into.new src.new) }
+    ensures bytes { OnOk result (AreBytes into.new) }
+    ensures refused { IfErr result
+        (RefusedFor R.Source (ReadRefused (length into.old)) src.old src.new) }
+    ensures calm { OnOk result (OnlyInterrupted (R.counts src.old) (R.counts src.new)) }
+{
+    if into.len() == 1 {
+        return read_exactly(src, &mut into[..1]);
+    }
+    read_exactly(src, into)
 }
 
 /// The number that the bytes begin with, and the rest of them.
@@ -55,13 +72,28 @@ pub(crate) fn split_below<const LIMIT: u64>(bytes: &[u8]) -> Result<(u64, &[u8])
         if *first < 0x40 {
             return Ok((u64::from(*first), rest));
         }
+        // The compiler knows the width here.
+        if *first < 0x80 {
+            return split_any::<LIMIT>(bytes);
+        }
     }
     split_wider::<LIMIT>(bytes)
 }
 
-// The same, whatever the width. It is kept out of the loops that read numbers of one byte.
+// The same. It is kept out of the loops that read numbers of one byte or two.
 #[inline(never)]
 fn split_wider<const LIMIT: u64>(bytes: &[u8]) -> Result<(u64, &[u8]), Error>
+    requires { 2 ^ 30 ≤ LIMIT }
+    ensures ok { IfOk result
+        (λ found. BeginsNumber (SpelledBelow LIMIT) bytes.now found.0 found.1.now) }
+    ensures err { IfErr result (RefusesBelow LIMIT bytes.now) }
+{
+    split_any::<LIMIT>(bytes)
+}
+
+// The same, whatever the width.
+#[inline(always)]
+fn split_any<const LIMIT: u64>(bytes: &[u8]) -> Result<(u64, &[u8]), Error>
     requires { 2 ^ 30 ≤ LIMIT }
     ensures ok { IfOk result
         (λ found. BeginsNumber (SpelledBelow LIMIT) bytes.now found.0 found.1.now) }

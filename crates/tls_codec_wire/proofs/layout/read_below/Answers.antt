@@ -6,42 +6,42 @@ use Rattle.tls_codec_wire.proofs.VarintReads.{digits_read, no_first_byte, not_ad
 use Rattle.tls_codec_wire.specs.Counts.{calm_falls_never}
 use Rattle.tls_codec_wire.proofs.layout.read_below.Goals as goal
 
-pub returns-in_err-read_exactly-2-clause-gave : goal.returns-in_err-read_exactly-2-clause-gave
-returns-in_err-read_exactly-2-clause-gave g c =
-    gave_then g.met.R.Source.gives_in_order c.read_exactly.ensures.gave c.read_exactly-2.ensures.gave
+pub returns-in_err-read_few-clause-gave : goal.returns-in_err-read_few-clause-gave
+returns-in_err-read_few-clause-gave g c =
+    gave_then g.met.R.Source.gives_in_order c.read_exactly.ensures.gave c.read_few.ensures.gave
 
 pub returns-in_err-number-clause-gave : goal.returns-in_err-number-clause-gave
 returns-in_err-number-clause-gave g c =
-    gave_then g.met.R.Source.gives_in_order c.read_exactly.ensures.gave c.read_exactly-2.ensures.gave
+    gave_then g.met.R.Source.gives_in_order c.read_exactly.ensures.gave c.read_few.ensures.gave
 
 pub returns-clause-gave : goal.returns-clause-gave
 returns-clause-gave g c =
-    gave_then g.met.R.Source.gives_in_order c.read_exactly.ensures.gave c.read_exactly-2.ensures.gave
+    gave_then g.met.R.Source.gives_in_order c.read_exactly.ensures.gave c.read_few.ensures.gave
 
 pub returns-in_err-number-clause-refused : goal.returns-in_err-number-clause-refused
 returns-in_err-number-clause-refused g c =
     let p = err_from_is_err_and c.from_residual-in_err-number.result c.from_residual-in_err-number.ensures.1 in
     let first = c.read_exactly.new.into in
-    let digits = c.read_exactly-2.new.into in
+    let digits = c.read_few.new.into in
     let one : length first ≡ 1 = search rules in
-    let width : length digits ≡ c.said_by-more.result.0 = omega (arith, simp length-take at c.read_exactly-2.auto.into) in
-    let d = digits_read first one c.in_ok-read_exactly.ensures.bytes c.in_ok-read_exactly-2.ensures.bytes width c.said_by-more.ensures c.number_from.ensures.value c.number_from.ensures.fits in
+    let width : length digits ≡ c.said_by-more.result.0 = omega (arith, simp length-take at c.read_few.auto.into) in
+    let d = digits_read first one c.in_ok-read_exactly.ensures.bytes c.in_ok-read_few.ensures.bytes width c.said_by-more.ensures c.number_from.ensures.value c.number_from.ensures.fits in
     let source = g.met.R.Source in
-    let held = source.gives_in_order _ _ _ _ _ c.in_ok-read_exactly.ensures.filled c.in_ok-read_exactly-2.ensures.filled in
-    let both = subst (λ (u : List ℕ). g.R.Source.given c.args.src.now (u ++ digits) c.read_exactly-2.new.src) (one_byte first one) held in
+    let held = source.gives_in_order _ _ _ _ _ c.in_ok-read_exactly.ensures.filled c.in_ok-read_few.ensures.filled in
+    let both = subst (λ (u : List ℕ). g.R.Source.given c.args.src.now (u ++ digits) c.read_few.new.src) (one_byte first one) held in
     rw (p.1, p.2) (refused_now (get_or first 0 0 ∷ digits) source.gives_nothing both (not_admitted _ d _ _ _ c.in_err-number.ensures.0 c.in_err-number.ensures.1))
 
 pub returns-clause-ok : goal.returns-clause-ok
 returns-clause-ok g c =
     let first = c.read_exactly.new.into in
-    let digits = c.read_exactly-2.new.into in
+    let digits = c.read_few.new.into in
     let one : length first ≡ 1 = search rules in
-    let width : length digits ≡ c.said_by-more.result.0 = omega (arith, simp length-take at c.read_exactly-2.auto.into) in
-    let d = digits_read first one c.in_ok-read_exactly.ensures.bytes c.in_ok-read_exactly-2.ensures.bytes width c.said_by-more.ensures c.number_from.ensures.value c.number_from.ensures.fits in
-    let held = g.met.R.Source.gives_in_order _ _ _ _ _ c.in_ok-read_exactly.ensures.filled c.in_ok-read_exactly-2.ensures.filled in
+    let width : length digits ≡ c.said_by-more.result.0 = omega (arith, simp length-take at c.read_few.auto.into) in
+    let d = digits_read first one c.in_ok-read_exactly.ensures.bytes c.in_ok-read_few.ensures.bytes width c.said_by-more.ensures c.number_from.ensures.value c.number_from.ensures.fits in
+    let held = g.met.R.Source.gives_in_order _ _ _ _ _ c.in_ok-read_exactly.ensures.filled c.in_ok-read_few.ensures.filled in
     record {
       front = get_or first 0 0 ∷ digits;
-      held = subst (λ (u : List ℕ). g.R.Source.given c.args.src.now (u ++ digits) c.read_exactly-2.new.src) (one_byte first one) held;
+      held = subst (λ (u : List ℕ). g.R.Source.given c.args.src.now (u ++ digits) c.read_few.new.src) (one_byte first one) held;
       spelled = spells_below d _ c.in_ok-number.ensures.0 c.in_ok-number.ensures.1 c.in_ok-number.ensures.2;
     }
 
@@ -50,12 +50,12 @@ returns-in_err-read_exactly-clause-refused g c =
     let p = err_from_is_err_and c.from_residual.result c.from_residual.ensures.1 in
     rw (p.1, p.2) (refused_so (no_first_byte _ _ _ _) c.in_err-read_exactly.ensures.refused)
 
-pub returns-in_err-read_exactly-2-clause-refused : goal.returns-in_err-read_exactly-2-clause-refused
-returns-in_err-read_exactly-2-clause-refused g c =
+pub returns-in_err-read_few-clause-refused : goal.returns-in_err-read_few-clause-refused
+returns-in_err-read_few-clause-refused g c =
     let source = g.met.R.Source in
-    let p = err_from_is_err_and c.from_residual-in_err-read_exactly-2.result c.from_residual-in_err-read_exactly-2.ensures.1 in
+    let p = err_from_is_err_and c.from_residual-in_err-read_few.result c.from_residual-in_err-read_few.ensures.1 in
     let first = c.read_exactly.new.into in
     let one : length first ≡ 1 = search rules in
     let fell = calm_falls_never c.in_ok-read_exactly.ensures.calm in
     let held = subst (λ (u : List ℕ). g.R.Source.given c.args.src.now u c.read_exactly.new.src) (one_byte first one) c.in_ok-read_exactly.ensures.filled in
-    rw (p.1, p.2) (refused_later (get_or first 0 0 ∷ []) source.gives_in_order held (too_few_digits _ c.said_by-more.ensures (length-take-le c.said_by-more.result.0 (0 ∷ 0 ∷ 0 ∷ 0 ∷ 0 ∷ 0 ∷ 0 ∷ []) (omega (arith, c.said_by-more.ensures.few))) _ _ _ _ fell) c.in_err-read_exactly-2.ensures.refused)
+    rw (p.1, p.2) (refused_later (get_or first 0 0 ∷ []) source.gives_in_order held (too_few_digits _ c.said_by-more.ensures (length-take-le c.said_by-more.result.0 (0 ∷ 0 ∷ 0 ∷ 0 ∷ 0 ∷ 0 ∷ 0 ∷ []) (omega (arith, c.said_by-more.ensures.few))) _ _ _ _ fell) c.in_err-read_few.ensures.refused)

@@ -1,7 +1,7 @@
 -- What came is what the vector holds, and a row of interruptions was counted.
-use Rattle.std.proofs.Common.{length, ◌≡◌, ◌-◌, ◌+◌, ◌*◌, ◌≤◌}
+use Rattle.std.proofs.Common.{length, ◌-◌, ◌+◌, ◌*◌, ◌≤◌}
 use Rattle.tls_codec_wire.specs.Counts.{OnlyInterrupted, RoseBy}
-use Rattle.tls_codec_wire.proofs.gather.read_bytes_bounded.Given as goal
+use Rattle.tls_codec_wire.proofs.gather.gather.Given as goal
 
 abbrev pub invariant-loop-bytes : goal.invariant-loop-bytes
 invariant-loop-bytes g l = record {
@@ -10,7 +10,6 @@ invariant-loop-bytes g l = record {
   gave : g.R.Source.given l.fn.src l.bytes.items l.src;
   calm : OnlyInterrupted (g.R.Source.counts l.fn.src) (g.R.Source.counts l.src);
   counted : RoseBy l.row (g.R.Source.counts l.fn.src).interruptions (g.R.Source.counts l.src).interruptions;
-  untouched : l.len ≡ 0 → l.src ≡ l.fn.src;
 }
 
 -- a byte brings the end nearer, and an interruption the end of its row

@@ -1,7 +1,7 @@
 use Rattle.std.proofs.Common.{arith}
 use Rattle.std.proofs.lemmas.Result.{err_from_is_err_and}
 use Rattle.tls_codec_wire.proofs.VarintReads.{digits_split, refused_so, spells_below, wide_or_great}
-use Rattle.tls_codec_wire.proofs.layout.split_wider.Goals as goal
+use Rattle.tls_codec_wire.proofs.layout.split_any.Goals as goal
 
 pub returns-in_err-number-clause-err : goal.returns-in_err-number-clause-err
 returns-in_err-number-clause-err g c =
