@@ -117,6 +117,9 @@ pub fn copied(alloc: Global, content: &[u8]) -> Result<Vec<u8>, Error>
     ensures err { IfErr result (λ e. e ≡ OutOfMemory) }
     ensures none { length content.now ≡ 0 → IsOk result }
 {
+    if content.is_empty() {
+        return Ok(Vec::new(alloc));
+    }
     let mut copy = Vec::with_capacity(alloc, content.len())?;
     copy.extend_from_slice(content)?;
     Ok(copy)

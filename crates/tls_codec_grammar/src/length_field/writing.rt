@@ -245,12 +245,40 @@ fn remove_bytes(out: &mut Vec<u8>, at: usize, count: usize)
 {
     match count {
         0 => {}
-        1 => {
-            let _ = out.remove(at);
-        }
+        1 => remove_byte(out, at),
         2 => cut_out(out, at, 2),
         _ => cut_out(out, at, count),
     }
+}
+
+// Takes a byte out of a vector. If few come after it, they are moved without a call.
+#[inline(always)]
+fn remove_byte(out: &mut Vec<u8>, at: usize)
+    requires { at < vec_len out.old }
+    ensures { out.new.items ≡ take at out.old.items ++ drop (at + 1) out.old.items }
+{
+    match out.len() - at - 1 {
+        1 => close_up(out, at, 1),
+        2 => close_up(out, at, 2),
+        3 => close_up(out, at, 3),
+        4 => close_up(out, at, 4),
+        5 => close_up(out, at, 5),
+        6 => close_up(out, at, 6),
+        7 => close_up(out, at, 7),
+        8 => close_up(out, at, 8),
+        behind => close_up(out, at, behind),
+    }
+}
+
+// Moves the last `count` bytes of a vector one place down, onto the place `at`: at once, if `count` is a
+// constant.
+#[inline(always)]
+fn close_up(out: &mut Vec<u8>, at: usize, count: usize)
+    requires { at + 1 + count ≡ vec_len out.old }
+    ensures { out.new.items ≡ take at out.old.items ++ drop (at + 1) out.old.items }
+{
+    out.copy_within(at + 1..at + 1 + count, at);
+    out.truncate(at + count);
 }
 
 // Takes `count` bytes out of a vector, from the place `at` on: at once, if `count` is a constant.
