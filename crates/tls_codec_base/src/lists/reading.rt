@@ -1,5 +1,5 @@
 //! Elements that fill a declared number of bytes, from a slice and from a source.
-ghost use Rattle.std.specs.Prelude.{◌≡◌, [], IfErr, IfOk, IsOkAnd};
+ghost use Rattle.std.specs.Prelude.{◌≡◌, [], ◌∷◌, ◌++◌, is_ok, if◌then◌else◌, IfErr, IfOk, IsOkAnd};
 ghost use Rattle.tls_codec_wire.specs.Bounded.{BorrowAlike, inner_of, limit_of};
 ghost use Rattle.tls_codec_wire.specs.Refused.{RefusedFor};
 ghost use Rattle.tls_codec_grammar.specs.Tree.{trees};
@@ -10,12 +10,15 @@ ghost use Rattle.tls_codec_base.specs.Turns.{TurnedEach, TurnedRefused, TurnedWi
 
 use crate::lists::Turns;
 use crate::traits::{Deserialize, DeserializeBytes};
-use std::alloc::Global;
+use std::alloc::{AllocError, Global};
 use tls_codec_wire::{Bounded, Error, Source};
 
 const NO_BYTES: Error = Error::DecodingError("vector element consumed 0 bytes");
 
 const NOT_FILLED: Error = Error::DecodingError("elements do not fill the declared length");
+
+/// How many elements a list has room for once it has one.
+const FIRST_ROOM: usize = 4;
 
 /// The elements that fill the first `length` bytes exactly, and the bytes after those.
 ///
@@ -60,7 +63,7 @@ pub fn from_slice<'a, T: DeserializeBytes>(
         if taken > left {
             return Err(NOT_FILLED);
         }
-        if elements.push(element).is_err() {
+        if push_element(&mut elements, element).is_err() {
             return Err(Error::OutOfMemory);
         }
         left -= taken;
@@ -162,9 +165,24 @@ fn each_within<T: Deserialize, R: Source>(
         if within.limit() == before {
             return Err(NO_BYTES);
         }
-        if elements.push(element).is_err() {
+        if push_element(&mut elements, element).is_err() {
             return Err(Error::OutOfMemory);
         }
     }
     Ok(elements)
+}
+
+// Appends an element. The first room is requested without a call, for as many as `push` would.
+#[inline(always)]
+fn push_element<T: Drop>(elements: &mut Vec<T>, element: T) -> Result<(), AllocError>
+    ensures { elements.new.items
+        ≡ (if is_ok result then elements.old.items ++ element ∷ [] else elements.old.items) }
+{
+    if elements.capacity() == 0 {
+        elements.reserve_exact(FIRST_ROOM)?;
+    }
+    match elements.push(element) {
+        Ok(()) => Ok(()),
+        Err(_) => Err(AllocError),
+    }
 }

@@ -45,10 +45,10 @@ returns-then-is_err-clause-named g c =
 pub elements-preserved : goal.elements-preserved
 elements-preserved g c =
     let before = c.elements.invariant in
-    let items : c.push.new.self.items ≡ c.elements.elements.items ++ c.in_ok-element.element ∷ [] = search rules in
+    let items : c.push_element.new.elements.items ≡ c.elements.elements.items ++ c.in_ok-element.element ∷ [] = search rules in
     record {
       same = c.in_ok-element.ensures.reads.held.same ∙ before.same;
-      read = given_more _ _ g.met.R.Source.gives_in_order _ _ _ _ g.T.Size.plain c.elements.elements.items c.in_ok-element.element c.push.new.self.items before.read c.in_ok-element.ensures.reads (λ e. c.if-limit-before.false (c.limit-in-elements.ensures ∙ e ∙ sym c.limit-before.ensures)) items;
+      read = given_more _ _ g.met.R.Source.gives_in_order _ _ _ _ g.T.Size.plain c.elements.elements.items c.in_ok-element.element c.push_element.new.elements.items before.read c.in_ok-element.ensures.reads (λ e. c.if-limit-before.false (c.limit-in-elements.ensures ∙ e ∙ sym c.limit-before.ensures)) items;
       turned = omega (arith, before.turned, c.turn.ensures, ap length items, length-append c.elements.elements.items (c.in_ok-element.element ∷ []));
       untouched = λ none. absurd (omega (arith, none, before.read.fills, c.limit.ensures));
     }

@@ -33,9 +33,9 @@ returns-then-taken-left-clause-splits g c = record {
 
 pub loop-left-preserved : goal.loop-left-preserved
 loop-left-preserved g c =
-    let items : c.push.new.self.items ≡ c.loop-left.elements.items ++ c.in_ok-element.element ∷ [] = search rules in
+    let items : c.push_element.new.elements.items ≡ c.loop-left.elements.items ++ c.in_ok-element.element ∷ [] = search rules in
     record {
-      read = read_more g.T.Size.plain _ _ _ _ c.loop-left.elements.items _ c.in_ok-element.element _ c.push.new.self.items c.loop-left.invariant.read c.in_ok-element.ensures.splits c.if-taken-eq0.false (omega arith) items;
+      read = read_more g.T.Size.plain _ _ _ _ c.loop-left.elements.items _ c.in_ok-element.element _ c.push_element.new.elements.items c.loop-left.invariant.read c.in_ok-element.ensures.splits c.if-taken-eq0.false (omega arith) items;
       turned = omega (arith, c.loop-left.invariant.turned, c.turn.ensures, ap length items, length-append c.loop-left.elements.items (c.in_ok-element.element ∷ []));
       untouched = λ none. absurd (omega (arith, none, c.loop-left.invariant.read.fills));
     }
