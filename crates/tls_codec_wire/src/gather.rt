@@ -27,6 +27,7 @@ const FIRST_ROOM: usize = 4096;
 /// let bytes = read_bytes_bounded(alloc, &mut src, 2)?;
 /// assert_eq!(rt; bytes.as_slice(), [1, 2].as_slice());
 /// ```
+#[inline(always)]
 pub fn read_bytes_bounded<R: Source>(
     alloc: Global,
     src: &mut R,
@@ -78,7 +79,8 @@ fn are_at_hand(len: usize, at_hand: &[u8]) -> bool
     len <= at_hand.len()
 }
 
-// The same bytes, as they come.
+// The same bytes, as they come. It is kept out of what reads bytes at hand.
+#[inline(never)]
 fn gather<R: Source>(alloc: Global, src: &mut R, len: usize) -> Result<Vec<u8>, Error>
     ensures gave { Gave R.given src.old src.new }
     ensures ok { IfOk result (λ bytes. R.given src.old bytes.items src.new) }
