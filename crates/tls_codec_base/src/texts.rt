@@ -50,6 +50,7 @@ impl Deserialize for String {
     /// `EndOfStream`: there is no whole length, or fewer bytes come than it declares.
     /// `InvalidVectorLength`: the length has more bytes than it needs, or more than 30 bits.
     /// `DecodingError("invalid utf8")`: the bytes are not valid UTF-8.
+    #[inline(always)]
     fn tls_deserialize<R: Source>(alloc: Global, bytes: &mut R) -> Result<String, Error> {
         let content = opaque::read::<TlsVarInt, R>(alloc, bytes)?;
         match String::from_utf8(content) {
@@ -66,6 +67,7 @@ impl DeserializeBytes for String {
     /// `EndOfStream`: there is no whole length. `DecodingError("declared content is not there")`:
     /// fewer bytes come after it than it declares. `DecodingError("invalid utf8")`: the bytes are
     /// not valid UTF-8.
+    #[inline(always)]
     fn tls_deserialize_bytes(alloc: Global, bytes: &[u8]) -> Result<(String, &[u8]), Error> {
         let (content, rest) = opaque::split::<TlsVarInt>(bytes)?;
         let Ok(text) = std::str::from_utf8(content) else {

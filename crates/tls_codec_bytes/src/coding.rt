@@ -49,6 +49,7 @@ impl<F: LengthField> Deserialize for TlsByteVec<F> {
     ghost names = { OpaqueSourceRefused F.field };
 
     /// `EndOfStream`: there is no whole length, or fewer bytes come than it declares.
+    #[inline(always)]
     fn tls_deserialize<R: Source>(alloc: Global, src: &mut R) -> Result<TlsByteVec<F>, Error> {
         let read = opaque::read::<F, R>(alloc, src)?;
         Ok(TlsByteVec::new(read))
@@ -60,6 +61,7 @@ impl<F: LengthField> DeserializeBytes for TlsByteVec<F> {
 
     /// `EndOfStream`: there is no whole length, or fewer bytes come after a length of one to four
     /// bytes than it declares.
+    #[inline(always)]
     fn tls_deserialize_bytes(alloc: Global, whole: &[u8]) -> Result<(TlsByteVec<F>, &[u8]), Error> {
         let (copy, rest) = opaque::split_copied::<F>(alloc, whole)?;
         Ok((TlsByteVec::new(copy), rest))

@@ -83,6 +83,7 @@ pub fn to_vec<F: LengthField>(alloc: Global, content: &[u8]) -> Result<Vec<u8>, 
 ///
 /// If no length begins it, the refusal is that of [`split_length`](LengthField::split_length). If fewer
 /// bytes come after the length than it declares, it is the field's [`cut_off`](LengthField::cut_off).
+#[inline(always)]
 pub fn split<F: LengthField>(whole: &[u8]) -> Result<(&[u8], &[u8]), Error>
     ensures splits { Splits (record (counted_bytes_format F.field) { lean = true })
         (λ found. number_trees found.now) whole.now result }
@@ -99,6 +100,7 @@ pub fn split<F: LengthField>(whole: &[u8]) -> Result<(&[u8], &[u8]), Error>
 ///
 /// `OutOfMemory`: allocation failed for the copy of bytes that are all there. Every other refusal is as in
 /// [`split`].
+#[inline(always)]
 pub fn split_copied<F: LengthField>(alloc: Global, whole: &[u8]) -> Result<(Vec<u8>, &[u8]), Error>
     ensures splits { Splits (counted_bytes_format F.field) (λ content. number_trees content.items)
         whole.now result }
@@ -112,6 +114,7 @@ pub fn split_copied<F: LengthField>(alloc: Global, whole: &[u8]) -> Result<(Vec<
 /// A vector of these bytes.
 ///
 /// `OutOfMemory`: there was no memory for it. If there are no bytes, nothing is allocated.
+#[inline(always)]
 pub fn copied(alloc: Global, content: &[u8]) -> Result<Vec<u8>, Error>
     ensures ok { IfOk result (λ copy. copy.items ≡ content.now) }
     ensures err { IfErr result (λ e. e ≡ OutOfMemory) }
@@ -142,6 +145,7 @@ pub fn push(content: &mut Vec<u8>, byte: u8) -> Result<(), Error>
 /// Room is requested as they come. `EndOfStream`: fewer bytes come than the length declares. The length is
 /// refused as in [`read_length`](LengthField::read_length). `DecodingError("read failed")` and `OutOfMemory`
 /// are as in `read_bytes_bounded`.
+#[inline(always)]
 pub fn read<F: LengthField, R: Source>(alloc: Global, src: &mut R) -> Result<Vec<u8>, Error>
     ensures reads { Reads (counted_bytes_format F.field) (λ content. number_trees content.items)
         R.Source src.old src.new result }

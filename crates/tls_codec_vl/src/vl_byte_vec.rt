@@ -164,6 +164,7 @@ impl Deserialize for VLByteVec {
 
     /// `EndOfStream`: there is no whole length, or fewer bytes come than it declares.
     /// `InvalidVectorLength`: the length has more bytes than it needs, or more than 30 bits.
+    #[inline(always)]
     fn tls_deserialize<R: Source>(alloc: Global, src: &mut R) -> Result<VLByteVec, Error> {
         let read = opaque::read::<TlsVarInt, R>(alloc, src)?;
         Ok(VLByteVec::new(read))
@@ -176,6 +177,7 @@ impl DeserializeBytes for VLByteVec {
     /// `InvalidVectorLength`: the length has more bytes than it needs, or more than 30 bits.
     /// `EndOfStream`: there is no whole length. `DecodingError("declared content is not there")`:
     /// fewer bytes come after it than it declares.
+    #[inline(always)]
     fn tls_deserialize_bytes(alloc: Global, whole: &[u8]) -> Result<(VLByteVec, &[u8]), Error> {
         let (copy, rest) = opaque::split_copied::<TlsVarInt>(alloc, whole)?;
         Ok((VLByteVec::new(copy), rest))

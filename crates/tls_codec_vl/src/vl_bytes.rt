@@ -163,6 +163,7 @@ impl Deserialize for VLBytes {
 
     /// `EndOfStream`: there is no whole length, or fewer bytes come than it declares.
     /// `InvalidVectorLength`: the length has more bytes than it needs, or more than 30 bits.
+    #[inline(always)]
     fn tls_deserialize<R: Source>(alloc: Global, src: &mut R) -> Result<VLBytes, Error> {
         let read = opaque::read::<TlsVarInt, R>(alloc, src)?;
         Ok(VLBytes::new(read))
@@ -175,6 +176,7 @@ impl DeserializeBytes for VLBytes {
     /// `InvalidVectorLength`: the length has more bytes than it needs, or more than 30 bits.
     /// `EndOfStream`: there is no whole length. `DecodingError("declared content is not there")`:
     /// fewer bytes come after it than it declares.
+    #[inline(always)]
     fn tls_deserialize_bytes(alloc: Global, whole: &[u8]) -> Result<(VLBytes, &[u8]), Error> {
         let (copy, rest) = opaque::split_copied::<TlsVarInt>(alloc, whole)?;
         Ok((VLBytes::new(copy), rest))

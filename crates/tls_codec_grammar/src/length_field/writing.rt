@@ -76,6 +76,9 @@ fn append_with_room(out: &mut Vec<u8>, few: &[u8], bytes: &[u8]) -> Result<(), A
 {
     make_room(out, few.len().saturating_add(bytes.len()))?;
     append_few(out, few)?;
+    if bytes.is_empty() {
+        return Ok(());
+    }
     out.extend_from_slice(bytes)
 }
 
@@ -239,6 +242,7 @@ fn insert_gap(out: &mut Vec<u8>, at: usize, width: usize) -> Result<(), Error>
 }
 
 // Takes `count` bytes out of a vector, from the place `at` on.
+#[inline(always)]
 fn remove_bytes(out: &mut Vec<u8>, at: usize, count: usize)
     requires { at + count ≤ vec_len out.old }
     ensures { out.new.items ≡ take at out.old.items ++ drop (at + count) out.old.items }
@@ -246,13 +250,24 @@ fn remove_bytes(out: &mut Vec<u8>, at: usize, count: usize)
     match count {
         0 => {}
         1 => remove_byte(out, at),
+        _ => remove_more(out, at, count),
+    }
+}
+
+// The same for any count. It is kept out of what takes one byte out.
+#[inline(never)]
+fn remove_more(out: &mut Vec<u8>, at: usize, count: usize)
+    requires { at + count ≤ vec_len out.old }
+    ensures { out.new.items ≡ take at out.old.items ++ drop (at + count) out.old.items }
+{
+    match count {
         2 => cut_out(out, at, 2),
         _ => cut_out(out, at, count),
     }
 }
 
 // Takes a byte out of a vector. If few come after it, they are moved without a call.
-#[inline(always)]
+#[inline(never)]
 fn remove_byte(out: &mut Vec<u8>, at: usize)
     requires { at < vec_len out.old }
     ensures { out.new.items ≡ take at out.old.items ++ drop (at + 1) out.old.items }
@@ -266,7 +281,9 @@ fn remove_byte(out: &mut Vec<u8>, at: usize)
         6 => close_up(out, at, 6),
         7 => close_up(out, at, 7),
         8 => close_up(out, at, 8),
-        behind => close_up(out, at, behind),
+        _ => {
+            let _ = out.remove(at);
+        }
     }
 }
 
