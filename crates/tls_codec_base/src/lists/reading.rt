@@ -178,7 +178,7 @@ fn push_element<T: Drop>(elements: &mut Vec<T>, element: T) -> Result<(), AllocE
     ensures { elements.new.items
         ≡ (if is_ok result then elements.old.items ++ element ∷ [] else elements.old.items) }
 {
-    if elements.is_empty() {
+    if elements.capacity() == 0 {
         elements.reserve_exact(FIRST_ROOM)?;
     }
     match elements.push(element) {
