@@ -10,6 +10,8 @@
 //! - Byte vectors after a variable-length length: [`VLBytes`], [`VLByteVec`], [`VLByteSlice`].
 //! - Vectors after a length of one to four bytes: [`TlsVecU8`] and siblings; of bytes [`TlsByteVecU8`]
 //!   and siblings; wrappers of slices [`TlsSliceU8`], [`TlsByteSliceU8`] and siblings.
+//! - [`Within`]: such a length with bounds, as of `CipherSuite cipher_suites<2..2^16-2>`, which is a
+//!   `TlsVec<Within<u16, 2, 65534>, CipherSuite>`.
 //! - Key material that is cleared when it is dropped: [`SecretVLBytes`], [`SecretVLByteVec`],
 //!   [`SecretTlsVecU8`] and siblings, and [`Zeroize`].
 //! - [`vlen`]: lengths as variable-length integers. [`lists`]: the engines that every list goes through.
@@ -27,8 +29,8 @@ pub mod types;
 
 pub use tls_codec_base::{
     Deserialize, DeserializeBytes, LengthField, Lent, Lent2, Lent3, Lent4, Lent5, Lent6, Lent7,
-    Lent8, Lent9, Serialize, SerializeBytes, Size, deserialize_to_end, laws, lists, refusals,
-    unknown_value,
+    Lent8, Lent9, Serialize, SerializeBytes, Size, Within, deserialize_to_end, laws, lists,
+    refusals, unknown_value,
 };
 pub use tls_codec_bytes::{TlsByteVec, TlsByteVecU8, TlsByteVecU16, TlsByteVecU24, TlsByteVecU32};
 pub use tls_codec_secret::{

@@ -12,19 +12,19 @@ ghost use Rattle.tls_codec_wire.specs.VarintCalls.{RefusesBelow};
 ghost use Rattle.tls_codec_wire.specs.VarintValue as varint;
 ghost use Rattle.tls_codec_wire.specs.declared.error.Error.TheVariants.{OutOfMemory};
 ghost use Rattle.tls_codec_grammar.specs.Tree.{Empty, Join, Number, number_trees, option_plain, trees};
-ghost use Rattle.tls_codec_grammar.specs.Field.{fixed_field, variable_field};
+ghost use Rattle.tls_codec_grammar.specs.Field.{bounded_field, fixed_field, variable_field};
 ghost use Rattle.tls_codec_grammar.specs.Format.{array_format, bytes_format, counted_bytes_format, counted_list_format, fixed_list_format, list_format, nothing_format, number_format, option_format, pair_format, text_format, triple_format, varint_format, with_memory};
 ghost use Rattle.tls_codec_grammar.specs.Opaque.{OpaqueSourceRefused, TextRefused, TextSourceRefused};
 ghost use Rattle.tls_codec_base.specs.Refusals.{counted_list_names, counted_list_source_names, fields_names, fields_source_names, list_names, list_source_names, option_names, option_source_names};
 ghost use Rattle.tls_codec_base.specs.Meanings.{Means, SameField, SameNames, SameSourceNames, opaque_names, too_few};
-ghost use Rattle.tls_codec_base.specs.OwnMessages.{fixed_bytes_format, pair_tree, triple_tree};
+ghost use Rattle.tls_codec_base.specs.OwnMessages.{bounded_bytes_format, bounded_list_format, fixed_bytes_format, pair_tree, triple_tree};
 ghost use Rattle.tls_codec_slice.specs.Contents.{u16_bytes_of, u16_elements_of, u24_bytes_of, u24_elements_of, u32_bytes_of, u32_elements_of, u8_bytes_of, u8_elements_of};
 ghost use Rattle.tls_codec.specs.Contents.{bytes_of, elements_of, fixed_bytes_of, secret_bytes_of, secret_elements_of, secret_vec_bytes_of, slice_bytes_of, vec_bytes_of};
 
 use std::marker::PhantomData;
 use tls_codec_base::{
     Deserialize, DeserializeBytes, LengthField, Lent, Lent2, Lent3, Lent4, Lent5, Lent6, Lent7,
-    Lent8, Lent9, Size,
+    Lent8, Lent9, Size, Within,
 };
 use tls_codec_bytes::TlsByteVec;
 use tls_codec_secret::SecretTlsVec;
@@ -267,6 +267,13 @@ pub fn lengths()
     ensures variable { SameField ⟦<TlsVarInt as LengthField>⟧.field variable_field }
 {}
 
+/// Length fields with bounds: the lengths of a field from a least one to a greatest (RFC 8446, section
+/// 3.4).
+pub fn bounded_lengths<F: LengthField, const LEAST: usize, const MOST: usize>()
+    ensures { SameField ⟦<Within<F, LEAST, MOST> as LengthField>⟧.field
+        (bounded_field LEAST MOST F.field) }
+{}
+
 /// Lists of elements after such a length, owned and lent, and those of secrets.
 pub fn vectors<'a, F: LengthField, T: Deserialize + DeserializeBytes + Zeroize>()
     ensures list { Means ⟦<TlsVec<F, T> as Size>⟧ (λ v. trees T.plain (elements_of v))
@@ -318,6 +325,14 @@ pub fn counted_bytes<'a, F: LengthField>()
     ensures slice { SameNames ⟦<TlsByteVec<F> as DeserializeBytes>⟧.names (opaque_names F.field) }
     ensures source { SameSourceNames ⟦<TlsByteVec<F> as Deserialize>⟧.names
         (OpaqueSourceRefused F.field) }
+{}
+
+/// Lists and bytes after a length of two bytes with bounds, by the words for messages of your own.
+pub fn bounded_vectors<T: Size, const LEAST: usize, const MOST: usize>()
+    ensures list { Means ⟦<TlsVec<Within<u16, LEAST, MOST>, T> as Size>⟧
+        (λ v. trees T.plain (elements_of v)) (bounded_list_format 2 LEAST MOST T.format) }
+    ensures bytes { Means ⟦<TlsByteVec<Within<u16, LEAST, MOST>> as Size>⟧
+        (λ v. number_trees (fixed_bytes_of v)) (bounded_bytes_format 2 LEAST MOST) }
 {}
 
 /// Bytes that are lent.

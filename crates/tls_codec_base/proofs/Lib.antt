@@ -13,6 +13,7 @@ pub mod NumberRunSources
 pub mod NumberRuns
 pub mod OptionDecoding
 pub mod OptionEncoding
+pub mod OutOfBounds
 pub mod OwnMessages
 pub mod PartsAppending
 pub mod TaggedDecoding

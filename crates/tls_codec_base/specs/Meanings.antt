@@ -18,7 +18,7 @@ pub record SameFormat (f g : Format) : Type 0 where
   pub announced : (v : Tree) → f.announced v ≡ g.announced v
   pub lean : f.lean ≡ g.lean
   pub refuses : (v : Tree) (e : Error) → f.refuses v e ↔ g.refuses v e
-  pub too_long : (v : Tree) → f.too_long v ↔ g.too_long v
+  pub out_of_bounds : (v : Tree) → f.out_of_bounds v ↔ g.out_of_bounds v
 
 -- a type's values stand for these trees, and are spelled in this format
 pub record Means {T : Type 0} (size : Ghosts T) (plain : T → Tree) (format : Format) : Type 0 where
@@ -45,7 +45,7 @@ opaque_names field x e = OpaqueCopyRefused field e x
 pub record SameField (f g : Field) : Type 0 where
   pub spells : (b : List ℕ) (n : ℕ) → f.spells b n ↔ g.spells b n
   pub width : (n : ℕ) → f.width n ≡ g.width n
-  pub limit : f.limit ≡ g.limit
+  pub holds : (n : ℕ) → f.holds n ↔ g.holds n
   pub refuses : (x : List ℕ) (e : Error) → f.refuses x e ↔ g.refuses x e
   pub cut_off : (e : Error) → f.cut_off e ↔ g.cut_off e
 

@@ -1,7 +1,9 @@
 -- The words by which a message of your own says what it stands for and which bytes spell it. And the laws that it
 -- cites: one for each field of a struct, and one for each variant of an enum.
-use Rattle.std.proofs.Common.{ℕ, arith}
-use Rattle.tls_codec_grammar.specs.laws.FormatLaws.{number_meets}
+use Rattle.std.proofs.Common.{ℕ, ◌≤◌, ◌^◌, arith}
+use Rattle.tls_codec_grammar.specs.Field.{bounded_field, fixed_field}
+use Rattle.tls_codec_grammar.specs.Format.{counted_bytes_format, counted_list_format}
+use Rattle.tls_codec_grammar.specs.laws.FormatLaws.{bounded_field_meets, counted_bytes_meets, counted_list_meets, fixed_field_meets, number_meets}
 pub use Rattle.tls_codec_grammar.specs.Tree.{Tree, Number, Empty, Join, trees, number_trees, option_plain}
 pub use Rattle.tls_codec_grammar.specs.Format.{Format, number_format, varint_format, array_format, with_memory, option_format, nothing_format, fields_format, pair_format, triple_format, list_format, fixed_list_format, bytes_format, text_format}
 pub use Rattle.tls_codec_grammar.specs.Tagged.{MeetVariantLaws, Variants, no_variant, variant, tagged_format}
@@ -22,6 +24,13 @@ triple_tree a b c = Join a (Join b (Join c Empty))
 abbrev pub fixed_bytes_format : ℕ → Format
 fixed_bytes_format k = fixed_list_format k (number_format 1)
 
+-- elements after a length of k bytes that is neither below the least number nor above the most; and bytes
+abbrev pub bounded_list_format : (k least most : ℕ) → Format → Format
+bounded_list_format k least most element = counted_list_format (bounded_field least most (fixed_field k)) element
+
+abbrev pub bounded_bytes_format : (k least most : ℕ) → Format
+bounded_bytes_format k least most = counted_bytes_format (bounded_field least most (fixed_field k))
+
 -- ---- laws of numbers, and of bytes after a length of k bytes
 
 pub u8_meets : MeetsLaws (number_format 1)
@@ -41,3 +50,11 @@ u64_meets = number_meets 8 (omega arith)
 
 pub fixed_bytes_meets : (k : ℕ) → MeetsLaws (fixed_bytes_format k)
 fixed_bytes_meets k = fixed_list_meets k u8_meets
+
+-- ---- laws of vectors with bounds
+
+pub bounded_list_meets : (k least most : ℕ) → 256 ^ k ≤ 2 ^ 62 → {element : Format} → MeetsLaws element → MeetsLaws (bounded_list_format k least most element)
+bounded_list_meets k least most small l = counted_list_meets (bounded_field_meets least most (fixed_field_meets k small)) l
+
+pub bounded_bytes_meets : (k least most : ℕ) → 256 ^ k ≤ 2 ^ 62 → MeetsLaws (bounded_bytes_format k least most)
+bounded_bytes_meets k least most small = counted_bytes_meets (bounded_field_meets least most (fixed_field_meets k small))

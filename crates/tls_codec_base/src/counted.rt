@@ -42,7 +42,7 @@ pub fn announced_len<F: LengthField, T: Size>(elements: &[T]) -> usize
 
 /// Sends a list's shortest form, and returns how many bytes that is, saturated at `usize::MAX`.
 ///
-/// `InvalidVectorLength`: the elements have more bytes than the greatest length, and nothing was sent.
+/// `InvalidVectorLength`: the field doesn't hold the number of the elements' bytes, and nothing was sent.
 /// Every other refusal is an element's or the sink's.
 pub fn write<F: LengthField, T: Serialize, W: Sink>(
     writer: &mut W,
@@ -50,7 +50,8 @@ pub fn write<F: LengthField, T: Serialize, W: Sink>(
 ) -> Result<usize, Error>
     ensures writes { Writes (counted_list_format F.field T.format) (trees T.plain elements.now)
         W.Sink writer.old writer.new result }
-    ensures too_long { (counted_list_format F.field T.format).too_long (trees T.plain elements.now)
+    ensures out_of_bounds { (counted_list_format F.field T.format).out_of_bounds
+        (trees T.plain elements.now)
         → (result ≡ Err InvalidVectorLength) × (writer.new ≡ writer.old) }
 {
     let length = content_len(elements)?;
@@ -61,7 +62,7 @@ pub fn write<F: LengthField, T: Serialize, W: Sink>(
 
 /// Appends a list's shortest form to a vector, and returns how many bytes that is.
 ///
-/// `InvalidVectorLength`: the elements have more bytes than the greatest length, or the vector would pass
+/// `InvalidVectorLength`: the field doesn't hold the number of the elements' bytes, or the vector would pass
 /// `isize::MAX` bytes. Every other refusal is an element's, or `OutOfMemory`. No element is asked for its
 /// announced length. After a refusal the vector has the bytes from before.
 pub fn append<F: LengthField, T: Serialize>(
@@ -70,7 +71,8 @@ pub fn append<F: LengthField, T: Serialize>(
 ) -> Result<usize, Error>
     ensures appends { AppendsForm (counted_list_format F.field T.format)
         (trees T.plain elements.now) out.old.items out.new.items result }
-    ensures too_long { (counted_list_format F.field T.format).too_long (trees T.plain elements.now)
+    ensures out_of_bounds { (counted_list_format F.field T.format).out_of_bounds
+        (trees T.plain elements.now)
         → IsErrAnd result
         (λ e. (e ≡ OutOfMemory)
         ⊎ (counted_list_format F.field T.format).refuses (trees T.plain elements.now) e) }
@@ -114,7 +116,8 @@ pub fn to_vec<F: LengthField, T: SerializeBytes>(
 ) -> Result<Vec<u8>, Error>
     ensures makes { Makes (counted_list_format F.field T.format) (trees T.plain elements.now)
         result }
-    ensures too_long { (counted_list_format F.field T.format).too_long (trees T.plain elements.now)
+    ensures out_of_bounds { (counted_list_format F.field T.format).out_of_bounds
+        (trees T.plain elements.now)
         → IsErrAnd result
         (λ e. (e ≡ OutOfMemory)
         ⊎ (counted_list_format F.field T.format).refuses (trees T.plain elements.now) e) }

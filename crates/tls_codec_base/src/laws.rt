@@ -61,12 +61,12 @@ pub fn spellings_are_prefix_free<T: Size>()
 {}
 
 /// A list has a spelling exactly if each of its elements has one that isn't empty, and their shortest
-/// forms together have a number of bytes that its length field can hold.
+/// forms together have a number of bytes that its length field holds.
 pub fn lists_are_spelled_where_their_elements_fit<F: LengthField, T: Size>()
     ensures { (v : Tree)
         → HasReadingSpelling (counted_list_format F.field T.format).spells v
         ↔ (EachHasNonemptySpelling T.format.spells v
-        × FitTogether T.format.spells F.field.limit v) }
+        × FitTogether T.format.spells F.field.holds v) }
 {}
 
 /// The shortest form of a full value, whatever comes after it, begins with exactly one spelling. That
@@ -117,13 +117,13 @@ pub fn what_was_read_is_written_again<T: Size, R: Source, W: Sink>()
         → Appends (W.received old) (W.received new) b.front }
 {}
 
-/// If the elements of a list all have shortest forms that together pass its length field, the list is
+/// If the elements of a list all have shortest forms whose length its field doesn't hold, the list is
 /// refused before any of it is sent.
-pub fn long_contents_are_too_long<F: LengthField, T: Size>()
+pub fn contents_out_of_bounds_are_not_sent<F: LengthField, T: Size>()
     ensures { (form : List ℕ) (v : Tree)
         → IsShortest (content T.format.spells) form v
-        → F.field.limit ≤ length form
-        → (counted_list_format F.field T.format).too_long v }
+        → (F.field.holds (length form) → ⊥)
+        → (counted_list_format F.field T.format).out_of_bounds v }
 {}
 
 /// The shortest content is the elements' shortest forms in a row.

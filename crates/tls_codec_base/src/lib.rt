@@ -44,5 +44,5 @@ pub use ends::deserialize_to_end;
 pub use lent::Lent;
 pub use lents::{Lent2, Lent3, Lent4, Lent5, Lent6, Lent7, Lent8, Lent9};
 pub use tags::unknown_value;
-pub use tls_codec_grammar::{LengthField, opaque};
+pub use tls_codec_grammar::{LengthField, Within, opaque};
 pub use traits::{Deserialize, DeserializeBytes, Serialize, SerializeBytes, Size};

@@ -91,17 +91,17 @@ pub fn parts_read_are_never_trailing<
         → SourceNeverTrailing (counted_list_source_names F.field T.format T.names) }
 {}
 
-/// If the elements of a list all have shortest forms that together pass its length field, encoders to memory
+/// If the elements of a list all have shortest forms whose length its field doesn't hold, encoders to memory
 /// refuse the list as `InvalidVectorLength`, or because memory ran out.
-pub fn long_contents_are_refused<F: LengthField, T: Size>()
+pub fn contents_out_of_bounds_are_refused<F: LengthField, T: Size>()
     ensures appended { (form : List ℕ) (v : Tree) (old new : List ℕ) (result : Result ℕ Error)
         → IsShortest (content T.format.spells) form v
-        → F.field.limit ≤ length form
+        → (F.field.holds (length form) → ⊥)
         → AppendsForm (counted_list_format F.field T.format) v old new result
         → IsErrAnd result (λ e. (e ≡ InvalidVectorLength) ⊎ (e ≡ OutOfMemory)) }
     ensures made { (form : List ℕ) (v : Tree) (result : Result (Vec ℕ Global) Error)
         → IsShortest (content T.format.spells) form v
-        → F.field.limit ≤ length form
+        → (F.field.holds (length form) → ⊥)
         → Makes (counted_list_format F.field T.format) v result
         → IsErrAnd result (λ e. (e ≡ InvalidVectorLength) ⊎ (e ≡ OutOfMemory)) }
 {}

@@ -62,7 +62,7 @@ pub trait Serialize: Size {
     fn tls_serialize<W: Sink>(&self, writer: &mut W) -> Result<usize, Error>
         ensures writes { Writes Self.format (Self.plain self.now) W.Sink writer.old writer.new
             result }
-        ensures too_long { Self.format.too_long (Self.plain self.now)
+        ensures out_of_bounds { Self.format.out_of_bounds (Self.plain self.now)
             → (result ≡ Err InvalidVectorLength) × (writer.new ≡ writer.old) };
 
     /// Appends the value's shortest form to a vector, and returns how many bytes that is. After a
@@ -70,7 +70,7 @@ pub trait Serialize: Size {
     fn tls_serialize_into(&self, out: &mut Vec<u8>) -> Result<usize, Error>
         ensures appends { AppendsForm Self.format (Self.plain self.now) out.old.items out.new.items
             result }
-        ensures too_long { Self.format.too_long (Self.plain self.now)
+        ensures out_of_bounds { Self.format.out_of_bounds (Self.plain self.now)
             → IsErrAnd result
             (λ e. (e ≡ OutOfMemory) ⊎ Self.format.refuses (Self.plain self.now) e) }
     {
@@ -85,9 +85,9 @@ pub trait Serialize: Size {
     }
 
     /// The value's shortest form.
-    fn tls_serialize_detached(&self, alloc: Global) -> Result<Vec<u8>, Error>
+    final fn tls_serialize_detached(&self, alloc: Global) -> Result<Vec<u8>, Error>
         ensures makes { Makes Self.format (Self.plain self.now) result }
-        ensures too_long { Self.format.too_long (Self.plain self.now)
+        ensures out_of_bounds { Self.format.out_of_bounds (Self.plain self.now)
             → IsErrAnd result
             (λ e. (e ≡ OutOfMemory) ⊎ Self.format.refuses (Self.plain self.now) e) }
     {
@@ -102,7 +102,7 @@ pub trait SerializeBytes: Size {
     /// The value's shortest form.
     fn tls_serialize_bytes(&self, alloc: Global) -> Result<Vec<u8>, Error>
         ensures makes { Makes Self.format (Self.plain self.now) result }
-        ensures too_long { Self.format.too_long (Self.plain self.now)
+        ensures out_of_bounds { Self.format.out_of_bounds (Self.plain self.now)
             → IsErrAnd result
             (λ e. (e ≡ OutOfMemory) ⊎ Self.format.refuses (Self.plain self.now) e) };
 }
@@ -121,7 +121,7 @@ pub trait Deserialize: Size + Drop {
     ///
     /// `TrailingData`: a value was read, and a byte is left. Every other refusal is that of
     /// [`tls_deserialize`](Deserialize::tls_deserialize).
-    fn tls_deserialize_exact(alloc: Global, bytes: &[u8]) -> Result<Self, Error>
+    final fn tls_deserialize_exact(alloc: Global, bytes: &[u8]) -> Result<Self, Error>
         ensures reads { ReadsWhole Self.format Self.plain bytes.now result }
         ensures named { IfErr result
             (λ e. ((e ≡ TrailingData) × LeavesBytes Self.format.spells bytes.now)
@@ -171,7 +171,7 @@ pub trait DeserializeBytes: Size + Drop {
     ///
     /// `TrailingData`: a value was read, and a byte is left. Every other refusal is that of
     /// [`tls_deserialize_bytes`](DeserializeBytes::tls_deserialize_bytes).
-    fn tls_deserialize_exact_bytes(alloc: Global, bytes: &[u8]) -> Result<Self, Error>
+    final fn tls_deserialize_exact_bytes(alloc: Global, bytes: &[u8]) -> Result<Self, Error>
         ensures reads { ReadsWhole Self.format Self.plain bytes.now result }
         ensures named { IfErr result
             (λ e. ((e ≡ TrailingData) × LeavesBytes Self.format.spells bytes.now)

@@ -25,14 +25,13 @@ impl<F: LengthField> Size for TlsByteVec<F> {
 }
 
 impl<F: LengthField> Serialize for TlsByteVec<F> {
-    /// `InvalidVectorLength`: there are more bytes than the length field counts, and nothing was sent.
+    /// `InvalidVectorLength`: `F` doesn't hold the number of the bytes, and nothing was sent.
     /// Every other refusal is the sink's.
     fn tls_serialize<W: Sink>(&self, writer: &mut W) -> Result<usize, Error> {
         opaque::write::<F, W>(writer, self.as_slice())
     }
 
-    /// `InvalidVectorLength`: there are more bytes than the length field counts. `OutOfMemory`:
-    /// allocation failed.
+    /// `InvalidVectorLength`: `F` doesn't hold the number of the bytes. `OutOfMemory`: allocation failed.
     #[inline(always)]
     fn tls_serialize_into(&self, out: &mut Vec<u8>) -> Result<usize, Error> {
         opaque::append::<F>(out, self.as_slice())

@@ -76,17 +76,21 @@ empty_refused h p = record {
 
 -- ---- what comes after its length
 
--- what is too long has no form
-pub too_long_no_form : {f : Format} {v : Tree} {form : List ℕ} → MeetsLaws f → f.too_long v → IsShortest f.spells form v → ⊥
-too_long_no_form {f} {v} {form} l long p = l.unspelled v InvalidVectorLength (l.long v long) form p.spelled
+-- what is out of bounds has no form
+pub out_of_bounds_no_form : {f : Format} {v : Tree} {form : List ℕ} → MeetsLaws f → f.out_of_bounds v → IsShortest f.spells form v → ⊥
+out_of_bounds_no_form {f} {v} {form} l long p = l.unspelled v InvalidVectorLength (l.outside v long) form p.spelled
 
 -- and is refused because memory ran out, or by a name of the format
-pub long_refused : {f : Format} {v : Tree} {e : Error} {Passes : Type 0} → MeetsLaws f → f.too_long v → (e ≡ OutOfMemory) ⊎ (f.refuses v e ⊎ ((e ≡ InvalidVectorLength) × Passes)) → (e ≡ OutOfMemory) ⊎ f.refuses v e
-long_refused l long (inl memory) = inl memory
-long_refused l long (inr (inl named)) = inr named
-long_refused {f} {v} l long (inr (inr passes)) = inr (subst (f.refuses v) (sym passes.0) (l.long v long))
+pub unheld_refused : {f : Format} {v : Tree} {e : Error} {Passes : Type 0} → MeetsLaws f → f.out_of_bounds v → (e ≡ OutOfMemory) ⊎ (f.refuses v e ⊎ ((e ≡ InvalidVectorLength) × Passes)) → (e ≡ OutOfMemory) ⊎ f.refuses v e
+unheld_refused l long (inl memory) = inl memory
+unheld_refused l long (inr (inl named)) = inr named
+unheld_refused {f} {v} l long (inr (inr passes)) = inr (subst (f.refuses v) (sym passes.0) (l.outside v long))
 
 module _ {field : Field} (m : MeetsFieldLaws field) {inside : Format} (l : MeetsLawsInside inside) where
+  -- what is announced, if the field holds it, is how many bytes the inside has
+  announced_counts : {v : Tree} {c : List ℕ} (n : ℕ) → inside.announced v ≡ capped n → IsShortest inside.spells c v → field.holds n → n ≡ length c
+  announced_counts {v} {c} n announced p held = omega (arith, m.small n held, announced, l.spelled.announces c v p.spelled)
+
   module _ {sum : Tree → ℕ} {v : Tree} where
     -- the length is in the gap before the inside
     pub counted_appended : {a b c d : List ℕ} {at gap k width n : ℕ} → at ≡ length a → OpenedGap a b gap → Appended inside v b c k → FilledGap field c d at gap width → n ≡ length d - at → Appended (counted_format field sum inside) v a d n
@@ -115,23 +119,23 @@ module _ {field : Field} (m : MeetsFieldLaws field) {inside : Format} (l : Meets
           long.0,
           λ s q.
               let h = counted_split m l s q in
-              let below = m.below h.1 (length h.0) h.4 in
+              let below = m.small (length h.0) (m.held h.1 (length h.0) h.4) in
               let more = long.1 h.0 h.3 in
               elim safe [
                 | inl none ↦ omega (arith, more, none, o.count, ap length o.held, length-append a o.gap, ap length h.2, length-append h.1 h.0)
-                | inr small ↦ absurd (omega (arith, more, below, m.small, small, o.count, ap length o.held, length-append a o.gap))
+                | inr small ↦ absurd (omega (arith, more, below, small, o.count, ap length o.held, length-append a o.gap))
               ],
         ))
       ];
     }
 
     -- its length is refused
-    pub count_not_appended : {a d c : List ℕ} {e : Error} → inside.announced v ≡ capped (sum v) → IsShortest inside.spells c v → d ≡ a → (e ≡ OutOfMemory) ⊎ ((e ≡ InvalidVectorLength) × (field.limit ≤ length c)) → AppendRefused (counted_format field sum inside) v a d e
+    pub count_not_appended : {a d c : List ℕ} {e : Error} → inside.announced v ≡ capped (sum v) → IsShortest inside.spells c v → d ≡ a → (e ≡ OutOfMemory) ⊎ ((e ≡ InvalidVectorLength) × (field.holds (length c) → ⊥)) → AppendRefused (counted_format field sum inside) v a d e
     count_not_appended {a} {d} {c} {e} is_sum p kept q = record {
       kept = kept;
       cause = elim q [
         | inl memory ↦ inl memory
-        | inr long ↦ inr (inl (inl (long.0, omega (arith, long.1, is_sum, l.spelled.announces c v p.spelled))))
+        | inr long ↦ inr (inl (inl (long.0, λ held. long.1 (subst field.holds (announced_counts (sum v) is_sum p held) held))))
       ];
     }
 
@@ -143,7 +147,7 @@ module _ {field : Field} (m : MeetsFieldLaws field) {inside : Format} (l : Meets
         record {
           kept = kept;
           cause = elim q [
-            | inl long ↦ inr (inl (inl (refl, omega (arith, size, long, is_sum, l.spelled.announces p.form v p.shortest.spelled))))
+            | inl long ↦ inr (inl (inl (refl, λ held. long (subst field.holds (announced_counts (sum v) is_sum p.shortest held ∙ sym size) held))))
             | inr passes ↦ inr (inr (
               refl,
               λ s r.

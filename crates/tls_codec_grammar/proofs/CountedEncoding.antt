@@ -1,12 +1,11 @@
 -- What is sent of a length field and what it counts.
-use Rattle.std.proofs.Common.{◌≡◌, ℕ, ◌+◌, ◌<◌, ◌≤◌, List, [], ◌++◌, length, inl, inr, sym, ap, subst, ◌∙◌, append_assoc, length-append, arith}
-use Rattle.std.proofs.lemmas.Bool.{cases_lt}
+use Rattle.std.proofs.Common.{◌≡◌, ℕ, ◌+◌, ◌<◌, ◌≤◌, List, [], ◌++◌, length, inl, inr, refl, sym, ap, subst, ◌∙◌, append_assoc, length-append, arith}
 use Rattle.std.specs.Io.KnownBytes.{Appends}
 use Rattle.std.proofs.KnownBytes.{Appends-nil, Appends-trans}
 use Rattle.tls_codec_wire.specs.Counts.{Counts, NoneFell, fall_never, stay}
 use Rattle.tls_codec_wire.specs.declared.device.Sink.{Ghosts}
 use Rattle.tls_codec_wire.specs.Device.{Received}
-use Rattle.tls_codec_wire.specs.Numbers.{BeganNumber, NumberNotSent, SentNumber}
+use Rattle.tls_codec_wire.specs.Numbers.{BeganNumber, SentNumber}
 use Rattle.tls_codec_wire.specs.Transfer.{WriteRefused}
 use Rattle.tls_codec_wire.specs.declared.error.Error.{Error}
 use Rattle.tls_codec_wire.specs.declared.error.Error.TheVariants.{InvalidVectorLength}
@@ -14,7 +13,7 @@ use Rattle.tls_codec_grammar.specs.Tree.{Tree}
 use Rattle.tls_codec_grammar.specs.Grammar.{Writing, counted}
 use Rattle.tls_codec_grammar.specs.Shortest.{IsShortest}
 use Rattle.tls_codec_grammar.specs.Announced.{capped}
-use Rattle.tls_codec_grammar.specs.Field.{Field}
+use Rattle.tls_codec_grammar.specs.Field.{Field, LengthNotSent}
 use Rattle.tls_codec_grammar.specs.Format.{Format, counted_format}
 use Rattle.tls_codec_grammar.specs.Lawful.{MeetsFieldLaws, MeetsLaws, MeetsLawsInside}
 use Rattle.tls_codec_grammar.specs.Encoding.{Breaks, Sends}
@@ -101,12 +100,7 @@ module _ {field : Field} (m : MeetsFieldLaws field) {inside : Format} (l : Meets
 
   -- the field for a number that is announced counts what is inside
   field_counts : {announced n : ℕ} {form : List ℕ} → announced ≡ capped n → field.spells form n → CountsInside field.spells announced form
-  field_counts {announced} {n} {form} e p = record { n = n; is_announced = e; fits = omega (arith, m.below form n p, m.small); spelled = p }
-
-  -- a length that isn't too long is refused by the sink
-  refused_by_sink : (e : Error) (n : ℕ) (old new : Counts) → n < field.limit → NumberNotSent field.limit e n old new → WriteRefused e old new
-  refused_by_sink InvalidVectorLength n old new lt p = absurd (omega (arith, lt, p))
-  refused_by_sink e n old new lt p = p
+  field_counts {announced} {n} {form} e p = record { n = n; is_announced = e; fits = omega (arith, m.small n (m.held form n p)); spelled = p }
 
   module _ {sum : Tree → ℕ} {S : Type 0} {sink : Ghosts S} where
     pub field_sends : {v : Tree} {n j k total : ℕ} {old mid new : S} → inside.announced v ≡ capped n → SentNumber field.spells (sink.received old) (sink.received mid) n j → NoneFell (sink.counts old) (sink.counts mid) → Sends inside v sink mid new k → total ≡ capped (j + k)
@@ -120,9 +114,7 @@ module _ {field : Field} (m : MeetsFieldLaws field) {inside : Format} (l : Meets
 
     -- the field is refused
     pub field_breaks_count : {v : Tree} {n : ℕ} {old new : S} (e : Error) → MeetsLaws (counted_format field sum inside) → inside.announced v ≡ capped n → n ≡ sum v
-        → (n < field.limit → BeganNumber field.spells (sink.received old) (sink.received new) n) → (field.limit ≤ n → (e ≡ InvalidVectorLength) × (new ≡ old)) → NumberNotSent field.limit e n (sink.counts old) (sink.counts new) → NoneFell (sink.counts old) (sink.counts new)
+        → (field.holds n → BeganNumber field.spells (sink.received old) (sink.received new) n) → ((field.holds n → ⊥) → new ≡ old) → LengthNotSent field e n (sink.counts old) (sink.counts new) → NoneFell (sink.counts old) (sink.counts new)
         → Breaks (counted_format field sum inside) v sink old new e
-    field_breaks_count {v} {n} {old} {new} e laws announced is_sum began long refused fell = elim (cases_lt n field.limit) [
-      | inl lt ↦ counted_breaks_count (field_counts announced (began lt).spelled) (began lt).received (refused_by_sink e n (sink.counts old) (sink.counts new) lt refused) fell
-      | inr le ↦ named_breaks laws (inl ((long le).0, omega (arith, le, is_sum))) (long le).1
-    ]
+    field_breaks_count {v} {n} InvalidVectorLength laws announced is_sum began kept refused fell = named_breaks laws (inl (refl, λ held. refused (subst field.holds (sym is_sum) held))) (kept refused)
+    field_breaks_count {v} {n} e laws announced is_sum began kept refused fell = counted_breaks_count (field_counts announced (began refused.0).spelled) (began refused.0).received refused.1 fell

@@ -55,7 +55,7 @@ module _ {field : Field} (m : MeetsFieldLaws field) where
 
   -- why the bytes after the length are not read
   pub content_not_read : (e : Error) (start before after : Counts) (front : List ℕ) (n : ℕ) → NoneFell start before → field.spells front n → (y : List ℕ) → BytesRefused n y before after e → OpaqueSourceRefused field (front ++ y) start after e
-  content_not_read InvalidVectorLength start before after front n fell p y r = absurd (omega (arith, m.below front n p, m.small, r))
+  content_not_read InvalidVectorLength start before after front n fell p y r = absurd (omega (arith, m.small n (m.held front n p), r))
   content_not_read (DecodingError text) start before after front n fell p y r = (r.0, fault_later start before after fell r.1)
   content_not_read EndOfStream start before after front n fell p y r = inr (record { declared = n; behind = y; begins = record { front = front; whole = refl; spelled = p }; short = r })
   content_not_read OutOfMemory start before after front n fell p y r = tt

@@ -17,12 +17,12 @@ pub record Format : Type 1 where
   -- which errors an encoder names for a value, which has no spelling then
   pub refuses : Tree → Error → Type 0
   -- which values are refused before anything is sent
-  pub too_long : Tree → Type 0
+  pub out_of_bounds : Tree → Type 0
 
 -- ---- atoms: each value of such a type has a spelling
 
 abbrev pub atom : Grammar → (Tree → ℕ) → Format
-atom spells announced = record { spells = spells; announced = announced; lean = true; refuses = λ v e. ⊥; too_long = λ v. ⊥ }
+atom spells announced = record { spells = spells; announced = announced; lean = true; refuses = λ v e. ⊥; out_of_bounds = λ v. ⊥ }
 
 abbrev pub number_format : ℕ → Format
 number_format k = atom (number k) (λ v. k)
@@ -49,7 +49,7 @@ option_format payload = record {
   announced = option_length payload.announced;
   lean = payload.lean;
   refuses = option_refuses payload.refuses;
-  too_long = λ v. ⊥;
+  out_of_bounds = λ v. ⊥;
 }
 
 abbrev pub nothing_format : Format
@@ -65,7 +65,7 @@ fields_format first others = record {
   announced = fields_length first.announced others.announced;
   lean = first.lean && others.lean;
   refuses = fields_refuses first.refuses others.refuses;
-  too_long = λ v. ⊥;
+  out_of_bounds = λ v. ⊥;
 }
 
 abbrev pub pair_format : (first second : Format) → Format
@@ -87,7 +87,7 @@ content_format element = record {
   announced = content_length element.announced;
   lean = false;
   refuses = content_refuses element.refuses;
-  too_long = λ v. ⊥;
+  out_of_bounds = λ v. ⊥;
 }
 
 abbrev pub utf8_format : Format
@@ -99,14 +99,14 @@ sized_format n inside = record inside { spells = sized n inside.spells }
 
 -- ---- lists, bytes and texts
 
--- what a length field counts, whose announced lengths add up to this: `InvalidVectorLength` from the limit of the field on
+-- what a length field counts, whose announced lengths add up to this: `InvalidVectorLength` if the field doesn't hold the sum
 abbrev pub counted_format : Field → (Tree → ℕ) → Format → Format
 counted_format field sum inside = record {
   spells = counted field.spells inside.spells;
   announced = counted_length field.width inside.announced;
   lean = false;
-  refuses = λ v e. ((e ≡ InvalidVectorLength) × (field.limit ≤ sum v)) ⊎ inside.refuses v e;
-  too_long = λ v. field.limit ≤ sum v;
+  refuses = λ v e. ((e ≡ InvalidVectorLength) × (field.holds (sum v) → ⊥)) ⊎ inside.refuses v e;
+  out_of_bounds = λ v. field.holds (sum v) → ⊥;
 }
 
 -- elements after any length field

@@ -34,13 +34,13 @@ pub record IsLengthField (field : List ℕ → ℕ → Type 0) (width : ℕ → 
   pub alone : (a b : List ℕ) (n : ℕ) → field a n → field b n → a ≡ b
   pub measures : (a : List ℕ) (n : ℕ) → field a n → width n ≡ length a
 
--- The laws of a length field with its limit, which memory can't pass: each number below it has a spelling, and no
+-- The laws of a length field with the numbers that it holds, which memory can't pass: each of them has a spelling, and no
 -- other; and bytes that it refuses begin with no spelling.
 pub record MeetsFieldLaws (field : Field) : Type 0 where
   pub counts : IsLengthField field.spells field.width
-  pub each : (n : ℕ) → n < field.limit → (b : List ℕ) × field.spells b n
-  pub below : (b : List ℕ) (n : ℕ) → field.spells b n → n < field.limit
-  pub small : field.limit ≤ 2 ^ 62
+  pub each : (n : ℕ) → field.holds n → (b : List ℕ) × field.spells b n
+  pub held : (b : List ℕ) (n : ℕ) → field.spells b n → field.holds n
+  pub small : (n : ℕ) → field.holds n → n < 2 ^ 62
   pub none : (x : List ℕ) (e : Error) → field.refuses x e → NoNumberBegins field.spells x
   pub named : (x : List ℕ) (e : Error) → field.refuses x e → (e ≢ OutOfMemory) × (e ≢ TrailingData)
   pub cut : (e : Error) → field.cut_off e → (e ≢ OutOfMemory) × (e ≢ TrailingData)
@@ -51,7 +51,7 @@ pub record MeetsLaws (f : Format) : Type 0 where
   pub spelled : IsLawful f.spells f.announced
   pub unspelled : (v : Tree) (e : Error) → f.refuses v e → HasNoSpelling f.spells v
   pub not_memory : (v : Tree) → f.refuses v OutOfMemory → ⊥
-  pub long : (v : Tree) → f.too_long v → f.refuses v InvalidVectorLength
+  pub outside : (v : Tree) → f.out_of_bounds v → f.refuses v InvalidVectorLength
 
 -- The same for what comes after a length field.
 pub record MeetsLawsInside (f : Format) : Type 0 where

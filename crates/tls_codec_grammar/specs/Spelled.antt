@@ -25,11 +25,11 @@ ShortestInARow element c (Number n) = ⊥
 ShortestInARow element c Empty = c ≡ []
 ShortestInARow element c (Join v vs) = Row c (λ s. IsShortest element s v) (λ s. ShortestInARow element s vs)
 
--- together they have fewer bytes than a limit
-pub record FitTogether (element : Grammar) (limit : ℕ) (v : Tree) : Type 0 where
+-- together they have as many bytes as a length field holds
+pub record FitTogether (element : Grammar) (holds : ℕ → Type 0) (v : Tree) : Type 0 where
   pub forms : List ℕ
   pub in_a_row : ShortestInARow element forms v
-  pub fits : length forms < limit
+  pub fits : holds (length forms)
 
 -- x begins with just one spelling, which is one of v and leaves rest
 pub record BeginsWithOne (spells : Grammar) (x : List ℕ) (v : Tree) (rest : List ℕ) : Type 0 where

@@ -56,7 +56,7 @@ tagged_format k variants = record {
   announced = tagged_length k variants;
   lean = variants.lean;
   refuses = tagged_refuses variants;
-  too_long = λ v. ⊥;
+  out_of_bounds = λ v. ⊥;
 }
 
 -- The laws of variants: what comes after each tag meets the laws; no bytes come after a tag that isn't there; and if

@@ -3,7 +3,8 @@ ghost use Rattle.std.specs.Prelude.{◌≡◌, ℕ, List, [], ◌∷◌, ◌++�
 ghost use Rattle.tls_codec_wire.specs.Varint.{LaidOut, VectorLength};
 ghost use Rattle.tls_codec_grammar.specs.Tree.{Tree, Number, Empty, Join, number_trees};
 ghost use Rattle.tls_codec_grammar.specs.Grammar.{Direction, Reading, Writing, array, content, fixed_list, list, nothing, number, option, pair, text, varint};
-ghost use Rattle.tls_codec_grammar.specs.Format.{fields_format, nothing_format, number_format};
+ghost use Rattle.tls_codec_grammar.specs.Field.{bounded_field, fixed_field};
+ghost use Rattle.tls_codec_grammar.specs.Format.{counted_list_format, fields_format, nothing_format, number_format};
 ghost use Rattle.tls_codec_grammar.specs.Lawful.{IsLengthField};
 ghost use Rattle.tls_codec_grammar.specs.Tagged.{no_variant, tagged, variant};
 ghost use Rattle.tls_codec_grammar.specs.Shortest.{HasNoSpelling, IsFull, IsHollow, IsShortest};
@@ -42,6 +43,12 @@ pub fn examples()
         → fixed_list 1 (number 2) d front v
         → front ++ rest ≡ 0x03 ∷ 0x00 ∷ 0x01 ∷ 0x00 ∷ 0x02 ∷ []
         → ⊥ }
+    ensures list_on_its_floor { (counted_list_format (bounded_field 2 65534 (fixed_field 2))
+        (number_format 2)).spells
+        Reading (0x00 ∷ 0x02 ∷ 0x13 ∷ 0x01 ∷ []) (Join (Number 0x1301) Empty) }
+    ensures no_list_below_its_floor { HasNoSpelling
+        (counted_list_format (bounded_field 2 65534 (fixed_field 2)) (number_format 2)).spells
+        Empty }
     ensures shortest_list { IsShortest (list (number 1)) (0x01 ∷ 0xaa ∷ [])
         (Join (Number 0xaa) Empty) }
     ensures no_field_of_any_width { (width : ℕ → ℕ) → IsLengthField LaidOut width → ⊥ }

@@ -1,9 +1,9 @@
 //! Length fields: what comes before a content and says how many bytes the content has (RFC 8446, section 3.4;
 //! RFC 9420, section 2.1.2).
 //!
-//! [`TlsVarInt`] is one, up to 2^30 - 1, and so are `u8`, `u16`, `U24` and `u32`. What comes after a length goes
-//! through calls that are generic over the field: [`opaque`](crate::opaque) for bytes, and `counted` of
-//! `tls_codec_base` for elements.
+//! [`TlsVarInt`] is one, up to 2^30 - 1, and so are `u8`, `u16`, `U24` and `u32`. [`Within`] is one over
+//! another, with bounds. What comes after a length goes through calls that are generic over the field:
+//! [`opaque`](crate::opaque) for bytes, and `counted` of `tls_codec_base` for elements.
 ghost use Rattle.std.specs.Prelude.{◌≡◌, ◌≤◌, drop, MatchOption, IfErr, IfOk};
 ghost use Rattle.tls_codec_wire.specs.Counts.{OnlyInterrupted};
 ghost use Rattle.tls_codec_wire.specs.Device.{Gave};
@@ -14,10 +14,12 @@ ghost use Rattle.tls_codec_grammar.specs.Lawful.{MeetsFieldLaws};
 
 use tls_codec_wire::{Error, Source};
 
+mod bounded;
 mod fixed;
 mod variable;
 mod writing;
 
+pub use bounded::Within;
 pub(crate) use writing::append_both;
 pub use writing::{fill_gap, open_gap, write_length};
 
@@ -32,18 +34,18 @@ pub use writing::{fill_gap, open_gap, write_length};
 /// assert_eq!(u16::width(3), 2);
 /// ```
 pub trait LengthField {
-    // Which bytes spell which length, how many of them, and up to which limit.
+    // Which bytes spell which length, how many of them, and which lengths there are.
     ghost field: { Field };
 
-    /// How many bytes a length has. Announced lengths also count it if the length passes the greatest
-    /// one; then it is whatever the field says.
+    /// How many bytes a length has. Announced lengths also count it if the field doesn't hold the length;
+    /// then it is whatever the field says.
     fn width(length: usize) -> usize
         ensures { result ≡ field.width length };
 
-    /// The bytes of a length: those of these eight from this place on. It is none if the length
-    /// passes the greatest one.
+    /// The bytes of a length: those of these eight from this place on. It is none if the field
+    /// doesn't hold the length.
     fn form(length: usize) -> Option<([u8; 8], usize)>
-        ensures { MatchOption result (field.limit ≤ length)
+        ensures { MatchOption result (field.holds length → ⊥)
             (λ form. (form.1 ≤ 8) × field.spells (drop form.1 form.0) length) };
 
     /// Reads a length. Only its bytes are taken.

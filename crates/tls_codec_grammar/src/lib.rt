@@ -5,7 +5,8 @@
 //! number, or the form of a length.
 //!
 //! - [`digits`]: numbers of k bytes.
-//! - [`length_field`]: [`LengthField`], what comes before a content and says how many bytes it has.
+//! - [`length_field`]: [`LengthField`], what comes before a content and says how many bytes it has;
+//!   [`Within`], such a length with bounds.
 //! - [`opaque`]: bytes after their length, as in byte vectors and strings.
 //! - [`examples`]: the definitions at work. It does nothing when it runs.
 #![tactic(auto)]
@@ -15,4 +16,4 @@ pub mod examples;
 pub mod length_field;
 pub mod opaque;
 
-pub use length_field::LengthField;
+pub use length_field::{LengthField, Within};

@@ -25,12 +25,12 @@ pub fn announced_len<F: LengthField>(content: &[u8]) -> usize
 
 /// Sends the shortest form of some bytes, and returns how many bytes that is.
 ///
-/// `InvalidVectorLength`: there are more bytes than the greatest length, and nothing was sent. Every
+/// `InvalidVectorLength`: the field doesn't hold their number, and nothing was sent. Every
 /// other refusal is the sink's, as in `write_all`.
 pub fn write<F: LengthField, W: Sink>(sink: &mut W, content: &[u8]) -> Result<usize, Error>
     ensures writes { Writes (counted_bytes_format F.field) (number_trees content.now) W.Sink
         sink.old sink.new result }
-    ensures too_long { (counted_bytes_format F.field).too_long (number_trees content.now)
+    ensures out_of_bounds { (counted_bytes_format F.field).out_of_bounds (number_trees content.now)
         → (result ≡ Err InvalidVectorLength) × (sink.new ≡ sink.old) }
 {
     let width = write_length::<F, W>(sink, content.len())?;
@@ -40,17 +40,17 @@ pub fn write<F: LengthField, W: Sink>(sink: &mut W, content: &[u8]) -> Result<us
 
 /// Appends the shortest form of some bytes to a vector, and returns how many bytes that is.
 ///
-/// `InvalidVectorLength`: there are more bytes than the greatest length. `OutOfMemory`: allocation
+/// `InvalidVectorLength`: the field doesn't hold their number. `OutOfMemory`: allocation
 /// failed. After a refusal the vector has the bytes from before.
 #[inline(always)]
 pub fn append<F: LengthField>(out: &mut Vec<u8>, content: &[u8]) -> Result<usize, Error>
     ensures appends { AppendsForm (counted_bytes_format F.field) (number_trees content.now)
         out.old.items out.new.items result }
-    ensures too_long { (counted_bytes_format F.field).too_long (number_trees content.now)
+    ensures out_of_bounds { (counted_bytes_format F.field).out_of_bounds (number_trees content.now)
         → IsErrAnd result
         (λ e. (e ≡ OutOfMemory)
         ⊎ (counted_bytes_format F.field).refuses (number_trees content.now) e) }
-    ensures at_once { (counted_bytes_format F.field).too_long (number_trees content.now)
+    ensures at_once { (counted_bytes_format F.field).out_of_bounds (number_trees content.now)
         → result ≡ Err InvalidVectorLength }
 {
     let Some(found) = F::form(content.len()) else {
@@ -64,14 +64,14 @@ pub fn append<F: LengthField>(out: &mut Vec<u8>, content: &[u8]) -> Result<usize
 
 /// The shortest form of some bytes.
 ///
-/// `InvalidVectorLength`: there are more bytes than the greatest length.
+/// `InvalidVectorLength`: the field doesn't hold their number.
 pub fn to_vec<F: LengthField>(alloc: Global, content: &[u8]) -> Result<Vec<u8>, Error>
     ensures makes { Makes (counted_bytes_format F.field) (number_trees content.now) result }
-    ensures too_long { (counted_bytes_format F.field).too_long (number_trees content.now)
+    ensures out_of_bounds { (counted_bytes_format F.field).out_of_bounds (number_trees content.now)
         → IsErrAnd result
         (λ e. (e ≡ OutOfMemory)
         ⊎ (counted_bytes_format F.field).refuses (number_trees content.now) e) }
-    ensures at_once { (counted_bytes_format F.field).too_long (number_trees content.now)
+    ensures at_once { (counted_bytes_format F.field).out_of_bounds (number_trees content.now)
         → result ≡ Err InvalidVectorLength }
 {
     let mut form = Vec::new(alloc);

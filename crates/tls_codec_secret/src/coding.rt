@@ -24,14 +24,14 @@ impl<F: LengthField, T: Size + Zeroize> Size for SecretTlsVec<F, T> {
 }
 
 impl<F: LengthField, T: Serialize + Zeroize> Serialize for SecretTlsVec<F, T> {
-    /// `InvalidVectorLength`: the elements have more bytes than the greatest length, and nothing was
-    /// sent. Every other refusal is an element's or the sink's.
+    /// `InvalidVectorLength`: `F` doesn't hold the number of the elements' bytes, and nothing was sent.
+    /// Every other refusal is an element's or the sink's.
     fn tls_serialize<W: Sink>(&self, writer: &mut W) -> Result<usize, Error> {
         counted::write::<F, T, W>(writer, self.as_slice())
     }
 
-    /// `InvalidVectorLength`: the elements have more bytes than the greatest length, or the vector
-    /// would pass `isize::MAX` bytes. Every other refusal is an element's, or `OutOfMemory`.
+    /// `InvalidVectorLength`: `F` doesn't hold the number of the elements' bytes, or the vector would pass
+    /// `isize::MAX` bytes. Every other refusal is an element's, or `OutOfMemory`.
     fn tls_serialize_into(&self, out: &mut Vec<u8>) -> Result<usize, Error> {
         counted::append::<F, T>(out, self.as_slice())
     }

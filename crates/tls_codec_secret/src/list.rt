@@ -27,7 +27,7 @@ mod show;
 /// `remove` and the conversion to a `Vec` give elements away as they are; then their owner has to clear
 /// them.
 ///
-/// It is compared and hashed as the list is. It may hold more bytes than `F` can count; then each encoder
+/// It is compared and hashed as the list is. If `F` doesn't hold the number of its bytes, each encoder
 /// returns `InvalidVectorLength`. **`{:?}` prints its elements.** An encoder's output is a copy that nothing
 /// clears. So is what a `push` leaves in memory if it made the list move.
 ///

@@ -84,10 +84,6 @@ impl<'a> Serialize for &TlsByteSliceU8<'a> {
     fn tls_serialize_into(&self, out: &mut Vec<u8>) -> Result<usize, Error> {
         (**self).tls_serialize_into(out)
     }
-
-    fn tls_serialize_detached(&self, alloc: Global) -> Result<Vec<u8>, Error> {
-        (**self).tls_serialize_detached(alloc)
-    }
 }
 
 /// Borrowed bytes, written after their number, which has two bytes.
@@ -156,10 +152,6 @@ impl<'a> Serialize for &TlsByteSliceU16<'a> {
 
     fn tls_serialize_into(&self, out: &mut Vec<u8>) -> Result<usize, Error> {
         (**self).tls_serialize_into(out)
-    }
-
-    fn tls_serialize_detached(&self, alloc: Global) -> Result<Vec<u8>, Error> {
-        (**self).tls_serialize_detached(alloc)
     }
 }
 
@@ -231,10 +223,6 @@ impl<'a> Serialize for &TlsByteSliceU24<'a> {
     fn tls_serialize_into(&self, out: &mut Vec<u8>) -> Result<usize, Error> {
         (**self).tls_serialize_into(out)
     }
-
-    fn tls_serialize_detached(&self, alloc: Global) -> Result<Vec<u8>, Error> {
-        (**self).tls_serialize_detached(alloc)
-    }
 }
 
 /// Borrowed bytes, written after their number, which has four bytes.
@@ -304,9 +292,5 @@ impl<'a> Serialize for &TlsByteSliceU32<'a> {
 
     fn tls_serialize_into(&self, out: &mut Vec<u8>) -> Result<usize, Error> {
         (**self).tls_serialize_into(out)
-    }
-
-    fn tls_serialize_detached(&self, alloc: Global) -> Result<Vec<u8>, Error> {
-        (**self).tls_serialize_detached(alloc)
     }
 }

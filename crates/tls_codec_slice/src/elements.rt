@@ -92,10 +92,6 @@ impl<'a, T: Serialize> Serialize for &TlsSliceU8<'a, T> {
     fn tls_serialize_into(&self, out: &mut Vec<u8>) -> Result<usize, Error> {
         (**self).tls_serialize_into(out)
     }
-
-    fn tls_serialize_detached(&self, alloc: Global) -> Result<Vec<u8>, Error> {
-        (**self).tls_serialize_detached(alloc)
-    }
 }
 
 /// Borrowed elements, written after their length in bytes, which has two bytes.
@@ -173,10 +169,6 @@ impl<'a, T: Serialize> Serialize for &TlsSliceU16<'a, T> {
 
     fn tls_serialize_into(&self, out: &mut Vec<u8>) -> Result<usize, Error> {
         (**self).tls_serialize_into(out)
-    }
-
-    fn tls_serialize_detached(&self, alloc: Global) -> Result<Vec<u8>, Error> {
-        (**self).tls_serialize_detached(alloc)
     }
 }
 
@@ -256,10 +248,6 @@ impl<'a, T: Serialize> Serialize for &TlsSliceU24<'a, T> {
     fn tls_serialize_into(&self, out: &mut Vec<u8>) -> Result<usize, Error> {
         (**self).tls_serialize_into(out)
     }
-
-    fn tls_serialize_detached(&self, alloc: Global) -> Result<Vec<u8>, Error> {
-        (**self).tls_serialize_detached(alloc)
-    }
 }
 
 /// Borrowed elements, written after their length in bytes, which has four bytes.
@@ -337,9 +325,5 @@ impl<'a, T: Serialize> Serialize for &TlsSliceU32<'a, T> {
 
     fn tls_serialize_into(&self, out: &mut Vec<u8>) -> Result<usize, Error> {
         (**self).tls_serialize_into(out)
-    }
-
-    fn tls_serialize_detached(&self, alloc: Global) -> Result<Vec<u8>, Error> {
-        (**self).tls_serialize_detached(alloc)
     }
 }

@@ -1,5 +1,6 @@
 //! Worked rows of every type, by both paths and each encoder.
 mod appending;
+mod bounds;
 mod byte_vectors;
 mod clearing;
 mod devices;

@@ -21,7 +21,7 @@ mod show;
 
 /// A list of elements. Its spelling is the number of its bytes, in the form `F`, and then the elements.
 ///
-/// It is compared and hashed as the list is. It may hold more bytes than `F` can count; then each encoder
+/// It is compared and hashed as the list is. If `F` doesn't hold the number of its bytes, each encoder
 /// returns `InvalidVectorLength`.
 ///
 /// ```rust

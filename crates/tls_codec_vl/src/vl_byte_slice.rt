@@ -102,8 +102,4 @@ impl<'a> Serialize for &VLByteSlice<'a> {
     fn tls_serialize_into(&self, out: &mut Vec<u8>) -> Result<usize, Error> {
         (**self).tls_serialize_into(out)
     }
-
-    fn tls_serialize_detached(&self, alloc: Global) -> Result<Vec<u8>, Error> {
-        (**self).tls_serialize_detached(alloc)
-    }
 }

@@ -96,7 +96,7 @@ module _ (k : ℕ) (small : k < 2 ^ 64) (variants : Variants) (l : MeetVariantLa
     spelled = record { one = tagged_one; alone = tagged_alone; written = tagged_written; announces = tagged_announces };
     unspelled = tagged_unspelled;
     not_memory = tagged_not_memory;
-    long = λ v p. absurd p;
+    outside = λ v p. absurd p;
   }
 
 -- a choice meets the laws, if what comes after each tag does

@@ -1,9 +1,9 @@
 //! Lengths sent to a sink, appended to a vector, and put before a content that is already there.
 ghost use Rattle.std.specs.Prelude.{◌≡◌, ◌<◌, ◌≤◌, ◌⊎◌, ◌^◌, ◌+◌, ◌-◌, [], ◌∷◌, ◌++◌, length, vec_len, vec_capacity, take, drop, is_ok, if◌then◌else◌, IfErr, IfOk, OnErr, OnOk};
 ghost use Rattle.tls_codec_wire.specs.Counts.{NoneFell, OnlyInterrupted};
-ghost use Rattle.tls_codec_wire.specs.Numbers.{BeganNumber, NumberNotSent, SentNumber};
+ghost use Rattle.tls_codec_wire.specs.Numbers.{BeganNumber, SentNumber};
 ghost use Rattle.tls_codec_wire.specs.declared.error.Error.TheVariants.{InvalidVectorLength, OutOfMemory};
-ghost use Rattle.tls_codec_grammar.specs.Field.{FilledGap, FitGap, GapRefused, OpenedGap};
+ghost use Rattle.tls_codec_grammar.specs.Field.{FilledGap, FitGap, GapRefused, LengthNotSent, OpenedGap};
 
 use super::LengthField;
 use std::alloc::AllocError;
@@ -12,7 +12,7 @@ use tls_codec_wire::{Error, Sink, write_all};
 
 /// Sends a length, and returns how many bytes it has.
 ///
-/// `InvalidVectorLength`: it passes the greatest length, and nothing was sent. Every other refusal is the
+/// `InvalidVectorLength`: the field doesn't hold it, and nothing was sent. Every other refusal is the
 /// sink's, as in [`write_all`].
 pub fn write_length<F: LengthField, W: Sink>(
     sink: &mut W,
@@ -20,14 +20,14 @@ pub fn write_length<F: LengthField, W: Sink>(
 ) -> Result<usize, Error>
     ensures ok { IfOk result
         (SentNumber F.field.spells (W.received sink.old) (W.received sink.new) content_length) }
-    ensures beginning { content_length < F.field.limit
+    ensures beginning { F.field.holds content_length
         → BeganNumber F.field.spells (W.received sink.old) (W.received sink.new) content_length }
     ensures counts { NoneFell (W.counts sink.old) (W.counts sink.new) }
     ensures refused { IfErr result
-        (λ e. NumberNotSent F.field.limit e content_length (W.counts sink.old)
+        (λ e. LengthNotSent F.field e content_length (W.counts sink.old)
         (W.counts sink.new)) }
     ensures calm { IfOk result (λ _. OnlyInterrupted (W.counts sink.old) (W.counts sink.new)) }
-    ensures too_long { F.field.limit ≤ content_length
+    ensures out_of_bounds { (F.field.holds content_length → ⊥)
         → (result ≡ Err InvalidVectorLength) × (sink.new ≡ sink.old) }
 {
     let Some(found) = F::form(content_length) else {
@@ -125,7 +125,7 @@ fn append_one(out: &mut Vec<u8>, byte: u8) -> Result<(), AllocError>
 /// Puts the length of the bytes after a gap into the gap, and returns how many bytes the length
 /// has. The bytes after the gap are moved only if the gap has another width.
 ///
-/// `InvalidVectorLength`: they are more than the greatest length, or the vector would pass
+/// `InvalidVectorLength`: the field doesn't hold their number, or the vector would pass
 /// `isize::MAX` bytes. `OutOfMemory`: allocation failed for a wider length. After a refusal the
 /// bytes before the gap are as they were.
 #[inline(always)]

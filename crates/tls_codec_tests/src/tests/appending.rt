@@ -19,7 +19,7 @@ impl Size for Huge {
       announced = λ v. 0xffff_ffff_ffff_ffff;
       lean = true;
       refuses = λ v e. e ≡ InvalidInput;
-      too_long = λ v. ⊥;
+      out_of_bounds = λ v. ⊥;
     } };
 
     fn tls_serialized_len(&self) -> usize {
@@ -35,7 +35,7 @@ impl Size for Huge {
       };
       unspelled = λ v e p s q. q;
       not_memory = λ v p. Prim.cc;
-      long = λ v p. absurd p;
+      outside = λ v p. absurd p;
     } };
 }
 

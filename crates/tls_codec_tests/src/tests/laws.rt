@@ -80,7 +80,7 @@ fn trailing_data_is_of_exact_forms_alone(rt: HostRuntime) -> Result<(), Fail> {
     refusals::bytes_are_never_trailing::<u16>();
     refusals::parts_are_never_trailing::<u16, u8, U24, String>();
     refusals::parts_read_are_never_trailing::<u16, u8, U24, String>();
-    refusals::long_contents_are_refused::<u8, u16>();
+    refusals::contents_out_of_bounds_are_refused::<u8, u16>();
     let alloc = rt.alloc();
     let longer = [1, 0, 7, 9];
     let (found, rest) = <Option<u16>>::tls_deserialize_bytes(alloc, &longer)?;

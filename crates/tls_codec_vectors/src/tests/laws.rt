@@ -9,12 +9,12 @@ use std::hash::{DefaultHasher, Hash, Hasher};
 use std::process::Abort;
 use std::test::Fail;
 use tls_codec::laws::{
-    both_paths_agree, each_value_is_full, encoders_refuse_only_what_has_no_form,
-    equal_bytes_have_equal_spellings, formats_are_lawful, forms_cut_short_have_no_spelling,
-    full_values_have_full_parts, just_the_rest_is_to_come,
-    lists_are_spelled_where_their_elements_fit, long_contents_are_too_long,
-    shortest_contents_are_in_a_row, shortest_forms_are_read_back, spellings_are_prefix_free,
-    spellings_are_shortest_forms, what_was_read_is_written_again,
+    both_paths_agree, contents_out_of_bounds_are_not_sent, each_value_is_full,
+    encoders_refuse_only_what_has_no_form, equal_bytes_have_equal_spellings, formats_are_lawful,
+    forms_cut_short_have_no_spelling, full_values_have_full_parts, just_the_rest_is_to_come,
+    lists_are_spelled_where_their_elements_fit, shortest_contents_are_in_a_row,
+    shortest_forms_are_read_back, spellings_are_prefix_free, spellings_are_shortest_forms,
+    what_was_read_is_written_again,
 };
 use tls_codec::{
     Deserialize, DeserializeBytes, Error, SecretTlsVecU8, SecretVLBytes, Serialize, TlsByteVecU16,
@@ -113,7 +113,7 @@ fn both_paths_read_the_first_leaf(rt: HostRuntime) -> Result<(), Fail> {
 fn lists_that_fit_are_written_and_read(rt: HostRuntime) -> Result<(), Fail> {
     lists_are_spelled_where_their_elements_fit::<u8, u16>();
     shortest_contents_are_in_a_row::<u16>();
-    long_contents_are_too_long::<u8, u16>();
+    contents_out_of_bounds_are_not_sent::<u8, u16>();
     encoders_refuse_only_what_has_no_form::<TlsVecU8<u16>, Vec<u8>>();
     each_value_is_full::<u8>();
     full_values_have_full_parts::<u8, (), u16, Leaf>();

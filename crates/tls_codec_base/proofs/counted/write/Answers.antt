@@ -10,7 +10,7 @@ returns-in_err-length-clause-writes g c =
     let p = err_from_is_err_and c.from_residual.result c.from_residual.ensures.1 in
     let refused = c.in_err-length.ensures.err in
     let m = g.met.F.LengthField.lawful in
-    rw (p.1, p.2) (named_breaks (counted_list_meets m g.met.T.Size.lawful) (inl (refused.0, omega (arith, m.small, refused.1))) refl)
+    rw (p.1, p.2) (named_breaks (counted_list_meets m g.met.T.Size.lawful) (inl (refused.0, λ held. absurd (omega (arith, m.small _ held, refused.1)))) refl)
 
 pub returns-in_err-width-clause-writes : goal.returns-in_err-width-clause-writes
 returns-in_err-width-clause-writes g c =
@@ -19,7 +19,7 @@ returns-in_err-width-clause-writes g c =
     let sum = c.in_ok-length.ensures.ok in
     let sent = c.write_length.ensures in
     let m = g.met.F.LengthField.lawful in
-    rw (p.1, p.2) (field_breaks_count m (content_meets g.met.T.Size.lawful) _ (counted_list_meets m g.met.T.Size.lawful) (content_announced _ _ _ sum) sum sent.beginning (λ le. let long = sent.too_long le in (cc, long.1)) c.in_err-width.ensures.refused sent.counts)
+    rw (p.1, p.2) (field_breaks_count m (content_meets g.met.T.Size.lawful) _ (counted_list_meets m g.met.T.Size.lawful) (content_announced _ _ _ sum) sum sent.beginning (λ long. (sent.out_of_bounds long).1) c.in_err-width.ensures.refused sent.counts)
 
 pub returns-in_err-sent-clause-writes : goal.returns-in_err-sent-clause-writes
 returns-in_err-sent-clause-writes g c =

@@ -1,4 +1,4 @@
-use Rattle.std.proofs.Common.{◌↔◌, ℕ, ◌<◌, List, ◌++◌, length, refl, subst}
+use Rattle.std.proofs.Common.{◌↔◌, ℕ, List, ◌++◌, length, refl, subst}
 use Rattle.tls_codec_grammar.specs.Tree.{Tree, Number, Empty, Join}
 use Rattle.tls_codec_grammar.specs.Grammar.{Reading, Writing, Grammar, content}
 use Rattle.tls_codec_grammar.specs.Shortest.{IsShortest}
@@ -35,17 +35,17 @@ module _ (element : Grammar) (f : Tree → ℕ) (l : IsLawful element f) where
   row_is_read c (Number n) e p = p
 
   -- elements that are read have shortest forms, with no more bytes together
-  fit_together : (limit : ℕ) (c : List ℕ) (v : Tree) → content element Reading c v → length c < limit → FitTogether element limit v
-  fit_together limit c v p lt =
+  fit_together : (holds : ℕ → Type 0) (c : List ℕ) (v : Tree) → content element Reading c v → holds (length c) → FitTogether element holds v
+  fit_together holds c v p held =
       let written = content_written element f l c v p in
-      record { forms = c; in_a_row = in_a_row c v (alone_inside (content_lawful element f l) c v written); fits = lt }
+      record { forms = c; in_a_row = in_a_row c v (alone_inside (content_lawful element f l) c v written); fits = held }
 
 spelled_where_fit : {field : Field} {element : Format} → MeetsFieldLaws field → MeetsLaws element → (v : Tree)
-    → (HasReadingSpelling (counted_list_format field element).spells v ↔ (EachHasNonemptySpelling element.spells v × FitTogether element.spells field.limit v))
+    → (HasReadingSpelling (counted_list_format field element).spells v ↔ (EachHasNonemptySpelling element.spells v × FitTogether element.spells field.holds v))
 spelled_where_fit {field} {element} m l v = (
   λ p. (
     each_nonempty element.spells element.announced l.spelled p.1.inside v p.1.is_inside,
-    fit_together element.spells element.announced l.spelled field.limit p.1.inside v p.1.is_inside (m.below p.1.count (length p.1.inside) p.1.counts),
+    fit_together element.spells element.announced l.spelled field.holds p.1.inside v p.1.is_inside (m.held p.1.count (length p.1.inside) p.1.counts),
   ),
   λ p.
       let count = m.each (length p.1.forms) p.1.fits in

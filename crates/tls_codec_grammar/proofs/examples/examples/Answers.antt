@@ -91,6 +91,21 @@ returns-clause-fixed_list_of_two c = record {
 pub returns-clause-no_half_element : goal.returns-clause-no_half_element
 returns-clause-no_half_element c = no_half_element
 
+pub returns-clause-list_on_its_floor : goal.returns-clause-list_on_its_floor
+returns-clause-list_on_its_floor c = record {
+  count = 0x00 ∷ 0x02 ∷ [];
+  inside = 0x13 ∷ 0x01 ∷ [];
+  whole = refl;
+  counts = (record { width = refl; bytes = (omega arith, (omega arith, tt)); number = refl }, (omega arith, omega arith));
+  is_inside = record {
+    front = 0x13 ∷ 0x01 ∷ [];
+    rest = [];
+    whole = refl;
+    first = (record { width = refl; bytes = (omega arith, (omega arith, tt)); number = refl }, omega arith);
+    second = refl;
+  };
+}
+
 pub returns-clause-shortest_list : goal.returns-clause-shortest_list
 returns-clause-shortest_list c = shortest_list
 

@@ -1,4 +1,4 @@
-use Rattle.std.proofs.Common.{length, arith, inl, inr, refl}
+use Rattle.std.proofs.Common.{length, arith, inl, inr, refl, sym, subst}
 use Rattle.tls_codec_wire.proofs.Bytes.{are_bytes}
 use Rattle.tls_codec_grammar.specs.laws.FormatLaws.{content_length_sum}
 use Rattle.tls_codec_grammar.proofs.Appending.{count_not_appended}
@@ -18,17 +18,17 @@ returns-clause-appends g c =
     let form = slice_form (λ s. g.F.LengthField.field.spells s (length c.args.content.now)) c.in-Some.found.0 c.in-Some.found.1 (omega arith) c.in-Some.ensures.0 c.in-Some.ensures.1 in
     bytes_appended g.met.F.LengthField.lawful c.args.content.now small _ form (rw c.in_ok-append_both.was at c.append_both.ensures) refl
 
-pub returns-in_err-append_both-clause-too_long : goal.returns-in_err-append_both-clause-too_long
-returns-in_err-append_both-clause-too_long g c long = absurd (omega (arith, long, bytes_sum c.args.content.now, g.met.F.LengthField.lawful.below _ _ c.in-Some.ensures.1))
+pub returns-in_err-append_both-clause-out_of_bounds : goal.returns-in_err-append_both-clause-out_of_bounds
+returns-in_err-append_both-clause-out_of_bounds g c long = absurd (long (subst g.F.LengthField.field.holds (sym (bytes_sum c.args.content.now)) (g.met.F.LengthField.lawful.held _ _ c.in-Some.ensures.1)))
 
-pub returns-clause-too_long : goal.returns-clause-too_long
-returns-clause-too_long g c long = absurd (omega (arith, long, bytes_sum c.args.content.now, g.met.F.LengthField.lawful.below _ _ c.in-Some.ensures.1))
+pub returns-clause-out_of_bounds : goal.returns-clause-out_of_bounds
+returns-clause-out_of_bounds g c long = absurd (long (subst g.F.LengthField.field.holds (sym (bytes_sum c.args.content.now)) (g.met.F.LengthField.lawful.held _ _ c.in-Some.ensures.1)))
 
 pub returns-in_err-append_both-clause-at_once : goal.returns-in_err-append_both-clause-at_once
-returns-in_err-append_both-clause-at_once g c long = absurd (omega (arith, long, bytes_sum c.args.content.now, g.met.F.LengthField.lawful.below _ _ c.in-Some.ensures.1))
+returns-in_err-append_both-clause-at_once g c long = absurd (long (subst g.F.LengthField.field.holds (sym (bytes_sum c.args.content.now)) (g.met.F.LengthField.lawful.held _ _ c.in-Some.ensures.1)))
 
 pub returns-clause-at_once : goal.returns-clause-at_once
-returns-clause-at_once g c long = absurd (omega (arith, long, bytes_sum c.args.content.now, g.met.F.LengthField.lawful.below _ _ c.in-Some.ensures.1))
+returns-clause-at_once g c long = absurd (long (subst g.F.LengthField.field.holds (sym (bytes_sum c.args.content.now)) (g.met.F.LengthField.lawful.held _ _ c.in-Some.ensures.1)))
 
-pub returns-in_default-clause-too_long : goal.returns-in_default-clause-too_long
-returns-in_default-clause-too_long g c long = inr (inl (refl, long))
+pub returns-in_default-clause-out_of_bounds : goal.returns-in_default-clause-out_of_bounds
+returns-in_default-clause-out_of_bounds g c long = inr (inl (refl, long))

@@ -4,5 +4,5 @@ use Rattle.tls_codec_base.proofs.texts.RefStrSerialize.tls_serialize_into.Goals 
 pub returns-clause-appends : goal.returns-clause-appends
 returns-clause-appends c = rw (← c.as_bytes.ensures.value) (text_appends _ c.as_bytes.ensures.utf8 _ _ c.append.result c.append.ensures.appends)
 
-pub returns-clause-too_long : goal.returns-clause-too_long
-returns-clause-too_long c = rw (← c.as_bytes.ensures.value) c.append.ensures.too_long
+pub returns-clause-out_of_bounds : goal.returns-clause-out_of_bounds
+returns-clause-out_of_bounds c = rw (← c.as_bytes.ensures.value) c.append.ensures.out_of_bounds
