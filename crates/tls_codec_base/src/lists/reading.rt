@@ -172,7 +172,7 @@ fn each_within<T: Deserialize, R: Source>(
     Ok(elements)
 }
 
-// Appends an element. The first room is requested without a call, for as many as `push` would.
+// Appends an element. The first room is requested without a call, for as many as `push` does if they are small.
 #[inline(always)]
 fn push_element<T: Drop>(elements: &mut Vec<T>, element: T) -> Result<(), AllocError>
     ensures { elements.new.items
