@@ -10,12 +10,12 @@ macro_rules! told {
     ($rt:expr, $requests:expr, $count:expr, $call:expr, $refused:pat, $unchanged:expr) => {
         match $call {
             Err($refused) => {
-                assert!($rt; $requests.has_refused_of($count));
+                $requests.make(&$rt, $count, true);
                 $unchanged;
                 $call
             }
             other => {
-                assert!($rt; !$requests.has_refused_of($count));
+                $requests.make(&$rt, $count, false);
                 other
             }
         }
@@ -28,6 +28,7 @@ mod refused_input;
 mod views;
 
 use std::alloc::Global;
+use std::fmt::Debug;
 use std::fs::{File, Files};
 use std::io::Read;
 use std::process::Abort;
@@ -56,11 +57,12 @@ impl Requests {
         Ok(Requests { made: 0, refused })
     }
 
-    // Whether the refused request is one of the next so many.
-    fn has_refused_of(&mut self, count: u64) -> bool {
+    // A call has made so many more. It was refused if one of them is the refused request, and never else.
+    fn make(&mut self, rt: &impl Abort, count: u64, was_refused: bool) {
         let before = self.made;
         self.made = before.saturating_add(count);
-        before < self.refused && self.refused <= self.made
+        let has_refused = before < self.refused && self.refused <= self.made;
+        assert!(rt; has_refused == was_refused);
     }
 
     // The end of a test: the sweep has refused each of its requests.
@@ -79,10 +81,15 @@ fn full(
     content: &[u8],
 ) -> Result<Vec<u8>, Fail> {
     let vec = told!(rt, requests, 1, copied(alloc, content))?;
-    assert_eq!(rt; vec.capacity(), content.len());
+    same(rt, vec.capacity(), content.len());
     Ok(vec)
 }
 
 fn copied(alloc: Global, content: &[u8]) -> Result<Vec<u8>, Error> {
     Ok(content.to_vec(alloc)?)
+}
+
+// An assertion that is written out is proved at each place: this one is proved once.
+fn same<T: PartialEq + Debug + Drop>(rt: &impl Abort, found: T, expected: T) {
+    assert_eq!(rt; found, expected);
 }

@@ -8,19 +8,27 @@ use crate::median::median;
 use crate::noise::Noise;
 use crate::values::FromNoise;
 use std::alloc::AllocError;
+use std::fmt::Debug;
 use std::io;
 use std::io::ErrorKind;
+use std::process::Abort;
 use std::test::Fail;
 use tls_codec_vectors::{Log, Step};
+
+// An assertion that is written out is proved at each place: this one is proved once.
+fn same<T: PartialEq + Debug + Drop>(rt: &impl Abort, found: T, expected: T) {
+    assert_eq!(rt; found, expected);
+}
 
 #[test]
 fn each_name_stands_on_a_line(rt: HostRuntime) -> Result<(), Fail> {
     let text = names(rt.alloc(), &[Case::Lists, Case::DeepOne])?;
-    assert_eq!(rt;
+    same(
+        &rt,
         text.as_str(),
-        "Vec<Vec<u16>> 256x64\n8 deep, one element a level\n"
+        "Vec<Vec<u16>> 256x64\n8 deep, one element a level\n",
     );
-    assert_eq!(rt; Case::Numbers512.name(), "Vec<u16> 512");
+    same(&rt, Case::Numbers512.name(), "Vec<u16> 512");
     Ok(())
 }
 
@@ -33,7 +41,7 @@ fn a_noise_has_the_numbers_of_its_generator(rt: HostRuntime) {
         3_040_900_993_826_735_515,
         3_453_997_556_048_239_312,
     ] {
-        assert_eq!(rt; noise.number(), number);
+        same(&rt, noise.number(), number);
     }
 }
 
@@ -43,38 +51,47 @@ fn a_value_has_the_shape_that_is_asked_for(rt: HostRuntime) -> Result<(), Fail> 
     let value = Vec::<Vec<u8>>::from_noise(rt.alloc(), noise, &[2, 3])?;
     assert_eq!(rt; value.len(), 2);
     for inner in &value {
-        assert_eq!(rt; inner.len(), 3);
+        same(&rt, inner.len(), 3);
     }
-    assert_eq!(rt; value[0].as_slice(), [176u8, 155, 208].as_slice());
+    same(&rt, value[0].as_slice(), [176u8, 155, 208].as_slice());
     let numbers = Vec::<u16>::from_noise(rt.alloc(), &mut Noise::new(), &[1])?;
-    assert_eq!(rt; numbers.as_slice(), [5552u16].as_slice());
+    same(&rt, numbers.as_slice(), [5552u16].as_slice());
     let text = String::from_noise(rt.alloc(), noise, &[3])?;
-    assert_eq!(rt; text.as_str(), "aaa");
+    same(&rt, text.as_str(), "aaa");
     let log = Log::from_noise(rt.alloc(), noise, &[16])?;
-    assert_eq!(rt; log.id.len(), 16);
-    assert_eq!(rt; log.leaves.len(), 100);
+    same(&rt, log.id.len(), 16);
+    same(&rt, log.leaves.len(), 100);
     for (leaf, code) in log.leaves.iter().zip(0u16..) {
-        assert_eq!(rt; leaf.code, code);
-        assert_eq!(rt; leaf.name.as_slice().len(), 16);
+        same(&rt, leaf.code, code);
+        same(&rt, leaf.name.as_slice().len(), 16);
     }
-    assert!(rt; matches!(log.last, Some(Step::Jump(5))));
+    same(&rt, matches!(log.last, Some(Step::Jump(5))), true);
     Ok(())
 }
 
 #[test]
 fn the_median_is_the_middle_one(rt: HostRuntime) {
-    assert_eq!(rt;
+    same(
+        &rt,
         median([9, 1, 8, 2, 7, 3, 6, 4, 5, 20, 21, 22, 23, 24, 25]),
-        8
+        8,
     );
-    assert_eq!(rt; median([5; 15]), 5);
+    same(&rt, median([5; 15]), 5);
 }
 
 #[test]
 fn errors_of_std_are_faults(rt: HostRuntime) {
-    assert!(rt; matches!(BenchFault::from(AllocError), BenchFault::Memory));
+    same(
+        &rt,
+        matches!(BenchFault::from(AllocError), BenchFault::Memory),
+        true,
+    );
     let failed = io::Error::from(ErrorKind::PermissionDenied);
-    assert!(rt; matches!(BenchFault::from(failed), BenchFault::Outside(_)));
+    same(
+        &rt,
+        matches!(BenchFault::from(failed), BenchFault::Outside(_)),
+        true,
+    );
 }
 
 #[test]
@@ -82,13 +99,17 @@ fn the_calls_that_are_timed(rt: HostRuntime) -> Result<(), Fail> {
     let alloc = rt.alloc();
     let mut reused = Vec::new(alloc);
     let form = encode(alloc, &Some(7u16))?;
-    assert_eq!(rt; form.as_slice(), [1u8, 0, 7].as_slice());
-    assert_eq!(rt; encode_into(&Some(7u16), &mut reused), Ok(3));
-    assert_eq!(rt; copy(alloc, &form)?, form);
-    assert_eq!(rt; copy_into(&form, &mut reused)?, 3);
-    assert_eq!(rt; reused, form);
-    assert_eq!(rt; decode_slice::<Option<u16>>(alloc, &form), Ok(Some(7)));
-    assert_eq!(rt; decode_reader::<Option<u16>>(alloc, &form), Ok(Some(7)));
-    assert_eq!(rt; decode_outside::<Option<u16>>(alloc, &form), Ok(Some(7)));
+    same(&rt, form.as_slice(), [1u8, 0, 7].as_slice());
+    same(&rt, encode_into(&Some(7u16), &mut reused), Ok(3));
+    same(&rt, copy(alloc, &form)?.as_slice(), form.as_slice());
+    same(&rt, copy_into(&form, &mut reused)?, 3);
+    same(&rt, reused.as_slice(), form.as_slice());
+    same(&rt, decode_slice::<Option<u16>>(alloc, &form), Ok(Some(7)));
+    same(&rt, decode_reader::<Option<u16>>(alloc, &form), Ok(Some(7)));
+    same(
+        &rt,
+        decode_outside::<Option<u16>>(alloc, &form),
+        Ok(Some(7)),
+    );
     Ok(())
 }

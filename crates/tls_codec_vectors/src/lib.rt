@@ -21,8 +21,6 @@ pub mod laws;
 pub mod leaf;
 pub mod log;
 pub mod step;
-#[cfg(test)]
-mod tests;
 pub mod trickle;
 
 pub use drip::Drip;

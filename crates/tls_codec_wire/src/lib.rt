@@ -27,8 +27,6 @@ mod layout;
 pub mod memory;
 pub mod outside;
 pub mod quic;
-#[cfg(test)]
-mod tests;
 pub mod transfer;
 pub mod uint24;
 pub mod varint;

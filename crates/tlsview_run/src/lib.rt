@@ -36,8 +36,6 @@ pub mod input;
 pub mod laws;
 pub mod run;
 pub mod show;
-#[cfg(test)]
-mod tests;
 pub mod view;
 
 use std::env;

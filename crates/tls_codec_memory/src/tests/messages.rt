@@ -1,5 +1,5 @@
 //! Values of several parts, and byte vectors, by both paths and each encoder.
-use super::{Requests, full};
+use super::{Requests, full, same};
 use std::alloc::Global;
 use std::process::Abort;
 use std::test::Fail;
@@ -38,7 +38,7 @@ fn is_made<T: Serialize>(
     bytes: &[u8],
 ) -> Result<(), Fail> {
     let form = told!(rt, requests, count, value.tls_serialize_detached(alloc))?;
-    assert_eq!(rt; form.as_slice(), bytes);
+    same(rt, form.as_slice(), bytes);
     Ok(())
 }
 
@@ -59,10 +59,10 @@ fn is_appended<T: Serialize>(
         count,
         value.tls_serialize_into(&mut out),
         Error::OutOfMemory,
-        assert_eq!(rt; out.as_slice(), unchanged)
+        same(rt, out.as_slice(), unchanged)
     )?;
-    assert_eq!(rt; length, bytes.len());
-    assert_eq!(rt; out.get(1..), Some(bytes));
+    same(rt, length, bytes.len());
+    same(rt, out.get(1..), Some(bytes));
     Ok(())
 }
 
@@ -76,8 +76,8 @@ fn is_split<T: DeserializeBytes + PartialEq>(
     value: &T,
 ) -> Result<(), Fail> {
     let (found, rest) = told!(rt, requests, count, T::tls_deserialize_bytes(alloc, bytes))?;
-    assert!(rt; found == *value);
-    assert!(rt; rest.is_empty());
+    same(rt, found == *value, true);
+    same(rt, rest.is_empty(), true);
     Ok(())
 }
 
@@ -99,8 +99,8 @@ fn is_read<T: Deserialize + PartialEq>(
         Error::OutOfMemory,
         source = bytes
     )?;
-    assert!(rt; found == *value);
-    assert!(rt; source.is_empty());
+    same(rt, found == *value, true);
+    same(rt, source.is_empty(), true);
     Ok(())
 }
 
@@ -190,11 +190,7 @@ fn bytes_are_written(rt: HostRuntime) -> Result<(), Fail> {
         content.truncate(count);
         let bytes = VLBytes::new(content);
         let form = told!(rt, requests, 1, bytes.tls_serialize_bytes(alloc))?;
-        assert_eq!(rt;
-            form.strip_prefix(length),
-            Some(bytes.as_slice()),
-            "{count} bytes"
-        );
+        same(&rt, form.strip_prefix(length), Some(bytes.as_slice()));
         content = Vec::from(bytes);
     }
     requests.end(&rt);

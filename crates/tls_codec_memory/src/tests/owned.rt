@@ -1,5 +1,5 @@
 //! The calls that request memory, of each type with bytes of its own.
-use super::{Requests, full};
+use super::{Requests, full, same};
 use std::alloc::Global;
 use std::process::Abort;
 use std::test::Fail;
@@ -14,18 +14,18 @@ macro_rules! owned_calls {
     ($rt:expr, $alloc:ident, $requests:ident, $Owned:ty, $made:expr) => {
         let whole = [1, 2, 3].as_slice();
         let made = told!($rt, $requests, 1, $made)?;
-        assert_eq!($rt; made.as_slice(), whole);
+        same($rt, made.as_slice(), whole);
         let copied = told!($rt, $requests, 1, <$Owned>::from_slice($alloc, whole))?;
-        assert_eq!($rt; copied.as_slice(), whole);
+        same($rt, copied.as_slice(), whole);
         let cloned = told!(
             $rt,
             $requests,
             1,
             copied.clone(),
             Error::OutOfMemory,
-            assert_eq!($rt; copied.as_slice(), whole)
+            same($rt, copied.as_slice(), whole)
         )?;
-        assert_eq!($rt; cloned.as_slice(), whole);
+        same($rt, cloned.as_slice(), whole);
         let two = [1, 2].as_slice();
         let mut owned = <$Owned>::new(full($rt, $alloc, &mut $requests, two)?);
         told!(
@@ -34,9 +34,9 @@ macro_rules! owned_calls {
             1,
             owned.push(3),
             Error::OutOfMemory,
-            assert_eq!($rt; owned.as_slice(), two)
+            same($rt, owned.as_slice(), two)
         )?;
-        assert_eq!($rt; owned.as_slice(), whole);
+        same($rt, owned.as_slice(), whole);
         $requests.end($rt);
     };
 }

@@ -1,7 +1,7 @@
 //! Input that is rejected for its bytes keeps its refusal, whatever a length in it declares: memory is requested
 //! only if the bytes that need it are there. A box of nothing makes a request of its own; the element that it would
 //! be is refused before the list requests room.
-use super::Requests;
+use super::{Requests, same};
 use std::alloc::Global;
 use std::process::Abort;
 use std::test::Fail;
@@ -24,7 +24,7 @@ fn is_not_split<T: DeserializeBytes>(
     error: Error,
 ) {
     let outcome = told!(rt, requests, count, T::tls_deserialize_bytes(alloc, bytes));
-    assert_eq!(rt; outcome.err(), Some(error));
+    same(rt, outcome.err(), Some(error));
 }
 
 // The reader path does.
@@ -45,7 +45,7 @@ fn is_not_read<T: Deserialize>(
         Error::OutOfMemory,
         source = bytes
     );
-    assert_eq!(rt; outcome.err(), Some(error));
+    same(rt, outcome.err(), Some(error));
 }
 
 #[test]

@@ -1,5 +1,5 @@
 //! A run of `tlsview`. Its sink takes no memory, so what is refused is the run's own request.
-use super::Requests;
+use super::{Requests, same};
 use std::test::Fail;
 use tls_codec::Outside;
 use tlsview_run::fault::ViewFault;
@@ -24,12 +24,12 @@ fn a_view(rt: HostRuntime) -> Result<(), Fail> {
         ),
         ViewFault::Memory,
         {
-            assert_eq!(rt; out, [0; 64]);
+            same(&rt, out, [0; 64]);
             input = text;
         }
     );
-    assert_eq!(rt; outcome, Ok(true));
-    assert_eq!(rt; out.get(..lines.len()), Some(lines));
+    same(&rt, outcome, Ok(true));
+    same(&rt, out.get(..lines.len()), Some(lines));
     requests.end(&rt);
     Ok(())
 }

@@ -3,6 +3,7 @@ ghost use Rattle.std.specs.Prelude.{◌≡◌, true};
 ghost use Rattle.tls_codec.specs.Errors.{InvalidInput};
 ghost use Rattle.tls_codec.specs.OwnMessages.{Empty};
 
+use crate::tests::same;
 use std::alloc::Global;
 use std::test::Fail;
 use tls_codec::{Error, Serialize, SerializeBytes, Sink, Size, lists};
@@ -55,14 +56,14 @@ impl SerializeBytes for Huge {
 fn lists_longer_than_any_length(rt: HostRuntime) -> Result<(), Fail> {
     let too_long = Err(Error::InvalidVectorLength);
     let list = [Huge, Huge];
-    assert_eq!(rt; list.as_slice().tls_serialized_len(), usize::MAX);
-    assert_eq!(rt; lists::content_len(&list), too_long);
+    same(&rt, list.as_slice().tls_serialized_len(), usize::MAX);
+    same(&rt, lists::content_len(&list), too_long);
     let mut out = [0xaa, 0xbb].to_vec(rt.alloc())?;
-    assert_eq!(rt; list.as_slice().tls_serialize(&mut out), too_long);
-    assert_eq!(rt; out.as_slice(), [0xaa, 0xbb].as_slice());
+    same(&rt, list.as_slice().tls_serialize(&mut out), too_long);
+    same(&rt, out.as_slice(), [0xaa, 0xbb].as_slice());
     let refused = Err(Error::InvalidInput);
-    assert_eq!(rt; list.as_slice().tls_serialize_into(&mut out), refused);
-    assert_eq!(rt; out.as_slice(), [0xaa, 0xbb].as_slice());
+    same(&rt, list.as_slice().tls_serialize_into(&mut out), refused);
+    same(&rt, out.as_slice(), [0xaa, 0xbb].as_slice());
     Ok(())
 }
 
@@ -70,11 +71,12 @@ fn lists_longer_than_any_length(rt: HostRuntime) -> Result<(), Fail> {
 #[test]
 fn a_refused_part_comes_after_what_was_sent(rt: HostRuntime) {
     let mut sink = Vec::new(rt.alloc());
-    assert_eq!(rt;
+    same(
+        &rt,
         (7u8, Huge).tls_serialize(&mut sink),
-        Err(Error::InvalidInput)
+        Err(Error::InvalidInput),
     );
-    assert_eq!(rt; sink.as_slice(), [7].as_slice());
+    same(&rt, sink.as_slice(), [7].as_slice());
 }
 
 #[test]
@@ -83,14 +85,14 @@ fn a_refused_element_leaves_the_vector(rt: HostRuntime) -> Result<(), Fail> {
     let refused = Err(Error::InvalidInput);
     let list = [None, Some(Huge)];
     let mut out = [0xaa, 0xbb].to_vec(alloc)?;
-    assert_eq!(rt; lists::append(&mut out, &list), refused);
-    assert_eq!(rt; out.as_slice(), [0xaa, 0xbb].as_slice());
-    assert_eq!(rt; lists::append_bytes(alloc, &mut out, &list), refused);
-    assert_eq!(rt; out.as_slice(), [0xaa, 0xbb].as_slice());
-    assert_eq!(rt; (7u8, Huge).tls_serialize_into(&mut out), refused);
-    assert_eq!(rt; out.as_slice(), [0xaa, 0xbb].as_slice());
-    assert_eq!(rt; (7u8, 8u8, Huge).tls_serialize_into(&mut out), refused);
-    assert_eq!(rt; out.as_slice(), [0xaa, 0xbb].as_slice());
+    same(&rt, lists::append(&mut out, &list), refused);
+    same(&rt, out.as_slice(), [0xaa, 0xbb].as_slice());
+    same(&rt, lists::append_bytes(alloc, &mut out, &list), refused);
+    same(&rt, out.as_slice(), [0xaa, 0xbb].as_slice());
+    same(&rt, (7u8, Huge).tls_serialize_into(&mut out), refused);
+    same(&rt, out.as_slice(), [0xaa, 0xbb].as_slice());
+    same(&rt, (7u8, 8u8, Huge).tls_serialize_into(&mut out), refused);
+    same(&rt, out.as_slice(), [0xaa, 0xbb].as_slice());
     Ok(())
 }
 
@@ -102,13 +104,13 @@ fn appended_whole_or_not_at_all(rt: HostRuntime) {
     };
     match (7u8, [1u16, 2].as_slice(), "é").tls_serialize_into(&mut out) {
         Ok(count) => {
-            assert_eq!(rt; count, 9);
+            same(&rt, count, 9);
             let whole = [0xaa, 0xbb, 7, 4, 0, 1, 0, 2, 2, 0xc3, 0xa9];
-            assert_eq!(rt; out.as_slice(), whole.as_slice());
+            same(&rt, out.as_slice(), whole.as_slice());
         }
         Err(error) => {
-            assert_eq!(rt; error, Error::OutOfMemory);
-            assert_eq!(rt; out.as_slice(), [0xaa, 0xbb].as_slice());
+            same(&rt, error, Error::OutOfMemory);
+            same(&rt, out.as_slice(), [0xaa, 0xbb].as_slice());
         }
     }
 }
@@ -116,11 +118,12 @@ fn appended_whole_or_not_at_all(rt: HostRuntime) {
 #[test]
 fn engines_append(rt: HostRuntime) -> Result<(), Fail> {
     let mut out = [0xee].to_vec(rt.alloc())?;
-    assert_eq!(rt; lists::append(&mut out, &[1u16, 2]), Ok(4));
-    assert_eq!(rt;
+    same(&rt, lists::append(&mut out, &[1u16, 2]), Ok(4));
+    same(
+        &rt,
         lists::append_bytes(rt.alloc(), &mut out, &[Some(3u8), None]),
-        Ok(3)
+        Ok(3),
     );
-    assert_eq!(rt; out.as_slice(), [0xee, 0, 1, 0, 2, 1, 3, 0].as_slice());
+    same(&rt, out.as_slice(), [0xee, 0, 1, 0, 2, 1, 3, 0].as_slice());
     Ok(())
 }

@@ -1,6 +1,7 @@
 //! What is cleared, and when.
 ghost use Rattle.std.specs.Prelude.{⊤};
 
+use crate::tests::same;
 use std::alloc::Global;
 use std::cell::Cell;
 use std::test::Fail;
@@ -35,13 +36,13 @@ fn drop_without_zeroize(rt: HostRuntime) -> Result<(), Fail> {
     let alloc = rt.alloc();
     let count = Cell::new(0);
     drop(SecretTlsVecU8::new(three(alloc, &count)?));
-    assert_eq!(rt; count.replace(0), 3);
+    same(&rt, count.replace(0), 3);
     drop(SecretTlsVecU16::new(three(alloc, &count)?));
-    assert_eq!(rt; count.replace(0), 3);
+    same(&rt, count.replace(0), 3);
     drop(SecretTlsVecU24::new(three(alloc, &count)?));
-    assert_eq!(rt; count.replace(0), 3);
+    same(&rt, count.replace(0), 3);
     drop(SecretTlsVecU32::new(three(alloc, &count)?));
-    assert_eq!(rt; count.replace(0), 3);
+    same(&rt, count.replace(0), 3);
     Ok(())
 }
 
@@ -53,11 +54,11 @@ fn elements_that_are_taken_out_are_not_cleared(rt: HostRuntime) -> Result<(), Fa
     drop(SecretTlsVecU16::new(three(alloc, &count)?).into_vec());
     drop(SecretTlsVecU24::new(three(alloc, &count)?).into_vec());
     drop(SecretTlsVecU32::new(three(alloc, &count)?).into_vec());
-    assert_eq!(rt; count.get(), 0);
+    same(&rt, count.get(), 0);
     let probes: Vec<Probe> = SecretTlsVecU8::new(three(alloc, &count)?).into();
-    assert_eq!(rt; probes.len(), 3);
+    same(&rt, probes.len(), 3);
     drop(probes);
-    assert_eq!(rt; count.get(), 0);
+    same(&rt, count.get(), 0);
     Ok(())
 }
 
@@ -67,12 +68,12 @@ fn elements_are_cleared_once(rt: HostRuntime) -> Result<(), Fail> {
     let count = Cell::new(0);
     let mut probes = three(alloc, &count)?;
     probes.zeroize();
-    assert_eq!(rt; (probes.len(), count.replace(0)), (0, 3));
+    same(&rt, (probes.len(), count.replace(0)), (0, 3));
     let mut list = SecretTlsVecU8::new(three(alloc, &count)?);
     list.zeroize();
-    assert_eq!(rt; (list.len(), count.get()), (0, 3));
+    same(&rt, (list.len(), count.get()), (0, 3));
     drop(list);
-    assert_eq!(rt; count.get(), 3);
+    same(&rt, count.get(), 3);
     Ok(())
 }
 
@@ -84,18 +85,18 @@ fn values_that_are_cleared(rt: HostRuntime) -> Result<(), Fail> {
     b.zeroize();
     c.zeroize();
     d.zeroize();
-    assert_eq!(rt; (a, b, c, d), (0, 0, 0, 0));
+    same(&rt, (a, b, c, d), (0, 0, 0, 0));
     let mut bytes = [7u8; 3];
     bytes.zeroize();
-    assert_eq!(rt; bytes, [0, 0, 0]);
+    same(&rt, bytes, [0, 0, 0]);
     let mut numbers = [7u32, 8].to_vec(alloc)?;
     numbers.zeroize();
-    assert_eq!(rt; numbers.len(), 0);
+    same(&rt, numbers.len(), 0);
     let mut bytes = VLBytes::from_array(alloc, &[1, 2])?;
     bytes.zeroize();
-    assert_eq!(rt; bytes.as_slice(), [].as_slice());
+    same(&rt, bytes.as_slice(), [].as_slice());
     let mut bytes = VLByteVec::from_array(alloc, &[1, 2])?;
     bytes.zeroize();
-    assert_eq!(rt; bytes.as_slice(), [].as_slice());
+    same(&rt, bytes.as_slice(), [].as_slice());
     Ok(())
 }

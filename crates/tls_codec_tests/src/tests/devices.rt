@@ -1,4 +1,5 @@
 //! Each type from a source, and into a sink, that fails at each of its calls in turn.
+use crate::tests::{same, same_at};
 use std::alloc::Global;
 use std::process::Abort;
 use std::test::Fail;
@@ -25,7 +26,7 @@ fn is_not_read<T: Deserialize>(rt: &impl Abort, alloc: Global, bytes: &[u8]) {
         for at in 1..=bytes.len() {
             let mut source = Failing::new(Drip::new(bytes), at as u64, 1, fault);
             let found = T::tls_deserialize(alloc, &mut source).err();
-            assert_eq!(rt; found, Some(error), "at {at} of {bytes:?}");
+            same_at(rt, bytes, found, Some(error));
         }
     }
 }
@@ -41,9 +42,9 @@ fn is_not_written<T: Serialize>(
         for sent in 0..bytes.len() {
             let trickle = Trickle::new(Vec::new(alloc));
             let mut sink = Failing::new(trickle, sent as u64 + 1, 1, fault);
-            assert_eq!(rt; value.tls_serialize(&mut sink), Err(error), "after {sent}");
+            same_at(rt, sent, value.tls_serialize(&mut sink), Err(error));
             let received = sink.into_inner().into_inner();
-            assert_eq!(rt; received.as_slice(), &bytes[..sent]);
+            same(rt, received.as_slice(), &bytes[..sent]);
         }
     }
     Ok(())

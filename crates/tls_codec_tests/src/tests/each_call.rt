@@ -1,5 +1,6 @@
 //! What each call makes of a value or of bytes.
 use super::outside::{is_read_outside, is_refused_outside};
+use crate::tests::{holds, same};
 use std::alloc::{AllocError, Global};
 use std::hash::{DefaultHasher, Hash, Hasher};
 use std::process::Abort;
@@ -27,20 +28,20 @@ pub(super) fn is_written<T: Serialize>(
     value: &T,
     bytes: &[u8],
 ) -> Result<(), Fail> {
-    assert_eq!(rt; value.tls_serialized_len(), bytes.len());
+    same(rt, value.tls_serialized_len(), bytes.len());
     let detached = value.tls_serialize_detached(alloc)?;
-    assert_eq!(rt; detached.as_slice(), bytes);
+    same(rt, detached.as_slice(), bytes);
     let mut received = Vec::new(alloc);
     let count = value.tls_serialize(&mut received)?;
-    assert_eq!(rt; count, bytes.len());
-    assert_eq!(rt; received.as_slice(), bytes);
+    same(rt, count, bytes.len());
+    same(rt, received.as_slice(), bytes);
     for front in [[].as_slice(), &[0xee]] {
         let mut out = front.to_vec(alloc)?;
         let count = value.tls_serialize_into(&mut out)?;
-        assert_eq!(rt; count, bytes.len());
+        same(rt, count, bytes.len());
         let mut whole = front.to_vec(alloc)?;
         whole.extend_from_slice(bytes)?;
-        assert_eq!(rt; out.as_slice(), whole.as_slice());
+        same(rt, out.as_slice(), whole.as_slice());
     }
     Ok(())
 }
@@ -54,7 +55,7 @@ pub(super) fn is_written_alone<T: Serialize + SerializeBytes>(
 ) -> Result<(), Fail> {
     is_written(rt, alloc, value, bytes)?;
     let alone = value.tls_serialize_bytes(alloc)?;
-    assert_eq!(rt; alone.as_slice(), bytes);
+    same(rt, alone.as_slice(), bytes);
     Ok(())
 }
 
@@ -67,15 +68,15 @@ pub(super) fn is_too_long<T: Serialize>(
     announced: usize,
     sent: &[u8],
 ) -> Result<(), Fail> {
-    assert_eq!(rt; value.tls_serialized_len(), announced);
+    same(rt, value.tls_serialized_len(), announced);
     let too_long = Some(Error::InvalidVectorLength);
     let mut received = Vec::new(alloc);
-    assert_eq!(rt; value.tls_serialize(&mut received).err(), too_long);
-    assert_eq!(rt; received.as_slice(), sent);
+    same(rt, value.tls_serialize(&mut received).err(), too_long);
+    same(rt, received.as_slice(), sent);
     let mut out = [0xaa, 0xbb].to_vec(alloc)?;
-    assert_eq!(rt; value.tls_serialize_into(&mut out).err(), too_long);
-    assert_eq!(rt; out.as_slice(), [0xaa, 0xbb].as_slice());
-    assert_eq!(rt; value.tls_serialize_detached(alloc).err(), too_long);
+    same(rt, value.tls_serialize_into(&mut out).err(), too_long);
+    same(rt, out.as_slice(), [0xaa, 0xbb].as_slice());
+    same(rt, value.tls_serialize_detached(alloc).err(), too_long);
     Ok(())
 }
 
@@ -89,7 +90,7 @@ pub(super) fn is_too_long_alone<T: Serialize + SerializeBytes>(
 ) -> Result<(), Fail> {
     is_too_long(rt, alloc, value, announced, sent)?;
     let alone = value.tls_serialize_bytes(alloc).err();
-    assert_eq!(rt; alone, Some(Error::InvalidVectorLength));
+    same(rt, alone, Some(Error::InvalidVectorLength));
     Ok(())
 }
 
@@ -101,8 +102,8 @@ pub(super) fn is_left<R: Source>(
     rest: &[u8],
 ) -> Result<(), Fail> {
     let left = read_bytes_bounded(alloc, source, rest.len())?;
-    assert_eq!(rt; left.as_slice(), rest);
-    assert_eq!(rt; source.pull(&mut [0]), Ok(0));
+    same(rt, left.as_slice(), rest);
+    same(rt, source.pull(&mut [0]), Ok(0));
     Ok(())
 }
 
@@ -115,12 +116,12 @@ pub(super) fn is_read_at_once<T: Deserialize + DeserializeBytes + PartialEq>(
     rest: &[u8],
 ) -> Result<(), Fail> {
     let (found, left) = T::tls_deserialize_bytes(alloc, bytes)?;
-    assert!(rt; found == *value);
-    assert_eq!(rt; left, rest);
+    holds(rt, found == *value);
+    same(rt, left, rest);
     let mut source = bytes;
     let found = T::tls_deserialize(alloc, &mut source)?;
-    assert!(rt; found == *value);
-    assert_eq!(rt; source, rest);
+    holds(rt, found == *value);
+    same(rt, source, rest);
     Ok(())
 }
 
@@ -135,7 +136,7 @@ pub(super) fn is_read<T: Deserialize + DeserializeBytes + PartialEq>(
     is_read_at_once(rt, alloc, bytes, value, rest)?;
     let mut drip = Drip::new(bytes);
     let found = T::tls_deserialize(alloc, &mut drip)?;
-    assert!(rt; found == *value);
+    holds(rt, found == *value);
     is_left(rt, alloc, &mut drip, rest)?;
     is_read_outside(rt, alloc, bytes, value, rest)
 }
@@ -148,16 +149,16 @@ pub(super) fn is_read_whole<T: Deserialize + DeserializeBytes + PartialEq>(
     value: &T,
 ) -> Result<(), Fail> {
     is_read(rt, alloc, bytes, value, &[])?;
-    assert!(rt; T::tls_deserialize_exact_bytes(alloc, bytes)? == *value);
-    assert!(rt; T::tls_deserialize_exact(alloc, bytes)? == *value);
+    holds(rt, T::tls_deserialize_exact_bytes(alloc, bytes)? == *value);
+    holds(rt, T::tls_deserialize_exact(alloc, bytes)? == *value);
     let mut longer = bytes.to_vec(alloc)?;
     longer.push(0xee)?;
     is_read(rt, alloc, &longer, value, &[0xee])?;
     let trailing = Some(Error::TrailingData);
     let refused = T::tls_deserialize_exact_bytes(alloc, &longer).err();
-    assert_eq!(rt; refused, trailing);
+    same(rt, refused, trailing);
     let refused = T::tls_deserialize_exact(alloc, &longer).err();
-    assert_eq!(rt; refused, trailing);
+    same(rt, refused, trailing);
     Ok(())
 }
 
@@ -199,15 +200,15 @@ pub(super) fn is_refused_by_each<T: Deserialize + DeserializeBytes>(
     by_reader: Error,
 ) {
     let refused = T::tls_deserialize_bytes(alloc, bytes).err();
-    assert_eq!(rt; refused, Some(by_slice));
+    same(rt, refused, Some(by_slice));
     let refused = T::tls_deserialize_exact_bytes(alloc, bytes).err();
-    assert_eq!(rt; refused, Some(by_slice));
+    same(rt, refused, Some(by_slice));
     let mut source = bytes;
     let refused = T::tls_deserialize(alloc, &mut source).err();
-    assert_eq!(rt; refused, Some(by_reader));
+    same(rt, refused, Some(by_reader));
     let refused = T::tls_deserialize_exact(alloc, bytes).err();
-    assert_eq!(rt; refused, Some(by_reader));
+    same(rt, refused, Some(by_reader));
     let refused = T::tls_deserialize(alloc, &mut Drip::new(bytes)).err();
-    assert_eq!(rt; refused, Some(by_reader));
+    same(rt, refused, Some(by_reader));
     is_refused_outside::<T>(rt, alloc, bytes, by_reader);
 }

@@ -9,6 +9,7 @@ mod vectors;
 use super::each_call::{
     filled, is_read_whole, is_refused, is_spelled, is_written, is_written_alone,
 };
+use crate::tests::same;
 use std::alloc::Global;
 use std::process::Abort;
 use std::test::Fail;
@@ -20,18 +21,18 @@ use tls_codec::{
 
 #[test]
 fn lengths_of_lengths(rt: HostRuntime) {
-    assert_eq!(rt; TlsVecU8::<u16>::len_len(), 1);
-    assert_eq!(rt; TlsVecU16::<u16>::len_len(), 2);
-    assert_eq!(rt; TlsVecU24::<u16>::len_len(), 3);
-    assert_eq!(rt; TlsVecU32::<u16>::len_len(), 4);
-    assert_eq!(rt; TlsByteVecU8::len_len(), 1);
-    assert_eq!(rt; TlsByteVecU16::len_len(), 2);
-    assert_eq!(rt; TlsByteVecU24::len_len(), 3);
-    assert_eq!(rt; TlsByteVecU32::len_len(), 4);
-    assert_eq!(rt; SecretTlsVecU8::<u16>::len_len(), 1);
-    assert_eq!(rt; SecretTlsVecU16::<u16>::len_len(), 2);
-    assert_eq!(rt; SecretTlsVecU24::<u16>::len_len(), 3);
-    assert_eq!(rt; SecretTlsVecU32::<u16>::len_len(), 4);
+    same(&rt, TlsVecU8::<u16>::len_len(), 1);
+    same(&rt, TlsVecU16::<u16>::len_len(), 2);
+    same(&rt, TlsVecU24::<u16>::len_len(), 3);
+    same(&rt, TlsVecU32::<u16>::len_len(), 4);
+    same(&rt, TlsByteVecU8::len_len(), 1);
+    same(&rt, TlsByteVecU16::len_len(), 2);
+    same(&rt, TlsByteVecU24::len_len(), 3);
+    same(&rt, TlsByteVecU32::len_len(), 4);
+    same(&rt, SecretTlsVecU8::<u16>::len_len(), 1);
+    same(&rt, SecretTlsVecU16::<u16>::len_len(), 2);
+    same(&rt, SecretTlsVecU24::<u16>::len_len(), 3);
+    same(&rt, SecretTlsVecU32::<u16>::len_len(), 4);
 }
 
 #[test]
@@ -67,15 +68,15 @@ fn are_written_in_a_row(
 ) -> Result<(), Fail> {
     let whole = [1, 0, 4, 0x4d, 0x58, 1, 0x63, 0, 0, 3, 0xff, 0x2a, 0x49];
     let mut sent = Vec::new(alloc);
-    assert_eq!(rt; 1u8.tls_serialize(&mut sent), Ok(1));
-    assert_eq!(rt; four.tls_serialize(&mut sent), Ok(6));
-    assert_eq!(rt; three.tls_serialize(&mut sent), Ok(6));
-    assert_eq!(rt; sent.as_slice(), whole.as_slice());
+    same(rt, 1u8.tls_serialize(&mut sent), Ok(1));
+    same(rt, four.tls_serialize(&mut sent), Ok(6));
+    same(rt, three.tls_serialize(&mut sent), Ok(6));
+    same(rt, sent.as_slice(), whole.as_slice());
     let mut appended = Vec::new(alloc);
-    assert_eq!(rt; 1u8.tls_serialize_into(&mut appended), Ok(1));
-    assert_eq!(rt; four.tls_serialize_into(&mut appended), Ok(6));
-    assert_eq!(rt; three.tls_serialize_into(&mut appended), Ok(6));
-    assert_eq!(rt; appended.as_slice(), whole.as_slice());
+    same(rt, 1u8.tls_serialize_into(&mut appended), Ok(1));
+    same(rt, four.tls_serialize_into(&mut appended), Ok(6));
+    same(rt, three.tls_serialize_into(&mut appended), Ok(6));
+    same(rt, appended.as_slice(), whole.as_slice());
     Ok(())
 }
 

@@ -1,4 +1,5 @@
 //! The laws over types. Each is called at one type, next to what it says of some bytes.
+use crate::tests::{holds, same};
 use std::alloc::Global;
 use std::process::Abort;
 use std::test::Fail;
@@ -16,7 +17,7 @@ fn is_equal_however_read<T: Deserialize + DeserializeBytes + PartialEq>(
 ) -> Result<(), Fail> {
     let (split, _) = T::tls_deserialize_bytes(alloc, bytes)?;
     let mut source = bytes;
-    assert!(rt; T::tls_deserialize(alloc, &mut source)? == split);
+    holds(rt, T::tls_deserialize(alloc, &mut source)? == split);
     Ok(())
 }
 
@@ -65,12 +66,12 @@ fn types_are_as_the_table_has_them(rt: HostRuntime) -> Result<(), Fail> {
     tls_codec_secret::laws::cleared_secret_vectors_are_empty::<u8, u16>();
     tls_codec_vl::laws::cleared_values_hold_nothing::<3, u16>();
     let alloc = rt.alloc();
-    assert_eq!(rt; [7u8; 3].tls_serialized_len(), 3);
-    assert_eq!(rt; Some(7u16).tls_serialized_len(), 3);
+    same(&rt, [7u8; 3].tls_serialized_len(), 3);
+    same(&rt, Some(7u16).tls_serialized_len(), 3);
     let list = TlsVecU16::new([7u16, 8].to_vec(alloc)?);
-    assert_eq!(rt; list.tls_serialized_len(), 6);
-    assert_eq!(rt; list[1], 8);
-    assert_eq!(rt; TlsSliceU16(list.as_slice()).tls_serialized_len(), 6);
+    same(&rt, list.tls_serialized_len(), 6);
+    same(&rt, list[1], 8);
+    same(&rt, TlsSliceU16(list.as_slice()).tls_serialized_len(), 6);
     Ok(())
 }
 
@@ -84,11 +85,11 @@ fn trailing_data_is_of_exact_forms_alone(rt: HostRuntime) -> Result<(), Fail> {
     let alloc = rt.alloc();
     let longer = [1, 0, 7, 9];
     let (found, rest) = <Option<u16>>::tls_deserialize_bytes(alloc, &longer)?;
-    assert_eq!(rt; found, Some(7));
-    assert_eq!(rt; rest, [9].as_slice());
+    same(&rt, found, Some(7));
+    same(&rt, rest, [9].as_slice());
     let found = <Option<u16>>::tls_deserialize_exact_bytes(alloc, &longer);
-    assert_eq!(rt; found, Err(Error::TrailingData));
+    same(&rt, found, Err(Error::TrailingData));
     let found = <Option<u16>>::tls_deserialize_exact(alloc, &longer);
-    assert_eq!(rt; found, Err(Error::TrailingData));
+    same(&rt, found, Err(Error::TrailingData));
     Ok(())
 }

@@ -1,5 +1,6 @@
 //! Length fields, and lengths that are put before what they count.
 use super::each_call::{filled, is_written_alone};
+use crate::tests::{holds, same};
 use std::alloc::Global;
 use std::process::Abort;
 use std::test::Fail;
@@ -12,23 +13,23 @@ fn is_spelled<F: LengthField>(
     length: usize,
     form: &[u8],
 ) -> Result<(), Fail> {
-    assert_eq!(rt; F::width(length), form.len());
+    same(rt, F::width(length), form.len());
     let Some(found) = F::form(length) else {
         return Err(Fail::from(Error::InvalidVectorLength));
     };
     let (bytes, at) = found;
-    assert_eq!(rt; &bytes[at..], form);
+    same(rt, &bytes[at..], form);
     let mut whole = form.to_vec(alloc)?;
     whole.extend_from_slice(&[0xee])?;
     let (split, rest) = F::split_length(&whole)?;
-    assert_eq!(rt; split, length);
-    assert_eq!(rt; rest, [0xee].as_slice());
+    same(rt, split, length);
+    same(rt, rest, [0xee].as_slice());
     let mut src = whole.as_slice();
-    assert_eq!(rt; F::read_length(&mut src), Ok(length));
-    assert_eq!(rt; src, [0xee].as_slice());
+    same(rt, F::read_length(&mut src), Ok(length));
+    same(rt, src, [0xee].as_slice());
     let mut cut = &form[..form.len().saturating_sub(1)];
-    assert!(rt; F::split_length(cut) == Err(Error::EndOfStream));
-    assert_eq!(rt; F::read_length(&mut cut), Err(Error::EndOfStream));
+    holds(rt, F::split_length(cut) == Err(Error::EndOfStream));
+    same(rt, F::read_length(&mut cut), Err(Error::EndOfStream));
     Ok(())
 }
 
@@ -52,11 +53,11 @@ fn lengths_are_spelled(rt: HostRuntime) -> Result<(), Fail> {
 
 #[test]
 fn long_lengths_have_no_spelling(rt: HostRuntime) {
-    assert!(rt; u8::form(256).is_none());
-    assert!(rt; u16::form(65_536).is_none());
-    assert!(rt; U24::form(16_777_216).is_none());
-    assert!(rt; u32::form(4_294_967_296).is_none());
-    assert!(rt; TlsVarInt::form(1_073_741_824).is_none());
+    holds(&rt, u8::form(256).is_none());
+    holds(&rt, u16::form(65_536).is_none());
+    holds(&rt, U24::form(16_777_216).is_none());
+    holds(&rt, u32::form(4_294_967_296).is_none());
+    holds(&rt, TlsVarInt::form(1_073_741_824).is_none());
 }
 
 // A list whose one element is a list of so many zeros. The gap for the outer length has two bytes;

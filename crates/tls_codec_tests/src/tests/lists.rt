@@ -4,6 +4,7 @@ use super::each_call::{
     is_written, is_written_alone,
 };
 use super::{NO_BYTES, NOT_FILLED, NOT_THERE};
+use crate::tests::{holds, same};
 use std::alloc::{AllocError, Global};
 use std::process::Abort;
 use std::test::Fail;
@@ -18,9 +19,9 @@ fn is_a_vector<T: SerializeBytes>(
     value: &T,
     bytes: &[u8],
 ) -> Result<(), Fail> {
-    assert_eq!(rt; value.tls_serialized_len(), bytes.len());
+    same(rt, value.tls_serialized_len(), bytes.len());
     let alone = value.tls_serialize_bytes(alloc)?;
-    assert_eq!(rt; alone.as_slice(), bytes);
+    same(rt, alone.as_slice(), bytes);
     Ok(())
 }
 
@@ -85,8 +86,8 @@ fn lists_of_elements_without_bytes(rt: HostRuntime) -> Result<(), Fail> {
     is_refused::<Vec<()>>(&rt, alloc, &[1], NO_BYTES);
     let mut turns = Turns::new();
     let refused = lists::from_slice::<()>(alloc, &[0xff], 1, &mut turns);
-    assert_eq!(rt; refused.err(), Some(NO_BYTES));
-    assert_eq!(rt; turns.count(), 1);
+    same(&rt, refused.err(), Some(NO_BYTES));
+    same(&rt, turns.count(), 1);
     Ok(())
 }
 
@@ -126,8 +127,8 @@ fn lists_in_lists_one_byte_a_pull(rt: HostRuntime) -> Result<(), Fail> {
     let mut source = Drip::new(&bytes);
     let lists = <Vec<Vec<u16>>>::tls_deserialize(rt.alloc(), &mut source)?;
     assert_eq!(rt; lists.len(), 2);
-    assert_eq!(rt; lists[0].as_slice(), [1].as_slice());
-    assert_eq!(rt; lists[1].as_slice(), [2].as_slice());
+    same(&rt, lists[0].as_slice(), [1].as_slice());
+    same(&rt, lists[1].as_slice(), [2].as_slice());
     is_left(&rt, rt.alloc(), &mut source, &[0xee])?;
     is_spelled_alone(&rt, rt.alloc(), &lists, &bytes[..7])
 }
@@ -153,7 +154,7 @@ fn lists_eight_deep(rt: HostRuntime) -> Result<(), Fail> {
     let two = only(alloc, only(alloc, 5u8)?)?;
     let four = only(alloc, only(alloc, two)?)?;
     let six = only(alloc, only(alloc, four)?)?;
-    assert!(rt; lists == only(alloc, only(alloc, six)?)?);
+    holds(&rt, lists == only(alloc, only(alloc, six)?)?);
     is_spelled_alone(&rt, alloc, &lists, &bytes)?;
     let ends = Error::EndOfStream;
     for (wrong, by_slice) in [
@@ -182,20 +183,20 @@ fn elements_are_read(rt: HostRuntime) -> Result<(), Fail> {
     let bytes = [0, 1, 0, 2, 0xee];
     let mut turns = Turns::new();
     let (elements, rest) = lists::from_slice::<u16>(alloc, &bytes, 4, &mut turns)?;
-    assert_eq!(rt; elements.as_slice(), [1, 2].as_slice());
-    assert_eq!(rt; rest, [0xee].as_slice());
+    same(&rt, elements.as_slice(), [1, 2].as_slice());
+    same(&rt, rest, [0xee].as_slice());
     let mut source = bytes.as_slice();
     let elements = lists::from_reader::<u16, &[u8]>(alloc, &mut source, 4, &mut turns)?;
-    assert_eq!(rt; elements.as_slice(), [1, 2].as_slice());
-    assert_eq!(rt; source, [0xee].as_slice());
-    assert_eq!(rt; turns.count(), 4);
+    same(&rt, elements.as_slice(), [1, 2].as_slice());
+    same(&rt, source, [0xee].as_slice());
+    same(&rt, turns.count(), 4);
     Ok(())
 }
 
 #[test]
 fn elements_are_written(rt: HostRuntime) {
-    assert_eq!(rt; lists::content_len(&[1u16, 2]), Ok(4));
+    same(&rt, lists::content_len(&[1u16, 2]), Ok(4));
     let mut out = Vec::new(rt.alloc());
-    assert_eq!(rt; lists::write(&mut out, &[1u16, 2]), Ok(4));
-    assert_eq!(rt; out.as_slice(), [0, 1, 0, 2].as_slice());
+    same(&rt, lists::write(&mut out, &[1u16, 2]), Ok(4));
+    same(&rt, out.as_slice(), [0, 1, 0, 2].as_slice());
 }

@@ -1,5 +1,6 @@
 //! Variable-length integers (varints), each in its least width and in no wider one.
 use super::each_call::{is_refused, is_spelled_alone};
+use crate::tests::same;
 use std::test::Fail;
 use tls_codec::{Error, TlsVarInt};
 
@@ -24,9 +25,10 @@ fn a_variable_length_integer_has_its_least_bytes(rt: HostRuntime) -> Result<(), 
     ] {
         is_spelled_alone(&rt, rt.alloc(), &TlsVarInt::try_from(number)?, bytes)?;
     }
-    assert_eq!(rt;
+    same(
+        &rt,
         TlsVarInt::try_from(TlsVarInt::MAX + 1),
-        Err(Error::InvalidVectorLength)
+        Err(Error::InvalidVectorLength),
     );
     Ok(())
 }

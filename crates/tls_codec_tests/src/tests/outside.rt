@@ -1,5 +1,6 @@
 //! Any reader of std as a source. It tells no byte to come, and gives its bytes in pieces.
 use super::each_call::is_left;
+use crate::tests::{same, same_at};
 use std::alloc::Global;
 use std::io;
 use std::io::Read;
@@ -40,7 +41,7 @@ pub(super) fn is_read_outside<T: Deserialize + PartialEq>(
     for most in PIECES {
         let mut source = in_pieces(bytes, most);
         let found = T::tls_deserialize(alloc, &mut source)?;
-        assert!(rt; found == *value, "pieces of {most}");
+        same_at(rt, most, found == *value, true);
         is_left(rt, alloc, &mut source, rest)?;
     }
     Ok(())
@@ -55,7 +56,7 @@ pub(super) fn is_refused_outside<T: Deserialize>(
 ) {
     for most in PIECES {
         let refused = T::tls_deserialize(alloc, &mut in_pieces(bytes, most)).err();
-        assert_eq!(rt; refused, Some(error), "pieces of {most}");
+        same_at(rt, most, refused, Some(error));
     }
 }
 
@@ -69,16 +70,24 @@ fn a_value_and_the_end_of_its_source(rt: HostRuntime) {
         (&[], Err(Error::EndOfStream)),
     ] {
         let mut source = bytes;
-        assert_eq!(rt; deserialize_to_end::<u16, _>(alloc, &mut source), answer);
+        same(
+            &rt,
+            deserialize_to_end::<u16, _>(alloc, &mut source),
+            answer,
+        );
         for most in PIECES {
             let mut source = in_pieces(bytes, most);
-            assert_eq!(rt; deserialize_to_end::<u16, _>(alloc, &mut source), answer);
+            same(
+                &rt,
+                deserialize_to_end::<u16, _>(alloc, &mut source),
+                answer,
+            );
         }
     }
     let mut source = [0, 7, 1, 2].as_slice();
     let refused = deserialize_to_end::<u16, _>(alloc, &mut source);
-    assert_eq!(rt; refused, Err(Error::TrailingData));
-    assert_eq!(rt; source, [2].as_slice());
+    same(&rt, refused, Err(Error::TrailingData));
+    same(&rt, source, [2].as_slice());
 }
 
 // The value comes by the first two calls, and the end is asked for by the third.
@@ -93,7 +102,7 @@ fn an_end_that_is_not_known(rt: HostRuntime) {
     ] {
         let mut source = Failing::new(Drip::new(&[0, 7]), 3, times, fault);
         let found = deserialize_to_end::<u16, _>(rt.alloc(), &mut source);
-        assert_eq!(rt; found, answer, "{fault:?} {times} times");
+        same_at(&rt, times, found, answer);
     }
 }
 
@@ -101,7 +110,7 @@ fn an_end_that_is_not_known(rt: HostRuntime) {
 fn the_end_of_a_reader(rt: HostRuntime) {
     for most in PIECES {
         let mut source = in_pieces(&[1], most);
-        assert_eq!(rt; expect_end(&mut source), Err(Error::TrailingData));
-        assert_eq!(rt; expect_end(&mut source), Ok(()));
+        same(&rt, expect_end(&mut source), Err(Error::TrailingData));
+        same(&rt, expect_end(&mut source), Ok(()));
     }
 }

@@ -1,6 +1,7 @@
 //! Numbers, references, arrays, options, products, boxes and the exact forms.
 use super::OTHER_TAG;
 use super::each_call::{is_refused, is_spelled, is_spelled_alone, is_written, is_written_alone};
+use crate::tests::same;
 use std::marker::PhantomData;
 use std::test::Fail;
 use tls_codec::{Deserialize, DeserializeBytes, Error, Lent2, Lent9, Serialize, U24};
@@ -21,8 +22,8 @@ fn numbers(rt: HostRuntime) -> Result<(), Fail> {
     is_refused::<U24>(&rt, alloc, &bytes[..2], Error::EndOfStream);
     is_refused::<u32>(&rt, alloc, &bytes[..3], Error::EndOfStream);
     is_refused::<u64>(&rt, alloc, &bytes[..7], Error::EndOfStream);
-    assert_eq!(rt; U24::try_from(16_777_216), Err(Error::LibraryError));
-    assert_eq!(rt; usize::from(U24::MAX), 16_777_215);
+    same(&rt, U24::try_from(16_777_216), Err(Error::LibraryError));
+    same(&rt, usize::from(U24::MAX), 16_777_215);
     Ok(())
 }
 
@@ -44,19 +45,19 @@ fn references(rt: HostRuntime) -> Result<(), Fail> {
 #[test]
 fn numbers_in_a_row(rt: HostRuntime) -> Result<(), Fail> {
     let mut out = Vec::new(rt.alloc());
-    assert_eq!(rt; 77u8.tls_serialize(&mut out)?, 1);
-    assert_eq!(rt; 88u8.tls_serialize(&mut out)?, 1);
-    assert_eq!(rt; 355u16.tls_serialize(&mut out)?, 2);
-    assert_eq!(rt; U24::try_from(65_609)?.tls_serialize(&mut out)?, 3);
+    same(&rt, 77u8.tls_serialize(&mut out)?, 1);
+    same(&rt, 88u8.tls_serialize(&mut out)?, 1);
+    same(&rt, 355u16.tls_serialize(&mut out)?, 2);
+    same(&rt, U24::try_from(65_609)?.tls_serialize(&mut out)?, 3);
     let bytes = [0x4d, 0x58, 0x01, 0x63, 0x01, 0x00, 0x49];
-    assert_eq!(rt; out.as_slice(), bytes.as_slice());
+    same(&rt, out.as_slice(), bytes.as_slice());
     let mut source = &bytes[1..];
-    assert_eq!(rt; u8::tls_deserialize(rt.alloc(), &mut source), Ok(88));
-    assert_eq!(rt; u16::tls_deserialize(rt.alloc(), &mut source), Ok(355));
-    assert_eq!(rt; source.len(), 3);
+    same(&rt, u8::tls_deserialize(rt.alloc(), &mut source), Ok(88));
+    same(&rt, u16::tls_deserialize(rt.alloc(), &mut source), Ok(355));
+    same(&rt, source.len(), 3);
     let (byte, rest) = u8::tls_deserialize_bytes(rt.alloc(), &bytes[1..])?;
     let (short, rest) = u16::tls_deserialize_bytes(rt.alloc(), rest)?;
-    assert_eq!(rt; (byte, short, rest.len()), (88, 355, 3));
+    same(&rt, (byte, short, rest.len()), (88, 355, 3));
     Ok(())
 }
 
@@ -93,10 +94,10 @@ fn products(rt: HostRuntime) -> Result<(), Fail> {
     is_spelled(&rt, alloc, &(), &[])?;
     is_written_alone::<PhantomData<u8>>(&rt, alloc, &PhantomData, &[])?;
     let (_, rest) = PhantomData::<u8>::tls_deserialize_bytes(alloc, &[0x07])?;
-    assert_eq!(rt; rest, [0x07].as_slice());
+    same(&rt, rest, [0x07].as_slice());
     let mut source = [0x07u8].as_slice();
     let _ = PhantomData::<u8>::tls_deserialize(alloc, &mut source)?;
-    assert_eq!(rt; source, [0x07].as_slice());
+    same(&rt, source, [0x07].as_slice());
     Ok(())
 }
 
@@ -146,10 +147,14 @@ fn exact_forms(rt: HostRuntime) {
         ([0x00].as_slice(), Err(Error::EndOfStream)),
     ];
     for (bytes, answer) in table {
-        assert_eq!(rt; u16::tls_deserialize_exact(alloc, bytes), answer);
-        assert_eq!(rt; u16::tls_deserialize_exact_bytes(alloc, bytes), answer);
+        same(&rt, u16::tls_deserialize_exact(alloc, bytes), answer);
+        same(&rt, u16::tls_deserialize_exact_bytes(alloc, bytes), answer);
     }
     let trailing = Err(Error::TrailingData);
-    assert_eq!(rt; <()>::tls_deserialize_exact(alloc, &[0x00]), trailing);
-    assert_eq!(rt; <()>::tls_deserialize_exact_bytes(alloc, &[0x00]), trailing);
+    same(&rt, <()>::tls_deserialize_exact(alloc, &[0x00]), trailing);
+    same(
+        &rt,
+        <()>::tls_deserialize_exact_bytes(alloc, &[0x00]),
+        trailing,
+    );
 }

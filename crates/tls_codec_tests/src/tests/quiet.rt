@@ -6,6 +6,7 @@ ghost use Rattle.std.proofs.lemmas.Grind.{common_steps};
 ghost use Rattle.tls_codec.specs.Devices.{no_counts, stay};
 ghost use Rattle.tls_codec.specs.Spellings.{Refuses, bytes, list, number, pair};
 
+use crate::tests::{holds, same};
 use std::alloc::Global;
 use tls_codec::{Deserialize, Error, Fault, Source, VLBytes};
 
@@ -85,20 +86,20 @@ fn quiet_sources_are_refused(rt: HostRuntime) {
     let alloc = rt.alloc();
     let ends = Some(Error::EndOfStream);
     let mut source = Quiet { left: &[1] };
-    assert_eq!(rt; short(alloc, &mut source).err(), ends);
-    assert!(rt; source.left.is_empty());
+    same(&rt, short(alloc, &mut source).err(), ends);
+    holds(&rt, source.left.is_empty());
     let mut source = Quiet { left: &[1, 2] };
-    assert_eq!(rt; two(alloc, &mut source).err(), ends);
-    assert!(rt; source.left.is_empty());
+    same(&rt, two(alloc, &mut source).err(), ends);
+    holds(&rt, source.left.is_empty());
     let mut source = Quiet {
         left: &[3, 0, 1, 0, 2],
     };
-    assert_eq!(rt; shorts(alloc, &mut source).err(), ends);
-    assert_eq!(rt; source.left, [0, 2].as_slice());
+    same(&rt, shorts(alloc, &mut source).err(), ends);
+    same(&rt, source.left, [0, 2].as_slice());
     let mut source = Quiet { left: &[2, 1] };
-    assert_eq!(rt; content(alloc, &mut source).err(), ends);
-    assert!(rt; source.left.is_empty());
+    same(&rt, content(alloc, &mut source).err(), ends);
+    holds(&rt, source.left.is_empty());
     let mut source = Quiet { left: &[0, 7, 8] };
-    assert_eq!(rt; short(alloc, &mut source), Ok(7));
-    assert_eq!(rt; source.left, [8].as_slice());
+    same(&rt, short(alloc, &mut source), Ok(7));
+    same(&rt, source.left, [8].as_slice());
 }

@@ -2,6 +2,7 @@
 use super::each_call::is_refused;
 use super::outside::{PIECES, in_pieces};
 use super::{NO_BYTES, NOT_FILLED, OTHER_TAG};
+use crate::tests::{holds, same, same_at};
 use std::alloc::Global;
 use std::process::Abort;
 use tls_codec::lists::{self, Turns};
@@ -30,19 +31,19 @@ pub(super) fn is_refused_after<T: Deserialize + DeserializeBytes>(
 ) {
     let mut turns = Turns::new();
     let refused = lists::from_slice::<T>(alloc, bytes, length, &mut turns);
-    assert_eq!(rt; refused.err(), Some(by_slice));
-    assert_eq!(rt; turns.count(), count);
+    same(rt, refused.err(), Some(by_slice));
+    same(rt, turns.count(), count);
     let mut source = bytes;
     let mut turns = Turns::new();
     let refused = lists::from_reader::<T, &[u8]>(alloc, &mut source, length, &mut turns);
-    assert_eq!(rt; refused.err(), Some(by_reader));
-    assert_eq!(rt; turns.count(), count);
+    same(rt, refused.err(), Some(by_reader));
+    same(rt, turns.count(), count);
     for most in PIECES {
         let mut source = in_pieces(bytes, most);
         let mut turns = Turns::new();
         let refused = lists::from_reader::<T, _>(alloc, &mut source, length, &mut turns);
-        assert_eq!(rt; refused.err(), Some(by_reader), "pieces of {most}");
-        assert_eq!(rt; turns.count(), count, "pieces of {most}");
+        same_at(rt, most, refused.err(), Some(by_reader));
+        same_at(rt, most, turns.count(), count);
     }
 }
 
@@ -55,10 +56,11 @@ fn turns_of_refused_elements(rt: HostRuntime) {
     is_refused_after::<()>(&rt, alloc, &[], 5, (NO_BYTES, NO_BYTES), 1);
     let mut turns = Turns::new();
     let found = lists::from_slice::<u8>(alloc, &[0xff], 0, &mut turns);
-    assert!(rt;
-        found.is_ok_and(|(elements, rest)| elements.is_empty() && rest == [0xff].as_slice())
+    holds(
+        &rt,
+        found.is_ok_and(|(elements, rest)| elements.is_empty() && rest == [0xff].as_slice()),
     );
-    assert_eq!(rt; turns.count(), 0);
+    same(&rt, turns.count(), 0);
 }
 
 // A body that requests the declared room runs out of memory.

@@ -2,6 +2,7 @@
 use super::NOT_FILLED;
 use super::each_call::is_left;
 use super::refusals::is_refused_after;
+use crate::tests::{holds, same};
 use std::alloc::Global;
 use std::process::Abort;
 use std::test::Fail;
@@ -18,30 +19,31 @@ fn is_a_run<T: Serialize + SerializeBytes + Deserialize + DeserializeBytes + Par
     bytes: &[u8],
 ) -> Result<(), Fail> {
     let mut sent = Vec::new(alloc);
-    assert_eq!(rt; lists::write(&mut sent, elements), Ok(bytes.len()));
-    assert_eq!(rt; sent.as_slice(), bytes);
+    same(rt, lists::write(&mut sent, elements), Ok(bytes.len()));
+    same(rt, sent.as_slice(), bytes);
     let mut out = Vec::new(alloc);
-    assert_eq!(rt; lists::append(&mut out, elements), Ok(bytes.len()));
-    assert_eq!(rt;
+    same(rt, lists::append(&mut out, elements), Ok(bytes.len()));
+    same(
+        rt,
         lists::append_bytes(alloc, &mut out, elements),
-        Ok(bytes.len())
+        Ok(bytes.len()),
     );
     let (first, second) = out.split_at(bytes.len());
-    assert_eq!(rt; (first, second), (bytes, bytes));
+    same(rt, (first, second), (bytes, bytes));
     sent.push(0xee)?;
     let mut turns = Turns::new();
     let (found, rest) = lists::from_slice::<T>(alloc, &sent, bytes.len(), &mut turns)?;
-    assert!(rt; found.as_slice() == elements);
-    assert_eq!(rt; rest, [0xee].as_slice());
+    holds(rt, found.as_slice() == elements);
+    same(rt, rest, [0xee].as_slice());
     let mut source = sent.as_slice();
     let found = lists::from_reader::<T, &[u8]>(alloc, &mut source, bytes.len(), &mut turns)?;
-    assert!(rt; found.as_slice() == elements);
-    assert_eq!(rt; source, [0xee].as_slice());
+    holds(rt, found.as_slice() == elements);
+    same(rt, source, [0xee].as_slice());
     let mut drip = Drip::new(&sent);
     let found = lists::from_reader::<T, Drip>(alloc, &mut drip, bytes.len(), &mut turns)?;
-    assert!(rt; found.as_slice() == elements);
+    holds(rt, found.as_slice() == elements);
     is_left(rt, alloc, &mut drip, &[0xee])?;
-    assert_eq!(rt; turns.count(), (elements.len() as u64).saturating_mul(3));
+    same(rt, turns.count(), (elements.len() as u64).saturating_mul(3));
     Ok(())
 }
 

@@ -2,6 +2,7 @@
 mod families;
 
 use super::each_call::{filled, is_read, is_read_at_once, is_written, is_written_alone};
+use crate::tests::{holds, same};
 use std::alloc::{AllocError, Global};
 use std::process::Abort;
 use std::test::Fail;
@@ -52,8 +53,8 @@ fn is_read_back<T: Deserialize + DeserializeBytes + PartialEq>(
     } else {
         is_read_at_once(rt, alloc, bytes, value, &[])?;
     }
-    assert!(rt; T::tls_deserialize_exact_bytes(alloc, bytes)? == *value);
-    assert!(rt; T::tls_deserialize_exact(alloc, bytes)? == *value);
+    holds(rt, T::tls_deserialize_exact_bytes(alloc, bytes)? == *value);
+    holds(rt, T::tls_deserialize_exact(alloc, bytes)? == *value);
     Ok(())
 }
 
@@ -61,9 +62,9 @@ fn is_read_back<T: Deserialize + DeserializeBytes + PartialEq>(
 macro_rules! is_copied_and_grows {
     ($rt:expr, $owned:ident, $content:ident) => {
         let copy = $owned.clone()?;
-        assert_eq!($rt; copy.as_slice(), $content.as_slice());
+        same($rt, copy.as_slice(), $content.as_slice());
         $owned.push(0x62)?;
-        assert_eq!($rt; $owned.as_slice().split_last(), Some((&0x62, $content.as_slice())));
+        same($rt, $owned.as_slice().split_last(), Some((&0x62, $content.as_slice())));
     };
 }
 
@@ -180,8 +181,8 @@ fn many_empty_vectors_are_sent(rt: HostRuntime) -> Result<(), Fail> {
     let made = empty_vectors(rt.alloc(), GREATEST)?;
     let (list, form) = made;
     let mut received = Vec::new(rt.alloc());
-    assert_eq!(rt; list.tls_serialize(&mut received)?, form.len());
-    assert!(rt; received == form);
+    same(&rt, list.tls_serialize(&mut received)?, form.len());
+    holds(&rt, received == form);
     Ok(())
 }
 
@@ -190,8 +191,8 @@ fn many_empty_vectors_are_appended(rt: HostRuntime) -> Result<(), Fail> {
     let made = empty_vectors(rt.alloc(), GREATEST)?;
     let (list, form) = made;
     let mut out = Vec::new(rt.alloc());
-    assert_eq!(rt; list.tls_serialize_into(&mut out)?, form.len());
-    assert!(rt; out == form);
+    same(&rt, list.tls_serialize_into(&mut out)?, form.len());
+    holds(&rt, out == form);
     Ok(())
 }
 
@@ -199,7 +200,7 @@ fn many_empty_vectors_are_appended(rt: HostRuntime) -> Result<(), Fail> {
 fn many_empty_vectors_are_detached(rt: HostRuntime) -> Result<(), Fail> {
     let made = empty_vectors(rt.alloc(), GREATEST)?;
     let (list, form) = made;
-    assert!(rt; list.tls_serialize_detached(rt.alloc())? == form);
+    holds(&rt, list.tls_serialize_detached(rt.alloc())? == form);
     Ok(())
 }
 
@@ -207,7 +208,7 @@ fn many_empty_vectors_are_detached(rt: HostRuntime) -> Result<(), Fail> {
 fn many_empty_vectors_are_a_vector(rt: HostRuntime) -> Result<(), Fail> {
     let made = empty_vectors(rt.alloc(), GREATEST)?;
     let (list, form) = made;
-    assert!(rt; list.tls_serialize_bytes(rt.alloc())? == form);
+    holds(&rt, list.tls_serialize_bytes(rt.alloc())? == form);
     Ok(())
 }
 
@@ -216,7 +217,7 @@ fn many_empty_vectors_are_split(rt: HostRuntime) -> Result<(), Fail> {
     let made = empty_vectors(rt.alloc(), GREATEST)?;
     let (list, form) = made;
     let found = <Vec<VLBytes>>::tls_deserialize_exact_bytes(rt.alloc(), &form)?;
-    assert!(rt; found == list);
+    holds(&rt, found == list);
     Ok(())
 }
 
@@ -225,6 +226,6 @@ fn many_empty_vectors_are_read(rt: HostRuntime) -> Result<(), Fail> {
     let made = empty_vectors(rt.alloc(), GREATEST)?;
     let (list, form) = made;
     let found = <Vec<VLBytes>>::tls_deserialize_exact(rt.alloc(), &form)?;
-    assert!(rt; found == list);
+    holds(&rt, found == list);
     Ok(())
 }

@@ -1,5 +1,6 @@
 //! The calls that read and write nothing.
 use crate::tests::each_call::hash_of;
+use crate::tests::{holds, same};
 use std::test::Fail;
 use tls_codec::{VLByteSlice, VLByteVec, VLBytes};
 
@@ -8,31 +9,31 @@ macro_rules! owned_calls {
     ($rt:ident, $Owned:ident, $shown:literal, $shown_empty:literal) => {
         let alloc = $rt.alloc();
         let mut owned = $Owned::new(Vec::new(alloc));
-        assert_eq!(&$rt; owned.pop(), None);
+        same(&$rt, owned.pop(), None);
         let text = format!(in alloc; "{owned:?}")?;
-        assert_eq!(&$rt; text.as_str(), $shown_empty);
+        same(&$rt, text.as_str(), $shown_empty);
         owned.push(5)?;
-        assert_eq!(&$rt; owned.as_slice(), [5].as_slice());
+        same(&$rt, owned.as_slice(), [5].as_slice());
         let copy = owned.clone()?;
-        assert_eq!(&$rt; owned.pop(), Some(5));
-        assert_eq!(&$rt; copy.as_slice(), [5].as_slice());
+        same(&$rt, owned.pop(), Some(5));
+        same(&$rt, copy.as_slice(), [5].as_slice());
 
         let low = $Owned::from_slice(alloc, &[0x00, 0xff])?;
         let high = $Owned::from_array(alloc, &[0x01])?;
-        assert!(&$rt; low < high);
-        assert!(&$rt; low != high);
-        let same = $Owned::from_array(alloc, &[0x00, 0xff])?;
-        assert!(&$rt; low == same);
-        assert_eq!(&$rt; hash_of(&low), hash_of(&same));
+        holds(&$rt, low < high);
+        holds(&$rt, low != high);
+        let equal = $Owned::from_array(alloc, &[0x00, 0xff])?;
+        holds(&$rt, low == equal);
+        same(&$rt, hash_of(&low), hash_of(&equal));
 
         let shown = $Owned::from_array(alloc, &[0x00, 0xaa])?;
         let text = format!(in alloc; "{shown:?}")?;
-        assert_eq!(&$rt; text.as_str(), $shown);
+        same(&$rt, text.as_str(), $shown);
 
         let content: Vec<u8> = low.into();
-        assert_eq!(&$rt; content.as_slice(), [0x00, 0xff].as_slice());
+        same(&$rt, content.as_slice(), [0x00, 0xff].as_slice());
         let back = $Owned::from(content);
-        assert!(&$rt; back == same);
+        holds(&$rt, back == equal);
     };
 }
 
@@ -56,8 +57,8 @@ fn borrowed_bytes_are_shown(rt: HostRuntime) -> Result<(), Fail> {
     ];
     for (content, text) in table {
         let slice = VLByteSlice(content);
-        assert_eq!(rt; format!(in rt.alloc(); "{slice:?}")?.as_str(), text);
-        assert_eq!(rt; slice.as_slice(), content);
+        same(&rt, format!(in rt.alloc(); "{slice:?}")?.as_str(), text);
+        same(&rt, slice.as_slice(), content);
     }
     Ok(())
 }

@@ -1,5 +1,6 @@
 //! Lists of byte vectors, and bytes after others.
 use crate::tests::each_call::{is_refused, is_spelled_alone};
+use crate::tests::same;
 use std::test::Fail;
 use tls_codec::{Error, VLBytes};
 
@@ -21,6 +22,6 @@ fn a_list_of_64_elements(rt: HostRuntime) -> Result<(), Fail> {
         list.push(VLBytes::from_array(alloc, &[0x07])?)?;
         form.extend_from_slice(&[0x01, 0x07])?;
     }
-    assert_eq!(rt; form.len(), 130);
+    same(&rt, form.len(), 130);
     is_spelled_alone(&rt, alloc, &list, &form)
 }

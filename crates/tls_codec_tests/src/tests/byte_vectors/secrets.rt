@@ -1,6 +1,6 @@
 //! `SecretVLBytes` and `SecretVLByteVec`.
-use crate::tests::NOT_THERE;
 use crate::tests::each_call::{hash_of, is_refused, is_refused_by_each, is_spelled, is_written};
+use crate::tests::{NOT_THERE, holds, same};
 use std::alloc::Global;
 use std::hash::Hash;
 use std::process::Abort;
@@ -14,15 +14,15 @@ macro_rules! secret_calls {
     ($rt:ident, $Secret:ident, $shown:literal, $shown_empty:literal) => {
         let alloc = $rt.alloc();
         let mut secret = $Secret::new(Vec::new(alloc));
-        assert_eq!(&$rt; secret.pop(), None);
+        same(&$rt, secret.pop(), None);
         let text = format!(in alloc; "{secret:?}")?;
-        assert_eq!(&$rt; text.as_str(), $shown_empty);
+        same(&$rt, text.as_str(), $shown_empty);
         secret.push(0xff)?;
         let text = format!(in alloc; "{secret:?}")?;
-        assert_eq!(&$rt; text.as_str(), $shown);
+        same(&$rt, text.as_str(), $shown);
         let copy = secret.clone()?;
-        assert_eq!(&$rt; secret.pop(), Some(0xff));
-        assert_eq!(&$rt; copy.as_slice(), [0xff].as_slice());
+        same(&$rt, secret.pop(), Some(0xff));
+        same(&$rt, copy.as_slice(), [0xff].as_slice());
     };
 }
 
@@ -54,14 +54,14 @@ fn are_compared<S: Ord + Hash + Zeroize + Serialize>(
     alloc: Global,
     low: &S,
     high: &S,
-    mut same: S,
+    mut equal: S,
 ) -> Result<(), Fail> {
-    assert!(rt; low < high);
-    assert!(rt; low != high);
-    assert!(rt; *low == same);
-    assert_eq!(rt; hash_of(low), hash_of(&same));
-    same.zeroize();
-    is_written(rt, alloc, &same, &[0])
+    holds(rt, low < high);
+    holds(rt, low != high);
+    holds(rt, *low == equal);
+    same(rt, hash_of(low), hash_of(&equal));
+    equal.zeroize();
+    is_written(rt, alloc, &equal, &[0])
 }
 
 // What the secret of the bytes 00 and ff is written as and read from.
@@ -88,8 +88,8 @@ fn contents_of_secret_vl_bytes(rt: HostRuntime) -> Result<(), Fail> {
     let alloc = rt.alloc();
     let low = SecretVLBytes::from_slice(alloc, &[0x00, 0xff])?;
     let high = SecretVLBytes::from_array(alloc, &[0x01])?;
-    let same = SecretVLBytes::from([0x00u8, 0xff].to_vec(alloc)?);
-    are_compared(&rt, alloc, &low, &high, same)?;
+    let equal = SecretVLBytes::from([0x00u8, 0xff].to_vec(alloc)?);
+    are_compared(&rt, alloc, &low, &high, equal)?;
     is_coded(&rt, alloc, &low)
 }
 
@@ -98,7 +98,7 @@ fn contents_of_secret_vl_byte_vec(rt: HostRuntime) -> Result<(), Fail> {
     let alloc = rt.alloc();
     let low = SecretVLByteVec::from_slice(alloc, &[0x00, 0xff])?;
     let high = SecretVLByteVec::from_array(alloc, &[0x01])?;
-    let same = SecretVLByteVec::from([0x00u8, 0xff].to_vec(alloc)?);
-    are_compared(&rt, alloc, &low, &high, same)?;
+    let equal = SecretVLByteVec::from([0x00u8, 0xff].to_vec(alloc)?);
+    are_compared(&rt, alloc, &low, &high, equal)?;
     is_coded(&rt, alloc, &low)
 }

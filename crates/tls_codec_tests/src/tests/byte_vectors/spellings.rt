@@ -1,6 +1,6 @@
 //! What is written and read, and what is refused.
-use crate::tests::NOT_THERE;
 use crate::tests::each_call::{filled, is_read_whole, is_refused, is_refused_by_each};
+use crate::tests::{NOT_THERE, holds, same};
 use std::alloc::Global;
 use std::process::Abort;
 use std::test::Fail;
@@ -14,13 +14,13 @@ fn begins<T: Serialize>(
     front: &[u8],
     count: usize,
 ) -> Result<Vec<u8>, Fail> {
-    assert_eq!(rt; value.tls_serialized_len(), count);
+    same(rt, value.tls_serialized_len(), count);
     let mut received = Vec::new(alloc);
-    assert_eq!(rt; value.tls_serialize(&mut received)?, count);
-    assert_eq!(rt; received.len(), count);
-    assert!(rt; received.as_slice().starts_with(front));
+    same(rt, value.tls_serialize(&mut received)?, count);
+    same(rt, received.len(), count);
+    holds(rt, received.as_slice().starts_with(front));
     let detached = value.tls_serialize_detached(alloc)?;
-    assert!(rt; detached == received);
+    holds(rt, detached == received);
     Ok(detached)
 }
 
@@ -34,7 +34,7 @@ fn begins_alone<T: Serialize + SerializeBytes>(
 ) -> Result<(), Fail> {
     let detached = begins(rt, alloc, value, front, count)?;
     let alone = value.tls_serialize_bytes(alloc)?;
-    assert!(rt; alone == detached);
+    holds(rt, alone == detached);
     Ok(())
 }
 

@@ -1,4 +1,5 @@
 //! Elements and bytes after each length.
+use crate::tests::{holds, same};
 use std::alloc::Global;
 use std::process::Abort;
 use std::test::Fail;
@@ -14,54 +15,63 @@ fn stand_behind<F: LengthField>(
     cut_off: Error,
 ) -> Result<(), Fail> {
     let elements = [1u16, 2];
-    assert_eq!(rt; counted::announced_len::<F, u16>(&elements), list.len());
-    assert_eq!(rt;
+    same(rt, counted::announced_len::<F, u16>(&elements), list.len());
+    same(
+        rt,
         counted::to_vec::<F, u16>(alloc, &elements)?.as_slice(),
-        list
+        list,
     );
     let mut out = Vec::new(alloc);
-    assert_eq!(rt;
+    same(
+        rt,
         counted::write::<F, u16, Vec<u8>>(&mut out, &elements),
-        Ok(list.len())
+        Ok(list.len()),
     );
-    assert_eq!(rt;
+    same(
+        rt,
         counted::append::<F, u16>(&mut out, &elements),
-        Ok(list.len())
+        Ok(list.len()),
     );
     let mut twice = list.to_vec(alloc)?;
     twice.extend_from_slice(list)?;
-    assert_eq!(rt; out.as_slice(), twice.as_slice());
+    same(rt, out.as_slice(), twice.as_slice());
     let (split, rest) = counted::split::<F, u16>(alloc, &twice)?;
-    assert_eq!(rt; split.as_slice(), elements.as_slice());
-    assert_eq!(rt; rest, list);
+    same(rt, split.as_slice(), elements.as_slice());
+    same(rt, rest, list);
     let mut src = twice.as_slice();
-    assert_eq!(rt;
+    same(
+        rt,
         counted::read::<F, u16, &[u8]>(alloc, &mut src)?.as_slice(),
-        elements.as_slice()
+        elements.as_slice(),
     );
-    assert_eq!(rt; src, list);
+    same(rt, src, list);
 
     let content = [9, 8];
-    assert_eq!(rt; opaque::announced_len::<F>(&content), bytes.len());
-    assert_eq!(rt; opaque::to_vec::<F>(alloc, &content)?.as_slice(), bytes);
+    same(rt, opaque::announced_len::<F>(&content), bytes.len());
+    same(rt, opaque::to_vec::<F>(alloc, &content)?.as_slice(), bytes);
     let mut out = Vec::new(alloc);
-    assert_eq!(rt;
+    same(
+        rt,
         opaque::write::<F, Vec<u8>>(&mut out, &content),
-        Ok(bytes.len())
+        Ok(bytes.len()),
     );
-    assert_eq!(rt; opaque::append::<F>(&mut out, &content), Ok(bytes.len()));
+    same(rt, opaque::append::<F>(&mut out, &content), Ok(bytes.len()));
     let (split, rest) = opaque::split::<F>(&out)?;
-    assert_eq!(rt; split, content.as_slice());
-    assert_eq!(rt; rest, bytes);
+    same(rt, split, content.as_slice());
+    same(rt, rest, bytes);
     let mut src = out.as_slice();
-    assert_eq!(rt;
+    same(
+        rt,
         opaque::read::<F, &[u8]>(alloc, &mut src)?.as_slice(),
-        content.as_slice()
+        content.as_slice(),
     );
-    assert_eq!(rt; src, bytes);
-    let mut cut = &bytes[..bytes.len() - 1];
-    assert!(rt; opaque::split::<F>(cut) == Err(cut_off));
-    assert!(rt; opaque::read::<F, &[u8]>(alloc, &mut cut) == Err(Error::EndOfStream));
+    same(rt, src, bytes);
+    let mut cut = &bytes[..bytes.len().saturating_sub(1)];
+    holds(rt, opaque::split::<F>(cut) == Err(cut_off));
+    holds(
+        rt,
+        opaque::read::<F, &[u8]>(alloc, &mut cut) == Err(Error::EndOfStream),
+    );
     Ok(())
 }
 
@@ -90,21 +100,32 @@ fn contents_past_their_length_are_refused(rt: HostRuntime) -> Result<(), Fail> {
     let mut content = Vec::new(alloc);
     content.resize(255, 7u8)?;
     let whole = counted::to_vec::<u8, u8>(alloc, &content)?;
-    assert_eq!(rt; (whole.len(), whole[0]), (256, 0xff));
+    same(&rt, (whole.len(), whole[0]), (256, 0xff));
     content.extend_from_slice(&[7])?;
     let too_long = Err(Error::InvalidVectorLength);
-    assert_eq!(rt; counted::announced_len::<u8, u8>(&content), 257);
-    assert!(rt; counted::to_vec::<u8, u8>(alloc, &content) == Err(Error::InvalidVectorLength));
-    assert!(rt; opaque::to_vec::<u8>(alloc, &content) == Err(Error::InvalidVectorLength));
-    let mut out = [0xaa].to_vec(alloc)?;
-    assert_eq!(rt;
-        counted::write::<u8, u8, Vec<u8>>(&mut out, &content),
-        too_long
+    same(&rt, counted::announced_len::<u8, u8>(&content), 257);
+    holds(
+        &rt,
+        counted::to_vec::<u8, u8>(alloc, &content) == Err(Error::InvalidVectorLength),
     );
-    assert_eq!(rt; counted::append::<u8, u8>(&mut out, &content), too_long);
-    assert_eq!(rt; opaque::write::<u8, Vec<u8>>(&mut out, &content), too_long);
-    assert_eq!(rt; opaque::append::<u8>(&mut out, &content), too_long);
-    assert_eq!(rt; out.as_slice(), [0xaa].as_slice());
+    holds(
+        &rt,
+        opaque::to_vec::<u8>(alloc, &content) == Err(Error::InvalidVectorLength),
+    );
+    let mut out = [0xaa].to_vec(alloc)?;
+    same(
+        &rt,
+        counted::write::<u8, u8, Vec<u8>>(&mut out, &content),
+        too_long,
+    );
+    same(&rt, counted::append::<u8, u8>(&mut out, &content), too_long);
+    same(
+        &rt,
+        opaque::write::<u8, Vec<u8>>(&mut out, &content),
+        too_long,
+    );
+    same(&rt, opaque::append::<u8>(&mut out, &content), too_long);
+    same(&rt, out.as_slice(), [0xaa].as_slice());
     Ok(())
 }
 
@@ -114,17 +135,17 @@ fn bytes_are_copied_from_behind_a_length(rt: HostRuntime) -> Result<(), Fail> {
     let content = [0x0a, 0x14, 0x1e];
     let whole = [0x03, 0x0a, 0x14, 0x1e, 0x99];
     let (found, rest) = opaque::split::<TlsVarInt>(&whole)?;
-    assert_eq!(rt; found, content.as_slice());
-    assert_eq!(rt; rest, [0x99].as_slice());
+    same(&rt, found, content.as_slice());
+    same(&rt, rest, [0x99].as_slice());
     let (mut copy, rest) = opaque::split_copied::<TlsVarInt>(alloc, &whole)?;
-    assert_eq!(rt; copy.as_slice(), content.as_slice());
-    assert_eq!(rt; rest, [0x99].as_slice());
-    assert_eq!(rt; opaque::push(&mut copy, 0x28), Ok(()));
+    same(&rt, copy.as_slice(), content.as_slice());
+    same(&rt, rest, [0x99].as_slice());
+    same(&rt, opaque::push(&mut copy, 0x28), Ok(()));
     let longer = opaque::copied(alloc, &copy)?;
-    assert_eq!(rt; longer.as_slice(), [0x0a, 0x14, 0x1e, 0x28].as_slice());
+    same(&rt, longer.as_slice(), [0x0a, 0x14, 0x1e, 0x28].as_slice());
     let mut src = whole.as_slice();
     let read = opaque::read::<TlsVarInt, &[u8]>(alloc, &mut src)?;
-    assert_eq!(rt; read.as_slice(), content.as_slice());
-    assert_eq!(rt; src, [0x99].as_slice());
+    same(&rt, read.as_slice(), content.as_slice());
+    same(&rt, src, [0x99].as_slice());
     Ok(())
 }

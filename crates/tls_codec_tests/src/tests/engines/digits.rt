@@ -1,4 +1,5 @@
 //! Calls on digits, and lengths that are sent or put into a gap, as your own encoders use them.
+use crate::tests::{holds, same};
 use std::alloc::Global;
 use std::process::Abort;
 use std::test::Fail;
@@ -14,20 +15,21 @@ fn digits_by_each_call(rt: HostRuntime) -> Result<(), Fail> {
     let alloc = rt.alloc();
     let digits = [0x01, 0x03, 0x9d];
     let mut whole = digits_vector(alloc, &digits)?;
-    assert_eq!(rt; append_digits(&mut whole, &[0xee]), Ok(1));
-    assert_eq!(rt; write_digits(&mut whole, &digits), Ok(3));
-    assert_eq!(rt;
+    same(&rt, append_digits(&mut whole, &[0xee]), Ok(1));
+    same(&rt, write_digits(&mut whole, &digits), Ok(3));
+    same(
+        &rt,
         whole.as_slice(),
-        [0x01, 0x03, 0x9d, 0xee, 0x01, 0x03, 0x9d].as_slice()
+        [0x01, 0x03, 0x9d, 0xee, 0x01, 0x03, 0x9d].as_slice(),
     );
     let (split, rest) = split_digits::<3>(&whole)?;
-    assert_eq!(rt; split, digits);
-    assert_eq!(rt; rest, [0xee, 0x01, 0x03, 0x9d].as_slice());
+    same(&rt, split, digits);
+    same(&rt, rest, [0xee, 0x01, 0x03, 0x9d].as_slice());
     let mut src = whole.as_slice();
     let read: [u8; 3] = read_digits(&mut src)?;
-    assert_eq!(rt; read, digits);
-    assert_eq!(rt; src, rest);
-    assert!(rt; split_digits::<8>(&whole) == Err(Error::EndOfStream));
+    same(&rt, read, digits);
+    same(&rt, src, rest);
+    holds(&rt, split_digits::<8>(&whole) == Err(Error::EndOfStream));
     Ok(())
 }
 
@@ -36,12 +38,12 @@ fn is_put<F: LengthField>(rt: &impl Abort, alloc: Global, form: &[u8]) -> Result
     let mut out = [0xaa].to_vec(alloc)?;
     open_gap(&mut out, 2, 2)?;
     out.extend_from_slice(&[9, 8])?;
-    assert_eq!(rt; fill_gap::<F>(&mut out, 1, 2), Ok(form.len()));
+    same(rt, fill_gap::<F>(&mut out, 1, 2), Ok(form.len()));
     let mut sent = [0xaa].to_vec(alloc)?;
-    assert_eq!(rt; write_length::<F, Vec<u8>>(&mut sent, 2), Ok(form.len()));
-    assert_eq!(rt; &sent[1..], form);
+    same(rt, write_length::<F, Vec<u8>>(&mut sent, 2), Ok(form.len()));
+    same(rt, sent.get(1..), Some(form));
     sent.extend_from_slice(&[9, 8])?;
-    assert_eq!(rt; out, sent);
+    same(rt, out, sent);
     Ok(())
 }
 

@@ -2,6 +2,7 @@
 ghost use Rattle.std.specs.Prelude.{◌≡◌, ◌<◌, ◌≤◌, nat_lt, filter, length, slice_set, IfOk};
 ghost use Rattle.tls_codec.specs.Contents.{elements_of};
 
+use crate::tests::same;
 use std::alloc::Global;
 use std::test::Fail;
 use tls_codec::{Error, TlsVecU8, TlsVecU16, TlsVecU24, TlsVecU32};
@@ -40,12 +41,12 @@ fn keep_above(list: &mut TlsVecU8<u16>, least: u16)
 
 #[test]
 fn callers_know_the_list(rt: HostRuntime) -> Result<(), Fail> {
-    assert_eq!(rt; widths(), (1, 2, 3, 4));
+    same(&rt, widths(), (1, 2, 3, 4));
     let mut list = copied(rt.alloc(), &[5, 6, 7])?;
     if list.len() > 1 {
         put(&mut list, 1, 1);
     }
     keep_above(&mut list, 5);
-    assert_eq!(rt; list.as_slice(), [7].as_slice());
+    same(&rt, list.as_slice(), [7].as_slice());
     Ok(())
 }

@@ -1,5 +1,6 @@
 //! `TlsSliceU8` to `TlsByteSliceU32`: the bytes of each wrapper, and what is refused.
 use crate::tests::each_call::{filled, is_too_long, is_written};
+use crate::tests::{holds, same};
 use std::test::Fail;
 use tls_codec::{
     Error, Serialize, Size, TlsByteSliceU8, TlsByteSliceU16, TlsByteSliceU24, TlsByteSliceU32,
@@ -11,19 +12,19 @@ fn elements_behind_each_width(rt: HostRuntime) -> Result<(), Fail> {
     let alloc = rt.alloc();
     let elements = [1u16, 2];
     let one = TlsSliceU8(&elements);
-    assert_eq!(rt; one.as_slice(), elements.as_slice());
+    same(&rt, one.as_slice(), elements.as_slice());
     is_written(&rt, alloc, &one, &[4, 0, 1, 0, 2])?;
     is_written(&rt, alloc, &&one, &[4, 0, 1, 0, 2])?;
     let two = TlsSliceU16(&elements);
-    assert_eq!(rt; two.as_slice(), elements.as_slice());
+    same(&rt, two.as_slice(), elements.as_slice());
     is_written(&rt, alloc, &two, &[0, 4, 0, 1, 0, 2])?;
     is_written(&rt, alloc, &&two, &[0, 4, 0, 1, 0, 2])?;
     let three = TlsSliceU24(&elements);
-    assert_eq!(rt; three.as_slice(), elements.as_slice());
+    same(&rt, three.as_slice(), elements.as_slice());
     is_written(&rt, alloc, &three, &[0, 0, 4, 0, 1, 0, 2])?;
     is_written(&rt, alloc, &&three, &[0, 0, 4, 0, 1, 0, 2])?;
     let four = TlsSliceU32(&elements);
-    assert_eq!(rt; four.as_slice(), elements.as_slice());
+    same(&rt, four.as_slice(), elements.as_slice());
     is_written(&rt, alloc, &four, &[0, 0, 0, 4, 0, 1, 0, 2])?;
     is_written(&rt, alloc, &&four, &[0, 0, 0, 4, 0, 1, 0, 2])?;
     Ok(())
@@ -34,19 +35,19 @@ fn bytes_behind_each_width(rt: HostRuntime) -> Result<(), Fail> {
     let alloc = rt.alloc();
     let bytes = [9, 8];
     let one = TlsByteSliceU8(&bytes);
-    assert_eq!(rt; one.as_slice(), bytes.as_slice());
+    same(&rt, one.as_slice(), bytes.as_slice());
     is_written(&rt, alloc, &one, &[2, 9, 8])?;
     is_written(&rt, alloc, &&one, &[2, 9, 8])?;
     let two = TlsByteSliceU16(&bytes);
-    assert_eq!(rt; two.as_slice(), bytes.as_slice());
+    same(&rt, two.as_slice(), bytes.as_slice());
     is_written(&rt, alloc, &two, &[0, 2, 9, 8])?;
     is_written(&rt, alloc, &&two, &[0, 2, 9, 8])?;
     let three = TlsByteSliceU24(&bytes);
-    assert_eq!(rt; three.as_slice(), bytes.as_slice());
+    same(&rt, three.as_slice(), bytes.as_slice());
     is_written(&rt, alloc, &three, &[0, 0, 2, 9, 8])?;
     is_written(&rt, alloc, &&three, &[0, 0, 2, 9, 8])?;
     let four = TlsByteSliceU32(&bytes);
-    assert_eq!(rt; four.as_slice(), bytes.as_slice());
+    same(&rt, four.as_slice(), bytes.as_slice());
     is_written(&rt, alloc, &four, &[0, 0, 0, 2, 9, 8])?;
     is_written(&rt, alloc, &&four, &[0, 0, 0, 2, 9, 8])?;
     Ok(())
@@ -99,10 +100,10 @@ fn a_list_longer_than_any_length(rt: HostRuntime) -> Result<(), Fail> {
     for _at in 0..1_024 {
         list.push(TlsByteSliceU32(bytes.as_slice()))?;
     }
-    assert_eq!(rt; list.tls_serialized_len(), 1_073_745_920);
+    same(&rt, list.tls_serialized_len(), 1_073_745_920);
     let mut received = Vec::new(alloc);
     let refused = list.tls_serialize(&mut received);
-    assert_eq!(rt; refused, Err(Error::InvalidVectorLength));
-    assert!(rt; received.is_empty());
+    same(&rt, refused, Err(Error::InvalidVectorLength));
+    holds(&rt, received.is_empty());
     Ok(())
 }

@@ -4,7 +4,7 @@ mod calls;
 use crate::tests::each_call::{
     filled, is_left, is_refused, is_refused_by_each, is_spelled, is_too_long, is_written,
 };
-use crate::tests::{NO_BYTES, NOT_FILLED};
+use crate::tests::{NO_BYTES, NOT_FILLED, holds, same};
 use std::alloc::Global;
 use std::process::Abort;
 use std::test::Fail;
@@ -58,17 +58,23 @@ fn a_list_behind_a_number(rt: HostRuntime) -> Result<(), Fail> {
     let bytes = [0x01, 0x04, 0x4d, 0x58, 0x01, 0x63];
     let list = TlsVecU8::from_slice(alloc, &[77u8, 88, 1, 99])?;
     let mut source = bytes.as_slice();
-    assert_eq!(rt; u8::tls_deserialize(alloc, &mut source), Ok(1));
-    assert!(rt; TlsVecU8::<u8>::tls_deserialize(alloc, &mut source)? == list);
-    assert_eq!(rt; source, [].as_slice());
+    same(&rt, u8::tls_deserialize(alloc, &mut source), Ok(1));
+    holds(
+        &rt,
+        TlsVecU8::<u8>::tls_deserialize(alloc, &mut source)? == list,
+    );
+    same(&rt, source, [].as_slice());
     let mut drip = Drip::new(&bytes);
-    assert_eq!(rt; u8::tls_deserialize(alloc, &mut drip), Ok(1));
-    assert!(rt; TlsVecU8::<u8>::tls_deserialize(alloc, &mut drip)? == list);
+    same(&rt, u8::tls_deserialize(alloc, &mut drip), Ok(1));
+    holds(
+        &rt,
+        TlsVecU8::<u8>::tls_deserialize(alloc, &mut drip)? == list,
+    );
     is_left(&rt, alloc, &mut drip, &[])?;
     let (number, rest) = u8::tls_deserialize_bytes(alloc, &bytes)?;
     let (found, rest) = TlsVecU8::<u8>::tls_deserialize_bytes(alloc, rest)?;
-    assert_eq!(rt; (number, rest), (1, [].as_slice()));
-    assert!(rt; found == list);
+    same(&rt, (number, rest), (1, [].as_slice()));
+    holds(&rt, found == list);
     is_written(&rt, alloc, &(1u8, &list), &bytes)?;
     is_spelled(&rt, alloc, &(1u8, list), &bytes)
 }

@@ -1,6 +1,7 @@
 //! Those after a length of one to four bytes.
 use super::{GREATEST, is_copied_and_grows, is_read_back, sizes_to};
 use crate::tests::each_call::{filled, is_written, is_written_alone};
+use crate::tests::{holds, same};
 use std::alloc::{AllocError, Global};
 use std::process::Abort;
 use std::test::Fail;
@@ -24,7 +25,7 @@ macro_rules! list_of_bytes {
             $is_written($rt, $alloc, &owned, &form)?;
             is_read_back($rt, $alloc, &owned, &form)?;
             let given = <$Owned>::try_from_iter($alloc, content.iter().copied())?;
-            assert!($rt; given == owned);
+            holds($rt, given == owned);
             is_copied_and_grows!($rt, owned, content);
         }
     };

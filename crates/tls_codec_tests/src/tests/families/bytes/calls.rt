@@ -1,5 +1,6 @@
 //! The calls that write and read nothing.
 use crate::tests::each_call::hash_of;
+use crate::tests::{holds, same};
 use std::alloc::Global;
 use std::process::Abort;
 use std::test::Fail;
@@ -8,47 +9,47 @@ use tls_codec::{TlsByteVec, TlsByteVecU8, U24};
 // Calls that change the bytes.
 fn are_changed<F>(rt: &impl Abort, alloc: Global) -> Result<(), Fail> {
     let mut bytes = TlsByteVec::<F>::default(alloc);
-    assert_eq!(rt; bytes.pop(), None);
+    same(rt, bytes.pop(), None);
     bytes.push(1)?;
     bytes.push(2)?;
-    assert_eq!(rt; bytes.pop(), Some(2));
-    assert_eq!(rt; bytes.as_slice(), [1].as_slice());
+    same(rt, bytes.pop(), Some(2));
+    same(rt, bytes.as_slice(), [1].as_slice());
 
     let mut bytes = TlsByteVec::<F>::from_slice(alloc, &[5, 6, 7, 8])?;
-    assert_eq!(rt; bytes.remove(1), 6);
+    same(rt, bytes.remove(1), 6);
     bytes[2] = 9;
-    assert_eq!(rt; bytes.as_slice(), [5, 7, 9].as_slice());
-    assert_eq!(rt; bytes[2], 9);
+    same(rt, bytes.as_slice(), [5, 7, 9].as_slice());
+    same(rt, bytes[2], 9);
 
     let mut bytes = TlsByteVec::<F>::try_from_iter(alloc, 0..6u8)?;
     bytes.retain(|byte| *byte != 0 && *byte != 3);
-    assert_eq!(rt; bytes.as_slice(), [1, 2, 4, 5].as_slice());
+    same(rt, bytes.as_slice(), [1, 2, 4, 5].as_slice());
     Ok(())
 }
 
 // Calls that only look.
 fn are_seen<F>(rt: &impl Abort, alloc: Global) -> Result<(), Fail> {
     let bytes = TlsByteVec::<F>::from_slice(alloc, &[5, 6])?;
-    assert_eq!(rt; bytes.len(), 2);
-    assert!(rt; !bytes.is_empty());
-    assert!(rt; TlsByteVec::<F>::default(alloc).is_empty());
-    assert_eq!(rt; bytes.get(1), Some(&6));
-    assert_eq!(rt; bytes.get(2), None);
+    same(rt, bytes.len(), 2);
+    holds(rt, !bytes.is_empty());
+    holds(rt, TlsByteVec::<F>::default(alloc).is_empty());
+    same(rt, bytes.get(1), Some(&6));
+    same(rt, bytes.get(2), None);
     let mut iter = bytes.iter();
-    assert_eq!(rt; iter.next(), Some(&5));
-    assert_eq!(rt; iter.next_back(), Some(&6));
-    assert_eq!(rt; iter.next(), None);
+    same(rt, iter.next(), Some(&5));
+    same(rt, iter.next_back(), Some(&6));
+    same(rt, iter.next(), None);
     let text = format!(in alloc; "{bytes:?}")?;
-    assert_eq!(rt; text.as_str(), "TlsByteVec { vec: [5, 6] }");
+    same(rt, text.as_str(), "TlsByteVec { vec: [5, 6] }");
 
     let copy = bytes.clone()?;
-    assert!(rt; copy == bytes);
-    assert_eq!(rt; hash_of(&copy), hash_of(&bytes));
-    assert!(rt; bytes != TlsByteVec::<F>::from_slice(alloc, &[5, 7])?);
+    holds(rt, copy == bytes);
+    same(rt, hash_of(&copy), hash_of(&bytes));
+    holds(rt, bytes != TlsByteVec::<F>::from_slice(alloc, &[5, 7])?);
     let content: Vec<u8> = copy.into();
-    assert_eq!(rt; content.as_slice(), [5, 6].as_slice());
-    assert!(rt; TlsByteVec::<F>::from(content) == bytes);
-    assert_eq!(rt; bytes.into_vec().as_slice(), [5, 6].as_slice());
+    same(rt, content.as_slice(), [5, 6].as_slice());
+    holds(rt, TlsByteVec::<F>::from(content) == bytes);
+    same(rt, bytes.into_vec().as_slice(), [5, 6].as_slice());
     Ok(())
 }
 
@@ -76,7 +77,7 @@ fn each_byte_is_asked_for_once(rt: HostRuntime) -> Result<(), Fail> {
         asked = asked.wrapping_mul(10).wrapping_add(*byte as u32);
         *byte == 2
     });
-    assert_eq!(rt; asked, 123);
-    assert_eq!(rt; bytes.as_slice(), [2].as_slice());
+    same(&rt, asked, 123);
+    same(&rt, bytes.as_slice(), [2].as_slice());
     Ok(())
 }

@@ -1,5 +1,6 @@
 //! The calls that read and write no bytes.
 use crate::tests::each_call::hash_of;
+use crate::tests::{holds, same};
 use std::test::Fail;
 use tls_codec::{SecretTlsVecU8, SecretTlsVecU24, SecretTlsVecU32};
 
@@ -7,30 +8,31 @@ use tls_codec::{SecretTlsVecU8, SecretTlsVecU24, SecretTlsVecU32};
 fn elements_come_and_leave(rt: HostRuntime) -> Result<(), Fail> {
     let alloc = rt.alloc();
     let mut list = SecretTlsVecU24::default(alloc);
-    assert!(rt; list.is_empty());
+    holds(&rt, list.is_empty());
     for element in [5u16, 6, 7, 8] {
         list.push(element)?;
     }
     assert_eq!(rt; list.len(), 4);
-    assert_eq!(rt; list.remove(1), 6);
-    assert_eq!(rt; (list.get(1), list.get(3)), (Some(&7), None));
+    same(&rt, list.remove(1), 6);
+    same(&rt, (list.get(1), list.get(3)), (Some(&7), None));
     list[0] = 9;
-    assert_eq!(rt; (list[0], list[1]), (9, 7));
+    same(&rt, (list[0], list[1]), (9, 7));
     let mut asked = 0u8;
     list.retain(|element| {
         asked = asked.saturating_add(1);
         *element > 7
     });
-    assert_eq!(rt; asked, 3);
-    assert_eq!(rt; list.as_slice(), [9, 8].as_slice());
+    same(&rt, asked, 3);
+    same(&rt, list.as_slice(), [9, 8].as_slice());
     let mut sum = 0u16;
     for element in list.iter() {
         sum = sum.wrapping_add(*element);
     }
-    assert_eq!(rt; sum, 17);
-    assert_eq!(rt;
+    same(&rt, sum, 17);
+    same(
+        &rt,
         (list.pop(), list.pop(), list.pop()),
-        (Some(8), Some(9), None)
+        (Some(8), Some(9), None),
     );
     Ok(())
 }
@@ -40,11 +42,11 @@ fn lists_become_vectors_and_back(rt: HostRuntime) -> Result<(), Fail> {
     let alloc = rt.alloc();
     let list = SecretTlsVecU8::new([1u16, 2].to_vec(alloc)?);
     let copy = list.clone()?;
-    assert_eq!(rt; list.into_vec().as_slice(), [1, 2].as_slice());
+    same(&rt, list.into_vec().as_slice(), [1, 2].as_slice());
     let elements: Vec<u16> = copy.into();
     let back = SecretTlsVecU8::from(elements);
     let given = SecretTlsVecU8::try_from_iter(alloc, [1u16, 2])?;
-    assert!(rt; back == given);
+    holds(&rt, back == given);
     Ok(())
 }
 
@@ -53,10 +55,10 @@ fn lists_are_compared_by_their_elements(rt: HostRuntime) -> Result<(), Fail> {
     let alloc = rt.alloc();
     let list = SecretTlsVecU32::from_slice(alloc, &[1u16, 2])?;
     let other = SecretTlsVecU32::from_slice(alloc, &[1u16, 3])?;
-    assert!(rt; list != other);
-    assert!(rt; list == list.clone()?);
-    assert_eq!(rt; hash_of(&list), hash_of(&[1u16, 2].to_vec(alloc)?));
+    holds(&rt, list != other);
+    holds(&rt, list == list.clone()?);
+    same(&rt, hash_of(&list), hash_of(&[1u16, 2].to_vec(alloc)?));
     let text = format!(in alloc; "{list:?}")?;
-    assert_eq!(rt; text.as_str(), "SecretTlsVec { vec: [1, 2] }");
+    same(&rt, text.as_str(), "SecretTlsVec { vec: [1, 2] }");
     Ok(())
 }

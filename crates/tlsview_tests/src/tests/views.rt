@@ -1,5 +1,6 @@
 // Worked rows of each kind. The stored run of `tlsview_vectors` has two thousand more.
 use super::run_on;
+use crate::tests::same_at;
 use std::test::Fail;
 
 // Each of these rows has a kind and the hex of some bytes. Then come the text of the value that
@@ -42,8 +43,8 @@ fn values_are_shown(rt: HostRuntime) -> Result<(), Fail> {
         let read = format!(in rt.alloc(); "ok {value} rest {rest}")?;
         let lines = format!(in rt.alloc(); "slice {read}\nreader {read}\nleast {least}\n")?;
         let (outcome, out) = run_on(rt.alloc(), kind, text.as_bytes());
-        assert_eq!(rt; outcome, Ok(true), "{kind} of {text}");
-        assert_eq!(rt; out.as_slice(), lines.as_bytes(), "{kind} of {text}");
+        same_at(&rt, text, outcome, Ok(true));
+        same_at(&rt, text, out.as_slice(), lines.as_bytes());
     }
     Ok(())
 }
@@ -69,8 +70,8 @@ fn bytes_without_a_spelling_are_refused(rt: HostRuntime) -> Result<(), Fail> {
             "slice refused {by_slice}\nreader refused {by_reader}\n"
         )?;
         let (outcome, out) = run_on(rt.alloc(), kind, text.as_bytes());
-        assert_eq!(rt; outcome, Ok(false), "{kind} of {text}");
-        assert_eq!(rt; out.as_slice(), lines.as_bytes(), "{kind} of {text}");
+        same_at(&rt, text, outcome, Ok(false));
+        same_at(&rt, text, out.as_slice(), lines.as_bytes());
     }
     Ok(())
 }

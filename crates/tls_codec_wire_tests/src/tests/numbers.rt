@@ -1,38 +1,40 @@
 // Numbers in bytes, and what errors of std about numbers and slices become.
-use crate::error::Error;
-use crate::quic::{least_width, read_varint, split_varint, write_varint};
-use crate::uint24::U24;
-use crate::varint::TlsVarInt;
-use crate::vlen::{insert_bytes, insert_length};
+use super::{same, same_at};
 use std::test::Fail;
+use tls_codec_wire::error::Error;
+use tls_codec_wire::quic::{least_width, read_varint, split_varint, write_varint};
+use tls_codec_wire::uint24::U24;
+use tls_codec_wire::varint::TlsVarInt;
+use tls_codec_wire::vlen::{insert_bytes, insert_length};
 
 #[test]
 fn a_number_of_24_bits_has_three_bytes(rt: HostRuntime) -> Result<(), Fail> {
     let n = U24::try_from(65_609)?;
-    assert_eq!(rt; n.to_be_bytes(), [0x01, 0x00, 0x49]);
-    assert_eq!(rt; U24::from_be_bytes([0x01, 0x00, 0x49]), n);
-    assert_eq!(rt; usize::from(n), 65_609);
-    assert_eq!(rt; n.value(), 65_609);
-    assert_eq!(rt; U24::try_from(16_777_216), Err(Error::LibraryError));
-    assert_eq!(rt; U24::try_from(16_777_215), Ok(U24::MAX));
-    assert_eq!(rt; usize::from(U24::MAX), 16_777_215);
-    assert_eq!(rt; U24::MAX.value(), 16_777_215);
-    assert_eq!(rt; usize::from(U24::MIN), 0);
-    assert_eq!(rt; U24::MIN.value(), 0);
-    assert_eq!(rt; U24::default(), U24::MIN);
+    same(&rt, n.to_be_bytes(), [0x01, 0x00, 0x49]);
+    same(&rt, U24::from_be_bytes([0x01, 0x00, 0x49]), n);
+    same(&rt, usize::from(n), 65_609);
+    same(&rt, n.value(), 65_609);
+    same(&rt, U24::try_from(16_777_216), Err(Error::LibraryError));
+    same(&rt, U24::try_from(16_777_215), Ok(U24::MAX));
+    same(&rt, usize::from(U24::MAX), 16_777_215);
+    same(&rt, U24::MAX.value(), 16_777_215);
+    same(&rt, usize::from(U24::MIN), 0);
+    same(&rt, U24::MIN.value(), 0);
+    same(&rt, U24::default(), U24::MIN);
     Ok(())
 }
 
 #[test]
 fn a_variable_length_integer_is_below_its_limit(rt: HostRuntime) -> Result<(), Fail> {
     let most = TlsVarInt::try_from(TlsVarInt::MAX)?;
-    assert_eq!(rt; most.value(), 4_611_686_018_427_387_903);
-    assert_eq!(rt; u64::from(most), TlsVarInt::MAX);
-    assert_eq!(rt;
+    same(&rt, most.value(), 4_611_686_018_427_387_903);
+    same(&rt, u64::from(most), TlsVarInt::MAX);
+    same(
+        &rt,
         TlsVarInt::try_from(TlsVarInt::MAX + 1),
-        Err(Error::InvalidVectorLength)
+        Err(Error::InvalidVectorLength),
     );
-    assert!(rt; TlsVarInt::try_from(37)? < most);
+    same(&rt, TlsVarInt::try_from(37)? < most, true);
     Ok(())
 }
 
@@ -52,21 +54,21 @@ fn a_variable_length_integer_has_its_least_bytes(rt: HostRuntime) -> Result<(), 
     ] {
         let n = TlsVarInt::try_from(number)?;
         let mut out = Vec::new(rt.alloc());
-        assert_eq!(rt; write_varint(&mut out, n), Ok(bytes.len()), "{number}");
-        assert_eq!(rt; out.as_slice(), bytes, "{number}");
-        assert_eq!(rt; least_width(number), bytes.len(), "{number}");
+        same_at(&rt, number, write_varint(&mut out, n), Ok(bytes.len()));
+        same_at(&rt, number, out.as_slice(), bytes);
+        same_at(&rt, number, least_width(number), bytes.len());
         let mut src = bytes;
-        assert_eq!(rt; read_varint(&mut src), Ok(n), "{number}");
-        assert!(rt; src.is_empty(), "{number}");
-        assert_eq!(rt; split_varint(bytes), Ok((n, [].as_slice())), "{number}");
+        same_at(&rt, number, read_varint(&mut src), Ok(n));
+        same_at(&rt, number, src.is_empty(), true);
+        same_at(&rt, number, split_varint(bytes), Ok((n, [].as_slice())));
     }
     Ok(())
 }
 
 #[test]
 fn no_width_holds_a_greater_number(rt: HostRuntime) {
-    assert_eq!(rt; least_width(TlsVarInt::MAX), 8);
-    assert_eq!(rt; least_width(TlsVarInt::MAX + 1), 0);
+    same(&rt, least_width(TlsVarInt::MAX), 8);
+    same(&rt, least_width(TlsVarInt::MAX + 1), 0);
 }
 
 // All bytes that the first one asks for are read before a width is refused.
@@ -86,8 +88,8 @@ fn an_integer_has_no_other_bytes(rt: HostRuntime) {
         ),
     ] {
         let mut src = bytes;
-        assert_eq!(rt; read_varint(&mut src), Err(error), "{bytes:?}");
-        assert_eq!(rt; split_varint(bytes), Err(error), "{bytes:?}");
+        same_at(&rt, bytes, read_varint(&mut src), Err(error));
+        same_at(&rt, bytes, split_varint(bytes), Err(error));
     }
 }
 
@@ -101,26 +103,26 @@ fn byte(number: u64) -> Result<u8, Error> {
 
 #[test]
 fn errors_of_std_have_an_error_here(rt: HostRuntime) {
-    assert_eq!(rt; pair(&[1]), Err(Error::InvalidInput));
-    assert_eq!(rt; byte(256), Err(Error::InvalidVectorLength));
+    same(&rt, pair(&[1]), Err(Error::InvalidInput));
+    same(&rt, byte(256), Err(Error::InvalidVectorLength));
 }
 
 #[test]
 fn a_length_is_put_before_what_it_counts(rt: HostRuntime) -> Result<(), Fail> {
     let alloc = rt.alloc();
     let mut out = Vec::from_slice(alloc, &[0xaa, 1, 2])?;
-    assert_eq!(rt; insert_length(&mut out, 1), Ok(1));
-    assert_eq!(rt; out.as_slice(), [0xaa, 2, 1, 2].as_slice());
+    same(&rt, insert_length(&mut out, 1), Ok(1));
+    same(&rt, out.as_slice(), [0xaa, 2, 1, 2].as_slice());
     let mut out = Vec::from_slice(alloc, &[0xaa, 1, 2])?;
-    assert_eq!(rt; insert_length(&mut out, 3), Ok(1));
-    assert_eq!(rt; out.as_slice(), [0xaa, 1, 2, 0].as_slice());
+    same(&rt, insert_length(&mut out, 3), Ok(1));
+    same(&rt, out.as_slice(), [0xaa, 1, 2, 0].as_slice());
     let mut out = Vec::from_slice(alloc, &[7; 64])?;
-    assert_eq!(rt; insert_length(&mut out, 0), Ok(2));
-    assert_eq!(rt; &out[..3], [0x40, 0x40, 7].as_slice());
+    same(&rt, insert_length(&mut out, 0), Ok(2));
+    same(&rt, &out[..3], [0x40, 0x40, 7].as_slice());
     let mut out = Vec::from_slice(alloc, &[7; 16384])?;
-    assert_eq!(rt; insert_length(&mut out, 0), Ok(4));
-    assert_eq!(rt; &out[..5], [0x80, 0, 0x40, 0, 7].as_slice());
-    assert_eq!(rt; out.len(), 16388);
+    same(&rt, insert_length(&mut out, 0), Ok(4));
+    same(&rt, &out[..5], [0x80, 0, 0x40, 0, 7].as_slice());
+    same(&rt, out.len(), 16388);
     Ok(())
 }
 
@@ -128,17 +130,17 @@ fn a_length_is_put_before_what_it_counts(rt: HostRuntime) -> Result<(), Fail> {
 fn bytes_are_put_into_a_vector(rt: HostRuntime) -> Result<(), Fail> {
     let mut out = Vec::from_slice(rt.alloc(), &[0xaa, 0x7b, 0xbd])?;
     insert_bytes(&mut out, 1, &[1, 2])?;
-    assert_eq!(rt; out.as_slice(), [0xaa, 1, 2, 0x7b, 0xbd].as_slice());
+    same(&rt, out.as_slice(), [0xaa, 1, 2, 0x7b, 0xbd].as_slice());
     Ok(())
 }
 
 #[test]
 fn a_copy_is_equal(rt: HostRuntime) -> Result<(), Fail> {
     let n = TlsVarInt::try_from(37)?;
-    assert_eq!(rt; n.clone()?, n);
-    assert_eq!(rt; U24::MAX.clone()?, U24::MAX);
+    same(&rt, n.clone()?, n);
+    same(&rt, U24::MAX.clone()?, U24::MAX);
     let error = Error::DecodingError("read failed");
-    assert_eq!(rt; error.clone()?, error);
-    assert!(rt; error != Error::DecodingError("io error"));
+    same(&rt, error.clone()?, error);
+    same(&rt, error != Error::DecodingError("io error"), true);
     Ok(())
 }

@@ -1,9 +1,10 @@
 //! Bytes that end before the lengths in them say.
 use super::LOG;
-use crate::Log;
+use crate::tests::same_at;
 use std::alloc::Global;
 use std::process::Abort;
 use tls_codec::{Deserialize, DeserializeBytes, Error};
+use tls_codec_vectors::Log;
 
 // A number, a list and a text.
 const MIXED: [u8; 10] = [7, 4, 0, 1, 0, 2, 1, 2, 0xc3, 0xa9];
@@ -22,21 +23,29 @@ fn each_prefix_is_refused<T: Deserialize + DeserializeBytes>(
     for end in 0..bytes.len() {
         let front = &bytes[..end];
         let mut source = front;
-        assert!(rt;
+        same_at(
+            rt,
+            end,
             is_refusal(T::tls_deserialize_bytes(alloc, front).err()),
-            "at {end}"
+            true,
         );
-        assert!(rt;
+        same_at(
+            rt,
+            end,
             is_refusal(T::tls_deserialize(alloc, &mut source).err()),
-            "at {end}"
+            true,
         );
-        assert!(rt;
+        same_at(
+            rt,
+            end,
             is_refusal(T::tls_deserialize_exact_bytes(alloc, front).err()),
-            "at {end}"
+            true,
         );
-        assert!(rt;
+        same_at(
+            rt,
+            end,
             is_refusal(T::tls_deserialize_exact(alloc, front).err()),
-            "at {end}"
+            true,
         );
     }
 }

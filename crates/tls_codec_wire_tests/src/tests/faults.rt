@@ -1,15 +1,16 @@
 // A fault is returned at once. No call is made after it, nor after the end.
 use super::devices::{ENDED, FailingFirst, Fives, Keeper, Plan};
-use crate::device::{Fault, Source};
-use crate::error::Error;
-use crate::gather::read_bytes_bounded;
-use crate::outside::Outside;
-use crate::quic::{read_varint, write_varint};
-use crate::transfer::{read_exactly, write_all};
-use crate::varint::TlsVarInt;
-use crate::vlen::{read_length, write_length};
+use super::same;
 use std::io::ErrorKind;
 use std::test::Fail;
+use tls_codec_wire::device::{Fault, Source};
+use tls_codec_wire::error::Error;
+use tls_codec_wire::gather::read_bytes_bounded;
+use tls_codec_wire::outside::Outside;
+use tls_codec_wire::quic::{read_varint, write_varint};
+use tls_codec_wire::transfer::{read_exactly, write_all};
+use tls_codec_wire::varint::TlsVarInt;
+use tls_codec_wire::vlen::{read_length, write_length};
 
 // Fails once, and then works.
 fn failing_once(fault: Fault) -> Plan {
@@ -28,18 +29,18 @@ fn a_read_that_failed_is_not_tried_again(rt: HostRuntime) {
         (Fault::NoMemory, Error::OutOfMemory),
     ] {
         let mut src = Fives::new(failing_once(fault));
-        assert_eq!(rt; read_exactly(&mut src, &mut [0; 2]), Err(error));
-        assert_eq!(rt; src.progress.calls, 1);
+        same(&rt, read_exactly(&mut src, &mut [0; 2]), Err(error));
+        same(&rt, src.progress.calls, 1);
         let mut src = Fives::new(failing_once(fault));
         let refused = read_bytes_bounded(rt.alloc(), &mut src, 2);
-        assert_eq!(rt; refused.err(), Some(error));
-        assert_eq!(rt; src.progress.calls, 1);
+        same(&rt, refused.err(), Some(error));
+        same(&rt, src.progress.calls, 1);
         let mut src = Fives::new(failing_once(fault));
-        assert_eq!(rt; read_varint(&mut src), Err(error));
-        assert_eq!(rt; src.progress.calls, 1);
+        same(&rt, read_varint(&mut src), Err(error));
+        same(&rt, src.progress.calls, 1);
         let mut src = Fives::new(failing_once(fault));
-        assert_eq!(rt; read_length(&mut src), Err(error));
-        assert_eq!(rt; src.progress.calls, 1);
+        same(&rt, read_length(&mut src), Err(error));
+        same(&rt, src.progress.calls, 1);
     }
 }
 
@@ -51,14 +52,14 @@ fn a_write_that_failed_is_not_tried_again(rt: HostRuntime) -> Result<(), Fail> {
         (Fault::NoMemory, Error::OutOfMemory),
     ] {
         let mut sink = Keeper::new(Vec::new(rt.alloc()), failing_once(fault));
-        assert_eq!(rt; write_all(&mut sink, &[1, 2]), Err(error));
-        assert_eq!(rt; sink.progress.calls, 1);
+        same(&rt, write_all(&mut sink, &[1, 2]), Err(error));
+        same(&rt, sink.progress.calls, 1);
         let mut sink = Keeper::new(Vec::new(rt.alloc()), failing_once(fault));
-        assert_eq!(rt; write_varint(&mut sink, n), Err(error));
-        assert_eq!(rt; sink.progress.calls, 1);
+        same(&rt, write_varint(&mut sink, n), Err(error));
+        same(&rt, sink.progress.calls, 1);
         let mut sink = Keeper::new(Vec::new(rt.alloc()), failing_once(fault));
-        assert_eq!(rt; write_length(&mut sink, 64), Err(error));
-        assert_eq!(rt; sink.progress.calls, 1);
+        same(&rt, write_length(&mut sink, 64), Err(error));
+        same(&rt, sink.progress.calls, 1);
     }
     Ok(())
 }
@@ -68,15 +69,15 @@ fn the_end_is_asked_for_once(rt: HostRuntime) {
     let one = Plan { bytes: 1, ..ENDED };
     let mut src = Fives::new(one);
     let refused = read_exactly(&mut src, &mut [0; 3]);
-    assert_eq!(rt; refused, Err(Error::EndOfStream));
-    assert_eq!(rt; src.progress.calls, 2);
+    same(&rt, refused, Err(Error::EndOfStream));
+    same(&rt, src.progress.calls, 2);
     let mut src = Fives::new(one);
     let refused = read_bytes_bounded(rt.alloc(), &mut src, 3);
-    assert_eq!(rt; refused.err(), Some(Error::EndOfStream));
-    assert_eq!(rt; src.progress.calls, 2);
+    same(&rt, refused.err(), Some(Error::EndOfStream));
+    same(&rt, src.progress.calls, 2);
     let mut src = Fives::new(ENDED);
-    assert_eq!(rt; read_length(&mut src), Err(Error::EndOfStream));
-    assert_eq!(rt; src.progress.calls, 1);
+    same(&rt, read_length(&mut src), Err(Error::EndOfStream));
+    same(&rt, src.progress.calls, 1);
 }
 
 #[test]
@@ -93,12 +94,12 @@ fn a_reader_outside_is_read_once_a_pull(rt: HostRuntime) {
     let mut src = Outside::new(reader);
     let mut into = [0; 2];
     for fault in [Fault::Interrupted, Fault::NoMemory, Fault::Failed] {
-        assert_eq!(rt; src.pull(&mut into), Err(fault));
+        same(&rt, src.pull(&mut into), Err(fault));
     }
-    assert_eq!(rt; src.pull(&mut into), Ok(1));
-    assert_eq!(rt; into, [5, 0]);
+    same(&rt, src.pull(&mut into), Ok(1));
+    same(&rt, into, [5, 0]);
     let counts = (src.interruptions(), src.shortages(), src.failures());
-    assert_eq!(rt; counts, (1, 1, 1));
-    assert_eq!(rt; src.moved(), 1);
-    assert_eq!(rt; src.into_inner().reads, 4);
+    same(&rt, counts, (1, 1, 1));
+    same(&rt, src.moved(), 1);
+    same(&rt, src.into_inner().reads, 4);
 }

@@ -1,11 +1,12 @@
 //! Devices that move one byte a call, and fail.
 use super::{LOG, worked_log};
-use crate::{Drip, Failing, Log, Trickle};
+use crate::tests::{holds, same, same_at};
 use std::test::Fail;
 use tls_codec::{
     Deserialize, DeserializeBytes, Error, Fault, Serialize, Sink, Source, TlsByteVecU16, vlen,
     write_all,
 };
+use tls_codec_vectors::{Drip, Failing, Log, Trickle};
 
 const READ_FAILED: Error = Error::DecodingError("read failed");
 
@@ -18,7 +19,7 @@ fn a_trickle_appends(rt: HostRuntime) -> Result<(), Fail> {
     write_all(&mut sink, &[0, 1, 2])?;
     let mut whole = vec![in alloc; 0u8; 32]?;
     whole.extend_from_slice(&[0, 1, 2])?;
-    assert_eq!(rt; sink.into_inner().as_slice(), whole.as_slice());
+    same(&rt, sink.into_inner().as_slice(), whole.as_slice());
     Ok(())
 }
 
@@ -28,21 +29,22 @@ fn a_trickle_appends(rt: HostRuntime) -> Result<(), Fail> {
 fn whole_pieces_are_handed_on(rt: HostRuntime) {
     let mut source = Failing::new([1u8, 2, 3].as_slice(), 2, 1, Fault::Failed);
     let mut into = [0; 3];
-    assert_eq!(rt; source.pull(&mut into), Ok(3));
-    assert_eq!(rt; into, [1, 2, 3]);
+    same(&rt, source.pull(&mut into), Ok(3));
+    same(&rt, into, [1, 2, 3]);
     let mut sink = Failing::new(Vec::new(rt.alloc()), 2, 1, Fault::Failed);
-    assert_eq!(rt; sink.give(&[1, 2, 3]), Ok(3));
-    assert_eq!(rt; sink.into_inner().as_slice(), [1, 2, 3].as_slice());
+    same(&rt, sink.give(&[1, 2, 3]), Ok(3));
+    same(&rt, sink.into_inner().as_slice(), [1, 2, 3].as_slice());
 }
 
 #[test]
 fn a_length_one_byte_a_call(rt: HostRuntime) {
     let mut source = Drip::new(&[0x40, 0x40]);
-    assert_eq!(rt; vlen::read_length(&mut source), Ok((64, 2)));
+    same(&rt, vlen::read_length(&mut source), Ok((64, 2)));
     let mut source = Drip::new(&[0x40, 0x25]);
-    assert_eq!(rt;
+    same(
+        &rt,
         vlen::read_length(&mut source),
-        Err(Error::InvalidVectorLength)
+        Err(Error::InvalidVectorLength),
     );
 }
 
@@ -71,10 +73,10 @@ fn a_log_from_a_source_that_fails(rt: HostRuntime) -> Result<(), Fail> {
                 Fault::Interrupted => (0, came, 0),
                 Fault::NoMemory => (0, 0, came),
             };
-            assert_eq!(rt; counted, counts, "at {at}");
+            same_at(&rt, at, counted, counts);
             match found {
-                Ok(found) => assert!(rt; found == log && error.is_none(), "at {at}"),
-                Err(found) => assert_eq!(rt; Some(found), error, "at {at}"),
+                Ok(found) => same_at(&rt, at, found == log && error.is_none(), true),
+                Err(found) => same_at(&rt, at, Some(found), error),
             }
         }
     }
@@ -86,7 +88,7 @@ fn a_list_from_a_source_that_fails(rt: HostRuntime) {
     for at in 1..6u64 {
         let mut source = Failing::new(Drip::new(&[4, 0, 1, 0, 2]), at, 1, Fault::Failed);
         let refused = <Vec<u16>>::tls_deserialize(rt.alloc(), &mut source).err();
-        assert_eq!(rt; refused, Some(READ_FAILED), "at {at}");
+        same_at(&rt, at, refused, Some(READ_FAILED));
     }
 }
 
@@ -101,12 +103,15 @@ fn a_log_into_a_sink_that_fails(rt: HostRuntime) -> Result<(), Fail> {
         for sent in 0..LOG.len() {
             let trickle = Trickle::new(Vec::new(alloc));
             let mut sink = Failing::new(trickle, sent as u64 + 1, 1, fault);
-            assert_eq!(rt; log.tls_serialize(&mut sink), Err(error));
+            same(&rt, log.tls_serialize(&mut sink), Err(error));
             let received = sink.into_inner().into_inner();
-            assert_eq!(rt; received.as_slice(), &LOG[..sent]);
-            assert!(rt; Log::tls_deserialize_bytes(alloc, received.as_slice()).is_err());
+            same(&rt, received.as_slice(), &LOG[..sent]);
+            holds(
+                &rt,
+                Log::tls_deserialize_bytes(alloc, received.as_slice()).is_err(),
+            );
             let mut source = received.as_slice();
-            assert!(rt; Log::tls_deserialize(alloc, &mut source).is_err());
+            holds(&rt, Log::tls_deserialize(alloc, &mut source).is_err());
         }
     }
     Ok(())
@@ -123,9 +128,13 @@ fn a_pair_into_a_sink_that_fails(rt: HostRuntime) -> Result<(), Fail> {
         (3, 1, Fault::NoMemory, Error::OutOfMemory),
     ] {
         let mut sink = Failing::new(Trickle::new(Vec::new(alloc)), at, times, fault);
-        assert_eq!(rt; pair.tls_serialize(&mut sink), Err(error));
+        same(&rt, pair.tls_serialize(&mut sink), Err(error));
         let received = sink.into_inner().into_inner();
-        assert_eq!(rt; received.as_slice(), &[1, 0, 2, 9, 8][..at as usize - 1]);
+        same(
+            &rt,
+            received.as_slice(),
+            &[1, 0, 2, 9, 8][..at as usize - 1],
+        );
     }
     Ok(())
 }
@@ -136,15 +145,15 @@ fn interruptions_over_whole_call(rt: HostRuntime) {
     let alloc = rt.alloc();
     for (times, number) in [(16, Ok(5)), (17, Err(READ_FAILED))] {
         let mut source = Failing::new([5u8].as_slice(), 1, times, Fault::Interrupted);
-        assert_eq!(rt; u8::tls_deserialize(alloc, &mut source), number);
-        assert_eq!(rt; source.interruptions(), times);
+        same(&rt, u8::tls_deserialize(alloc, &mut source), number);
+        same(&rt, source.interruptions(), times);
         let mut source = Failing::new(Drip::new(&[5]), 1, times, Fault::Interrupted);
-        assert_eq!(rt; u8::tls_deserialize(alloc, &mut source), number);
-        assert_eq!(rt; source.interruptions(), times);
+        same(&rt, u8::tls_deserialize(alloc, &mut source), number);
+        same(&rt, source.interruptions(), times);
     }
     let inner = Failing::new(Drip::new(&[0, 7]), 2, 16, Fault::Interrupted);
     let mut outer = Failing::new(inner, 1, 16, Fault::Interrupted);
-    assert_eq!(rt; u16::tls_deserialize(alloc, &mut outer), Ok(7));
-    assert_eq!(rt; outer.interruptions(), 16);
-    assert_eq!(rt; outer.into_inner().interruptions(), 16);
+    same(&rt, u16::tls_deserialize(alloc, &mut outer), Ok(7));
+    same(&rt, outer.interruptions(), 16);
+    same(&rt, outer.into_inner().interruptions(), 16);
 }

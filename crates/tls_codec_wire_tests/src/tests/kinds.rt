@@ -1,21 +1,22 @@
 // Each kind of error that std names, a timeout among them, as a fault and as an error.
 use super::devices::Failing;
-use crate::device::{Fault, Sink, Source};
-use crate::error::Error;
-use crate::outside::Outside;
+use super::same_at;
 use std::io;
 use std::io::ErrorKind;
 use std::process::Abort;
+use tls_codec_wire::device::{Fault, Sink, Source};
+use tls_codec_wire::error::Error;
+use tls_codec_wire::outside::Outside;
 
 const IO_ERROR: Error = Error::DecodingError("io error");
 
 // What an error of this kind is if a reader or a writer outside fails by it, and what it becomes.
 fn kind_is(rt: &impl Abort, kind: ErrorKind, fault: Fault, error: Error) {
     let mut src = Outside::new(Failing { kind });
-    assert_eq!(rt; src.pull(&mut [0]), Err(fault), "{kind:?}");
+    same_at(rt, kind, src.pull(&mut [0]), Err(fault));
     let mut sink = Outside::new(Failing { kind });
-    assert_eq!(rt; sink.give(&[0]), Err(fault), "{kind:?}");
-    assert_eq!(rt; Error::from(io::Error::from(kind)), error, "{kind:?}");
+    same_at(rt, kind, sink.give(&[0]), Err(fault));
+    same_at(rt, kind, Error::from(io::Error::from(kind)), error);
 }
 
 #[test]

@@ -5,13 +5,15 @@ mod faults;
 mod kinds;
 mod numbers;
 
-use crate::device::{Fault, Sink, Source};
-use crate::error::Error;
-use crate::outside::Outside;
-use crate::transfer::{expect_end, read_exactly, write_all};
 use devices::{ENDED, Fives, Keeper, Plan};
 use std::alloc::AllocError;
+use std::fmt::Debug;
+use std::process::Abort;
 use std::test::Fail;
+use tls_codec_wire::device::{Fault, Sink, Source};
+use tls_codec_wire::error::Error;
+use tls_codec_wire::outside::Outside;
+use tls_codec_wire::transfer::{expect_end, read_exactly, write_all};
 
 const READ_FAILED: Error = Error::DecodingError("read failed");
 
@@ -20,6 +22,21 @@ const WRITE_FAILED: Error = Error::EncodingError("write failed");
 const FAILED: Option<Fault> = Some(Fault::Failed);
 
 const NO_MEMORY: Option<Fault> = Some(Fault::NoMemory);
+
+// An assertion that is written out is proved at each place: this one is proved once.
+fn same<T: PartialEq + Debug + Drop>(rt: &impl Abort, found: T, expected: T) {
+    assert_eq!(rt; found, expected);
+}
+
+// The same at one of several rows, which a failure names.
+fn same_at<Row: Debug + Drop, T: PartialEq + Debug + Drop>(
+    rt: &impl Abort,
+    row: Row,
+    found: T,
+    expected: T,
+) {
+    assert_eq!(rt; found, expected, "at {row:?}");
+}
 
 #[test]
 fn an_error_prints_its_name_and_its_debug_text(rt: HostRuntime) -> Result<(), Fail> {
@@ -51,16 +68,16 @@ fn an_error_prints_its_name_and_its_debug_text(rt: HostRuntime) -> Result<(), Fa
         (Error::LibraryError, "LibraryError", "LibraryError"),
         (Error::OutOfMemory, "OutOfMemory", "OutOfMemory"),
     ] {
-        assert_eq!(rt; error.name(), name);
+        same(&rt, error.name(), name);
         let printed = format!(in rt.alloc(); "{error}")?;
-        assert_eq!(rt; printed.as_str(), text);
+        same(&rt, printed.as_str(), text);
     }
     Ok(())
 }
 
 #[test]
 fn refused_memory_is_out_of_memory(rt: HostRuntime) {
-    assert_eq!(rt; Error::from(AllocError), Error::OutOfMemory);
+    same(&rt, Error::from(AllocError), Error::OutOfMemory);
 }
 
 #[test]
@@ -79,9 +96,9 @@ fn a_read_ends_as_its_source_does(rt: HostRuntime) {
         });
         let mut into = [0];
         let result = read_exactly(&mut src, &mut into);
-        assert_eq!(rt; result, end, "{interruptions} interruptions");
+        same_at(&rt, interruptions, result, end);
         if result.is_ok() {
-            assert_eq!(rt; into, [5]);
+            same(&rt, into, [5]);
         }
     }
 }
@@ -104,13 +121,13 @@ fn a_source_is_at_its_end_or_not(rt: HostRuntime) {
             interruptions,
             after,
         });
-        assert_eq!(rt; expect_end(&mut src), end, "{bytes} bytes");
-        assert_eq!(rt; src.progress.calls, calls, "{bytes} bytes");
+        same_at(&rt, bytes, expect_end(&mut src), end);
+        same_at(&rt, bytes, src.progress.calls, calls);
     }
     let mut src = [7].as_slice();
-    assert_eq!(rt; expect_end(&mut src), trailing);
-    assert!(rt; src.is_empty());
-    assert_eq!(rt; expect_end(&mut src), Ok(()));
+    same(&rt, expect_end(&mut src), trailing);
+    same(&rt, src.is_empty(), true);
+    same(&rt, expect_end(&mut src), Ok(()));
 }
 
 #[test]
@@ -128,8 +145,8 @@ fn a_refused_write_has_sent_a_beginning(rt: HostRuntime) {
         };
         let mut sink = Keeper::new(Vec::new(rt.alloc()), plan);
         let result = write_all(&mut sink, &[1, 2, 3, 4]);
-        assert_eq!(rt; result, Err(error));
-        assert_eq!(rt; sink.taken.as_slice(), taken);
+        same(&rt, result, Err(error));
+        same(&rt, sink.taken.as_slice(), taken);
     }
 }
 
@@ -145,10 +162,10 @@ fn interruptions_over_whole_call(rt: HostRuntime) -> Result<(), Fail> {
     let mut src = Fives::new(plan);
     let mut into = [0; 2];
     read_exactly(&mut src, &mut into)?;
-    assert_eq!(rt; into, [5, 5]);
+    same(&rt, into, [5, 5]);
     let mut sink = Keeper::new(Vec::new(rt.alloc()), plan);
     write_all(&mut sink, &[1, 2])?;
-    assert_eq!(rt; sink.taken.as_slice(), [1, 2].as_slice());
+    same(&rt, sink.taken.as_slice(), [1, 2].as_slice());
     Ok(())
 }
 
@@ -162,19 +179,19 @@ fn nothing_to_move_makes_no_call(rt: HostRuntime) -> Result<(), Fail> {
     };
     let mut src = Fives::new(plan);
     read_exactly(&mut src, &mut [])?;
-    assert_eq!(rt; src.progress.calls, 0);
+    same(&rt, src.progress.calls, 0);
     let mut sink = Keeper::new(Vec::new(rt.alloc()), plan);
     write_all(&mut sink, &[])?;
-    assert_eq!(rt; sink.progress.calls, 0);
+    same(&rt, sink.progress.calls, 0);
     Ok(())
 }
 
 #[test]
 fn no_byte_taken_is_a_failure_of_the_sink(rt: HostRuntime) {
     let mut sink = Keeper::new(Vec::new(rt.alloc()), ENDED);
-    assert_eq!(rt; write_all(&mut sink, &[1]), Err(WRITE_FAILED));
-    assert_eq!(rt; sink.progress.failures, 1);
-    assert_eq!(rt; sink.progress.calls, 1);
+    same(&rt, write_all(&mut sink, &[1]), Err(WRITE_FAILED));
+    same(&rt, sink.progress.failures, 1);
+    same(&rt, sink.progress.calls, 1);
 }
 
 #[test]
@@ -182,9 +199,13 @@ fn a_slice_gives_its_front(rt: HostRuntime) -> Result<(), Fail> {
     let mut src = [1, 2, 3].as_slice();
     let mut into = [0; 2];
     read_exactly(&mut src, &mut into)?;
-    assert_eq!(rt; into, [1, 2]);
-    assert_eq!(rt; src, [3].as_slice());
-    assert_eq!(rt; read_exactly(&mut src, &mut into), Err(Error::EndOfStream));
+    same(&rt, into, [1, 2]);
+    same(&rt, src, [3].as_slice());
+    same(
+        &rt,
+        read_exactly(&mut src, &mut into),
+        Err(Error::EndOfStream),
+    );
     Ok(())
 }
 
@@ -193,7 +214,7 @@ fn a_vector_takes_a_piece_at_its_end(rt: HostRuntime) -> Result<(), Fail> {
     let mut out = Vec::new(rt.alloc());
     write_all(&mut out, &[1, 2])?;
     write_all(&mut out, &[3])?;
-    assert_eq!(rt; out.as_slice(), [1, 2, 3].as_slice());
+    same(&rt, out.as_slice(), [1, 2, 3].as_slice());
     Ok(())
 }
 
@@ -202,8 +223,8 @@ fn a_reader_outside_gives_its_bytes(rt: HostRuntime) {
     let mut src = Outside::new([1, 2, 3].as_slice());
     let mut into = [0; 2];
     for (moved, content) in [(2, [1, 2]), (1, [3, 2]), (0, [3, 2])] {
-        assert_eq!(rt; src.pull(&mut into), Ok(moved));
-        assert_eq!(rt; into, content);
+        same(&rt, src.pull(&mut into), Ok(moved));
+        same(&rt, into, content);
     }
 }
 
@@ -211,8 +232,8 @@ fn a_reader_outside_gives_its_bytes(rt: HostRuntime) {
 fn a_writer_outside_takes_bytes_at_its_end(rt: HostRuntime) -> Result<(), Fail> {
     let mut out = Vec::new(rt.alloc());
     let mut sink = Outside::new(&mut out);
-    assert_eq!(rt; sink.give(&[1, 2]), Ok(2));
-    assert_eq!(rt; sink.give(&[3]), Ok(1));
-    assert_eq!(rt; out.as_slice(), [1, 2, 3].as_slice());
+    same(&rt, sink.give(&[1, 2]), Ok(2));
+    same(&rt, sink.give(&[3]), Ok(1));
+    same(&rt, out.as_slice(), [1, 2, 3].as_slice());
     Ok(())
 }

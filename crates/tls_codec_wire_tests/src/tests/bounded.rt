@@ -3,15 +3,16 @@ ghost use Rattle.std.specs.Prelude.{None, ⊤};
 ghost use Rattle.tls_codec_wire.specs.Counts.{no_counts, stay};
 
 use super::devices::{ENDED, Fives, Plan};
-use crate::bounded::Bounded;
-use crate::device::{Fault, Fill, Source};
-use crate::error::Error;
-use crate::gather::read_bytes_bounded;
-use crate::transfer::read_exactly;
-use crate::vlen::{length_form, length_width, read_length, split_length, write_length};
+use super::{same, same_at};
 use std::alloc::Global;
 use std::process::Abort;
 use std::test::Fail;
+use tls_codec_wire::bounded::Bounded;
+use tls_codec_wire::device::{Fault, Fill, Source};
+use tls_codec_wire::error::Error;
+use tls_codec_wire::gather::read_bytes_bounded;
+use tls_codec_wire::transfer::read_exactly;
+use tls_codec_wire::vlen::{length_form, length_width, read_length, split_length, write_length};
 
 // Has so many bytes left. It notes whether a vector had more room for them than the greater of 4,096
 // and what came.
@@ -81,19 +82,23 @@ impl Source for BufferWatcher {
 fn are_two_bytes<R: Source>(rt: &impl Abort, src: &mut R) {
     let mut inner = Bounded::new(src, 2);
     let mut bytes = [0; 2];
-    assert_eq!(rt; read_exactly(&mut inner, &mut bytes), Ok(()));
-    assert_eq!(rt; bytes, [1, 2]);
-    assert_eq!(rt; read_exactly(&mut inner, &mut [0]), Err(Error::EndOfStream));
+    same(rt, read_exactly(&mut inner, &mut bytes), Ok(()));
+    same(rt, bytes, [1, 2]);
+    same(
+        rt,
+        read_exactly(&mut inner, &mut [0]),
+        Err(Error::EndOfStream),
+    );
 }
 
 // They are read so within a limit of three, which leaves one, and the byte after them too.
 fn are_three_bytes<R: Source>(rt: &impl Abort, src: &mut R) {
     let mut outer = Bounded::new(src, 3);
     are_two_bytes(rt, &mut outer);
-    assert_eq!(rt; outer.limit(), 1);
+    same(rt, outer.limit(), 1);
     let mut byte = [0];
-    assert_eq!(rt; read_exactly(&mut outer, &mut byte), Ok(()));
-    assert_eq!(rt; byte, [3]);
+    same(rt, read_exactly(&mut outer, &mut byte), Ok(()));
+    same(rt, byte, [3]);
 }
 
 // Gathers two bytes within a limit of two.
@@ -107,20 +112,20 @@ fn gather_two<R: Source>(alloc: Global, src: &mut R) -> Result<Vec<u8>, Error> {
 fn a_limit_within_a_limit(rt: HostRuntime) {
     let mut src = [1, 2, 3, 4].as_slice();
     are_three_bytes(&rt, &mut src);
-    assert_eq!(rt; src, [4].as_slice());
+    same(&rt, src, [4].as_slice());
 }
 
 #[test]
 fn a_limit_over_a_slice(rt: HostRuntime) {
     let mut src = [1, 2, 3].as_slice();
     let mut first = Bounded::new(&mut src, 2);
-    assert_eq!(rt; first.at_hand(), [1, 2].as_slice());
+    same(&rt, first.at_hand(), [1, 2].as_slice());
     let mut into = [0; 4];
-    assert_eq!(rt; first.pull(&mut into), Ok(2));
-    assert_eq!(rt; into, [1, 2, 0, 0]);
-    assert_eq!(rt; first.pull(&mut into), Ok(0));
-    assert_eq!(rt; first.limit(), 0);
-    assert_eq!(rt; src.at_hand(), [3].as_slice());
+    same(&rt, first.pull(&mut into), Ok(2));
+    same(&rt, into, [1, 2, 0, 0]);
+    same(&rt, first.pull(&mut into), Ok(0));
+    same(&rt, first.limit(), 0);
+    same(&rt, src.at_hand(), [3].as_slice());
 }
 
 #[test]
@@ -128,24 +133,28 @@ fn a_buffer_is_filled_at_once_or_not_at_all(rt: HostRuntime) {
     let mut src = [1, 2, 3].as_slice();
     let mut first = Bounded::new(&mut src, 2);
     let mut into = [0; 2];
-    assert_eq!(rt; first.fill_at_hand(&mut [0; 3]), Fill::TooFew);
-    assert_eq!(rt; first.fill_at_hand(&mut into), Fill::Full);
-    assert_eq!(rt; into, [1, 2]);
-    assert_eq!(rt; first.limit(), 0);
-    assert_eq!(rt; src.fill_at_hand(&mut into), Fill::TooFew);
-    assert_eq!(rt; src, [3].as_slice());
-    assert_eq!(rt; Fives::new(ENDED).fill_at_hand(&mut into), Fill::Unknown);
+    same(&rt, first.fill_at_hand(&mut [0; 3]), Fill::TooFew);
+    same(&rt, first.fill_at_hand(&mut into), Fill::Full);
+    same(&rt, into, [1, 2]);
+    same(&rt, first.limit(), 0);
+    same(&rt, src.fill_at_hand(&mut into), Fill::TooFew);
+    same(&rt, src, [3].as_slice());
+    same(
+        &rt,
+        Fives::new(ENDED).fill_at_hand(&mut into),
+        Fill::Unknown,
+    );
 }
 
 #[test]
 fn bytes_are_gathered(rt: HostRuntime) -> Result<(), Fail> {
     let mut src = [1, 2, 3].as_slice();
     let bytes = read_bytes_bounded(rt.alloc(), &mut src, 2)?;
-    assert_eq!(rt; bytes.as_slice(), [1, 2].as_slice());
-    assert_eq!(rt; src, [3].as_slice());
+    same(&rt, bytes.as_slice(), [1, 2].as_slice());
+    same(&rt, src, [3].as_slice());
     let mut src = [1, 2, 3].as_slice();
     let first = gather_two(rt.alloc(), &mut src)?;
-    assert_eq!(rt; first.as_slice(), [1, 2].as_slice());
+    same(&rt, first.as_slice(), [1, 2].as_slice());
     Ok(())
 }
 
@@ -161,8 +170,8 @@ fn bytes_that_are_not_there_are_refused(rt: HostRuntime) {
     ] {
         let mut src = [1, 2, 3].as_slice();
         let refused = read_bytes_bounded(rt.alloc(), &mut src, length).err();
-        assert_eq!(rt; refused, Some(error), "{length} bytes");
-        assert_eq!(rt; src.len(), left, "{length} bytes");
+        same_at(&rt, length, refused, Some(error));
+        same_at(&rt, length, src.len(), left);
     }
 }
 
@@ -174,10 +183,10 @@ fn a_length_without_its_bytes_asks_for_little_room(rt: HostRuntime) {
             had_more: false,
         };
         let refused = read_bytes_bounded(rt.alloc(), &mut src, isize::MAX as usize);
-        assert_eq!(rt; refused.err(), Some(Error::EndOfStream), "{left} bytes");
-        assert_eq!(rt; src.left, 0, "{left} bytes");
-        assert!(rt; !src.had_more, "{left} bytes");
-        assert!(rt; src.at_hand().is_empty());
+        same_at(&rt, left, refused.err(), Some(Error::EndOfStream));
+        same_at(&rt, left, src.left, 0);
+        same_at(&rt, left, src.had_more, false);
+        same(&rt, src.at_hand().is_empty(), true);
     }
 }
 
@@ -185,9 +194,9 @@ fn a_length_without_its_bytes_asks_for_little_room(rt: HostRuntime) {
 fn a_length_without_its_bytes_has_a_small_buffer(rt: HostRuntime) -> Result<(), Fail> {
     let mut src = BufferWatcher { first: None };
     let refused = read_bytes_bounded(rt.alloc(), &mut src, isize::MAX as usize);
-    assert_eq!(rt; refused.err(), Some(Error::EndOfStream));
+    same(&rt, refused.err(), Some(Error::EndOfStream));
     let first = src.first.ok_or("a buffer")?;
-    assert!(rt; 0 < first && first <= 4096, "{first} bytes");
+    same_at(&rt, first, (1..=4096).contains(&first), true);
     Ok(())
 }
 
@@ -201,7 +210,7 @@ fn bytes_are_gathered_between_interruptions(rt: HostRuntime) -> Result<(), Fail>
             after: Some(Fault::Failed),
         });
         let bytes = read_bytes_bounded(rt.alloc(), &mut src, 2);
-        assert_eq!(rt; bytes.err(), end);
+        same(&rt, bytes.err(), end);
     }
     Ok(())
 }
@@ -216,12 +225,12 @@ fn a_length_is_read_in_its_least_width(rt: HostRuntime) {
     ] {
         let rest = [0xee].as_slice();
         let mut src = bytes;
-        assert_eq!(rt; read_length(&mut src), Ok((length, width)));
-        assert_eq!(rt; src, rest);
-        assert_eq!(rt; split_length(bytes), Ok((length, rest)));
+        same(&rt, read_length(&mut src), Ok((length, width)));
+        same(&rt, src, rest);
+        same(&rt, split_length(bytes), Ok((length, rest)));
         let mut cut = &bytes[..width - 1];
-        assert_eq!(rt; split_length(cut), Err(Error::EndOfStream));
-        assert_eq!(rt; read_length(&mut cut), Err(Error::EndOfStream));
+        same(&rt, split_length(cut), Err(Error::EndOfStream));
+        same(&rt, read_length(&mut cut), Err(Error::EndOfStream));
     }
 }
 
@@ -237,8 +246,8 @@ fn a_length_has_no_other_bytes(rt: HostRuntime) {
         (&[0xc0, 0, 0, 0, 0x40, 0, 0, 0], Error::InvalidVectorLength),
     ] {
         let mut src = bytes;
-        assert_eq!(rt; read_length(&mut src), Err(error), "{bytes:?}");
-        assert_eq!(rt; split_length(bytes), Err(error), "{bytes:?}");
+        same_at(&rt, bytes, read_length(&mut src), Err(error));
+        same_at(&rt, bytes, split_length(bytes), Err(error));
     }
 }
 
@@ -252,16 +261,16 @@ fn a_length_is_written_in_the_least_width(rt: HostRuntime) {
         (4_611_686_018_427_387_904, too_long, &[]),
     ] {
         let mut out = Vec::new(rt.alloc());
-        assert_eq!(rt; write_length(&mut out, length), answer);
-        assert_eq!(rt; out.as_slice(), bytes);
-        assert_eq!(rt; length_width(length), bytes.len());
+        same(&rt, write_length(&mut out, length), answer);
+        same(&rt, out.as_slice(), bytes);
+        same(&rt, length_width(length), bytes.len());
     }
 }
 
 #[test]
 fn a_length_stands_in_eight_bytes(rt: HostRuntime) -> Result<(), Fail> {
     let (form, at) = length_form(16_384).ok_or("a length")?;
-    assert_eq!(rt; &form[at..], [0x80, 0, 0x40, 0].as_slice());
-    assert_eq!(rt; length_form(1_073_741_824), None);
+    same(&rt, &form[at..], [0x80, 0, 0x40, 0].as_slice());
+    same(&rt, length_form(1_073_741_824), None);
     Ok(())
 }

@@ -3,10 +3,10 @@ ghost use Rattle.std.specs.Prelude.{◌≡◌, None};
 ghost use Rattle.tls_codec_wire.specs.Counts.{Counts, fall_never, NoneFell, stay};
 ghost use Rattle.tls_codec_wire.specs.Device.{FaultRaises, PullIsCounted};
 
-use crate::device::{Fault, Sink, Source};
 use std::io;
 use std::io::{ErrorKind, Read, Write};
 use std::marker::Model;
+use tls_codec_wire::device::{Fault, Sink, Source};
 
 // A device refuses its first call by a fault, if it has one. Then it moves so many bytes, one a
 // call, and so many interruptions come before each. After them it treats each call the same: a

@@ -1,11 +1,8 @@
 // What the laws say, seen at messages and at vectors.
-use crate::laws::{
-    byte_vectors_are_ordered_as_lists_of_bytes, equal_byte_vectors_have_equal_hashes,
-    equal_secret_vectors_have_equal_hashes, equal_vectors_have_equal_hashes,
-    messages_are_compared_by_their_fields, second_spelling_of_ping_is_unlawful,
-};
-use crate::{Leaf, Log, Step};
-use std::hash::{DefaultHasher, Hash, Hasher};
+use super::LOG;
+use crate::tests::each_call::hash_of;
+use crate::tests::{holds, same, same_at};
+use std::hash::Hash;
 use std::process::Abort;
 use std::test::Fail;
 use tls_codec::laws::{
@@ -20,6 +17,12 @@ use tls_codec::{
     Deserialize, DeserializeBytes, Error, SecretTlsVecU8, SecretVLBytes, Serialize, TlsByteVecU16,
     TlsVecU8, TlsVecU16, VLByteVec, VLBytes,
 };
+use tls_codec_vectors::laws::{
+    byte_vectors_are_ordered_as_lists_of_bytes, equal_byte_vectors_have_equal_hashes,
+    equal_secret_vectors_have_equal_hashes, equal_vectors_have_equal_hashes,
+    messages_are_compared_by_their_fields, second_spelling_of_ping_is_unlawful,
+};
+use tls_codec_vectors::{Leaf, Log, Step};
 
 #[test]
 fn no_prefix_of_a_log_is_read(rt: HostRuntime) {
@@ -27,13 +30,12 @@ fn no_prefix_of_a_log_is_read(rt: HostRuntime) {
     forms_cut_short_have_no_spelling::<Log>();
     formats_are_lawful::<Leaf, Log>();
     let alloc = rt.alloc();
-    let log = [1, 0xab, 0, 4, 0, 1, 1, 7, 1, 2, 0, 0, 0, 5];
-    for end in 0..log.len() {
-        let mut source = &log[..end];
-        assert!(rt; Log::tls_deserialize(alloc, &mut source).is_err());
-        assert!(rt; Log::tls_deserialize_bytes(alloc, &log[..end]).is_err());
+    for end in 0..LOG.len() {
+        let mut source = &LOG[..end];
+        holds(&rt, Log::tls_deserialize(alloc, &mut source).is_err());
+        holds(&rt, Log::tls_deserialize_bytes(alloc, &LOG[..end]).is_err());
     }
-    assert!(rt; Log::tls_deserialize_exact_bytes(alloc, &log).is_ok());
+    holds(&rt, Log::tls_deserialize_exact_bytes(alloc, &LOG).is_ok());
 }
 
 // One field differs in each of these.
@@ -43,23 +45,19 @@ fn messages_differ_where_a_field_does(rt: HostRuntime) -> Result<(), Fail> {
     let alloc = rt.alloc();
     let leaf = [0, 1, 1, 7];
     for other in [[0, 2, 1, 7], [0, 1, 1, 8]] {
-        assert!(rt;
-            Leaf::tls_deserialize_exact_bytes(alloc, &leaf)?
-                != Leaf::tls_deserialize_exact_bytes(alloc, &other)?
-        );
+        let leaf = Leaf::tls_deserialize_exact_bytes(alloc, &leaf)?;
+        let other = Leaf::tls_deserialize_exact_bytes(alloc, &other)?;
+        holds(&rt, leaf != other);
     }
     let jump = Step::Jump(5);
-    assert!(rt; jump != Step::Jump(6));
-    assert!(rt; jump != Step::Ping);
-    let log = [1, 0xab, 0, 4, 0, 1, 1, 7, 1, 2, 0, 0, 0, 5];
+    holds(&rt, jump != Step::Jump(6));
+    holds(&rt, jump != Step::Ping);
     for place in [1, 5, 7, 13] {
-        let mut other = log;
+        let mut other = LOG;
         other[place] = 9;
-        assert!(rt;
-            Log::tls_deserialize_exact_bytes(alloc, &log)?
-                != Log::tls_deserialize_exact_bytes(alloc, &other)?,
-            "{place}"
-        );
+        let log = Log::tls_deserialize_exact_bytes(alloc, &LOG)?;
+        let differs = log != Log::tls_deserialize_exact_bytes(alloc, &other)?;
+        same_at(&rt, place, differs, true);
     }
     Ok(())
 }
@@ -75,20 +73,20 @@ fn a_leaf_has_one_spelling(rt: HostRuntime) -> Result<(), Fail> {
     let alloc = rt.alloc();
     let form = [0, 1, 1, 7].as_slice();
     let leaf = Leaf::tls_deserialize_exact_bytes(alloc, form)?;
-    assert_eq!(rt; leaf.tls_serialize_detached(alloc)?.as_slice(), form);
+    same(&rt, leaf.tls_serialize_detached(alloc)?.as_slice(), form);
     for wide in [
         [0, 1, 0x40, 1, 7].as_slice(),
         &[0, 1, 0x80, 0, 0, 1, 7],
         &[0, 1, 0xc0, 0, 0, 0, 0, 0, 0, 1, 7],
     ] {
         let refused = Leaf::tls_deserialize_exact_bytes(alloc, wide).err();
-        assert_eq!(rt; refused, Some(Error::InvalidVectorLength));
+        same(&rt, refused, Some(Error::InvalidVectorLength));
         let mut source = wide;
         let refused = Leaf::tls_deserialize(alloc, &mut source).err();
-        assert_eq!(rt; refused, Some(Error::InvalidVectorLength));
+        same(&rt, refused, Some(Error::InvalidVectorLength));
     }
     let (_, rest) = Leaf::tls_deserialize_bytes(alloc, &[0, 1, 1, 7, 0, 1, 1, 7])?;
-    assert_eq!(rt; rest, form);
+    same(&rt, rest, form);
     Ok(())
 }
 
@@ -99,11 +97,11 @@ fn both_paths_read_the_first_leaf(rt: HostRuntime) -> Result<(), Fail> {
     let alloc = rt.alloc();
     let leaves = [0, 1, 1, 7, 0, 2, 0].as_slice();
     let (found, rest) = Leaf::tls_deserialize_bytes(alloc, leaves)?;
-    assert_eq!(rt; found.code, 1);
-    assert_eq!(rt; rest, [0, 2, 0].as_slice());
+    same(&rt, found.code, 1);
+    same(&rt, rest, [0, 2, 0].as_slice());
     let mut source = leaves;
-    assert!(rt; Leaf::tls_deserialize(alloc, &mut source)? == found);
-    assert_eq!(rt; source, [0, 2, 0].as_slice());
+    holds(&rt, Leaf::tls_deserialize(alloc, &mut source)? == found);
+    same(&rt, source, [0, 2, 0].as_slice());
     Ok(())
 }
 
@@ -120,19 +118,27 @@ fn lists_that_fit_are_written_and_read(rt: HostRuntime) -> Result<(), Fail> {
     let alloc = rt.alloc();
     let list = TlsVecU8::new(vec![in alloc; 7u16; 127]?);
     let form = list.tls_serialize_detached(alloc)?;
-    assert_eq!(rt; form.len(), 255);
-    assert!(rt; TlsVecU8::tls_deserialize_exact_bytes(alloc, &form)? == list);
+    same(&rt, form.len(), 255);
+    holds(
+        &rt,
+        TlsVecU8::tls_deserialize_exact_bytes(alloc, &form)? == list,
+    );
     let long = TlsVecU8::new(vec![in alloc; 7u16; 128]?);
-    assert_eq!(rt;
+    same(
+        &rt,
         long.tls_serialize_detached(alloc).err(),
-        Some(Error::InvalidVectorLength)
+        Some(Error::InvalidVectorLength),
     );
     let units = TlsVecU8::new(vec![in alloc; (); 2]?);
-    assert_eq!(rt;
+    same(
+        &rt,
         units.tls_serialize_detached(alloc)?.as_slice(),
-        [0].as_slice()
+        [0].as_slice(),
     );
-    assert!(rt; TlsVecU8::<()>::tls_deserialize_exact_bytes(alloc, &[0])?.is_empty());
+    holds(
+        &rt,
+        TlsVecU8::<()>::tls_deserialize_exact_bytes(alloc, &[0])?.is_empty(),
+    );
     Ok(())
 }
 
@@ -143,20 +149,14 @@ fn equal_bytes_are_written_alike(rt: HostRuntime) -> Result<(), Fail> {
     let bytes = TlsByteVecU16::from_slice(alloc, &[5, 6])?;
     let list = TlsVecU16::from_slice(alloc, &[5u8, 6])?;
     let form = [0, 2, 5, 6].as_slice();
-    assert_eq!(rt; bytes.tls_serialize_detached(alloc)?.as_slice(), form);
-    assert_eq!(rt; list.tls_serialize_detached(alloc)?.as_slice(), form);
+    same(&rt, bytes.tls_serialize_detached(alloc)?.as_slice(), form);
+    same(&rt, list.tls_serialize_detached(alloc)?.as_slice(), form);
     Ok(())
 }
 
-fn hash_of<T: Hash>(value: &T) -> u64 {
-    let mut state = DefaultHasher::new();
-    value.hash(&mut state);
-    state.finish()
-}
-
 fn are_alike<T: Eq + Hash>(rt: &impl Abort, one: &T, other: &T) {
-    assert!(rt; one == other);
-    assert_eq!(rt; hash_of(one), hash_of(other));
+    holds(rt, one == other);
+    same(rt, hash_of(one), hash_of(other));
 }
 
 // One of each pair grew element by element.
@@ -192,8 +192,14 @@ fn byte_vectors_have_the_order_of_their_bytes(rt: HostRuntime) -> Result<(), Fai
         (&[0, 0xff], &[1]),
         (&[1, 0], &[1, 1]),
     ] {
-        assert!(rt; VLBytes::from_slice(alloc, low)? < VLBytes::from_slice(alloc, high)?);
-        assert!(rt; VLByteVec::from_slice(alloc, low)? < VLByteVec::from_slice(alloc, high)?);
+        holds(
+            &rt,
+            VLBytes::from_slice(alloc, low)? < VLBytes::from_slice(alloc, high)?,
+        );
+        holds(
+            &rt,
+            VLByteVec::from_slice(alloc, low)? < VLByteVec::from_slice(alloc, high)?,
+        );
     }
     Ok(())
 }

@@ -1,10 +1,11 @@
 // Runs from an input and into a sink with some calls in a row that fail.
-use crate::fault::ViewFault;
-use crate::run::run;
+use crate::tests::{same, same_at};
 use std::io;
 use std::io::{ErrorKind, Read, Write};
 use tls_codec::{Fault, Outside};
 use tls_codec_vectors::{Drip, Failing, Trickle};
+use tlsview_run::fault::ViewFault;
+use tlsview_run::run::run;
 
 const VIEW: &str = "slice ok some 7 rest ee\nreader ok some 7 rest ee\nleast 010007\n";
 
@@ -23,9 +24,9 @@ fn a_run_ends_as_its_input_does(rt: HostRuntime) {
             let mut input = Failing::new(Drip::new(b"010007ee"), at, times, fault);
             let mut out = Vec::new(rt.alloc());
             let found = run(rt.alloc(), "option-u16", &mut input, &mut out);
-            assert_eq!(rt; found, outcome, "at {at}");
+            same_at(&rt, at, found, outcome);
             let printed = if outcome.is_ok() { VIEW } else { "" };
-            assert_eq!(rt; out.as_slice(), printed.as_bytes(), "at {at}");
+            same_at(&rt, at, out.as_slice(), printed.as_bytes());
         }
     }
 }
@@ -53,9 +54,9 @@ fn a_sink_that_fails_has_a_beginning(rt: HostRuntime) {
         let mut input = b"010007ee\n".as_slice();
         let mut out = Failing::new(Trickle::new(Vec::new(rt.alloc())), at, times, fault);
         let found = run(rt.alloc(), "option-u16", &mut input, &mut out);
-        assert_eq!(rt; found, outcome, "at {at}");
+        same_at(&rt, at, found, outcome);
         let printed = out.into_inner().into_inner();
-        assert_eq!(rt; printed.as_slice(), received.as_bytes(), "at {at}");
+        same_at(&rt, at, printed.as_slice(), received.as_bytes());
     }
 }
 
@@ -68,9 +69,9 @@ fn interruptions_over_whole_run(rt: HostRuntime) {
     let trickle = Trickle::new(Vec::new(rt.alloc()));
     let mut out = Failing::new(Failing::new(trickle, 2, 16, fault), 1, 16, fault);
     let outcome = run(rt.alloc(), "option-u16", &mut input, &mut out);
-    assert_eq!(rt; outcome, Ok(true));
+    same(&rt, outcome, Ok(true));
     let printed = out.into_inner().into_inner().into_inner();
-    assert_eq!(rt; printed.as_slice(), VIEW.as_bytes());
+    same(&rt, printed.as_slice(), VIEW.as_bytes());
 }
 
 // Fails at each call, by an error of this kind.
@@ -110,11 +111,11 @@ fn errors_of_std_are_read_and_write(rt: HostRuntime) {
         let mut input = Outside::new(Broken { kind });
         let mut out = Vec::new(rt.alloc());
         let found = run(rt.alloc(), "u16", &mut input, &mut out);
-        assert_eq!(rt; found, Err(fault), "{kind:?}");
-        assert!(rt; out.is_empty());
+        same_at(&rt, kind, found, Err(fault));
+        same(&rt, out.is_empty(), true);
         let mut text = b"0007".as_slice();
         let mut broken = Outside::new(Broken { kind });
         let found = run(rt.alloc(), "u16", &mut text, &mut broken);
-        assert_eq!(rt; found, Err(ViewFault::Write), "{kind:?}");
+        same_at(&rt, kind, found, Err(ViewFault::Write));
     }
 }

@@ -1,11 +1,12 @@
 // How the program ends: its status, and what went out.
-use crate::answer::answer;
+use crate::tests::{same, same_at};
 use std::alloc::{AllocError, Global};
 use std::io;
 use std::io::ErrorKind;
 use std::test::Fail;
 use tls_codec::Fault;
 use tls_codec_vectors::{Drip, Failing, Trickle};
+use tlsview_run::answer::answer;
 
 // The words of a process, the program's name first.
 fn words_of(alloc: Global, words: &[&str]) -> Result<Vec<String>, AllocError> {
@@ -43,12 +44,13 @@ fn a_program_ends_by_its_words(rt: HostRuntime) -> Result<(), Fail> {
         let words = words_of(rt.alloc(), words)?;
         let mut rest = text.as_bytes();
         let mut out = Vec::new(rt.alloc());
-        assert_eq!(rt;
+        same(
+            &rt,
             answer(rt.alloc(), Ok(words.into_iter()), &mut rest, &mut out),
-            status
+            status,
         );
-        assert_eq!(rt; out.as_slice(), printed.as_bytes());
-        assert_eq!(rt; rest, if is_read { &[] } else { text.as_bytes() });
+        same(&rt, out.as_slice(), printed.as_bytes());
+        same(&rt, rest, if is_read { &[] } else { text.as_bytes() });
     }
     Ok(())
 }
@@ -63,9 +65,9 @@ fn a_program_without_words_says_why(rt: HostRuntime) {
         let words = Err(io::Error::from(kind));
         let mut rest = b"0007".as_slice();
         let mut out = Vec::new(rt.alloc());
-        assert_eq!(rt; answer(rt.alloc(), words, &mut rest, &mut out), 2);
-        assert_eq!(rt; out.as_slice(), printed.as_bytes());
-        assert_eq!(rt; rest, b"0007".as_slice());
+        same(&rt, answer(rt.alloc(), words, &mut rest, &mut out), 2);
+        same(&rt, out.as_slice(), printed.as_bytes());
+        same(&rt, rest, b"0007".as_slice());
     }
 }
 
@@ -84,11 +86,12 @@ fn a_program_says_how_its_input_failed(rt: HostRuntime) -> Result<(), Fail> {
         let words = words_of(rt.alloc(), &["tlsview", "u16"])?;
         let mut input = Failing::new(Drip::new(text.as_bytes()), at, times, fault);
         let mut out = Vec::new(rt.alloc());
-        assert_eq!(rt;
+        same(
+            &rt,
             answer(rt.alloc(), Ok(words.into_iter()), &mut input, &mut out),
-            2
+            2,
         );
-        assert_eq!(rt; out.as_slice(), printed.as_bytes(), "{text}");
+        same_at(&rt, text, out.as_slice(), printed.as_bytes());
     }
     Ok(())
 }
@@ -108,12 +111,13 @@ fn a_program_ends_as_its_sink_does(rt: HostRuntime) -> Result<(), Fail> {
         let words = words_of(rt.alloc(), &["tlsview", kind])?;
         let mut input = b"0007\n".as_slice();
         let mut out = Failing::new(Trickle::new(Vec::new(rt.alloc())), at, times, fault);
-        assert_eq!(rt;
+        same(
+            &rt,
             answer(rt.alloc(), Ok(words.into_iter()), &mut input, &mut out),
-            2
+            2,
         );
         let printed = out.into_inner().into_inner();
-        assert_eq!(rt; printed.as_slice(), received.as_bytes());
+        same(&rt, printed.as_slice(), received.as_bytes());
     }
     Ok(())
 }
@@ -125,10 +129,11 @@ fn a_program_says_that_its_input_is_too_long(rt: HostRuntime) -> Result<(), Fail
     let text = vec![in rt.alloc(); b'0'; 1_048_577]?;
     let mut rest = text.as_slice();
     let mut out = Vec::new(rt.alloc());
-    assert_eq!(rt;
+    same(
+        &rt,
         answer(rt.alloc(), Ok(words.into_iter()), &mut rest, &mut out),
-        2
+        2,
     );
-    assert_eq!(rt; out.as_slice(), b"error long\n".as_slice());
+    same(&rt, out.as_slice(), b"error long\n".as_slice());
     Ok(())
 }

@@ -3,10 +3,27 @@ mod answers;
 mod failing;
 mod views;
 
-use crate::fault::ViewFault;
-use crate::run::run;
 use std::alloc::Global;
+use std::fmt::Debug;
+use std::process::Abort;
 use std::test::Fail;
+use tlsview_run::fault::ViewFault;
+use tlsview_run::run::run;
+
+// An assertion that is written out is proved at each place: this one is proved once.
+fn same<T: PartialEq + Debug + Drop>(rt: &impl Abort, found: T, expected: T) {
+    assert_eq!(rt; found, expected);
+}
+
+// The same at one of several rows, which a failure names.
+fn same_at<Row: Debug + Drop, T: PartialEq + Debug + Drop>(
+    rt: &impl Abort,
+    row: Row,
+    found: T,
+    expected: T,
+) {
+    assert_eq!(rt; found, expected, "at {row:?}");
+}
 
 // The outcome of a run over a text in memory, and what was printed.
 fn run_on(alloc: Global, kind: &str, mut text: &[u8]) -> (Result<bool, ViewFault>, Vec<u8>) {
@@ -19,8 +36,8 @@ fn run_on(alloc: Global, kind: &str, mut text: &[u8]) -> (Result<bool, ViewFault
 #[test]
 fn run_always_memory(rt: HostRuntime) {
     let (outcome, out) = run_on(rt.alloc(), "option-u16", b"010007ee\n");
-    assert_eq!(rt; outcome, Ok(true));
-    assert!(rt; !out.is_empty());
+    same(&rt, outcome, Ok(true));
+    same(&rt, out.is_empty(), false);
 }
 
 #[test]
@@ -34,8 +51,8 @@ fn blanks_and_cases_make_no_difference(rt: HostRuntime) {
         "\r0aaa ef",
     ] {
         let (outcome, out) = run_on(rt.alloc(), "u16", text.as_bytes());
-        assert_eq!(rt; outcome, Ok(true), "{text}");
-        assert_eq!(rt; out.as_slice(), lines.as_bytes(), "{text}");
+        same_at(&rt, text, outcome, Ok(true));
+        same_at(&rt, text, out.as_slice(), lines.as_bytes());
     }
 }
 
@@ -43,8 +60,8 @@ fn blanks_and_cases_make_no_difference(rt: HostRuntime) {
 fn a_text_that_is_no_hex_is_refused(rt: HostRuntime) {
     for text in ["123", "0x01", "00-1", "0", "zz", "00\u{b}00", "é"] {
         let (outcome, out) = run_on(rt.alloc(), "u16", text.as_bytes());
-        assert_eq!(rt; outcome, Err(ViewFault::Hex), "{text}");
-        assert!(rt; out.is_empty());
+        same_at(&rt, text, outcome, Err(ViewFault::Hex));
+        same(&rt, out.is_empty(), true);
     }
 }
 
@@ -65,9 +82,9 @@ fn other_kinds_are_refused(rt: HostRuntime) {
             let mut rest = text.as_bytes();
             let mut out = Vec::new(rt.alloc());
             let outcome = run(rt.alloc(), kind, &mut rest, &mut out);
-            assert_eq!(rt; outcome, Err(ViewFault::Kind), "{kind}");
-            assert_eq!(rt; rest, text.as_bytes());
-            assert!(rt; out.is_empty());
+            same_at(&rt, kind, outcome, Err(ViewFault::Kind));
+            same(&rt, rest, text.as_bytes());
+            same(&rt, out.is_empty(), true);
         }
     }
 }
@@ -84,8 +101,8 @@ fn an_input_has_a_greatest_length(rt: HostRuntime) -> Result<(), Fail> {
     ] {
         let text = vec![in rt.alloc(); blank; length]?;
         let (outcome, out) = run_on(rt.alloc(), "u16", &text);
-        assert_eq!(rt; outcome, answer, "{length} bytes");
-        assert_eq!(rt; out.len(), printed, "{length} bytes");
+        same_at(&rt, length, outcome, answer);
+        same_at(&rt, length, out.len(), printed);
     }
     Ok(())
 }
@@ -104,7 +121,7 @@ fn a_list_of_each_size_is_read(rt: HostRuntime) -> Result<(), Fail> {
         form.extend_from_slice(&vec![in rt.alloc(); 0x61; size]?)?;
         let text = hex::encode(rt.alloc(), &form)?;
         let (outcome, _) = run_on(rt.alloc(), "vec-u8", text.as_bytes());
-        assert_eq!(rt; outcome, Ok(true), "{size} bytes");
+        same_at(&rt, size, outcome, Ok(true));
     }
     Ok(())
 }
