@@ -89,18 +89,24 @@ fn lists_above_their_ceiling(rt: HostRuntime) -> Result<(), Fail> {
     is_too_long(&rt, alloc, &Suites::new(content), 65_538, &[])
 }
 
+fn after_a_byte(alloc: Global, first: u8, content: &[u8]) -> Result<Vec<u8>, Fail> {
+    let mut form = [first].to_vec(alloc)?;
+    form.extend_from_slice(content)?;
+    Ok(form)
+}
+
 #[test]
 fn bytes_on_their_bounds(rt: HostRuntime) -> Result<(), Fail> {
     let alloc = rt.alloc();
     let one = Methods::from_slice(alloc, &[0])?;
     is_spelled_alone(&rt, alloc, &one, &[1, 0])?;
     is_written(&rt, alloc, &&one, &[1, 0])?;
-    let mut form = filled(alloc, 256, 0x4d)?;
-    form[0] = 0xff;
-    is_spelled_alone(&rt, alloc, &Methods::new(filled(alloc, 255, 0x4d)?), &form)?;
-    let mut form = filled(alloc, 33, 0x5a)?;
-    form[0] = 32;
-    is_spelled_alone(&rt, alloc, &Digest::new(filled(alloc, 32, 0x5a)?), &form)
+    let content = filled(alloc, 255, 0x4d)?;
+    let form = after_a_byte(alloc, 0xff, &content)?;
+    is_spelled_alone(&rt, alloc, &Methods::new(content), &form)?;
+    let content = filled(alloc, 32, 0x5a)?;
+    let form = after_a_byte(alloc, 32, &content)?;
+    is_spelled_alone(&rt, alloc, &Digest::new(content), &form)
 }
 
 #[test]
@@ -114,8 +120,7 @@ fn bytes_out_of_bounds(rt: HostRuntime) -> Result<(), Fail> {
     is_refused::<Methods>(&rt, alloc, &[0, 7], OUTSIDE);
     is_refused_after::<Methods>(&rt, alloc, &[0, 7], &[7])?;
     for count in [31, 33] {
-        let mut form = filled(alloc, 40, 0x5a)?;
-        form[0] = count;
+        let form = after_a_byte(alloc, count, &filled(alloc, 39, 0x5a)?)?;
         is_refused::<Digest>(&rt, alloc, &form, OUTSIDE);
         is_refused::<Digest>(&rt, alloc, &[count], OUTSIDE);
         is_refused_after::<Digest>(&rt, alloc, &[count, 7], &[7])?;

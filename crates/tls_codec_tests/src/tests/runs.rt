@@ -28,6 +28,7 @@ fn is_a_run<T: Serialize + SerializeBytes + Deserialize + DeserializeBytes + Par
         lists::append_bytes(alloc, &mut out, elements),
         Ok(bytes.len()),
     );
+    assert!(rt; bytes.len() <= out.len());
     let (first, second) = out.split_at(bytes.len());
     same(rt, (first, second), (bytes, bytes));
     sent.push(0xee)?;
