@@ -1,0 +1,61 @@
+#!/usr/bin/env python3
+"""instructions.py PROGRAM [OTHER]: the instructions of a call in each row of the built tls_codec_bench, by callgrind.
+
+It runs `PROGRAM run` under `valgrind --tool=callgrind`, which writes what it counted after each row, and divides what the calls
+that are timed took, with all that they call, by how often they were called. With OTHER, a build of another commit, it prints
+both and their ratio. What malloc takes is in it, and depends on what was freed before. It takes a minute a program.
+"""
+import collections
+import pathlib
+import re
+import subprocess
+import sys
+import tempfile
+
+CALLS = ("encode", "encode_into", "decode_slice", "decode_reader", "decode_outside")
+TIMED = re.compile(r"tls_codec_timing::calls::(\w+)::")
+
+
+def counted(path):
+    """For each timed call of one row: how often it was called, and the instructions of all its calls."""
+    found, callee, number = collections.defaultdict(lambda: [0, 0]), "", None
+    for line in path.read_text().splitlines():
+        if line.startswith("cfn="):
+            callee = line[4:]
+        elif line.startswith("calls="):
+            number = int(line[6:].split()[0])
+        elif number is not None:
+            timed = TIMED.match(callee)
+            if timed:
+                found[timed.group(1)][0] += number
+                found[timed.group(1)][1] += int(line.split()[1])
+            number = None
+    return {call: cost / number for call, (number, cost) in found.items()}
+
+
+def rows(program):
+    """The instructions of each timed call, by the row's name."""
+    names = subprocess.run(["nm", program], capture_output=True, text=True, check=True).stdout
+    measure = re.search(r" t (tls_codec_bench::figures::measure::<.*>)$", names, re.M).group(1)
+    with tempfile.TemporaryDirectory() as room:
+        words = ["valgrind", "--tool=callgrind", "--callgrind-out-file=count", "--compress-strings=no", "--compress-pos=no"]
+        ran = subprocess.run([*words, f"--dump-after={measure}", program, "run"], cwd=room, capture_output=True, text=True, check=True)
+        lines = [line.split("\t")[0] for line in ran.stdout.splitlines() if "\t" in line]
+        return {name: counted(pathlib.Path(room, f"count.{at}")) for at, name in enumerate(lines, 1)}
+
+
+def main():
+    found = [rows(str(pathlib.Path(program).resolve())) for program in sys.argv[1:3]]
+    for name, calls in found[0].items():
+        told = []
+        for call in CALLS:
+            costs = [it.get(name, {}).get(call) for it in found]
+            if None not in costs:
+                ratio = f" = {costs[0] / costs[1]:.2f}" if len(costs) > 1 else ""
+                told.append(f"{call} " + " / ".join(f"{cost:.0f}" for cost in costs) + ratio)
+        if told:
+            print(f"{name}: " + ", ".join(told))
+
+
+if __name__ == "__main__":
+    main()
