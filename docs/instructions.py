@@ -1,11 +1,13 @@
 #!/usr/bin/env python3
-"""instructions.py PROGRAM [OTHER]: the instructions of a call in each row of the built tls_codec_bench, by callgrind.
+"""instructions.py [--same-calls] PROGRAM [OTHER]: the instructions of a call in each row of the built tls_codec_bench, by callgrind.
 
 It runs `PROGRAM run` under `valgrind --tool=callgrind`, which writes what it counted after each row, and divides what the calls
 that are timed took, with all that they call, by how often they were called. With OTHER, a build of another commit, it prints
-both and their ratio. What malloc takes is in it, and depends on what was freed before. It takes a minute a program.
+both and their ratio. What malloc takes is in it and depends on what was freed before, and the C library copies by one loop or
+another: compare two builds with --same-calls, which puts those of same_calls.c (by cc) in their place. A minute a program.
 """
 import collections
+import os
 import pathlib
 import re
 import subprocess
@@ -33,19 +35,29 @@ def counted(path):
     return {call: cost / number for call, (number, cost) in found.items()}
 
 
-def rows(program):
+def with_same_calls(room):
+    """The environment of a program that calls the functions of same_calls.c."""
+    built = str(pathlib.Path(room, "same_calls.so"))
+    source = str(pathlib.Path(__file__).with_name("same_calls.c"))
+    subprocess.run(["cc", "-O2", "-fno-builtin-malloc", "-shared", "-fPIC", "-o", built, source], check=True)
+    return {**os.environ, "LD_PRELOAD": built}
+
+
+def rows(program, is_same):
     """The instructions of each timed call, by the row's name."""
     names = subprocess.run(["nm", program], capture_output=True, text=True, check=True).stdout
     measure = re.search(r" t (tls_codec_bench::figures::measure::<.*>)$", names, re.M).group(1)
     with tempfile.TemporaryDirectory() as room:
         words = ["valgrind", "--tool=callgrind", "--callgrind-out-file=count", "--compress-strings=no", "--compress-pos=no"]
-        ran = subprocess.run([*words, f"--dump-after={measure}", program, "run"], cwd=room, capture_output=True, text=True, check=True)
+        how = {"env": with_same_calls(room) if is_same else None, "cwd": room, "capture_output": True, "text": True, "check": True}
+        ran = subprocess.run([*words, f"--dump-after={measure}", program, "run"], **how)
         lines = [line.split("\t")[0] for line in ran.stdout.splitlines() if "\t" in line]
         return {name: counted(pathlib.Path(room, f"count.{at}")) for at, name in enumerate(lines, 1)}
 
 
 def main():
-    found = [rows(str(pathlib.Path(program).resolve())) for program in sys.argv[1:3]]
+    programs = [it for it in sys.argv[1:] if it != "--same-calls"]
+    found = [rows(str(pathlib.Path(program).resolve()), len(programs) < len(sys.argv) - 1) for program in programs[:2]]
     for name, calls in found[0].items():
         told = []
         for call in CALLS:

@@ -172,17 +172,28 @@ fn each_within<T: Deserialize, R: Source>(
     Ok(elements)
 }
 
-// Appends an element. The first room is requested without a call, for as many as `push` does if they are small.
+// Appends an element. Room is looked at once, and the first is requested without a call.
 #[inline(always)]
 fn push_element<T: Drop>(elements: &mut Vec<T>, element: T) -> Result<(), AllocError>
     ensures { elements.new.items
         ≡ (if is_ok result then elements.old.items ++ element ∷ [] else elements.old.items) }
 {
-    if elements.capacity() == 0 {
-        elements.reserve_exact(FIRST_ROOM)?;
+    if elements.len() == elements.capacity() {
+        make_room(elements)?;
     }
     match elements.push(element) {
         Ok(()) => Ok(()),
         Err(_) => Err(AllocError),
     }
+}
+
+// Room for a further element: at first for as many as `push` requests if they are small.
+#[inline(always)]
+fn make_room<T: Drop>(elements: &mut Vec<T>) -> Result<(), AllocError>
+    ensures { elements.new.items ≡ elements.old.items }
+{
+    if elements.capacity() == 0 {
+        return elements.reserve_exact(FIRST_ROOM);
+    }
+    elements.reserve(1)
 }

@@ -10,7 +10,6 @@ use tls_codec_wire::{Error, Sink, write_all};
 
 // How many numbers are sent at once. Their digits are on the stack meanwhile, since an encoder
 // requests no memory but the sink's.
-// for no memory but the sink's.
 const GROUP: usize = 64;
 
 // A number that K bytes spell.

@@ -88,6 +88,9 @@ fn make_room(out: &mut Vec<u8>, more: usize) -> Result<(), AllocError>
     ensures items { out.new.items ≡ out.old.items }
     ensures room { OnOk result (vec_len out.new + more ≤ vec_capacity out.new) }
 {
+    if more <= out.capacity() - out.len() {
+        return Ok(());
+    }
     if out.capacity() == 0 {
         return out.reserve_exact(more);
     }
