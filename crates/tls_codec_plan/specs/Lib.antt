@@ -1,5 +1,0 @@
-pub mod Cases
-pub mod Names
-pub mod Types
-pub mod Width
-pub mod Writable
