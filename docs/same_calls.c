@@ -2,7 +2,6 @@
  * Sizes are rounded up to a power of two, and a block that is freed goes onto the list of its size, so nothing depends on what
  * was freed before. A copy takes an instruction a byte, where the C library chooses among loops. */
 #include <stddef.h>
-#include <stdint.h>
 #include <string.h>
 #include <sys/mman.h>
 
@@ -54,6 +53,7 @@ void *realloc(void *block, size_t size) {
   return wider;
 }
 
+/* Without -fno-builtin-malloc, gcc makes these two calls one of calloc. */
 void *calloc(size_t count, size_t size) {
   void *block = malloc(count * size);
   return memset(block, 0, count * size);
