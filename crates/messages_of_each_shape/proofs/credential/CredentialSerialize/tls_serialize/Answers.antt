@@ -1,0 +1,19 @@
+use Rattle.tls_codec.specs.OwnMessages.{u16_meets}
+use Rattle.tls_codec.proofs.OwnMessages.{alone_writes, tagged_writes}
+use Rattle.messages_of_each_shape.specs.Credential.{credential_variants_meet}
+use Rattle.messages_of_each_shape.proofs.credential.CredentialSerialize.tls_serialize.Goals as goal
+
+pub returns-in-Basic-clause-writes : goal.returns-in-Basic-clause-writes
+returns-in-Basic-clause-writes g c = let is = c.in-Basic.is in rw is (tagged_writes _ _ credential_variants_meet _ _ _ _ _ c.tls_serialize.ensures.writes)
+
+pub returns-in-X509-clause-writes : goal.returns-in-X509-clause-writes
+returns-in-X509-clause-writes g c = let is = c.in-X509.is in rw is (tagged_writes _ _ credential_variants_meet _ _ _ _ _ c.tls_serialize-in-X509.ensures.writes)
+
+pub returns-in-Both-clause-writes : goal.returns-in-Both-clause-writes
+returns-in-Both-clause-writes g c = let is = c.in-Both.is in rw is (tagged_writes _ _ credential_variants_meet _ _ _ _ _ c.tls_serialize-in-Both.ensures.writes)
+
+pub returns-in-Full-clause-writes : goal.returns-in-Full-clause-writes
+returns-in-Full-clause-writes g c = let is = c.in-Full.is in rw is (tagged_writes _ _ credential_variants_meet _ _ _ _ _ c.tls_serialize-in-Full.ensures.writes)
+
+pub returns-in-Anonymous-clause-writes : goal.returns-in-Anonymous-clause-writes
+returns-in-Anonymous-clause-writes g c = let is = c.in-Anonymous.is in rw is (tagged_writes _ _ credential_variants_meet _ _ _ _ _ (alone_writes u16_meets _ _ _ _ _ c.tls_serialize-in-Anonymous.ensures.writes))

@@ -1,0 +1,12 @@
+-- NameType: what it stands for, its format and its law.
+use Rattle.tls_codec.specs.OwnMessages.{Tree, Number, Format, number_format, MeetsLaws, u8_meets}
+use Rattle.messages_of_each_shape.specs.declared.name_type.NameType.{NameType}
+
+abbrev pub name_type_plain : NameType → Tree
+name_type_plain v = Number v.0
+
+abbrev pub name_type_format : Format
+name_type_format = number_format 1
+
+pub name_type_meets : MeetsLaws name_type_format
+name_type_meets = u8_meets

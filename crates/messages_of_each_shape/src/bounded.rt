@@ -1,0 +1,63 @@
+//! [`Bounded`].
+ghost use Rattle.messages_of_each_shape.specs.Bounded.{bounded_format, bounded_meets, bounded_plain};
+
+use std::alloc::Global;
+use tls_codec::{
+    Deserialize, DeserializeBytes, Error, Lent, Serialize, Sink, Size, Source, TlsByteVec, TlsVec,
+    Within,
+};
+
+/// `Bounded`.
+#[derive(PartialEq, Drop)]
+pub struct Bounded {
+    /// `opaque session<0..32>;`
+    pub session: TlsByteVec<Within<u8, 0, 32>>,
+    /// `uint16 suites<2..65534>;`
+    pub suites: TlsVec<Within<u16, 2, 65534>, u16>,
+}
+
+impl Size for Bounded {
+    ghost plain = { bounded_plain };
+
+    ghost format = { bounded_format };
+
+    fn tls_serialized_len(&self) -> usize {
+        (Lent(&self.session), Lent(&self.suites)).tls_serialized_len()
+    }
+
+    ghost lawful = { bounded_meets };
+}
+
+impl Serialize for Bounded {
+    fn tls_serialize<W: Sink>(&self, writer: &mut W) -> Result<usize, Error> {
+        (Lent(&self.session), Lent(&self.suites)).tls_serialize(writer)
+    }
+
+    fn tls_serialize_into(&self, out: &mut Vec<u8>) -> Result<usize, Error> {
+        (Lent(&self.session), Lent(&self.suites)).tls_serialize_into(out)
+    }
+}
+
+impl Deserialize for Bounded {
+    ghost names = { ⟦<(TlsByteVec<Within<u8, 0, 32>>, TlsVec<Within<u16, 2, 65534>, u16>) as Deserialize>⟧.names };
+
+    fn tls_deserialize<R: Source>(alloc: Global, src: &mut R) -> Result<Bounded, Error> {
+        let (session, suites) = <(
+            TlsByteVec<Within<u8, 0, 32>>,
+            TlsVec<Within<u16, 2, 65534>, u16>,
+        )>::tls_deserialize(alloc, src)?;
+        Ok(Bounded { session, suites })
+    }
+}
+
+impl DeserializeBytes for Bounded {
+    ghost names = { ⟦<(TlsByteVec<Within<u8, 0, 32>>, TlsVec<Within<u16, 2, 65534>, u16>) as DeserializeBytes>⟧.names };
+
+    fn tls_deserialize_bytes(alloc: Global, whole: &[u8]) -> Result<(Bounded, &[u8]), Error> {
+        let ((session, suites), rest) = <(
+            TlsByteVec<Within<u8, 0, 32>>,
+            TlsVec<Within<u16, 2, 65534>, u16>,
+        )>::tls_deserialize_bytes(alloc, whole)?;
+        Ok((Bounded { session, suites }, rest))
+    }
+}

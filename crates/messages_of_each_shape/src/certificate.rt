@@ -1,0 +1,52 @@
+//! [`Certificate`].
+ghost use Rattle.messages_of_each_shape.specs.Certificate.{certificate_format, certificate_meets, certificate_plain};
+
+use std::alloc::Global;
+use tls_codec::{Deserialize, DeserializeBytes, Error, Serialize, Sink, Size, Source, VLBytes};
+
+/// `Certificate`.
+#[derive(PartialEq, Drop)]
+pub struct Certificate {
+    /// `opaque cert_data<V>;`
+    pub cert_data: VLBytes,
+}
+
+impl Size for Certificate {
+    ghost plain = { certificate_plain };
+
+    ghost format = { certificate_format };
+
+    fn tls_serialized_len(&self) -> usize {
+        self.cert_data.tls_serialized_len()
+    }
+
+    ghost lawful = { certificate_meets };
+}
+
+impl Serialize for Certificate {
+    fn tls_serialize<W: Sink>(&self, writer: &mut W) -> Result<usize, Error> {
+        self.cert_data.tls_serialize(writer)
+    }
+
+    fn tls_serialize_into(&self, out: &mut Vec<u8>) -> Result<usize, Error> {
+        self.cert_data.tls_serialize_into(out)
+    }
+}
+
+impl Deserialize for Certificate {
+    ghost names = { ⟦<VLBytes as Deserialize>⟧.names };
+
+    fn tls_deserialize<R: Source>(alloc: Global, src: &mut R) -> Result<Certificate, Error> {
+        let cert_data = VLBytes::tls_deserialize(alloc, src)?;
+        Ok(Certificate { cert_data })
+    }
+}
+
+impl DeserializeBytes for Certificate {
+    ghost names = { ⟦<VLBytes as DeserializeBytes>⟧.names };
+
+    fn tls_deserialize_bytes(alloc: Global, whole: &[u8]) -> Result<(Certificate, &[u8]), Error> {
+        let (cert_data, rest) = VLBytes::tls_deserialize_bytes(alloc, whole)?;
+        Ok((Certificate { cert_data }, rest))
+    }
+}

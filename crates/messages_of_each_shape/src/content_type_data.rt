@@ -1,0 +1,182 @@
+//! [`ContentTypeData`].
+ghost use Rattle.tls_codec.specs.OwnMessages.{no_variant_names, no_variant_source_names, tagged_names, tagged_source_names, variant_names, variant_source_names};
+ghost use Rattle.messages_of_each_shape.specs.ContentTypeData.{content_type_data_format, content_type_data_meets, content_type_data_plain};
+
+use crate::Certificate;
+use std::alloc::Global;
+use tls_codec::{
+    Deserialize, DeserializeBytes, Error, Lent, Lent2, Serialize, Sink, Size, Source, VLBytes,
+    unknown_value,
+};
+
+const APPLICATION: u8 = 1;
+
+const PROPOSAL: u8 = 2;
+
+/// `ContentType content_type` of `Framed`, and what comes after each.
+#[derive(PartialEq, Drop)]
+pub enum ContentTypeData {
+    /// `case application:`
+    Application {
+        /// `opaque authenticated_data<V>;`
+        authenticated_data: VLBytes,
+        /// `opaque application_data<V>;`
+        application_data: VLBytes,
+    },
+    /// `case proposal:`
+    Proposal {
+        /// `opaque authenticated_data<V>;`
+        authenticated_data: VLBytes,
+        /// `Certificate proposal;`
+        proposal: Certificate,
+        /// `uint8 level;`
+        level: u8,
+    },
+}
+
+impl Size for ContentTypeData {
+    ghost plain = { content_type_data_plain };
+
+    ghost format = { content_type_data_format };
+
+    fn tls_serialized_len(&self) -> usize {
+        match self {
+            ContentTypeData::Application {
+                authenticated_data,
+                application_data,
+            } => (
+                APPLICATION,
+                Lent(authenticated_data),
+                Lent(application_data),
+            )
+                .tls_serialized_len(),
+            ContentTypeData::Proposal {
+                authenticated_data,
+                proposal,
+                level,
+            } => (PROPOSAL, Lent2(authenticated_data, proposal), Lent(level)).tls_serialized_len(),
+        }
+    }
+
+    ghost lawful = { content_type_data_meets };
+}
+
+impl Serialize for ContentTypeData {
+    fn tls_serialize<W: Sink>(&self, writer: &mut W) -> Result<usize, Error> {
+        match self {
+            ContentTypeData::Application {
+                authenticated_data,
+                application_data,
+            } => (
+                APPLICATION,
+                Lent(authenticated_data),
+                Lent(application_data),
+            )
+                .tls_serialize(writer),
+            ContentTypeData::Proposal {
+                authenticated_data,
+                proposal,
+                level,
+            } => (PROPOSAL, Lent2(authenticated_data, proposal), Lent(level)).tls_serialize(writer),
+        }
+    }
+
+    fn tls_serialize_into(&self, out: &mut Vec<u8>) -> Result<usize, Error> {
+        match self {
+            ContentTypeData::Application {
+                authenticated_data,
+                application_data,
+            } => (
+                APPLICATION,
+                Lent(authenticated_data),
+                Lent(application_data),
+            )
+                .tls_serialize_into(out),
+            ContentTypeData::Proposal {
+                authenticated_data,
+                proposal,
+                level,
+            } => (PROPOSAL, Lent2(authenticated_data, proposal), Lent(level)).tls_serialize_into(
+                out,
+            ),
+        }
+    }
+}
+
+impl Deserialize for ContentTypeData {
+    ghost names = { tagged_source_names 1
+        (variant_source_names 1 ⟦<(VLBytes, VLBytes) as Deserialize>⟧.names
+        (variant_source_names 2 ⟦<((VLBytes, Certificate), u8) as Deserialize>⟧.names
+        no_variant_source_names)) };
+
+    fn tls_deserialize<R: Source>(alloc: Global, src: &mut R) -> Result<ContentTypeData, Error> {
+        let tag = u8::tls_deserialize(alloc, src)?;
+        match tag {
+            APPLICATION => {
+                let (authenticated_data, application_data) = <(VLBytes, VLBytes)>::tls_deserialize(
+                    alloc, src,
+                )?;
+                Ok(ContentTypeData::Application {
+                    authenticated_data,
+                    application_data,
+                })
+            }
+            PROPOSAL => {
+                let ((authenticated_data, proposal), level) = <(
+                    (VLBytes, Certificate),
+                    u8,
+                )>::tls_deserialize(alloc, src)?;
+                Ok(ContentTypeData::Proposal {
+                    authenticated_data,
+                    proposal,
+                    level,
+                })
+            }
+            _ => Err(unknown_value(u64::from(tag))),
+        }
+    }
+}
+
+impl DeserializeBytes for ContentTypeData {
+    ghost names = { tagged_names 1
+        (variant_names 1 ⟦<(VLBytes, VLBytes) as DeserializeBytes>⟧.names
+        (variant_names 2 ⟦<((VLBytes, Certificate), u8) as DeserializeBytes>⟧.names
+        no_variant_names)) };
+
+    fn tls_deserialize_bytes(
+        alloc: Global,
+        whole: &[u8],
+    ) -> Result<(ContentTypeData, &[u8]), Error> {
+        let (tag, rest) = u8::tls_deserialize_bytes(alloc, whole)?;
+        match tag {
+            APPLICATION => {
+                let ((authenticated_data, application_data), rest) = <(
+                    VLBytes,
+                    VLBytes,
+                )>::tls_deserialize_bytes(alloc, rest)?;
+                Ok((
+                    ContentTypeData::Application {
+                        authenticated_data,
+                        application_data,
+                    },
+                    rest,
+                ))
+            }
+            PROPOSAL => {
+                let (((authenticated_data, proposal), level), rest) = <(
+                    (VLBytes, Certificate),
+                    u8,
+                )>::tls_deserialize_bytes(alloc, rest)?;
+                Ok((
+                    ContentTypeData::Proposal {
+                        authenticated_data,
+                        proposal,
+                        level,
+                    },
+                    rest,
+                ))
+            }
+            _ => Err(unknown_value(u64::from(tag))),
+        }
+    }
+}

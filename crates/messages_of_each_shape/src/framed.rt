@@ -1,0 +1,91 @@
+//! [`Framed`].
+ghost use Rattle.messages_of_each_shape.specs.Framed.{framed_format, framed_meets, framed_plain};
+
+use crate::ContentTypeData;
+use std::alloc::Global;
+use tls_codec::{
+    Deserialize, DeserializeBytes, Error, Lent, Serialize, Sink, Size, Source, VLBytes,
+};
+
+/// `Framed`.
+#[derive(PartialEq, Drop)]
+pub struct Framed {
+    /// `uint32 epoch;`
+    pub epoch: u32,
+    /// `ContentType content_type;`
+    pub content_type: ContentTypeData,
+    /// `opaque signature<V>;`
+    pub signature: VLBytes,
+}
+
+impl Size for Framed {
+    ghost plain = { framed_plain };
+
+    ghost format = { framed_format };
+
+    fn tls_serialized_len(&self) -> usize {
+        (
+            Lent(&self.epoch),
+            Lent(&self.content_type),
+            Lent(&self.signature),
+        )
+            .tls_serialized_len()
+    }
+
+    ghost lawful = { framed_meets };
+}
+
+impl Serialize for Framed {
+    fn tls_serialize<W: Sink>(&self, writer: &mut W) -> Result<usize, Error> {
+        (
+            Lent(&self.epoch),
+            Lent(&self.content_type),
+            Lent(&self.signature),
+        )
+            .tls_serialize(writer)
+    }
+
+    fn tls_serialize_into(&self, out: &mut Vec<u8>) -> Result<usize, Error> {
+        (
+            Lent(&self.epoch),
+            Lent(&self.content_type),
+            Lent(&self.signature),
+        )
+            .tls_serialize_into(out)
+    }
+}
+
+impl Deserialize for Framed {
+    ghost names = { ⟦<(u32, ContentTypeData, VLBytes) as Deserialize>⟧.names };
+
+    fn tls_deserialize<R: Source>(alloc: Global, src: &mut R) -> Result<Framed, Error> {
+        let (epoch, content_type, signature) = <(u32, ContentTypeData, VLBytes)>::tls_deserialize(
+            alloc, src,
+        )?;
+        Ok(Framed {
+            epoch,
+            content_type,
+            signature,
+        })
+    }
+}
+
+impl DeserializeBytes for Framed {
+    ghost names = { ⟦<(u32, ContentTypeData, VLBytes) as DeserializeBytes>⟧.names };
+
+    fn tls_deserialize_bytes(alloc: Global, whole: &[u8]) -> Result<(Framed, &[u8]), Error> {
+        let ((epoch, content_type, signature), rest) = <(
+            u32,
+            ContentTypeData,
+            VLBytes,
+        )>::tls_deserialize_bytes(alloc, whole)?;
+        Ok((
+            Framed {
+                epoch,
+                content_type,
+                signature,
+            },
+            rest,
+        ))
+    }
+}

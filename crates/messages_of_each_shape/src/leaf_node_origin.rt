@@ -1,0 +1,124 @@
+//! [`LeafNodeOrigin`].
+ghost use Rattle.tls_codec.specs.OwnMessages.{no_variant_names, no_variant_source_names, nothing_names, nothing_source_names, tagged_names, tagged_source_names, variant_names, variant_source_names};
+ghost use Rattle.messages_of_each_shape.specs.LeafNodeOrigin.{leaf_node_origin_format, leaf_node_origin_meets, leaf_node_origin_plain};
+
+use crate::Lifetime;
+use std::alloc::Global;
+use tls_codec::{
+    Deserialize, DeserializeBytes, Error, Lent, Serialize, Sink, Size, Source, VLBytes,
+    unknown_value,
+};
+
+const KEY_PACKAGE: u8 = 1;
+
+const UPDATE: u8 = 2;
+
+const COMMIT: u8 = 3;
+
+/// `LeafNodeSource leaf_node_source` of `LeafNode`, and what comes after each.
+#[derive(PartialEq, Drop)]
+pub enum LeafNodeOrigin {
+    /// `case key_package: Lifetime lifetime;`
+    KeyPackage(Lifetime),
+    /// `case update:`
+    Update,
+    /// `case commit: opaque parent_hash<V>;`
+    Commit(VLBytes),
+}
+
+impl Size for LeafNodeOrigin {
+    ghost plain = { leaf_node_origin_plain };
+
+    ghost format = { leaf_node_origin_format };
+
+    fn tls_serialized_len(&self) -> usize {
+        match self {
+            LeafNodeOrigin::KeyPackage(lifetime) => (
+                KEY_PACKAGE,
+                Lent(lifetime),
+            ).tls_serialized_len(),
+            LeafNodeOrigin::Update => 1,
+            LeafNodeOrigin::Commit(parent_hash) => (COMMIT, Lent(parent_hash)).tls_serialized_len(),
+        }
+    }
+
+    ghost lawful = { leaf_node_origin_meets };
+}
+
+impl Serialize for LeafNodeOrigin {
+    fn tls_serialize<W: Sink>(&self, writer: &mut W) -> Result<usize, Error> {
+        match self {
+            LeafNodeOrigin::KeyPackage(lifetime) => (KEY_PACKAGE, Lent(lifetime)).tls_serialize(
+                writer,
+            ),
+            LeafNodeOrigin::Update => UPDATE.tls_serialize(writer),
+            LeafNodeOrigin::Commit(parent_hash) => (COMMIT, Lent(parent_hash)).tls_serialize(
+                writer,
+            ),
+        }
+    }
+
+    fn tls_serialize_into(&self, out: &mut Vec<u8>) -> Result<usize, Error> {
+        match self {
+            LeafNodeOrigin::KeyPackage(lifetime) => (
+                KEY_PACKAGE,
+                Lent(lifetime),
+            ).tls_serialize_into(out),
+            LeafNodeOrigin::Update => UPDATE.tls_serialize_into(out),
+            LeafNodeOrigin::Commit(parent_hash) => (COMMIT, Lent(parent_hash)).tls_serialize_into(
+                out,
+            ),
+        }
+    }
+}
+
+impl Deserialize for LeafNodeOrigin {
+    ghost names = { tagged_source_names 1
+        (variant_source_names 1 ⟦<Lifetime as Deserialize>⟧.names
+        (variant_source_names 2 nothing_source_names
+        (variant_source_names 3 ⟦<VLBytes as Deserialize>⟧.names
+        no_variant_source_names))) };
+
+    fn tls_deserialize<R: Source>(alloc: Global, src: &mut R) -> Result<LeafNodeOrigin, Error> {
+        let tag = u8::tls_deserialize(alloc, src)?;
+        match tag {
+            KEY_PACKAGE => {
+                let lifetime = Lifetime::tls_deserialize(alloc, src)?;
+                Ok(LeafNodeOrigin::KeyPackage(lifetime))
+            }
+            UPDATE => Ok(LeafNodeOrigin::Update),
+            COMMIT => {
+                let parent_hash = VLBytes::tls_deserialize(alloc, src)?;
+                Ok(LeafNodeOrigin::Commit(parent_hash))
+            }
+            _ => Err(unknown_value(u64::from(tag))),
+        }
+    }
+}
+
+impl DeserializeBytes for LeafNodeOrigin {
+    ghost names = { tagged_names 1
+        (variant_names 1 ⟦<Lifetime as DeserializeBytes>⟧.names
+        (variant_names 2 nothing_names
+        (variant_names 3 ⟦<VLBytes as DeserializeBytes>⟧.names
+        no_variant_names))) };
+
+    fn tls_deserialize_bytes(
+        alloc: Global,
+        whole: &[u8],
+    ) -> Result<(LeafNodeOrigin, &[u8]), Error> {
+        let (tag, rest) = u8::tls_deserialize_bytes(alloc, whole)?;
+        match tag {
+            KEY_PACKAGE => {
+                let (lifetime, rest) = Lifetime::tls_deserialize_bytes(alloc, rest)?;
+                Ok((LeafNodeOrigin::KeyPackage(lifetime), rest))
+            }
+            UPDATE => Ok((LeafNodeOrigin::Update, rest)),
+            COMMIT => {
+                let (parent_hash, rest) = VLBytes::tls_deserialize_bytes(alloc, rest)?;
+                Ok((LeafNodeOrigin::Commit(parent_hash), rest))
+            }
+            _ => Err(unknown_value(u64::from(tag))),
+        }
+    }
+}

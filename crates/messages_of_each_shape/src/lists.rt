@@ -1,0 +1,114 @@
+//! [`Lists`].
+ghost use Rattle.messages_of_each_shape.specs.Lists.{lists_format, lists_meets, lists_plain};
+
+use crate::{Certificate, ExtensionType, Level, NameType, Row, Side};
+use std::alloc::Global;
+use tls_codec::{
+    Deserialize, DeserializeBytes, Error, Lent2, Lent3, Serialize, Sink, Size, Source, TlsVecU8,
+    TlsVecU16, TlsVecU24, TlsVecU32,
+};
+
+/// `Lists`.
+#[derive(PartialEq, Drop)]
+pub struct Lists {
+    /// `uint16 octets<0..2^8-1>;`
+    pub octets: TlsVecU8<u16>,
+    /// `Side sides<0..2^16-1>;`
+    pub sides: TlsVecU16<Side>,
+    /// `Certificate certificates<0..2^24-1>;`
+    pub certificates: TlsVecU24<Certificate>,
+    /// `Level levels<0..2^32-1>;`
+    pub levels: TlsVecU32<Level>,
+    /// `Row rows<V>;`
+    pub rows: Vec<Row>,
+    /// `ExtensionType kind;`
+    pub kind: ExtensionType,
+    /// `NameType names<V>;`
+    pub names: Vec<NameType>,
+    /// `Row row;`
+    pub row: Row,
+}
+
+impl Size for Lists {
+    ghost plain = { lists_plain };
+
+    ghost format = { lists_format };
+
+    fn tls_serialized_len(&self) -> usize {
+        (
+            Lent3(&self.octets, &self.sides, &self.certificates),
+            Lent3(&self.levels, &self.rows, &self.kind),
+            Lent2(&self.names, &self.row),
+        )
+            .tls_serialized_len()
+    }
+
+    ghost lawful = { lists_meets };
+}
+
+impl Serialize for Lists {
+    fn tls_serialize<W: Sink>(&self, writer: &mut W) -> Result<usize, Error> {
+        (
+            Lent3(&self.octets, &self.sides, &self.certificates),
+            Lent3(&self.levels, &self.rows, &self.kind),
+            Lent2(&self.names, &self.row),
+        )
+            .tls_serialize(writer)
+    }
+
+    fn tls_serialize_into(&self, out: &mut Vec<u8>) -> Result<usize, Error> {
+        (
+            Lent3(&self.octets, &self.sides, &self.certificates),
+            Lent3(&self.levels, &self.rows, &self.kind),
+            Lent2(&self.names, &self.row),
+        )
+            .tls_serialize_into(out)
+    }
+}
+
+impl Deserialize for Lists {
+    ghost names = { ⟦<((TlsVecU8<u16>, TlsVecU16<Side>, TlsVecU24<Certificate>), (TlsVecU32<Level>, Vec<Row>, ExtensionType), (Vec<NameType>, Row)) as Deserialize>⟧.names };
+
+    fn tls_deserialize<R: Source>(alloc: Global, src: &mut R) -> Result<Lists, Error> {
+        let ((octets, sides, certificates), (levels, rows, kind), (names, row)) = <(
+            (TlsVecU8<u16>, TlsVecU16<Side>, TlsVecU24<Certificate>),
+            (TlsVecU32<Level>, Vec<Row>, ExtensionType),
+            (Vec<NameType>, Row),
+        )>::tls_deserialize(alloc, src)?;
+        Ok(Lists {
+            octets,
+            sides,
+            certificates,
+            levels,
+            rows,
+            kind,
+            names,
+            row,
+        })
+    }
+}
+
+impl DeserializeBytes for Lists {
+    ghost names = { ⟦<((TlsVecU8<u16>, TlsVecU16<Side>, TlsVecU24<Certificate>), (TlsVecU32<Level>, Vec<Row>, ExtensionType), (Vec<NameType>, Row)) as DeserializeBytes>⟧.names };
+
+    fn tls_deserialize_bytes(alloc: Global, whole: &[u8]) -> Result<(Lists, &[u8]), Error> {
+        let (((octets, sides, certificates), (levels, rows, kind), (names, row)), rest) = <(
+            (TlsVecU8<u16>, TlsVecU16<Side>, TlsVecU24<Certificate>),
+            (TlsVecU32<Level>, Vec<Row>, ExtensionType),
+            (Vec<NameType>, Row),
+        )>::tls_deserialize_bytes(alloc, whole)?;
+        Ok((
+            Lists {
+                octets,
+                sides,
+                certificates,
+                levels,
+                rows,
+                kind,
+                names,
+                row,
+            },
+            rest,
+        ))
+    }
+}

@@ -1,0 +1,81 @@
+//! [`Version`].
+ghost use Rattle.std.specs.Prelude.{◌≡◌, false, MatchOption};
+ghost use Rattle.tls_codec.specs.OwnMessages.{values_names, values_source_names};
+ghost use Rattle.messages_of_each_shape.specs.Version.{version_code, version_format, version_has, version_meets, version_plain};
+
+use std::alloc::Global;
+use tls_codec::{
+    Deserialize, DeserializeBytes, Error, Serialize, Sink, Size, Source, unknown_value,
+};
+
+/// `Version`.
+#[derive(PartialEq, Clone, Copy)]
+pub enum Version {
+    /// `mls10(1)`
+    Mls10,
+}
+
+impl Version {
+    /// Its number.
+    pub fn code(&self) -> u16
+        ensures { result ≡ version_code self.now }
+    {
+        1
+    }
+
+    /// The value that has this number.
+    pub fn of_code(code: u16) -> Option<Version>
+        ensures { MatchOption result (version_has code ≡ false) (λ v. version_code v ≡ code) }
+    {
+        match code {
+            1 => Some(Version::Mls10),
+            _ => None,
+        }
+    }
+}
+
+impl Size for Version {
+    ghost plain = { version_plain };
+
+    ghost format = { version_format };
+
+    fn tls_serialized_len(&self) -> usize {
+        2
+    }
+
+    ghost lawful = { version_meets };
+}
+
+impl Serialize for Version {
+    fn tls_serialize<W: Sink>(&self, writer: &mut W) -> Result<usize, Error> {
+        self.code().tls_serialize(writer)
+    }
+
+    fn tls_serialize_into(&self, out: &mut Vec<u8>) -> Result<usize, Error> {
+        self.code().tls_serialize_into(out)
+    }
+}
+
+impl Deserialize for Version {
+    ghost names = { values_source_names 2 version_has };
+
+    fn tls_deserialize<R: Source>(alloc: Global, src: &mut R) -> Result<Version, Error> {
+        let tag = u16::tls_deserialize(alloc, src)?;
+        match Version::of_code(tag) {
+            Some(value) => Ok(value),
+            None => Err(unknown_value(u64::from(tag))),
+        }
+    }
+}
+
+impl DeserializeBytes for Version {
+    ghost names = { values_names 2 version_has };
+
+    fn tls_deserialize_bytes(alloc: Global, whole: &[u8]) -> Result<(Version, &[u8]), Error> {
+        let (tag, rest) = u16::tls_deserialize_bytes(alloc, whole)?;
+        match Version::of_code(tag) {
+            Some(value) => Ok((value, rest)),
+            None => Err(unknown_value(u64::from(tag))),
+        }
+    }
+}

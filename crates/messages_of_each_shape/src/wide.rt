@@ -1,0 +1,136 @@
+//! [`Wide`].
+ghost use Rattle.messages_of_each_shape.specs.Wide.{wide_format, wide_meets, wide_plain};
+
+use crate::Certificate;
+use std::alloc::Global;
+use tls_codec::{
+    Deserialize, DeserializeBytes, Error, Lent4, Serialize, Sink, Size, Source, TlsByteVecU8,
+    TlsByteVecU16, TlsByteVecU24, TlsByteVecU32, TlsVecU16, U24,
+};
+
+/// `Wide`.
+#[derive(PartialEq, Drop)]
+pub struct Wide {
+    /// `uint8 a;`
+    pub a: u8,
+    /// `uint24 b;`
+    pub b: U24,
+    /// `uint32 c;`
+    pub c: u32,
+    /// `uint64 d;`
+    pub d: u64,
+    /// `opaque e[16];`
+    pub e: [u8; 16],
+    /// `opaque f<0..2^8-1>;`
+    pub f: TlsByteVecU8,
+    /// `opaque g<0..2^16-1>;`
+    pub g: TlsByteVecU16,
+    /// `opaque h<0..2^24-1>;`
+    pub h: TlsByteVecU24,
+    /// `opaque i<0..2^32-1>;`
+    pub i: TlsByteVecU32,
+    /// `Certificate j<0..2^16-1>;`
+    pub j: TlsVecU16<Certificate>,
+    /// `string k;`
+    pub k: String,
+    /// `optional<uint16> l;`
+    pub l: Option<u16>,
+}
+
+impl Size for Wide {
+    ghost plain = { wide_plain };
+
+    ghost format = { wide_format };
+
+    fn tls_serialized_len(&self) -> usize {
+        (
+            Lent4(&self.a, &self.b, &self.c, &self.d),
+            Lent4(&self.e, &self.f, &self.g, &self.h),
+            Lent4(&self.i, &self.j, &self.k, &self.l),
+        )
+            .tls_serialized_len()
+    }
+
+    ghost lawful = { wide_meets };
+}
+
+impl Serialize for Wide {
+    fn tls_serialize<W: Sink>(&self, writer: &mut W) -> Result<usize, Error> {
+        (
+            Lent4(&self.a, &self.b, &self.c, &self.d),
+            Lent4(&self.e, &self.f, &self.g, &self.h),
+            Lent4(&self.i, &self.j, &self.k, &self.l),
+        )
+            .tls_serialize(writer)
+    }
+
+    fn tls_serialize_into(&self, out: &mut Vec<u8>) -> Result<usize, Error> {
+        (
+            Lent4(&self.a, &self.b, &self.c, &self.d),
+            Lent4(&self.e, &self.f, &self.g, &self.h),
+            Lent4(&self.i, &self.j, &self.k, &self.l),
+        )
+            .tls_serialize_into(out)
+    }
+}
+
+impl Deserialize for Wide {
+    ghost names = { ⟦<(((u8, U24), (u32, u64)), (([u8; 16], TlsByteVecU8), (TlsByteVecU16, TlsByteVecU24)), ((TlsByteVecU32, TlsVecU16<Certificate>), (String, Option<u16>))) as Deserialize>⟧.names };
+
+    fn tls_deserialize<R: Source>(alloc: Global, src: &mut R) -> Result<Wide, Error> {
+        let (((a, b), (c, d)), ((e, f), (g, h)), ((i, j), (k, l))) = <(
+            ((u8, U24), (u32, u64)),
+            (([u8; 16], TlsByteVecU8), (TlsByteVecU16, TlsByteVecU24)),
+            (
+                (TlsByteVecU32, TlsVecU16<Certificate>),
+                (String, Option<u16>),
+            ),
+        )>::tls_deserialize(alloc, src)?;
+        Ok(Wide {
+            a,
+            b,
+            c,
+            d,
+            e,
+            f,
+            g,
+            h,
+            i,
+            j,
+            k,
+            l,
+        })
+    }
+}
+
+impl DeserializeBytes for Wide {
+    ghost names = { ⟦<(((u8, U24), (u32, u64)), (([u8; 16], TlsByteVecU8), (TlsByteVecU16, TlsByteVecU24)), ((TlsByteVecU32, TlsVecU16<Certificate>), (String, Option<u16>))) as DeserializeBytes>⟧.names };
+
+    fn tls_deserialize_bytes(alloc: Global, whole: &[u8]) -> Result<(Wide, &[u8]), Error> {
+        let ((((a, b), (c, d)), ((e, f), (g, h)), ((i, j), (k, l))), rest) = <(
+            ((u8, U24), (u32, u64)),
+            (([u8; 16], TlsByteVecU8), (TlsByteVecU16, TlsByteVecU24)),
+            (
+                (TlsByteVecU32, TlsVecU16<Certificate>),
+                (String, Option<u16>),
+            ),
+        )>::tls_deserialize_bytes(alloc, whole)?;
+        Ok((
+            Wide {
+                a,
+                b,
+                c,
+                d,
+                e,
+                f,
+                g,
+                h,
+                i,
+                j,
+                k,
+                l,
+            },
+            rest,
+        ))
+    }
+}

@@ -1,0 +1,83 @@
+//! What each call makes of a value or of bytes.
+use crate::tests::{holds, same, same_at};
+use std::alloc::Global;
+use std::process::Abort;
+use std::test::Fail;
+use tls_codec::{Deserialize, DeserializeBytes, Error, Serialize};
+use tls_codec_vectors::Drip;
+
+// The round trip: the value is written as these bytes by each encoder, and each decoder reads it from them.
+pub(super) fn is_spelled<T: Serialize + Deserialize + DeserializeBytes + PartialEq>(
+    rt: &impl Abort,
+    alloc: Global,
+    value: &T,
+    bytes: &[u8],
+) -> Result<(), Fail> {
+    same(rt, value.tls_serialized_len(), bytes.len());
+    let detached = value.tls_serialize_detached(alloc)?;
+    same(rt, detached.as_slice(), bytes);
+    let mut received = Vec::new(alloc);
+    let count = value.tls_serialize(&mut received)?;
+    same(rt, count, bytes.len());
+    same(rt, received.as_slice(), bytes);
+    holds(rt, T::tls_deserialize_exact_bytes(alloc, bytes)? == *value);
+    holds(rt, T::tls_deserialize_exact(alloc, bytes)? == *value);
+    holds(
+        rt,
+        T::tls_deserialize(alloc, &mut Drip::new(bytes))? == *value,
+    );
+    let mut longer = bytes.to_vec(alloc)?;
+    longer.push(0xee)?;
+    let (found, rest) = T::tls_deserialize_bytes(alloc, &longer)?;
+    holds(rt, found == *value);
+    same(rt, rest, [0xee].as_slice());
+    let mut source = longer.as_slice();
+    holds(rt, T::tls_deserialize(alloc, &mut source)? == *value);
+    same(rt, source, [0xee].as_slice());
+    is_cut_off::<T>(rt, alloc, bytes);
+    Ok(())
+}
+
+// Each decoder refuses each proper prefix of the bytes.
+fn is_cut_off<T: Deserialize + DeserializeBytes>(rt: &impl Abort, alloc: Global, bytes: &[u8]) {
+    for length in 0..bytes.len() {
+        let prefix = &bytes[..length];
+        same_at(
+            rt,
+            length,
+            T::tls_deserialize_bytes(alloc, prefix).is_err(),
+            true,
+        );
+        let mut source = prefix;
+        same_at(
+            rt,
+            length,
+            T::tls_deserialize(alloc, &mut source).err(),
+            Some(Error::EndOfStream),
+        );
+    }
+}
+
+// Each decoder refuses the bytes with this error.
+pub(super) fn is_refused<T: Deserialize + DeserializeBytes>(
+    rt: &impl Abort,
+    alloc: Global,
+    bytes: &[u8],
+    error: Error,
+) {
+    same_at(
+        rt,
+        bytes,
+        T::tls_deserialize_bytes(alloc, bytes).err(),
+        Some(error),
+    );
+    let mut source = bytes;
+    same_at(
+        rt,
+        bytes,
+        T::tls_deserialize(alloc, &mut source).err(),
+        Some(error),
+    );
+    let dripped = T::tls_deserialize(alloc, &mut Drip::new(bytes)).err();
+    same_at(rt, bytes, dripped, Some(error));
+}

@@ -1,0 +1,91 @@
+//! [`ContentType`].
+ghost use Rattle.std.specs.Prelude.{◌≡◌, false, MatchOption};
+ghost use Rattle.tls_codec.specs.OwnMessages.{values_names, values_source_names};
+ghost use Rattle.mls_framing.specs.ContentType.{content_type_code, content_type_format, content_type_has, content_type_meets, content_type_plain};
+
+use std::alloc::Global;
+use tls_codec::{
+    Deserialize, DeserializeBytes, Error, Serialize, Sink, Size, Source, unknown_value,
+};
+
+/// `ContentType`.
+#[derive(PartialEq, Clone, Copy)]
+pub enum ContentType {
+    /// `application(1)`
+    Application,
+    /// `proposal(2)`
+    Proposal,
+    /// `commit(3)`
+    Commit,
+}
+
+impl ContentType {
+    /// Its number.
+    pub fn code(&self) -> u8
+        ensures { result ≡ content_type_code self.now }
+    {
+        match self {
+            ContentType::Application => 1,
+            ContentType::Proposal => 2,
+            ContentType::Commit => 3,
+        }
+    }
+
+    /// The value that has this number.
+    pub fn of_code(code: u8) -> Option<ContentType>
+        ensures { MatchOption result (content_type_has code ≡ false) (λ v. content_type_code v ≡ code) }
+    {
+        match code {
+            1 => Some(ContentType::Application),
+            2 => Some(ContentType::Proposal),
+            3 => Some(ContentType::Commit),
+            _ => None,
+        }
+    }
+}
+
+impl Size for ContentType {
+    ghost plain = { content_type_plain };
+
+    ghost format = { content_type_format };
+
+    fn tls_serialized_len(&self) -> usize {
+        1
+    }
+
+    ghost lawful = { content_type_meets };
+}
+
+impl Serialize for ContentType {
+    fn tls_serialize<W: Sink>(&self, writer: &mut W) -> Result<usize, Error> {
+        self.code().tls_serialize(writer)
+    }
+
+    fn tls_serialize_into(&self, out: &mut Vec<u8>) -> Result<usize, Error> {
+        self.code().tls_serialize_into(out)
+    }
+}
+
+impl Deserialize for ContentType {
+    ghost names = { values_source_names 1 content_type_has };
+
+    fn tls_deserialize<R: Source>(alloc: Global, src: &mut R) -> Result<ContentType, Error> {
+        let tag = u8::tls_deserialize(alloc, src)?;
+        match ContentType::of_code(tag) {
+            Some(value) => Ok(value),
+            None => Err(unknown_value(u64::from(tag))),
+        }
+    }
+}
+
+impl DeserializeBytes for ContentType {
+    ghost names = { values_names 1 content_type_has };
+
+    fn tls_deserialize_bytes(alloc: Global, whole: &[u8]) -> Result<(ContentType, &[u8]), Error> {
+        let (tag, rest) = u8::tls_deserialize_bytes(alloc, whole)?;
+        match ContentType::of_code(tag) {
+            Some(value) => Ok((value, rest)),
+            None => Err(unknown_value(u64::from(tag))),
+        }
+    }
+}

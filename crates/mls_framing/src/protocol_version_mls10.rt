@@ -1,0 +1,87 @@
+//! [`ProtocolVersionMls10`].
+ghost use Rattle.std.specs.Prelude.{◌≡◌, false, MatchOption};
+ghost use Rattle.tls_codec.specs.OwnMessages.{values_names, values_source_names};
+ghost use Rattle.mls_framing.specs.ProtocolVersionMls10.{protocol_version_mls10_code, protocol_version_mls10_format, protocol_version_mls10_has, protocol_version_mls10_meets, protocol_version_mls10_plain};
+
+use std::alloc::Global;
+use tls_codec::{
+    Deserialize, DeserializeBytes, Error, Serialize, Sink, Size, Source, unknown_value,
+};
+
+/// `ProtocolVersionMls10`.
+#[derive(PartialEq, Clone, Copy)]
+pub enum ProtocolVersionMls10 {
+    /// `mls10(1)`
+    Mls10,
+}
+
+impl ProtocolVersionMls10 {
+    /// Its number.
+    pub fn code(&self) -> u16
+        ensures { result ≡ protocol_version_mls10_code self.now }
+    {
+        1
+    }
+
+    /// The value that has this number.
+    pub fn of_code(code: u16) -> Option<ProtocolVersionMls10>
+        ensures { MatchOption result (protocol_version_mls10_has code ≡ false) (λ v. protocol_version_mls10_code v ≡ code) }
+    {
+        match code {
+            1 => Some(ProtocolVersionMls10::Mls10),
+            _ => None,
+        }
+    }
+}
+
+impl Size for ProtocolVersionMls10 {
+    ghost plain = { protocol_version_mls10_plain };
+
+    ghost format = { protocol_version_mls10_format };
+
+    fn tls_serialized_len(&self) -> usize {
+        2
+    }
+
+    ghost lawful = { protocol_version_mls10_meets };
+}
+
+impl Serialize for ProtocolVersionMls10 {
+    fn tls_serialize<W: Sink>(&self, writer: &mut W) -> Result<usize, Error> {
+        self.code().tls_serialize(writer)
+    }
+
+    fn tls_serialize_into(&self, out: &mut Vec<u8>) -> Result<usize, Error> {
+        self.code().tls_serialize_into(out)
+    }
+}
+
+impl Deserialize for ProtocolVersionMls10 {
+    ghost names = { values_source_names 2 protocol_version_mls10_has };
+
+    fn tls_deserialize<R: Source>(
+        alloc: Global,
+        src: &mut R,
+    ) -> Result<ProtocolVersionMls10, Error> {
+        let tag = u16::tls_deserialize(alloc, src)?;
+        match ProtocolVersionMls10::of_code(tag) {
+            Some(value) => Ok(value),
+            None => Err(unknown_value(u64::from(tag))),
+        }
+    }
+}
+
+impl DeserializeBytes for ProtocolVersionMls10 {
+    ghost names = { values_names 2 protocol_version_mls10_has };
+
+    fn tls_deserialize_bytes(
+        alloc: Global,
+        whole: &[u8],
+    ) -> Result<(ProtocolVersionMls10, &[u8]), Error> {
+        let (tag, rest) = u16::tls_deserialize_bytes(alloc, whole)?;
+        match ProtocolVersionMls10::of_code(tag) {
+            Some(value) => Ok((value, rest)),
+            None => Err(unknown_value(u64::from(tag))),
+        }
+    }
+}

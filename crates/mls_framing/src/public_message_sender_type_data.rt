@@ -1,0 +1,336 @@
+//! [`PublicMessageSenderTypeData`].
+ghost use Rattle.tls_codec.specs.OwnMessages.{no_variant_names, no_variant_source_names, tagged_names, tagged_source_names, variant_names, variant_source_names};
+ghost use Rattle.mls_framing.specs.PublicMessageSenderTypeData.{public_message_sender_type_data_format, public_message_sender_type_data_meets, public_message_sender_type_data_plain};
+
+use crate::PublicMessageContentTypeData;
+use mls_proposals::MAC;
+use std::alloc::Global;
+use tls_codec::{
+    Deserialize, DeserializeBytes, Error, Lent, Lent2, Serialize, Sink, Size, Source, VLBytes,
+    unknown_value,
+};
+
+const MEMBER: u8 = 1;
+
+const EXTERNAL: u8 = 2;
+
+const NEW_MEMBER_COMMIT: u8 = 4;
+
+const NEW_MEMBER_PROPOSAL: u8 = 3;
+
+/// `SenderType sender_type` of `PublicMessage`, and what comes after each.
+#[derive(PartialEq, Drop)]
+pub enum PublicMessageSenderTypeData {
+    /// `case member:`
+    Member {
+        /// `uint32 leaf_index;`
+        leaf_index: u32,
+        /// `opaque authenticated_data<V>;`
+        authenticated_data: VLBytes,
+        /// `ContentType content_type;`
+        content_type: PublicMessageContentTypeData,
+        /// `MAC membership_tag;`
+        membership_tag: MAC,
+    },
+    /// `case external:`
+    External {
+        /// `uint32 sender_index;`
+        sender_index: u32,
+        /// `opaque authenticated_data<V>;`
+        authenticated_data: VLBytes,
+        /// `ContentType content_type;`
+        content_type: PublicMessageContentTypeData,
+    },
+    /// `case new_member_commit:`
+    NewMemberCommit {
+        /// `opaque authenticated_data<V>;`
+        authenticated_data: VLBytes,
+        /// `ContentType content_type;`
+        content_type: PublicMessageContentTypeData,
+    },
+    /// `case new_member_proposal:`
+    NewMemberProposal {
+        /// `opaque authenticated_data<V>;`
+        authenticated_data: VLBytes,
+        /// `ContentType content_type;`
+        content_type: PublicMessageContentTypeData,
+    },
+}
+
+impl Size for PublicMessageSenderTypeData {
+    ghost plain = { public_message_sender_type_data_plain };
+
+    ghost format = { public_message_sender_type_data_format };
+
+    fn tls_serialized_len(&self) -> usize {
+        match self {
+            PublicMessageSenderTypeData::Member {
+                leaf_index,
+                authenticated_data,
+                content_type,
+                membership_tag,
+            } => (
+                MEMBER,
+                Lent2(leaf_index, authenticated_data),
+                Lent2(content_type, membership_tag),
+            )
+                .tls_serialized_len(),
+            PublicMessageSenderTypeData::External {
+                sender_index,
+                authenticated_data,
+                content_type,
+            } => (
+                EXTERNAL,
+                Lent2(sender_index, authenticated_data),
+                Lent(content_type),
+            )
+                .tls_serialized_len(),
+            PublicMessageSenderTypeData::NewMemberCommit {
+                authenticated_data,
+                content_type,
+            } => (
+                NEW_MEMBER_COMMIT,
+                Lent(authenticated_data),
+                Lent(content_type),
+            )
+                .tls_serialized_len(),
+            PublicMessageSenderTypeData::NewMemberProposal {
+                authenticated_data,
+                content_type,
+            } => (
+                NEW_MEMBER_PROPOSAL,
+                Lent(authenticated_data),
+                Lent(content_type),
+            )
+                .tls_serialized_len(),
+        }
+    }
+
+    ghost lawful = { public_message_sender_type_data_meets };
+}
+
+impl Serialize for PublicMessageSenderTypeData {
+    fn tls_serialize<W: Sink>(&self, writer: &mut W) -> Result<usize, Error> {
+        match self {
+            PublicMessageSenderTypeData::Member {
+                leaf_index,
+                authenticated_data,
+                content_type,
+                membership_tag,
+            } => (
+                MEMBER,
+                Lent2(leaf_index, authenticated_data),
+                Lent2(content_type, membership_tag),
+            )
+                .tls_serialize(writer),
+            PublicMessageSenderTypeData::External {
+                sender_index,
+                authenticated_data,
+                content_type,
+            } => (
+                EXTERNAL,
+                Lent2(sender_index, authenticated_data),
+                Lent(content_type),
+            )
+                .tls_serialize(writer),
+            PublicMessageSenderTypeData::NewMemberCommit {
+                authenticated_data,
+                content_type,
+            } => (
+                NEW_MEMBER_COMMIT,
+                Lent(authenticated_data),
+                Lent(content_type),
+            )
+                .tls_serialize(writer),
+            PublicMessageSenderTypeData::NewMemberProposal {
+                authenticated_data,
+                content_type,
+            } => (
+                NEW_MEMBER_PROPOSAL,
+                Lent(authenticated_data),
+                Lent(content_type),
+            )
+                .tls_serialize(writer),
+        }
+    }
+
+    fn tls_serialize_into(&self, out: &mut Vec<u8>) -> Result<usize, Error> {
+        match self {
+            PublicMessageSenderTypeData::Member {
+                leaf_index,
+                authenticated_data,
+                content_type,
+                membership_tag,
+            } => (
+                MEMBER,
+                Lent2(leaf_index, authenticated_data),
+                Lent2(content_type, membership_tag),
+            )
+                .tls_serialize_into(out),
+            PublicMessageSenderTypeData::External {
+                sender_index,
+                authenticated_data,
+                content_type,
+            } => (
+                EXTERNAL,
+                Lent2(sender_index, authenticated_data),
+                Lent(content_type),
+            )
+                .tls_serialize_into(out),
+            PublicMessageSenderTypeData::NewMemberCommit {
+                authenticated_data,
+                content_type,
+            } => (
+                NEW_MEMBER_COMMIT,
+                Lent(authenticated_data),
+                Lent(content_type),
+            )
+                .tls_serialize_into(out),
+            PublicMessageSenderTypeData::NewMemberProposal {
+                authenticated_data,
+                content_type,
+            } => (
+                NEW_MEMBER_PROPOSAL,
+                Lent(authenticated_data),
+                Lent(content_type),
+            )
+                .tls_serialize_into(out),
+        }
+    }
+}
+
+impl Deserialize for PublicMessageSenderTypeData {
+    ghost names = { tagged_source_names 1
+        (variant_source_names 1 ⟦<((u32, VLBytes), (PublicMessageContentTypeData, MAC)) as Deserialize>⟧.names
+        (variant_source_names 2 ⟦<((u32, VLBytes), PublicMessageContentTypeData) as Deserialize>⟧.names
+        (variant_source_names 4 ⟦<(VLBytes, PublicMessageContentTypeData) as Deserialize>⟧.names
+        (variant_source_names 3 ⟦<(VLBytes, PublicMessageContentTypeData) as Deserialize>⟧.names
+        no_variant_source_names)))) };
+
+    fn tls_deserialize<R: Source>(
+        alloc: Global,
+        src: &mut R,
+    ) -> Result<PublicMessageSenderTypeData, Error> {
+        let tag = u8::tls_deserialize(alloc, src)?;
+        match tag {
+            MEMBER => {
+                let ((leaf_index, authenticated_data), (content_type, membership_tag)) = <(
+                    (u32, VLBytes),
+                    (PublicMessageContentTypeData, MAC),
+                )>::tls_deserialize(alloc, src)?;
+                Ok(PublicMessageSenderTypeData::Member {
+                    leaf_index,
+                    authenticated_data,
+                    content_type,
+                    membership_tag,
+                })
+            }
+            EXTERNAL => {
+                let ((sender_index, authenticated_data), content_type) = <(
+                    (u32, VLBytes),
+                    PublicMessageContentTypeData,
+                )>::tls_deserialize(alloc, src)?;
+                Ok(PublicMessageSenderTypeData::External {
+                    sender_index,
+                    authenticated_data,
+                    content_type,
+                })
+            }
+            NEW_MEMBER_COMMIT => {
+                let (authenticated_data, content_type) = <(
+                    VLBytes,
+                    PublicMessageContentTypeData,
+                )>::tls_deserialize(alloc, src)?;
+                Ok(PublicMessageSenderTypeData::NewMemberCommit {
+                    authenticated_data,
+                    content_type,
+                })
+            }
+            NEW_MEMBER_PROPOSAL => {
+                let (authenticated_data, content_type) = <(
+                    VLBytes,
+                    PublicMessageContentTypeData,
+                )>::tls_deserialize(alloc, src)?;
+                Ok(PublicMessageSenderTypeData::NewMemberProposal {
+                    authenticated_data,
+                    content_type,
+                })
+            }
+            _ => Err(unknown_value(u64::from(tag))),
+        }
+    }
+}
+
+impl DeserializeBytes for PublicMessageSenderTypeData {
+    ghost names = { tagged_names 1
+        (variant_names 1 ⟦<((u32, VLBytes), (PublicMessageContentTypeData, MAC)) as DeserializeBytes>⟧.names
+        (variant_names 2 ⟦<((u32, VLBytes), PublicMessageContentTypeData) as DeserializeBytes>⟧.names
+        (variant_names 4 ⟦<(VLBytes, PublicMessageContentTypeData) as DeserializeBytes>⟧.names
+        (variant_names 3 ⟦<(VLBytes, PublicMessageContentTypeData) as DeserializeBytes>⟧.names
+        no_variant_names)))) };
+
+    fn tls_deserialize_bytes(
+        alloc: Global,
+        whole: &[u8],
+    ) -> Result<(PublicMessageSenderTypeData, &[u8]), Error> {
+        let (tag, rest) = u8::tls_deserialize_bytes(alloc, whole)?;
+        match tag {
+            MEMBER => {
+                let (((leaf_index, authenticated_data), (content_type, membership_tag)), rest) = <(
+                    (u32, VLBytes),
+                    (PublicMessageContentTypeData, MAC),
+                )>::tls_deserialize_bytes(alloc, rest)?;
+                Ok((
+                    PublicMessageSenderTypeData::Member {
+                        leaf_index,
+                        authenticated_data,
+                        content_type,
+                        membership_tag,
+                    },
+                    rest,
+                ))
+            }
+            EXTERNAL => {
+                let (((sender_index, authenticated_data), content_type), rest) = <(
+                    (u32, VLBytes),
+                    PublicMessageContentTypeData,
+                )>::tls_deserialize_bytes(alloc, rest)?;
+                Ok((
+                    PublicMessageSenderTypeData::External {
+                        sender_index,
+                        authenticated_data,
+                        content_type,
+                    },
+                    rest,
+                ))
+            }
+            NEW_MEMBER_COMMIT => {
+                let ((authenticated_data, content_type), rest) = <(
+                    VLBytes,
+                    PublicMessageContentTypeData,
+                )>::tls_deserialize_bytes(alloc, rest)?;
+                Ok((
+                    PublicMessageSenderTypeData::NewMemberCommit {
+                        authenticated_data,
+                        content_type,
+                    },
+                    rest,
+                ))
+            }
+            NEW_MEMBER_PROPOSAL => {
+                let ((authenticated_data, content_type), rest) = <(
+                    VLBytes,
+                    PublicMessageContentTypeData,
+                )>::tls_deserialize_bytes(alloc, rest)?;
+                Ok((
+                    PublicMessageSenderTypeData::NewMemberProposal {
+                        authenticated_data,
+                        content_type,
+                    },
+                    rest,
+                ))
+            }
+            _ => Err(unknown_value(u64::from(tag))),
+        }
+    }
+}

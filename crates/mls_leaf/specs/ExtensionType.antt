@@ -1,0 +1,12 @@
+-- ExtensionType: what it stands for, its format and its law.
+use Rattle.tls_codec.specs.OwnMessages.{Tree, Number, Format, number_format, MeetsLaws, u16_meets}
+use Rattle.mls_leaf.specs.declared.extension_type.ExtensionType.{ExtensionType}
+
+abbrev pub extension_type_plain : ExtensionType → Tree
+extension_type_plain v = Number v.0
+
+abbrev pub extension_type_format : Format
+extension_type_format = number_format 2
+
+pub extension_type_meets : MeetsLaws extension_type_format
+extension_type_meets = u16_meets

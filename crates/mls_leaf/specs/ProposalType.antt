@@ -1,0 +1,12 @@
+-- ProposalType: what it stands for, its format and its law.
+use Rattle.tls_codec.specs.OwnMessages.{Tree, Number, Format, number_format, MeetsLaws, u16_meets}
+use Rattle.mls_leaf.specs.declared.proposal_type.ProposalType.{ProposalType}
+
+abbrev pub proposal_type_plain : ProposalType → Tree
+proposal_type_plain v = Number v.0
+
+abbrev pub proposal_type_format : Format
+proposal_type_format = number_format 2
+
+pub proposal_type_meets : MeetsLaws proposal_type_format
+proposal_type_meets = u16_meets

@@ -1,0 +1,96 @@
+//! [`Capabilities`].
+ghost use Rattle.mls_leaf.specs.Capabilities.{capabilities_format, capabilities_meets, capabilities_plain};
+
+use crate::{CipherSuite, CredentialType, ExtensionType, ProposalType, ProtocolVersion};
+use std::alloc::Global;
+use tls_codec::{
+    Deserialize, DeserializeBytes, Error, Lent2, Lent3, Serialize, Sink, Size, Source,
+};
+
+/// `Capabilities`.
+#[derive(PartialEq, Drop)]
+pub struct Capabilities {
+    /// `ProtocolVersion versions<V>;`
+    pub versions: Vec<ProtocolVersion>,
+    /// `CipherSuite cipher_suites<V>;`
+    pub cipher_suites: Vec<CipherSuite>,
+    /// `ExtensionType extensions<V>;`
+    pub extensions: Vec<ExtensionType>,
+    /// `ProposalType proposals<V>;`
+    pub proposals: Vec<ProposalType>,
+    /// `CredentialType credentials<V>;`
+    pub credentials: Vec<CredentialType>,
+}
+
+impl Size for Capabilities {
+    ghost plain = { capabilities_plain };
+
+    ghost format = { capabilities_format };
+
+    fn tls_serialized_len(&self) -> usize {
+        (
+            Lent3(&self.versions, &self.cipher_suites, &self.extensions),
+            Lent2(&self.proposals, &self.credentials),
+        )
+            .tls_serialized_len()
+    }
+
+    ghost lawful = { capabilities_meets };
+}
+
+impl Serialize for Capabilities {
+    fn tls_serialize<W: Sink>(&self, writer: &mut W) -> Result<usize, Error> {
+        (
+            Lent3(&self.versions, &self.cipher_suites, &self.extensions),
+            Lent2(&self.proposals, &self.credentials),
+        )
+            .tls_serialize(writer)
+    }
+
+    fn tls_serialize_into(&self, out: &mut Vec<u8>) -> Result<usize, Error> {
+        (
+            Lent3(&self.versions, &self.cipher_suites, &self.extensions),
+            Lent2(&self.proposals, &self.credentials),
+        )
+            .tls_serialize_into(out)
+    }
+}
+
+impl Deserialize for Capabilities {
+    ghost names = { ⟦<((Vec<ProtocolVersion>, Vec<CipherSuite>, Vec<ExtensionType>), (Vec<ProposalType>, Vec<CredentialType>)) as Deserialize>⟧.names };
+
+    fn tls_deserialize<R: Source>(alloc: Global, src: &mut R) -> Result<Capabilities, Error> {
+        let ((versions, cipher_suites, extensions), (proposals, credentials)) = <(
+            (Vec<ProtocolVersion>, Vec<CipherSuite>, Vec<ExtensionType>),
+            (Vec<ProposalType>, Vec<CredentialType>),
+        )>::tls_deserialize(alloc, src)?;
+        Ok(Capabilities {
+            versions,
+            cipher_suites,
+            extensions,
+            proposals,
+            credentials,
+        })
+    }
+}
+
+impl DeserializeBytes for Capabilities {
+    ghost names = { ⟦<((Vec<ProtocolVersion>, Vec<CipherSuite>, Vec<ExtensionType>), (Vec<ProposalType>, Vec<CredentialType>)) as DeserializeBytes>⟧.names };
+
+    fn tls_deserialize_bytes(alloc: Global, whole: &[u8]) -> Result<(Capabilities, &[u8]), Error> {
+        let (((versions, cipher_suites, extensions), (proposals, credentials)), rest) = <(
+            (Vec<ProtocolVersion>, Vec<CipherSuite>, Vec<ExtensionType>),
+            (Vec<ProposalType>, Vec<CredentialType>),
+        )>::tls_deserialize_bytes(alloc, whole)?;
+        Ok((
+            Capabilities {
+                versions,
+                cipher_suites,
+                extensions,
+                proposals,
+                credentials,
+            },
+            rest,
+        ))
+    }
+}

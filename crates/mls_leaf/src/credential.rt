@@ -1,0 +1,98 @@
+//! [`Credential`].
+ghost use Rattle.tls_codec.specs.OwnMessages.{no_variant_names, no_variant_source_names, tagged_names, tagged_source_names, variant_names, variant_source_names};
+ghost use Rattle.mls_leaf.specs.Credential.{credential_format, credential_meets, credential_plain};
+
+use crate::Certificate;
+use std::alloc::Global;
+use tls_codec::{
+    Deserialize, DeserializeBytes, Error, Lent, Serialize, Sink, Size, Source, VLBytes,
+    unknown_value,
+};
+
+const BASIC: u16 = 1;
+
+const X509: u16 = 2;
+
+/// `CredentialType credential_type` of `Credential`, and what comes after each.
+#[derive(PartialEq, Drop)]
+pub enum Credential {
+    /// `case basic: opaque identity<V>;`
+    Basic(VLBytes),
+    /// `case x509: Certificate certificates<V>;`
+    X509(Vec<Certificate>),
+}
+
+impl Size for Credential {
+    ghost plain = { credential_plain };
+
+    ghost format = { credential_format };
+
+    fn tls_serialized_len(&self) -> usize {
+        match self {
+            Credential::Basic(identity) => (BASIC, Lent(identity)).tls_serialized_len(),
+            Credential::X509(certificates) => (X509, Lent(certificates)).tls_serialized_len(),
+        }
+    }
+
+    ghost lawful = { credential_meets };
+}
+
+impl Serialize for Credential {
+    fn tls_serialize<W: Sink>(&self, writer: &mut W) -> Result<usize, Error> {
+        match self {
+            Credential::Basic(identity) => (BASIC, Lent(identity)).tls_serialize(writer),
+            Credential::X509(certificates) => (X509, Lent(certificates)).tls_serialize(writer),
+        }
+    }
+
+    fn tls_serialize_into(&self, out: &mut Vec<u8>) -> Result<usize, Error> {
+        match self {
+            Credential::Basic(identity) => (BASIC, Lent(identity)).tls_serialize_into(out),
+            Credential::X509(certificates) => (X509, Lent(certificates)).tls_serialize_into(out),
+        }
+    }
+}
+
+impl Deserialize for Credential {
+    ghost names = { tagged_source_names 2
+        (variant_source_names 1 ⟦<VLBytes as Deserialize>⟧.names
+        (variant_source_names 2 ⟦<Vec<Certificate> as Deserialize>⟧.names
+        no_variant_source_names)) };
+
+    fn tls_deserialize<R: Source>(alloc: Global, src: &mut R) -> Result<Credential, Error> {
+        let tag = u16::tls_deserialize(alloc, src)?;
+        match tag {
+            BASIC => {
+                let identity = VLBytes::tls_deserialize(alloc, src)?;
+                Ok(Credential::Basic(identity))
+            }
+            X509 => {
+                let certificates = <Vec<Certificate>>::tls_deserialize(alloc, src)?;
+                Ok(Credential::X509(certificates))
+            }
+            _ => Err(unknown_value(u64::from(tag))),
+        }
+    }
+}
+
+impl DeserializeBytes for Credential {
+    ghost names = { tagged_names 2
+        (variant_names 1 ⟦<VLBytes as DeserializeBytes>⟧.names
+        (variant_names 2 ⟦<Vec<Certificate> as DeserializeBytes>⟧.names
+        no_variant_names)) };
+
+    fn tls_deserialize_bytes(alloc: Global, whole: &[u8]) -> Result<(Credential, &[u8]), Error> {
+        let (tag, rest) = u16::tls_deserialize_bytes(alloc, whole)?;
+        match tag {
+            BASIC => {
+                let (identity, rest) = VLBytes::tls_deserialize_bytes(alloc, rest)?;
+                Ok((Credential::Basic(identity), rest))
+            }
+            X509 => {
+                let (certificates, rest) = <Vec<Certificate>>::tls_deserialize_bytes(alloc, rest)?;
+                Ok((Credential::X509(certificates), rest))
+            }
+            _ => Err(unknown_value(u64::from(tag))),
+        }
+    }
+}

@@ -1,0 +1,71 @@
+//! [`Extension`].
+ghost use Rattle.mls_leaf.specs.Extension.{extension_format, extension_meets, extension_plain};
+
+use crate::ExtensionType;
+use std::alloc::Global;
+use tls_codec::{
+    Deserialize, DeserializeBytes, Error, Lent, Serialize, Sink, Size, Source, VLBytes,
+};
+
+/// `Extension`.
+#[derive(PartialEq, Drop)]
+pub struct Extension {
+    /// `ExtensionType extension_type;`
+    pub extension_type: ExtensionType,
+    /// `opaque extension_data<V>;`
+    pub extension_data: VLBytes,
+}
+
+impl Size for Extension {
+    ghost plain = { extension_plain };
+
+    ghost format = { extension_format };
+
+    fn tls_serialized_len(&self) -> usize {
+        (Lent(&self.extension_type), Lent(&self.extension_data)).tls_serialized_len()
+    }
+
+    ghost lawful = { extension_meets };
+}
+
+impl Serialize for Extension {
+    fn tls_serialize<W: Sink>(&self, writer: &mut W) -> Result<usize, Error> {
+        (Lent(&self.extension_type), Lent(&self.extension_data)).tls_serialize(writer)
+    }
+
+    fn tls_serialize_into(&self, out: &mut Vec<u8>) -> Result<usize, Error> {
+        (Lent(&self.extension_type), Lent(&self.extension_data)).tls_serialize_into(out)
+    }
+}
+
+impl Deserialize for Extension {
+    ghost names = { ⟦<(ExtensionType, VLBytes) as Deserialize>⟧.names };
+
+    fn tls_deserialize<R: Source>(alloc: Global, src: &mut R) -> Result<Extension, Error> {
+        let (extension_type, extension_data) = <(ExtensionType, VLBytes)>::tls_deserialize(
+            alloc, src,
+        )?;
+        Ok(Extension {
+            extension_type,
+            extension_data,
+        })
+    }
+}
+
+impl DeserializeBytes for Extension {
+    ghost names = { ⟦<(ExtensionType, VLBytes) as DeserializeBytes>⟧.names };
+
+    fn tls_deserialize_bytes(alloc: Global, whole: &[u8]) -> Result<(Extension, &[u8]), Error> {
+        let ((extension_type, extension_data), rest) = <(
+            ExtensionType,
+            VLBytes,
+        )>::tls_deserialize_bytes(alloc, whole)?;
+        Ok((
+            Extension {
+                extension_type,
+                extension_data,
+            },
+            rest,
+        ))
+    }
+}

@@ -1,0 +1,100 @@
+//! [`KeyPackage`].
+ghost use Rattle.mls_leaf.specs.KeyPackage.{key_package_format, key_package_meets, key_package_plain};
+
+use crate::{CipherSuite, Extension, HPKEPublicKey, LeafNode, ProtocolVersion};
+use std::alloc::Global;
+use tls_codec::{
+    Deserialize, DeserializeBytes, Error, Lent3, Serialize, Sink, Size, Source, VLBytes,
+};
+
+/// `KeyPackage`.
+#[derive(PartialEq, Drop)]
+pub struct KeyPackage {
+    /// `ProtocolVersion version;`
+    pub version: ProtocolVersion,
+    /// `CipherSuite cipher_suite;`
+    pub cipher_suite: CipherSuite,
+    /// `HPKEPublicKey init_key;`
+    pub init_key: HPKEPublicKey,
+    /// `LeafNode leaf_node;`
+    pub leaf_node: LeafNode,
+    /// `Extension extensions<V>;`
+    pub extensions: Vec<Extension>,
+    /// `opaque signature<V>;`
+    pub signature: VLBytes,
+}
+
+impl Size for KeyPackage {
+    ghost plain = { key_package_plain };
+
+    ghost format = { key_package_format };
+
+    fn tls_serialized_len(&self) -> usize {
+        (
+            Lent3(&self.version, &self.cipher_suite, &self.init_key),
+            Lent3(&self.leaf_node, &self.extensions, &self.signature),
+        )
+            .tls_serialized_len()
+    }
+
+    ghost lawful = { key_package_meets };
+}
+
+impl Serialize for KeyPackage {
+    fn tls_serialize<W: Sink>(&self, writer: &mut W) -> Result<usize, Error> {
+        (
+            Lent3(&self.version, &self.cipher_suite, &self.init_key),
+            Lent3(&self.leaf_node, &self.extensions, &self.signature),
+        )
+            .tls_serialize(writer)
+    }
+
+    fn tls_serialize_into(&self, out: &mut Vec<u8>) -> Result<usize, Error> {
+        (
+            Lent3(&self.version, &self.cipher_suite, &self.init_key),
+            Lent3(&self.leaf_node, &self.extensions, &self.signature),
+        )
+            .tls_serialize_into(out)
+    }
+}
+
+impl Deserialize for KeyPackage {
+    ghost names = { ⟦<((ProtocolVersion, CipherSuite, HPKEPublicKey), (LeafNode, Vec<Extension>, VLBytes)) as Deserialize>⟧.names };
+
+    fn tls_deserialize<R: Source>(alloc: Global, src: &mut R) -> Result<KeyPackage, Error> {
+        let ((version, cipher_suite, init_key), (leaf_node, extensions, signature)) = <(
+            (ProtocolVersion, CipherSuite, HPKEPublicKey),
+            (LeafNode, Vec<Extension>, VLBytes),
+        )>::tls_deserialize(alloc, src)?;
+        Ok(KeyPackage {
+            version,
+            cipher_suite,
+            init_key,
+            leaf_node,
+            extensions,
+            signature,
+        })
+    }
+}
+
+impl DeserializeBytes for KeyPackage {
+    ghost names = { ⟦<((ProtocolVersion, CipherSuite, HPKEPublicKey), (LeafNode, Vec<Extension>, VLBytes)) as DeserializeBytes>⟧.names };
+
+    fn tls_deserialize_bytes(alloc: Global, whole: &[u8]) -> Result<(KeyPackage, &[u8]), Error> {
+        let (((version, cipher_suite, init_key), (leaf_node, extensions, signature)), rest) = <(
+            (ProtocolVersion, CipherSuite, HPKEPublicKey),
+            (LeafNode, Vec<Extension>, VLBytes),
+        )>::tls_deserialize_bytes(alloc, whole)?;
+        Ok((
+            KeyPackage {
+                version,
+                cipher_suite,
+                init_key,
+                leaf_node,
+                extensions,
+                signature,
+            },
+            rest,
+        ))
+    }
+}

@@ -1,0 +1,122 @@
+//! [`LeafNode`].
+ghost use Rattle.mls_leaf.specs.LeafNode.{leaf_node_format, leaf_node_meets, leaf_node_plain};
+
+use crate::{
+    Capabilities, Credential, Extension, HPKEPublicKey, LeafNodeOrigin, SignaturePublicKey,
+};
+use std::alloc::Global;
+use tls_codec::{
+    Deserialize, DeserializeBytes, Error, Lent2, Lent3, Serialize, Sink, Size, Source, VLBytes,
+};
+
+/// `LeafNode`.
+#[derive(PartialEq, Drop)]
+pub struct LeafNode {
+    /// `HPKEPublicKey encryption_key;`
+    pub encryption_key: HPKEPublicKey,
+    /// `SignaturePublicKey signature_key;`
+    pub signature_key: SignaturePublicKey,
+    /// `Credential credential;`
+    pub credential: Credential,
+    /// `Capabilities capabilities;`
+    pub capabilities: Capabilities,
+    /// `LeafNodeSource leaf_node_source;`
+    pub leaf_node_source: LeafNodeOrigin,
+    /// `Extension extensions<V>;`
+    pub extensions: Vec<Extension>,
+    /// `opaque signature<V>;`
+    pub signature: VLBytes,
+}
+
+impl Size for LeafNode {
+    ghost plain = { leaf_node_plain };
+
+    ghost format = { leaf_node_format };
+
+    fn tls_serialized_len(&self) -> usize {
+        (
+            Lent3(&self.encryption_key, &self.signature_key, &self.credential),
+            Lent2(&self.capabilities, &self.leaf_node_source),
+            Lent2(&self.extensions, &self.signature),
+        )
+            .tls_serialized_len()
+    }
+
+    ghost lawful = { leaf_node_meets };
+}
+
+impl Serialize for LeafNode {
+    fn tls_serialize<W: Sink>(&self, writer: &mut W) -> Result<usize, Error> {
+        (
+            Lent3(&self.encryption_key, &self.signature_key, &self.credential),
+            Lent2(&self.capabilities, &self.leaf_node_source),
+            Lent2(&self.extensions, &self.signature),
+        )
+            .tls_serialize(writer)
+    }
+
+    fn tls_serialize_into(&self, out: &mut Vec<u8>) -> Result<usize, Error> {
+        (
+            Lent3(&self.encryption_key, &self.signature_key, &self.credential),
+            Lent2(&self.capabilities, &self.leaf_node_source),
+            Lent2(&self.extensions, &self.signature),
+        )
+            .tls_serialize_into(out)
+    }
+}
+
+impl Deserialize for LeafNode {
+    ghost names = { ⟦<((HPKEPublicKey, SignaturePublicKey, Credential), (Capabilities, LeafNodeOrigin), (Vec<Extension>, VLBytes)) as Deserialize>⟧.names };
+
+    fn tls_deserialize<R: Source>(alloc: Global, src: &mut R) -> Result<LeafNode, Error> {
+        let (
+            (encryption_key, signature_key, credential),
+            (capabilities, leaf_node_source),
+            (extensions, signature),
+        ) = <(
+            (HPKEPublicKey, SignaturePublicKey, Credential),
+            (Capabilities, LeafNodeOrigin),
+            (Vec<Extension>, VLBytes),
+        )>::tls_deserialize(alloc, src)?;
+        Ok(LeafNode {
+            encryption_key,
+            signature_key,
+            credential,
+            capabilities,
+            leaf_node_source,
+            extensions,
+            signature,
+        })
+    }
+}
+
+impl DeserializeBytes for LeafNode {
+    ghost names = { ⟦<((HPKEPublicKey, SignaturePublicKey, Credential), (Capabilities, LeafNodeOrigin), (Vec<Extension>, VLBytes)) as DeserializeBytes>⟧.names };
+
+    fn tls_deserialize_bytes(alloc: Global, whole: &[u8]) -> Result<(LeafNode, &[u8]), Error> {
+        let (
+            (
+                (encryption_key, signature_key, credential),
+                (capabilities, leaf_node_source),
+                (extensions, signature),
+            ),
+            rest,
+        ) = <(
+            (HPKEPublicKey, SignaturePublicKey, Credential),
+            (Capabilities, LeafNodeOrigin),
+            (Vec<Extension>, VLBytes),
+        )>::tls_deserialize_bytes(alloc, whole)?;
+        Ok((
+            LeafNode {
+                encryption_key,
+                signature_key,
+                credential,
+                capabilities,
+                leaf_node_source,
+                extensions,
+                signature,
+            },
+            rest,
+        ))
+    }
+}

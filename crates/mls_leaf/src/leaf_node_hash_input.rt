@@ -1,0 +1,69 @@
+//! [`LeafNodeHashInput`].
+ghost use Rattle.mls_leaf.specs.LeafNodeHashInput.{leaf_node_hash_input_format, leaf_node_hash_input_meets, leaf_node_hash_input_plain};
+
+use crate::LeafNode;
+use std::alloc::Global;
+use tls_codec::{Deserialize, DeserializeBytes, Error, Lent, Serialize, Sink, Size, Source};
+
+/// `LeafNodeHashInput`.
+#[derive(PartialEq, Drop)]
+pub struct LeafNodeHashInput {
+    /// `uint32 leaf_index;`
+    pub leaf_index: u32,
+    /// `optional<LeafNode> leaf_node;`
+    pub leaf_node: Option<LeafNode>,
+}
+
+impl Size for LeafNodeHashInput {
+    ghost plain = { leaf_node_hash_input_plain };
+
+    ghost format = { leaf_node_hash_input_format };
+
+    fn tls_serialized_len(&self) -> usize {
+        (Lent(&self.leaf_index), Lent(&self.leaf_node)).tls_serialized_len()
+    }
+
+    ghost lawful = { leaf_node_hash_input_meets };
+}
+
+impl Serialize for LeafNodeHashInput {
+    fn tls_serialize<W: Sink>(&self, writer: &mut W) -> Result<usize, Error> {
+        (Lent(&self.leaf_index), Lent(&self.leaf_node)).tls_serialize(writer)
+    }
+
+    fn tls_serialize_into(&self, out: &mut Vec<u8>) -> Result<usize, Error> {
+        (Lent(&self.leaf_index), Lent(&self.leaf_node)).tls_serialize_into(out)
+    }
+}
+
+impl Deserialize for LeafNodeHashInput {
+    ghost names = { ⟦<(u32, Option<LeafNode>) as Deserialize>⟧.names };
+
+    fn tls_deserialize<R: Source>(alloc: Global, src: &mut R) -> Result<LeafNodeHashInput, Error> {
+        let (leaf_index, leaf_node) = <(u32, Option<LeafNode>)>::tls_deserialize(alloc, src)?;
+        Ok(LeafNodeHashInput {
+            leaf_index,
+            leaf_node,
+        })
+    }
+}
+
+impl DeserializeBytes for LeafNodeHashInput {
+    ghost names = { ⟦<(u32, Option<LeafNode>) as DeserializeBytes>⟧.names };
+
+    fn tls_deserialize_bytes(
+        alloc: Global,
+        whole: &[u8],
+    ) -> Result<(LeafNodeHashInput, &[u8]), Error> {
+        let ((leaf_index, leaf_node), rest) = <(u32, Option<LeafNode>)>::tls_deserialize_bytes(
+            alloc, whole,
+        )?;
+        Ok((
+            LeafNodeHashInput {
+                leaf_index,
+                leaf_node,
+            },
+            rest,
+        ))
+    }
+}

@@ -1,0 +1,56 @@
+//! Messages, written by `tls_codec_messages`.
+#![tactic(auto)]
+
+pub mod capabilities;
+pub mod certificate;
+pub mod cipher_suite;
+pub mod credential;
+pub mod credential_type;
+pub mod encrypt_context;
+pub mod extension;
+pub mod extension_type;
+pub mod key_package;
+pub mod key_package_tbs;
+pub mod leaf_node;
+pub mod leaf_node_hash_input;
+pub mod leaf_node_origin;
+pub mod leaf_node_tbs;
+pub mod leaf_node_tbs_origin;
+pub mod lifetime;
+pub mod names;
+pub mod node;
+pub mod parent_hash_input;
+pub mod parent_node;
+pub mod parent_node_hash_input;
+pub mod proposal_type;
+pub mod protocol_version;
+pub mod ratchet_tree;
+pub mod sign_content;
+pub mod tree_hash_input;
+
+pub use capabilities::Capabilities;
+pub use certificate::Certificate;
+pub use cipher_suite::CipherSuite;
+pub use credential::Credential;
+pub use credential_type::CredentialType;
+pub use encrypt_context::EncryptContext;
+pub use extension::Extension;
+pub use extension_type::ExtensionType;
+pub use key_package::KeyPackage;
+pub use key_package_tbs::KeyPackageTBS;
+pub use leaf_node::LeafNode;
+pub use leaf_node_hash_input::LeafNodeHashInput;
+pub use leaf_node_origin::LeafNodeOrigin;
+pub use leaf_node_tbs::LeafNodeTBS;
+pub use leaf_node_tbs_origin::LeafNodeTBSOrigin;
+pub use lifetime::Lifetime;
+pub use names::{HPKEPublicKey, SignaturePublicKey};
+pub use node::Node;
+pub use parent_hash_input::ParentHashInput;
+pub use parent_node::ParentNode;
+pub use parent_node_hash_input::ParentNodeHashInput;
+pub use proposal_type::ProposalType;
+pub use protocol_version::ProtocolVersion;
+pub use ratchet_tree::RatchetTree;
+pub use sign_content::SignContent;
+pub use tree_hash_input::TreeHashInput;

@@ -1,0 +1,63 @@
+//! [`Lifetime`].
+ghost use Rattle.mls_leaf.specs.Lifetime.{lifetime_format, lifetime_meets, lifetime_plain};
+
+use std::alloc::Global;
+use tls_codec::{Deserialize, DeserializeBytes, Error, Lent, Serialize, Sink, Size, Source};
+
+/// `Lifetime`.
+#[derive(PartialEq, Drop)]
+pub struct Lifetime {
+    /// `uint64 not_before;`
+    pub not_before: u64,
+    /// `uint64 not_after;`
+    pub not_after: u64,
+}
+
+impl Size for Lifetime {
+    ghost plain = { lifetime_plain };
+
+    ghost format = { lifetime_format };
+
+    fn tls_serialized_len(&self) -> usize {
+        (Lent(&self.not_before), Lent(&self.not_after)).tls_serialized_len()
+    }
+
+    ghost lawful = { lifetime_meets };
+}
+
+impl Serialize for Lifetime {
+    fn tls_serialize<W: Sink>(&self, writer: &mut W) -> Result<usize, Error> {
+        (Lent(&self.not_before), Lent(&self.not_after)).tls_serialize(writer)
+    }
+
+    fn tls_serialize_into(&self, out: &mut Vec<u8>) -> Result<usize, Error> {
+        (Lent(&self.not_before), Lent(&self.not_after)).tls_serialize_into(out)
+    }
+}
+
+impl Deserialize for Lifetime {
+    ghost names = { ⟦<(u64, u64) as Deserialize>⟧.names };
+
+    fn tls_deserialize<R: Source>(alloc: Global, src: &mut R) -> Result<Lifetime, Error> {
+        let (not_before, not_after) = <(u64, u64)>::tls_deserialize(alloc, src)?;
+        Ok(Lifetime {
+            not_before,
+            not_after,
+        })
+    }
+}
+
+impl DeserializeBytes for Lifetime {
+    ghost names = { ⟦<(u64, u64) as DeserializeBytes>⟧.names };
+
+    fn tls_deserialize_bytes(alloc: Global, whole: &[u8]) -> Result<(Lifetime, &[u8]), Error> {
+        let ((not_before, not_after), rest) = <(u64, u64)>::tls_deserialize_bytes(alloc, whole)?;
+        Ok((
+            Lifetime {
+                not_before,
+                not_after,
+            },
+            rest,
+        ))
+    }
+}

@@ -1,0 +1,97 @@
+//! [`Node`].
+ghost use Rattle.tls_codec.specs.OwnMessages.{no_variant_names, no_variant_source_names, tagged_names, tagged_source_names, variant_names, variant_source_names};
+ghost use Rattle.mls_leaf.specs.Node.{node_format, node_meets, node_plain};
+
+use crate::{LeafNode, ParentNode};
+use std::alloc::Global;
+use tls_codec::{
+    Deserialize, DeserializeBytes, Error, Lent, Serialize, Sink, Size, Source, unknown_value,
+};
+
+const LEAF: u8 = 1;
+
+const PARENT: u8 = 2;
+
+/// `NodeType node_type` of `Node`, and what comes after each.
+#[derive(PartialEq, Drop)]
+pub enum Node {
+    /// `case leaf: LeafNode leaf_node;`
+    Leaf(LeafNode),
+    /// `case parent: ParentNode parent_node;`
+    Parent(ParentNode),
+}
+
+impl Size for Node {
+    ghost plain = { node_plain };
+
+    ghost format = { node_format };
+
+    fn tls_serialized_len(&self) -> usize {
+        match self {
+            Node::Leaf(leaf_node) => (LEAF, Lent(leaf_node)).tls_serialized_len(),
+            Node::Parent(parent_node) => (PARENT, Lent(parent_node)).tls_serialized_len(),
+        }
+    }
+
+    ghost lawful = { node_meets };
+}
+
+impl Serialize for Node {
+    fn tls_serialize<W: Sink>(&self, writer: &mut W) -> Result<usize, Error> {
+        match self {
+            Node::Leaf(leaf_node) => (LEAF, Lent(leaf_node)).tls_serialize(writer),
+            Node::Parent(parent_node) => (PARENT, Lent(parent_node)).tls_serialize(writer),
+        }
+    }
+
+    fn tls_serialize_into(&self, out: &mut Vec<u8>) -> Result<usize, Error> {
+        match self {
+            Node::Leaf(leaf_node) => (LEAF, Lent(leaf_node)).tls_serialize_into(out),
+            Node::Parent(parent_node) => (PARENT, Lent(parent_node)).tls_serialize_into(out),
+        }
+    }
+}
+
+impl Deserialize for Node {
+    ghost names = { tagged_source_names 1
+        (variant_source_names 1 ⟦<LeafNode as Deserialize>⟧.names
+        (variant_source_names 2 ⟦<ParentNode as Deserialize>⟧.names
+        no_variant_source_names)) };
+
+    fn tls_deserialize<R: Source>(alloc: Global, src: &mut R) -> Result<Node, Error> {
+        let tag = u8::tls_deserialize(alloc, src)?;
+        match tag {
+            LEAF => {
+                let leaf_node = LeafNode::tls_deserialize(alloc, src)?;
+                Ok(Node::Leaf(leaf_node))
+            }
+            PARENT => {
+                let parent_node = ParentNode::tls_deserialize(alloc, src)?;
+                Ok(Node::Parent(parent_node))
+            }
+            _ => Err(unknown_value(u64::from(tag))),
+        }
+    }
+}
+
+impl DeserializeBytes for Node {
+    ghost names = { tagged_names 1
+        (variant_names 1 ⟦<LeafNode as DeserializeBytes>⟧.names
+        (variant_names 2 ⟦<ParentNode as DeserializeBytes>⟧.names
+        no_variant_names)) };
+
+    fn tls_deserialize_bytes(alloc: Global, whole: &[u8]) -> Result<(Node, &[u8]), Error> {
+        let (tag, rest) = u8::tls_deserialize_bytes(alloc, whole)?;
+        match tag {
+            LEAF => {
+                let (leaf_node, rest) = LeafNode::tls_deserialize_bytes(alloc, rest)?;
+                Ok((Node::Leaf(leaf_node), rest))
+            }
+            PARENT => {
+                let (parent_node, rest) = ParentNode::tls_deserialize_bytes(alloc, rest)?;
+                Ok((Node::Parent(parent_node), rest))
+            }
+            _ => Err(unknown_value(u64::from(tag))),
+        }
+    }
+}

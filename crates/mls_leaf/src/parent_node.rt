@@ -1,0 +1,93 @@
+//! [`ParentNode`].
+ghost use Rattle.mls_leaf.specs.ParentNode.{parent_node_format, parent_node_meets, parent_node_plain};
+
+use crate::HPKEPublicKey;
+use std::alloc::Global;
+use tls_codec::{
+    Deserialize, DeserializeBytes, Error, Lent, Serialize, Sink, Size, Source, VLBytes,
+};
+
+/// `ParentNode`.
+#[derive(PartialEq, Drop)]
+pub struct ParentNode {
+    /// `HPKEPublicKey encryption_key;`
+    pub encryption_key: HPKEPublicKey,
+    /// `opaque parent_hash<V>;`
+    pub parent_hash: VLBytes,
+    /// `uint32 unmerged_leaves<V>;`
+    pub unmerged_leaves: Vec<u32>,
+}
+
+impl Size for ParentNode {
+    ghost plain = { parent_node_plain };
+
+    ghost format = { parent_node_format };
+
+    fn tls_serialized_len(&self) -> usize {
+        (
+            Lent(&self.encryption_key),
+            Lent(&self.parent_hash),
+            Lent(&self.unmerged_leaves),
+        )
+            .tls_serialized_len()
+    }
+
+    ghost lawful = { parent_node_meets };
+}
+
+impl Serialize for ParentNode {
+    fn tls_serialize<W: Sink>(&self, writer: &mut W) -> Result<usize, Error> {
+        (
+            Lent(&self.encryption_key),
+            Lent(&self.parent_hash),
+            Lent(&self.unmerged_leaves),
+        )
+            .tls_serialize(writer)
+    }
+
+    fn tls_serialize_into(&self, out: &mut Vec<u8>) -> Result<usize, Error> {
+        (
+            Lent(&self.encryption_key),
+            Lent(&self.parent_hash),
+            Lent(&self.unmerged_leaves),
+        )
+            .tls_serialize_into(out)
+    }
+}
+
+impl Deserialize for ParentNode {
+    ghost names = { ⟦<(HPKEPublicKey, VLBytes, Vec<u32>) as Deserialize>⟧.names };
+
+    fn tls_deserialize<R: Source>(alloc: Global, src: &mut R) -> Result<ParentNode, Error> {
+        let (encryption_key, parent_hash, unmerged_leaves) = <(
+            HPKEPublicKey,
+            VLBytes,
+            Vec<u32>,
+        )>::tls_deserialize(alloc, src)?;
+        Ok(ParentNode {
+            encryption_key,
+            parent_hash,
+            unmerged_leaves,
+        })
+    }
+}
+
+impl DeserializeBytes for ParentNode {
+    ghost names = { ⟦<(HPKEPublicKey, VLBytes, Vec<u32>) as DeserializeBytes>⟧.names };
+
+    fn tls_deserialize_bytes(alloc: Global, whole: &[u8]) -> Result<(ParentNode, &[u8]), Error> {
+        let ((encryption_key, parent_hash, unmerged_leaves), rest) = <(
+            HPKEPublicKey,
+            VLBytes,
+            Vec<u32>,
+        )>::tls_deserialize_bytes(alloc, whole)?;
+        Ok((
+            ParentNode {
+                encryption_key,
+                parent_hash,
+                unmerged_leaves,
+            },
+            rest,
+        ))
+    }
+}

@@ -1,0 +1,99 @@
+//! [`ParentNodeHashInput`].
+ghost use Rattle.mls_leaf.specs.ParentNodeHashInput.{parent_node_hash_input_format, parent_node_hash_input_meets, parent_node_hash_input_plain};
+
+use crate::ParentNode;
+use std::alloc::Global;
+use tls_codec::{
+    Deserialize, DeserializeBytes, Error, Lent, Serialize, Sink, Size, Source, VLBytes,
+};
+
+/// `ParentNodeHashInput`.
+#[derive(PartialEq, Drop)]
+pub struct ParentNodeHashInput {
+    /// `optional<ParentNode> parent_node;`
+    pub parent_node: Option<ParentNode>,
+    /// `opaque left_hash<V>;`
+    pub left_hash: VLBytes,
+    /// `opaque right_hash<V>;`
+    pub right_hash: VLBytes,
+}
+
+impl Size for ParentNodeHashInput {
+    ghost plain = { parent_node_hash_input_plain };
+
+    ghost format = { parent_node_hash_input_format };
+
+    fn tls_serialized_len(&self) -> usize {
+        (
+            Lent(&self.parent_node),
+            Lent(&self.left_hash),
+            Lent(&self.right_hash),
+        )
+            .tls_serialized_len()
+    }
+
+    ghost lawful = { parent_node_hash_input_meets };
+}
+
+impl Serialize for ParentNodeHashInput {
+    fn tls_serialize<W: Sink>(&self, writer: &mut W) -> Result<usize, Error> {
+        (
+            Lent(&self.parent_node),
+            Lent(&self.left_hash),
+            Lent(&self.right_hash),
+        )
+            .tls_serialize(writer)
+    }
+
+    fn tls_serialize_into(&self, out: &mut Vec<u8>) -> Result<usize, Error> {
+        (
+            Lent(&self.parent_node),
+            Lent(&self.left_hash),
+            Lent(&self.right_hash),
+        )
+            .tls_serialize_into(out)
+    }
+}
+
+impl Deserialize for ParentNodeHashInput {
+    ghost names = { ⟦<(Option<ParentNode>, VLBytes, VLBytes) as Deserialize>⟧.names };
+
+    fn tls_deserialize<R: Source>(
+        alloc: Global,
+        src: &mut R,
+    ) -> Result<ParentNodeHashInput, Error> {
+        let (parent_node, left_hash, right_hash) = <(
+            Option<ParentNode>,
+            VLBytes,
+            VLBytes,
+        )>::tls_deserialize(alloc, src)?;
+        Ok(ParentNodeHashInput {
+            parent_node,
+            left_hash,
+            right_hash,
+        })
+    }
+}
+
+impl DeserializeBytes for ParentNodeHashInput {
+    ghost names = { ⟦<(Option<ParentNode>, VLBytes, VLBytes) as DeserializeBytes>⟧.names };
+
+    fn tls_deserialize_bytes(
+        alloc: Global,
+        whole: &[u8],
+    ) -> Result<(ParentNodeHashInput, &[u8]), Error> {
+        let ((parent_node, left_hash, right_hash), rest) = <(
+            Option<ParentNode>,
+            VLBytes,
+            VLBytes,
+        )>::tls_deserialize_bytes(alloc, whole)?;
+        Ok((
+            ParentNodeHashInput {
+                parent_node,
+                left_hash,
+                right_hash,
+            },
+            rest,
+        ))
+    }
+}

@@ -1,0 +1,61 @@
+//! [`ProtocolVersion`].
+ghost use Rattle.mls_leaf.specs.ProtocolVersion.{protocol_version_format, protocol_version_meets, protocol_version_plain};
+
+use std::alloc::Global;
+use tls_codec::{Deserialize, DeserializeBytes, Error, Serialize, Sink, Size, Source};
+
+/// `ProtocolVersion`.
+#[derive(PartialEq, Clone, Copy)]
+pub struct ProtocolVersion(pub u16);
+
+impl ProtocolVersion {
+    /// `mls10`
+    pub const MLS10: ProtocolVersion = ProtocolVersion(1);
+}
+
+impl Size for ProtocolVersion {
+    ghost plain = { protocol_version_plain };
+
+    ghost format = { protocol_version_format };
+
+    fn tls_serialized_len(&self) -> usize {
+        2
+    }
+
+    fn tls_fixed_len() -> Option<usize> {
+        Some(2)
+    }
+
+    ghost lawful = { protocol_version_meets };
+}
+
+impl Serialize for ProtocolVersion {
+    fn tls_serialize<W: Sink>(&self, writer: &mut W) -> Result<usize, Error> {
+        self.0.tls_serialize(writer)
+    }
+
+    fn tls_serialize_into(&self, out: &mut Vec<u8>) -> Result<usize, Error> {
+        self.0.tls_serialize_into(out)
+    }
+}
+
+impl Deserialize for ProtocolVersion {
+    ghost names = { ⟦<u16 as Deserialize>⟧.names };
+
+    fn tls_deserialize<R: Source>(alloc: Global, src: &mut R) -> Result<ProtocolVersion, Error> {
+        let number = u16::tls_deserialize(alloc, src)?;
+        Ok(ProtocolVersion(number))
+    }
+}
+
+impl DeserializeBytes for ProtocolVersion {
+    ghost names = { ⟦<u16 as DeserializeBytes>⟧.names };
+
+    fn tls_deserialize_bytes(
+        alloc: Global,
+        whole: &[u8],
+    ) -> Result<(ProtocolVersion, &[u8]), Error> {
+        let (number, rest) = u16::tls_deserialize_bytes(alloc, whole)?;
+        Ok((ProtocolVersion(number), rest))
+    }
+}

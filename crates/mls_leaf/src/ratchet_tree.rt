@@ -1,0 +1,53 @@
+//! [`RatchetTree`].
+ghost use Rattle.mls_leaf.specs.RatchetTree.{ratchet_tree_format, ratchet_tree_meets, ratchet_tree_plain};
+
+use crate::Node;
+use std::alloc::Global;
+use tls_codec::{Deserialize, DeserializeBytes, Error, Serialize, Sink, Size, Source};
+
+/// `RatchetTree`.
+#[derive(PartialEq, Drop)]
+pub struct RatchetTree {
+    /// `optional<Node> ratchet_tree<V>;`
+    pub ratchet_tree: Vec<Option<Node>>,
+}
+
+impl Size for RatchetTree {
+    ghost plain = { ratchet_tree_plain };
+
+    ghost format = { ratchet_tree_format };
+
+    fn tls_serialized_len(&self) -> usize {
+        self.ratchet_tree.tls_serialized_len()
+    }
+
+    ghost lawful = { ratchet_tree_meets };
+}
+
+impl Serialize for RatchetTree {
+    fn tls_serialize<W: Sink>(&self, writer: &mut W) -> Result<usize, Error> {
+        self.ratchet_tree.tls_serialize(writer)
+    }
+
+    fn tls_serialize_into(&self, out: &mut Vec<u8>) -> Result<usize, Error> {
+        self.ratchet_tree.tls_serialize_into(out)
+    }
+}
+
+impl Deserialize for RatchetTree {
+    ghost names = { ⟦<Vec<Option<Node>> as Deserialize>⟧.names };
+
+    fn tls_deserialize<R: Source>(alloc: Global, src: &mut R) -> Result<RatchetTree, Error> {
+        let ratchet_tree = <Vec<Option<Node>>>::tls_deserialize(alloc, src)?;
+        Ok(RatchetTree { ratchet_tree })
+    }
+}
+
+impl DeserializeBytes for RatchetTree {
+    ghost names = { ⟦<Vec<Option<Node>> as DeserializeBytes>⟧.names };
+
+    fn tls_deserialize_bytes(alloc: Global, whole: &[u8]) -> Result<(RatchetTree, &[u8]), Error> {
+        let (ratchet_tree, rest) = <Vec<Option<Node>>>::tls_deserialize_bytes(alloc, whole)?;
+        Ok((RatchetTree { ratchet_tree }, rest))
+    }
+}

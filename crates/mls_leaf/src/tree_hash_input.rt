@@ -1,0 +1,99 @@
+//! [`TreeHashInput`].
+ghost use Rattle.tls_codec.specs.OwnMessages.{no_variant_names, no_variant_source_names, tagged_names, tagged_source_names, variant_names, variant_source_names};
+ghost use Rattle.mls_leaf.specs.TreeHashInput.{tree_hash_input_format, tree_hash_input_meets, tree_hash_input_plain};
+
+use crate::{LeafNodeHashInput, ParentNodeHashInput};
+use std::alloc::Global;
+use tls_codec::{
+    Deserialize, DeserializeBytes, Error, Lent, Serialize, Sink, Size, Source, unknown_value,
+};
+
+const LEAF: u8 = 1;
+
+const PARENT: u8 = 2;
+
+/// `NodeType node_type` of `TreeHashInput`, and what comes after each.
+#[derive(PartialEq, Drop)]
+pub enum TreeHashInput {
+    /// `case leaf: LeafNodeHashInput leaf_node;`
+    Leaf(LeafNodeHashInput),
+    /// `case parent: ParentNodeHashInput parent_node;`
+    Parent(ParentNodeHashInput),
+}
+
+impl Size for TreeHashInput {
+    ghost plain = { tree_hash_input_plain };
+
+    ghost format = { tree_hash_input_format };
+
+    fn tls_serialized_len(&self) -> usize {
+        match self {
+            TreeHashInput::Leaf(leaf_node) => (LEAF, Lent(leaf_node)).tls_serialized_len(),
+            TreeHashInput::Parent(parent_node) => (PARENT, Lent(parent_node)).tls_serialized_len(),
+        }
+    }
+
+    ghost lawful = { tree_hash_input_meets };
+}
+
+impl Serialize for TreeHashInput {
+    fn tls_serialize<W: Sink>(&self, writer: &mut W) -> Result<usize, Error> {
+        match self {
+            TreeHashInput::Leaf(leaf_node) => (LEAF, Lent(leaf_node)).tls_serialize(writer),
+            TreeHashInput::Parent(parent_node) => (PARENT, Lent(parent_node)).tls_serialize(writer),
+        }
+    }
+
+    fn tls_serialize_into(&self, out: &mut Vec<u8>) -> Result<usize, Error> {
+        match self {
+            TreeHashInput::Leaf(leaf_node) => (LEAF, Lent(leaf_node)).tls_serialize_into(out),
+            TreeHashInput::Parent(parent_node) => (PARENT, Lent(parent_node)).tls_serialize_into(
+                out,
+            ),
+        }
+    }
+}
+
+impl Deserialize for TreeHashInput {
+    ghost names = { tagged_source_names 1
+        (variant_source_names 1 ⟦<LeafNodeHashInput as Deserialize>⟧.names
+        (variant_source_names 2 ⟦<ParentNodeHashInput as Deserialize>⟧.names
+        no_variant_source_names)) };
+
+    fn tls_deserialize<R: Source>(alloc: Global, src: &mut R) -> Result<TreeHashInput, Error> {
+        let tag = u8::tls_deserialize(alloc, src)?;
+        match tag {
+            LEAF => {
+                let leaf_node = LeafNodeHashInput::tls_deserialize(alloc, src)?;
+                Ok(TreeHashInput::Leaf(leaf_node))
+            }
+            PARENT => {
+                let parent_node = ParentNodeHashInput::tls_deserialize(alloc, src)?;
+                Ok(TreeHashInput::Parent(parent_node))
+            }
+            _ => Err(unknown_value(u64::from(tag))),
+        }
+    }
+}
+
+impl DeserializeBytes for TreeHashInput {
+    ghost names = { tagged_names 1
+        (variant_names 1 ⟦<LeafNodeHashInput as DeserializeBytes>⟧.names
+        (variant_names 2 ⟦<ParentNodeHashInput as DeserializeBytes>⟧.names
+        no_variant_names)) };
+
+    fn tls_deserialize_bytes(alloc: Global, whole: &[u8]) -> Result<(TreeHashInput, &[u8]), Error> {
+        let (tag, rest) = u8::tls_deserialize_bytes(alloc, whole)?;
+        match tag {
+            LEAF => {
+                let (leaf_node, rest) = LeafNodeHashInput::tls_deserialize_bytes(alloc, rest)?;
+                Ok((TreeHashInput::Leaf(leaf_node), rest))
+            }
+            PARENT => {
+                let (parent_node, rest) = ParentNodeHashInput::tls_deserialize_bytes(alloc, rest)?;
+                Ok((TreeHashInput::Parent(parent_node), rest))
+            }
+            _ => Err(unknown_value(u64::from(tag))),
+        }
+    }
+}

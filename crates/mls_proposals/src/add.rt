@@ -1,0 +1,53 @@
+//! [`Add`].
+ghost use Rattle.mls_proposals.specs.Add.{add_format, add_meets, add_plain};
+
+use mls_leaf::KeyPackage;
+use std::alloc::Global;
+use tls_codec::{Deserialize, DeserializeBytes, Error, Serialize, Sink, Size, Source};
+
+/// `Add`.
+#[derive(PartialEq, Drop)]
+pub struct Add {
+    /// `KeyPackage key_package;`
+    pub key_package: KeyPackage,
+}
+
+impl Size for Add {
+    ghost plain = { add_plain };
+
+    ghost format = { add_format };
+
+    fn tls_serialized_len(&self) -> usize {
+        self.key_package.tls_serialized_len()
+    }
+
+    ghost lawful = { add_meets };
+}
+
+impl Serialize for Add {
+    fn tls_serialize<W: Sink>(&self, writer: &mut W) -> Result<usize, Error> {
+        self.key_package.tls_serialize(writer)
+    }
+
+    fn tls_serialize_into(&self, out: &mut Vec<u8>) -> Result<usize, Error> {
+        self.key_package.tls_serialize_into(out)
+    }
+}
+
+impl Deserialize for Add {
+    ghost names = { ⟦<KeyPackage as Deserialize>⟧.names };
+
+    fn tls_deserialize<R: Source>(alloc: Global, src: &mut R) -> Result<Add, Error> {
+        let key_package = KeyPackage::tls_deserialize(alloc, src)?;
+        Ok(Add { key_package })
+    }
+}
+
+impl DeserializeBytes for Add {
+    ghost names = { ⟦<KeyPackage as DeserializeBytes>⟧.names };
+
+    fn tls_deserialize_bytes(alloc: Global, whole: &[u8]) -> Result<(Add, &[u8]), Error> {
+        let (key_package, rest) = KeyPackage::tls_deserialize_bytes(alloc, whole)?;
+        Ok((Add { key_package }, rest))
+    }
+}

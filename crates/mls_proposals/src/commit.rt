@@ -1,0 +1,60 @@
+//! [`Commit`].
+ghost use Rattle.mls_proposals.specs.Commit.{commit_format, commit_meets, commit_plain};
+
+use crate::{ProposalOrRef, UpdatePath};
+use std::alloc::Global;
+use tls_codec::{Deserialize, DeserializeBytes, Error, Lent, Serialize, Sink, Size, Source};
+
+/// `Commit`.
+#[derive(PartialEq, Drop)]
+pub struct Commit {
+    /// `ProposalOrRef proposals<V>;`
+    pub proposals: Vec<ProposalOrRef>,
+    /// `optional<UpdatePath> path;`
+    pub path: Option<UpdatePath>,
+}
+
+impl Size for Commit {
+    ghost plain = { commit_plain };
+
+    ghost format = { commit_format };
+
+    fn tls_serialized_len(&self) -> usize {
+        (Lent(&self.proposals), Lent(&self.path)).tls_serialized_len()
+    }
+
+    ghost lawful = { commit_meets };
+}
+
+impl Serialize for Commit {
+    fn tls_serialize<W: Sink>(&self, writer: &mut W) -> Result<usize, Error> {
+        (Lent(&self.proposals), Lent(&self.path)).tls_serialize(writer)
+    }
+
+    fn tls_serialize_into(&self, out: &mut Vec<u8>) -> Result<usize, Error> {
+        (Lent(&self.proposals), Lent(&self.path)).tls_serialize_into(out)
+    }
+}
+
+impl Deserialize for Commit {
+    ghost names = { ⟦<(Vec<ProposalOrRef>, Option<UpdatePath>) as Deserialize>⟧.names };
+
+    fn tls_deserialize<R: Source>(alloc: Global, src: &mut R) -> Result<Commit, Error> {
+        let (proposals, path) = <(Vec<ProposalOrRef>, Option<UpdatePath>)>::tls_deserialize(
+            alloc, src,
+        )?;
+        Ok(Commit { proposals, path })
+    }
+}
+
+impl DeserializeBytes for Commit {
+    ghost names = { ⟦<(Vec<ProposalOrRef>, Option<UpdatePath>) as DeserializeBytes>⟧.names };
+
+    fn tls_deserialize_bytes(alloc: Global, whole: &[u8]) -> Result<(Commit, &[u8]), Error> {
+        let ((proposals, path), rest) = <(
+            Vec<ProposalOrRef>,
+            Option<UpdatePath>,
+        )>::tls_deserialize_bytes(alloc, whole)?;
+        Ok((Commit { proposals, path }, rest))
+    }
+}

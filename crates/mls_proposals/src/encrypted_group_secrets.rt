@@ -1,0 +1,76 @@
+//! [`EncryptedGroupSecrets`].
+ghost use Rattle.mls_proposals.specs.EncryptedGroupSecrets.{encrypted_group_secrets_format, encrypted_group_secrets_meets, encrypted_group_secrets_plain};
+
+use crate::{HPKECiphertext, KeyPackageRef};
+use std::alloc::Global;
+use tls_codec::{Deserialize, DeserializeBytes, Error, Lent, Serialize, Sink, Size, Source};
+
+/// `EncryptedGroupSecrets`.
+#[derive(PartialEq, Drop)]
+pub struct EncryptedGroupSecrets {
+    /// `KeyPackageRef new_member;`
+    pub new_member: KeyPackageRef,
+    /// `HPKECiphertext encrypted_group_secrets;`
+    pub encrypted_group_secrets: HPKECiphertext,
+}
+
+impl Size for EncryptedGroupSecrets {
+    ghost plain = { encrypted_group_secrets_plain };
+
+    ghost format = { encrypted_group_secrets_format };
+
+    fn tls_serialized_len(&self) -> usize {
+        (Lent(&self.new_member), Lent(&self.encrypted_group_secrets)).tls_serialized_len()
+    }
+
+    ghost lawful = { encrypted_group_secrets_meets };
+}
+
+impl Serialize for EncryptedGroupSecrets {
+    fn tls_serialize<W: Sink>(&self, writer: &mut W) -> Result<usize, Error> {
+        (Lent(&self.new_member), Lent(&self.encrypted_group_secrets)).tls_serialize(writer)
+    }
+
+    fn tls_serialize_into(&self, out: &mut Vec<u8>) -> Result<usize, Error> {
+        (Lent(&self.new_member), Lent(&self.encrypted_group_secrets)).tls_serialize_into(out)
+    }
+}
+
+impl Deserialize for EncryptedGroupSecrets {
+    ghost names = { ⟦<(KeyPackageRef, HPKECiphertext) as Deserialize>⟧.names };
+
+    fn tls_deserialize<R: Source>(
+        alloc: Global,
+        src: &mut R,
+    ) -> Result<EncryptedGroupSecrets, Error> {
+        let (new_member, encrypted_group_secrets) = <(
+            KeyPackageRef,
+            HPKECiphertext,
+        )>::tls_deserialize(alloc, src)?;
+        Ok(EncryptedGroupSecrets {
+            new_member,
+            encrypted_group_secrets,
+        })
+    }
+}
+
+impl DeserializeBytes for EncryptedGroupSecrets {
+    ghost names = { ⟦<(KeyPackageRef, HPKECiphertext) as DeserializeBytes>⟧.names };
+
+    fn tls_deserialize_bytes(
+        alloc: Global,
+        whole: &[u8],
+    ) -> Result<(EncryptedGroupSecrets, &[u8]), Error> {
+        let ((new_member, encrypted_group_secrets), rest) = <(
+            KeyPackageRef,
+            HPKECiphertext,
+        )>::tls_deserialize_bytes(alloc, whole)?;
+        Ok((
+            EncryptedGroupSecrets {
+                new_member,
+                encrypted_group_secrets,
+            },
+            rest,
+        ))
+    }
+}

@@ -1,0 +1,52 @@
+//! [`ExternalInit`].
+ghost use Rattle.mls_proposals.specs.ExternalInit.{external_init_format, external_init_meets, external_init_plain};
+
+use std::alloc::Global;
+use tls_codec::{Deserialize, DeserializeBytes, Error, Serialize, Sink, Size, Source, VLBytes};
+
+/// `ExternalInit`.
+#[derive(PartialEq, Drop)]
+pub struct ExternalInit {
+    /// `opaque kem_output<V>;`
+    pub kem_output: VLBytes,
+}
+
+impl Size for ExternalInit {
+    ghost plain = { external_init_plain };
+
+    ghost format = { external_init_format };
+
+    fn tls_serialized_len(&self) -> usize {
+        self.kem_output.tls_serialized_len()
+    }
+
+    ghost lawful = { external_init_meets };
+}
+
+impl Serialize for ExternalInit {
+    fn tls_serialize<W: Sink>(&self, writer: &mut W) -> Result<usize, Error> {
+        self.kem_output.tls_serialize(writer)
+    }
+
+    fn tls_serialize_into(&self, out: &mut Vec<u8>) -> Result<usize, Error> {
+        self.kem_output.tls_serialize_into(out)
+    }
+}
+
+impl Deserialize for ExternalInit {
+    ghost names = { ⟦<VLBytes as Deserialize>⟧.names };
+
+    fn tls_deserialize<R: Source>(alloc: Global, src: &mut R) -> Result<ExternalInit, Error> {
+        let kem_output = VLBytes::tls_deserialize(alloc, src)?;
+        Ok(ExternalInit { kem_output })
+    }
+}
+
+impl DeserializeBytes for ExternalInit {
+    ghost names = { ⟦<VLBytes as DeserializeBytes>⟧.names };
+
+    fn tls_deserialize_bytes(alloc: Global, whole: &[u8]) -> Result<(ExternalInit, &[u8]), Error> {
+        let (kem_output, rest) = VLBytes::tls_deserialize_bytes(alloc, whole)?;
+        Ok((ExternalInit { kem_output }, rest))
+    }
+}

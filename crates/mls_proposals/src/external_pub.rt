@@ -1,0 +1,53 @@
+//! [`ExternalPub`].
+ghost use Rattle.mls_proposals.specs.ExternalPub.{external_pub_format, external_pub_meets, external_pub_plain};
+
+use mls_leaf::HPKEPublicKey;
+use std::alloc::Global;
+use tls_codec::{Deserialize, DeserializeBytes, Error, Serialize, Sink, Size, Source};
+
+/// `ExternalPub`.
+#[derive(PartialEq, Drop)]
+pub struct ExternalPub {
+    /// `HPKEPublicKey external_pub;`
+    pub external_pub: HPKEPublicKey,
+}
+
+impl Size for ExternalPub {
+    ghost plain = { external_pub_plain };
+
+    ghost format = { external_pub_format };
+
+    fn tls_serialized_len(&self) -> usize {
+        self.external_pub.tls_serialized_len()
+    }
+
+    ghost lawful = { external_pub_meets };
+}
+
+impl Serialize for ExternalPub {
+    fn tls_serialize<W: Sink>(&self, writer: &mut W) -> Result<usize, Error> {
+        self.external_pub.tls_serialize(writer)
+    }
+
+    fn tls_serialize_into(&self, out: &mut Vec<u8>) -> Result<usize, Error> {
+        self.external_pub.tls_serialize_into(out)
+    }
+}
+
+impl Deserialize for ExternalPub {
+    ghost names = { ⟦<HPKEPublicKey as Deserialize>⟧.names };
+
+    fn tls_deserialize<R: Source>(alloc: Global, src: &mut R) -> Result<ExternalPub, Error> {
+        let external_pub = HPKEPublicKey::tls_deserialize(alloc, src)?;
+        Ok(ExternalPub { external_pub })
+    }
+}
+
+impl DeserializeBytes for ExternalPub {
+    ghost names = { ⟦<HPKEPublicKey as DeserializeBytes>⟧.names };
+
+    fn tls_deserialize_bytes(alloc: Global, whole: &[u8]) -> Result<(ExternalPub, &[u8]), Error> {
+        let (external_pub, rest) = HPKEPublicKey::tls_deserialize_bytes(alloc, whole)?;
+        Ok((ExternalPub { external_pub }, rest))
+    }
+}

@@ -1,0 +1,72 @@
+//! [`ExternalSender`].
+ghost use Rattle.mls_proposals.specs.ExternalSender.{external_sender_format, external_sender_meets, external_sender_plain};
+
+use mls_leaf::{Credential, SignaturePublicKey};
+use std::alloc::Global;
+use tls_codec::{Deserialize, DeserializeBytes, Error, Lent, Serialize, Sink, Size, Source};
+
+/// `ExternalSender`.
+#[derive(PartialEq, Drop)]
+pub struct ExternalSender {
+    /// `SignaturePublicKey signature_key;`
+    pub signature_key: SignaturePublicKey,
+    /// `Credential credential;`
+    pub credential: Credential,
+}
+
+impl Size for ExternalSender {
+    ghost plain = { external_sender_plain };
+
+    ghost format = { external_sender_format };
+
+    fn tls_serialized_len(&self) -> usize {
+        (Lent(&self.signature_key), Lent(&self.credential)).tls_serialized_len()
+    }
+
+    ghost lawful = { external_sender_meets };
+}
+
+impl Serialize for ExternalSender {
+    fn tls_serialize<W: Sink>(&self, writer: &mut W) -> Result<usize, Error> {
+        (Lent(&self.signature_key), Lent(&self.credential)).tls_serialize(writer)
+    }
+
+    fn tls_serialize_into(&self, out: &mut Vec<u8>) -> Result<usize, Error> {
+        (Lent(&self.signature_key), Lent(&self.credential)).tls_serialize_into(out)
+    }
+}
+
+impl Deserialize for ExternalSender {
+    ghost names = { ⟦<(SignaturePublicKey, Credential) as Deserialize>⟧.names };
+
+    fn tls_deserialize<R: Source>(alloc: Global, src: &mut R) -> Result<ExternalSender, Error> {
+        let (signature_key, credential) = <(SignaturePublicKey, Credential)>::tls_deserialize(
+            alloc, src,
+        )?;
+        Ok(ExternalSender {
+            signature_key,
+            credential,
+        })
+    }
+}
+
+impl DeserializeBytes for ExternalSender {
+    ghost names = { ⟦<(SignaturePublicKey, Credential) as DeserializeBytes>⟧.names };
+
+    fn tls_deserialize_bytes(
+        alloc: Global,
+        whole: &[u8],
+    ) -> Result<(ExternalSender, &[u8]), Error> {
+        let ((signature_key, credential), rest) = <(
+            SignaturePublicKey,
+            Credential,
+        )>::tls_deserialize_bytes(alloc, whole)?;
+        Ok((
+            ExternalSender {
+                signature_key,
+                credential,
+            },
+            rest,
+        ))
+    }
+}

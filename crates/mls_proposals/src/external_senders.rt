@@ -1,0 +1,56 @@
+//! [`ExternalSenders`].
+ghost use Rattle.mls_proposals.specs.ExternalSenders.{external_senders_format, external_senders_meets, external_senders_plain};
+
+use crate::ExternalSender;
+use std::alloc::Global;
+use tls_codec::{Deserialize, DeserializeBytes, Error, Serialize, Sink, Size, Source};
+
+/// `ExternalSenders`.
+#[derive(PartialEq, Drop)]
+pub struct ExternalSenders {
+    /// `ExternalSender external_senders<V>;`
+    pub external_senders: Vec<ExternalSender>,
+}
+
+impl Size for ExternalSenders {
+    ghost plain = { external_senders_plain };
+
+    ghost format = { external_senders_format };
+
+    fn tls_serialized_len(&self) -> usize {
+        self.external_senders.tls_serialized_len()
+    }
+
+    ghost lawful = { external_senders_meets };
+}
+
+impl Serialize for ExternalSenders {
+    fn tls_serialize<W: Sink>(&self, writer: &mut W) -> Result<usize, Error> {
+        self.external_senders.tls_serialize(writer)
+    }
+
+    fn tls_serialize_into(&self, out: &mut Vec<u8>) -> Result<usize, Error> {
+        self.external_senders.tls_serialize_into(out)
+    }
+}
+
+impl Deserialize for ExternalSenders {
+    ghost names = { ⟦<Vec<ExternalSender> as Deserialize>⟧.names };
+
+    fn tls_deserialize<R: Source>(alloc: Global, src: &mut R) -> Result<ExternalSenders, Error> {
+        let external_senders = <Vec<ExternalSender>>::tls_deserialize(alloc, src)?;
+        Ok(ExternalSenders { external_senders })
+    }
+}
+
+impl DeserializeBytes for ExternalSenders {
+    ghost names = { ⟦<Vec<ExternalSender> as DeserializeBytes>⟧.names };
+
+    fn tls_deserialize_bytes(
+        alloc: Global,
+        whole: &[u8],
+    ) -> Result<(ExternalSenders, &[u8]), Error> {
+        let (external_senders, rest) = <Vec<ExternalSender>>::tls_deserialize_bytes(alloc, whole)?;
+        Ok((ExternalSenders { external_senders }, rest))
+    }
+}

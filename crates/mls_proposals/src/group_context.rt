@@ -1,0 +1,120 @@
+//! [`GroupContext`].
+ghost use Rattle.mls_proposals.specs.GroupContext.{group_context_format, group_context_meets, group_context_plain};
+
+use mls_leaf::{CipherSuite, Extension, ProtocolVersion};
+use std::alloc::Global;
+use tls_codec::{
+    Deserialize, DeserializeBytes, Error, Lent2, Lent3, Serialize, Sink, Size, Source, VLBytes,
+};
+
+/// `GroupContext`.
+#[derive(PartialEq, Drop)]
+pub struct GroupContext {
+    /// `ProtocolVersion version;`
+    pub version: ProtocolVersion,
+    /// `CipherSuite cipher_suite;`
+    pub cipher_suite: CipherSuite,
+    /// `opaque group_id<V>;`
+    pub group_id: VLBytes,
+    /// `uint64 epoch;`
+    pub epoch: u64,
+    /// `opaque tree_hash<V>;`
+    pub tree_hash: VLBytes,
+    /// `opaque confirmed_transcript_hash<V>;`
+    pub confirmed_transcript_hash: VLBytes,
+    /// `Extension extensions<V>;`
+    pub extensions: Vec<Extension>,
+}
+
+impl Size for GroupContext {
+    ghost plain = { group_context_plain };
+
+    ghost format = { group_context_format };
+
+    fn tls_serialized_len(&self) -> usize {
+        (
+            Lent3(&self.version, &self.cipher_suite, &self.group_id),
+            Lent2(&self.epoch, &self.tree_hash),
+            Lent2(&self.confirmed_transcript_hash, &self.extensions),
+        )
+            .tls_serialized_len()
+    }
+
+    ghost lawful = { group_context_meets };
+}
+
+impl Serialize for GroupContext {
+    fn tls_serialize<W: Sink>(&self, writer: &mut W) -> Result<usize, Error> {
+        (
+            Lent3(&self.version, &self.cipher_suite, &self.group_id),
+            Lent2(&self.epoch, &self.tree_hash),
+            Lent2(&self.confirmed_transcript_hash, &self.extensions),
+        )
+            .tls_serialize(writer)
+    }
+
+    fn tls_serialize_into(&self, out: &mut Vec<u8>) -> Result<usize, Error> {
+        (
+            Lent3(&self.version, &self.cipher_suite, &self.group_id),
+            Lent2(&self.epoch, &self.tree_hash),
+            Lent2(&self.confirmed_transcript_hash, &self.extensions),
+        )
+            .tls_serialize_into(out)
+    }
+}
+
+impl Deserialize for GroupContext {
+    ghost names = { ⟦<((ProtocolVersion, CipherSuite, VLBytes), (u64, VLBytes), (VLBytes, Vec<Extension>)) as Deserialize>⟧.names };
+
+    fn tls_deserialize<R: Source>(alloc: Global, src: &mut R) -> Result<GroupContext, Error> {
+        let (
+            (version, cipher_suite, group_id),
+            (epoch, tree_hash),
+            (confirmed_transcript_hash, extensions),
+        ) = <(
+            (ProtocolVersion, CipherSuite, VLBytes),
+            (u64, VLBytes),
+            (VLBytes, Vec<Extension>),
+        )>::tls_deserialize(alloc, src)?;
+        Ok(GroupContext {
+            version,
+            cipher_suite,
+            group_id,
+            epoch,
+            tree_hash,
+            confirmed_transcript_hash,
+            extensions,
+        })
+    }
+}
+
+impl DeserializeBytes for GroupContext {
+    ghost names = { ⟦<((ProtocolVersion, CipherSuite, VLBytes), (u64, VLBytes), (VLBytes, Vec<Extension>)) as DeserializeBytes>⟧.names };
+
+    fn tls_deserialize_bytes(alloc: Global, whole: &[u8]) -> Result<(GroupContext, &[u8]), Error> {
+        let (
+            (
+                (version, cipher_suite, group_id),
+                (epoch, tree_hash),
+                (confirmed_transcript_hash, extensions),
+            ),
+            rest,
+        ) = <(
+            (ProtocolVersion, CipherSuite, VLBytes),
+            (u64, VLBytes),
+            (VLBytes, Vec<Extension>),
+        )>::tls_deserialize_bytes(alloc, whole)?;
+        Ok((
+            GroupContext {
+                version,
+                cipher_suite,
+                group_id,
+                epoch,
+                tree_hash,
+                confirmed_transcript_hash,
+                extensions,
+            },
+            rest,
+        ))
+    }
+}

@@ -1,0 +1,59 @@
+//! [`GroupContextExtensions`].
+ghost use Rattle.mls_proposals.specs.GroupContextExtensions.{group_context_extensions_format, group_context_extensions_meets, group_context_extensions_plain};
+
+use mls_leaf::Extension;
+use std::alloc::Global;
+use tls_codec::{Deserialize, DeserializeBytes, Error, Serialize, Sink, Size, Source};
+
+/// `GroupContextExtensions`.
+#[derive(PartialEq, Drop)]
+pub struct GroupContextExtensions {
+    /// `Extension extensions<V>;`
+    pub extensions: Vec<Extension>,
+}
+
+impl Size for GroupContextExtensions {
+    ghost plain = { group_context_extensions_plain };
+
+    ghost format = { group_context_extensions_format };
+
+    fn tls_serialized_len(&self) -> usize {
+        self.extensions.tls_serialized_len()
+    }
+
+    ghost lawful = { group_context_extensions_meets };
+}
+
+impl Serialize for GroupContextExtensions {
+    fn tls_serialize<W: Sink>(&self, writer: &mut W) -> Result<usize, Error> {
+        self.extensions.tls_serialize(writer)
+    }
+
+    fn tls_serialize_into(&self, out: &mut Vec<u8>) -> Result<usize, Error> {
+        self.extensions.tls_serialize_into(out)
+    }
+}
+
+impl Deserialize for GroupContextExtensions {
+    ghost names = { ⟦<Vec<Extension> as Deserialize>⟧.names };
+
+    fn tls_deserialize<R: Source>(
+        alloc: Global,
+        src: &mut R,
+    ) -> Result<GroupContextExtensions, Error> {
+        let extensions = <Vec<Extension>>::tls_deserialize(alloc, src)?;
+        Ok(GroupContextExtensions { extensions })
+    }
+}
+
+impl DeserializeBytes for GroupContextExtensions {
+    ghost names = { ⟦<Vec<Extension> as DeserializeBytes>⟧.names };
+
+    fn tls_deserialize_bytes(
+        alloc: Global,
+        whole: &[u8],
+    ) -> Result<(GroupContextExtensions, &[u8]), Error> {
+        let (extensions, rest) = <Vec<Extension>>::tls_deserialize_bytes(alloc, whole)?;
+        Ok((GroupContextExtensions { extensions }, rest))
+    }
+}

@@ -1,0 +1,109 @@
+//! [`GroupInfo`].
+ghost use Rattle.mls_proposals.specs.GroupInfo.{group_info_format, group_info_meets, group_info_plain};
+
+use crate::{GroupContext, MAC};
+use mls_leaf::Extension;
+use std::alloc::Global;
+use tls_codec::{
+    Deserialize, DeserializeBytes, Error, Lent2, Lent3, Serialize, Sink, Size, Source, VLBytes,
+};
+
+/// `GroupInfo`.
+#[derive(PartialEq, Drop)]
+pub struct GroupInfo {
+    /// `GroupContext group_context;`
+    pub group_context: GroupContext,
+    /// `Extension extensions<V>;`
+    pub extensions: Vec<Extension>,
+    /// `MAC confirmation_tag;`
+    pub confirmation_tag: MAC,
+    /// `uint32 signer;`
+    pub signer: u32,
+    /// `opaque signature<V>;`
+    pub signature: VLBytes,
+}
+
+impl Size for GroupInfo {
+    ghost plain = { group_info_plain };
+
+    ghost format = { group_info_format };
+
+    fn tls_serialized_len(&self) -> usize {
+        (
+            Lent3(
+                &self.group_context,
+                &self.extensions,
+                &self.confirmation_tag,
+            ),
+            Lent2(&self.signer, &self.signature),
+        )
+            .tls_serialized_len()
+    }
+
+    ghost lawful = { group_info_meets };
+}
+
+impl Serialize for GroupInfo {
+    fn tls_serialize<W: Sink>(&self, writer: &mut W) -> Result<usize, Error> {
+        (
+            Lent3(
+                &self.group_context,
+                &self.extensions,
+                &self.confirmation_tag,
+            ),
+            Lent2(&self.signer, &self.signature),
+        )
+            .tls_serialize(writer)
+    }
+
+    fn tls_serialize_into(&self, out: &mut Vec<u8>) -> Result<usize, Error> {
+        (
+            Lent3(
+                &self.group_context,
+                &self.extensions,
+                &self.confirmation_tag,
+            ),
+            Lent2(&self.signer, &self.signature),
+        )
+            .tls_serialize_into(out)
+    }
+}
+
+impl Deserialize for GroupInfo {
+    ghost names = { ⟦<((GroupContext, Vec<Extension>, MAC), (u32, VLBytes)) as Deserialize>⟧.names };
+
+    fn tls_deserialize<R: Source>(alloc: Global, src: &mut R) -> Result<GroupInfo, Error> {
+        let ((group_context, extensions, confirmation_tag), (signer, signature)) = <(
+            (GroupContext, Vec<Extension>, MAC),
+            (u32, VLBytes),
+        )>::tls_deserialize(alloc, src)?;
+        Ok(GroupInfo {
+            group_context,
+            extensions,
+            confirmation_tag,
+            signer,
+            signature,
+        })
+    }
+}
+
+impl DeserializeBytes for GroupInfo {
+    ghost names = { ⟦<((GroupContext, Vec<Extension>, MAC), (u32, VLBytes)) as DeserializeBytes>⟧.names };
+
+    fn tls_deserialize_bytes(alloc: Global, whole: &[u8]) -> Result<(GroupInfo, &[u8]), Error> {
+        let (((group_context, extensions, confirmation_tag), (signer, signature)), rest) = <(
+            (GroupContext, Vec<Extension>, MAC),
+            (u32, VLBytes),
+        )>::tls_deserialize_bytes(alloc, whole)?;
+        Ok((
+            GroupInfo {
+                group_context,
+                extensions,
+                confirmation_tag,
+                signer,
+                signature,
+            },
+            rest,
+        ))
+    }
+}

@@ -1,0 +1,93 @@
+//! [`GroupSecrets`].
+ghost use Rattle.mls_proposals.specs.GroupSecrets.{group_secrets_format, group_secrets_meets, group_secrets_plain};
+
+use crate::{PathSecret, PreSharedKeyID};
+use std::alloc::Global;
+use tls_codec::{
+    Deserialize, DeserializeBytes, Error, Lent, Serialize, Sink, Size, Source, VLBytes,
+};
+
+/// `GroupSecrets`.
+#[derive(PartialEq, Drop)]
+pub struct GroupSecrets {
+    /// `opaque joiner_secret<V>;`
+    pub joiner_secret: VLBytes,
+    /// `optional<PathSecret> path_secret;`
+    pub path_secret: Option<PathSecret>,
+    /// `PreSharedKeyID psks<V>;`
+    pub psks: Vec<PreSharedKeyID>,
+}
+
+impl Size for GroupSecrets {
+    ghost plain = { group_secrets_plain };
+
+    ghost format = { group_secrets_format };
+
+    fn tls_serialized_len(&self) -> usize {
+        (
+            Lent(&self.joiner_secret),
+            Lent(&self.path_secret),
+            Lent(&self.psks),
+        )
+            .tls_serialized_len()
+    }
+
+    ghost lawful = { group_secrets_meets };
+}
+
+impl Serialize for GroupSecrets {
+    fn tls_serialize<W: Sink>(&self, writer: &mut W) -> Result<usize, Error> {
+        (
+            Lent(&self.joiner_secret),
+            Lent(&self.path_secret),
+            Lent(&self.psks),
+        )
+            .tls_serialize(writer)
+    }
+
+    fn tls_serialize_into(&self, out: &mut Vec<u8>) -> Result<usize, Error> {
+        (
+            Lent(&self.joiner_secret),
+            Lent(&self.path_secret),
+            Lent(&self.psks),
+        )
+            .tls_serialize_into(out)
+    }
+}
+
+impl Deserialize for GroupSecrets {
+    ghost names = { ⟦<(VLBytes, Option<PathSecret>, Vec<PreSharedKeyID>) as Deserialize>⟧.names };
+
+    fn tls_deserialize<R: Source>(alloc: Global, src: &mut R) -> Result<GroupSecrets, Error> {
+        let (joiner_secret, path_secret, psks) = <(
+            VLBytes,
+            Option<PathSecret>,
+            Vec<PreSharedKeyID>,
+        )>::tls_deserialize(alloc, src)?;
+        Ok(GroupSecrets {
+            joiner_secret,
+            path_secret,
+            psks,
+        })
+    }
+}
+
+impl DeserializeBytes for GroupSecrets {
+    ghost names = { ⟦<(VLBytes, Option<PathSecret>, Vec<PreSharedKeyID>) as DeserializeBytes>⟧.names };
+
+    fn tls_deserialize_bytes(alloc: Global, whole: &[u8]) -> Result<(GroupSecrets, &[u8]), Error> {
+        let ((joiner_secret, path_secret, psks), rest) = <(
+            VLBytes,
+            Option<PathSecret>,
+            Vec<PreSharedKeyID>,
+        )>::tls_deserialize_bytes(alloc, whole)?;
+        Ok((
+            GroupSecrets {
+                joiner_secret,
+                path_secret,
+                psks,
+            },
+            rest,
+        ))
+    }
+}

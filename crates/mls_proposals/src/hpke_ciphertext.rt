@@ -1,0 +1,70 @@
+//! [`HPKECiphertext`].
+ghost use Rattle.mls_proposals.specs.HPKECiphertext.{hpke_ciphertext_format, hpke_ciphertext_meets, hpke_ciphertext_plain};
+
+use std::alloc::Global;
+use tls_codec::{
+    Deserialize, DeserializeBytes, Error, Lent, Serialize, Sink, Size, Source, VLBytes,
+};
+
+/// `HPKECiphertext`.
+#[derive(PartialEq, Drop)]
+pub struct HPKECiphertext {
+    /// `opaque kem_output<V>;`
+    pub kem_output: VLBytes,
+    /// `opaque ciphertext<V>;`
+    pub ciphertext: VLBytes,
+}
+
+impl Size for HPKECiphertext {
+    ghost plain = { hpke_ciphertext_plain };
+
+    ghost format = { hpke_ciphertext_format };
+
+    fn tls_serialized_len(&self) -> usize {
+        (Lent(&self.kem_output), Lent(&self.ciphertext)).tls_serialized_len()
+    }
+
+    ghost lawful = { hpke_ciphertext_meets };
+}
+
+impl Serialize for HPKECiphertext {
+    fn tls_serialize<W: Sink>(&self, writer: &mut W) -> Result<usize, Error> {
+        (Lent(&self.kem_output), Lent(&self.ciphertext)).tls_serialize(writer)
+    }
+
+    fn tls_serialize_into(&self, out: &mut Vec<u8>) -> Result<usize, Error> {
+        (Lent(&self.kem_output), Lent(&self.ciphertext)).tls_serialize_into(out)
+    }
+}
+
+impl Deserialize for HPKECiphertext {
+    ghost names = { ⟦<(VLBytes, VLBytes) as Deserialize>⟧.names };
+
+    fn tls_deserialize<R: Source>(alloc: Global, src: &mut R) -> Result<HPKECiphertext, Error> {
+        let (kem_output, ciphertext) = <(VLBytes, VLBytes)>::tls_deserialize(alloc, src)?;
+        Ok(HPKECiphertext {
+            kem_output,
+            ciphertext,
+        })
+    }
+}
+
+impl DeserializeBytes for HPKECiphertext {
+    ghost names = { ⟦<(VLBytes, VLBytes) as DeserializeBytes>⟧.names };
+
+    fn tls_deserialize_bytes(
+        alloc: Global,
+        whole: &[u8],
+    ) -> Result<(HPKECiphertext, &[u8]), Error> {
+        let ((kem_output, ciphertext), rest) = <(VLBytes, VLBytes)>::tls_deserialize_bytes(
+            alloc, whole,
+        )?;
+        Ok((
+            HPKECiphertext {
+                kem_output,
+                ciphertext,
+            },
+            rest,
+        ))
+    }
+}

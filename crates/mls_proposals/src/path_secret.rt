@@ -1,0 +1,52 @@
+//! [`PathSecret`].
+ghost use Rattle.mls_proposals.specs.PathSecret.{path_secret_format, path_secret_meets, path_secret_plain};
+
+use std::alloc::Global;
+use tls_codec::{Deserialize, DeserializeBytes, Error, Serialize, Sink, Size, Source, VLBytes};
+
+/// `PathSecret`.
+#[derive(PartialEq, Drop)]
+pub struct PathSecret {
+    /// `opaque path_secret<V>;`
+    pub path_secret: VLBytes,
+}
+
+impl Size for PathSecret {
+    ghost plain = { path_secret_plain };
+
+    ghost format = { path_secret_format };
+
+    fn tls_serialized_len(&self) -> usize {
+        self.path_secret.tls_serialized_len()
+    }
+
+    ghost lawful = { path_secret_meets };
+}
+
+impl Serialize for PathSecret {
+    fn tls_serialize<W: Sink>(&self, writer: &mut W) -> Result<usize, Error> {
+        self.path_secret.tls_serialize(writer)
+    }
+
+    fn tls_serialize_into(&self, out: &mut Vec<u8>) -> Result<usize, Error> {
+        self.path_secret.tls_serialize_into(out)
+    }
+}
+
+impl Deserialize for PathSecret {
+    ghost names = { ⟦<VLBytes as Deserialize>⟧.names };
+
+    fn tls_deserialize<R: Source>(alloc: Global, src: &mut R) -> Result<PathSecret, Error> {
+        let path_secret = VLBytes::tls_deserialize(alloc, src)?;
+        Ok(PathSecret { path_secret })
+    }
+}
+
+impl DeserializeBytes for PathSecret {
+    ghost names = { ⟦<VLBytes as DeserializeBytes>⟧.names };
+
+    fn tls_deserialize_bytes(alloc: Global, whole: &[u8]) -> Result<(PathSecret, &[u8]), Error> {
+        let (path_secret, rest) = VLBytes::tls_deserialize_bytes(alloc, whole)?;
+        Ok((PathSecret { path_secret }, rest))
+    }
+}

@@ -1,0 +1,53 @@
+//! [`PreSharedKey`].
+ghost use Rattle.mls_proposals.specs.PreSharedKey.{pre_shared_key_format, pre_shared_key_meets, pre_shared_key_plain};
+
+use crate::PreSharedKeyID;
+use std::alloc::Global;
+use tls_codec::{Deserialize, DeserializeBytes, Error, Serialize, Sink, Size, Source};
+
+/// `PreSharedKey`.
+#[derive(PartialEq, Drop)]
+pub struct PreSharedKey {
+    /// `PreSharedKeyID psk;`
+    pub psk: PreSharedKeyID,
+}
+
+impl Size for PreSharedKey {
+    ghost plain = { pre_shared_key_plain };
+
+    ghost format = { pre_shared_key_format };
+
+    fn tls_serialized_len(&self) -> usize {
+        self.psk.tls_serialized_len()
+    }
+
+    ghost lawful = { pre_shared_key_meets };
+}
+
+impl Serialize for PreSharedKey {
+    fn tls_serialize<W: Sink>(&self, writer: &mut W) -> Result<usize, Error> {
+        self.psk.tls_serialize(writer)
+    }
+
+    fn tls_serialize_into(&self, out: &mut Vec<u8>) -> Result<usize, Error> {
+        self.psk.tls_serialize_into(out)
+    }
+}
+
+impl Deserialize for PreSharedKey {
+    ghost names = { ⟦<PreSharedKeyID as Deserialize>⟧.names };
+
+    fn tls_deserialize<R: Source>(alloc: Global, src: &mut R) -> Result<PreSharedKey, Error> {
+        let psk = PreSharedKeyID::tls_deserialize(alloc, src)?;
+        Ok(PreSharedKey { psk })
+    }
+}
+
+impl DeserializeBytes for PreSharedKey {
+    ghost names = { ⟦<PreSharedKeyID as DeserializeBytes>⟧.names };
+
+    fn tls_deserialize_bytes(alloc: Global, whole: &[u8]) -> Result<(PreSharedKey, &[u8]), Error> {
+        let (psk, rest) = PreSharedKeyID::tls_deserialize_bytes(alloc, whole)?;
+        Ok((PreSharedKey { psk }, rest))
+    }
+}

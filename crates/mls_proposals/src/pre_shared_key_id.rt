@@ -1,0 +1,62 @@
+//! [`PreSharedKeyID`].
+ghost use Rattle.mls_proposals.specs.PreSharedKeyID.{pre_shared_key_id_format, pre_shared_key_id_meets, pre_shared_key_id_plain};
+
+use crate::PSKOrigin;
+use std::alloc::Global;
+use tls_codec::{
+    Deserialize, DeserializeBytes, Error, Lent, Serialize, Sink, Size, Source, VLBytes,
+};
+
+/// `PreSharedKeyID`.
+#[derive(PartialEq, Drop)]
+pub struct PreSharedKeyID {
+    /// `PSKType psktype;`
+    pub psktype: PSKOrigin,
+    /// `opaque psk_nonce<V>;`
+    pub psk_nonce: VLBytes,
+}
+
+impl Size for PreSharedKeyID {
+    ghost plain = { pre_shared_key_id_plain };
+
+    ghost format = { pre_shared_key_id_format };
+
+    fn tls_serialized_len(&self) -> usize {
+        (Lent(&self.psktype), Lent(&self.psk_nonce)).tls_serialized_len()
+    }
+
+    ghost lawful = { pre_shared_key_id_meets };
+}
+
+impl Serialize for PreSharedKeyID {
+    fn tls_serialize<W: Sink>(&self, writer: &mut W) -> Result<usize, Error> {
+        (Lent(&self.psktype), Lent(&self.psk_nonce)).tls_serialize(writer)
+    }
+
+    fn tls_serialize_into(&self, out: &mut Vec<u8>) -> Result<usize, Error> {
+        (Lent(&self.psktype), Lent(&self.psk_nonce)).tls_serialize_into(out)
+    }
+}
+
+impl Deserialize for PreSharedKeyID {
+    ghost names = { ⟦<(PSKOrigin, VLBytes) as Deserialize>⟧.names };
+
+    fn tls_deserialize<R: Source>(alloc: Global, src: &mut R) -> Result<PreSharedKeyID, Error> {
+        let (psktype, psk_nonce) = <(PSKOrigin, VLBytes)>::tls_deserialize(alloc, src)?;
+        Ok(PreSharedKeyID { psktype, psk_nonce })
+    }
+}
+
+impl DeserializeBytes for PreSharedKeyID {
+    ghost names = { ⟦<(PSKOrigin, VLBytes) as DeserializeBytes>⟧.names };
+
+    fn tls_deserialize_bytes(
+        alloc: Global,
+        whole: &[u8],
+    ) -> Result<(PreSharedKeyID, &[u8]), Error> {
+        let ((psktype, psk_nonce), rest) = <(PSKOrigin, VLBytes)>::tls_deserialize_bytes(
+            alloc, whole,
+        )?;
+        Ok((PreSharedKeyID { psktype, psk_nonce }, rest))
+    }
+}

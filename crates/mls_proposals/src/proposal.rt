@@ -1,0 +1,204 @@
+//! [`Proposal`].
+ghost use Rattle.tls_codec.specs.OwnMessages.{no_variant_names, no_variant_source_names, tagged_names, tagged_source_names, variant_names, variant_source_names};
+ghost use Rattle.mls_proposals.specs.Proposal.{proposal_format, proposal_meets, proposal_plain};
+
+use crate::{Add, ExternalInit, GroupContextExtensions, PreSharedKey, ReInit, Remove, Update};
+use std::alloc::Global;
+use tls_codec::{
+    Deserialize, DeserializeBytes, Error, Lent, Serialize, Sink, Size, Source, unknown_value,
+};
+
+const ADD: u16 = 1;
+
+const UPDATE: u16 = 2;
+
+const REMOVE: u16 = 3;
+
+const PSK: u16 = 4;
+
+const REINIT: u16 = 5;
+
+const EXTERNAL_INIT: u16 = 6;
+
+const GROUP_CONTEXT_EXTENSIONS: u16 = 7;
+
+/// `ProposalType proposal_type` of `Proposal`, and what comes after each.
+#[derive(PartialEq, Drop)]
+pub enum Proposal {
+    /// `case add: Add add;`
+    Add(Add),
+    /// `case update: Update update;`
+    Update(Update),
+    /// `case remove: Remove remove;`
+    Remove(Remove),
+    /// `case psk: PreSharedKey psk;`
+    Psk(PreSharedKey),
+    /// `case reinit: ReInit reinit;`
+    Reinit(ReInit),
+    /// `case external_init: ExternalInit external_init;`
+    ExternalInit(ExternalInit),
+    /// `case group_context_extensions: GroupContextExtensions group_context_extensions;`
+    GroupContextExtensions(GroupContextExtensions),
+}
+
+impl Size for Proposal {
+    ghost plain = { proposal_plain };
+
+    ghost format = { proposal_format };
+
+    fn tls_serialized_len(&self) -> usize {
+        match self {
+            Proposal::Add(add) => (ADD, Lent(add)).tls_serialized_len(),
+            Proposal::Update(update) => (UPDATE, Lent(update)).tls_serialized_len(),
+            Proposal::Remove(remove) => (REMOVE, Lent(remove)).tls_serialized_len(),
+            Proposal::Psk(psk) => (PSK, Lent(psk)).tls_serialized_len(),
+            Proposal::Reinit(reinit) => (REINIT, Lent(reinit)).tls_serialized_len(),
+            Proposal::ExternalInit(external_init) => (
+                EXTERNAL_INIT,
+                Lent(external_init),
+            ).tls_serialized_len(),
+            Proposal::GroupContextExtensions(group_context_extensions) => (
+                GROUP_CONTEXT_EXTENSIONS,
+                Lent(group_context_extensions),
+            ).tls_serialized_len(),
+        }
+    }
+
+    ghost lawful = { proposal_meets };
+}
+
+impl Serialize for Proposal {
+    fn tls_serialize<W: Sink>(&self, writer: &mut W) -> Result<usize, Error> {
+        match self {
+            Proposal::Add(add) => (ADD, Lent(add)).tls_serialize(writer),
+            Proposal::Update(update) => (UPDATE, Lent(update)).tls_serialize(writer),
+            Proposal::Remove(remove) => (REMOVE, Lent(remove)).tls_serialize(writer),
+            Proposal::Psk(psk) => (PSK, Lent(psk)).tls_serialize(writer),
+            Proposal::Reinit(reinit) => (REINIT, Lent(reinit)).tls_serialize(writer),
+            Proposal::ExternalInit(external_init) => (
+                EXTERNAL_INIT,
+                Lent(external_init),
+            ).tls_serialize(writer),
+            Proposal::GroupContextExtensions(group_context_extensions) => (
+                GROUP_CONTEXT_EXTENSIONS,
+                Lent(group_context_extensions),
+            ).tls_serialize(writer),
+        }
+    }
+
+    fn tls_serialize_into(&self, out: &mut Vec<u8>) -> Result<usize, Error> {
+        match self {
+            Proposal::Add(add) => (ADD, Lent(add)).tls_serialize_into(out),
+            Proposal::Update(update) => (UPDATE, Lent(update)).tls_serialize_into(out),
+            Proposal::Remove(remove) => (REMOVE, Lent(remove)).tls_serialize_into(out),
+            Proposal::Psk(psk) => (PSK, Lent(psk)).tls_serialize_into(out),
+            Proposal::Reinit(reinit) => (REINIT, Lent(reinit)).tls_serialize_into(out),
+            Proposal::ExternalInit(external_init) => (
+                EXTERNAL_INIT,
+                Lent(external_init),
+            ).tls_serialize_into(out),
+            Proposal::GroupContextExtensions(group_context_extensions) => (
+                GROUP_CONTEXT_EXTENSIONS,
+                Lent(group_context_extensions),
+            ).tls_serialize_into(out),
+        }
+    }
+}
+
+impl Deserialize for Proposal {
+    ghost names = { tagged_source_names 2
+        (variant_source_names 1 ⟦<Add as Deserialize>⟧.names
+        (variant_source_names 2 ⟦<Update as Deserialize>⟧.names
+        (variant_source_names 3 ⟦<Remove as Deserialize>⟧.names
+        (variant_source_names 4 ⟦<PreSharedKey as Deserialize>⟧.names
+        (variant_source_names 5 ⟦<ReInit as Deserialize>⟧.names
+        (variant_source_names 6 ⟦<ExternalInit as Deserialize>⟧.names
+        (variant_source_names 7 ⟦<GroupContextExtensions as Deserialize>⟧.names
+        no_variant_source_names))))))) };
+
+    fn tls_deserialize<R: Source>(alloc: Global, src: &mut R) -> Result<Proposal, Error> {
+        let tag = u16::tls_deserialize(alloc, src)?;
+        match tag {
+            ADD => {
+                let add = Add::tls_deserialize(alloc, src)?;
+                Ok(Proposal::Add(add))
+            }
+            UPDATE => {
+                let update = Update::tls_deserialize(alloc, src)?;
+                Ok(Proposal::Update(update))
+            }
+            REMOVE => {
+                let remove = Remove::tls_deserialize(alloc, src)?;
+                Ok(Proposal::Remove(remove))
+            }
+            PSK => {
+                let psk = PreSharedKey::tls_deserialize(alloc, src)?;
+                Ok(Proposal::Psk(psk))
+            }
+            REINIT => {
+                let reinit = ReInit::tls_deserialize(alloc, src)?;
+                Ok(Proposal::Reinit(reinit))
+            }
+            EXTERNAL_INIT => {
+                let external_init = ExternalInit::tls_deserialize(alloc, src)?;
+                Ok(Proposal::ExternalInit(external_init))
+            }
+            GROUP_CONTEXT_EXTENSIONS => {
+                let group_context_extensions = GroupContextExtensions::tls_deserialize(alloc, src)?;
+                Ok(Proposal::GroupContextExtensions(group_context_extensions))
+            }
+            _ => Err(unknown_value(u64::from(tag))),
+        }
+    }
+}
+
+impl DeserializeBytes for Proposal {
+    ghost names = { tagged_names 2
+        (variant_names 1 ⟦<Add as DeserializeBytes>⟧.names
+        (variant_names 2 ⟦<Update as DeserializeBytes>⟧.names
+        (variant_names 3 ⟦<Remove as DeserializeBytes>⟧.names
+        (variant_names 4 ⟦<PreSharedKey as DeserializeBytes>⟧.names
+        (variant_names 5 ⟦<ReInit as DeserializeBytes>⟧.names
+        (variant_names 6 ⟦<ExternalInit as DeserializeBytes>⟧.names
+        (variant_names 7 ⟦<GroupContextExtensions as DeserializeBytes>⟧.names
+        no_variant_names))))))) };
+
+    fn tls_deserialize_bytes(alloc: Global, whole: &[u8]) -> Result<(Proposal, &[u8]), Error> {
+        let (tag, rest) = u16::tls_deserialize_bytes(alloc, whole)?;
+        match tag {
+            ADD => {
+                let (add, rest) = Add::tls_deserialize_bytes(alloc, rest)?;
+                Ok((Proposal::Add(add), rest))
+            }
+            UPDATE => {
+                let (update, rest) = Update::tls_deserialize_bytes(alloc, rest)?;
+                Ok((Proposal::Update(update), rest))
+            }
+            REMOVE => {
+                let (remove, rest) = Remove::tls_deserialize_bytes(alloc, rest)?;
+                Ok((Proposal::Remove(remove), rest))
+            }
+            PSK => {
+                let (psk, rest) = PreSharedKey::tls_deserialize_bytes(alloc, rest)?;
+                Ok((Proposal::Psk(psk), rest))
+            }
+            REINIT => {
+                let (reinit, rest) = ReInit::tls_deserialize_bytes(alloc, rest)?;
+                Ok((Proposal::Reinit(reinit), rest))
+            }
+            EXTERNAL_INIT => {
+                let (external_init, rest) = ExternalInit::tls_deserialize_bytes(alloc, rest)?;
+                Ok((Proposal::ExternalInit(external_init), rest))
+            }
+            GROUP_CONTEXT_EXTENSIONS => {
+                let (group_context_extensions, rest) =
+                    GroupContextExtensions::tls_deserialize_bytes(alloc, rest)?;
+                Ok((
+                    Proposal::GroupContextExtensions(group_context_extensions),
+                    rest,
+                ))
+            }
+            _ => Err(unknown_value(u64::from(tag))),
+        }
+    }
+}

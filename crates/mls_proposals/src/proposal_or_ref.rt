@@ -1,0 +1,104 @@
+//! [`ProposalOrRef`].
+ghost use Rattle.tls_codec.specs.OwnMessages.{no_variant_names, no_variant_source_names, tagged_names, tagged_source_names, variant_names, variant_source_names};
+ghost use Rattle.mls_proposals.specs.ProposalOrRef.{proposal_or_ref_format, proposal_or_ref_meets, proposal_or_ref_plain};
+
+use crate::{Proposal, ProposalRef};
+use std::alloc::Global;
+use tls_codec::{
+    Deserialize, DeserializeBytes, Error, Lent, Serialize, Sink, Size, Source, unknown_value,
+};
+
+const PROPOSAL: u8 = 1;
+
+const REFERENCE: u8 = 2;
+
+/// `ProposalOrRefType type` of `ProposalOrRef`, and what comes after each.
+#[derive(PartialEq, Drop)]
+pub enum ProposalOrRef {
+    /// `case proposal: Proposal proposal;`
+    Proposal(Proposal),
+    /// `case reference: ProposalRef reference;`
+    Reference(ProposalRef),
+}
+
+impl Size for ProposalOrRef {
+    ghost plain = { proposal_or_ref_plain };
+
+    ghost format = { proposal_or_ref_format };
+
+    fn tls_serialized_len(&self) -> usize {
+        match self {
+            ProposalOrRef::Proposal(proposal) => (PROPOSAL, Lent(proposal)).tls_serialized_len(),
+            ProposalOrRef::Reference(reference) => (
+                REFERENCE,
+                Lent(reference),
+            ).tls_serialized_len(),
+        }
+    }
+
+    ghost lawful = { proposal_or_ref_meets };
+}
+
+impl Serialize for ProposalOrRef {
+    fn tls_serialize<W: Sink>(&self, writer: &mut W) -> Result<usize, Error> {
+        match self {
+            ProposalOrRef::Proposal(proposal) => (PROPOSAL, Lent(proposal)).tls_serialize(writer),
+            ProposalOrRef::Reference(reference) => (REFERENCE, Lent(reference)).tls_serialize(
+                writer,
+            ),
+        }
+    }
+
+    fn tls_serialize_into(&self, out: &mut Vec<u8>) -> Result<usize, Error> {
+        match self {
+            ProposalOrRef::Proposal(proposal) => (PROPOSAL, Lent(proposal)).tls_serialize_into(out),
+            ProposalOrRef::Reference(reference) => (REFERENCE, Lent(reference)).tls_serialize_into(
+                out,
+            ),
+        }
+    }
+}
+
+impl Deserialize for ProposalOrRef {
+    ghost names = { tagged_source_names 1
+        (variant_source_names 1 ⟦<Proposal as Deserialize>⟧.names
+        (variant_source_names 2 ⟦<ProposalRef as Deserialize>⟧.names
+        no_variant_source_names)) };
+
+    fn tls_deserialize<R: Source>(alloc: Global, src: &mut R) -> Result<ProposalOrRef, Error> {
+        let tag = u8::tls_deserialize(alloc, src)?;
+        match tag {
+            PROPOSAL => {
+                let proposal = Proposal::tls_deserialize(alloc, src)?;
+                Ok(ProposalOrRef::Proposal(proposal))
+            }
+            REFERENCE => {
+                let reference = ProposalRef::tls_deserialize(alloc, src)?;
+                Ok(ProposalOrRef::Reference(reference))
+            }
+            _ => Err(unknown_value(u64::from(tag))),
+        }
+    }
+}
+
+impl DeserializeBytes for ProposalOrRef {
+    ghost names = { tagged_names 1
+        (variant_names 1 ⟦<Proposal as DeserializeBytes>⟧.names
+        (variant_names 2 ⟦<ProposalRef as DeserializeBytes>⟧.names
+        no_variant_names)) };
+
+    fn tls_deserialize_bytes(alloc: Global, whole: &[u8]) -> Result<(ProposalOrRef, &[u8]), Error> {
+        let (tag, rest) = u8::tls_deserialize_bytes(alloc, whole)?;
+        match tag {
+            PROPOSAL => {
+                let (proposal, rest) = Proposal::tls_deserialize_bytes(alloc, rest)?;
+                Ok((ProposalOrRef::Proposal(proposal), rest))
+            }
+            REFERENCE => {
+                let (reference, rest) = ProposalRef::tls_deserialize_bytes(alloc, rest)?;
+                Ok((ProposalOrRef::Reference(reference), rest))
+            }
+            _ => Err(unknown_value(u64::from(tag))),
+        }
+    }
+}

@@ -1,0 +1,134 @@
+//! [`PSKOrigin`].
+ghost use Rattle.tls_codec.specs.OwnMessages.{no_variant_names, no_variant_source_names, tagged_names, tagged_source_names, variant_names, variant_source_names};
+ghost use Rattle.mls_proposals.specs.PSKOrigin.{psk_origin_format, psk_origin_meets, psk_origin_plain};
+
+use crate::ResumptionPSKUsage;
+use std::alloc::Global;
+use tls_codec::{
+    Deserialize, DeserializeBytes, Error, Lent, Lent2, Serialize, Sink, Size, Source, VLBytes,
+    unknown_value,
+};
+
+const EXTERNAL: u8 = 1;
+
+const RESUMPTION: u8 = 2;
+
+/// `PSKType psktype` of `PreSharedKeyID`, and what comes after each.
+#[derive(PartialEq, Drop)]
+pub enum PSKOrigin {
+    /// `case external: opaque psk_id<V>;`
+    External(VLBytes),
+    /// `case resumption:`
+    Resumption {
+        /// `ResumptionPSKUsage usage;`
+        usage: ResumptionPSKUsage,
+        /// `opaque psk_group_id<V>;`
+        psk_group_id: VLBytes,
+        /// `uint64 psk_epoch;`
+        psk_epoch: u64,
+    },
+}
+
+impl Size for PSKOrigin {
+    ghost plain = { psk_origin_plain };
+
+    ghost format = { psk_origin_format };
+
+    fn tls_serialized_len(&self) -> usize {
+        match self {
+            PSKOrigin::External(psk_id) => (EXTERNAL, Lent(psk_id)).tls_serialized_len(),
+            PSKOrigin::Resumption {
+                usage,
+                psk_group_id,
+                psk_epoch,
+            } => (RESUMPTION, Lent2(usage, psk_group_id), Lent(psk_epoch)).tls_serialized_len(),
+        }
+    }
+
+    ghost lawful = { psk_origin_meets };
+}
+
+impl Serialize for PSKOrigin {
+    fn tls_serialize<W: Sink>(&self, writer: &mut W) -> Result<usize, Error> {
+        match self {
+            PSKOrigin::External(psk_id) => (EXTERNAL, Lent(psk_id)).tls_serialize(writer),
+            PSKOrigin::Resumption {
+                usage,
+                psk_group_id,
+                psk_epoch,
+            } => (RESUMPTION, Lent2(usage, psk_group_id), Lent(psk_epoch)).tls_serialize(writer),
+        }
+    }
+
+    fn tls_serialize_into(&self, out: &mut Vec<u8>) -> Result<usize, Error> {
+        match self {
+            PSKOrigin::External(psk_id) => (EXTERNAL, Lent(psk_id)).tls_serialize_into(out),
+            PSKOrigin::Resumption {
+                usage,
+                psk_group_id,
+                psk_epoch,
+            } => (RESUMPTION, Lent2(usage, psk_group_id), Lent(psk_epoch)).tls_serialize_into(out),
+        }
+    }
+}
+
+impl Deserialize for PSKOrigin {
+    ghost names = { tagged_source_names 1
+        (variant_source_names 1 ⟦<VLBytes as Deserialize>⟧.names
+        (variant_source_names 2 ⟦<((ResumptionPSKUsage, VLBytes), u64) as Deserialize>⟧.names
+        no_variant_source_names)) };
+
+    fn tls_deserialize<R: Source>(alloc: Global, src: &mut R) -> Result<PSKOrigin, Error> {
+        let tag = u8::tls_deserialize(alloc, src)?;
+        match tag {
+            EXTERNAL => {
+                let psk_id = VLBytes::tls_deserialize(alloc, src)?;
+                Ok(PSKOrigin::External(psk_id))
+            }
+            RESUMPTION => {
+                let ((usage, psk_group_id), psk_epoch) = <(
+                    (ResumptionPSKUsage, VLBytes),
+                    u64,
+                )>::tls_deserialize(alloc, src)?;
+                Ok(PSKOrigin::Resumption {
+                    usage,
+                    psk_group_id,
+                    psk_epoch,
+                })
+            }
+            _ => Err(unknown_value(u64::from(tag))),
+        }
+    }
+}
+
+impl DeserializeBytes for PSKOrigin {
+    ghost names = { tagged_names 1
+        (variant_names 1 ⟦<VLBytes as DeserializeBytes>⟧.names
+        (variant_names 2 ⟦<((ResumptionPSKUsage, VLBytes), u64) as DeserializeBytes>⟧.names
+        no_variant_names)) };
+
+    fn tls_deserialize_bytes(alloc: Global, whole: &[u8]) -> Result<(PSKOrigin, &[u8]), Error> {
+        let (tag, rest) = u8::tls_deserialize_bytes(alloc, whole)?;
+        match tag {
+            EXTERNAL => {
+                let (psk_id, rest) = VLBytes::tls_deserialize_bytes(alloc, rest)?;
+                Ok((PSKOrigin::External(psk_id), rest))
+            }
+            RESUMPTION => {
+                let (((usage, psk_group_id), psk_epoch), rest) = <(
+                    (ResumptionPSKUsage, VLBytes),
+                    u64,
+                )>::tls_deserialize_bytes(alloc, rest)?;
+                Ok((
+                    PSKOrigin::Resumption {
+                        usage,
+                        psk_group_id,
+                        psk_epoch,
+                    },
+                    rest,
+                ))
+            }
+            _ => Err(unknown_value(u64::from(tag))),
+        }
+    }
+}

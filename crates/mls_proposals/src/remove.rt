@@ -1,0 +1,52 @@
+//! [`Remove`].
+ghost use Rattle.mls_proposals.specs.Remove.{remove_format, remove_meets, remove_plain};
+
+use std::alloc::Global;
+use tls_codec::{Deserialize, DeserializeBytes, Error, Serialize, Sink, Size, Source};
+
+/// `Remove`.
+#[derive(PartialEq, Drop)]
+pub struct Remove {
+    /// `uint32 removed;`
+    pub removed: u32,
+}
+
+impl Size for Remove {
+    ghost plain = { remove_plain };
+
+    ghost format = { remove_format };
+
+    fn tls_serialized_len(&self) -> usize {
+        self.removed.tls_serialized_len()
+    }
+
+    ghost lawful = { remove_meets };
+}
+
+impl Serialize for Remove {
+    fn tls_serialize<W: Sink>(&self, writer: &mut W) -> Result<usize, Error> {
+        self.removed.tls_serialize(writer)
+    }
+
+    fn tls_serialize_into(&self, out: &mut Vec<u8>) -> Result<usize, Error> {
+        self.removed.tls_serialize_into(out)
+    }
+}
+
+impl Deserialize for Remove {
+    ghost names = { ⟦<u32 as Deserialize>⟧.names };
+
+    fn tls_deserialize<R: Source>(alloc: Global, src: &mut R) -> Result<Remove, Error> {
+        let removed = u32::tls_deserialize(alloc, src)?;
+        Ok(Remove { removed })
+    }
+}
+
+impl DeserializeBytes for Remove {
+    ghost names = { ⟦<u32 as DeserializeBytes>⟧.names };
+
+    fn tls_deserialize_bytes(alloc: Global, whole: &[u8]) -> Result<(Remove, &[u8]), Error> {
+        let (removed, rest) = u32::tls_deserialize_bytes(alloc, whole)?;
+        Ok((Remove { removed }, rest))
+    }
+}

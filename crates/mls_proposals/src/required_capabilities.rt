@@ -1,0 +1,97 @@
+//! [`RequiredCapabilities`].
+ghost use Rattle.mls_proposals.specs.RequiredCapabilities.{required_capabilities_format, required_capabilities_meets, required_capabilities_plain};
+
+use mls_leaf::{CredentialType, ExtensionType, ProposalType};
+use std::alloc::Global;
+use tls_codec::{Deserialize, DeserializeBytes, Error, Lent, Serialize, Sink, Size, Source};
+
+/// `RequiredCapabilities`.
+#[derive(PartialEq, Drop)]
+pub struct RequiredCapabilities {
+    /// `ExtensionType extension_types<V>;`
+    pub extension_types: Vec<ExtensionType>,
+    /// `ProposalType proposal_types<V>;`
+    pub proposal_types: Vec<ProposalType>,
+    /// `CredentialType credential_types<V>;`
+    pub credential_types: Vec<CredentialType>,
+}
+
+impl Size for RequiredCapabilities {
+    ghost plain = { required_capabilities_plain };
+
+    ghost format = { required_capabilities_format };
+
+    fn tls_serialized_len(&self) -> usize {
+        (
+            Lent(&self.extension_types),
+            Lent(&self.proposal_types),
+            Lent(&self.credential_types),
+        )
+            .tls_serialized_len()
+    }
+
+    ghost lawful = { required_capabilities_meets };
+}
+
+impl Serialize for RequiredCapabilities {
+    fn tls_serialize<W: Sink>(&self, writer: &mut W) -> Result<usize, Error> {
+        (
+            Lent(&self.extension_types),
+            Lent(&self.proposal_types),
+            Lent(&self.credential_types),
+        )
+            .tls_serialize(writer)
+    }
+
+    fn tls_serialize_into(&self, out: &mut Vec<u8>) -> Result<usize, Error> {
+        (
+            Lent(&self.extension_types),
+            Lent(&self.proposal_types),
+            Lent(&self.credential_types),
+        )
+            .tls_serialize_into(out)
+    }
+}
+
+impl Deserialize for RequiredCapabilities {
+    ghost names = { ⟦<(Vec<ExtensionType>, Vec<ProposalType>, Vec<CredentialType>) as Deserialize>⟧.names };
+
+    fn tls_deserialize<R: Source>(
+        alloc: Global,
+        src: &mut R,
+    ) -> Result<RequiredCapabilities, Error> {
+        let (extension_types, proposal_types, credential_types) = <(
+            Vec<ExtensionType>,
+            Vec<ProposalType>,
+            Vec<CredentialType>,
+        )>::tls_deserialize(alloc, src)?;
+        Ok(RequiredCapabilities {
+            extension_types,
+            proposal_types,
+            credential_types,
+        })
+    }
+}
+
+impl DeserializeBytes for RequiredCapabilities {
+    ghost names = { ⟦<(Vec<ExtensionType>, Vec<ProposalType>, Vec<CredentialType>) as DeserializeBytes>⟧.names };
+
+    fn tls_deserialize_bytes(
+        alloc: Global,
+        whole: &[u8],
+    ) -> Result<(RequiredCapabilities, &[u8]), Error> {
+        let ((extension_types, proposal_types, credential_types), rest) = <(
+            Vec<ExtensionType>,
+            Vec<ProposalType>,
+            Vec<CredentialType>,
+        )>::tls_deserialize_bytes(alloc, whole)?;
+        Ok((
+            RequiredCapabilities {
+                extension_types,
+                proposal_types,
+                credential_types,
+            },
+            rest,
+        ))
+    }
+}

@@ -1,0 +1,53 @@
+//! [`Update`].
+ghost use Rattle.mls_proposals.specs.Update.{update_format, update_meets, update_plain};
+
+use mls_leaf::LeafNode;
+use std::alloc::Global;
+use tls_codec::{Deserialize, DeserializeBytes, Error, Serialize, Sink, Size, Source};
+
+/// `Update`.
+#[derive(PartialEq, Drop)]
+pub struct Update {
+    /// `LeafNode leaf_node;`
+    pub leaf_node: LeafNode,
+}
+
+impl Size for Update {
+    ghost plain = { update_plain };
+
+    ghost format = { update_format };
+
+    fn tls_serialized_len(&self) -> usize {
+        self.leaf_node.tls_serialized_len()
+    }
+
+    ghost lawful = { update_meets };
+}
+
+impl Serialize for Update {
+    fn tls_serialize<W: Sink>(&self, writer: &mut W) -> Result<usize, Error> {
+        self.leaf_node.tls_serialize(writer)
+    }
+
+    fn tls_serialize_into(&self, out: &mut Vec<u8>) -> Result<usize, Error> {
+        self.leaf_node.tls_serialize_into(out)
+    }
+}
+
+impl Deserialize for Update {
+    ghost names = { ⟦<LeafNode as Deserialize>⟧.names };
+
+    fn tls_deserialize<R: Source>(alloc: Global, src: &mut R) -> Result<Update, Error> {
+        let leaf_node = LeafNode::tls_deserialize(alloc, src)?;
+        Ok(Update { leaf_node })
+    }
+}
+
+impl DeserializeBytes for Update {
+    ghost names = { ⟦<LeafNode as DeserializeBytes>⟧.names };
+
+    fn tls_deserialize_bytes(alloc: Global, whole: &[u8]) -> Result<(Update, &[u8]), Error> {
+        let (leaf_node, rest) = LeafNode::tls_deserialize_bytes(alloc, whole)?;
+        Ok((Update { leaf_node }, rest))
+    }
+}

@@ -1,0 +1,58 @@
+//! [`UpdatePath`].
+ghost use Rattle.mls_proposals.specs.UpdatePath.{update_path_format, update_path_meets, update_path_plain};
+
+use crate::UpdatePathNode;
+use mls_leaf::LeafNode;
+use std::alloc::Global;
+use tls_codec::{Deserialize, DeserializeBytes, Error, Lent, Serialize, Sink, Size, Source};
+
+/// `UpdatePath`.
+#[derive(PartialEq, Drop)]
+pub struct UpdatePath {
+    /// `LeafNode leaf_node;`
+    pub leaf_node: LeafNode,
+    /// `UpdatePathNode nodes<V>;`
+    pub nodes: Vec<UpdatePathNode>,
+}
+
+impl Size for UpdatePath {
+    ghost plain = { update_path_plain };
+
+    ghost format = { update_path_format };
+
+    fn tls_serialized_len(&self) -> usize {
+        (Lent(&self.leaf_node), Lent(&self.nodes)).tls_serialized_len()
+    }
+
+    ghost lawful = { update_path_meets };
+}
+
+impl Serialize for UpdatePath {
+    fn tls_serialize<W: Sink>(&self, writer: &mut W) -> Result<usize, Error> {
+        (Lent(&self.leaf_node), Lent(&self.nodes)).tls_serialize(writer)
+    }
+
+    fn tls_serialize_into(&self, out: &mut Vec<u8>) -> Result<usize, Error> {
+        (Lent(&self.leaf_node), Lent(&self.nodes)).tls_serialize_into(out)
+    }
+}
+
+impl Deserialize for UpdatePath {
+    ghost names = { ⟦<(LeafNode, Vec<UpdatePathNode>) as Deserialize>⟧.names };
+
+    fn tls_deserialize<R: Source>(alloc: Global, src: &mut R) -> Result<UpdatePath, Error> {
+        let (leaf_node, nodes) = <(LeafNode, Vec<UpdatePathNode>)>::tls_deserialize(alloc, src)?;
+        Ok(UpdatePath { leaf_node, nodes })
+    }
+}
+
+impl DeserializeBytes for UpdatePath {
+    ghost names = { ⟦<(LeafNode, Vec<UpdatePathNode>) as DeserializeBytes>⟧.names };
+
+    fn tls_deserialize_bytes(alloc: Global, whole: &[u8]) -> Result<(UpdatePath, &[u8]), Error> {
+        let ((leaf_node, nodes), rest) = <(LeafNode, Vec<UpdatePathNode>)>::tls_deserialize_bytes(
+            alloc, whole,
+        )?;
+        Ok((UpdatePath { leaf_node, nodes }, rest))
+    }
+}

@@ -1,0 +1,86 @@
+//! [`UpdatePathNode`].
+ghost use Rattle.mls_proposals.specs.UpdatePathNode.{update_path_node_format, update_path_node_meets, update_path_node_plain};
+
+use crate::HPKECiphertext;
+use mls_leaf::HPKEPublicKey;
+use std::alloc::Global;
+use tls_codec::{Deserialize, DeserializeBytes, Error, Lent, Serialize, Sink, Size, Source};
+
+/// `UpdatePathNode`.
+#[derive(PartialEq, Drop)]
+pub struct UpdatePathNode {
+    /// `HPKEPublicKey encryption_key;`
+    pub encryption_key: HPKEPublicKey,
+    /// `HPKECiphertext encrypted_path_secret<V>;`
+    pub encrypted_path_secret: Vec<HPKECiphertext>,
+}
+
+impl Size for UpdatePathNode {
+    ghost plain = { update_path_node_plain };
+
+    ghost format = { update_path_node_format };
+
+    fn tls_serialized_len(&self) -> usize {
+        (
+            Lent(&self.encryption_key),
+            Lent(&self.encrypted_path_secret),
+        )
+            .tls_serialized_len()
+    }
+
+    ghost lawful = { update_path_node_meets };
+}
+
+impl Serialize for UpdatePathNode {
+    fn tls_serialize<W: Sink>(&self, writer: &mut W) -> Result<usize, Error> {
+        (
+            Lent(&self.encryption_key),
+            Lent(&self.encrypted_path_secret),
+        )
+            .tls_serialize(writer)
+    }
+
+    fn tls_serialize_into(&self, out: &mut Vec<u8>) -> Result<usize, Error> {
+        (
+            Lent(&self.encryption_key),
+            Lent(&self.encrypted_path_secret),
+        )
+            .tls_serialize_into(out)
+    }
+}
+
+impl Deserialize for UpdatePathNode {
+    ghost names = { ⟦<(HPKEPublicKey, Vec<HPKECiphertext>) as Deserialize>⟧.names };
+
+    fn tls_deserialize<R: Source>(alloc: Global, src: &mut R) -> Result<UpdatePathNode, Error> {
+        let (encryption_key, encrypted_path_secret) = <(
+            HPKEPublicKey,
+            Vec<HPKECiphertext>,
+        )>::tls_deserialize(alloc, src)?;
+        Ok(UpdatePathNode {
+            encryption_key,
+            encrypted_path_secret,
+        })
+    }
+}
+
+impl DeserializeBytes for UpdatePathNode {
+    ghost names = { ⟦<(HPKEPublicKey, Vec<HPKECiphertext>) as DeserializeBytes>⟧.names };
+
+    fn tls_deserialize_bytes(
+        alloc: Global,
+        whole: &[u8],
+    ) -> Result<(UpdatePathNode, &[u8]), Error> {
+        let ((encryption_key, encrypted_path_secret), rest) = <(
+            HPKEPublicKey,
+            Vec<HPKECiphertext>,
+        )>::tls_deserialize_bytes(alloc, whole)?;
+        Ok((
+            UpdatePathNode {
+                encryption_key,
+                encrypted_path_secret,
+            },
+            rest,
+        ))
+    }
+}

@@ -1,0 +1,94 @@
+//! [`Welcome`].
+ghost use Rattle.mls_proposals.specs.Welcome.{welcome_format, welcome_meets, welcome_plain};
+
+use crate::EncryptedGroupSecrets;
+use mls_leaf::CipherSuite;
+use std::alloc::Global;
+use tls_codec::{
+    Deserialize, DeserializeBytes, Error, Lent, Serialize, Sink, Size, Source, VLBytes,
+};
+
+/// `Welcome`.
+#[derive(PartialEq, Drop)]
+pub struct Welcome {
+    /// `CipherSuite cipher_suite;`
+    pub cipher_suite: CipherSuite,
+    /// `EncryptedGroupSecrets secrets<V>;`
+    pub secrets: Vec<EncryptedGroupSecrets>,
+    /// `opaque encrypted_group_info<V>;`
+    pub encrypted_group_info: VLBytes,
+}
+
+impl Size for Welcome {
+    ghost plain = { welcome_plain };
+
+    ghost format = { welcome_format };
+
+    fn tls_serialized_len(&self) -> usize {
+        (
+            Lent(&self.cipher_suite),
+            Lent(&self.secrets),
+            Lent(&self.encrypted_group_info),
+        )
+            .tls_serialized_len()
+    }
+
+    ghost lawful = { welcome_meets };
+}
+
+impl Serialize for Welcome {
+    fn tls_serialize<W: Sink>(&self, writer: &mut W) -> Result<usize, Error> {
+        (
+            Lent(&self.cipher_suite),
+            Lent(&self.secrets),
+            Lent(&self.encrypted_group_info),
+        )
+            .tls_serialize(writer)
+    }
+
+    fn tls_serialize_into(&self, out: &mut Vec<u8>) -> Result<usize, Error> {
+        (
+            Lent(&self.cipher_suite),
+            Lent(&self.secrets),
+            Lent(&self.encrypted_group_info),
+        )
+            .tls_serialize_into(out)
+    }
+}
+
+impl Deserialize for Welcome {
+    ghost names = { ⟦<(CipherSuite, Vec<EncryptedGroupSecrets>, VLBytes) as Deserialize>⟧.names };
+
+    fn tls_deserialize<R: Source>(alloc: Global, src: &mut R) -> Result<Welcome, Error> {
+        let (cipher_suite, secrets, encrypted_group_info) = <(
+            CipherSuite,
+            Vec<EncryptedGroupSecrets>,
+            VLBytes,
+        )>::tls_deserialize(alloc, src)?;
+        Ok(Welcome {
+            cipher_suite,
+            secrets,
+            encrypted_group_info,
+        })
+    }
+}
+
+impl DeserializeBytes for Welcome {
+    ghost names = { ⟦<(CipherSuite, Vec<EncryptedGroupSecrets>, VLBytes) as DeserializeBytes>⟧.names };
+
+    fn tls_deserialize_bytes(alloc: Global, whole: &[u8]) -> Result<(Welcome, &[u8]), Error> {
+        let ((cipher_suite, secrets, encrypted_group_info), rest) = <(
+            CipherSuite,
+            Vec<EncryptedGroupSecrets>,
+            VLBytes,
+        )>::tls_deserialize_bytes(alloc, whole)?;
+        Ok((
+            Welcome {
+                cipher_suite,
+                secrets,
+                encrypted_group_info,
+            },
+            rest,
+        ))
+    }
+}

@@ -1,0 +1,404 @@
+//! How the messages of `mls_framing` are shown, written by `tls_codec_messages --show`.
+
+use crate::show::{Show, Tree};
+use mls_framing::{
+    AuthenticatedContent, AuthenticatedContentContentTypeData, ConfirmedTranscriptHashInput,
+    ContentType, ContentTypeData, FramedContent, FramedContentTBS, InterimTranscriptHashInput,
+    MLSMessage, PrivateContentAAD, PrivateMessage, ProtocolVersionMls10, PublicMessage,
+    PublicMessageContentTypeData, PublicMessageSenderTypeData, Sender, SenderData, SenderDataAAD,
+    SenderTypeData, WireFormat, WireFormatData,
+};
+use std::alloc::AllocError;
+
+impl Show for ContentType {
+    fn show(&self, tree: &mut Tree, name: &str) -> Result<(), AllocError> {
+        match self {
+            ContentType::Application => tree.value(name, "application (1)"),
+            ContentType::Proposal => tree.value(name, "proposal (2)"),
+            ContentType::Commit => tree.value(name, "commit (3)"),
+        }
+    }
+}
+
+impl Show for Sender {
+    fn show(&self, tree: &mut Tree, name: &str) -> Result<(), AllocError> {
+        match self {
+            Sender::Member(leaf_index) => {
+                tree.open(name, "member (1)")?;
+                leaf_index.show(tree, "leaf_index")?;
+                tree.close()
+            }
+            Sender::External(sender_index) => {
+                tree.open(name, "external (2)")?;
+                sender_index.show(tree, "sender_index")?;
+                tree.close()
+            }
+            Sender::NewMemberCommit => tree.value(name, "new_member_commit (4)"),
+            Sender::NewMemberProposal => tree.value(name, "new_member_proposal (3)"),
+        }
+    }
+}
+
+impl Show for WireFormat {
+    fn show(&self, tree: &mut Tree, name: &str) -> Result<(), AllocError> {
+        match self.0 {
+            1 => tree.value(name, "mls_public_message (1)"),
+            2 => tree.value(name, "mls_private_message (2)"),
+            3 => tree.value(name, "mls_welcome (3)"),
+            4 => tree.value(name, "mls_group_info (4)"),
+            5 => tree.value(name, "mls_key_package (5)"),
+            tag => tree.number(name, u64::from(tag)),
+        }
+    }
+}
+
+impl Show for ContentTypeData {
+    fn show(&self, tree: &mut Tree, name: &str) -> Result<(), AllocError> {
+        match self {
+            ContentTypeData::Application(application_data) => {
+                tree.open(name, "application (1)")?;
+                application_data.show(tree, "application_data")?;
+                tree.close()
+            }
+            ContentTypeData::Proposal(proposal) => {
+                tree.open(name, "proposal (2)")?;
+                proposal.show(tree, "proposal")?;
+                tree.close()
+            }
+            ContentTypeData::Commit(commit) => {
+                tree.open(name, "commit (3)")?;
+                commit.show(tree, "commit")?;
+                tree.close()
+            }
+        }
+    }
+}
+
+impl Show for FramedContent {
+    fn show(&self, tree: &mut Tree, name: &str) -> Result<(), AllocError> {
+        tree.open(name, "FramedContent")?;
+        self.group_id.show(tree, "group_id")?;
+        self.epoch.show(tree, "epoch")?;
+        self.sender.show(tree, "sender")?;
+        self.authenticated_data.show(tree, "authenticated_data")?;
+        self.content_type.show(tree, "content_type")?;
+        tree.close()
+    }
+}
+
+impl Show for ProtocolVersionMls10 {
+    fn show(&self, tree: &mut Tree, name: &str) -> Result<(), AllocError> {
+        tree.value(name, "mls10 (1)")
+    }
+}
+
+impl Show for SenderTypeData {
+    fn show(&self, tree: &mut Tree, name: &str) -> Result<(), AllocError> {
+        match self {
+            SenderTypeData::Member {
+                leaf_index,
+                authenticated_data,
+                content_type,
+                context,
+            } => {
+                tree.open(name, "member (1)")?;
+                leaf_index.show(tree, "leaf_index")?;
+                authenticated_data.show(tree, "authenticated_data")?;
+                content_type.show(tree, "content_type")?;
+                context.show(tree, "context")?;
+                tree.close()
+            }
+            SenderTypeData::External {
+                sender_index,
+                authenticated_data,
+                content_type,
+            } => {
+                tree.open(name, "external (2)")?;
+                sender_index.show(tree, "sender_index")?;
+                authenticated_data.show(tree, "authenticated_data")?;
+                content_type.show(tree, "content_type")?;
+                tree.close()
+            }
+            SenderTypeData::NewMemberCommit {
+                authenticated_data,
+                content_type,
+                context,
+            } => {
+                tree.open(name, "new_member_commit (4)")?;
+                authenticated_data.show(tree, "authenticated_data")?;
+                content_type.show(tree, "content_type")?;
+                context.show(tree, "context")?;
+                tree.close()
+            }
+            SenderTypeData::NewMemberProposal {
+                authenticated_data,
+                content_type,
+            } => {
+                tree.open(name, "new_member_proposal (3)")?;
+                authenticated_data.show(tree, "authenticated_data")?;
+                content_type.show(tree, "content_type")?;
+                tree.close()
+            }
+        }
+    }
+}
+
+impl Show for FramedContentTBS {
+    fn show(&self, tree: &mut Tree, name: &str) -> Result<(), AllocError> {
+        tree.open(name, "FramedContentTBS")?;
+        self.version.show(tree, "version")?;
+        self.wire_format.show(tree, "wire_format")?;
+        self.group_id.show(tree, "group_id")?;
+        self.epoch.show(tree, "epoch")?;
+        self.sender_type.show(tree, "sender_type")?;
+        tree.close()
+    }
+}
+
+impl Show for AuthenticatedContentContentTypeData {
+    fn show(&self, tree: &mut Tree, name: &str) -> Result<(), AllocError> {
+        match self {
+            AuthenticatedContentContentTypeData::Application {
+                application_data,
+                signature,
+            } => {
+                tree.open(name, "application (1)")?;
+                application_data.show(tree, "application_data")?;
+                signature.show(tree, "signature")?;
+                tree.close()
+            }
+            AuthenticatedContentContentTypeData::Proposal {
+                proposal,
+                signature,
+            } => {
+                tree.open(name, "proposal (2)")?;
+                proposal.show(tree, "proposal")?;
+                signature.show(tree, "signature")?;
+                tree.close()
+            }
+            AuthenticatedContentContentTypeData::Commit {
+                commit,
+                signature,
+                confirmation_tag,
+            } => {
+                tree.open(name, "commit (3)")?;
+                commit.show(tree, "commit")?;
+                signature.show(tree, "signature")?;
+                confirmation_tag.show(tree, "confirmation_tag")?;
+                tree.close()
+            }
+        }
+    }
+}
+
+impl Show for AuthenticatedContent {
+    fn show(&self, tree: &mut Tree, name: &str) -> Result<(), AllocError> {
+        tree.open(name, "AuthenticatedContent")?;
+        self.wire_format.show(tree, "wire_format")?;
+        self.group_id.show(tree, "group_id")?;
+        self.epoch.show(tree, "epoch")?;
+        self.sender.show(tree, "sender")?;
+        self.authenticated_data.show(tree, "authenticated_data")?;
+        self.content_type.show(tree, "content_type")?;
+        tree.close()
+    }
+}
+
+impl Show for PublicMessageContentTypeData {
+    fn show(&self, tree: &mut Tree, name: &str) -> Result<(), AllocError> {
+        match self {
+            PublicMessageContentTypeData::Application {
+                application_data,
+                signature,
+            } => {
+                tree.open(name, "application (1)")?;
+                application_data.show(tree, "application_data")?;
+                signature.show(tree, "signature")?;
+                tree.close()
+            }
+            PublicMessageContentTypeData::Proposal {
+                proposal,
+                signature,
+            } => {
+                tree.open(name, "proposal (2)")?;
+                proposal.show(tree, "proposal")?;
+                signature.show(tree, "signature")?;
+                tree.close()
+            }
+            PublicMessageContentTypeData::Commit {
+                commit,
+                signature,
+                confirmation_tag,
+            } => {
+                tree.open(name, "commit (3)")?;
+                commit.show(tree, "commit")?;
+                signature.show(tree, "signature")?;
+                confirmation_tag.show(tree, "confirmation_tag")?;
+                tree.close()
+            }
+        }
+    }
+}
+
+impl Show for PublicMessageSenderTypeData {
+    fn show(&self, tree: &mut Tree, name: &str) -> Result<(), AllocError> {
+        match self {
+            PublicMessageSenderTypeData::Member {
+                leaf_index,
+                authenticated_data,
+                content_type,
+                membership_tag,
+            } => {
+                tree.open(name, "member (1)")?;
+                leaf_index.show(tree, "leaf_index")?;
+                authenticated_data.show(tree, "authenticated_data")?;
+                content_type.show(tree, "content_type")?;
+                membership_tag.show(tree, "membership_tag")?;
+                tree.close()
+            }
+            PublicMessageSenderTypeData::External {
+                sender_index,
+                authenticated_data,
+                content_type,
+            } => {
+                tree.open(name, "external (2)")?;
+                sender_index.show(tree, "sender_index")?;
+                authenticated_data.show(tree, "authenticated_data")?;
+                content_type.show(tree, "content_type")?;
+                tree.close()
+            }
+            PublicMessageSenderTypeData::NewMemberCommit {
+                authenticated_data,
+                content_type,
+            } => {
+                tree.open(name, "new_member_commit (4)")?;
+                authenticated_data.show(tree, "authenticated_data")?;
+                content_type.show(tree, "content_type")?;
+                tree.close()
+            }
+            PublicMessageSenderTypeData::NewMemberProposal {
+                authenticated_data,
+                content_type,
+            } => {
+                tree.open(name, "new_member_proposal (3)")?;
+                authenticated_data.show(tree, "authenticated_data")?;
+                content_type.show(tree, "content_type")?;
+                tree.close()
+            }
+        }
+    }
+}
+
+impl Show for PublicMessage {
+    fn show(&self, tree: &mut Tree, name: &str) -> Result<(), AllocError> {
+        tree.open(name, "PublicMessage")?;
+        self.group_id.show(tree, "group_id")?;
+        self.epoch.show(tree, "epoch")?;
+        self.sender_type.show(tree, "sender_type")?;
+        tree.close()
+    }
+}
+
+impl Show for PrivateMessage {
+    fn show(&self, tree: &mut Tree, name: &str) -> Result<(), AllocError> {
+        tree.open(name, "PrivateMessage")?;
+        self.group_id.show(tree, "group_id")?;
+        self.epoch.show(tree, "epoch")?;
+        self.content_type.show(tree, "content_type")?;
+        self.authenticated_data.show(tree, "authenticated_data")?;
+        self.encrypted_sender_data
+            .show(tree, "encrypted_sender_data")?;
+        self.ciphertext.show(tree, "ciphertext")?;
+        tree.close()
+    }
+}
+
+impl Show for PrivateContentAAD {
+    fn show(&self, tree: &mut Tree, name: &str) -> Result<(), AllocError> {
+        tree.open(name, "PrivateContentAAD")?;
+        self.group_id.show(tree, "group_id")?;
+        self.epoch.show(tree, "epoch")?;
+        self.content_type.show(tree, "content_type")?;
+        self.authenticated_data.show(tree, "authenticated_data")?;
+        tree.close()
+    }
+}
+
+impl Show for SenderData {
+    fn show(&self, tree: &mut Tree, name: &str) -> Result<(), AllocError> {
+        tree.open(name, "SenderData")?;
+        self.leaf_index.show(tree, "leaf_index")?;
+        self.generation.show(tree, "generation")?;
+        self.reuse_guard.show(tree, "reuse_guard")?;
+        tree.close()
+    }
+}
+
+impl Show for SenderDataAAD {
+    fn show(&self, tree: &mut Tree, name: &str) -> Result<(), AllocError> {
+        tree.open(name, "SenderDataAAD")?;
+        self.group_id.show(tree, "group_id")?;
+        self.epoch.show(tree, "epoch")?;
+        self.content_type.show(tree, "content_type")?;
+        tree.close()
+    }
+}
+
+impl Show for ConfirmedTranscriptHashInput {
+    fn show(&self, tree: &mut Tree, name: &str) -> Result<(), AllocError> {
+        tree.open(name, "ConfirmedTranscriptHashInput")?;
+        self.wire_format.show(tree, "wire_format")?;
+        self.content.show(tree, "content")?;
+        self.signature.show(tree, "signature")?;
+        tree.close()
+    }
+}
+
+impl Show for InterimTranscriptHashInput {
+    fn show(&self, tree: &mut Tree, name: &str) -> Result<(), AllocError> {
+        tree.open(name, "InterimTranscriptHashInput")?;
+        self.confirmation_tag.show(tree, "confirmation_tag")?;
+        tree.close()
+    }
+}
+
+impl Show for WireFormatData {
+    fn show(&self, tree: &mut Tree, name: &str) -> Result<(), AllocError> {
+        match self {
+            WireFormatData::MlsPublicMessage(public_message) => {
+                tree.open(name, "mls_public_message (1)")?;
+                public_message.show(tree, "public_message")?;
+                tree.close()
+            }
+            WireFormatData::MlsPrivateMessage(private_message) => {
+                tree.open(name, "mls_private_message (2)")?;
+                private_message.show(tree, "private_message")?;
+                tree.close()
+            }
+            WireFormatData::MlsWelcome(welcome) => {
+                tree.open(name, "mls_welcome (3)")?;
+                welcome.show(tree, "welcome")?;
+                tree.close()
+            }
+            WireFormatData::MlsGroupInfo(group_info) => {
+                tree.open(name, "mls_group_info (4)")?;
+                group_info.show(tree, "group_info")?;
+                tree.close()
+            }
+            WireFormatData::MlsKeyPackage(key_package) => {
+                tree.open(name, "mls_key_package (5)")?;
+                key_package.show(tree, "key_package")?;
+                tree.close()
+            }
+        }
+    }
+}
+
+impl Show for MLSMessage {
+    fn show(&self, tree: &mut Tree, name: &str) -> Result<(), AllocError> {
+        tree.open(name, "MLSMessage")?;
+        self.version.show(tree, "version")?;
+        self.wire_format.show(tree, "wire_format")?;
+        tree.close()
+    }
+}

@@ -1,0 +1,57 @@
+//! [`Alert`].
+ghost use Rattle.tls13.specs.Alert.{alert_format, alert_meets, alert_plain};
+
+use crate::{AlertDescription, AlertLevel};
+use std::alloc::Global;
+use tls_codec::{Deserialize, DeserializeBytes, Error, Lent, Serialize, Sink, Size, Source};
+
+/// `Alert`.
+#[derive(PartialEq, Drop)]
+pub struct Alert {
+    /// `AlertLevel level;`
+    pub level: AlertLevel,
+    /// `AlertDescription description;`
+    pub description: AlertDescription,
+}
+
+impl Size for Alert {
+    ghost plain = { alert_plain };
+
+    ghost format = { alert_format };
+
+    fn tls_serialized_len(&self) -> usize {
+        (Lent(&self.level), Lent(&self.description)).tls_serialized_len()
+    }
+
+    ghost lawful = { alert_meets };
+}
+
+impl Serialize for Alert {
+    fn tls_serialize<W: Sink>(&self, writer: &mut W) -> Result<usize, Error> {
+        (Lent(&self.level), Lent(&self.description)).tls_serialize(writer)
+    }
+
+    fn tls_serialize_into(&self, out: &mut Vec<u8>) -> Result<usize, Error> {
+        (Lent(&self.level), Lent(&self.description)).tls_serialize_into(out)
+    }
+}
+
+impl Deserialize for Alert {
+    ghost names = { ⟦<(AlertLevel, AlertDescription) as Deserialize>⟧.names };
+
+    fn tls_deserialize<R: Source>(alloc: Global, src: &mut R) -> Result<Alert, Error> {
+        let (level, description) = <(AlertLevel, AlertDescription)>::tls_deserialize(alloc, src)?;
+        Ok(Alert { level, description })
+    }
+}
+
+impl DeserializeBytes for Alert {
+    ghost names = { ⟦<(AlertLevel, AlertDescription) as DeserializeBytes>⟧.names };
+
+    fn tls_deserialize_bytes(alloc: Global, whole: &[u8]) -> Result<(Alert, &[u8]), Error> {
+        let ((level, description), rest) = <(AlertLevel, AlertDescription)>::tls_deserialize_bytes(
+            alloc, whole,
+        )?;
+        Ok((Alert { level, description }, rest))
+    }
+}

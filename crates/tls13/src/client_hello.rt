@@ -1,0 +1,130 @@
+//! [`ClientHello`].
+ghost use Rattle.tls13.specs.ClientHello.{client_hello_format, client_hello_meets, client_hello_plain};
+
+use crate::{CipherSuite, Extension, ProtocolVersion, Random};
+use std::alloc::Global;
+use tls_codec::{
+    Deserialize, DeserializeBytes, Error, Lent3, Serialize, Sink, Size, Source, TlsByteVec, TlsVec,
+    Within,
+};
+
+/// `ClientHello`.
+#[derive(PartialEq, Drop)]
+pub struct ClientHello {
+    /// `ProtocolVersion legacy_version;`
+    pub legacy_version: ProtocolVersion,
+    /// `Random random;`
+    pub random: Random,
+    /// `opaque legacy_session_id<0..32>;`
+    pub legacy_session_id: TlsByteVec<Within<u8, 0, 32>>,
+    /// `CipherSuite cipher_suites<2..65534>;`
+    pub cipher_suites: TlsVec<Within<u16, 2, 65534>, CipherSuite>,
+    /// `opaque legacy_compression_methods<1..2^8-1>;`
+    pub legacy_compression_methods: TlsByteVec<Within<u8, 1, 255>>,
+    /// `Extension extensions<8..2^16-1>;`
+    pub extensions: TlsVec<Within<u16, 8, 65535>, Extension>,
+}
+
+impl Size for ClientHello {
+    ghost plain = { client_hello_plain };
+
+    ghost format = { client_hello_format };
+
+    fn tls_serialized_len(&self) -> usize {
+        (
+            Lent3(&self.legacy_version, &self.random, &self.legacy_session_id),
+            Lent3(
+                &self.cipher_suites,
+                &self.legacy_compression_methods,
+                &self.extensions,
+            ),
+        )
+            .tls_serialized_len()
+    }
+
+    ghost lawful = { client_hello_meets };
+}
+
+impl Serialize for ClientHello {
+    fn tls_serialize<W: Sink>(&self, writer: &mut W) -> Result<usize, Error> {
+        (
+            Lent3(&self.legacy_version, &self.random, &self.legacy_session_id),
+            Lent3(
+                &self.cipher_suites,
+                &self.legacy_compression_methods,
+                &self.extensions,
+            ),
+        )
+            .tls_serialize(writer)
+    }
+
+    fn tls_serialize_into(&self, out: &mut Vec<u8>) -> Result<usize, Error> {
+        (
+            Lent3(&self.legacy_version, &self.random, &self.legacy_session_id),
+            Lent3(
+                &self.cipher_suites,
+                &self.legacy_compression_methods,
+                &self.extensions,
+            ),
+        )
+            .tls_serialize_into(out)
+    }
+}
+
+impl Deserialize for ClientHello {
+    ghost names = { ⟦<((ProtocolVersion, Random, TlsByteVec<Within<u8, 0, 32>>), (TlsVec<Within<u16, 2, 65534>, CipherSuite>, TlsByteVec<Within<u8, 1, 255>>, TlsVec<Within<u16, 8, 65535>, Extension>)) as Deserialize>⟧.names };
+
+    fn tls_deserialize<R: Source>(alloc: Global, src: &mut R) -> Result<ClientHello, Error> {
+        let (
+            (legacy_version, random, legacy_session_id),
+            (cipher_suites, legacy_compression_methods, extensions),
+        ) = <(
+            (ProtocolVersion, Random, TlsByteVec<Within<u8, 0, 32>>),
+            (
+                TlsVec<Within<u16, 2, 65534>, CipherSuite>,
+                TlsByteVec<Within<u8, 1, 255>>,
+                TlsVec<Within<u16, 8, 65535>, Extension>,
+            ),
+        )>::tls_deserialize(alloc, src)?;
+        Ok(ClientHello {
+            legacy_version,
+            random,
+            legacy_session_id,
+            cipher_suites,
+            legacy_compression_methods,
+            extensions,
+        })
+    }
+}
+
+impl DeserializeBytes for ClientHello {
+    ghost names = { ⟦<((ProtocolVersion, Random, TlsByteVec<Within<u8, 0, 32>>), (TlsVec<Within<u16, 2, 65534>, CipherSuite>, TlsByteVec<Within<u8, 1, 255>>, TlsVec<Within<u16, 8, 65535>, Extension>)) as DeserializeBytes>⟧.names };
+
+    fn tls_deserialize_bytes(alloc: Global, whole: &[u8]) -> Result<(ClientHello, &[u8]), Error> {
+        let (
+            (
+                (legacy_version, random, legacy_session_id),
+                (cipher_suites, legacy_compression_methods, extensions),
+            ),
+            rest,
+        ) = <(
+            (ProtocolVersion, Random, TlsByteVec<Within<u8, 0, 32>>),
+            (
+                TlsVec<Within<u16, 2, 65534>, CipherSuite>,
+                TlsByteVec<Within<u8, 1, 255>>,
+                TlsVec<Within<u16, 8, 65535>, Extension>,
+            ),
+        )>::tls_deserialize_bytes(alloc, whole)?;
+        Ok((
+            ClientHello {
+                legacy_version,
+                random,
+                legacy_session_id,
+                cipher_suites,
+                legacy_compression_methods,
+                extensions,
+            },
+            rest,
+        ))
+    }
+}

@@ -1,0 +1,5 @@
+pub mod Cases
+pub mod Names
+pub mod Types
+pub mod Width
+pub mod Writable

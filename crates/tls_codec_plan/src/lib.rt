@@ -1,0 +1,31 @@
+//! From what a file of the presentation language says to what is written for it.
+//!
+//! - [`plan`]: [`Plan`](plan::Plan), the messages that are written, each with its fields and its tags.
+//! - [`planning`]: [`plan_of`](planning::plan_of), the plan of a file, or where and why it is refused.
+#![tactic(auto)]
+
+mod cases;
+mod checks;
+mod constants;
+mod items;
+mod lists;
+mod made;
+mod members;
+mod names;
+mod naming;
+mod order;
+mod others;
+pub mod plan;
+pub mod planning;
+mod refuse;
+mod resolve;
+mod segment;
+mod sequence;
+mod types;
+mod width;
+mod words;
+
+pub use planning::plan_of;
+
+#[cfg(test)]
+mod tests;

@@ -1,0 +1,127 @@
+//! What is made of a file.
+ghost use Rattle.std.specs.Prelude.{◌≡◌};
+ghost use Rattle.std.specs.List.{list_any};
+ghost use Rattle.std.specs.String.{string_eq};
+ghost use Rattle.std.proofs.Props.{props};
+ghost use Rattle.tls_codec_plan.specs.Writable.{AreWritable, AreWritable-prop, HaveModules, IsWritable};
+
+use crate::plan::Message;
+use crate::refuse::{Budget, refused};
+use std::alloc::{AllocError, Global};
+use tls_codec_presentation::refusal::{Place, Trouble};
+
+/// A message that was made for a tag and one select behind it.
+#[derive(Drop)]
+struct Choice {
+    tag: Place,
+    select: Place,
+    name: String,
+}
+
+/// The messages that are made, each of which can be written, with a module that no other has.
+#[derive(Drop)]
+pub struct Made {
+    messages: Vec<Message>,
+    choices: Vec<Choice>,
+    /// The types of tags, which are no members of their own.
+    pub tags: Vec<String>,
+    /// The types of constants.
+    pub constants: Vec<String>,
+    /// Which crate has what is made now.
+    pub home: usize,
+    pub budget: Budget,
+    ghost writable: { AreWritable messages.items } by { AreWritable-prop messages.items },
+    ghost differ: { HaveModules messages.items } by { Prim.hlevel props },
+}
+
+impl Made {
+    #[tactic(auto, using(crate::proofs::Keys::modules_none))]
+    pub fn new(alloc: Global, budget: Budget) -> Made {
+        Made {
+            messages: Vec::new(alloc),
+            choices: Vec::new(alloc),
+            tags: Vec::new(alloc),
+            constants: Vec::new(alloc),
+            home: 0,
+            budget,
+        }
+    }
+
+    /// Says which crate has what is made from now on.
+    pub fn enter(&mut self, home: usize) {
+        self.home = home;
+    }
+
+    /// The messages so far.
+    pub fn messages(&self) -> &[Message] {
+        &self.messages
+    }
+
+    /// Which crate has the message of this name.
+    pub fn home_of(&self, name: &String) -> Option<usize> {
+        self.messages
+            .iter()
+            .find(|message| message.name == *name)
+            .map(|message| message.home)
+    }
+
+    /// Whether a message has this module.
+    pub fn has_module(&self, name: &String) -> bool
+        ensures { result ≡ list_any (λ other. string_eq name.now other.module) self.now.messages.items }
+    {
+        self.messages.iter().any(|other| *name == other.module)
+    }
+
+    /// Appends a message, and refuses one whose module another has.
+    #[tactic(auto, using(crate::proofs::Fits::writable_push, crate::proofs::Keys::modules_push))]
+    pub fn push(&mut self, alloc: Global, place: Place, message: Message) -> Result<(), Trouble>
+        requires { IsWritable message.body }
+    {
+        if self.has_module(&message.module) {
+            return Err(refused(
+                alloc,
+                place,
+                message.name.as_str(),
+                "a name that no type has",
+            ));
+        }
+        self.messages.push(message)?;
+        Ok(())
+    }
+
+    /// Keeps the name of a message that was made for a tag and one select behind it.
+    pub fn keep_choice(
+        &mut self,
+        tag: Place,
+        select: Place,
+        name: String,
+    ) -> Result<(), AllocError> {
+        self.choices.push(Choice { tag, select, name })?;
+        Ok(())
+    }
+
+    /// The name that was kept for a tag and a select.
+    pub fn choice(&self, tag: Place, select: Place) -> Option<&String> {
+        for one in &self.choices {
+            if is_same(one.tag, tag) && is_same(one.select, select) {
+                return Some(&one.name);
+            }
+        }
+        None
+    }
+
+    /// The messages of a crate but those that have one of some names.
+    #[tactic(auto, using(crate::proofs::Kept::kept_all, crate::proofs::Kept::kept_modules))]
+    pub fn into_messages_but(self, home: usize, names: &[String]) -> Vec<Message>
+        ensures writable { AreWritable result.items }
+        ensures differ { HaveModules result.items }
+    {
+        let mut messages = self.messages;
+        messages.retain(|message| message.home == home && !names.contains(&message.name));
+        messages
+    }
+}
+
+fn is_same(one: Place, other: Place) -> bool {
+    one.line == other.line && one.column == other.column
+}

@@ -1,0 +1,83 @@
+// Texts that are long, or that would become long.
+use super::refusal;
+use crate::planning::plan_within;
+use std::alloc::{AllocError, Global};
+use std::test::Fail;
+use tls_codec_presentation::parser::parse;
+use tls_codec_presentation::refusal::Trouble;
+
+// So many fields.
+fn fields(alloc: Global, count: usize) -> Result<String, AllocError> {
+    let mut out = String::new(alloc);
+    for k in 0..count {
+        write!(&mut out, "uint8 a{k}; ")?;
+    }
+    Ok(out)
+}
+
+#[test]
+fn many(rt: HostRuntime) -> Result<(), Fail> {
+    let alloc = rt.alloc();
+    let nineteen = fields(alloc, 19)?;
+    let parts = fields(alloc, 257)?;
+    let too_many = fields(alloc, 28)?;
+    for (text, found, word) in [
+        (
+            format!(in alloc; "struct {{ {too_many} }} S;")?,
+            "S",
+            "27 fields",
+        ),
+        (
+            format!(in alloc; "struct {{ {parts} }} S;")?,
+            "S",
+            "256 parts",
+        ),
+        (
+            format!(in alloc;
+                "struct {{ uint8 t; select (S.t) {{ case 1: {nineteen} case 2: struct{{}}; }} }} S;"
+            )?,
+            "case_1",
+            "18 fields",
+        ),
+    ] {
+        let refusal = refusal(&rt, alloc, text.as_str());
+        assert_eq!(rt; refusal.found.as_str(), found);
+        assert!(rt; refusal.expected.contains(word), "{refusal}");
+    }
+    Ok(())
+}
+
+// Two cases with five fields each, once from a select and once from what stands before it.
+#[test]
+fn copies_are_counted(rt: HostRuntime) -> Result<(), Fail> {
+    let alloc = rt.alloc();
+    let five = fields(alloc, 5)?;
+    let text = format!(in alloc;
+        "struct {{ uint8 t; {five} select (S.t) {{ case 1: uint8 b; case 2: struct{{}}; }} }} S;"
+    )?;
+    let Ok(file) = parse(alloc, text.as_str()) else {
+        panic!(rt; "no file");
+    };
+    assert!(rt; plan_within(alloc, &file, &[], 18).is_ok());
+    match plan_within(alloc, &file, &[], 17) {
+        Err(Trouble::Refused(refusal)) => {
+            assert!(rt; refusal.expected.contains("a smaller text"), "{refusal}");
+            Ok(())
+        }
+        _ => panic!(rt; "not refused"),
+    }
+}
+
+// Each struct has the one before it twice.
+#[test]
+fn structs_in_structs(rt: HostRuntime) -> Result<(), Fail> {
+    let alloc = rt.alloc();
+    let mut text = String::from_str(alloc, "struct { select (X.t) { case 1: struct{}; } } D0;")?;
+    for k in 0..9u8 {
+        let next = k + 1;
+        write!(&mut text, "struct {{ D{k} a; D{k} b; }} D{next};")?;
+    }
+    let refusal = refusal(&rt, alloc, text.as_str());
+    assert!(rt; refusal.expected.contains("256 parts"), "{refusal}");
+    Ok(())
+}

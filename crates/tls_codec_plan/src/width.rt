@@ -1,0 +1,62 @@
+//! How many bytes a tag has.
+ghost use Rattle.std.specs.Prelude.{◌≡◌, ◌<◌, ◌+◌, ◌^◌, ◌≤◌, ◌↔◌, IfSome, IsTrue};
+ghost use Rattle.tls_codec_plan.specs.Width.{is_tag_width};
+
+/// 1, 2, 4 or 8 bytes.
+#[derive(Clone, Copy)]
+pub struct Width {
+    pub bytes: usize,
+    /// The greatest number of so many bytes.
+    pub most: u64,
+    ghost is_width: { IsTrue (is_tag_width bytes) },
+    ghost is_most: { most + 1 ≡ 256 ^ bytes },
+}
+
+impl Width {
+    /// So many bytes, if a tag may have so many.
+    pub fn new(bytes: usize) -> Option<Width>
+        ensures { IfSome result (λ width. width.bytes ≡ bytes) }
+    {
+        match bytes {
+            1 => Some(Width {
+                bytes: 1,
+                most: 0xff,
+            }),
+            2 => Some(Width {
+                bytes: 2,
+                most: 0xffff,
+            }),
+            4 => Some(Width {
+                bytes: 4,
+                most: 0xffff_ffff,
+            }),
+            8 => Some(Width {
+                bytes: 8,
+                most: u64::MAX,
+            }),
+            _ => None,
+        }
+    }
+
+    /// Whether a number has so many bytes.
+    pub fn holds(&self, number: u64) -> bool
+        ensures { IsTrue result ↔ (number < 256 ^ self.now.bytes) }
+    {
+        number <= self.most
+    }
+}
+
+/// How many bytes a number takes, if those are 4 at most.
+pub fn bytes_for(number: u64) -> Option<usize>
+    ensures some { IfSome result (λ bytes. 0 < bytes) }
+    ensures few { IfSome result (λ bytes. bytes ≤ 4) }
+    ensures holds { IfSome result (λ bytes. number < 256 ^ bytes) }
+{
+    match number {
+        0..=0xff => Some(1),
+        0x100..=0xffff => Some(2),
+        0x1_0000..=0xff_ffff => Some(3),
+        0x100_0000..=0xffff_ffff => Some(4),
+        _ => None,
+    }
+}

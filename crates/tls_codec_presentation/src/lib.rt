@@ -1,0 +1,21 @@
+//! The presentation language of TLS (RFC 8446, section 3) with `<V>` and `optional<T>` of RFC 9420, section 2.1, as
+//! text: what a file of it says, and why a text is no such file.
+//!
+//! - [`syntax`]: [`File`](syntax::File), what a text says.
+//! - [`refusal`]: [`Refusal`](refusal::Refusal), where and why a text is refused.
+//! - [`token`]: [`Token`](token::Token), a word, a number or a mark of a text.
+//! - [`lexer`]: [`lex`](lexer::lex), the tokens of a text.
+//! - [`parser`]: [`parse`](parser::parse), what a text says.
+//! - [`print`]: [`print`](print::print), the text of a file in one layout.
+#![tactic(auto)]
+
+mod cursor;
+pub mod lexer;
+pub mod parser;
+pub mod print;
+pub mod refusal;
+pub mod syntax;
+#[cfg(test)]
+mod tests;
+pub mod token;
+mod tokens;

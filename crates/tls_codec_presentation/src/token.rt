@@ -1,0 +1,149 @@
+//! What a text consists of: words, numbers and marks.
+ghost use Rattle.std.specs.Prelude.{◌≡◌, IfSome};
+ghost use Rattle.tls_codec_presentation.specs.Signs.{sign_of};
+ghost use Rattle.tls_codec_presentation.specs.Signs as sign;
+
+use crate::refusal::Place;
+use std::fmt;
+
+/// A word, a number or a mark, and where it stands.
+#[derive(Drop)]
+pub struct Token {
+    pub kind: Kind,
+    pub place: Place,
+}
+
+#[derive(Drop)]
+pub enum Kind {
+    /// A word that may be a name.
+    Word(String),
+    /// `12`, `0x0a` or `2^16-1`, by its value.
+    Number(u64),
+    Mark(Mark),
+}
+
+/// A sign of punctuation, or a word of the language, which is no name.
+#[derive(Clone, Copy, PartialEq)]
+pub enum Mark {
+    Case,
+    Enum,
+    Open,
+    Optional,
+    Select,
+    Struct,
+    OpeningBrace,
+    ClosingBrace,
+    OpeningParenthesis,
+    ClosingParenthesis,
+    OpeningBracket,
+    ClosingBracket,
+    OpeningAngle,
+    ClosingAngle,
+    Comma,
+    Semicolon,
+    Colon,
+    Equals,
+    Dot,
+    Dots,
+}
+
+impl Mark {
+    /// How it is written.
+    pub fn as_str(self) -> &'static str {
+        match self {
+            Mark::Case => "case",
+            Mark::Enum => "enum",
+            Mark::Open => "open",
+            Mark::Optional => "optional",
+            Mark::Select => "select",
+            Mark::Struct => "struct",
+            Mark::OpeningBrace => "{",
+            Mark::ClosingBrace => "}",
+            Mark::OpeningParenthesis => "(",
+            Mark::ClosingParenthesis => ")",
+            Mark::OpeningBracket => "[",
+            Mark::ClosingBracket => "]",
+            Mark::OpeningAngle => "<",
+            Mark::ClosingAngle => ">",
+            Mark::Comma => ",",
+            Mark::Semicolon => ";",
+            Mark::Colon => ":",
+            Mark::Equals => "=",
+            Mark::Dot => ".",
+            Mark::Dots => "..",
+        }
+    }
+
+    /// The mark that a word is, if it is no name.
+    pub fn of_word(word: &str) -> Option<Mark> {
+        match word {
+            "case" => Some(Mark::Case),
+            "enum" => Some(Mark::Enum),
+            "open" => Some(Mark::Open),
+            "optional" => Some(Mark::Optional),
+            "select" => Some(Mark::Select),
+            "struct" => Some(Mark::Struct),
+            _ => None,
+        }
+    }
+
+    /// The mark that a byte of punctuation begins and ends.
+    pub fn of_byte(byte: u8) -> Option<Mark> {
+        match byte {
+            b'{' => Some(Mark::OpeningBrace),
+            b'}' => Some(Mark::ClosingBrace),
+            b'(' => Some(Mark::OpeningParenthesis),
+            b')' => Some(Mark::ClosingParenthesis),
+            b'[' => Some(Mark::OpeningBracket),
+            b']' => Some(Mark::ClosingBracket),
+            b'<' => Some(Mark::OpeningAngle),
+            b'>' => Some(Mark::ClosingAngle),
+            b',' => Some(Mark::Comma),
+            b';' => Some(Mark::Semicolon),
+            b':' => Some(Mark::Colon),
+            b'=' => Some(Mark::Equals),
+            b'.' => Some(Mark::Dot),
+            _ => None,
+        }
+    }
+}
+
+impl Kind {
+    pub(crate) fn word(&self) -> Option<&str>
+        ensures { IfSome result (λ text. sign_of self.now ≡ sign.word text.now) }
+    {
+        match self {
+            Kind::Word(word) => Some(word.as_str()),
+            _ => None,
+        }
+    }
+
+    pub(crate) fn number(&self) -> Option<u64>
+        ensures { IfSome result (λ value. sign_of self.now ≡ sign.number value) }
+    {
+        match self {
+            Kind::Number(number) => Some(*number),
+            _ => None,
+        }
+    }
+
+    pub(crate) fn mark(&self) -> Option<Mark>
+        ensures { IfSome result (λ m. sign_of self.now ≡ sign.mark m) }
+    {
+        match self {
+            Kind::Mark(mark) => Some(*mark),
+            _ => None,
+        }
+    }
+}
+
+/// As it is written in the one layout: a number in decimal.
+impl fmt::Display for Kind {
+    fn fmt<W: fmt::Write>(&self, f: &mut fmt::Formatter<W>) -> fmt::Result {
+        match self {
+            Kind::Word(word) => f.write_str(word.as_str()),
+            Kind::Number(number) => write!(f, "{number}"),
+            Kind::Mark(mark) => f.write_str(mark.as_str()),
+        }
+    }
+}

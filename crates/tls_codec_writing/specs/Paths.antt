@@ -1,0 +1,69 @@
+-- Which files a crate has, by their paths.
+use Rattle.std.specs.Prelude.{ℕ, List, [], ◌∷◌, ◌++◌, map, Bool, true, false, codes, string_bytes}
+use Rattle.std.specs.List.{flat_map}
+use Rattle.tls_codec_plan.specs.declared.plan.Alias.{Alias}
+use Rattle.tls_codec_plan.specs.declared.plan.Body.{Body}
+use Rattle.tls_codec_plan.specs.declared.plan.Body.TheVariants.{Values, Fields, Choice}
+use Rattle.tls_codec_plan.specs.declared.plan.Message.{Message}
+use Rattle.tls_codec_plan.specs.declared.plan.Plan.{Plan}
+use Rattle.tls_codec_writing.specs.declared.file.Written.{Written}
+
+abbrev pub Path : Type 0
+Path = List ℕ
+
+abbrev pub path_of : Written → Path
+path_of file = string_bytes file.path
+
+abbrev pub paths_in : List Written → List Path
+paths_in files = map path_of files
+
+-- ---- of a message
+
+abbrev pub code_path : Message → Path
+code_path m = codes "src/" ++ (string_bytes m.module ++ codes ".rt")
+
+abbrev pub specs_path : Message → Path
+specs_path m = codes "specs/" ++ (string_bytes m.name ++ codes ".antt")
+
+-- the answers of a function of a trait
+abbrev pub answers_path : Message → (of_trait function : List ℕ) → Path
+answers_path m of_trait function =
+    codes "proofs/" ++ (string_bytes m.module ++ (codes "/" ++ (string_bytes m.name ++ (of_trait ++ (codes "/" ++ (function ++ codes "/Answers.antt"))))))
+
+abbrev pub answers_paths : Message → List Path
+answers_paths m =
+    answers_path m (codes "Serialize") (codes "tls_serialize")
+    ∷ answers_path m (codes "Serialize") (codes "tls_serialize_into")
+    ∷ answers_path m (codes "Deserialize") (codes "tls_deserialize")
+    ∷ answers_path m (codes "DeserializeBytes") (codes "tls_deserialize_bytes")
+    ∷ []
+
+abbrev pub answers_if : Bool → Message → List Path
+answers_if true m = answers_paths m
+answers_if false m = []
+
+-- an enum has answers, unless it is open
+abbrev pub needs_answers : Body → Bool
+needs_answers (Values width true values) = false
+needs_answers (Values width false values) = true
+needs_answers (Fields members) = false
+needs_answers (Choice width variants) = true
+
+abbrev pub paths_of_message : Message → List Path
+paths_of_message m = code_path m ∷ specs_path m ∷ answers_if (needs_answers m.body) m
+
+-- ---- of a crate
+
+-- other names of types have a module if there are any
+abbrev pub paths_of_aliases : List Alias → List Path
+paths_of_aliases [] = []
+paths_of_aliases (alias ∷ aliases) = codes "src/names.rt" ∷ []
+
+abbrev pub first_paths : Plan → List Path
+first_paths plan = codes "src/lib.rt" ∷ paths_of_aliases plan.aliases.items
+
+abbrev pub last_paths : List Path
+last_paths = codes "specs/Lib.antt" ∷ codes "proofs/Lib.antt" ∷ []
+
+abbrev pub paths_of : Plan → List Path
+paths_of plan = first_paths plan ++ flat_map paths_of_message plan.messages.items ++ last_paths

@@ -1,0 +1,7 @@
+-- Words about texts.
+use Rattle.std.specs.Prelude.{ℕ, List, ◌++◌, ◌==◌, if◌then◌else◌, codes}
+use Rattle.std.specs.List.{list_any}
+
+-- a text with a blank in it stands in brackets
+abbrev pub bracketed : List ℕ → List ℕ
+bracketed text = if list_any (λ b. b == 32) text then codes "(" ++ text ++ codes ")" else text

@@ -1,0 +1,116 @@
+//! The code of a crate: its root, its other names of types, and a module for each message.
+
+use crate::forms::{Form, Kind};
+use crate::imports;
+use crate::templates::{choices, opens, structs, values};
+use crate::types::{Names, Words};
+use std::alloc::{AllocError, Global};
+use tls_codec_plan::plan::{Alias, Plan};
+
+/// The root: its modules, and what they have by name.
+pub fn root(alloc: Global, plan: &Plan) -> Result<String, AllocError> {
+    let aliases = aliases_by_name(alloc, plan.aliases.as_slice())?;
+    let modules = modules_by_name(alloc, plan)?;
+    let mut out = String::from_str(
+        alloc,
+        "//! Messages, written by `tls_codec_messages`.
+#![tactic(auto)]
+
+",
+    )?;
+    for (module, _) in &modules {
+        writeln!(out, "pub mod {module};")?;
+    }
+    out.push_str("\n")?;
+    for (module, name) in &modules {
+        if name.is_empty() {
+            out.push_str("pub ")?;
+            imports::push_rust_use(alloc, &mut out, module, aliases.as_slice())?;
+        } else {
+            writeln!(out, "pub use {module}::{name};")?;
+        }
+    }
+    Ok(out)
+}
+
+// The modules of messages, each with its message's name, and that of other names of types, if there are any.
+fn modules_by_name(alloc: Global, plan: &Plan) -> Result<Vec<(&str, &str)>, AllocError> {
+    let mut modules = Vec::new(alloc);
+    for message in &plan.messages {
+        modules.push((message.module.as_str(), message.name.as_str()))?;
+    }
+    if !plan.aliases.is_empty() {
+        modules.push(("names", ""))?;
+    }
+    modules.sort()?;
+    Ok(modules)
+}
+
+fn aliases_by_name(alloc: Global, aliases: &[Alias]) -> Result<Vec<&str>, AllocError> {
+    let mut names = Vec::new(alloc);
+    for alias in aliases {
+        names.push(alias.name.as_str())?;
+    }
+    names.sort()?;
+    Ok(names)
+}
+
+/// The module of other names of types.
+pub fn aliases(alloc: Global, names: &Names<'_>, plan: &Plan) -> Result<String, AllocError> {
+    let mut messages = Vec::new(alloc);
+    let mut body = String::new(alloc);
+    for alias in &plan.aliases {
+        let words = names.words(alloc, &alias.of)?;
+        let name = alias.name.as_str();
+        let declared = alias.declared.as_str();
+        let rust = words.rust.as_str();
+        write!(
+            body,
+            "
+/// `{declared}`
+pub type {name} = {rust};
+"
+        )?;
+        push_message(&mut messages, names, &words)?;
+    }
+    messages.sort()?;
+    let uses = imports::code(alloc, names, body.as_str(), messages.as_slice())?;
+    format!(in alloc; "//! Other names of types.\n{uses}{body}")
+}
+
+// Adds the message that a type has in it, or its other name in another crate, unless it is there. This crate's other
+// names are in the same module.
+fn push_message(
+    messages: &mut Vec<String>,
+    names: &Names<'_>,
+    words: &Words,
+) -> Result<(), AllocError> {
+    let Some(named) = &words.named else {
+        return Ok(());
+    };
+    let is_message = match &words.cited {
+        Some(cited) => cited == named,
+        None => false,
+    };
+    let is_elsewhere = is_message || names.other_crate(named.as_str()).is_some();
+    if is_elsewhere && !messages.as_slice().contains(named) {
+        messages.push(named.clone()?)?;
+    }
+    Ok(())
+}
+
+/// The module of a message.
+pub fn module(alloc: Global, names: &Names<'_>, form: &Form<'_>) -> Result<String, AllocError> {
+    let (ghost_uses, code) = match form.kind {
+        Kind::Struct => (structs::GHOST_USES, structs::CODE),
+        Kind::Open => (structs::GHOST_USES, opens::CODE),
+        Kind::Values => (values::GHOST_USES, values::CODE),
+        Kind::Choice => (choices::GHOST_USES, choices::CODE),
+    };
+    let body = form.holes.filled(alloc, code)?;
+    let uses = imports::code(alloc, names, body.as_str(), form.uses.types.as_slice())?;
+    let mut out = form.holes.filled(alloc, "//! [`$name$`].\n")?;
+    form.holes.push(&mut out, ghost_uses)?;
+    write!(out, "\n{uses}\n{body}")?;
+    Ok(out)
+}

@@ -1,0 +1,58 @@
+//! How fields in a row nest as tuples.
+
+use std::alloc::{AllocError, Global};
+
+/// Groups of fields: three, say, of four, four and three.
+///
+/// A tuple has three parts at most, so more fields nest: in groups, each of which is lent as one,
+/// `Lent2` to `Lent9`; and a group of more than three is a tuple of smaller ones.
+#[derive(Drop)]
+pub struct Nesting {
+    /// How many fields each group has: 4, 4, 3.
+    pub groups: Vec<usize>,
+    /// How many fields each of their parts has: 2, 2, 2, 2, 1, 1, 1.
+    pub parts: Vec<usize>,
+    /// How many parts each has: 2, 2, 3.
+    pub counts: Vec<usize>,
+}
+
+impl Nesting {
+    /// So many fields, in so many groups at most.
+    pub fn of(alloc: Global, fields: usize, most: usize) -> Result<Nesting, AllocError> {
+        let groups = shares(alloc, fields, most)?;
+        let mut parts = Vec::new(alloc);
+        let mut counts = Vec::new(alloc);
+        for group in &groups {
+            let own = shares(alloc, *group, 3)?;
+            counts.push(own.len())?;
+            for part in own {
+                parts.push(part)?;
+            }
+        }
+        Ok(Nesting {
+            groups,
+            parts,
+            counts,
+        })
+    }
+}
+
+// How many fields each of at most so many parts has. The first have one more where they can't be alike.
+fn shares(alloc: Global, fields: usize, most: usize) -> Result<Vec<usize>, AllocError> {
+    let count = count_of_parts(fields, most);
+    let mut shares = Vec::new(alloc);
+    for done in 0..count {
+        let behind = count - 1 - done;
+        shares.push(fields.saturating_add(behind) / count)?;
+    }
+    Ok(shares)
+}
+
+// Each field is a part where there are few; else parts have three where that needs no more of them.
+fn count_of_parts(fields: usize, most: usize) -> usize {
+    if fields <= most {
+        fields
+    } else {
+        fields.div_ceil(3).max(2).min(most)
+    }
+}

@@ -1,0 +1,254 @@
+//! Fields in a row, as tuples that nest.
+
+use crate::imports::is_between_words;
+use crate::joining::{FORMATS, Join, LAWS, TREES, grouped, joined};
+use crate::nesting::Nesting;
+use crate::template::Holes;
+use crate::types::{Names, Words, par};
+use std::alloc::{AllocError, Global};
+use tls_codec_plan::plan::Member;
+
+/// What has the fields: there is a tag before those of a variant.
+#[derive(Clone, Copy)]
+pub enum Owner {
+    Struct,
+    Variant,
+}
+
+/// The fields of a struct or of a variant, each as the holes `name`, `declared`, `rust`, `tree`, `format` and
+/// `law`.
+#[derive(Drop)]
+pub struct Row {
+    owner: Owner,
+    fields: Vec<Holes>,
+    nesting: Nesting,
+}
+
+static DECLARED_IN_STRUCT: &str = "    /// `$declared$`
+    pub $name$: $rust$,
+";
+
+static DECLARED_IN_VARIANT: &str = "        /// `$declared$`
+        $name$: $rust$,
+";
+
+static SHOWN_IN_STRUCT: &str = "        self.$name$.show(tree, \"$name$\")?;
+";
+
+static SHOWN_IN_VARIANT: &str = "                $name$.show(tree, \"$name$\")?;
+";
+
+impl Row {
+    /// The fields of a struct in three groups at most, or those of a variant in two.
+    pub fn of(
+        alloc: Global,
+        names: &Names<'_>,
+        owner: Owner,
+        members: &[Member],
+        uses: &mut Uses<'_>,
+    ) -> Result<Row, AllocError> {
+        let mut fields = Vec::new(alloc);
+        for (i, member) in members.iter().enumerate() {
+            let words = names.words(alloc, &member.of)?;
+            uses.add(&words)?;
+            fields.push(field(alloc, owner, i, member, words)?)?;
+        }
+        let most = match owner {
+            Owner::Struct => 3,
+            Owner::Variant => 2,
+        };
+        let nesting = Nesting::of(alloc, members.len(), most)?;
+        Ok(Row {
+            owner,
+            fields,
+            nesting,
+        })
+    }
+
+    /// Sets the holes `fields`, `first`, `stated`, `declared`, `lent`, `shown`, `pattern`, `types`, `path`, `gap`,
+    /// `plain`, `format` and `law`.
+    pub fn set(&self, alloc: Global, holes: &mut Holes) -> Result<(), AllocError> {
+        self.set_fields(alloc, holes)?;
+        self.set_tuples(alloc, holes)?;
+        self.set_definitions(alloc, holes)
+    }
+
+    // The fields one after another, and as they are lent.
+    fn set_fields(&self, alloc: Global, holes: &mut Holes) -> Result<(), AllocError> {
+        let (declared, lent, shown) = match self.owner {
+            Owner::Struct => (DECLARED_IN_STRUCT, "&self.$name$", SHOWN_IN_STRUCT),
+            Owner::Variant => (DECLARED_IN_VARIANT, "$name$", SHOWN_IN_VARIANT),
+        };
+        if let Some(first) = self.fields.first() {
+            holes.set("first", first.filled(alloc, "$name$")?)?;
+            holes.set("stated", first.filled(alloc, "$declared$")?)?;
+        }
+        let names = self.each(alloc, "$name$")?;
+        holes.set("fields", joined(alloc, names.as_slice(), ", ")?)?;
+        let declared = self.each(alloc, declared)?;
+        holes.set("declared", joined(alloc, declared.as_slice(), "")?)?;
+        let lent = self.each(alloc, lent)?;
+        holes.set("lent", self.lent(alloc, lent.as_slice())?)?;
+        let shown = self.each(alloc, shown)?;
+        holes.set("shown", joined(alloc, shown.as_slice(), "")?)
+    }
+
+    // The type of the tuple, also as a path, as `VLBytes` or `<(u8, u16)>`, and its pattern.
+    fn set_tuples(&self, alloc: Global, holes: &mut Holes) -> Result<(), AllocError> {
+        let pattern = self.nested(alloc, "$name$", Join::Tuple, " ")?;
+        holes.set("pattern", pattern)?;
+        let types = self.nested(alloc, "$rust$", Join::Tuple, " ")?;
+        holes.set("path", path(alloc, types.as_str())?)?;
+        holes.set("types", types)
+    }
+
+    // What the fields stand for, their format and its law. Each part has its own line in a struct of more
+    // than three fields.
+    fn set_definitions(&self, alloc: Global, holes: &mut Holes) -> Result<(), AllocError> {
+        let gap = match self.owner {
+            Owner::Struct if self.fields.len() > 3 => "\n    ",
+            _ => " ",
+        };
+        holes.set("gap", String::from_str(alloc, gap)?)?;
+        holes.set(
+            "plain",
+            self.defined(alloc, "$tree$", Join::Words(&TREES), gap)?,
+        )?;
+        holes.set(
+            "format",
+            self.defined(alloc, "$format$", Join::Words(&FORMATS), gap)?,
+        )?;
+        holes.set(
+            "law",
+            self.defined(alloc, "$law$", Join::Words(&LAWS), gap)?,
+        )
+    }
+
+    // A struct of one field is that field, and what a variant has is a part of more.
+    fn defined(
+        &self,
+        alloc: Global,
+        template: &str,
+        join: Join,
+        gap: &str,
+    ) -> Result<String, AllocError> {
+        match (self.owner, self.fields.as_slice()) {
+            (Owner::Struct, [only]) => only.filled(alloc, template),
+            (Owner::Struct, _) => self.nested(alloc, template, join, gap),
+            (Owner::Variant, _) => par(alloc, self.nested(alloc, template, join, gap)?),
+        }
+    }
+
+    // One text for all fields, by a text for each.
+    fn nested(
+        &self,
+        alloc: Global,
+        template: &str,
+        join: Join,
+        gap: &str,
+    ) -> Result<String, AllocError> {
+        let texts = self.each(alloc, template)?;
+        let parts = grouped(alloc, texts.as_slice(), self.nesting.parts.as_slice(), join)?;
+        let groups = grouped(
+            alloc,
+            parts.as_slice(),
+            self.nesting.counts.as_slice(),
+            join,
+        )?;
+        join.joined(alloc, groups.as_slice(), gap)
+    }
+
+    // A text for each field.
+    fn each(&self, alloc: Global, template: &str) -> Result<Vec<String>, AllocError> {
+        let mut texts = Vec::new(alloc);
+        for field in &self.fields {
+            texts.push(field.filled(alloc, template)?)?;
+        }
+        Ok(texts)
+    }
+
+    // The lent groups, as `(Lent2(&self.a, &self.b), Lent(&self.c))`. A struct's field that is alone lends
+    // itself.
+    fn lent(&self, alloc: Global, texts: &[String]) -> Result<String, AllocError> {
+        if let (Owner::Struct, [only]) = (self.owner, self.fields.as_slice()) {
+            return only.filled(alloc, "self.$name$");
+        }
+        let groups = grouped(alloc, texts, self.nesting.groups.as_slice(), Join::Commas)?;
+        let mut lent = Vec::new(alloc);
+        for (group, size) in groups.iter().zip(self.nesting.groups.as_slice()) {
+            lent.push(match size {
+                1 => format!(in alloc; "Lent({group})")?,
+                _ => format!(in alloc; "Lent{size}({group})")?,
+            })?;
+        }
+        let lent = joined(alloc, lent.as_slice(), ", ")?;
+        match self.owner {
+            Owner::Struct => format!(in alloc; "({lent})"),
+            Owner::Variant => Ok(lent),
+        }
+    }
+}
+
+// The holes of a field.
+fn field(
+    alloc: Global,
+    owner: Owner,
+    at: usize,
+    member: &Member,
+    words: Words,
+) -> Result<Holes, AllocError> {
+    let name = member.name.as_str();
+    let value = match owner {
+        Owner::Struct => format!(in alloc; "v.{name}")?,
+        Owner::Variant => format!(in alloc; "a{at}")?,
+    };
+    let tree = words.tree_of(alloc, value)?;
+    let mut holes = Holes::new(alloc);
+    holes.set("name", member.name.clone()?)?;
+    holes.set("declared", member.declared.clone()?)?;
+    holes.set("rust", words.rust)?;
+    holes.set("tree", tree)?;
+    holes.set("format", words.format)?;
+    holes.set("law", words.law)?;
+    Ok(holes)
+}
+
+// A type in front of `::`.
+fn path(alloc: Global, of: &str) -> Result<String, AllocError> {
+    if of.contains(is_between_words) {
+        format!(in alloc; "<{of}>")
+    } else {
+        String::from_str(alloc, of)
+    }
+}
+
+/// The names that the types of a message's fields bring in, each once.
+#[derive(Drop)]
+pub struct Uses<'a> {
+    /// The message itself, which brings in nothing.
+    pub own: &'a str,
+    /// Types of the crate.
+    pub types: Vec<String>,
+    /// Messages whose definitions are cited.
+    pub cited: Vec<String>,
+}
+
+impl Uses<'_> {
+    fn add(&mut self, words: &Words) -> Result<(), AllocError> {
+        if let Some(name) = &words.named {
+            push_once(&mut self.types, self.own, name)?;
+        }
+        if let Some(name) = &words.cited {
+            push_once(&mut self.cited, self.own, name)?;
+        }
+        Ok(())
+    }
+}
+
+// Adds a name that isn't there, and isn't the message's own.
+fn push_once(names: &mut Vec<String>, own: &str, name: &String) -> Result<(), AllocError> {
+    if name.as_str() != own && !names.as_slice().contains(name) {
+        names.push(name.clone()?)?;
+    }
+    Ok(())
+}

@@ -1,0 +1,73 @@
+//! A struct: it is written as the tuple of its lent groups, and read as the tuple of its fields.
+
+use crate::lines::Lines;
+
+/// No variants are brought in.
+pub static TEXTS: [Lines; 1] = [Lines {
+    hole: "variants_use",
+    before: "",
+    each: "",
+    bare: None,
+    one: None,
+    behind: "",
+    alone: None,
+}];
+
+pub static GHOST_USES: &str =
+    "ghost use Rattle.$crate$.specs.$name$.{$module$_format, $module$_meets, $module$_plain};
+";
+
+pub static CODE: &str = "$doc$#[derive(PartialEq, Drop)]
+pub struct $name$ {
+$declared$}
+
+impl Size for $name$ {
+    ghost plain = { $module$_plain };
+
+    ghost format = { $module$_format };
+
+    fn tls_serialized_len(&self) -> usize {
+        $lent$.tls_serialized_len()
+    }
+
+    ghost lawful = { $module$_meets };
+}
+
+impl Serialize for $name$ {
+    fn tls_serialize<W: Sink>(&self, writer: &mut W) -> Result<usize, Error> {
+        $lent$.tls_serialize(writer)
+    }
+
+    fn tls_serialize_into(&self, out: &mut Vec<u8>) -> Result<usize, Error> {
+        $lent$.tls_serialize_into(out)
+    }
+}
+
+impl Deserialize for $name$ {
+    ghost names = { ⟦<$types$ as Deserialize>⟧.names };
+
+    fn tls_deserialize<R: Source>(alloc: Global, src: &mut R) -> Result<$name$, Error> {
+        let $pattern$ = $path$::tls_deserialize(alloc, src)?;
+        Ok($name$ { $fields$ })
+    }
+}
+
+impl DeserializeBytes for $name$ {
+    ghost names = { ⟦<$types$ as DeserializeBytes>⟧.names };
+
+    fn tls_deserialize_bytes(alloc: Global, whole: &[u8]) -> Result<($name$, &[u8]), Error> {
+        let ($pattern$, rest) = $path$::tls_deserialize_bytes(alloc, whole)?;
+        Ok(($name$ { $fields$ }, rest))
+    }
+}
+";
+
+pub static SPECS: &str = "abbrev pub $module$_plain : $name$ → Tree
+$module$_plain v =$gap$$plain$
+
+abbrev pub $module$_format : Format
+$module$_format =$gap$$format$
+
+pub $module$_meets : MeetsLaws $module$_format
+$module$_meets =$gap$$law$
+";
