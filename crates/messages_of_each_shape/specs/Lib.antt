@@ -1,5 +1,6 @@
 pub mod Bounded
 pub mod Certificate
+pub mod CertificateTBS
 pub mod CipherSuite
 pub mod CipherSuiteAes128Gcm
 pub mod ContentTypeData
@@ -8,6 +9,8 @@ pub mod Fixed
 pub mod Framed
 pub mod LeafNode
 pub mod LeafNodeOrigin
+pub mod LeafNodeTBS
+pub mod LeafNodeTBSOrigin
 pub mod Level
 pub mod Lifetime
 pub mod Lists

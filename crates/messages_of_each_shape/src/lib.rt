@@ -3,6 +3,7 @@
 
 pub mod bounded;
 pub mod certificate;
+pub mod certificate_tbs;
 pub mod cipher_suite;
 pub mod cipher_suite_aes128_gcm;
 pub mod content_type_data;
@@ -11,6 +12,8 @@ pub mod fixed;
 pub mod framed;
 pub mod leaf_node;
 pub mod leaf_node_origin;
+pub mod leaf_node_tbs;
+pub mod leaf_node_tbs_origin;
 pub mod level;
 pub mod lifetime;
 pub mod lists;
@@ -23,6 +26,7 @@ pub mod wide;
 
 pub use bounded::Bounded;
 pub use certificate::Certificate;
+pub use certificate_tbs::CertificateTBS;
 pub use cipher_suite::CipherSuite;
 pub use cipher_suite_aes128_gcm::CipherSuiteAes128Gcm;
 pub use content_type_data::ContentTypeData;
@@ -31,6 +35,8 @@ pub use fixed::Fixed;
 pub use framed::Framed;
 pub use leaf_node::LeafNode;
 pub use leaf_node_origin::LeafNodeOrigin;
+pub use leaf_node_tbs::LeafNodeTBS;
+pub use leaf_node_tbs_origin::LeafNodeTBSOrigin;
 pub use level::Level;
 pub use lifetime::Lifetime;
 pub use lists::Lists;

@@ -4,6 +4,7 @@ mod hellos;
 mod mls;
 mod shapes;
 mod shown;
+mod signed;
 
 use std::fmt::Debug;
 use std::process::Abort;

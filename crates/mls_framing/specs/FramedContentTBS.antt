@@ -9,8 +9,8 @@ use Rattle.mls_framing.specs.declared.framed_content_tbs.FramedContentTBS.{Frame
 abbrev pub framed_content_tbs_plain : FramedContentTBS → Tree
 framed_content_tbs_plain v =
     pair_tree
-    (triple_tree (protocol_version_mls10_plain v.version) (wire_format_plain v.wire_format) (number_trees (bytes_of v.group_id)))
-    (pair_tree (Number v.epoch) (sender_type_data_plain v.sender_type))
+    (triple_tree (protocol_version_mls10_plain v.version.now) (wire_format_plain v.wire_format.now) (number_trees (bytes_of v.group_id.now)))
+    (pair_tree (Number v.epoch.now) (sender_type_data_plain v.sender_type.now))
 
 abbrev pub framed_content_tbs_format : Format
 framed_content_tbs_format =

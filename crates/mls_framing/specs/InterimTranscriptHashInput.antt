@@ -4,7 +4,7 @@ use Rattle.tls_codec.specs.Contents.{bytes_of}
 use Rattle.mls_framing.specs.declared.interim_transcript_hash_input.InterimTranscriptHashInput.{InterimTranscriptHashInput}
 
 abbrev pub interim_transcript_hash_input_plain : InterimTranscriptHashInput → Tree
-interim_transcript_hash_input_plain v = number_trees (bytes_of v.confirmation_tag)
+interim_transcript_hash_input_plain v = number_trees (bytes_of v.confirmation_tag.now)
 
 abbrev pub interim_transcript_hash_input_format : Format
 interim_transcript_hash_input_format = bytes_format

@@ -7,8 +7,8 @@ use Rattle.mls_framing.specs.declared.private_content_aad.PrivateContentAAD.{Pri
 abbrev pub private_content_aad_plain : PrivateContentAAD → Tree
 private_content_aad_plain v =
     pair_tree
-    (pair_tree (number_trees (bytes_of v.group_id)) (Number v.epoch))
-    (pair_tree (content_type_plain v.content_type) (number_trees (bytes_of v.authenticated_data)))
+    (pair_tree (number_trees (bytes_of v.group_id.now)) (Number v.epoch.now))
+    (pair_tree (content_type_plain v.content_type.now) (number_trees (bytes_of v.authenticated_data.now)))
 
 abbrev pub private_content_aad_format : Format
 private_content_aad_format =

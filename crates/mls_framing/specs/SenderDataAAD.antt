@@ -5,7 +5,7 @@ use Rattle.mls_framing.specs.ContentType.{content_type_plain, content_type_forma
 use Rattle.mls_framing.specs.declared.sender_data_aad.SenderDataAAD.{SenderDataAAD}
 
 abbrev pub sender_data_aad_plain : SenderDataAAD → Tree
-sender_data_aad_plain v = triple_tree (number_trees (bytes_of v.group_id)) (Number v.epoch) (content_type_plain v.content_type)
+sender_data_aad_plain v = triple_tree (number_trees (bytes_of v.group_id.now)) (Number v.epoch.now) (content_type_plain v.content_type.now)
 
 abbrev pub sender_data_aad_format : Format
 sender_data_aad_format = triple_format bytes_format (number_format 8) content_type_format

@@ -2,32 +2,31 @@
 ghost use Rattle.mls_framing.specs.ConfirmedTranscriptHashInput.{confirmed_transcript_hash_input_format, confirmed_transcript_hash_input_meets, confirmed_transcript_hash_input_plain};
 
 use crate::{FramedContent, WireFormat};
-use std::alloc::Global;
-use tls_codec::{
-    Deserialize, DeserializeBytes, Error, Lent, Serialize, Sink, Size, Source, VLBytes,
-};
+use tls_codec::{Error, Lent, Serialize, Sink, Size, VLBytes};
 
 /// `ConfirmedTranscriptHashInput`.
-#[derive(PartialEq, Drop)]
-pub struct ConfirmedTranscriptHashInput {
+///
+/// It has references to its fields, and is only written.
+#[derive(Clone, Copy)]
+pub struct ConfirmedTranscriptHashInput<'a> {
     /// `WireFormat wire_format;`
-    pub wire_format: WireFormat,
+    pub wire_format: &'a WireFormat,
     /// `FramedContent content;`
-    pub content: FramedContent,
+    pub content: &'a FramedContent,
     /// `opaque signature<V>;`
-    pub signature: VLBytes,
+    pub signature: &'a VLBytes,
 }
 
-impl Size for ConfirmedTranscriptHashInput {
+impl Size for ConfirmedTranscriptHashInput<'_> {
     ghost plain = { confirmed_transcript_hash_input_plain };
 
     ghost format = { confirmed_transcript_hash_input_format };
 
     fn tls_serialized_len(&self) -> usize {
         (
-            Lent(&self.wire_format),
-            Lent(&self.content),
-            Lent(&self.signature),
+            Lent(self.wire_format),
+            Lent(self.content),
+            Lent(self.signature),
         )
             .tls_serialized_len()
     }
@@ -35,65 +34,22 @@ impl Size for ConfirmedTranscriptHashInput {
     ghost lawful = { confirmed_transcript_hash_input_meets };
 }
 
-impl Serialize for ConfirmedTranscriptHashInput {
+impl Serialize for ConfirmedTranscriptHashInput<'_> {
     fn tls_serialize<W: Sink>(&self, writer: &mut W) -> Result<usize, Error> {
         (
-            Lent(&self.wire_format),
-            Lent(&self.content),
-            Lent(&self.signature),
+            Lent(self.wire_format),
+            Lent(self.content),
+            Lent(self.signature),
         )
             .tls_serialize(writer)
     }
 
     fn tls_serialize_into(&self, out: &mut Vec<u8>) -> Result<usize, Error> {
         (
-            Lent(&self.wire_format),
-            Lent(&self.content),
-            Lent(&self.signature),
+            Lent(self.wire_format),
+            Lent(self.content),
+            Lent(self.signature),
         )
             .tls_serialize_into(out)
-    }
-}
-
-impl Deserialize for ConfirmedTranscriptHashInput {
-    ghost names = { ⟦<(WireFormat, FramedContent, VLBytes) as Deserialize>⟧.names };
-
-    fn tls_deserialize<R: Source>(
-        alloc: Global,
-        src: &mut R,
-    ) -> Result<ConfirmedTranscriptHashInput, Error> {
-        let (wire_format, content, signature) = <(
-            WireFormat,
-            FramedContent,
-            VLBytes,
-        )>::tls_deserialize(alloc, src)?;
-        Ok(ConfirmedTranscriptHashInput {
-            wire_format,
-            content,
-            signature,
-        })
-    }
-}
-
-impl DeserializeBytes for ConfirmedTranscriptHashInput {
-    ghost names = { ⟦<(WireFormat, FramedContent, VLBytes) as DeserializeBytes>⟧.names };
-
-    fn tls_deserialize_bytes(
-        alloc: Global,
-        whole: &[u8],
-    ) -> Result<(ConfirmedTranscriptHashInput, &[u8]), Error> {
-        let ((wire_format, content, signature), rest) = <(
-            WireFormat,
-            FramedContent,
-            VLBytes,
-        )>::tls_deserialize_bytes(alloc, whole)?;
-        Ok((
-            ConfirmedTranscriptHashInput {
-                wire_format,
-                content,
-                signature,
-            },
-            rest,
-        ))
     }
 }

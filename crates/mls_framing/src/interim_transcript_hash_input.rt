@@ -2,17 +2,18 @@
 ghost use Rattle.mls_framing.specs.InterimTranscriptHashInput.{interim_transcript_hash_input_format, interim_transcript_hash_input_meets, interim_transcript_hash_input_plain};
 
 use mls_proposals::MAC;
-use std::alloc::Global;
-use tls_codec::{Deserialize, DeserializeBytes, Error, Serialize, Sink, Size, Source};
+use tls_codec::{Error, Serialize, Sink, Size};
 
 /// `InterimTranscriptHashInput`.
-#[derive(PartialEq, Drop)]
-pub struct InterimTranscriptHashInput {
+///
+/// It has references to its fields, and is only written.
+#[derive(Clone, Copy)]
+pub struct InterimTranscriptHashInput<'a> {
     /// `MAC confirmation_tag;`
-    pub confirmation_tag: MAC,
+    pub confirmation_tag: &'a MAC,
 }
 
-impl Size for InterimTranscriptHashInput {
+impl Size for InterimTranscriptHashInput<'_> {
     ghost plain = { interim_transcript_hash_input_plain };
 
     ghost format = { interim_transcript_hash_input_format };
@@ -24,36 +25,12 @@ impl Size for InterimTranscriptHashInput {
     ghost lawful = { interim_transcript_hash_input_meets };
 }
 
-impl Serialize for InterimTranscriptHashInput {
+impl Serialize for InterimTranscriptHashInput<'_> {
     fn tls_serialize<W: Sink>(&self, writer: &mut W) -> Result<usize, Error> {
         self.confirmation_tag.tls_serialize(writer)
     }
 
     fn tls_serialize_into(&self, out: &mut Vec<u8>) -> Result<usize, Error> {
         self.confirmation_tag.tls_serialize_into(out)
-    }
-}
-
-impl Deserialize for InterimTranscriptHashInput {
-    ghost names = { ⟦<MAC as Deserialize>⟧.names };
-
-    fn tls_deserialize<R: Source>(
-        alloc: Global,
-        src: &mut R,
-    ) -> Result<InterimTranscriptHashInput, Error> {
-        let confirmation_tag = MAC::tls_deserialize(alloc, src)?;
-        Ok(InterimTranscriptHashInput { confirmation_tag })
-    }
-}
-
-impl DeserializeBytes for InterimTranscriptHashInput {
-    ghost names = { ⟦<MAC as DeserializeBytes>⟧.names };
-
-    fn tls_deserialize_bytes(
-        alloc: Global,
-        whole: &[u8],
-    ) -> Result<(InterimTranscriptHashInput, &[u8]), Error> {
-        let (confirmation_tag, rest) = MAC::tls_deserialize_bytes(alloc, whole)?;
-        Ok((InterimTranscriptHashInput { confirmation_tag }, rest))
     }
 }

@@ -1,14 +1,9 @@
 //! [`SenderTypeData`].
-ghost use Rattle.tls_codec.specs.OwnMessages.{no_variant_names, no_variant_source_names, tagged_names, tagged_source_names, variant_names, variant_source_names};
 ghost use Rattle.mls_framing.specs.SenderTypeData.{sender_type_data_format, sender_type_data_meets, sender_type_data_plain};
 
-use crate::ContentTypeData;
+use crate::FramedContentTBSContentTypeData;
 use mls_proposals::GroupContext;
-use std::alloc::Global;
-use tls_codec::{
-    Deserialize, DeserializeBytes, Error, Lent, Lent2, Serialize, Sink, Size, Source, VLBytes,
-    unknown_value,
-};
+use tls_codec::{Error, Lent, Lent2, Serialize, Sink, Size, VLBytes};
 
 const MEMBER: u8 = 1;
 
@@ -19,53 +14,55 @@ const NEW_MEMBER_COMMIT: u8 = 4;
 const NEW_MEMBER_PROPOSAL: u8 = 3;
 
 /// `SenderType sender_type` of `FramedContentTBS`, and what comes after each.
-#[derive(PartialEq, Drop)]
-pub enum SenderTypeData {
+///
+/// It has references to its fields, and is only written.
+#[derive(Clone, Copy)]
+pub enum SenderTypeData<'a> {
     /// `case member:`
     Member {
         /// `uint32 leaf_index;`
-        leaf_index: u32,
+        leaf_index: &'a u32,
         /// `opaque authenticated_data<V>;`
-        authenticated_data: VLBytes,
+        authenticated_data: &'a VLBytes,
         /// `ContentType content_type;`
-        content_type: ContentTypeData,
+        content_type: &'a FramedContentTBSContentTypeData<'a>,
         /// `GroupContext context;`
-        context: GroupContext,
+        context: &'a GroupContext,
     },
     /// `case external:`
     External {
         /// `uint32 sender_index;`
-        sender_index: u32,
+        sender_index: &'a u32,
         /// `opaque authenticated_data<V>;`
-        authenticated_data: VLBytes,
+        authenticated_data: &'a VLBytes,
         /// `ContentType content_type;`
-        content_type: ContentTypeData,
+        content_type: &'a FramedContentTBSContentTypeData<'a>,
     },
     /// `case new_member_commit:`
     NewMemberCommit {
         /// `opaque authenticated_data<V>;`
-        authenticated_data: VLBytes,
+        authenticated_data: &'a VLBytes,
         /// `ContentType content_type;`
-        content_type: ContentTypeData,
+        content_type: &'a FramedContentTBSContentTypeData<'a>,
         /// `GroupContext context;`
-        context: GroupContext,
+        context: &'a GroupContext,
     },
     /// `case new_member_proposal:`
     NewMemberProposal {
         /// `opaque authenticated_data<V>;`
-        authenticated_data: VLBytes,
+        authenticated_data: &'a VLBytes,
         /// `ContentType content_type;`
-        content_type: ContentTypeData,
+        content_type: &'a FramedContentTBSContentTypeData<'a>,
     },
 }
 
-impl Size for SenderTypeData {
+impl Size for SenderTypeData<'_> {
     ghost plain = { sender_type_data_plain };
 
     ghost format = { sender_type_data_format };
 
     fn tls_serialized_len(&self) -> usize {
-        match self {
+        match *self {
             SenderTypeData::Member {
                 leaf_index,
                 authenticated_data,
@@ -112,9 +109,9 @@ impl Size for SenderTypeData {
     ghost lawful = { sender_type_data_meets };
 }
 
-impl Serialize for SenderTypeData {
+impl Serialize for SenderTypeData<'_> {
     fn tls_serialize<W: Sink>(&self, writer: &mut W) -> Result<usize, Error> {
-        match self {
+        match *self {
             SenderTypeData::Member {
                 leaf_index,
                 authenticated_data,
@@ -159,7 +156,7 @@ impl Serialize for SenderTypeData {
     }
 
     fn tls_serialize_into(&self, out: &mut Vec<u8>) -> Result<usize, Error> {
-        match self {
+        match *self {
             SenderTypeData::Member {
                 leaf_index,
                 authenticated_data,
@@ -200,141 +197,6 @@ impl Serialize for SenderTypeData {
                 Lent(content_type),
             )
                 .tls_serialize_into(out),
-        }
-    }
-}
-
-impl Deserialize for SenderTypeData {
-    ghost names = { tagged_source_names 1
-        (variant_source_names 1 ⟦<((u32, VLBytes), (ContentTypeData, GroupContext)) as Deserialize>⟧.names
-        (variant_source_names 2 ⟦<((u32, VLBytes), ContentTypeData) as Deserialize>⟧.names
-        (variant_source_names 4 ⟦<((VLBytes, ContentTypeData), GroupContext) as Deserialize>⟧.names
-        (variant_source_names 3 ⟦<(VLBytes, ContentTypeData) as Deserialize>⟧.names
-        no_variant_source_names)))) };
-
-    fn tls_deserialize<R: Source>(alloc: Global, src: &mut R) -> Result<SenderTypeData, Error> {
-        let tag = u8::tls_deserialize(alloc, src)?;
-        match tag {
-            MEMBER => {
-                let ((leaf_index, authenticated_data), (content_type, context)) = <(
-                    (u32, VLBytes),
-                    (ContentTypeData, GroupContext),
-                )>::tls_deserialize(alloc, src)?;
-                Ok(SenderTypeData::Member {
-                    leaf_index,
-                    authenticated_data,
-                    content_type,
-                    context,
-                })
-            }
-            EXTERNAL => {
-                let ((sender_index, authenticated_data), content_type) = <(
-                    (u32, VLBytes),
-                    ContentTypeData,
-                )>::tls_deserialize(alloc, src)?;
-                Ok(SenderTypeData::External {
-                    sender_index,
-                    authenticated_data,
-                    content_type,
-                })
-            }
-            NEW_MEMBER_COMMIT => {
-                let ((authenticated_data, content_type), context) = <(
-                    (VLBytes, ContentTypeData),
-                    GroupContext,
-                )>::tls_deserialize(alloc, src)?;
-                Ok(SenderTypeData::NewMemberCommit {
-                    authenticated_data,
-                    content_type,
-                    context,
-                })
-            }
-            NEW_MEMBER_PROPOSAL => {
-                let (authenticated_data, content_type) = <(
-                    VLBytes,
-                    ContentTypeData,
-                )>::tls_deserialize(alloc, src)?;
-                Ok(SenderTypeData::NewMemberProposal {
-                    authenticated_data,
-                    content_type,
-                })
-            }
-            _ => Err(unknown_value(u64::from(tag))),
-        }
-    }
-}
-
-impl DeserializeBytes for SenderTypeData {
-    ghost names = { tagged_names 1
-        (variant_names 1 ⟦<((u32, VLBytes), (ContentTypeData, GroupContext)) as DeserializeBytes>⟧.names
-        (variant_names 2 ⟦<((u32, VLBytes), ContentTypeData) as DeserializeBytes>⟧.names
-        (variant_names 4 ⟦<((VLBytes, ContentTypeData), GroupContext) as DeserializeBytes>⟧.names
-        (variant_names 3 ⟦<(VLBytes, ContentTypeData) as DeserializeBytes>⟧.names
-        no_variant_names)))) };
-
-    fn tls_deserialize_bytes(
-        alloc: Global,
-        whole: &[u8],
-    ) -> Result<(SenderTypeData, &[u8]), Error> {
-        let (tag, rest) = u8::tls_deserialize_bytes(alloc, whole)?;
-        match tag {
-            MEMBER => {
-                let (((leaf_index, authenticated_data), (content_type, context)), rest) = <(
-                    (u32, VLBytes),
-                    (ContentTypeData, GroupContext),
-                )>::tls_deserialize_bytes(alloc, rest)?;
-                Ok((
-                    SenderTypeData::Member {
-                        leaf_index,
-                        authenticated_data,
-                        content_type,
-                        context,
-                    },
-                    rest,
-                ))
-            }
-            EXTERNAL => {
-                let (((sender_index, authenticated_data), content_type), rest) = <(
-                    (u32, VLBytes),
-                    ContentTypeData,
-                )>::tls_deserialize_bytes(alloc, rest)?;
-                Ok((
-                    SenderTypeData::External {
-                        sender_index,
-                        authenticated_data,
-                        content_type,
-                    },
-                    rest,
-                ))
-            }
-            NEW_MEMBER_COMMIT => {
-                let (((authenticated_data, content_type), context), rest) = <(
-                    (VLBytes, ContentTypeData),
-                    GroupContext,
-                )>::tls_deserialize_bytes(alloc, rest)?;
-                Ok((
-                    SenderTypeData::NewMemberCommit {
-                        authenticated_data,
-                        content_type,
-                        context,
-                    },
-                    rest,
-                ))
-            }
-            NEW_MEMBER_PROPOSAL => {
-                let ((authenticated_data, content_type), rest) = <(
-                    VLBytes,
-                    ContentTypeData,
-                )>::tls_deserialize_bytes(alloc, rest)?;
-                Ok((
-                    SenderTypeData::NewMemberProposal {
-                        authenticated_data,
-                        content_type,
-                    },
-                    rest,
-                ))
-            }
-            _ => Err(unknown_value(u64::from(tag))),
         }
     }
 }

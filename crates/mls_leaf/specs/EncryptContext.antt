@@ -4,7 +4,7 @@ use Rattle.tls_codec.specs.Contents.{bytes_of}
 use Rattle.mls_leaf.specs.declared.encrypt_context.EncryptContext.{EncryptContext}
 
 abbrev pub encrypt_context_plain : EncryptContext → Tree
-encrypt_context_plain v = pair_tree (number_trees (bytes_of v.label)) (number_trees (bytes_of v.context))
+encrypt_context_plain v = pair_tree (number_trees (bytes_of v.label.now)) (number_trees (bytes_of v.context.now))
 
 abbrev pub encrypt_context_format : Format
 encrypt_context_format = pair_format bytes_format bytes_format

@@ -10,8 +10,8 @@ use Rattle.mls_leaf.specs.declared.key_package_tbs.KeyPackageTBS.{KeyPackageTBS}
 abbrev pub key_package_tbs_plain : KeyPackageTBS → Tree
 key_package_tbs_plain v =
     pair_tree
-    (triple_tree (protocol_version_plain v.version) (cipher_suite_plain v.cipher_suite) (number_trees (bytes_of v.init_key)))
-    (pair_tree (leaf_node_plain v.leaf_node) (trees extension_plain v.extensions.items))
+    (triple_tree (protocol_version_plain v.version.now) (cipher_suite_plain v.cipher_suite.now) (number_trees (bytes_of v.init_key.now)))
+    (pair_tree (leaf_node_plain v.leaf_node.now) (trees extension_plain v.extensions.now.items))
 
 abbrev pub key_package_tbs_format : Format
 key_package_tbs_format =

@@ -9,8 +9,8 @@ use Rattle.mls_leaf.specs.declared.leaf_node_tbs.LeafNodeTBS.{LeafNodeTBS}
 abbrev pub leaf_node_tbs_plain : LeafNodeTBS → Tree
 leaf_node_tbs_plain v =
     pair_tree
-    (triple_tree (number_trees (bytes_of v.encryption_key)) (number_trees (bytes_of v.signature_key)) (credential_plain v.credential))
-    (pair_tree (capabilities_plain v.capabilities) (leaf_node_tbs_origin_plain v.leaf_node_source))
+    (triple_tree (number_trees (bytes_of v.encryption_key.now)) (number_trees (bytes_of v.signature_key.now)) (credential_plain v.credential.now))
+    (pair_tree (capabilities_plain v.capabilities.now) (leaf_node_tbs_origin_plain v.leaf_node_source.now))
 
 abbrev pub leaf_node_tbs_format : Format
 leaf_node_tbs_format =

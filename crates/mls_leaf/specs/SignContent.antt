@@ -4,7 +4,7 @@ use Rattle.tls_codec.specs.Contents.{bytes_of}
 use Rattle.mls_leaf.specs.declared.sign_content.SignContent.{SignContent}
 
 abbrev pub sign_content_plain : SignContent → Tree
-sign_content_plain v = pair_tree (number_trees (bytes_of v.label)) (number_trees (bytes_of v.content))
+sign_content_plain v = pair_tree (number_trees (bytes_of v.label.now)) (number_trees (bytes_of v.content.now))
 
 abbrev pub sign_content_format : Format
 sign_content_format = pair_format bytes_format bytes_format

@@ -1,59 +1,37 @@
 //! [`EncryptContext`].
 ghost use Rattle.mls_leaf.specs.EncryptContext.{encrypt_context_format, encrypt_context_meets, encrypt_context_plain};
 
-use std::alloc::Global;
-use tls_codec::{
-    Deserialize, DeserializeBytes, Error, Lent, Serialize, Sink, Size, Source, VLBytes,
-};
+use tls_codec::{Error, Lent, Serialize, Sink, Size, VLBytes};
 
 /// `EncryptContext`.
-#[derive(PartialEq, Drop)]
-pub struct EncryptContext {
+///
+/// It has references to its fields, and is only written.
+#[derive(Clone, Copy)]
+pub struct EncryptContext<'a> {
     /// `opaque label<V>;`
-    pub label: VLBytes,
+    pub label: &'a VLBytes,
     /// `opaque context<V>;`
-    pub context: VLBytes,
+    pub context: &'a VLBytes,
 }
 
-impl Size for EncryptContext {
+impl Size for EncryptContext<'_> {
     ghost plain = { encrypt_context_plain };
 
     ghost format = { encrypt_context_format };
 
     fn tls_serialized_len(&self) -> usize {
-        (Lent(&self.label), Lent(&self.context)).tls_serialized_len()
+        (Lent(self.label), Lent(self.context)).tls_serialized_len()
     }
 
     ghost lawful = { encrypt_context_meets };
 }
 
-impl Serialize for EncryptContext {
+impl Serialize for EncryptContext<'_> {
     fn tls_serialize<W: Sink>(&self, writer: &mut W) -> Result<usize, Error> {
-        (Lent(&self.label), Lent(&self.context)).tls_serialize(writer)
+        (Lent(self.label), Lent(self.context)).tls_serialize(writer)
     }
 
     fn tls_serialize_into(&self, out: &mut Vec<u8>) -> Result<usize, Error> {
-        (Lent(&self.label), Lent(&self.context)).tls_serialize_into(out)
-    }
-}
-
-impl Deserialize for EncryptContext {
-    ghost names = { ⟦<(VLBytes, VLBytes) as Deserialize>⟧.names };
-
-    fn tls_deserialize<R: Source>(alloc: Global, src: &mut R) -> Result<EncryptContext, Error> {
-        let (label, context) = <(VLBytes, VLBytes)>::tls_deserialize(alloc, src)?;
-        Ok(EncryptContext { label, context })
-    }
-}
-
-impl DeserializeBytes for EncryptContext {
-    ghost names = { ⟦<(VLBytes, VLBytes) as DeserializeBytes>⟧.names };
-
-    fn tls_deserialize_bytes(
-        alloc: Global,
-        whole: &[u8],
-    ) -> Result<(EncryptContext, &[u8]), Error> {
-        let ((label, context), rest) = <(VLBytes, VLBytes)>::tls_deserialize_bytes(alloc, whole)?;
-        Ok((EncryptContext { label, context }, rest))
+        (Lent(self.label), Lent(self.context)).tls_serialize_into(out)
     }
 }

@@ -2,35 +2,34 @@
 ghost use Rattle.mls_leaf.specs.LeafNodeTBS.{leaf_node_tbs_format, leaf_node_tbs_meets, leaf_node_tbs_plain};
 
 use crate::{Capabilities, Credential, HPKEPublicKey, LeafNodeTBSOrigin, SignaturePublicKey};
-use std::alloc::Global;
-use tls_codec::{
-    Deserialize, DeserializeBytes, Error, Lent2, Lent3, Serialize, Sink, Size, Source,
-};
+use tls_codec::{Error, Lent2, Lent3, Serialize, Sink, Size};
 
 /// `LeafNodeTBS`.
-#[derive(PartialEq, Drop)]
-pub struct LeafNodeTBS {
+///
+/// It has references to its fields, and is only written.
+#[derive(Clone, Copy)]
+pub struct LeafNodeTBS<'a> {
     /// `HPKEPublicKey encryption_key;`
-    pub encryption_key: HPKEPublicKey,
+    pub encryption_key: &'a HPKEPublicKey,
     /// `SignaturePublicKey signature_key;`
-    pub signature_key: SignaturePublicKey,
+    pub signature_key: &'a SignaturePublicKey,
     /// `Credential credential;`
-    pub credential: Credential,
+    pub credential: &'a Credential,
     /// `Capabilities capabilities;`
-    pub capabilities: Capabilities,
+    pub capabilities: &'a Capabilities,
     /// `LeafNodeSource leaf_node_source;`
-    pub leaf_node_source: LeafNodeTBSOrigin,
+    pub leaf_node_source: &'a LeafNodeTBSOrigin<'a>,
 }
 
-impl Size for LeafNodeTBS {
+impl Size for LeafNodeTBS<'_> {
     ghost plain = { leaf_node_tbs_plain };
 
     ghost format = { leaf_node_tbs_format };
 
     fn tls_serialized_len(&self) -> usize {
         (
-            Lent3(&self.encryption_key, &self.signature_key, &self.credential),
-            Lent2(&self.capabilities, &self.leaf_node_source),
+            Lent3(self.encryption_key, self.signature_key, self.credential),
+            Lent2(self.capabilities, self.leaf_node_source),
         )
             .tls_serialized_len()
     }
@@ -38,62 +37,20 @@ impl Size for LeafNodeTBS {
     ghost lawful = { leaf_node_tbs_meets };
 }
 
-impl Serialize for LeafNodeTBS {
+impl Serialize for LeafNodeTBS<'_> {
     fn tls_serialize<W: Sink>(&self, writer: &mut W) -> Result<usize, Error> {
         (
-            Lent3(&self.encryption_key, &self.signature_key, &self.credential),
-            Lent2(&self.capabilities, &self.leaf_node_source),
+            Lent3(self.encryption_key, self.signature_key, self.credential),
+            Lent2(self.capabilities, self.leaf_node_source),
         )
             .tls_serialize(writer)
     }
 
     fn tls_serialize_into(&self, out: &mut Vec<u8>) -> Result<usize, Error> {
         (
-            Lent3(&self.encryption_key, &self.signature_key, &self.credential),
-            Lent2(&self.capabilities, &self.leaf_node_source),
+            Lent3(self.encryption_key, self.signature_key, self.credential),
+            Lent2(self.capabilities, self.leaf_node_source),
         )
             .tls_serialize_into(out)
-    }
-}
-
-impl Deserialize for LeafNodeTBS {
-    ghost names = { ⟦<((HPKEPublicKey, SignaturePublicKey, Credential), (Capabilities, LeafNodeTBSOrigin)) as Deserialize>⟧.names };
-
-    fn tls_deserialize<R: Source>(alloc: Global, src: &mut R) -> Result<LeafNodeTBS, Error> {
-        let ((encryption_key, signature_key, credential), (capabilities, leaf_node_source)) = <(
-            (HPKEPublicKey, SignaturePublicKey, Credential),
-            (Capabilities, LeafNodeTBSOrigin),
-        )>::tls_deserialize(alloc, src)?;
-        Ok(LeafNodeTBS {
-            encryption_key,
-            signature_key,
-            credential,
-            capabilities,
-            leaf_node_source,
-        })
-    }
-}
-
-impl DeserializeBytes for LeafNodeTBS {
-    ghost names = { ⟦<((HPKEPublicKey, SignaturePublicKey, Credential), (Capabilities, LeafNodeTBSOrigin)) as DeserializeBytes>⟧.names };
-
-    fn tls_deserialize_bytes(alloc: Global, whole: &[u8]) -> Result<(LeafNodeTBS, &[u8]), Error> {
-        let (
-            ((encryption_key, signature_key, credential), (capabilities, leaf_node_source)),
-            rest,
-        ) = <(
-            (HPKEPublicKey, SignaturePublicKey, Credential),
-            (Capabilities, LeafNodeTBSOrigin),
-        )>::tls_deserialize_bytes(alloc, whole)?;
-        Ok((
-            LeafNodeTBS {
-                encryption_key,
-                signature_key,
-                credential,
-                capabilities,
-                leaf_node_source,
-            },
-            rest,
-        ))
     }
 }

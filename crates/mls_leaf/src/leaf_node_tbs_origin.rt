@@ -1,13 +1,8 @@
 //! [`LeafNodeTBSOrigin`].
-ghost use Rattle.tls_codec.specs.OwnMessages.{no_variant_names, no_variant_source_names, tagged_names, tagged_source_names, variant_names, variant_source_names};
 ghost use Rattle.mls_leaf.specs.LeafNodeTBSOrigin.{leaf_node_tbs_origin_format, leaf_node_tbs_origin_meets, leaf_node_tbs_origin_plain};
 
 use crate::{Extension, Lifetime};
-use std::alloc::Global;
-use tls_codec::{
-    Deserialize, DeserializeBytes, Error, Lent, Lent2, Serialize, Sink, Size, Source, VLBytes,
-    unknown_value,
-};
+use tls_codec::{Error, Lent, Lent2, Serialize, Sink, Size, VLBytes};
 
 const KEY_PACKAGE: u8 = 1;
 
@@ -16,44 +11,46 @@ const UPDATE: u8 = 2;
 const COMMIT: u8 = 3;
 
 /// `LeafNodeSource leaf_node_source` of `LeafNodeTBS`, and what comes after each.
-#[derive(PartialEq, Drop)]
-pub enum LeafNodeTBSOrigin {
+///
+/// It has references to its fields, and is only written.
+#[derive(Clone, Copy)]
+pub enum LeafNodeTBSOrigin<'a> {
     /// `case key_package:`
     KeyPackage {
         /// `Lifetime lifetime;`
-        lifetime: Lifetime,
+        lifetime: &'a Lifetime,
         /// `Extension extensions<V>;`
-        extensions: Vec<Extension>,
+        extensions: &'a Vec<Extension>,
     },
     /// `case update:`
     Update {
         /// `Extension extensions<V>;`
-        extensions: Vec<Extension>,
+        extensions: &'a Vec<Extension>,
         /// `opaque group_id<V>;`
-        group_id: VLBytes,
+        group_id: &'a VLBytes,
         /// `uint32 leaf_index;`
-        leaf_index: u32,
+        leaf_index: &'a u32,
     },
     /// `case commit:`
     Commit {
         /// `opaque parent_hash<V>;`
-        parent_hash: VLBytes,
+        parent_hash: &'a VLBytes,
         /// `Extension extensions<V>;`
-        extensions: Vec<Extension>,
+        extensions: &'a Vec<Extension>,
         /// `opaque group_id<V>;`
-        group_id: VLBytes,
+        group_id: &'a VLBytes,
         /// `uint32 leaf_index;`
-        leaf_index: u32,
+        leaf_index: &'a u32,
     },
 }
 
-impl Size for LeafNodeTBSOrigin {
+impl Size for LeafNodeTBSOrigin<'_> {
     ghost plain = { leaf_node_tbs_origin_plain };
 
     ghost format = { leaf_node_tbs_origin_format };
 
     fn tls_serialized_len(&self) -> usize {
-        match self {
+        match *self {
             LeafNodeTBSOrigin::KeyPackage {
                 lifetime,
                 extensions,
@@ -80,9 +77,9 @@ impl Size for LeafNodeTBSOrigin {
     ghost lawful = { leaf_node_tbs_origin_meets };
 }
 
-impl Serialize for LeafNodeTBSOrigin {
+impl Serialize for LeafNodeTBSOrigin<'_> {
     fn tls_serialize<W: Sink>(&self, writer: &mut W) -> Result<usize, Error> {
-        match self {
+        match *self {
             LeafNodeTBSOrigin::KeyPackage {
                 lifetime,
                 extensions,
@@ -107,7 +104,7 @@ impl Serialize for LeafNodeTBSOrigin {
     }
 
     fn tls_serialize_into(&self, out: &mut Vec<u8>) -> Result<usize, Error> {
-        match self {
+        match *self {
             LeafNodeTBSOrigin::KeyPackage {
                 lifetime,
                 extensions,
@@ -128,113 +125,6 @@ impl Serialize for LeafNodeTBSOrigin {
                 Lent2(group_id, leaf_index),
             )
                 .tls_serialize_into(out),
-        }
-    }
-}
-
-impl Deserialize for LeafNodeTBSOrigin {
-    ghost names = { tagged_source_names 1
-        (variant_source_names 1 ⟦<(Lifetime, Vec<Extension>) as Deserialize>⟧.names
-        (variant_source_names 2 ⟦<((Vec<Extension>, VLBytes), u32) as Deserialize>⟧.names
-        (variant_source_names 3 ⟦<((VLBytes, Vec<Extension>), (VLBytes, u32)) as Deserialize>⟧.names
-        no_variant_source_names))) };
-
-    fn tls_deserialize<R: Source>(alloc: Global, src: &mut R) -> Result<LeafNodeTBSOrigin, Error> {
-        let tag = u8::tls_deserialize(alloc, src)?;
-        match tag {
-            KEY_PACKAGE => {
-                let (lifetime, extensions) = <(Lifetime, Vec<Extension>)>::tls_deserialize(
-                    alloc, src,
-                )?;
-                Ok(LeafNodeTBSOrigin::KeyPackage {
-                    lifetime,
-                    extensions,
-                })
-            }
-            UPDATE => {
-                let ((extensions, group_id), leaf_index) = <(
-                    (Vec<Extension>, VLBytes),
-                    u32,
-                )>::tls_deserialize(alloc, src)?;
-                Ok(LeafNodeTBSOrigin::Update {
-                    extensions,
-                    group_id,
-                    leaf_index,
-                })
-            }
-            COMMIT => {
-                let ((parent_hash, extensions), (group_id, leaf_index)) = <(
-                    (VLBytes, Vec<Extension>),
-                    (VLBytes, u32),
-                )>::tls_deserialize(alloc, src)?;
-                Ok(LeafNodeTBSOrigin::Commit {
-                    parent_hash,
-                    extensions,
-                    group_id,
-                    leaf_index,
-                })
-            }
-            _ => Err(unknown_value(u64::from(tag))),
-        }
-    }
-}
-
-impl DeserializeBytes for LeafNodeTBSOrigin {
-    ghost names = { tagged_names 1
-        (variant_names 1 ⟦<(Lifetime, Vec<Extension>) as DeserializeBytes>⟧.names
-        (variant_names 2 ⟦<((Vec<Extension>, VLBytes), u32) as DeserializeBytes>⟧.names
-        (variant_names 3 ⟦<((VLBytes, Vec<Extension>), (VLBytes, u32)) as DeserializeBytes>⟧.names
-        no_variant_names))) };
-
-    fn tls_deserialize_bytes(
-        alloc: Global,
-        whole: &[u8],
-    ) -> Result<(LeafNodeTBSOrigin, &[u8]), Error> {
-        let (tag, rest) = u8::tls_deserialize_bytes(alloc, whole)?;
-        match tag {
-            KEY_PACKAGE => {
-                let ((lifetime, extensions), rest) = <(
-                    Lifetime,
-                    Vec<Extension>,
-                )>::tls_deserialize_bytes(alloc, rest)?;
-                Ok((
-                    LeafNodeTBSOrigin::KeyPackage {
-                        lifetime,
-                        extensions,
-                    },
-                    rest,
-                ))
-            }
-            UPDATE => {
-                let (((extensions, group_id), leaf_index), rest) = <(
-                    (Vec<Extension>, VLBytes),
-                    u32,
-                )>::tls_deserialize_bytes(alloc, rest)?;
-                Ok((
-                    LeafNodeTBSOrigin::Update {
-                        extensions,
-                        group_id,
-                        leaf_index,
-                    },
-                    rest,
-                ))
-            }
-            COMMIT => {
-                let (((parent_hash, extensions), (group_id, leaf_index)), rest) = <(
-                    (VLBytes, Vec<Extension>),
-                    (VLBytes, u32),
-                )>::tls_deserialize_bytes(alloc, rest)?;
-                Ok((
-                    LeafNodeTBSOrigin::Commit {
-                        parent_hash,
-                        extensions,
-                        group_id,
-                        leaf_index,
-                    },
-                    rest,
-                ))
-            }
-            _ => Err(unknown_value(u64::from(tag))),
         }
     }
 }

@@ -2,32 +2,31 @@
 ghost use Rattle.mls_leaf.specs.ParentHashInput.{parent_hash_input_format, parent_hash_input_meets, parent_hash_input_plain};
 
 use crate::HPKEPublicKey;
-use std::alloc::Global;
-use tls_codec::{
-    Deserialize, DeserializeBytes, Error, Lent, Serialize, Sink, Size, Source, VLBytes,
-};
+use tls_codec::{Error, Lent, Serialize, Sink, Size, VLBytes};
 
 /// `ParentHashInput`.
-#[derive(PartialEq, Drop)]
-pub struct ParentHashInput {
+///
+/// It has references to its fields, and is only written.
+#[derive(Clone, Copy)]
+pub struct ParentHashInput<'a> {
     /// `HPKEPublicKey encryption_key;`
-    pub encryption_key: HPKEPublicKey,
+    pub encryption_key: &'a HPKEPublicKey,
     /// `opaque parent_hash<V>;`
-    pub parent_hash: VLBytes,
+    pub parent_hash: &'a VLBytes,
     /// `opaque original_sibling_tree_hash<V>;`
-    pub original_sibling_tree_hash: VLBytes,
+    pub original_sibling_tree_hash: &'a VLBytes,
 }
 
-impl Size for ParentHashInput {
+impl Size for ParentHashInput<'_> {
     ghost plain = { parent_hash_input_plain };
 
     ghost format = { parent_hash_input_format };
 
     fn tls_serialized_len(&self) -> usize {
         (
-            Lent(&self.encryption_key),
-            Lent(&self.parent_hash),
-            Lent(&self.original_sibling_tree_hash),
+            Lent(self.encryption_key),
+            Lent(self.parent_hash),
+            Lent(self.original_sibling_tree_hash),
         )
             .tls_serialized_len()
     }
@@ -35,62 +34,22 @@ impl Size for ParentHashInput {
     ghost lawful = { parent_hash_input_meets };
 }
 
-impl Serialize for ParentHashInput {
+impl Serialize for ParentHashInput<'_> {
     fn tls_serialize<W: Sink>(&self, writer: &mut W) -> Result<usize, Error> {
         (
-            Lent(&self.encryption_key),
-            Lent(&self.parent_hash),
-            Lent(&self.original_sibling_tree_hash),
+            Lent(self.encryption_key),
+            Lent(self.parent_hash),
+            Lent(self.original_sibling_tree_hash),
         )
             .tls_serialize(writer)
     }
 
     fn tls_serialize_into(&self, out: &mut Vec<u8>) -> Result<usize, Error> {
         (
-            Lent(&self.encryption_key),
-            Lent(&self.parent_hash),
-            Lent(&self.original_sibling_tree_hash),
+            Lent(self.encryption_key),
+            Lent(self.parent_hash),
+            Lent(self.original_sibling_tree_hash),
         )
             .tls_serialize_into(out)
-    }
-}
-
-impl Deserialize for ParentHashInput {
-    ghost names = { ⟦<(HPKEPublicKey, VLBytes, VLBytes) as Deserialize>⟧.names };
-
-    fn tls_deserialize<R: Source>(alloc: Global, src: &mut R) -> Result<ParentHashInput, Error> {
-        let (encryption_key, parent_hash, original_sibling_tree_hash) = <(
-            HPKEPublicKey,
-            VLBytes,
-            VLBytes,
-        )>::tls_deserialize(alloc, src)?;
-        Ok(ParentHashInput {
-            encryption_key,
-            parent_hash,
-            original_sibling_tree_hash,
-        })
-    }
-}
-
-impl DeserializeBytes for ParentHashInput {
-    ghost names = { ⟦<(HPKEPublicKey, VLBytes, VLBytes) as DeserializeBytes>⟧.names };
-
-    fn tls_deserialize_bytes(
-        alloc: Global,
-        whole: &[u8],
-    ) -> Result<(ParentHashInput, &[u8]), Error> {
-        let ((encryption_key, parent_hash, original_sibling_tree_hash), rest) = <(
-            HPKEPublicKey,
-            VLBytes,
-            VLBytes,
-        )>::tls_deserialize_bytes(alloc, whole)?;
-        Ok((
-            ParentHashInput {
-                encryption_key,
-                parent_hash,
-                original_sibling_tree_hash,
-            },
-            rest,
-        ))
     }
 }

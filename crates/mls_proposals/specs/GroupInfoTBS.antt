@@ -8,8 +8,8 @@ use Rattle.mls_proposals.specs.declared.group_info_tbs.GroupInfoTBS.{GroupInfoTB
 abbrev pub group_info_tbs_plain : GroupInfoTBS → Tree
 group_info_tbs_plain v =
     pair_tree
-    (pair_tree (group_context_plain v.group_context) (trees extension_plain v.extensions.items))
-    (pair_tree (number_trees (bytes_of v.confirmation_tag)) (Number v.signer))
+    (pair_tree (group_context_plain v.group_context.now) (trees extension_plain v.extensions.now.items))
+    (pair_tree (number_trees (bytes_of v.confirmation_tag.now)) (Number v.signer.now))
 
 abbrev pub group_info_tbs_format : Format
 group_info_tbs_format =

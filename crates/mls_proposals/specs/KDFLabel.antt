@@ -4,7 +4,7 @@ use Rattle.tls_codec.specs.Contents.{bytes_of}
 use Rattle.mls_proposals.specs.declared.kdf_label.KDFLabel.{KDFLabel}
 
 abbrev pub kdf_label_plain : KDFLabel → Tree
-kdf_label_plain v = triple_tree (Number v.length) (number_trees (bytes_of v.label)) (number_trees (bytes_of v.context))
+kdf_label_plain v = triple_tree (Number v.length.now) (number_trees (bytes_of v.label.now)) (number_trees (bytes_of v.context.now))
 
 abbrev pub kdf_label_format : Format
 kdf_label_format = triple_format (number_format 2) bytes_format bytes_format

@@ -4,7 +4,7 @@ use Rattle.mls_proposals.specs.PreSharedKeyID.{pre_shared_key_id_plain, pre_shar
 use Rattle.mls_proposals.specs.declared.psk_label.PSKLabel.{PSKLabel}
 
 abbrev pub psk_label_plain : PSKLabel → Tree
-psk_label_plain v = triple_tree (pre_shared_key_id_plain v.id) (Number v.index) (Number v.count)
+psk_label_plain v = triple_tree (pre_shared_key_id_plain v.id.now) (Number v.index.now) (Number v.count.now)
 
 abbrev pub psk_label_format : Format
 psk_label_format = triple_format pre_shared_key_id_format (number_format 2) (number_format 2)

@@ -4,7 +4,7 @@ use Rattle.tls_codec.specs.Contents.{bytes_of}
 use Rattle.mls_proposals.specs.declared.ref_hash_input.RefHashInput.{RefHashInput}
 
 abbrev pub ref_hash_input_plain : RefHashInput → Tree
-ref_hash_input_plain v = pair_tree (number_trees (bytes_of v.label)) (number_trees (bytes_of v.value))
+ref_hash_input_plain v = pair_tree (number_trees (bytes_of v.label.now)) (number_trees (bytes_of v.value.now))
 
 abbrev pub ref_hash_input_format : Format
 ref_hash_input_format = pair_format bytes_format bytes_format

@@ -1,71 +1,39 @@
 //! [`KDFLabel`].
 ghost use Rattle.mls_proposals.specs.KDFLabel.{kdf_label_format, kdf_label_meets, kdf_label_plain};
 
-use std::alloc::Global;
-use tls_codec::{
-    Deserialize, DeserializeBytes, Error, Lent, Serialize, Sink, Size, Source, VLBytes,
-};
+use tls_codec::{Error, Lent, Serialize, Sink, Size, VLBytes};
 
 /// `KDFLabel`.
-#[derive(PartialEq, Drop)]
-pub struct KDFLabel {
+///
+/// It has references to its fields, and is only written.
+#[derive(Clone, Copy)]
+pub struct KDFLabel<'a> {
     /// `uint16 length;`
-    pub length: u16,
+    pub length: &'a u16,
     /// `opaque label<V>;`
-    pub label: VLBytes,
+    pub label: &'a VLBytes,
     /// `opaque context<V>;`
-    pub context: VLBytes,
+    pub context: &'a VLBytes,
 }
 
-impl Size for KDFLabel {
+impl Size for KDFLabel<'_> {
     ghost plain = { kdf_label_plain };
 
     ghost format = { kdf_label_format };
 
     fn tls_serialized_len(&self) -> usize {
-        (Lent(&self.length), Lent(&self.label), Lent(&self.context)).tls_serialized_len()
+        (Lent(self.length), Lent(self.label), Lent(self.context)).tls_serialized_len()
     }
 
     ghost lawful = { kdf_label_meets };
 }
 
-impl Serialize for KDFLabel {
+impl Serialize for KDFLabel<'_> {
     fn tls_serialize<W: Sink>(&self, writer: &mut W) -> Result<usize, Error> {
-        (Lent(&self.length), Lent(&self.label), Lent(&self.context)).tls_serialize(writer)
+        (Lent(self.length), Lent(self.label), Lent(self.context)).tls_serialize(writer)
     }
 
     fn tls_serialize_into(&self, out: &mut Vec<u8>) -> Result<usize, Error> {
-        (Lent(&self.length), Lent(&self.label), Lent(&self.context)).tls_serialize_into(out)
-    }
-}
-
-impl Deserialize for KDFLabel {
-    ghost names = { ⟦<(u16, VLBytes, VLBytes) as Deserialize>⟧.names };
-
-    fn tls_deserialize<R: Source>(alloc: Global, src: &mut R) -> Result<KDFLabel, Error> {
-        let (length, label, context) = <(u16, VLBytes, VLBytes)>::tls_deserialize(alloc, src)?;
-        Ok(KDFLabel {
-            length,
-            label,
-            context,
-        })
-    }
-}
-
-impl DeserializeBytes for KDFLabel {
-    ghost names = { ⟦<(u16, VLBytes, VLBytes) as DeserializeBytes>⟧.names };
-
-    fn tls_deserialize_bytes(alloc: Global, whole: &[u8]) -> Result<(KDFLabel, &[u8]), Error> {
-        let ((length, label, context), rest) = <(u16, VLBytes, VLBytes)>::tls_deserialize_bytes(
-            alloc, whole,
-        )?;
-        Ok((
-            KDFLabel {
-                length,
-                label,
-                context,
-            },
-            rest,
-        ))
+        (Lent(self.length), Lent(self.label), Lent(self.context)).tls_serialize_into(out)
     }
 }

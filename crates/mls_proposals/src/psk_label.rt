@@ -2,58 +2,39 @@
 ghost use Rattle.mls_proposals.specs.PSKLabel.{psk_label_format, psk_label_meets, psk_label_plain};
 
 use crate::PreSharedKeyID;
-use std::alloc::Global;
-use tls_codec::{Deserialize, DeserializeBytes, Error, Lent, Serialize, Sink, Size, Source};
+use tls_codec::{Error, Lent, Serialize, Sink, Size};
 
 /// `PSKLabel`.
-#[derive(PartialEq, Drop)]
-pub struct PSKLabel {
+///
+/// It has references to its fields, and is only written.
+#[derive(Clone, Copy)]
+pub struct PSKLabel<'a> {
     /// `PreSharedKeyID id;`
-    pub id: PreSharedKeyID,
+    pub id: &'a PreSharedKeyID,
     /// `uint16 index;`
-    pub index: u16,
+    pub index: &'a u16,
     /// `uint16 count;`
-    pub count: u16,
+    pub count: &'a u16,
 }
 
-impl Size for PSKLabel {
+impl Size for PSKLabel<'_> {
     ghost plain = { psk_label_plain };
 
     ghost format = { psk_label_format };
 
     fn tls_serialized_len(&self) -> usize {
-        (Lent(&self.id), Lent(&self.index), Lent(&self.count)).tls_serialized_len()
+        (Lent(self.id), Lent(self.index), Lent(self.count)).tls_serialized_len()
     }
 
     ghost lawful = { psk_label_meets };
 }
 
-impl Serialize for PSKLabel {
+impl Serialize for PSKLabel<'_> {
     fn tls_serialize<W: Sink>(&self, writer: &mut W) -> Result<usize, Error> {
-        (Lent(&self.id), Lent(&self.index), Lent(&self.count)).tls_serialize(writer)
+        (Lent(self.id), Lent(self.index), Lent(self.count)).tls_serialize(writer)
     }
 
     fn tls_serialize_into(&self, out: &mut Vec<u8>) -> Result<usize, Error> {
-        (Lent(&self.id), Lent(&self.index), Lent(&self.count)).tls_serialize_into(out)
-    }
-}
-
-impl Deserialize for PSKLabel {
-    ghost names = { ⟦<(PreSharedKeyID, u16, u16) as Deserialize>⟧.names };
-
-    fn tls_deserialize<R: Source>(alloc: Global, src: &mut R) -> Result<PSKLabel, Error> {
-        let (id, index, count) = <(PreSharedKeyID, u16, u16)>::tls_deserialize(alloc, src)?;
-        Ok(PSKLabel { id, index, count })
-    }
-}
-
-impl DeserializeBytes for PSKLabel {
-    ghost names = { ⟦<(PreSharedKeyID, u16, u16) as DeserializeBytes>⟧.names };
-
-    fn tls_deserialize_bytes(alloc: Global, whole: &[u8]) -> Result<(PSKLabel, &[u8]), Error> {
-        let ((id, index, count), rest) = <(PreSharedKeyID, u16, u16)>::tls_deserialize_bytes(
-            alloc, whole,
-        )?;
-        Ok((PSKLabel { id, index, count }, rest))
+        (Lent(self.id), Lent(self.index), Lent(self.count)).tls_serialize_into(out)
     }
 }

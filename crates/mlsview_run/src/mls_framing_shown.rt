@@ -2,11 +2,10 @@
 
 use crate::show::{Show, Tree};
 use mls_framing::{
-    AuthenticatedContent, AuthenticatedContentContentTypeData, ConfirmedTranscriptHashInput,
-    ContentType, ContentTypeData, FramedContent, FramedContentTBS, InterimTranscriptHashInput,
-    MLSMessage, PrivateContentAAD, PrivateMessage, ProtocolVersionMls10, PublicMessage,
-    PublicMessageContentTypeData, PublicMessageSenderTypeData, Sender, SenderData, SenderDataAAD,
-    SenderTypeData, WireFormat, WireFormatData,
+    AuthenticatedContent, AuthenticatedContentContentTypeData, ContentType, ContentTypeData,
+    FramedContent, MLSMessage, PrivateMessage, ProtocolVersionMls10, PublicMessage,
+    PublicMessageContentTypeData, PublicMessageSenderTypeData, Sender, SenderData, WireFormat,
+    WireFormatData,
 };
 use std::alloc::AllocError;
 
@@ -89,69 +88,6 @@ impl Show for FramedContent {
 impl Show for ProtocolVersionMls10 {
     fn show(&self, tree: &mut Tree, name: &str) -> Result<(), AllocError> {
         tree.value(name, "mls10 (1)")
-    }
-}
-
-impl Show for SenderTypeData {
-    fn show(&self, tree: &mut Tree, name: &str) -> Result<(), AllocError> {
-        match self {
-            SenderTypeData::Member {
-                leaf_index,
-                authenticated_data,
-                content_type,
-                context,
-            } => {
-                tree.open(name, "member (1)")?;
-                leaf_index.show(tree, "leaf_index")?;
-                authenticated_data.show(tree, "authenticated_data")?;
-                content_type.show(tree, "content_type")?;
-                context.show(tree, "context")?;
-                tree.close()
-            }
-            SenderTypeData::External {
-                sender_index,
-                authenticated_data,
-                content_type,
-            } => {
-                tree.open(name, "external (2)")?;
-                sender_index.show(tree, "sender_index")?;
-                authenticated_data.show(tree, "authenticated_data")?;
-                content_type.show(tree, "content_type")?;
-                tree.close()
-            }
-            SenderTypeData::NewMemberCommit {
-                authenticated_data,
-                content_type,
-                context,
-            } => {
-                tree.open(name, "new_member_commit (4)")?;
-                authenticated_data.show(tree, "authenticated_data")?;
-                content_type.show(tree, "content_type")?;
-                context.show(tree, "context")?;
-                tree.close()
-            }
-            SenderTypeData::NewMemberProposal {
-                authenticated_data,
-                content_type,
-            } => {
-                tree.open(name, "new_member_proposal (3)")?;
-                authenticated_data.show(tree, "authenticated_data")?;
-                content_type.show(tree, "content_type")?;
-                tree.close()
-            }
-        }
-    }
-}
-
-impl Show for FramedContentTBS {
-    fn show(&self, tree: &mut Tree, name: &str) -> Result<(), AllocError> {
-        tree.open(name, "FramedContentTBS")?;
-        self.version.show(tree, "version")?;
-        self.wire_format.show(tree, "wire_format")?;
-        self.group_id.show(tree, "group_id")?;
-        self.epoch.show(tree, "epoch")?;
-        self.sender_type.show(tree, "sender_type")?;
-        tree.close()
     }
 }
 
@@ -313,51 +249,12 @@ impl Show for PrivateMessage {
     }
 }
 
-impl Show for PrivateContentAAD {
-    fn show(&self, tree: &mut Tree, name: &str) -> Result<(), AllocError> {
-        tree.open(name, "PrivateContentAAD")?;
-        self.group_id.show(tree, "group_id")?;
-        self.epoch.show(tree, "epoch")?;
-        self.content_type.show(tree, "content_type")?;
-        self.authenticated_data.show(tree, "authenticated_data")?;
-        tree.close()
-    }
-}
-
 impl Show for SenderData {
     fn show(&self, tree: &mut Tree, name: &str) -> Result<(), AllocError> {
         tree.open(name, "SenderData")?;
         self.leaf_index.show(tree, "leaf_index")?;
         self.generation.show(tree, "generation")?;
         self.reuse_guard.show(tree, "reuse_guard")?;
-        tree.close()
-    }
-}
-
-impl Show for SenderDataAAD {
-    fn show(&self, tree: &mut Tree, name: &str) -> Result<(), AllocError> {
-        tree.open(name, "SenderDataAAD")?;
-        self.group_id.show(tree, "group_id")?;
-        self.epoch.show(tree, "epoch")?;
-        self.content_type.show(tree, "content_type")?;
-        tree.close()
-    }
-}
-
-impl Show for ConfirmedTranscriptHashInput {
-    fn show(&self, tree: &mut Tree, name: &str) -> Result<(), AllocError> {
-        tree.open(name, "ConfirmedTranscriptHashInput")?;
-        self.wire_format.show(tree, "wire_format")?;
-        self.content.show(tree, "content")?;
-        self.signature.show(tree, "signature")?;
-        tree.close()
-    }
-}
-
-impl Show for InterimTranscriptHashInput {
-    fn show(&self, tree: &mut Tree, name: &str) -> Result<(), AllocError> {
-        tree.open(name, "InterimTranscriptHashInput")?;
-        self.confirmation_tag.show(tree, "confirmation_tag")?;
         tree.close()
     }
 }

@@ -2,10 +2,9 @@
 
 use crate::show::{Show, Tree};
 use mls_leaf::{
-    Capabilities, Certificate, CipherSuite, Credential, CredentialType, EncryptContext, Extension,
-    ExtensionType, KeyPackage, KeyPackageTBS, LeafNode, LeafNodeHashInput, LeafNodeOrigin,
-    LeafNodeTBS, LeafNodeTBSOrigin, Lifetime, Node, ParentHashInput, ParentNode,
-    ParentNodeHashInput, ProposalType, ProtocolVersion, RatchetTree, SignContent, TreeHashInput,
+    Capabilities, Certificate, CipherSuite, Credential, CredentialType, Extension, ExtensionType,
+    KeyPackage, LeafNode, LeafNodeHashInput, LeafNodeOrigin, Lifetime, Node, ParentNode,
+    ParentNodeHashInput, ProposalType, ProtocolVersion, RatchetTree, TreeHashInput,
 };
 use std::alloc::AllocError;
 
@@ -24,24 +23,6 @@ impl Show for CipherSuite {
             7 => tree.value(name, "MLS_256_DHKEMP384_AES256GCM_SHA384_P384 (7)"),
             tag => tree.number(name, u64::from(tag)),
         }
-    }
-}
-
-impl Show for SignContent {
-    fn show(&self, tree: &mut Tree, name: &str) -> Result<(), AllocError> {
-        tree.open(name, "SignContent")?;
-        self.label.show(tree, "label")?;
-        self.content.show(tree, "content")?;
-        tree.close()
-    }
-}
-
-impl Show for EncryptContext {
-    fn show(&self, tree: &mut Tree, name: &str) -> Result<(), AllocError> {
-        tree.open(name, "EncryptContext")?;
-        self.label.show(tree, "label")?;
-        self.context.show(tree, "context")?;
-        tree.close()
     }
 }
 
@@ -189,58 +170,6 @@ impl Show for LeafNode {
     }
 }
 
-impl Show for LeafNodeTBSOrigin {
-    fn show(&self, tree: &mut Tree, name: &str) -> Result<(), AllocError> {
-        match self {
-            LeafNodeTBSOrigin::KeyPackage {
-                lifetime,
-                extensions,
-            } => {
-                tree.open(name, "key_package (1)")?;
-                lifetime.show(tree, "lifetime")?;
-                extensions.show(tree, "extensions")?;
-                tree.close()
-            }
-            LeafNodeTBSOrigin::Update {
-                extensions,
-                group_id,
-                leaf_index,
-            } => {
-                tree.open(name, "update (2)")?;
-                extensions.show(tree, "extensions")?;
-                group_id.show(tree, "group_id")?;
-                leaf_index.show(tree, "leaf_index")?;
-                tree.close()
-            }
-            LeafNodeTBSOrigin::Commit {
-                parent_hash,
-                extensions,
-                group_id,
-                leaf_index,
-            } => {
-                tree.open(name, "commit (3)")?;
-                parent_hash.show(tree, "parent_hash")?;
-                extensions.show(tree, "extensions")?;
-                group_id.show(tree, "group_id")?;
-                leaf_index.show(tree, "leaf_index")?;
-                tree.close()
-            }
-        }
-    }
-}
-
-impl Show for LeafNodeTBS {
-    fn show(&self, tree: &mut Tree, name: &str) -> Result<(), AllocError> {
-        tree.open(name, "LeafNodeTBS")?;
-        self.encryption_key.show(tree, "encryption_key")?;
-        self.signature_key.show(tree, "signature_key")?;
-        self.credential.show(tree, "credential")?;
-        self.capabilities.show(tree, "capabilities")?;
-        self.leaf_node_source.show(tree, "leaf_node_source")?;
-        tree.close()
-    }
-}
-
 impl Show for LeafNodeHashInput {
     fn show(&self, tree: &mut Tree, name: &str) -> Result<(), AllocError> {
         tree.open(name, "LeafNodeHashInput")?;
@@ -277,17 +206,6 @@ impl Show for TreeHashInput {
     }
 }
 
-impl Show for ParentHashInput {
-    fn show(&self, tree: &mut Tree, name: &str) -> Result<(), AllocError> {
-        tree.open(name, "ParentHashInput")?;
-        self.encryption_key.show(tree, "encryption_key")?;
-        self.parent_hash.show(tree, "parent_hash")?;
-        self.original_sibling_tree_hash
-            .show(tree, "original_sibling_tree_hash")?;
-        tree.close()
-    }
-}
-
 impl Show for KeyPackage {
     fn show(&self, tree: &mut Tree, name: &str) -> Result<(), AllocError> {
         tree.open(name, "KeyPackage")?;
@@ -297,18 +215,6 @@ impl Show for KeyPackage {
         self.leaf_node.show(tree, "leaf_node")?;
         self.extensions.show(tree, "extensions")?;
         self.signature.show(tree, "signature")?;
-        tree.close()
-    }
-}
-
-impl Show for KeyPackageTBS {
-    fn show(&self, tree: &mut Tree, name: &str) -> Result<(), AllocError> {
-        tree.open(name, "KeyPackageTBS")?;
-        self.version.show(tree, "version")?;
-        self.cipher_suite.show(tree, "cipher_suite")?;
-        self.init_key.show(tree, "init_key")?;
-        self.leaf_node.show(tree, "leaf_node")?;
-        self.extensions.show(tree, "extensions")?;
         tree.close()
     }
 }

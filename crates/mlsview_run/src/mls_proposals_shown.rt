@@ -3,21 +3,11 @@
 use crate::show::{Show, Tree};
 use mls_proposals::{
     Add, Commit, EncryptedGroupSecrets, ExternalInit, ExternalPub, ExternalSender, ExternalSenders,
-    GroupContext, GroupContextExtensions, GroupInfo, GroupInfoTBS, GroupSecrets, HPKECiphertext,
-    KDFLabel, PSKLabel, PSKOrigin, PathSecret, PreSharedKey, PreSharedKeyID, Proposal,
-    ProposalOrRef, ReInit, RefHashInput, Remove, RequiredCapabilities, ResumptionPSKUsage, Update,
-    UpdatePath, UpdatePathNode, Welcome,
+    GroupContext, GroupContextExtensions, GroupInfo, GroupSecrets, HPKECiphertext, PSKOrigin,
+    PathSecret, PreSharedKey, PreSharedKeyID, Proposal, ProposalOrRef, ReInit, Remove,
+    RequiredCapabilities, ResumptionPSKUsage, Update, UpdatePath, UpdatePathNode, Welcome,
 };
 use std::alloc::AllocError;
-
-impl Show for RefHashInput {
-    fn show(&self, tree: &mut Tree, name: &str) -> Result<(), AllocError> {
-        tree.open(name, "RefHashInput")?;
-        self.label.show(tree, "label")?;
-        self.value.show(tree, "value")?;
-        tree.close()
-    }
-}
 
 impl Show for HPKECiphertext {
     fn show(&self, tree: &mut Tree, name: &str) -> Result<(), AllocError> {
@@ -43,16 +33,6 @@ impl Show for UpdatePath {
         tree.open(name, "UpdatePath")?;
         self.leaf_node.show(tree, "leaf_node")?;
         self.nodes.show(tree, "nodes")?;
-        tree.close()
-    }
-}
-
-impl Show for KDFLabel {
-    fn show(&self, tree: &mut Tree, name: &str) -> Result<(), AllocError> {
-        tree.open(name, "KDFLabel")?;
-        self.length.show(tree, "length")?;
-        self.label.show(tree, "label")?;
-        self.context.show(tree, "context")?;
         tree.close()
     }
 }
@@ -110,16 +90,6 @@ impl Show for PreSharedKeyID {
         tree.open(name, "PreSharedKeyID")?;
         self.psktype.show(tree, "psktype")?;
         self.psk_nonce.show(tree, "psk_nonce")?;
-        tree.close()
-    }
-}
-
-impl Show for PSKLabel {
-    fn show(&self, tree: &mut Tree, name: &str) -> Result<(), AllocError> {
-        tree.open(name, "PSKLabel")?;
-        self.id.show(tree, "id")?;
-        self.index.show(tree, "index")?;
-        self.count.show(tree, "count")?;
         tree.close()
     }
 }
@@ -286,17 +256,6 @@ impl Show for GroupInfo {
         self.confirmation_tag.show(tree, "confirmation_tag")?;
         self.signer.show(tree, "signer")?;
         self.signature.show(tree, "signature")?;
-        tree.close()
-    }
-}
-
-impl Show for GroupInfoTBS {
-    fn show(&self, tree: &mut Tree, name: &str) -> Result<(), AllocError> {
-        tree.open(name, "GroupInfoTBS")?;
-        self.group_context.show(tree, "group_context")?;
-        self.extensions.show(tree, "extensions")?;
-        self.confirmation_tag.show(tree, "confirmation_tag")?;
-        self.signer.show(tree, "signer")?;
         tree.close()
     }
 }

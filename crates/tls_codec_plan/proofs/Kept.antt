@@ -4,7 +4,6 @@ use Rattle.std.specs.List.{All, AllByRecursion, IsDistinct, items_where_true}
 use Rattle.std.specs.List.Retain.{IsFiltered}
 use Rattle.std.specs.String.{string_eq}
 use Rattle.std.proofs.lemmas.List.Elements.{All-nil, All-cons, All-head, All-tail, All-same}
-use Rattle.std.proofs.lemmas.Map.Keys.{IsDistinct-head, IsDistinct-tail, IsDistinct-cons}
 use Rattle.tls_codec_plan.specs.Writable.{HaveModules}
 use Rattle.tls_codec_plan.specs.declared.plan.Message.{Message}
 

@@ -15,6 +15,7 @@ use tls_codec_presentation::refusal::{Place, Trouble};
 struct Choice {
     tag: Place,
     select: Place,
+    is_lent: bool,
     name: String,
 }
 
@@ -94,16 +95,22 @@ impl Made {
         &mut self,
         tag: Place,
         select: Place,
+        is_lent: bool,
         name: String,
     ) -> Result<(), AllocError> {
-        self.choices.push(Choice { tag, select, name })?;
+        self.choices.push(Choice {
+            tag,
+            select,
+            is_lent,
+            name,
+        })?;
         Ok(())
     }
 
-    /// The name that was kept for a tag and a select.
-    pub fn choice(&self, tag: Place, select: Place) -> Option<&String> {
+    /// The name that was kept for a tag and a select, of a message that is lent or of one that isn't.
+    pub fn choice(&self, tag: Place, select: Place, is_lent: bool) -> Option<&String> {
         for one in &self.choices {
-            if is_same(one.tag, tag) && is_same(one.select, select) {
+            if is_same(one.tag, tag) && is_same(one.select, select) && one.is_lent == is_lent {
                 return Some(&one.name);
             }
         }

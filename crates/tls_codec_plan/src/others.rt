@@ -107,6 +107,7 @@ pub fn others_of(
                 name: alias.name.clone()?,
                 module: String::from_str(alloc, "names")?,
                 home: alias.home,
+                is_lent: false,
                 of: Some(copy_type(&alias.of)?),
             })?;
         }
@@ -117,6 +118,7 @@ pub fn others_of(
                 name: message.name.clone()?,
                 module: message.module.clone()?,
                 home: message.home,
+                is_lent: message.is_lent,
                 of: None,
             })?;
         }

@@ -16,6 +16,8 @@ pub struct Other {
     pub module: String,
     /// Which crate has it, counted from 0 in the order in which they were named.
     pub home: usize,
+    /// It has references to its fields.
+    pub is_lent: bool,
     /// What it is another name of, if it is one.
     pub of: Option<Type>,
 }
@@ -39,6 +41,8 @@ pub struct Message {
     pub module: String,
     /// Which crate has it: after the others the one that is written.
     pub home: usize,
+    /// It has references to its fields, and is only written.
+    pub is_lent: bool,
     /// What its doc comment says.
     pub doc: String,
     pub body: Body,

@@ -4,6 +4,7 @@ ghost use Rattle.tls_codec_plan.specs.Writable.{AreWritable, HaveModules};
 
 use crate::checks::{enum_body, modules_of};
 use crate::constants::make_constants;
+use crate::items::{find_struct, is_single};
 use crate::made::Made;
 use crate::order::order_of;
 use crate::others::{check_alone, others_of, tags_alone};
@@ -26,7 +27,7 @@ const MOST: usize = 100_000;
 /// or a number twice; a word of Rust or of the definitions as a type's name; a number of more bytes than its enum's;
 /// a vector, bounds or a constant that aren't kept; a select on a tag that isn't in the same bytes, a case that its
 /// enum lacks or that is missing; more fields than can be written in a row; an enum of another crate that isn't
-/// written there, since it is a tag alone.
+/// written there, since it is a tag alone; a lent struct in one that isn't.
 ///
 /// In what is made, each struct has at most 27 fields and each case at most 18, with names that differ; the numbers of
 /// an enum and of the cases of a tag differ, and have the bytes of the enum or the tag: 1, 2, 4 or 8.
@@ -92,35 +93,49 @@ fn check_types(alloc: Global, file: &File) -> Result<(), Trouble> {
     for item in &file.items {
         match item {
             Item::Enum(_) => {}
-            Item::Alias(field) => check_type(alloc, file, field)?,
-            Item::Struct(one) => check_parts(alloc, file, &one.parts)?,
+            Item::Alias(field) => check_type(alloc, file, field, false)?,
+            Item::Struct(one) => check_parts(alloc, file, one)?,
         }
     }
     Ok(())
 }
 
-fn check_parts(alloc: Global, file: &File, parts: &[Part]) -> Result<(), Trouble> {
-    for part in parts {
+fn check_parts(alloc: Global, file: &File, one: &Struct) -> Result<(), Trouble> {
+    for part in &one.parts {
         match part {
-            Part::Field(field) => check_type(alloc, file, field)?,
-            Part::Select(select) => check_cases(alloc, file, select)?,
+            Part::Field(field) => check_type(alloc, file, field, one.is_lent)?,
+            Part::Select(select) => check_cases(alloc, file, select, one.is_lent)?,
         }
     }
     Ok(())
 }
 
-fn check_cases(alloc: Global, file: &File, select: &Select) -> Result<(), Trouble> {
+fn check_cases(alloc: Global, file: &File, select: &Select, is_lent: bool) -> Result<(), Trouble> {
     for case in &select.cases {
         for field in &case.fields {
-            check_type(alloc, file, field)?;
+            check_type(alloc, file, field, is_lent)?;
         }
     }
     Ok(())
 }
 
-fn check_type(alloc: Global, file: &File, field: &Field) -> Result<(), Trouble> {
+// Also refuses a lent struct, unless the field is one of it in another.
+fn check_type(alloc: Global, file: &File, field: &Field, is_lent: bool) -> Result<(), Trouble> {
     type_of(alloc, file, field)?;
+    let of = &field.of;
+    if names_lent(file, of.text.as_str()) && !(is_lent && is_single(field)) {
+        return Err(refused(
+            alloc,
+            of.place,
+            of.text.as_str(),
+            "a type that has its parts: a lent struct is only written, and is a field of lent structs alone, in no vector and no option",
+        ));
+    }
     Ok(())
+}
+
+fn names_lent(file: &File, name: &str) -> bool {
+    find_struct(file, name).is_some_and(|one| one.is_lent)
 }
 
 fn make_enum(alloc: Global, one: &Enum, made: &mut Made) -> Result<(), Trouble> {

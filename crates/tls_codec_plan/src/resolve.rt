@@ -56,7 +56,8 @@ pub fn make_messages<'a>(
         }
     }
     let body = struct_body(alloc, sequence, behind)?;
-    let message = message(alloc, sequence.name, body, made.home)?;
+    let mut message = message(alloc, sequence.name, body, made.home)?;
+    message.is_lent = lends(sequence, &message.body);
     made.push(alloc, sequence.place, message)
 }
 
@@ -151,7 +152,7 @@ fn make_part<'a>(
     let only = only_select(segment);
     let tag = field.name.place;
     if let Some(chosen) = only {
-        if let Some(other) = same_choice(tag, chosen, made) {
+        if let Some(other) = same_choice(sequence, tag, chosen, made) {
             return choice_member(alloc, field, other.clone()?);
         }
     }
@@ -166,18 +167,23 @@ fn make_part<'a>(
     )?;
     let placed = choice_member(alloc, field, name.clone()?)?;
     if let Some(chosen) = only {
-        made.keep_choice(tag, chosen.place, name.clone()?)?;
+        made.keep_choice(tag, chosen.place, sequence.is_lent, name.clone()?)?;
     }
     push_choice(alloc, sequence, field, name, body, made)?;
     Ok(placed)
 }
 
 // The name of the message that was made for a tag and a select which another struct has.
-fn same_choice<'b>(tag: Place, chosen: &Chosen<'_>, made: &'b Made) -> Option<&'b String> {
+fn same_choice<'b>(
+    sequence: &Sequence<'_>,
+    tag: Place,
+    chosen: &Chosen<'_>,
+    made: &'b Made,
+) -> Option<&'b String> {
     if chosen.is_own {
         None
     } else {
-        made.choice(tag, chosen.place)
+        made.choice(tag, chosen.place, sequence.is_lent)
     }
 }
 
@@ -274,6 +280,7 @@ fn push_choice(
     let message = Message {
         module: module_name(alloc, name.as_str())?,
         home: made.home,
+        is_lent: lends(sequence, &body),
         doc: choice_doc(alloc, field, sequence.name)?,
         name,
         body,
@@ -281,7 +288,7 @@ fn push_choice(
     made.push(alloc, field.name.place, message)
 }
 
-/// A message of a crate, with its module and a doc comment.
+/// A message of a crate that has its parts, with its module and a doc comment.
 pub fn message(alloc: Global, name: &str, body: Body, home: usize) -> Result<Message, AllocError>
     requires { IsWritable body }
     ensures { IfOk result (λ message. IsWritable message.body) }
@@ -290,9 +297,22 @@ pub fn message(alloc: Global, name: &str, body: Body, home: usize) -> Result<Mes
         name: String::from_str(alloc, name)?,
         module: module_name(alloc, name)?,
         home,
+        is_lent: false,
         doc: format!(in alloc; "`{name}`.")?,
         body,
     })
+}
+
+// Whether a message of a struct has references. One without fields has none.
+fn lends(sequence: &Sequence<'_>, body: &Body) -> bool {
+    sequence.is_lent
+        && match body {
+            Body::Values { .. } => false,
+            Body::Fields(fields) => !fields.is_empty(),
+            Body::Choice { variants, .. } => {
+                variants.iter().any(|variant| !variant.fields.is_empty())
+            }
+        }
 }
 
 fn choice_member(alloc: Global, field: &Field, name: String) -> Result<Placed, Trouble> {

@@ -38,6 +38,7 @@ enum Key<'a> {
 pub struct Sequence<'a> {
     pub name: &'a str,
     pub place: Place,
+    pub is_lent: bool,
     pub pieces: Vec<Piece<'a>>,
     /// The fields in whose place the parts of their structs stand.
     pub opened: Vec<&'a Field>,
@@ -104,6 +105,7 @@ fn own_pieces<'a>(alloc: Global, one: &'a Struct) -> Result<Sequence<'a>, Troubl
     Ok(Sequence {
         name,
         place: one.name.place,
+        is_lent: one.is_lent,
         pieces,
         opened: Vec::new(alloc),
         is_whole: false,

@@ -149,12 +149,13 @@ abbrev pub part_then : Part → List Sign → List Sign
 part_then (parts.Field f) rest = ended_field_then f rest
 part_then (parts.Select s) rest = select_then s rest
 
--- struct { parts } NAME ;
+-- [lent] struct { parts } NAME ;
 abbrev pub struct_then : Struct → List Sign → List Sign
 struct_then s rest =
-    mark marks.Struct ∷ mark marks.OpeningBrace ∷
+    flag_then marks.Lent s.is_lent
+    (mark marks.Struct ∷ mark marks.OpeningBrace ∷
     each_then part_then s.parts.items
-    (mark marks.ClosingBrace ∷ name_then s.name (mark marks.Semicolon ∷ rest))
+    (mark marks.ClosingBrace ∷ name_then s.name (mark marks.Semicolon ∷ rest)))
 
 abbrev pub item_then : Item → List Sign → List Sign
 item_then (items.Enum e) rest = enum_then e rest

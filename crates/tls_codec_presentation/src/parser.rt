@@ -44,7 +44,7 @@ fn item(alloc: Global, tokens: &mut Tokens<'_>) -> Result<Item, Trouble>
 {
     match tokens.mark() {
         Some(Mark::Open | Mark::Enum) => Ok(Item::Enum(enums::enumeration(alloc, tokens)?)),
-        Some(Mark::Struct) => Ok(Item::Struct(structs::structure(alloc, tokens)?)),
+        Some(Mark::Lent | Mark::Struct) => Ok(Item::Struct(structs::structure(alloc, tokens)?)),
         _ => Ok(Item::Alias(fields::alias(alloc, tokens)?)),
     }
 }

@@ -53,6 +53,9 @@ fn print_value(out: &mut String, value: &Value) -> Result<(), AllocError> {
 }
 
 fn print_struct(out: &mut String, item: &Struct) -> Result<(), AllocError> {
+    if item.is_lent {
+        out.push_str("lent ")?;
+    }
     out.push_str("struct {\n")?;
     for part in &item.parts {
         print_part(out, part)?;

@@ -48,8 +48,10 @@ pub struct Number {
     pub place: Place,
 }
 
+/// Fields and selects in a row. A lent one, `lent struct { .. }`, has references to its fields, and is only written.
 #[derive(Drop)]
 pub struct Struct {
+    pub is_lent: bool,
     pub parts: Vec<Part>,
     pub name: Name,
 }

@@ -64,11 +64,11 @@ fn what_is_printed_says_the_same(rt: HostRuntime) -> Result<(), Fail> {
 #[test]
 fn one_layout(rt: HostRuntime) -> Result<(), Fail> {
     let text =
-        "enum{a(0x10),(2^8-1)}A;open enum { b ( 1 ) } B ; struct{}E;opaque K<V>;uint8 C[2];// the end
+        "enum{a(0x10),(2^8-1)}A;open enum { b ( 1 ) } B ; lent struct{}E;opaque K<V>;uint8 C[2];// the end
 struct{A a=b;optional<C>c<0..2^16-1>;select(S.a.b){case a:case 7:uint8 x;K k[2];case z:struct{};}select(S.a){}N;}S;";
     let want = "enum { a(16), (255) } A;
 open enum { b(1) } B;
-struct {
+lent struct {
 } E;
 opaque K<V>;
 uint8 C[2];
@@ -97,7 +97,13 @@ struct {
 fn refusals(rt: HostRuntime) -> Result<(), Fail> {
     for (text, line, column, found, expected) in [
         ("enum", 1, 5, "", "{"),
-        ("{", 1, 1, "{", "enum, open, struct or the name of a type"),
+        (
+            "{",
+            1,
+            1,
+            "{",
+            "enum, open, struct, lent or the name of a type",
+        ),
         ("\n  é", 2, 3, "é", "an ASCII character"),
         ("/* é */", 1, 4, "é", "an ASCII character"),
         ("uint8 a; /* uint8", 1, 10, "/*", "a comment that ends"),
@@ -136,10 +142,11 @@ fn refusals(rt: HostRuntime) -> Result<(), Fail> {
             1,
             1,
             "optional",
-            "enum, open, struct or the name of a type",
+            "enum, open, struct, lent or the name of a type",
         ),
         ("uint8 a = b;", 1, 9, "=", "[, < or ;"),
         ("open struct {} A;", 1, 6, "struct", "enum"),
+        ("lent enum { a(1) } A;", 1, 6, "enum", "struct"),
         ("enum {} A;", 1, 7, "}", "a value's name or ("),
         ("enum { a(1) b(2) } A;", 1, 13, "b", ", or }"),
         ("enum { a(b) } A;", 1, 10, "b", "the value's number"),

@@ -27,6 +27,7 @@ pub enum Kind {
 pub enum Mark {
     Case,
     Enum,
+    Lent,
     Open,
     Optional,
     Select,
@@ -53,6 +54,7 @@ impl Mark {
         match self {
             Mark::Case => "case",
             Mark::Enum => "enum",
+            Mark::Lent => "lent",
             Mark::Open => "open",
             Mark::Optional => "optional",
             Mark::Select => "select",
@@ -79,6 +81,7 @@ impl Mark {
         match word {
             "case" => Some(Mark::Case),
             "enum" => Some(Mark::Enum),
+            "lent" => Some(Mark::Lent),
             "open" => Some(Mark::Open),
             "optional" => Some(Mark::Optional),
             "select" => Some(Mark::Select),

@@ -30,13 +30,19 @@ abbrev pub answers_path : Message → (of_trait function : List ℕ) → Path
 answers_path m of_trait function =
     codes "proofs/" ++ (string_bytes m.module ++ (codes "/" ++ (string_bytes m.name ++ (of_trait ++ (codes "/" ++ (function ++ codes "/Answers.antt"))))))
 
+-- a lent message has no decoders
+abbrev pub decoders_unless : Bool → Message → List Path
+decoders_unless true m = []
+decoders_unless false m =
+    answers_path m (codes "Deserialize") (codes "tls_deserialize")
+    ∷ answers_path m (codes "DeserializeBytes") (codes "tls_deserialize_bytes")
+    ∷ []
+
 abbrev pub answers_paths : Message → List Path
 answers_paths m =
     answers_path m (codes "Serialize") (codes "tls_serialize")
     ∷ answers_path m (codes "Serialize") (codes "tls_serialize_into")
-    ∷ answers_path m (codes "Deserialize") (codes "tls_deserialize")
-    ∷ answers_path m (codes "DeserializeBytes") (codes "tls_deserialize_bytes")
-    ∷ []
+    ∷ decoders_unless m.is_lent m
 
 abbrev pub answers_if : Bool → Message → List Path
 answers_if true m = answers_paths m

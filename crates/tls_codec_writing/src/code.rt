@@ -101,13 +101,17 @@ fn push_message(
 
 /// The module of a message.
 pub fn module(alloc: Global, names: &Names<'_>, form: &Form<'_>) -> Result<String, AllocError> {
-    let (ghost_uses, code) = match form.kind {
-        Kind::Struct => (structs::GHOST_USES, structs::CODE),
-        Kind::Open => (structs::GHOST_USES, opens::CODE),
-        Kind::Values => (values::GHOST_USES, values::CODE),
-        Kind::Choice => (choices::GHOST_USES, choices::CODE),
+    let (ghost_uses, code, decoders) = match form.kind {
+        Kind::Struct => (structs::GHOST_USES, structs::CODE, structs::DECODERS),
+        Kind::Open => (structs::GHOST_USES, opens::CODE, ""),
+        Kind::Values => (values::GHOST_USES, values::CODE, ""),
+        Kind::Choice if form.is_lent => (structs::GHOST_USES, choices::CODE, ""),
+        Kind::Choice => (choices::GHOST_USES, choices::CODE, choices::DECODERS),
     };
-    let body = form.holes.filled(alloc, code)?;
+    let mut body = form.holes.filled(alloc, code)?;
+    if !form.is_lent {
+        form.holes.push(&mut body, decoders)?;
+    }
     let uses = imports::code(alloc, names, body.as_str(), form.uses.types.as_slice())?;
     let mut out = form.holes.filled(alloc, "//! [`$name$`].\n")?;
     form.holes.push(&mut out, ghost_uses)?;

@@ -27,6 +27,8 @@ pub enum Kind {
 #[derive(Drop)]
 pub struct Form<'a> {
     pub kind: Kind,
+    /// It has references to its fields, and is only written.
+    pub is_lent: bool,
     pub holes: Holes,
     /// Its values, or its cases.
     pub parts: Vec<Part>,
@@ -73,6 +75,7 @@ impl<'a> Form<'a> {
         ensures { IfOk result (λ form. has_answers form.kind ≡ needs_answers message.now.body) }
     {
         let kind = Kind::of(&message.body);
+        let is_lent = message.is_lent;
         let mut holes = of_message(alloc, message)?;
         let mut uses = Uses {
             own: message.name.as_str(),
@@ -80,11 +83,12 @@ impl<'a> Form<'a> {
             cited: Vec::new(alloc),
         };
         holes.set("crate", String::from_str(alloc, names.own)?)?;
-        holes.set("doc", doc(alloc, message.doc.as_str())?)?;
+        holes.set("doc", doc(alloc, message)?)?;
+        set_lent(alloc, &mut holes, is_lent)?;
         let parts = match &message.body {
             Body::Fields(members) => {
                 let members = members.as_slice();
-                let row = Row::of(alloc, names, Owner::Struct, members, &mut uses)?;
+                let row = Row::of(alloc, names, Owner::Struct, is_lent, members, &mut uses)?;
                 row.set(alloc, &mut holes)?;
                 Vec::new(alloc)
             }
@@ -108,6 +112,7 @@ impl<'a> Form<'a> {
         set_texts(alloc, kind, &mut holes, parts.as_slice())?;
         Ok(Form {
             kind,
+            is_lent,
             holes,
             parts,
             uses,
@@ -181,12 +186,28 @@ fn of_message(alloc: Global, message: &Message) -> Result<Holes, AllocError> {
 }
 
 // A doc comment.
-fn doc(alloc: Global, text: &str) -> Result<String, AllocError> {
+fn doc(alloc: Global, message: &Message) -> Result<String, AllocError> {
     let mut out = String::new(alloc);
-    for line in text.lines() {
+    for line in message.doc.lines() {
         writeln!(out, "/// {line}")?;
     }
+    if message.is_lent {
+        out.push_str("///\n/// It has references to its fields, and is only written.\n")?;
+    }
     Ok(out)
+}
+
+// Sets the holes `derives`, `lifetime`, `any` and `matched`.
+fn set_lent(alloc: Global, holes: &mut Holes, is_lent: bool) -> Result<(), AllocError> {
+    let (derives, lifetime, any, matched) = if is_lent {
+        ("Clone, Copy", "<'a>", "<'_>", "*self")
+    } else {
+        ("PartialEq, Drop", "", "", "self")
+    };
+    holes.set("derives", String::from_str(alloc, derives)?)?;
+    holes.set("lifetime", String::from_str(alloc, lifetime)?)?;
+    holes.set("any", String::from_str(alloc, any)?)?;
+    holes.set("matched", String::from_str(alloc, matched)?)
 }
 
 // Sets the holes `width`, `bits`, `u64`, `cast` and `end`: the tag as a `u64`, and what makes a proof about that of
@@ -259,7 +280,7 @@ fn cases_of(
         holes.set("label", variant.label.clone()?)?;
         holes.set("constant", variant.constant.clone()?)?;
         let members = variant.fields.as_slice();
-        let row = Row::of(alloc, names, Owner::Variant, members, uses)?;
+        let row = Row::of(alloc, names, Owner::Variant, message.is_lent, members, uses)?;
         row.set(alloc, &mut holes)?;
         set_value(alloc, &mut holes, members.len())?;
         set_said(alloc, &mut holes, members.len())?;

@@ -1,4 +1,4 @@
-//! The answers of a crate: four files for each enum that isn't open.
+//! The answers of a crate: four files for each enum that isn't open, two if it is lent.
 ghost use Rattle.std.specs.Prelude.{◌≡◌, ◌++◌, ◌∷◌, [], OnOk, IfOk};
 ghost use Rattle.tls_codec_writing.specs.Answered.{function_of, trait_of};
 ghost use Rattle.tls_codec_writing.specs.Forms.{has_answers};
@@ -58,6 +58,9 @@ pub fn push_files(
     }
     files.push(file(alloc, message, form, Answered::Writes)?)?;
     files.push(file(alloc, message, form, Answered::Appends)?)?;
+    if message.is_lent {
+        return Ok(());
+    }
     files.push(file(alloc, message, form, Answered::Reads)?)?;
     files.push(file(alloc, message, form, Answered::Splits)?)?;
     Ok(())

@@ -20,6 +20,7 @@ pub enum Owner {
 #[derive(Drop)]
 pub struct Row {
     owner: Owner,
+    is_lent: bool,
     fields: Vec<Holes>,
     nesting: Nesting,
 }
@@ -44,6 +45,7 @@ impl Row {
         alloc: Global,
         names: &Names<'_>,
         owner: Owner,
+        is_lent: bool,
         members: &[Member],
         uses: &mut Uses<'_>,
     ) -> Result<Row, AllocError> {
@@ -51,7 +53,7 @@ impl Row {
         for (i, member) in members.iter().enumerate() {
             let words = names.words(alloc, &member.of)?;
             uses.add(&words)?;
-            fields.push(field(alloc, owner, i, member, words)?)?;
+            fields.push(field(alloc, owner, is_lent, i, member, words)?)?;
         }
         let most = match owner {
             Owner::Struct => 3,
@@ -60,6 +62,7 @@ impl Row {
         let nesting = Nesting::of(alloc, members.len(), most)?;
         Ok(Row {
             owner,
+            is_lent,
             fields,
             nesting,
         })
@@ -76,6 +79,7 @@ impl Row {
     // The fields one after another, and as they are lent.
     fn set_fields(&self, alloc: Global, holes: &mut Holes) -> Result<(), AllocError> {
         let (declared, lent, shown) = match self.owner {
+            Owner::Struct if self.is_lent => (DECLARED_IN_STRUCT, "self.$name$", SHOWN_IN_STRUCT),
             Owner::Struct => (DECLARED_IN_STRUCT, "&self.$name$", SHOWN_IN_STRUCT),
             Owner::Variant => (DECLARED_IN_VARIANT, "$name$", SHOWN_IN_VARIANT),
         };
@@ -193,20 +197,24 @@ impl Row {
 fn field(
     alloc: Global,
     owner: Owner,
+    is_lent: bool,
     at: usize,
     member: &Member,
     words: Words,
 ) -> Result<Holes, AllocError> {
     let name = member.name.as_str();
+    let (now, reference) = if is_lent { (".now", "&'a ") } else { ("", "") };
     let value = match owner {
-        Owner::Struct => format!(in alloc; "v.{name}")?,
-        Owner::Variant => format!(in alloc; "a{at}")?,
+        Owner::Struct => format!(in alloc; "v.{name}{now}")?,
+        Owner::Variant => format!(in alloc; "a{at}{now}")?,
     };
     let tree = words.tree_of(alloc, value)?;
+    let rust = words.rust.as_str();
+    let rust = format!(in alloc; "{reference}{rust}")?;
     let mut holes = Holes::new(alloc);
     holes.set("name", member.name.clone()?)?;
     holes.set("declared", member.declared.clone()?)?;
-    holes.set("rust", words.rust)?;
+    holes.set("rust", rust)?;
     holes.set("tree", tree)?;
     holes.set("format", words.format)?;
     holes.set("law", words.law)?;

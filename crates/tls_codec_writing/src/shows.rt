@@ -10,7 +10,7 @@ use crate::types::Names;
 use std::alloc::{AllocError, Global};
 use tls_codec_plan::plan::Plan;
 
-/// `src/NAME_shown.rt`: how each message of the crate `own` is shown, for a crate that has `show::Show` and `show::Tree`.
+/// `src/NAME_shown.rt`: how each message of the crate `own` is shown that isn't lent, for a crate that has `show::Show` and `show::Tree`.
 pub fn file_of(
     alloc: Global,
     own: &str,
@@ -21,6 +21,9 @@ pub fn file_of(
     let mut types = Vec::new(alloc);
     let mut body = String::new(alloc);
     for message in &plan.messages {
+        if message.is_lent {
+            continue;
+        }
         types.push(message.name.as_str())?;
         let form = Form::of(alloc, &names, message)?;
         push(alloc, &mut body, &form)?;

@@ -100,7 +100,7 @@ static ARRAY: Kind = Kind {
 };
 
 static MESSAGE: Kind = Kind {
-    rust: "$name$",
+    rust: "$name$$lifetime$",
     plain: "$module$_plain",
     tree: "$module$_plain $v$",
     format: "$module$_format",
@@ -267,6 +267,8 @@ impl<'a> Names<'a> {
         let mut holes = Holes::new(alloc);
         holes.set("name", String::from_str(alloc, name)?)?;
         holes.set("module", String::from_str(alloc, module)?)?;
+        let lifetime = if self.is_lent(name) { "<'a>" } else { "" };
+        holes.set("lifetime", String::from_str(alloc, lifetime)?)?;
         let mut words = MESSAGE.words(alloc, &holes)?;
         words.named = Some(String::from_str(alloc, name)?);
         words.cited = Some(String::from_str(alloc, name)?);
@@ -283,6 +285,18 @@ impl<'a> Names<'a> {
         match self.other(name) {
             Some(other) => Some(other.module.as_str()),
             None => None,
+        }
+    }
+
+    // Whether the message with this name has references to its fields.
+    fn is_lent(&self, name: &str) -> bool {
+        match self
+            .messages
+            .iter()
+            .find(|message| message.name.as_str() == name)
+        {
+            Some(message) => message.is_lent,
+            None => self.other(name).is_some_and(|other| other.is_lent),
         }
     }
 

@@ -13,13 +13,7 @@ pub(super) fn is_spelled<T: Serialize + Deserialize + DeserializeBytes + Partial
     value: &T,
     bytes: &[u8],
 ) -> Result<(), Fail> {
-    same(rt, value.tls_serialized_len(), bytes.len());
-    let detached = value.tls_serialize_detached(alloc)?;
-    same(rt, detached.as_slice(), bytes);
-    let mut received = Vec::new(alloc);
-    let count = value.tls_serialize(&mut received)?;
-    same(rt, count, bytes.len());
-    same(rt, received.as_slice(), bytes);
+    is_written(rt, alloc, value, bytes)?;
     holds(rt, T::tls_deserialize_exact_bytes(alloc, bytes)? == *value);
     holds(rt, T::tls_deserialize_exact(alloc, bytes)? == *value);
     holds(
@@ -35,6 +29,23 @@ pub(super) fn is_spelled<T: Serialize + Deserialize + DeserializeBytes + Partial
     holds(rt, T::tls_deserialize(alloc, &mut source)? == *value);
     same(rt, source, [0xee].as_slice());
     is_cut_off::<T>(rt, alloc, bytes);
+    Ok(())
+}
+
+// Each encoder writes the value as these bytes.
+pub(super) fn is_written<T: Serialize>(
+    rt: &impl Abort,
+    alloc: Global,
+    value: &T,
+    bytes: &[u8],
+) -> Result<(), Fail> {
+    same(rt, value.tls_serialized_len(), bytes.len());
+    let detached = value.tls_serialize_detached(alloc)?;
+    same(rt, detached.as_slice(), bytes);
+    let mut received = Vec::new(alloc);
+    let count = value.tls_serialize(&mut received)?;
+    same(rt, count, bytes.len());
+    same(rt, received.as_slice(), bytes);
     Ok(())
 }
 

@@ -43,7 +43,7 @@ pub(super) static KEY_PACKAGE: [u8; 79] = [
 ];
 
 // A commit in a public message (sections 6.2, 12.4 and 7.6).
-static COMMIT: [u8; 94] = [
+pub(super) static COMMIT: [u8; 94] = [
     0, 1, // version: mls10
     0, 1, // wire_format: mls_public_message
     1, 0xfa, // content: group_id
@@ -265,39 +265,52 @@ fn refusals(alloc: Global, bytes: &[u8]) -> [Option<Error>; 2] {
     ]
 }
 
+// The bytes with others in place of the one at a place.
+fn replaced(
+    rt: &impl Abort,
+    alloc: Global,
+    bytes: &[u8],
+    at: usize,
+    others: &[u8],
+) -> Result<Vec<u8>, Fail> {
+    let (Some(before), Some(after)) = (bytes.get(..at), bytes.get(at.saturating_add(1)..)) else {
+        panic!(rt; "no byte at {at}");
+    };
+    let mut out = before.to_vec(alloc)?;
+    out.extend_from_slice(others)?;
+    out.extend_from_slice(after)?;
+    Ok(out)
+}
+
+// With others in place of the byte at a place, the exact forms refuse the bytes with these errors.
+fn is_told(
+    rt: &impl Abort,
+    alloc: Global,
+    spelled: &[u8],
+    at: usize,
+    others: &[u8],
+    expected: [Error; 2],
+) -> Result<(), Fail> {
+    let bytes = replaced(rt, alloc, spelled, at, others)?;
+    same_at(rt, at, refusals(alloc, &bytes), expected.map(Some));
+    Ok(())
+}
+
 fn lengths_are_told(
     rt: &impl Abort,
     alloc: Global,
     spelled: &[u8],
     rows: &[(usize, [Error; 4])],
 ) -> Result<(), Fail> {
-    for (at, expected) in rows {
-        let [greater, greater_read, less, less_read] = *expected;
-        let mut bytes = spelled.to_vec(alloc)?;
-        let length = bytes[*at];
-        bytes[*at] = length.wrapping_add(1);
-        same_at(
-            rt,
-            *at,
-            refusals(alloc, &bytes),
-            [Some(greater), Some(greater_read)],
-        );
-        bytes[*at] = length.wrapping_sub(1);
-        same_at(
-            rt,
-            *at,
-            refusals(alloc, &bytes),
-            [Some(less), Some(less_read)],
-        );
-        let mut wide = spelled[..*at].to_vec(alloc)?;
-        wide.push(0x40)?;
-        wide.extend_from_slice(&spelled[*at..])?;
-        same_at(
-            rt,
-            *at,
-            refusals(alloc, &wide),
-            [Some(LENGTH), Some(LENGTH)],
-        );
+    for (at, [greater, greater_read, less, less_read]) in rows.iter().copied() {
+        let Some(length) = spelled.get(at).copied() else {
+            panic!(rt; "no byte at {at}");
+        };
+        let one_more = [length.wrapping_add(1)];
+        is_told(rt, alloc, spelled, at, &one_more, [greater, greater_read])?;
+        let one_less = [length.wrapping_sub(1)];
+        is_told(rt, alloc, spelled, at, &one_less, [less, less_read])?;
+        is_told(rt, alloc, spelled, at, &[0x40, length], [LENGTH, LENGTH])?;
     }
     Ok(())
 }
@@ -309,15 +322,13 @@ fn tags_are_told(
     places: &[usize],
     option: Option<usize>,
 ) -> Result<(), Fail> {
-    for at in places {
-        let mut bytes = spelled.to_vec(alloc)?;
-        bytes[*at] = 0x77;
-        let error = if Some(*at) == option {
+    for at in places.iter().copied() {
+        let error = if Some(at) == option {
             Error::DecodingError("option tag is not 0 or 1")
         } else {
             Error::UnknownValue(0x77)
         };
-        same_at(rt, *at, refusals(alloc, &bytes), [Some(error), Some(error)]);
+        is_told(rt, alloc, spelled, at, &[0x77], [error, error])?;
     }
     Ok(())
 }

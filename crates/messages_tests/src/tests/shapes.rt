@@ -1,9 +1,9 @@
 //! One message of each shape.
-use crate::tests::each_call::{is_refused, is_spelled};
+use crate::tests::each_call::{is_refused, is_spelled, is_written};
 use messages_of_each_shape::{
-    Bounded, Certificate, CipherSuite, CipherSuiteAes128Gcm, ContentTypeData, Credential, Fixed,
-    Framed, LeafNode, LeafNodeOrigin, Level, Lifetime, Lists, NameType, Package, Side, Version,
-    Wide,
+    Bounded, Certificate, CertificateTBS, CipherSuite, CipherSuiteAes128Gcm, ContentTypeData,
+    Credential, Fixed, Framed, LeafNode, LeafNodeOrigin, LeafNodeTBS, LeafNodeTBSOrigin, Level,
+    Lifetime, Lists, NameType, Package, Side, Version, Wide,
 };
 use std::alloc::Global;
 use std::test::Fail;
@@ -197,6 +197,49 @@ fn bounds(rt: HostRuntime) -> Result<(), Fail> {
     is_spelled(&rt, alloc, &bounded, &[1, 9, 0, 2, 0, 3])?;
     for refused in [[33].as_slice(), &[0, 0, 0], &[0, 0, 1, 3], &[0, 0xff, 0xff]] {
         is_refused::<Bounded>(&rt, alloc, refused, Error::InvalidVectorLength);
+    }
+    Ok(())
+}
+
+#[test]
+fn lent_structs(rt: HostRuntime) -> Result<(), Fail> {
+    let alloc = rt.alloc();
+    let key = bytes(alloc, 7)?;
+    let certificate = certificate(alloc, 5)?;
+    let certificate = CertificateTBS {
+        certificate: &certificate,
+    };
+    let suites = Vec::from_array(alloc, [CipherSuite(3)])?;
+    let lifetime = Lifetime {
+        not_before: 1,
+        not_after: 2,
+    };
+    let hash = bytes(alloc, 9)?;
+    for (origin, expected) in [
+        (
+            LeafNodeTBSOrigin::KeyPackage(&lifetime),
+            [
+                1, 7, 1, 0, 0, 0, 0, 0, 0, 0, 1, 0, 0, 0, 0, 0, 0, 0, 2, 0, 2, 0, 3, 1, 5,
+            ]
+            .as_slice(),
+        ),
+        (LeafNodeTBSOrigin::Update, &[1, 7, 2, 0, 2, 0, 3, 1, 5]),
+        (
+            LeafNodeTBSOrigin::Commit {
+                parent_hash: &hash,
+                level: &4,
+            },
+            &[1, 7, 3, 1, 9, 4, 0, 2, 0, 3, 1, 5],
+        ),
+    ] {
+        let node = LeafNodeTBS {
+            key: &key,
+            leaf_node_source: &origin,
+            last: &None,
+            suites: &suites,
+            certificate: &certificate,
+        };
+        is_written(&rt, alloc, &node, expected)?;
     }
     Ok(())
 }

@@ -2,7 +2,7 @@
 use super::refusal;
 use std::test::Fail;
 
-static BAD: [(&str, usize, usize, &str, &str); 69] = [
+static BAD: [(&str, usize, usize, &str, &str); 72] = [
     // types
     ("Foo A;", 1, 1, "Foo", "the name of a type"),
     ("struct { Foo a; } A;", 1, 10, "Foo", "the name of a type"),
@@ -340,6 +340,28 @@ static BAD: [(&str, usize, usize, &str, &str); 69] = [
         28,
         "select",
         "selects that nest",
+    ),
+    // lent structs
+    (
+        "lent struct {} L; struct { L l; } S;",
+        1,
+        28,
+        "L",
+        "a lent struct is only written",
+    ),
+    (
+        "lent struct {} L; L M;",
+        1,
+        19,
+        "L",
+        "a lent struct is only written",
+    ),
+    (
+        "lent struct {} L; lent struct { L l<V>; } S;",
+        1,
+        33,
+        "L",
+        "a lent struct is only written",
     ),
     // names of tags
     (

@@ -3,7 +3,7 @@ use super::made;
 use super::shown::show;
 use std::test::Fail;
 
-static GOOD: [(&str, &str); 16] = [
+static GOOD: [(&str, &str); 19] = [
     // a tag in a struct, and a struct that is a tag and its select alone
     (
         "enum { a(1), b(2), (255) } T; struct { T t; select (S.t) { case a: uint8 y; case b: struct{}; } uint8 z; } S;",
@@ -69,6 +69,20 @@ static GOOD: [(&str, &str); 16] = [
     (
         "open enum { a(1), b(2), (65535) } E; struct { E e = b; E f = a; } S; struct { E e = b; E f; } T;",
         "e.E open values of 2: A 1 B 2\neb.EB values of 2: B 2\nea.EA values of 2: A 1\ns.S: e EB, f EA,\nt.T: e EB, f E,\n",
+    ),
+    // lent structs, each with its own enum
+    (
+        "enum { a(1), b(2) } T; lent struct { uint8 x; T t; select (L.t) { case a: uint8 y; case b: struct{}; } } L;",
+        "lent t_data.TData by 1:\n  A A 1: y u1,\n  B B 2:\nlent l.L: x u1, t TData,\n",
+    ),
+    (
+        "lent struct { uint8 x; } L; lent struct { L l; } M;",
+        "lent l.L: x u1,\nlent m.M: l L,\n",
+    ),
+    // the enum of a lent struct is another's of the same parts if that is lent too
+    (
+        "enum { a(1), b(2) } T; struct { select (H.t) { case a: uint8 y; case b: struct{}; } } R; struct { T t; } H; lent struct { uint8 x; H h; R r; } L; struct { uint8 x; H h; R r; } S; lent struct { uint8 z; H h; R r; } M;",
+        "t.T values of 1: A 1 B 2\nh.H: t T,\nlent t_data.TData by 1:\n  A A 1: y u1,\n  B B 2:\nlent l.L: x u1, t TData,\nst_data.STData by 1:\n  A A 1: y u1,\n  B B 2:\ns.S: x u1, t STData,\nlent m.M: z u1, t TData,\n",
     ),
     // bounds, after a length of as many bytes as the ceiling takes
     (

@@ -13,7 +13,8 @@ pub fn show(alloc: Global, plan: &Plan) -> Result<String, AllocError> {
     for message in &plan.messages {
         let name = message.name.as_str();
         let module = message.module.as_str();
-        write!(&mut out, "{module}.{name}")?;
+        let lent = if message.is_lent { "lent " } else { "" };
+        write!(&mut out, "{lent}{module}.{name}")?;
         show_body(&mut out, &message.body)?;
     }
     Ok(out)

@@ -44,7 +44,7 @@ pub(crate) fn alias(alloc: Global, tokens: &mut Tokens<'_>) -> Result<Field, Tro
         ended_field_then field (signs_left tokens.new)) }
     ensures fewer { OnOk result (count_left tokens.new < count_left tokens.old) }
 {
-    let of = tokens.name(alloc, "enum, open, struct or the name of a type")?;
+    let of = tokens.name(alloc, "enum, open, struct, lent or the name of a type")?;
     let name = tokens.name(alloc, "the new name of the type")?;
     let vector = vector(alloc, tokens)?;
     tokens.expect(alloc, Mark::Semicolon, "[, < or ;")?;

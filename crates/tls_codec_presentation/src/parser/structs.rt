@@ -10,17 +10,22 @@ use crate::token::Mark;
 use crate::tokens::Tokens;
 use std::alloc::Global;
 
-/// `"struct" "{" { part } "}" NAME ";"`
+/// `["lent"] "struct" "{" { part } "}" NAME ";"`
 pub(crate) fn structure(alloc: Global, tokens: &mut Tokens<'_>) -> Result<Struct, Trouble>
     ensures read { IfOk result (λ s. signs_left tokens.old ≡ struct_then s (signs_left tokens.new)) }
     ensures fewer { OnOk result (count_left tokens.new < count_left tokens.old) }
 {
+    let is_lent = tokens.take(Mark::Lent);
     tokens.expect(alloc, Mark::Struct, "struct")?;
     tokens.expect(alloc, Mark::OpeningBrace, "{")?;
     let parts = parts(alloc, tokens)?;
     let name = tokens.name(alloc, "the struct's name")?;
     tokens.expect(alloc, Mark::Semicolon, ";")?;
-    Ok(Struct { parts, name })
+    Ok(Struct {
+        is_lent,
+        parts,
+        name,
+    })
 }
 
 // `{ part } "}"`

@@ -1,5 +1,5 @@
 //! A tag and what comes after each: an enum, which is written as its tag and the variant's lent groups, and read as
-//! the tag and then the tuple of the variant's fields.
+//! the tag and then the tuple of the variant's fields. A lent one is only written.
 
 use crate::lines::Lines;
 
@@ -35,7 +35,7 @@ $declared$    },
     },
     Lines {
         hole: "counts",
-        before: "        match self {\n",
+        before: "        match $matched$ {\n",
         each: "            $name$::$variant$ { $fields$ } => ($constant$, $lent$).tls_serialized_len(),\n",
         bare: Some("            $name$::$variant$ => $width$,\n"),
         one: Some(
@@ -46,7 +46,7 @@ $declared$    },
     },
     Lines {
         hole: "writes",
-        before: "        match self {\n",
+        before: "        match $matched$ {\n",
         each: "            $name$::$variant$ { $fields$ } => ($constant$, $lent$).tls_serialize(writer),\n",
         bare: Some("            $name$::$variant$ => $constant$.tls_serialize(writer),\n"),
         one: Some(
@@ -57,7 +57,7 @@ $declared$    },
     },
     Lines {
         hole: "appends",
-        before: "        match self {\n",
+        before: "        match $matched$ {\n",
         each: "            $name$::$variant$ { $fields$ } => ($constant$, $lent$).tls_serialize_into(out),\n",
         bare: Some("            $name$::$variant$ => $constant$.tls_serialize_into(out),\n"),
         one: Some(
@@ -169,11 +169,11 @@ $declared$    },
     },
 ];
 
-pub static CODE: &str = "$constants$$doc$#[derive(PartialEq, Drop)]
-pub enum $name$ {
+pub static CODE: &str = "$constants$$doc$#[derive($derives$)]
+pub enum $name$$lifetime$ {
 $variants$}
 
-impl Size for $name$ {
+impl Size for $name$$any$ {
     ghost plain = { $module$_plain };
 
     ghost format = { $module$_format };
@@ -184,14 +184,16 @@ $counts$    }
     ghost lawful = { $module$_meets };
 }
 
-impl Serialize for $name$ {
+impl Serialize for $name$$any$ {
     fn tls_serialize<W: Sink>(&self, writer: &mut W) -> Result<usize, Error> {
 $writes$    }
 
     fn tls_serialize_into(&self, out: &mut Vec<u8>) -> Result<usize, Error> {
 $appends$    }
 }
+";
 
+pub static DECODERS: &str = "
 impl Deserialize for $name$ {
     ghost names = { tagged_source_names $width$
 $source_names$$closing$) };

@@ -1,4 +1,5 @@
-//! A struct: it is written as the tuple of its lent groups, and read as the tuple of its fields.
+//! A struct: it is written as the tuple of its lent groups, and read as the tuple of its fields. A lent one is only
+//! written.
 
 use crate::lines::Lines;
 
@@ -17,11 +18,11 @@ pub static GHOST_USES: &str =
     "ghost use Rattle.$crate$.specs.$name$.{$module$_format, $module$_meets, $module$_plain};
 ";
 
-pub static CODE: &str = "$doc$#[derive(PartialEq, Drop)]
-pub struct $name$ {
+pub static CODE: &str = "$doc$#[derive($derives$)]
+pub struct $name$$lifetime$ {
 $declared$}
 
-impl Size for $name$ {
+impl Size for $name$$any$ {
     ghost plain = { $module$_plain };
 
     ghost format = { $module$_format };
@@ -33,7 +34,7 @@ impl Size for $name$ {
     ghost lawful = { $module$_meets };
 }
 
-impl Serialize for $name$ {
+impl Serialize for $name$$any$ {
     fn tls_serialize<W: Sink>(&self, writer: &mut W) -> Result<usize, Error> {
         $lent$.tls_serialize(writer)
     }
@@ -42,7 +43,9 @@ impl Serialize for $name$ {
         $lent$.tls_serialize_into(out)
     }
 }
+";
 
+pub static DECODERS: &str = "
 impl Deserialize for $name$ {
     ghost names = { ⟦<$types$ as Deserialize>⟧.names };
 

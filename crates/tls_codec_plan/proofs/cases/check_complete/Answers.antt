@@ -1,4 +1,4 @@
-use Rattle.std.proofs.Common.{◌≡◌, ◌<◌, rules, arith, get_or, take, length, subst, sym}
+use Rattle.std.proofs.Common.{◌≡◌, ◌<◌, rules, get_or, take, length, subst, sym}
 use Rattle.std.proofs.lemmas.List.{take_all}
 use Rattle.std.proofs.lemmas.List.Elements.{All-more, All-same}
 use Rattle.tls_codec_presentation.specs.declared.syntax.Value.{Value}

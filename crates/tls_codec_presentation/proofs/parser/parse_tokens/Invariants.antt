@@ -1,4 +1,4 @@
-use Rattle.std.proofs.Common.{◌≡◌, ◌<◌, ◌≤◌, length}
+use Rattle.std.proofs.Common.{◌≡◌}
 use Rattle.tls_codec_presentation.specs.Signs.{count_left, each_then, item_then, signs, signs_left}
 use Rattle.tls_codec_presentation.proofs.parser.parse_tokens.Given as goal
 

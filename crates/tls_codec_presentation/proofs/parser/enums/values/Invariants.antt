@@ -1,4 +1,4 @@
-use Rattle.std.proofs.Common.{◌≡◌, ◌<◌, ◌≤◌, length}
+use Rattle.std.proofs.Common.{◌≡◌, ◌<◌, length}
 use Rattle.tls_codec_presentation.specs.declared.token.Mark.TheVariants.{Comma}
 use Rattle.tls_codec_presentation.specs.Signs.{count_left, separated_then, signs_left, value_then}
 use Rattle.tls_codec_presentation.proofs.parser.enums.values.Given as goal

@@ -1,4 +1,4 @@
-use Rattle.std.proofs.Common.{◌≡◌, ◌<◌, ◌≤◌, length}
+use Rattle.std.proofs.Common.{◌≡◌, ◌<◌, length}
 use Rattle.tls_codec_presentation.specs.Signs.{case_fields_then, count_left, signs_left}
 use Rattle.tls_codec_presentation.proofs.parser.selects.fields.Given as goal
 

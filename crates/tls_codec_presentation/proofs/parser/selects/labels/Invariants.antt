@@ -1,4 +1,4 @@
-use Rattle.std.proofs.Common.{◌≡◌, ◌<◌, ◌≤◌, length}
+use Rattle.std.proofs.Common.{◌≡◌, ◌<◌}
 use Rattle.tls_codec_presentation.specs.Signs.{count_left, each_then, label_then, signs_left}
 use Rattle.tls_codec_presentation.proofs.parser.selects.labels.Given as goal
 

@@ -1,4 +1,4 @@
-use Rattle.std.proofs.Common.{◌≡◌, ◌<◌, ◌≤◌, length}
+use Rattle.std.proofs.Common.{◌≡◌, ◌<◌, length}
 use Rattle.tls_codec_presentation.specs.declared.token.Mark.TheVariants.{Dot}
 use Rattle.tls_codec_presentation.specs.Signs.{count_left, name_then, separated_then, signs_left}
 use Rattle.tls_codec_presentation.proofs.parser.selects.path.Given as goal

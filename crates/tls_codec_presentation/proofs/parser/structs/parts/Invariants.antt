@@ -1,4 +1,4 @@
-use Rattle.std.proofs.Common.{◌≡◌, ◌<◌, ◌≤◌, length}
+use Rattle.std.proofs.Common.{◌≡◌, ◌≤◌}
 use Rattle.tls_codec_presentation.specs.Signs.{count_left, each_then, part_then, signs_left}
 use Rattle.tls_codec_presentation.proofs.parser.structs.parts.Given as goal
 

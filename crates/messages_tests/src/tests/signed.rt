@@ -1,0 +1,189 @@
+//! What is signed or authenticated, lent from messages that were read (RFC 9420).
+use crate::tests::each_call::is_written;
+use crate::tests::mls::{COMMIT, GROUP_INFO, KEY_PACKAGE, PRIVATE_MESSAGE};
+use crate::tests::same;
+use mls_framing::{
+    FramedContentTBS, FramedContentTBSContentTypeData, MLSMessage, PrivateContentAAD,
+    ProtocolVersionMls10, PublicMessageContentTypeData, PublicMessageSenderTypeData, SenderDataAAD,
+    SenderTypeData, WireFormat, WireFormatData,
+};
+use mls_leaf::{
+    KeyPackage, KeyPackageTBS, LeafNode, LeafNodeOrigin, LeafNodeTBS, LeafNodeTBSOrigin,
+    SignContent,
+};
+use mls_proposals::{GroupInfo, GroupInfoTBS};
+use std::alloc::Global;
+use std::process::Abort;
+use std::test::Fail;
+use tls_codec::{DeserializeBytes, Error, Serialize, VLBytes};
+
+fn read(alloc: Global, bytes: &[u8]) -> Result<WireFormatData, Error> {
+    let message = MLSMessage::tls_deserialize_exact_bytes(alloc, bytes)?;
+    Ok(message.wire_format)
+}
+
+// The bytes of a message from one place up to another, and then others.
+fn part(
+    rt: &impl Abort,
+    alloc: Global,
+    bytes: &[u8],
+    from: usize,
+    to: usize,
+    others: &[u8],
+) -> Result<Vec<u8>, Fail> {
+    let Some(part) = bytes.get(from..to) else {
+        panic!(rt; "no bytes {from} to {to}");
+    };
+    let mut out = part.to_vec(alloc)?;
+    out.extend_from_slice(others)?;
+    Ok(out)
+}
+
+// What the signature of a key package is over (sections 10 and 5.1.2).
+fn signed_bytes(alloc: Global, package: &KeyPackage) -> Result<Vec<u8>, Error> {
+    let signed = KeyPackageTBS {
+        version: &package.version,
+        cipher_suite: &package.cipher_suite,
+        init_key: &package.init_key,
+        leaf_node: &package.leaf_node,
+        extensions: &package.extensions,
+    };
+    let content = VLBytes::new(signed.tls_serialize_detached(alloc)?);
+    let label = VLBytes::from_slice(alloc, b"MLS 1.0 KeyPackageTBS")?;
+    let signed = SignContent {
+        label: &label,
+        content: &content,
+    };
+    signed.tls_serialize_detached(alloc)
+}
+
+#[test]
+fn a_key_package(rt: HostRuntime) -> Result<(), Fail> {
+    let alloc = rt.alloc();
+    let WireFormatData::MlsKeyPackage(package) = read(alloc, &KEY_PACKAGE)? else {
+        panic!(rt; "no key package");
+    };
+    // The label, the length of the content, and all of the key package but its signature.
+    let mut expected = b"\x15MLS 1.0 KeyPackageTBS\x40\x48".to_vec(alloc)?;
+    let content = part(&rt, alloc, &KEY_PACKAGE, 4, 76, &[])?;
+    expected.extend_from_slice(&content)?;
+    let found = signed_bytes(alloc, &package)?;
+    same(&rt, found.as_slice(), expected.as_slice());
+    Ok(())
+}
+
+fn group_info(rt: &impl Abort, alloc: Global) -> Result<GroupInfo, Fail> {
+    let WireFormatData::MlsGroupInfo(info) = read(alloc, &GROUP_INFO)? else {
+        panic!(rt; "no group info");
+    };
+    Ok(info)
+}
+
+#[test]
+fn the_information_of_a_group(rt: HostRuntime) -> Result<(), Fail> {
+    let alloc = rt.alloc();
+    let info = group_info(&rt, alloc)?;
+    let signed = GroupInfoTBS {
+        group_context: &info.group_context,
+        extensions: &info.extensions,
+        confirmation_tag: &info.confirmation_tag,
+        signer: &info.signer,
+    };
+    let expected = part(&rt, alloc, &GROUP_INFO, 4, 34, &[])?;
+    is_written(&rt, alloc, &signed, &expected)
+}
+
+// Section 7.2, for a leaf node of a commit.
+fn is_leaf_written(
+    rt: &impl Abort,
+    alloc: Global,
+    leaf: &LeafNode,
+    group_id: &VLBytes,
+    leaf_index: &u32,
+) -> Result<(), Fail> {
+    let LeafNodeOrigin::Commit(parent_hash) = &leaf.leaf_node_source else {
+        panic!(rt; "another source");
+    };
+    let origin = LeafNodeTBSOrigin::Commit {
+        parent_hash,
+        extensions: &leaf.extensions,
+        group_id,
+        leaf_index,
+    };
+    let signed = LeafNodeTBS {
+        encryption_key: &leaf.encryption_key,
+        signature_key: &leaf.signature_key,
+        credential: &leaf.credential,
+        capabilities: &leaf.capabilities,
+        leaf_node_source: &origin,
+    };
+    let expected = part(rt, alloc, &COMMIT, 35, 77, &[1, 0xfa, 0, 0, 0, 2])?;
+    is_written(rt, alloc, &signed, &expected)
+}
+
+#[test]
+fn a_commit_and_its_leaf_node(rt: HostRuntime) -> Result<(), Fail> {
+    let alloc = rt.alloc();
+    let WireFormatData::MlsPublicMessage(public) = read(alloc, &COMMIT)? else {
+        panic!(rt; "no public message");
+    };
+    let PublicMessageSenderTypeData::Member {
+        leaf_index,
+        authenticated_data,
+        content_type,
+        ..
+    } = &public.sender_type
+    else {
+        panic!(rt; "another sender");
+    };
+    let PublicMessageContentTypeData::Commit { commit, .. } = content_type else {
+        panic!(rt; "no commit");
+    };
+    let Some(path) = &commit.path else {
+        panic!(rt; "no path");
+    };
+    is_leaf_written(&rt, alloc, &path.leaf_node, &public.group_id, leaf_index)?;
+    let info = group_info(&rt, alloc)?;
+    let content = FramedContentTBSContentTypeData::Commit(commit);
+    let sender = SenderTypeData::Member {
+        leaf_index,
+        authenticated_data,
+        content_type: &content,
+        context: &info.group_context,
+    };
+    let signed = FramedContentTBS {
+        version: &ProtocolVersionMls10::Mls10,
+        wire_format: &WireFormat::MLS_PUBLIC_MESSAGE,
+        group_id: &public.group_id,
+        epoch: &public.epoch,
+        sender_type: &sender,
+    };
+    // Section 6.1: the message up to its signature, and the group's context.
+    let context = part(&rt, alloc, &GROUP_INFO, 4, 23, &[])?;
+    let expected = part(&rt, alloc, &COMMIT, 0, 88, &context)?;
+    is_written(&rt, alloc, &signed, &expected)
+}
+
+// Sections 6.3.1 and 6.3.2.
+#[test]
+fn additional_data(rt: HostRuntime) -> Result<(), Fail> {
+    let alloc = rt.alloc();
+    let WireFormatData::MlsPrivateMessage(private) = read(alloc, &PRIVATE_MESSAGE)? else {
+        panic!(rt; "no private message");
+    };
+    let content = PrivateContentAAD {
+        group_id: &private.group_id,
+        epoch: &private.epoch,
+        content_type: &private.content_type,
+        authenticated_data: &private.authenticated_data,
+    };
+    let expected = part(&rt, alloc, &PRIVATE_MESSAGE, 4, 16, &[])?;
+    is_written(&rt, alloc, &content, &expected)?;
+    let sender = SenderDataAAD {
+        group_id: &private.group_id,
+        epoch: &private.epoch,
+        content_type: &private.content_type,
+    };
+    let expected = part(&rt, alloc, &PRIVATE_MESSAGE, 4, 15, &[])?;
+    is_written(&rt, alloc, &sender, &expected)
+}
