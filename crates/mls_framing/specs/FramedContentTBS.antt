@@ -1,7 +1,7 @@
 -- FramedContentTBS: what it stands for, its format and its law.
 use Rattle.tls_codec.specs.OwnMessages.{Tree, Number, number_trees, Format, number_format, bytes_format, pair_tree, triple_tree, pair_format, triple_format, MeetsLaws, u64_meets, bytes_meets, pair_meets, triple_meets}
 use Rattle.tls_codec.specs.Contents.{bytes_of}
-use Rattle.mls_framing.specs.ProtocolVersionMls10.{protocol_version_mls10_plain, protocol_version_mls10_format, protocol_version_mls10_meets}
+use Rattle.mls_proposals.specs.ProtocolVersionMls10.{protocol_version_mls10_plain, protocol_version_mls10_format, protocol_version_mls10_meets}
 use Rattle.mls_framing.specs.WireFormat.{wire_format_plain, wire_format_format, wire_format_meets}
 use Rattle.mls_framing.specs.SenderTypeData.{sender_type_data_plain, sender_type_data_format, sender_type_data_meets}
 use Rattle.mls_framing.specs.declared.framed_content_tbs.FramedContentTBS.{FramedContentTBS}

@@ -10,7 +10,6 @@ pub mod InterimTranscriptHashInput
 pub mod MLSMessage
 pub mod PrivateContentAAD
 pub mod PrivateMessage
-pub mod ProtocolVersionMls10
 pub mod PublicMessage
 pub mod PublicMessageContentTypeData
 pub mod PublicMessageSenderTypeData

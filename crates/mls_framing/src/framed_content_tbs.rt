@@ -1,7 +1,8 @@
 //! [`FramedContentTBS`].
 ghost use Rattle.mls_framing.specs.FramedContentTBS.{framed_content_tbs_format, framed_content_tbs_meets, framed_content_tbs_plain};
 
-use crate::{ProtocolVersionMls10, SenderTypeData, WireFormat};
+use crate::{SenderTypeData, WireFormat};
+use mls_proposals::ProtocolVersionMls10;
 use tls_codec::{Error, Lent2, Lent3, Serialize, Sink, Size, VLBytes};
 
 /// `FramedContentTBS`.

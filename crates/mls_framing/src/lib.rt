@@ -13,7 +13,6 @@ pub mod interim_transcript_hash_input;
 pub mod mls_message;
 pub mod private_content_aad;
 pub mod private_message;
-pub mod protocol_version_mls10;
 pub mod public_message;
 pub mod public_message_content_type_data;
 pub mod public_message_sender_type_data;
@@ -33,10 +32,24 @@ pub use framed_content::FramedContent;
 pub use framed_content_tbs::FramedContentTBS;
 pub use framed_content_tbs_content_type_data::FramedContentTBSContentTypeData;
 pub use interim_transcript_hash_input::InterimTranscriptHashInput;
+pub use mls_leaf::{
+    Capabilities, Certificate, CipherSuite, Credential, CredentialType, EncryptContext, Extension,
+    ExtensionType, HPKEPublicKey, KeyPackage, KeyPackageTBS, LeafNode, LeafNodeHashInput,
+    LeafNodeOrigin, LeafNodeTBS, LeafNodeTBSOrigin, Lifetime, Node, ParentHashInput, ParentNode,
+    ParentNodeHashInput, ProposalType, ProtocolVersion, RatchetTree, SignContent,
+    SignaturePublicKey, TreeHashInput,
+};
 pub use mls_message::MLSMessage;
+pub use mls_proposals::{
+    Add, Commit, EncryptedGroupSecrets, ExternalInit, ExternalPub, ExternalSender, ExternalSenders,
+    GroupContext, GroupContextExtensions, GroupInfo, GroupInfoTBS, GroupSecrets, HPKECiphertext,
+    HashReference, KDFLabel, KeyPackageRef, MAC, PSKLabel, PSKOrigin, PathSecret, PreSharedKey,
+    PreSharedKeyID, Proposal, ProposalOrRef, ProposalRef, ProtocolVersionMls10, ReInit,
+    RefHashInput, Remove, RequiredCapabilities, ResumptionPSKUsage, Update, UpdatePath,
+    UpdatePathNode, Welcome,
+};
 pub use private_content_aad::PrivateContentAAD;
 pub use private_message::PrivateMessage;
-pub use protocol_version_mls10::ProtocolVersionMls10;
 pub use public_message::PublicMessage;
 pub use public_message_content_type_data::PublicMessageContentTypeData;
 pub use public_message_sender_type_data::PublicMessageSenderTypeData;

@@ -1,7 +1,8 @@
 //! [`MLSMessage`].
 ghost use Rattle.mls_framing.specs.MLSMessage.{mls_message_format, mls_message_meets, mls_message_plain};
 
-use crate::{ProtocolVersionMls10, WireFormatData};
+use crate::WireFormatData;
+use mls_proposals::ProtocolVersionMls10;
 use std::alloc::Global;
 use tls_codec::{Deserialize, DeserializeBytes, Error, Lent, Serialize, Sink, Size, Source};
 

@@ -17,6 +17,7 @@ pub mod PreSharedKey
 pub mod PreSharedKeyID
 pub mod Proposal
 pub mod ProposalOrRef
+pub mod ProtocolVersionMls10
 pub mod PSKLabel
 pub mod PSKOrigin
 pub mod ReInit

@@ -1,7 +1,8 @@
 //! [`GroupContext`].
 ghost use Rattle.mls_proposals.specs.GroupContext.{group_context_format, group_context_meets, group_context_plain};
 
-use mls_leaf::{CipherSuite, Extension, ProtocolVersion};
+use crate::ProtocolVersionMls10;
+use mls_leaf::{CipherSuite, Extension};
 use std::alloc::Global;
 use tls_codec::{
     Deserialize, DeserializeBytes, Error, Lent2, Lent3, Serialize, Sink, Size, Source, VLBytes,
@@ -10,8 +11,8 @@ use tls_codec::{
 /// `GroupContext`.
 #[derive(PartialEq, Drop)]
 pub struct GroupContext {
-    /// `ProtocolVersion version;`
-    pub version: ProtocolVersion,
+    /// `ProtocolVersion version = mls10;`
+    pub version: ProtocolVersionMls10,
     /// `CipherSuite cipher_suite;`
     pub cipher_suite: CipherSuite,
     /// `opaque group_id<V>;`
@@ -64,7 +65,7 @@ impl Serialize for GroupContext {
 }
 
 impl Deserialize for GroupContext {
-    ghost names = { ⟦<((ProtocolVersion, CipherSuite, VLBytes), (u64, VLBytes), (VLBytes, Vec<Extension>)) as Deserialize>⟧.names };
+    ghost names = { ⟦<((ProtocolVersionMls10, CipherSuite, VLBytes), (u64, VLBytes), (VLBytes, Vec<Extension>)) as Deserialize>⟧.names };
 
     fn tls_deserialize<R: Source>(alloc: Global, src: &mut R) -> Result<GroupContext, Error> {
         let (
@@ -72,7 +73,7 @@ impl Deserialize for GroupContext {
             (epoch, tree_hash),
             (confirmed_transcript_hash, extensions),
         ) = <(
-            (ProtocolVersion, CipherSuite, VLBytes),
+            (ProtocolVersionMls10, CipherSuite, VLBytes),
             (u64, VLBytes),
             (VLBytes, Vec<Extension>),
         )>::tls_deserialize(alloc, src)?;
@@ -89,7 +90,7 @@ impl Deserialize for GroupContext {
 }
 
 impl DeserializeBytes for GroupContext {
-    ghost names = { ⟦<((ProtocolVersion, CipherSuite, VLBytes), (u64, VLBytes), (VLBytes, Vec<Extension>)) as DeserializeBytes>⟧.names };
+    ghost names = { ⟦<((ProtocolVersionMls10, CipherSuite, VLBytes), (u64, VLBytes), (VLBytes, Vec<Extension>)) as DeserializeBytes>⟧.names };
 
     fn tls_deserialize_bytes(alloc: Global, whole: &[u8]) -> Result<(GroupContext, &[u8]), Error> {
         let (
@@ -100,7 +101,7 @@ impl DeserializeBytes for GroupContext {
             ),
             rest,
         ) = <(
-            (ProtocolVersion, CipherSuite, VLBytes),
+            (ProtocolVersionMls10, CipherSuite, VLBytes),
             (u64, VLBytes),
             (VLBytes, Vec<Extension>),
         )>::tls_deserialize_bytes(alloc, whole)?;

@@ -21,6 +21,7 @@ pub mod pre_shared_key;
 pub mod pre_shared_key_id;
 pub mod proposal;
 pub mod proposal_or_ref;
+pub mod protocol_version_mls10;
 pub mod psk_label;
 pub mod psk_origin;
 pub mod re_init;
@@ -47,12 +48,20 @@ pub use group_info_tbs::GroupInfoTBS;
 pub use group_secrets::GroupSecrets;
 pub use hpke_ciphertext::HPKECiphertext;
 pub use kdf_label::KDFLabel;
+pub use mls_leaf::{
+    Capabilities, Certificate, CipherSuite, Credential, CredentialType, EncryptContext, Extension,
+    ExtensionType, HPKEPublicKey, KeyPackage, KeyPackageTBS, LeafNode, LeafNodeHashInput,
+    LeafNodeOrigin, LeafNodeTBS, LeafNodeTBSOrigin, Lifetime, Node, ParentHashInput, ParentNode,
+    ParentNodeHashInput, ProposalType, ProtocolVersion, RatchetTree, SignContent,
+    SignaturePublicKey, TreeHashInput,
+};
 pub use names::{HashReference, KeyPackageRef, MAC, ProposalRef};
 pub use path_secret::PathSecret;
 pub use pre_shared_key::PreSharedKey;
 pub use pre_shared_key_id::PreSharedKeyID;
 pub use proposal::Proposal;
 pub use proposal_or_ref::ProposalOrRef;
+pub use protocol_version_mls10::ProtocolVersionMls10;
 pub use psk_label::PSKLabel;
 pub use psk_origin::PSKOrigin;
 pub use re_init::ReInit;

@@ -15,7 +15,7 @@
 //! What is no message gives a line such as `refused: EndOfStream after 4 of 4 bytes` and status 1.
 //!
 //! - [`program`]: [`program`](program::program), all of `main`.
-//! - [`view`]: [`view`](view::view), what is printed of some bytes.
+//! - [`view`]: [`view_of`](view::view_of), what is printed of some bytes.
 //! - [`show`]: [`Show`](show::Show), a value as lines of a [`Tree`](show::Tree).
 //! - `mls_leaf_shown`, `mls_proposals_shown`, `mls_framing_shown`: how the messages of these crates are shown.
 #![tactic(auto)]

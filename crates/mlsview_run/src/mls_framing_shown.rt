@@ -3,9 +3,8 @@
 use crate::show::{Show, Tree};
 use mls_framing::{
     AuthenticatedContent, AuthenticatedContentContentTypeData, ContentType, ContentTypeData,
-    FramedContent, MLSMessage, PrivateMessage, ProtocolVersionMls10, PublicMessage,
-    PublicMessageContentTypeData, PublicMessageSenderTypeData, Sender, SenderData, WireFormat,
-    WireFormatData,
+    FramedContent, MLSMessage, PrivateMessage, PublicMessage, PublicMessageContentTypeData,
+    PublicMessageSenderTypeData, Sender, SenderData, WireFormat, WireFormatData,
 };
 use std::alloc::AllocError;
 
@@ -82,12 +81,6 @@ impl Show for FramedContent {
         self.authenticated_data.show(tree, "authenticated_data")?;
         self.content_type.show(tree, "content_type")?;
         tree.close()
-    }
-}
-
-impl Show for ProtocolVersionMls10 {
-    fn show(&self, tree: &mut Tree, name: &str) -> Result<(), AllocError> {
-        tree.value(name, "mls10 (1)")
     }
 }
 

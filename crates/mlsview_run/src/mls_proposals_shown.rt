@@ -4,8 +4,9 @@ use crate::show::{Show, Tree};
 use mls_proposals::{
     Add, Commit, EncryptedGroupSecrets, ExternalInit, ExternalPub, ExternalSender, ExternalSenders,
     GroupContext, GroupContextExtensions, GroupInfo, GroupSecrets, HPKECiphertext, PSKOrigin,
-    PathSecret, PreSharedKey, PreSharedKeyID, Proposal, ProposalOrRef, ReInit, Remove,
-    RequiredCapabilities, ResumptionPSKUsage, Update, UpdatePath, UpdatePathNode, Welcome,
+    PathSecret, PreSharedKey, PreSharedKeyID, Proposal, ProposalOrRef, ProtocolVersionMls10,
+    ReInit, Remove, RequiredCapabilities, ResumptionPSKUsage, Update, UpdatePath, UpdatePathNode,
+    Welcome,
 };
 use std::alloc::AllocError;
 
@@ -34,6 +35,12 @@ impl Show for UpdatePath {
         self.leaf_node.show(tree, "leaf_node")?;
         self.nodes.show(tree, "nodes")?;
         tree.close()
+    }
+}
+
+impl Show for ProtocolVersionMls10 {
+    fn show(&self, tree: &mut Tree, name: &str) -> Result<(), AllocError> {
+        tree.value(name, "mls10 (1)")
     }
 }
 

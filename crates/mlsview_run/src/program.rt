@@ -25,9 +25,10 @@ pub fn program<R: Env + Print + Eprint + AllocGlobal, I: Read + Drop>(
     };
     let mut input = Outside::new(input);
     match run(alloc, matches.get_flag("binary"), &mut input) {
-        Ok((text, is_message)) => {
-            print!(rt; "{text}")?;
-            Ok(ExitCode::from(if is_message { 0 } else { 1 }))
+        Ok(view) => {
+            let lines = view.lines;
+            print!(rt; "{lines}")?;
+            Ok(ExitCode::from(if view.is_message { 0 } else { 1 }))
         }
         Err(fault) => {
             let line = fault.line();

@@ -1,4 +1,6 @@
 //! Values as lines of a tree.
+ghost use Rattle.std.specs.Prelude.{◌≡◌, OnOk, [], string_bytes};
+ghost use Rattle.mlsview_run.specs.Lines.{Adds, Opens, beginning, line};
 
 use std::alloc::{AllocError, Global};
 use tls_codec::VLBytes;
@@ -7,27 +9,33 @@ use tls_codec::VLBytes;
 #[derive(Drop)]
 pub struct Tree {
     text: String,
-    depth: usize,
+    /// The blanks in front of the next line.
+    indent: String,
 }
 
 impl Tree {
-    pub fn new(alloc: Global) -> Tree {
+    pub fn new(alloc: Global) -> Tree
+        ensures text { string_bytes result.text ≡ [] }
+        ensures indent { string_bytes result.indent ≡ [] }
+    {
         Tree {
             text: String::new(alloc),
-            depth: 0,
+            indent: String::new(alloc),
         }
     }
 
     /// All lines.
-    pub fn into_text(self) -> String {
+    pub fn into_text(self) -> String
+        ensures { result ≡ self.text }
+    {
         self.text
     }
 
     // Begins the line of a field.
-    fn begin(&mut self, name: &str) -> Result<(), AllocError> {
-        for _ in 0..self.depth {
-            self.text.push_str("  ")?;
-        }
+    fn begin(&mut self, name: &str) -> Result<(), AllocError>
+        ensures { OnOk result (Adds self.old self.new (beginning self.old name.now)) }
+    {
+        self.text.push_str(self.indent.as_str())?;
         self.text.push_str(name)?;
         self.text.push_str(": ")
     }
@@ -41,22 +49,27 @@ impl Tree {
     }
 
     /// A field, with others below it up to [`close`](Tree::close).
-    pub fn open(&mut self, name: &str, of: &str) -> Result<(), AllocError> {
+    pub fn open(&mut self, name: &str, of: &str) -> Result<(), AllocError>
+        ensures { OnOk result (Opens self.old self.new (line self.old name.now of.now)) }
+    {
         self.value(name, of)?;
-        self.depth = self.depth.saturating_add(1);
-        Ok(())
+        self.indent.push_str("  ")
     }
 
+    /// Ends what is below a field.
     pub fn close(&mut self) -> Result<(), AllocError> {
-        self.depth = self.depth.saturating_sub(1);
+        self.indent.pop();
+        self.indent.pop();
         Ok(())
     }
 
     /// A field with this text.
-    pub fn value(&mut self, name: &str, text: &str) -> Result<(), AllocError> {
+    pub fn value(&mut self, name: &str, text: &str) -> Result<(), AllocError>
+        ensures { OnOk result (Adds self.old self.new (line self.old name.now text.now)) }
+    {
         self.begin(name)?;
         self.text.push_str(text)?;
-        self.text.push('\n')
+        self.text.push_str("\n")
     }
 
     /// A number.
@@ -75,15 +88,15 @@ impl Tree {
         for byte in bytes {
             write!(self.text, "{byte:02x}")?;
         }
-        self.text.push('\n')
+        self.text.push_str("\n")
     }
 
     /// Elements in a row, each with its place.
     pub fn list<T: Show>(&mut self, name: &str, elements: &[T]) -> Result<(), AllocError> {
         self.begin(name)?;
         self.count(elements.len(), "element")?;
-        self.text.push('\n')?;
-        self.depth = self.depth.saturating_add(1);
+        self.text.push_str("\n")?;
+        self.indent.push_str("  ")?;
         for element in elements {
             element.show(self, "-")?;
         }

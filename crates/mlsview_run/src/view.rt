@@ -1,45 +1,79 @@
 //! What is printed of some bytes.
+ghost use Rattle.std.specs.Prelude.{◌≡◌, IfErr, IfOk, false, true};
+ghost use Rattle.mlsview_run.specs.View.{GaveView, Tells};
 
 use crate::show::{Show, Tree};
 use mls_framing::MLSMessage;
 use std::alloc::{AllocError, Global};
-use tls_codec::{Deserialize, Error, Source};
+use tls_codec::{Deserialize, DeserializeBytes, Error, Source};
 use tlsview_run::fault::ViewFault;
 use tlsview_run::input::{decode, read_text};
 
-/// The lines for an input, and whether it is a message. It is a hex text, or the message's bytes.
-pub fn run<R: Source>(
-    alloc: Global,
-    is_binary: bool,
-    input: &mut R,
-) -> Result<(String, bool), ViewFault> {
+/// What is printed of an input.
+#[derive(Drop)]
+pub struct View {
+    /// The lines, each ended by a line feed.
+    pub lines: String,
+    /// Whether the input is a message, with nothing after it.
+    pub is_message: bool,
+}
+
+/// The view of all bytes of an input, which are a hex text, or the message itself.
+pub fn run<R: Source>(alloc: Global, is_binary: bool, input: &mut R) -> Result<View, ViewFault>
+    ensures { IfOk result (λ view. GaveView R.Source is_binary input.old input.new view.is_message) }
+{
     let text = read_text(alloc, input)?;
     if is_binary {
-        return view(alloc, &text);
+        return view_of(alloc, &text);
     }
     let bytes = decode(alloc, &text)?;
-    view(alloc, &bytes)
+    view_of(alloc, &bytes)
 }
 
-/// The lines for some bytes, and whether they are a message. If they are none, the only line says why, and after how
-/// many bytes that showed.
-pub fn view(alloc: Global, bytes: &[u8]) -> Result<(String, bool), ViewFault> {
-    let mut tree = Tree::new(alloc);
-    let mut rest = bytes;
-    let read = MLSMessage::tls_deserialize(alloc, &mut rest);
-    let taken = bytes.len().saturating_sub(rest.len());
-    let all = bytes.len();
-    match read {
-        Ok(message) if rest.is_empty() => {
-            message.show(&mut tree, "message")?;
-            Ok((tree.into_text(), true))
-        }
-        Ok(_) => Ok((refusal(alloc, &Error::TrailingData, taken, all)?, false)),
-        Err(error) => Ok((refusal(alloc, &error, taken, all)?, false)),
+/// The view of some bytes. If they are no message, the only line says why, and after how many bytes that showed.
+///
+/// `Memory` is an `OutOfMemory` of the decoders, or memory that the lines ask for.
+pub fn view_of(alloc: Global, bytes: &[u8]) -> Result<View, ViewFault>
+    ensures ok { IfOk result (λ view. Tells view.is_message bytes.now) }
+    ensures err { IfErr result (λ fault. fault ≡ ViewFault.Memory) }
+{
+    match MLSMessage::tls_deserialize_exact_bytes(alloc, bytes) {
+        Ok(message) => shown(alloc, &message),
+        Err(Error::OutOfMemory) => Err(ViewFault::Memory),
+        Err(_) => refused(alloc, bytes),
     }
 }
 
-// The line of a refusal.
-fn refusal(alloc: Global, error: &Error, taken: usize, all: usize) -> Result<String, AllocError> {
+fn shown(alloc: Global, message: &MLSMessage) -> Result<View, ViewFault>
+    ensures ok { IfOk result (λ view. view.is_message ≡ true) }
+    ensures err { IfErr result (λ fault. fault ≡ ViewFault.Memory) }
+{
+    let mut tree = Tree::new(alloc);
+    message.show(&mut tree, "message")?;
+    Ok(View {
+        lines: tree.into_text(),
+        is_message: true,
+    })
+}
+
+fn refused(alloc: Global, bytes: &[u8]) -> Result<View, ViewFault>
+    ensures ok { IfOk result (λ view. view.is_message ≡ false) }
+    ensures err { IfErr result (λ fault. fault ≡ ViewFault.Memory) }
+{
+    let mut rest = bytes;
+    let error = match MLSMessage::tls_deserialize(alloc, &mut rest) {
+        Ok(_) => Error::TrailingData,
+        Err(Error::OutOfMemory) => return Err(ViewFault::Memory),
+        Err(error) => error,
+    };
+    Ok(View {
+        lines: refusal(alloc, error, bytes.len(), rest.len())?,
+        is_message: false,
+    })
+}
+
+// The line of a refusal after which so many bytes of all are left.
+fn refusal(alloc: Global, error: Error, all: usize, left: usize) -> Result<String, AllocError> {
+    let taken = all.saturating_sub(left);
     format!(in alloc; "refused: {error:?} after {taken} of {all} bytes\n")
 }

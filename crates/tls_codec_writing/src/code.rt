@@ -7,10 +7,8 @@ use crate::types::{Names, Words};
 use std::alloc::{AllocError, Global};
 use tls_codec_plan::plan::{Alias, Plan};
 
-/// The root: its modules, and what they have by name.
-pub fn root(alloc: Global, plan: &Plan) -> Result<String, AllocError> {
-    let aliases = aliases_by_name(alloc, plan.aliases.as_slice())?;
-    let modules = modules_by_name(alloc, plan)?;
+/// The root: its modules, what they have by name, and what the other crates have.
+pub fn root(alloc: Global, names: &Names<'_>, plan: &Plan) -> Result<String, AllocError> {
     let mut out = String::from_str(
         alloc,
         "//! Messages, written by `tls_codec_messages`.
@@ -18,32 +16,69 @@ pub fn root(alloc: Global, plan: &Plan) -> Result<String, AllocError> {
 
 ",
     )?;
-    for (module, _) in &modules {
+    for module in modules_by_name(alloc, plan)? {
         writeln!(out, "pub mod {module};")?;
     }
     out.push_str("\n")?;
-    for (module, name) in &modules {
-        if name.is_empty() {
-            out.push_str("pub ")?;
-            imports::push_rust_use(alloc, &mut out, module, aliases.as_slice())?;
-        } else {
-            writeln!(out, "pub use {module}::{name};")?;
-        }
+    for (_, line) in uses_by_name(alloc, names, plan)? {
+        out.push_str(line.as_str())?;
     }
     Ok(out)
 }
 
-// The modules of messages, each with its message's name, and that of other names of types, if there are any.
-fn modules_by_name(alloc: Global, plan: &Plan) -> Result<Vec<(&str, &str)>, AllocError> {
+// The modules of messages, and that of other names of types, if there are any.
+fn modules_by_name(alloc: Global, plan: &Plan) -> Result<Vec<&str>, AllocError> {
     let mut modules = Vec::new(alloc);
     for message in &plan.messages {
-        modules.push((message.module.as_str(), message.name.as_str()))?;
+        modules.push(message.module.as_str())?;
     }
     if !plan.aliases.is_empty() {
-        modules.push(("names", ""))?;
+        modules.push("names")?;
     }
     modules.sort()?;
     Ok(modules)
+}
+
+// What modules and other crates have by name, each line after the name of the module or the crate.
+fn uses_by_name(
+    alloc: Global,
+    names: &Names<'_>,
+    plan: &Plan,
+) -> Result<Vec<(String, String)>, AllocError> {
+    let mut uses = Vec::new(alloc);
+    for message in &plan.messages {
+        uses.push(use_line(alloc, message.module.as_str(), &[message.name.as_str()])?)?;
+    }
+    let aliases = aliases_by_name(alloc, plan.aliases.as_slice())?;
+    uses.push(use_line(alloc, "names", aliases.as_slice())?)?;
+    for (home, other) in names.crates.iter().enumerate() {
+        let types = types_of(alloc, plan, home)?;
+        uses.push(use_line(alloc, other.as_str(), types.as_slice())?)?;
+    }
+    uses.sort()?;
+    Ok(uses)
+}
+
+// The types that another crate has.
+fn types_of(alloc: Global, plan: &Plan, home: usize) -> Result<Vec<&str>, AllocError> {
+    let mut types = Vec::new(alloc);
+    for other in &plan.others {
+        if other.home == home {
+            types.push(other.name.as_str())?;
+        }
+    }
+    types.sort()?;
+    Ok(types)
+}
+
+// A line for these names, after its path. No line for no names.
+fn use_line(alloc: Global, path: &str, names: &[&str]) -> Result<(String, String), AllocError> {
+    let mut line = String::new(alloc);
+    if !names.is_empty() {
+        line.push_str("pub ")?;
+        imports::push_rust_use(alloc, &mut line, path, names)?;
+    }
+    Ok((String::from_str(alloc, path)?, line))
 }
 
 fn aliases_by_name(alloc: Global, aliases: &[Alias]) -> Result<Vec<&str>, AllocError> {

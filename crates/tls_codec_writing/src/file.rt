@@ -45,7 +45,7 @@ fn push_first(
     ensures { OnOk result (paths_in files.new.items
         ≡ paths_in files.old.items ++ first_paths plan.now) }
 {
-    files.push(file(alloc, "src/lib.rt", code::root(alloc, plan)?)?)?;
+    files.push(file(alloc, "src/lib.rt", code::root(alloc, names, plan)?)?)?;
     push_aliases(alloc, files, names, plan)?;
     Ok(())
 }

@@ -1,8 +1,7 @@
 //! Messages of MLS (RFC 9420), spelled field by field.
 use crate::tests::each_call::is_spelled;
 use crate::tests::{holds, same_at};
-use mls_framing::{MLSMessage, WireFormatData};
-use mls_leaf::{CipherSuite, Credential, LeafNodeOrigin};
+use mls_framing::{CipherSuite, Credential, LeafNodeOrigin, MLSMessage, WireFormatData};
 use std::alloc::Global;
 use std::process::Abort;
 use std::test::Fail;

@@ -1,6 +1,6 @@
 //! Messages of MLS as trees. The stored run of `mlsview` has that of a commit.
 use crate::tests::{mls, same};
-use mlsview_run::view::view;
+use mlsview_run::view::view_of;
 use std::test::Fail;
 
 static KEY_PACKAGE: &str = "message: MLSMessage
@@ -103,11 +103,11 @@ fn messages_as_trees(rt: HostRuntime) -> Result<(), Fail> {
             "refused: EndOfStream after 5 of 6 bytes\n",
         ),
     ] {
-        let Ok((text, is_message)) = view(rt.alloc(), bytes) else {
+        let Ok(view) = view_of(rt.alloc(), bytes) else {
             panic!(rt; "no memory");
         };
-        same(&rt, text.as_str(), expected);
-        same(&rt, is_message, bytes.len() > 6);
+        same(&rt, view.lines.as_str(), expected);
+        same(&rt, view.is_message, bytes.len() > 6);
     }
     Ok(())
 }

@@ -3,15 +3,12 @@ use crate::tests::each_call::is_written;
 use crate::tests::mls::{COMMIT, GROUP_INFO, KEY_PACKAGE, PRIVATE_MESSAGE};
 use crate::tests::same;
 use mls_framing::{
-    FramedContentTBS, FramedContentTBSContentTypeData, MLSMessage, PrivateContentAAD,
-    ProtocolVersionMls10, PublicMessageContentTypeData, PublicMessageSenderTypeData, SenderDataAAD,
-    SenderTypeData, WireFormat, WireFormatData,
+    FramedContentTBS, FramedContentTBSContentTypeData, GroupInfo, GroupInfoTBS, KeyPackage,
+    KeyPackageTBS, LeafNode, LeafNodeOrigin, LeafNodeTBS, LeafNodeTBSOrigin, MLSMessage,
+    PrivateContentAAD, ProtocolVersionMls10, PublicMessageContentTypeData,
+    PublicMessageSenderTypeData, SenderDataAAD, SenderTypeData, SignContent, WireFormat,
+    WireFormatData,
 };
-use mls_leaf::{
-    KeyPackage, KeyPackageTBS, LeafNode, LeafNodeOrigin, LeafNodeTBS, LeafNodeTBSOrigin,
-    SignContent,
-};
-use mls_proposals::{GroupInfo, GroupInfoTBS};
 use std::alloc::Global;
 use std::process::Abort;
 use std::test::Fail;

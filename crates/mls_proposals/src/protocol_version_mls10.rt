@@ -1,7 +1,7 @@
 //! [`ProtocolVersionMls10`].
 ghost use Rattle.std.specs.Prelude.{◌≡◌, false, MatchOption};
 ghost use Rattle.tls_codec.specs.OwnMessages.{values_names, values_source_names};
-ghost use Rattle.mls_framing.specs.ProtocolVersionMls10.{protocol_version_mls10_code, protocol_version_mls10_format, protocol_version_mls10_has, protocol_version_mls10_meets, protocol_version_mls10_plain};
+ghost use Rattle.mls_proposals.specs.ProtocolVersionMls10.{protocol_version_mls10_code, protocol_version_mls10_format, protocol_version_mls10_has, protocol_version_mls10_meets, protocol_version_mls10_plain};
 
 use std::alloc::Global;
 use tls_codec::{

@@ -2,7 +2,7 @@
 use Rattle.std.proofs.Common.{arith}
 use Rattle.std.specs.Prelude.{◌≡◌, ◌==◌, ℕ, Bool, true, refl}
 use Rattle.tls_codec.specs.OwnMessages.{Tree, Number, Empty, Join, Format, values_format, MeetsLaws, tagged_meets, values_meet}
-use Rattle.mls_framing.specs.declared.protocol_version_mls10.ProtocolVersionMls10.{ProtocolVersionMls10}
+use Rattle.mls_proposals.specs.declared.protocol_version_mls10.ProtocolVersionMls10.{ProtocolVersionMls10}
 
 -- the number of each value
 abbrev pub protocol_version_mls10_code : ProtocolVersionMls10 → ℕ

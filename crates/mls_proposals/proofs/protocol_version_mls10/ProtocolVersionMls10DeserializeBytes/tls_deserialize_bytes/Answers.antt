@@ -1,8 +1,8 @@
 use Rattle.std.proofs.Common.{sym}
 use Rattle.tls_codec.specs.OwnMessages.{u16_meets, values_meet}
 use Rattle.tls_codec.proofs.OwnMessages.{tagged_refuses_unknown, value_begins}
-use Rattle.mls_framing.specs.ProtocolVersionMls10.{protocol_version_mls10_has, protocol_version_mls10_known}
-use Rattle.mls_framing.proofs.protocol_version_mls10.ProtocolVersionMls10DeserializeBytes.tls_deserialize_bytes.Goals as goal
+use Rattle.mls_proposals.specs.ProtocolVersionMls10.{protocol_version_mls10_has, protocol_version_mls10_known}
+use Rattle.mls_proposals.proofs.protocol_version_mls10.ProtocolVersionMls10DeserializeBytes.tls_deserialize_bytes.Goals as goal
 
 pub returns-in-Some-clause-splits : goal.returns-in-Some-clause-splits
 returns-in-Some-clause-splits c = value_begins protocol_version_mls10_has u16_meets (protocol_version_mls10_known c.in-Some.value) (sym c.in-Some.ensures) c.in_ok-tag.ensures.splits

@@ -1,8 +1,8 @@
 use Rattle.std.proofs.Common.{refl, sym}
 use Rattle.tls_codec.specs.OwnMessages.{u16_meets, values_meet}
 use Rattle.tls_codec.proofs.OwnMessages.{tag_named_source, tag_reads, tagged_leaves_unknown, unknown_named_source, value_given}
-use Rattle.mls_framing.specs.ProtocolVersionMls10.{protocol_version_mls10_has, protocol_version_mls10_known}
-use Rattle.mls_framing.proofs.protocol_version_mls10.ProtocolVersionMls10Deserialize.tls_deserialize.Goals as goal
+use Rattle.mls_proposals.specs.ProtocolVersionMls10.{protocol_version_mls10_has, protocol_version_mls10_known}
+use Rattle.mls_proposals.proofs.protocol_version_mls10.ProtocolVersionMls10Deserialize.tls_deserialize.Goals as goal
 
 pub returns-in_err-tag-clause-reads : goal.returns-in_err-tag-clause-reads
 returns-in_err-tag-clause-reads g c = tag_reads u16_meets (values_meet protocol_version_mls10_has) _ _ _ _ _ c.from_residual.ensures.1 c.in_err-tag.ensures.reads
