@@ -7,6 +7,7 @@ pub mod ContentTypeData
 pub mod Credential
 pub mod Fixed
 pub mod Framed
+pub mod GroupTBS
 pub mod LeafNode
 pub mod LeafNodeOrigin
 pub mod LeafNodeTBS

@@ -1,8 +1,8 @@
 //! [`LeafNodeTBS`].
 ghost use Rattle.messages_of_each_shape.specs.LeafNodeTBS.{leaf_node_tbs_format, leaf_node_tbs_meets, leaf_node_tbs_plain};
 
-use crate::{Certificate, CertificateTBS, CipherSuite, Key, LeafNodeTBSOrigin};
-use tls_codec::{Error, Lent2, Lent3, Serialize, Sink, Size};
+use crate::{Certificate, CipherSuite, Key, LeafNodeTBSOrigin};
+use tls_codec::{Error, Lent, Lent2, Serialize, Sink, Size};
 
 /// `LeafNodeTBS`.
 ///
@@ -12,13 +12,11 @@ pub struct LeafNodeTBS<'a> {
     /// `Key key;`
     pub key: &'a Key,
     /// `LeafNodeSource leaf_node_source;`
-    pub leaf_node_source: &'a LeafNodeTBSOrigin<'a>,
+    pub leaf_node_source: LeafNodeTBSOrigin<'a>,
     /// `optional<Certificate> last;`
     pub last: &'a Option<Certificate>,
     /// `CipherSuite suites<V>;`
     pub suites: &'a Vec<CipherSuite>,
-    /// `CertificateTBS certificate;`
-    pub certificate: &'a CertificateTBS<'a>,
 }
 
 impl Size for LeafNodeTBS<'_> {
@@ -28,8 +26,9 @@ impl Size for LeafNodeTBS<'_> {
 
     fn tls_serialized_len(&self) -> usize {
         (
-            Lent3(self.key, self.leaf_node_source, self.last),
-            Lent2(self.suites, self.certificate),
+            Lent(self.key),
+            self.leaf_node_source,
+            Lent2(self.last, self.suites),
         )
             .tls_serialized_len()
     }
@@ -40,16 +39,18 @@ impl Size for LeafNodeTBS<'_> {
 impl Serialize for LeafNodeTBS<'_> {
     fn tls_serialize<W: Sink>(&self, writer: &mut W) -> Result<usize, Error> {
         (
-            Lent3(self.key, self.leaf_node_source, self.last),
-            Lent2(self.suites, self.certificate),
+            Lent(self.key),
+            self.leaf_node_source,
+            Lent2(self.last, self.suites),
         )
             .tls_serialize(writer)
     }
 
     fn tls_serialize_into(&self, out: &mut Vec<u8>) -> Result<usize, Error> {
         (
-            Lent3(self.key, self.leaf_node_source, self.last),
-            Lent2(self.suites, self.certificate),
+            Lent(self.key),
+            self.leaf_node_source,
+            Lent2(self.last, self.suites),
         )
             .tls_serialize_into(out)
     }

@@ -5,7 +5,6 @@ pub mod ContentType
 pub mod ContentTypeData
 pub mod FramedContent
 pub mod FramedContentTBS
-pub mod FramedContentTBSContentTypeData
 pub mod InterimTranscriptHashInput
 pub mod MLSMessage
 pub mod PrivateContentAAD

@@ -3,7 +3,7 @@ ghost use Rattle.mls_framing.specs.FramedContentTBS.{framed_content_tbs_format, 
 
 use crate::{SenderTypeData, WireFormat};
 use mls_proposals::ProtocolVersionMls10;
-use tls_codec::{Error, Lent2, Lent3, Serialize, Sink, Size, VLBytes};
+use tls_codec::{Error, Lent4, Serialize, Sink, Size, VLBytes};
 
 /// `FramedContentTBS`.
 ///
@@ -19,7 +19,7 @@ pub struct FramedContentTBS<'a> {
     /// `uint64 epoch;`
     pub epoch: &'a u64,
     /// `SenderType sender_type;`
-    pub sender_type: &'a SenderTypeData<'a>,
+    pub sender_type: SenderTypeData<'a>,
 }
 
 impl Size for FramedContentTBS<'_> {
@@ -29,8 +29,8 @@ impl Size for FramedContentTBS<'_> {
 
     fn tls_serialized_len(&self) -> usize {
         (
-            Lent3(self.version, self.wire_format, self.group_id),
-            Lent2(self.epoch, self.sender_type),
+            Lent4(self.version, self.wire_format, self.group_id, self.epoch),
+            self.sender_type,
         )
             .tls_serialized_len()
     }
@@ -41,16 +41,16 @@ impl Size for FramedContentTBS<'_> {
 impl Serialize for FramedContentTBS<'_> {
     fn tls_serialize<W: Sink>(&self, writer: &mut W) -> Result<usize, Error> {
         (
-            Lent3(self.version, self.wire_format, self.group_id),
-            Lent2(self.epoch, self.sender_type),
+            Lent4(self.version, self.wire_format, self.group_id, self.epoch),
+            self.sender_type,
         )
             .tls_serialize(writer)
     }
 
     fn tls_serialize_into(&self, out: &mut Vec<u8>) -> Result<usize, Error> {
         (
-            Lent3(self.version, self.wire_format, self.group_id),
-            Lent2(self.epoch, self.sender_type),
+            Lent4(self.version, self.wire_format, self.group_id, self.epoch),
+            self.sender_type,
         )
             .tls_serialize_into(out)
     }

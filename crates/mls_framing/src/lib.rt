@@ -8,7 +8,6 @@ pub mod content_type;
 pub mod content_type_data;
 pub mod framed_content;
 pub mod framed_content_tbs;
-pub mod framed_content_tbs_content_type_data;
 pub mod interim_transcript_hash_input;
 pub mod mls_message;
 pub mod private_content_aad;
@@ -30,7 +29,6 @@ pub use content_type::ContentType;
 pub use content_type_data::ContentTypeData;
 pub use framed_content::FramedContent;
 pub use framed_content_tbs::FramedContentTBS;
-pub use framed_content_tbs_content_type_data::FramedContentTBSContentTypeData;
 pub use interim_transcript_hash_input::InterimTranscriptHashInput;
 pub use mls_leaf::{
     Capabilities, Certificate, CipherSuite, Credential, CredentialType, EncryptContext, Extension,

@@ -1,7 +1,7 @@
 //! [`SenderTypeData`].
 ghost use Rattle.mls_framing.specs.SenderTypeData.{sender_type_data_format, sender_type_data_meets, sender_type_data_plain};
 
-use crate::FramedContentTBSContentTypeData;
+use crate::ContentTypeData;
 use mls_proposals::GroupContext;
 use tls_codec::{Error, Lent, Lent2, Serialize, Sink, Size, VLBytes};
 
@@ -25,7 +25,7 @@ pub enum SenderTypeData<'a> {
         /// `opaque authenticated_data<V>;`
         authenticated_data: &'a VLBytes,
         /// `ContentType content_type;`
-        content_type: &'a FramedContentTBSContentTypeData<'a>,
+        content_type: &'a ContentTypeData,
         /// `GroupContext context;`
         context: &'a GroupContext,
     },
@@ -36,14 +36,14 @@ pub enum SenderTypeData<'a> {
         /// `opaque authenticated_data<V>;`
         authenticated_data: &'a VLBytes,
         /// `ContentType content_type;`
-        content_type: &'a FramedContentTBSContentTypeData<'a>,
+        content_type: &'a ContentTypeData,
     },
     /// `case new_member_commit:`
     NewMemberCommit {
         /// `opaque authenticated_data<V>;`
         authenticated_data: &'a VLBytes,
         /// `ContentType content_type;`
-        content_type: &'a FramedContentTBSContentTypeData<'a>,
+        content_type: &'a ContentTypeData,
         /// `GroupContext context;`
         context: &'a GroupContext,
     },
@@ -52,7 +52,7 @@ pub enum SenderTypeData<'a> {
         /// `opaque authenticated_data<V>;`
         authenticated_data: &'a VLBytes,
         /// `ContentType content_type;`
-        content_type: &'a FramedContentTBSContentTypeData<'a>,
+        content_type: &'a ContentTypeData,
     },
 }
 

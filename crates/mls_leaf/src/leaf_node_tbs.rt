@@ -2,7 +2,7 @@
 ghost use Rattle.mls_leaf.specs.LeafNodeTBS.{leaf_node_tbs_format, leaf_node_tbs_meets, leaf_node_tbs_plain};
 
 use crate::{Capabilities, Credential, HPKEPublicKey, LeafNodeTBSOrigin, SignaturePublicKey};
-use tls_codec::{Error, Lent2, Lent3, Serialize, Sink, Size};
+use tls_codec::{Error, Lent4, Serialize, Sink, Size};
 
 /// `LeafNodeTBS`.
 ///
@@ -18,7 +18,7 @@ pub struct LeafNodeTBS<'a> {
     /// `Capabilities capabilities;`
     pub capabilities: &'a Capabilities,
     /// `LeafNodeSource leaf_node_source;`
-    pub leaf_node_source: &'a LeafNodeTBSOrigin<'a>,
+    pub leaf_node_source: LeafNodeTBSOrigin<'a>,
 }
 
 impl Size for LeafNodeTBS<'_> {
@@ -28,8 +28,13 @@ impl Size for LeafNodeTBS<'_> {
 
     fn tls_serialized_len(&self) -> usize {
         (
-            Lent3(self.encryption_key, self.signature_key, self.credential),
-            Lent2(self.capabilities, self.leaf_node_source),
+            Lent4(
+                self.encryption_key,
+                self.signature_key,
+                self.credential,
+                self.capabilities,
+            ),
+            self.leaf_node_source,
         )
             .tls_serialized_len()
     }
@@ -40,16 +45,26 @@ impl Size for LeafNodeTBS<'_> {
 impl Serialize for LeafNodeTBS<'_> {
     fn tls_serialize<W: Sink>(&self, writer: &mut W) -> Result<usize, Error> {
         (
-            Lent3(self.encryption_key, self.signature_key, self.credential),
-            Lent2(self.capabilities, self.leaf_node_source),
+            Lent4(
+                self.encryption_key,
+                self.signature_key,
+                self.credential,
+                self.capabilities,
+            ),
+            self.leaf_node_source,
         )
             .tls_serialize(writer)
     }
 
     fn tls_serialize_into(&self, out: &mut Vec<u8>) -> Result<usize, Error> {
         (
-            Lent3(self.encryption_key, self.signature_key, self.credential),
-            Lent2(self.capabilities, self.leaf_node_source),
+            Lent4(
+                self.encryption_key,
+                self.signature_key,
+                self.credential,
+                self.capabilities,
+            ),
+            self.leaf_node_source,
         )
             .tls_serialize_into(out)
     }

@@ -1,6 +1,7 @@
 //! From what a file of the presentation language says to what is written for it.
 //!
 //! - [`plan`]: [`Plan`](plan::Plan), the messages that are written, each with its fields and its tags.
+//! - [`lent`]: [`runs_of`](lent::runs_of), how the fields of a lent struct are written in a row.
 //! - [`planning`]: [`plan_of`](planning::plan_of), the plan of a file, or where and why it is refused.
 #![tactic(auto)]
 
@@ -8,6 +9,7 @@ mod cases;
 mod checks;
 mod constants;
 mod items;
+pub mod lent;
 mod lists;
 mod made;
 mod members;

@@ -107,14 +107,29 @@ impl Made {
         Ok(())
     }
 
-    /// The name that was kept for a tag and a select, of a message that is lent or of one that isn't.
+    /// The name that was kept for a tag and a select: for a lent message also that of a lent one, if there is no other.
     pub fn choice(&self, tag: Place, select: Place, is_lent: bool) -> Option<&String> {
+        match self.kept(tag, select, false) {
+            Some(name) => Some(name),
+            None if is_lent => self.kept(tag, select, true),
+            None => None,
+        }
+    }
+
+    fn kept(&self, tag: Place, select: Place, is_lent: bool) -> Option<&String> {
         for one in &self.choices {
             if is_same(one.tag, tag) && is_same(one.select, select) && one.is_lent == is_lent {
                 return Some(&one.name);
             }
         }
         None
+    }
+
+    /// Whether the message of this name has references to its fields.
+    pub fn is_lent(&self, name: &String) -> bool {
+        self.messages
+            .iter()
+            .any(|message| message.is_lent && message.name == *name)
     }
 
     /// The messages of a crate but those that have one of some names.

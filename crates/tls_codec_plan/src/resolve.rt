@@ -4,6 +4,7 @@ ghost use Rattle.tls_codec_plan.specs.Writable.{HaveNames, HaveTypes, IsWritable
 
 use crate::cases::{Labelled, cases_of, find_case, tag_of};
 use crate::checks::{TOO_GREAT, check_letters};
+use crate::lent::{check_runs, lends};
 use crate::lists::{CaseList, Row};
 use crate::made::Made;
 use crate::members::{Placed, copy, member_of, push_member};
@@ -58,6 +59,7 @@ pub fn make_messages<'a>(
     let body = struct_body(alloc, sequence, behind)?;
     let mut message = message(alloc, sequence.name, body, made.home)?;
     message.is_lent = lends(sequence, &message.body);
+    check_runs(alloc, sequence, &message.body, made)?;
     made.push(alloc, sequence.place, message)
 }
 
@@ -277,6 +279,7 @@ fn push_choice(
 ) -> Result<(), Trouble>
     requires { IsWritable body }
 {
+    check_runs(alloc, sequence, &body, made)?;
     let message = Message {
         module: module_name(alloc, name.as_str())?,
         home: made.home,
@@ -301,18 +304,6 @@ pub fn message(alloc: Global, name: &str, body: Body, home: usize) -> Result<Mes
         doc: format!(in alloc; "`{name}`.")?,
         body,
     })
-}
-
-// Whether a message of a struct has references. One without fields has none.
-fn lends(sequence: &Sequence<'_>, body: &Body) -> bool {
-    sequence.is_lent
-        && match body {
-            Body::Values { .. } => false,
-            Body::Fields(fields) => !fields.is_empty(),
-            Body::Choice { variants, .. } => {
-                variants.iter().any(|variant| !variant.fields.is_empty())
-            }
-        }
 }
 
 fn choice_member(alloc: Global, field: &Field, name: String) -> Result<Placed, Trouble> {

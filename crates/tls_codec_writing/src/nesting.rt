@@ -19,7 +19,11 @@ pub struct Nesting {
 impl Nesting {
     /// So many fields, in so many groups at most.
     pub fn of(alloc: Global, fields: usize, most: usize) -> Result<Nesting, AllocError> {
-        let groups = shares(alloc, fields, most)?;
+        Nesting::of_groups(alloc, shares(alloc, fields, most)?)
+    }
+
+    /// Groups of so many fields each.
+    pub fn of_groups(alloc: Global, groups: Vec<usize>) -> Result<Nesting, AllocError> {
         let mut parts = Vec::new(alloc);
         let mut counts = Vec::new(alloc);
         for group in &groups {

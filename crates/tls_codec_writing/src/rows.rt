@@ -6,6 +6,7 @@ use crate::nesting::Nesting;
 use crate::template::Holes;
 use crate::types::{Names, Words, par};
 use std::alloc::{AllocError, Global};
+use tls_codec_plan::lent::runs_of;
 use tls_codec_plan::plan::Member;
 
 /// What has the fields: there is a tag before those of a variant.
@@ -21,6 +22,8 @@ pub enum Owner {
 pub struct Row {
     owner: Owner,
     is_lent: bool,
+    /// For each field whether it is lent itself, and so has references and is none.
+    are_lent: Vec<bool>,
     fields: Vec<Holes>,
     nesting: Nesting,
 }
@@ -50,19 +53,26 @@ impl Row {
         uses: &mut Uses<'_>,
     ) -> Result<Row, AllocError> {
         let mut fields = Vec::new(alloc);
+        let mut are_lent = Vec::new(alloc);
         for (i, member) in members.iter().enumerate() {
             let words = names.words(alloc, &member.of)?;
             uses.add(&words)?;
+            are_lent.push(words.is_lent)?;
             fields.push(field(alloc, owner, is_lent, i, member, words)?)?;
         }
         let most = match owner {
             Owner::Struct => 3,
             Owner::Variant => 2,
         };
-        let nesting = Nesting::of(alloc, members.len(), most)?;
+        let nesting = if are_lent.contains(&true) {
+            Nesting::of_groups(alloc, runs_of(alloc, &are_lent)?)?
+        } else {
+            Nesting::of(alloc, members.len(), most)?
+        };
         Ok(Row {
             owner,
             is_lent,
+            are_lent,
             fields,
             nesting,
         })
@@ -179,11 +189,14 @@ impl Row {
         }
         let groups = grouped(alloc, texts, self.nesting.groups.as_slice(), Join::Commas)?;
         let mut lent = Vec::new(alloc);
+        let mut first = 0usize;
         for (group, size) in groups.iter().zip(self.nesting.groups.as_slice()) {
             lent.push(match size {
+                1 if self.are_lent.get(first) == Some(&true) => group.clone()?,
                 1 => format!(in alloc; "Lent({group})")?,
                 _ => format!(in alloc; "Lent{size}({group})")?,
             })?;
+            first = first.saturating_add(*size);
         }
         let lent = joined(alloc, lent.as_slice(), ", ")?;
         match self.owner {
@@ -203,7 +216,11 @@ fn field(
     words: Words,
 ) -> Result<Holes, AllocError> {
     let name = member.name.as_str();
-    let (now, reference) = if is_lent { (".now", "&'a ") } else { ("", "") };
+    let (now, reference) = if is_lent && !words.is_lent {
+        (".now", "&'a ")
+    } else {
+        ("", "")
+    };
     let value = match owner {
         Owner::Struct => format!(in alloc; "v.{name}{now}")?,
         Owner::Variant => format!(in alloc; "a{at}{now}")?,

@@ -23,6 +23,8 @@ pub struct Words {
     pub named: Option<String>,
     /// The message whose definitions are cited.
     pub cited: Option<String>,
+    /// It has references.
+    pub is_lent: bool,
 }
 
 impl Words {
@@ -151,6 +153,7 @@ impl Kind {
             law: holes.filled(alloc, self.law)?,
             named: None,
             cited: None,
+            is_lent: false,
         })
     }
 
@@ -267,11 +270,13 @@ impl<'a> Names<'a> {
         let mut holes = Holes::new(alloc);
         holes.set("name", String::from_str(alloc, name)?)?;
         holes.set("module", String::from_str(alloc, module)?)?;
-        let lifetime = if self.is_lent(name) { "<'a>" } else { "" };
+        let is_lent = self.is_lent(name);
+        let lifetime = if is_lent { "<'a>" } else { "" };
         holes.set("lifetime", String::from_str(alloc, lifetime)?)?;
         let mut words = MESSAGE.words(alloc, &holes)?;
         words.named = Some(String::from_str(alloc, name)?);
         words.cited = Some(String::from_str(alloc, name)?);
+        words.is_lent = is_lent;
         Ok(words)
     }
 
@@ -335,6 +340,7 @@ fn renamed(alloc: Global, words: &Words, name: &str) -> Result<Words, AllocError
         law: words.law.clone()?,
         named: Some(String::from_str(alloc, name)?),
         cited,
+        is_lent: words.is_lent,
     })
 }
 

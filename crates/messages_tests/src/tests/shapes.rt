@@ -2,8 +2,8 @@
 use crate::tests::each_call::{is_refused, is_spelled, is_written};
 use messages_of_each_shape::{
     Bounded, Certificate, CertificateTBS, CipherSuite, CipherSuiteAes128Gcm, ContentTypeData,
-    Credential, Fixed, Framed, LeafNode, LeafNodeOrigin, LeafNodeTBS, LeafNodeTBSOrigin, Level,
-    Lifetime, Lists, NameType, Package, Side, Version, Wide,
+    Credential, Fixed, Framed, GroupTBS, LeafNode, LeafNodeOrigin, LeafNodeTBS, LeafNodeTBSOrigin,
+    Level, Lifetime, Lists, NameType, Package, Side, Version, Wide,
 };
 use std::alloc::Global;
 use std::test::Fail;
@@ -206,40 +206,47 @@ fn lent_structs(rt: HostRuntime) -> Result<(), Fail> {
     let alloc = rt.alloc();
     let key = bytes(alloc, 7)?;
     let certificate = certificate(alloc, 5)?;
-    let certificate = CertificateTBS {
-        certificate: &certificate,
-    };
     let suites = Vec::from_array(alloc, [CipherSuite(3)])?;
     let lifetime = Lifetime {
         not_before: 1,
         not_after: 2,
     };
-    let hash = bytes(alloc, 9)?;
-    for (origin, expected) in [
+    let parent_hash = bytes(alloc, 9)?;
+    for (leaf_node_source, expected) in [
         (
             LeafNodeTBSOrigin::KeyPackage(&lifetime),
             [
-                1, 7, 1, 0, 0, 0, 0, 0, 0, 0, 1, 0, 0, 0, 0, 0, 0, 0, 2, 0, 2, 0, 3, 1, 5,
+                1, 5, 0, 0, 0, 6, 1, 7, 1, 0, 0, 0, 0, 0, 0, 0, 1, 0, 0, 0, 0, 0, 0, 0, 2, 0, 2, 0,
+                3,
             ]
             .as_slice(),
         ),
-        (LeafNodeTBSOrigin::Update, &[1, 7, 2, 0, 2, 0, 3, 1, 5]),
+        (
+            LeafNodeTBSOrigin::Update,
+            &[1, 5, 0, 0, 0, 6, 1, 7, 2, 0, 2, 0, 3],
+        ),
         (
             LeafNodeTBSOrigin::Commit {
-                parent_hash: &hash,
+                parent_hash: &parent_hash,
                 level: &4,
             },
-            &[1, 7, 3, 1, 9, 4, 0, 2, 0, 3, 1, 5],
+            &[1, 5, 0, 0, 0, 6, 1, 7, 3, 1, 9, 4, 0, 2, 0, 3],
         ),
     ] {
         let node = LeafNodeTBS {
             key: &key,
-            leaf_node_source: &origin,
+            leaf_node_source,
             last: &None,
             suites: &suites,
-            certificate: &certificate,
         };
-        is_written(&rt, alloc, &node, expected)?;
+        let group = GroupTBS {
+            certificate: CertificateTBS {
+                certificate: &certificate,
+            },
+            epoch: &6,
+            node,
+        };
+        is_written(&rt, alloc, &group, expected)?;
     }
     Ok(())
 }

@@ -3,11 +3,10 @@ use crate::tests::each_call::is_written;
 use crate::tests::mls::{COMMIT, GROUP_INFO, KEY_PACKAGE, PRIVATE_MESSAGE};
 use crate::tests::same;
 use mls_framing::{
-    FramedContentTBS, FramedContentTBSContentTypeData, GroupInfo, GroupInfoTBS, KeyPackage,
-    KeyPackageTBS, LeafNode, LeafNodeOrigin, LeafNodeTBS, LeafNodeTBSOrigin, MLSMessage,
-    PrivateContentAAD, ProtocolVersionMls10, PublicMessageContentTypeData,
-    PublicMessageSenderTypeData, SenderDataAAD, SenderTypeData, SignContent, WireFormat,
-    WireFormatData,
+    ContentTypeData, FramedContentTBS, GroupInfo, GroupInfoTBS, KeyPackage, KeyPackageTBS,
+    LeafNode, LeafNodeOrigin, LeafNodeTBS, LeafNodeTBSOrigin, MLSMessage, PrivateContentAAD,
+    ProtocolVersionMls10, PublicMessageContentTypeData, PublicMessageSenderTypeData, SenderDataAAD,
+    SenderTypeData, SignContent, WireFormat, WireFormatData,
 };
 use std::alloc::Global;
 use std::process::Abort;
@@ -112,7 +111,7 @@ fn is_leaf_written(
         signature_key: &leaf.signature_key,
         credential: &leaf.credential,
         capabilities: &leaf.capabilities,
-        leaf_node_source: &origin,
+        leaf_node_source: origin,
     };
     let expected = part(rt, alloc, &COMMIT, 35, 77, &[1, 0xfa, 0, 0, 0, 2])?;
     is_written(rt, alloc, &signed, &expected)
@@ -129,7 +128,7 @@ fn a_commit_and_its_leaf_node(rt: HostRuntime) -> Result<(), Fail> {
         authenticated_data,
         content_type,
         ..
-    } = &public.sender_type
+    } = public.sender_type
     else {
         panic!(rt; "another sender");
     };
@@ -139,12 +138,12 @@ fn a_commit_and_its_leaf_node(rt: HostRuntime) -> Result<(), Fail> {
     let Some(path) = &commit.path else {
         panic!(rt; "no path");
     };
-    is_leaf_written(&rt, alloc, &path.leaf_node, &public.group_id, leaf_index)?;
+    is_leaf_written(&rt, alloc, &path.leaf_node, &public.group_id, &leaf_index)?;
     let info = group_info(&rt, alloc)?;
-    let content = FramedContentTBSContentTypeData::Commit(commit);
+    let content = ContentTypeData::Commit(commit);
     let sender = SenderTypeData::Member {
-        leaf_index,
-        authenticated_data,
+        leaf_index: &leaf_index,
+        authenticated_data: &authenticated_data,
         content_type: &content,
         context: &info.group_context,
     };
@@ -153,7 +152,7 @@ fn a_commit_and_its_leaf_node(rt: HostRuntime) -> Result<(), Fail> {
         wire_format: &WireFormat::MLS_PUBLIC_MESSAGE,
         group_id: &public.group_id,
         epoch: &public.epoch,
-        sender_type: &sender,
+        sender_type: sender,
     };
     // Section 6.1: the message up to its signature, and the group's context.
     let context = part(&rt, alloc, &GROUP_INFO, 4, 23, &[])?;

@@ -2,7 +2,7 @@
 use super::refusal;
 use std::test::Fail;
 
-static BAD: [(&str, usize, usize, &str, &str); 72] = [
+static BAD: [(&str, usize, usize, &str, &str); 74] = [
     // types
     ("Foo A;", 1, 1, "Foo", "the name of a type"),
     ("struct { Foo a; } A;", 1, 10, "Foo", "the name of a type"),
@@ -362,6 +362,20 @@ static BAD: [(&str, usize, usize, &str, &str); 72] = [
         33,
         "L",
         "a lent struct is only written",
+    ),
+    (
+        "lent struct { uint8 x; } L; lent struct { uint8 a; L b; uint8 c; L d; } M;",
+        1,
+        73,
+        "M",
+        "at most 3 runs",
+    ),
+    (
+        "enum { a(1), b(2) } T; lent struct { uint8 x; } L; lent struct { T t; select (M.t) { case a: uint8 y; L b; uint8 z; case b: struct{}; } } M;",
+        1,
+        139,
+        "M",
+        "at most 3 runs",
     ),
     // names of tags
     (

@@ -79,10 +79,10 @@ static GOOD: [(&str, &str); 19] = [
         "lent struct { uint8 x; } L; lent struct { L l; } M;",
         "lent l.L: x u1,\nlent m.M: l L,\n",
     ),
-    // the enum of a lent struct is another's of the same parts if that is lent too
+    // the enum of a lent struct is one of the same parts that isn't lent, or another's
     (
         "enum { a(1), b(2) } T; struct { select (H.t) { case a: uint8 y; case b: struct{}; } } R; struct { T t; } H; lent struct { uint8 x; H h; R r; } L; struct { uint8 x; H h; R r; } S; lent struct { uint8 z; H h; R r; } M;",
-        "t.T values of 1: A 1 B 2\nh.H: t T,\nlent t_data.TData by 1:\n  A A 1: y u1,\n  B B 2:\nlent l.L: x u1, t TData,\nst_data.STData by 1:\n  A A 1: y u1,\n  B B 2:\ns.S: x u1, t STData,\nlent m.M: z u1, t TData,\n",
+        "t.T values of 1: A 1 B 2\nh.H: t T,\nlent t_data.TData by 1:\n  A A 1: y u1,\n  B B 2:\nlent l.L: x u1, t TData,\nst_data.STData by 1:\n  A A 1: y u1,\n  B B 2:\ns.S: x u1, t STData,\nlent m.M: z u1, t STData,\n",
     ),
     // bounds, after a length of as many bytes as the ceiling takes
     (
