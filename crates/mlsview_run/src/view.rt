@@ -1,6 +1,7 @@
 //! What is printed of some bytes.
 ghost use Rattle.std.specs.Prelude.{◌≡◌, IfErr, IfOk, false, true};
-ghost use Rattle.mlsview_run.specs.View.{GaveView, Tells};
+ghost use Rattle.tls_codec.specs.Devices.{Gave};
+ghost use Rattle.mlsview_run.specs.View.{GaveView, Stands, Tells};
 
 use crate::show::{Show, Tree};
 use mls_framing::MLSMessage;
@@ -20,14 +21,23 @@ pub struct View {
 
 /// The view of all bytes of an input, which are a hex text, or the message itself.
 pub fn run<R: Source>(alloc: Global, is_binary: bool, input: &mut R) -> Result<View, ViewFault>
-    ensures { IfOk result (λ view. GaveView R.Source is_binary input.old input.new view.is_message) }
+    ensures gave { Gave R.given input.old input.new }
+    ensures ok { IfOk result (λ view. GaveView R.Source is_binary input.old input.new view.is_message) }
 {
     let text = read_text(alloc, input)?;
+    let bytes = bytes_of(alloc, is_binary, text)?;
+    Ok(view_of(alloc, &bytes)?)
+}
+
+// The bytes that a text stands for: those of its hex, or its own.
+fn bytes_of(alloc: Global, is_binary: bool, text: Vec<u8>) -> Result<Vec<u8>, ViewFault>
+    ensures { IfOk result (λ bytes. Stands is_binary text.items bytes.items) }
+{
     if is_binary {
-        return view_of(alloc, &text);
+        Ok(text)
+    } else {
+        decode(alloc, &text)
     }
-    let bytes = decode(alloc, &text)?;
-    view_of(alloc, &bytes)
 }
 
 /// The view of some bytes. If they are no message, the only line says why, and after how many bytes that showed.
