@@ -48,13 +48,13 @@ pub fn view_of(alloc: Global, bytes: &[u8]) -> Result<View, ViewFault>
     ensures err { IfErr result (λ fault. fault ≡ ViewFault.Memory) }
 {
     match MLSMessage::tls_deserialize_exact_bytes(alloc, bytes) {
-        Ok(message) => shown(alloc, &message),
+        Ok(message) => shown(alloc, message),
         Err(Error::OutOfMemory) => Err(ViewFault::Memory),
         Err(_) => refused(alloc, bytes),
     }
 }
 
-fn shown(alloc: Global, message: &MLSMessage) -> Result<View, ViewFault>
+fn shown(alloc: Global, message: MLSMessage) -> Result<View, ViewFault>
     ensures ok { IfOk result (λ view. view.is_message ≡ true) }
     ensures err { IfErr result (λ fault. fault ≡ ViewFault.Memory) }
 {
