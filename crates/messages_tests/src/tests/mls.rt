@@ -109,38 +109,38 @@ pub(super) static GROUP_INFO: [u8; 36] = [
 
 // For each length one that is one greater and one that is one less: what a slice and a source answer. An independent
 // decoder in Python, of these two messages alone, gave the rows.
-static KEY_PACKAGE_LENGTHS: [(usize, [Error; 4]); 15] = [
-    (8, [LENGTH, LENGTH, LENGTH, LENGTH]),
-    (11, [LENGTH, LENGTH, LENGTH, LENGTH]),
+static KEY_PACKAGE_LENGTHS: [(usize, &[Error]); 15] = [
+    (8, &[LENGTH, LENGTH, LENGTH, LENGTH]),
+    (11, &[LENGTH, LENGTH, LENGTH, LENGTH]),
     (
         14,
-        [
+        &[
             Error::UnknownValue(261),
             Error::UnknownValue(261),
             Error::UnknownValue(62976),
             Error::UnknownValue(62976),
         ],
     ),
-    (19, [NOT_FILLED, END, END, END]),
-    (25, [NOT_FILLED, END, NOT_FILLED, END]),
-    (28, [NOT_FILLED, END, NOT_FILLED, END]),
-    (33, [NOT_FILLED, END, NOT_FILLED, END]),
-    (36, [NOT_FILLED, END, NOT_FILLED, END]),
-    (39, [NOT_FILLED, END, NOT_FILLED, END]),
-    (61, [LENGTH, END, NOT_FILLED, END]),
-    (64, [NOT_FILLED, END, LENGTH, END]),
-    (67, [NOT_THERE, END, LENGTH, LENGTH]),
-    (70, [END, END, NOT_FILLED, END]),
-    (73, [NOT_FILLED, END, END, END]),
-    (76, [NOT_THERE, END, TRAILING, TRAILING]),
+    (19, &[NOT_FILLED, END, END, END]),
+    (25, &[NOT_FILLED, END, NOT_FILLED, END]),
+    (28, &[NOT_FILLED, END, NOT_FILLED, END]),
+    (33, &[NOT_FILLED, END, NOT_FILLED, END]),
+    (36, &[NOT_FILLED, END, NOT_FILLED, END]),
+    (39, &[NOT_FILLED, END, NOT_FILLED, END]),
+    (61, &[LENGTH, END, NOT_FILLED, END]),
+    (64, &[NOT_FILLED, END, LENGTH, END]),
+    (67, &[NOT_THERE, END, LENGTH, LENGTH]),
+    (70, &[END, END, NOT_FILLED, END]),
+    (73, &[NOT_FILLED, END, END, END]),
+    (76, &[NOT_THERE, END, TRAILING, TRAILING]),
 ];
 
 static KEY_PACKAGE_TAGS: [usize; 4] = [1, 3, 18, 44];
 
-static COMMIT_LENGTHS: [(usize, [Error; 4]); 24] = [
+static COMMIT_LENGTHS: [(usize, &[Error]); 24] = [
     (
         4,
-        [
+        &[
             Error::UnknownValue(0),
             Error::UnknownValue(0),
             Error::UnknownValue(7),
@@ -149,51 +149,51 @@ static COMMIT_LENGTHS: [(usize, [Error; 4]); 24] = [
     ),
     (
         19,
-        [
+        &[
             Error::UnknownValue(11),
             Error::UnknownValue(11),
             Error::UnknownValue(251),
             Error::UnknownValue(251),
         ],
     ),
-    (22, [Error::UnknownValue(755), END, NOT_FILLED, END]),
+    (22, &[Error::UnknownValue(755), END, NOT_FILLED, END]),
     (
         31,
-        [
+        &[
             NOT_FILLED,
             END,
             Error::UnknownValue(194),
             Error::UnknownValue(194),
         ],
     ),
-    (35, [LENGTH, LENGTH, LENGTH, LENGTH]),
+    (35, &[LENGTH, LENGTH, LENGTH, LENGTH]),
     (
         38,
-        [
+        &[
             Error::UnknownValue(261),
             Error::UnknownValue(261),
             Error::UnknownValue(62976),
             Error::UnknownValue(62976),
         ],
     ),
-    (43, [NOT_FILLED, END, END, END]),
-    (49, [NOT_FILLED, END, NOT_FILLED, END]),
-    (52, [NOT_FILLED, END, NOT_FILLED, END]),
-    (57, [NOT_FILLED, END, NOT_FILLED, END]),
-    (60, [NOT_FILLED, END, NOT_FILLED, END]),
-    (63, [NOT_FILLED, END, NOT_FILLED, END]),
-    (69, [LENGTH, END, LENGTH, LENGTH]),
-    (71, [LENGTH, END, NOT_FILLED, END]),
-    (74, [NOT_FILLED, END, LENGTH, END]),
-    (77, [LENGTH, END, LENGTH, LENGTH]),
-    (80, [END, END, NOT_FILLED, END]),
-    (81, [LENGTH, END, LENGTH, END]),
-    (83, [NOT_FILLED, END, NOT_FILLED, END]),
-    (84, [END, END, LENGTH, END]),
-    (86, [NOT_FILLED, END, END, END]),
-    (88, [END, END, END, END]),
-    (90, [END, END, END, END]),
-    (92, [NOT_THERE, END, TRAILING, TRAILING]),
+    (43, &[NOT_FILLED, END, END, END]),
+    (49, &[NOT_FILLED, END, NOT_FILLED, END]),
+    (52, &[NOT_FILLED, END, NOT_FILLED, END]),
+    (57, &[NOT_FILLED, END, NOT_FILLED, END]),
+    (60, &[NOT_FILLED, END, NOT_FILLED, END]),
+    (63, &[NOT_FILLED, END, NOT_FILLED, END]),
+    (69, &[LENGTH, END, LENGTH, LENGTH]),
+    (71, &[LENGTH, END, NOT_FILLED, END]),
+    (74, &[NOT_FILLED, END, LENGTH, END]),
+    (77, &[LENGTH, END, LENGTH, LENGTH]),
+    (80, &[END, END, NOT_FILLED, END]),
+    (81, &[LENGTH, END, LENGTH, END]),
+    (83, &[NOT_FILLED, END, NOT_FILLED, END]),
+    (84, &[END, END, LENGTH, END]),
+    (86, &[NOT_FILLED, END, END, END]),
+    (88, &[END, END, END, END]),
+    (90, &[END, END, END, END]),
+    (92, &[NOT_THERE, END, TRAILING, TRAILING]),
 ];
 
 static COMMIT_TAGS: [usize; 10] = [1, 3, 14, 21, 23, 25, 30, 34, 42, 68];
@@ -299,16 +299,19 @@ fn lengths_are_told(
     rt: &impl Abort,
     alloc: Global,
     spelled: &[u8],
-    rows: &[(usize, [Error; 4])],
+    rows: &[(usize, &[Error])],
 ) -> Result<(), Fail> {
-    for (at, [greater, greater_read, less, less_read]) in rows.iter().copied() {
-        let Some(length) = spelled.get(at).copied() else {
+    for (at, errors) in rows.iter().copied() {
+        let (Some(length), [greater, greater_read, less, less_read]) = (
+            spelled.get(at).copied(),
+            errors,
+        ) else {
             panic!(rt; "no byte at {at}");
         };
         let one_more = [length.wrapping_add(1)];
-        is_told(rt, alloc, spelled, at, &one_more, [greater, greater_read])?;
+        is_told(rt, alloc, spelled, at, &one_more, [*greater, *greater_read])?;
         let one_less = [length.wrapping_sub(1)];
-        is_told(rt, alloc, spelled, at, &one_less, [less, less_read])?;
+        is_told(rt, alloc, spelled, at, &one_less, [*less, *less_read])?;
         is_told(rt, alloc, spelled, at, &[0x40, length], [LENGTH, LENGTH])?;
     }
     Ok(())

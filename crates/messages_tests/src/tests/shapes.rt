@@ -206,6 +206,9 @@ fn lent_structs(rt: HostRuntime) -> Result<(), Fail> {
     let alloc = rt.alloc();
     let key = bytes(alloc, 7)?;
     let certificate = certificate(alloc, 5)?;
+    let certificate = CertificateTBS {
+        certificate: &certificate,
+    };
     let suites = Vec::from_array(alloc, [CipherSuite(3)])?;
     let lifetime = Lifetime {
         not_before: 1,
@@ -240,9 +243,7 @@ fn lent_structs(rt: HostRuntime) -> Result<(), Fail> {
             suites: &suites,
         };
         let group = GroupTBS {
-            certificate: CertificateTBS {
-                certificate: &certificate,
-            },
+            certificate,
             epoch: &6,
             node,
         };

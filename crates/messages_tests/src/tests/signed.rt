@@ -3,10 +3,10 @@ use crate::tests::each_call::is_written;
 use crate::tests::mls::{COMMIT, GROUP_INFO, KEY_PACKAGE, PRIVATE_MESSAGE};
 use crate::tests::same;
 use mls_framing::{
-    ContentTypeData, FramedContentTBS, GroupInfo, GroupInfoTBS, KeyPackage, KeyPackageTBS,
-    LeafNode, LeafNodeOrigin, LeafNodeTBS, LeafNodeTBSOrigin, MLSMessage, PrivateContentAAD,
-    ProtocolVersionMls10, PublicMessageContentTypeData, PublicMessageSenderTypeData, SenderDataAAD,
-    SenderTypeData, SignContent, WireFormat, WireFormatData,
+    Commit, ContentTypeData, FramedContentTBS, GroupContext, GroupInfo, GroupInfoTBS, KeyPackage,
+    KeyPackageTBS, LeafNode, LeafNodeOrigin, LeafNodeTBS, LeafNodeTBSOrigin, MLSMessage,
+    PrivateContentAAD, ProtocolVersionMls10, SenderDataAAD, SenderTypeData, SignContent,
+    WireFormat, WireFormatData,
 };
 use std::alloc::Global;
 use std::process::Abort;
@@ -117,47 +117,54 @@ fn is_leaf_written(
     is_written(rt, alloc, &signed, &expected)
 }
 
-#[test]
-fn a_commit_and_its_leaf_node(rt: HostRuntime) -> Result<(), Fail> {
-    let alloc = rt.alloc();
-    let WireFormatData::MlsPublicMessage(public) = read(alloc, &COMMIT)? else {
-        panic!(rt; "no public message");
-    };
-    let PublicMessageSenderTypeData::Member {
-        leaf_index,
+// Section 6.1, for the commit of a member.
+fn is_content_written(
+    rt: &impl Abort,
+    alloc: Global,
+    group_id: &VLBytes,
+    authenticated_data: &VLBytes,
+    content_type: &ContentTypeData,
+    context: &GroupContext,
+) -> Result<(), Fail> {
+    let sender = SenderTypeData::Member {
+        leaf_index: &2,
         authenticated_data,
         content_type,
-        ..
-    } = public.sender_type
-    else {
-        panic!(rt; "another sender");
-    };
-    let PublicMessageContentTypeData::Commit { commit, .. } = content_type else {
-        panic!(rt; "no commit");
-    };
-    let Some(path) = &commit.path else {
-        panic!(rt; "no path");
-    };
-    is_leaf_written(&rt, alloc, &path.leaf_node, &public.group_id, &leaf_index)?;
-    let info = group_info(&rt, alloc)?;
-    let content = ContentTypeData::Commit(commit);
-    let sender = SenderTypeData::Member {
-        leaf_index: &leaf_index,
-        authenticated_data: &authenticated_data,
-        content_type: &content,
-        context: &info.group_context,
+        context,
     };
     let signed = FramedContentTBS {
         version: &ProtocolVersionMls10::Mls10,
         wire_format: &WireFormat::MLS_PUBLIC_MESSAGE,
-        group_id: &public.group_id,
-        epoch: &public.epoch,
+        group_id,
+        epoch: &7,
         sender_type: sender,
     };
-    // Section 6.1: the message up to its signature, and the group's context.
-    let context = part(&rt, alloc, &GROUP_INFO, 4, 23, &[])?;
-    let expected = part(&rt, alloc, &COMMIT, 0, 88, &context)?;
-    is_written(&rt, alloc, &signed, &expected)
+    // The message up to its signature, and the group's context.
+    let context = part(rt, alloc, &GROUP_INFO, 4, 23, &[])?;
+    let expected = part(rt, alloc, &COMMIT, 0, 88, &context)?;
+    is_written(rt, alloc, &signed, &expected)
+}
+
+#[test]
+fn a_commit_and_its_leaf_node(rt: HostRuntime) -> Result<(), Fail> {
+    let alloc = rt.alloc();
+    let bytes = part(&rt, alloc, &COMMIT, 22, 88, &[])?;
+    let commit = Commit::tls_deserialize_exact_bytes(alloc, &bytes)?;
+    let group_id = VLBytes::from_slice(alloc, &[0xfa])?;
+    let authenticated_data = VLBytes::from_slice(alloc, &[0xfb])?;
+    match &commit.path {
+        Some(path) => is_leaf_written(&rt, alloc, &path.leaf_node, &group_id, &2)?,
+        None => panic!(rt; "no path"),
+    }
+    let info = group_info(&rt, alloc)?;
+    is_content_written(
+        &rt,
+        alloc,
+        &group_id,
+        &authenticated_data,
+        &ContentTypeData::Commit(commit),
+        &info.group_context,
+    )
 }
 
 // Sections 6.3.1 and 6.3.2.
