@@ -1,13 +1,12 @@
 -- Elements that are read in a row from a source that ends where their list does.
-use Rattle.std.proofs.Common.{◌≡◌, ℕ, ◌+◌, ◌-◌, ◌<◌, List, [], ◌∷◌, ◌++◌, length, take, Bool, false, refl, sym, ap, subst, ◌∙◌, inl, inr, arith, length-append}
+use Rattle.std.proofs.Common.{◌≡◌, ℕ, ◌+◌, ◌-◌, ◌<◌, List, [], ◌∷◌, ◌++◌, length, take, refl, sym, ap, subst, ◌∙◌, inl, inr, arith, length-append}
 use Rattle.std.specs.Prelude.{codes}
 use Rattle.std.proofs.Math.Seq.{take-append-add}
 use Rattle.std.proofs.lemmas.List.{nil_from_length}
 use Rattle.tls_codec_wire.specs.declared.bounded.Bounded.{Bounded}
 use Rattle.tls_codec_wire.specs.declared.error.Error.{Error}
 use Rattle.tls_codec_wire.specs.Bounded.{GaveWithin, inner_of, limit_of}
-use Rattle.tls_codec_wire.specs.Counts.{Counts, NoneFell}
-use Rattle.tls_codec_wire.specs.Device.{Gave, GivesInOrder, GivesNothing, NoCountFalls}
+use Rattle.tls_codec_wire.specs.Device.{GivesInOrder, GivesNothing, NoCountFalls}
 use Rattle.tls_codec_wire.specs.Refused.{Causes, RefusedFor, within}
 use Rattle.tls_codec_wire.specs.declared.device.Source.{Ghosts}
 use Rattle.tls_codec_wire.specs.declared.error.Error.TheVariants.{OutOfMemory}

@@ -1,5 +1,5 @@
 -- A value that was given, but no memory was there for it.
-use Rattle.std.proofs.Common.{◌≡◌, ◌⊎◌, ℕ, List, Bool, false, Result, Ok, Err, inl, inr, refl}
+use Rattle.std.proofs.Common.{◌≡◌, ◌⊎◌, ℕ, List, false, Result, Ok, Err, inl, inr, refl}
 use Rattle.std.specs.Prelude.{IfErr, IfOk}
 use Rattle.tls_codec_wire.specs.Device.{GivesNothing}
 use Rattle.tls_codec_wire.specs.Refused.{Causes}

@@ -1,5 +1,5 @@
 -- What an option's bytes begin with, from what its payload's begin with.
-use Rattle.std.proofs.Common.{◌≡◌, ◌≢◌, ℕ, List, [], ◌∷◌, ◌++◌, length, get_or, Bool, inl, inr, refl, sym, ap, subst, ◌∙◌, arith}
+use Rattle.std.proofs.Common.{◌≡◌, ◌≢◌, ℕ, List, [], ◌∷◌, ◌++◌, length, get_or, Bool, inl, inr, refl, sym, ap, ◌∙◌, arith}
 use Rattle.tls_codec_wire.specs.Counts.{Counts, NoneFell}
 use Rattle.tls_codec_wire.specs.Device.{GivesInOrder}
 use Rattle.tls_codec_wire.specs.declared.error.Error.{Error}

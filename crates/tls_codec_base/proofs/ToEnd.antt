@@ -1,5 +1,5 @@
 -- A value, and the end of its source.
-use Rattle.std.proofs.Common.{◌≡◌, ℕ, List, [], ◌++◌, inl, inr, sym, ap, subst, ◌∙◌, append-nil}
+use Rattle.std.proofs.Common.{ℕ, List, [], inl, inr, subst, append-nil}
 use Rattle.tls_codec_wire.specs.Device.{GivesInOrder, NoCountFalls}
 use Rattle.tls_codec_wire.specs.Refused.{Causes, RefusedFor, Seen}
 use Rattle.tls_codec_wire.specs.Transfer.{EndRefused}

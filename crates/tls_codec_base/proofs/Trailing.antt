@@ -1,5 +1,5 @@
 -- Why decoders never return `TrailingData`: only a part can name it.
-use Rattle.std.proofs.Common.{◌≡◌, ◌⊎◌, ℕ, List, inl, inr, refl}
+use Rattle.std.proofs.Common.{◌≡◌, ◌⊎◌, ℕ, inl, inr, refl}
 use Rattle.tls_codec_wire.specs.Refused.{Causes}
 use Rattle.tls_codec_wire.specs.declared.error.Error.TheVariants.{OutOfMemory, TrailingData}
 use Rattle.tls_codec_grammar.specs.Field.{Field}

@@ -1,25 +1,26 @@
 -- Turns of lists that are refused, and how many there are at most.
-use Rattle.std.proofs.Common.{◌≡◌, Bool, ℕ, ◌+◌, ◌≤◌, ◌⊎◌, List, ◌++◌, length, take, Option, Some, inl, inr, refl, sym, ap, subst, ◌∙◌, arith, length-append}
+use Rattle.std.proofs.Common.{◌≡◌, Bool, ℕ, zero, suc, ◌+◌, ◌<◌, ◌≤◌, ◌⊎◌, List, [], ◌∷◌, ◌++◌, length, take, Option, None, Some, inl, inr, refl, sym, ap, subst, ◌∙◌, append_assoc, append-nil, arith, length-append}
 use Rattle.std.proofs.Math.Seq.{take-append-add}
-use Rattle.std.specs.Prelude.{Ok, Vec}
+use Rattle.std.specs.Prelude.{Ok, Vec, option_map}
+use Rattle.std.specs.Io.KnownBytes.{IsAtEnd}
 use Rattle.std.specs.Global.{Global}
-use Rattle.tls_codec_wire.specs.Bounded.{GaveWithin, inner_of, limit_of}
+use Rattle.tls_codec_wire.specs.Bounded.{first_bytes, GaveWithin, inner_of, limit_of}
 use Rattle.tls_codec_wire.specs.Counts.{Counts, NoneFell}
-use Rattle.tls_codec_wire.specs.Device.{Gave, Gives, GivesInOrder, NoCountFalls}
-use Rattle.tls_codec_wire.specs.Refused.{Causes, RefusedFor, Seen}
+use Rattle.tls_codec_wire.specs.Device.{Gave, Gives, GivesInOrder, GivesNothing, NoCountFalls}
+use Rattle.tls_codec_wire.specs.Refused.{Causes, RefusedFor, told_or}
 use Rattle.tls_codec_wire.specs.declared.bounded.Bounded.{Bounded}
 use Rattle.tls_codec_wire.specs.declared.device.Source.{Ghosts}
 use Rattle.tls_codec_wire.specs.declared.error.Error.{Error}
-use Rattle.tls_codec_wire.specs.declared.error.Error.TheVariants.{OutOfMemory}
+use Rattle.tls_codec_wire.specs.declared.error.Error.TheVariants.{EndOfStream, OutOfMemory}
 use Rattle.tls_codec_grammar.specs.Tree.{Tree, trees}
 use Rattle.tls_codec_grammar.specs.Grammar.{Grammar, Reading, content, sized}
 use Rattle.tls_codec_grammar.specs.Lawful.{IsLawful}
 use Rattle.tls_codec_grammar.specs.Decoding.{AllGiven, AllRead, GaveSpelling, Refuses, RefusesSource}
 use Rattle.tls_codec_grammar.specs.Format.{Format}
 use Rattle.tls_codec_wire.proofs.Later.{fault_later}
-use Rattle.tls_codec_wire.proofs.Refused.{refused_later, seen_gave}
+use Rattle.tls_codec_wire.proofs.Refused.{refused_later, refused_now, seen_now}
 use Rattle.tls_codec_base.specs.WholeElements.{NoElementBegins}
-use Rattle.tls_codec_base.specs.Turns.{MemoryOrFault, TurnedAll, TurnedAtMost, TurnedBy, TurnedEach, TurnedPast, TurnedWithin, TurnedWithinGiven, source_turns, turns_of}
+use Rattle.tls_codec_base.specs.Turns.{MemoryOrFault, TurnedAll, TurnedAtMost, TurnedBy, TurnedEach, TurnedPast, TurnedRefusedAtOnce, TurnedWithin, TurnedWithinGiven, source_turns, turns_of}
 use Rattle.tls_codec_base.specs.declared.lists.Turns.{Turns}
 use Rattle.tls_codec_base.proofs.ListReading.{ReadSoFar}
 use Rattle.tls_codec_base.proofs.ListSources.{GivenSoFar}
@@ -102,10 +103,10 @@ turned_within_given plain {S} {given} {element} {start} {mid} {n} {left} xs more
 }
 
 -- at once, too
-pub at_once_within_given : {T S : Type 0} (f : Format) (plain : T → Tree) (source : Ghosts S) (a b : Bounded S) (found : Option (Vec T Global)) (elements : Vec T Global) {old new : Turns} → AllGiven f plain source a b (Ok found) → found ≡ Some elements → TurnedAll old new (Ok found)
+pub at_once_within_given : {T S : Type 0} (f : Format) (plain : T → Tree) (source : Ghosts S) (a b : Bounded S) (found : Option (Vec T Global)) (elements : Vec T Global) {old new : Turns} → AllGiven f plain source a b (Ok found) → found ≡ Some elements → TurnedAll f.spells source a b old new (Ok found)
     → TurnedWithinGiven source.given (limit_of a) (inner_of a) (inner_of b) old new
 at_once_within_given {T} {S} f plain source a b found elements {old} {new} p e all =
-    let turned : TurnedEach elements.items old new = subst (λ (o : Option (Vec T Global)). TurnedAll old new (Ok o)) e all in
+    let turned : TurnedEach elements.items old new = subst (λ (o : Option (Vec T Global)). TurnedAll f.spells source a b old new (Ok o)) e all in
     let gave : GaveSpelling source.given (sized (limit_of a) (content f.spells)) (inner_of a) (inner_of b) (trees plain elements.items) = subst (λ (o : Option (Vec T Global)). AllGiven f plain source a b (Ok o)) e p in
     let so_far : GivenSoFar source.given f.spells (inner_of a) (inner_of b) (limit_of a) 0 (trees plain elements.items) = record { front = gave.front; held = gave.held; fills = omega (arith, gave.spelled.0); spelled = gave.spelled.1 } in
     turned_within_given plain elements.items 0 so_far (omega (arith, turned)) (omega arith)
@@ -119,8 +120,49 @@ turned_within_attempt plain {S} {given} order {element} {start} {n} {a} {b} xs m
   within = at_most turned (omega (arith, le, content_has_bytes plain element p.front xs p.spelled, p.fills, length-append p.front q.bytes));
 }
 
--- if they were refused at once, none was added
-pub refused_within_given : {S : Type 0} {source : Ghosts S} {n : ℕ} {a b : S} {x : List ℕ} {old new : Turns} → GivesInOrder source.given → Seen source a b x → new ≡ old → TurnedWithinGiven source.given n a b old new
-refused_within_given order seen same =
-    let gave = seen_gave order seen in
-    record { bytes = gave.bytes; held = gave.held; within = record { more = omega (arith, ap turns_of same); most = omega (arith, ap turns_of same) } }
+-- ---- refused at once
+
+-- there was no memory for elements that were given: no turn was added
+pub no_memory_at_once : {S : Type 0} {source : Ghosts S} (a b : Bounded S) (given : List ℕ) → GivesNothing source.given → source.given (inner_of a) given (inner_of b) → (spells : Grammar) {old new : Turns} {e : Error} → e ≡ OutOfMemory → new ≡ old → TurnedRefusedAtOnce spells source a b old new e
+no_memory_at_once a b given nothing held spells {old} {new} {e} out same =
+    let none : (n : ℕ) → TurnedAtMost n old new = λ n. record { more = omega (arith, ap turns_of same); most = omega (arith, ap turns_of same) } in
+    record {
+      refused = refused_now given nothing held (λ rest. record { at_most = λ m w. none (m + 1); exactly = inl (inl out) });
+      bounded = record { bytes = given; held = held; within = none _ };
+    }
+
+module _ {S : Type 0} {source : Ghosts S} (a b : Bounded S) (given : List ℕ) (nothing : GivesNothing source.given) (gave : GaveWithin source.given a given b) where
+  -- a cause of what was given, and of what is to come after it: nothing, if the source is at its end
+  pub refused_after : {causes : Causes} {e : Error} → (e ≡ EndOfStream → (0 < limit_of b) × IsAtEnd (first_bytes source.coming b)) → ((rest : List ℕ) → (e ≡ EndOfStream → rest ≡ []) → causes (given ++ rest) (source.counts (inner_of a)) (source.counts (inner_of b)) e)
+      → RefusedFor source causes (inner_of a) (inner_of b) e
+  refused_after {causes} {e} end cause = record {
+    bytes = _;
+    seen = seen_now given nothing gave.held;
+    cause = cause (told_or (source.coming (inner_of b)) []) (λ ends. none_told (source.coming (inner_of b)) (limit_of b) (end ends).0 (end ends).1);
+  }
+    where
+      none_told : (coming : Option (List ℕ)) (n : ℕ) → 0 < n → IsAtEnd (option_map (take n) coming) → told_or coming [] ≡ []
+      none_told None n some at_end = refl
+      none_told (Some []) n some at_end = refl
+      none_told (Some (x ∷ xs)) zero some at_end = absurd (omega (arith, some))
+      none_told (Some (x ∷ xs)) (suc n) some at_end = absurd (omega (arith, ap length at_end))
+
+  -- m whole elements and a part of another one were given, and the list is refused: it took m turns and one more
+  pub turned_past_given : {T : Type 0} (element : Grammar) (f : Tree → ℕ) (l : IsLawful element f) (plain : T → Tree) (front part : List ℕ) (xs : List T) {e : Error} {old new : Turns} → given ≡ front ++ part → content element Reading front (trees plain xs)
+      → (e ≡ EndOfStream → (0 < limit_of b) × IsAtEnd (first_bytes source.coming b)) → (e ≡ EndOfStream → NoElementBegins element part) → MemoryOrFault (source.counts (inner_of a)) (source.counts (inner_of b)) e ⊎ (e ≡ EndOfStream) → TurnedBy (length xs + 1) old new → TurnedRefusedAtOnce element source a b old new e
+  turned_past_given {T} element f l plain front part xs {e} {old} {new} whole spelled end none why turned =
+      let n = limit_of a in
+      let left = limit_of b + length part in
+      let sum : length given ≡ length front + length part = ap length whole ∙ length-append front part in
+      let fills : length front + left ≡ n = omega (arith, sum, gave.fell) in
+      record {
+        refused = refused_after end (λ rest ends.
+            let first : take n (given ++ rest) ≡ front ++ take left (part ++ rest) =
+            ap (λ (u : List ℕ). take n (u ++ rest)) whole ∙ ap (take n) (append_assoc front part rest) ∙ taken front (part ++ rest) n left fills in
+            let cause : MemoryOrFault (source.counts (inner_of a)) (source.counts (inner_of b)) e ⊎ NoElementBegins element (take left (part ++ rest)) = elim why [
+              | inl excuse ↦ inl excuse
+              | inr eos ↦ inr (none_in_fewer element left (part ++ rest) (subst (NoElementBegins element) (sym (ap (λ (u : List ℕ). part ++ u) (ends eos) ∙ append-nil part)) (none eos)))
+            ] in
+            subst (λ (u : List ℕ). TurnedPast element u (MemoryOrFault (source.counts (inner_of a)) (source.counts (inner_of b)) e) old new) (sym first) (turned_past element f l plain front (take left (part ++ rest)) xs spelled turned cause));
+        bounded = record { bytes = given; held = gave.held; within = at_most turned (omega (arith, content_has_bytes plain element front xs spelled, sum, gave.fell)) };
+      }

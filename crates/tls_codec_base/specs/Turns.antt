@@ -1,9 +1,12 @@
 -- How often a list engine tried to read an element.
-use Rattle.std.specs.Prelude.{◌≡◌, ◌≤◌, ◌⊎◌, ℕ, ◌+◌, ◌-◌, ◌^◌, List, length, min, take, Option, None, Some, Result, Ok, Err, Vec, ⊤}
+use Rattle.std.specs.Prelude.{◌≡◌, ◌≤◌, ◌⊎◌, ℕ, ◌+◌, ◌-◌, ◌^◌, List, length, min, take, Option, None, Some, Result, Ok, Err, Vec}
 use Rattle.std.specs.Global.{Global}
+use Rattle.tls_codec_wire.specs.Bounded.{inner_of, limit_of}
 use Rattle.tls_codec_wire.specs.Counts.{Counts, FaultIsCounted}
 use Rattle.tls_codec_wire.specs.Device.{Gives}
-use Rattle.tls_codec_wire.specs.Refused.{Causes}
+use Rattle.tls_codec_wire.specs.Refused.{Causes, RefusedFor}
+use Rattle.tls_codec_wire.specs.declared.bounded.Bounded.{Bounded}
+use Rattle.tls_codec_wire.specs.declared.device.Source.{Ghosts}
 use Rattle.tls_codec_wire.specs.declared.error.Error.{Error}
 use Rattle.tls_codec_wire.specs.declared.error.Error.TheVariants.{OutOfMemory}
 use Rattle.tls_codec_grammar.specs.Grammar.{Grammar}
@@ -27,19 +30,11 @@ pub record TurnedAtMost (n : ℕ) (old new : Turns) : Type 0 where
   pub more : turns_of old ≤ turns_of new
   pub most : turns_of new ≤ turns_of old + n
 
--- ---- elements at once
-
--- elements that are read at once take a turn each; if there are none, or they are refused, none was added
-abbrev pub TurnedAll : {T : Type 0} → Turns → Turns → Result (Option (Vec T Global)) Error → Type 0
-TurnedAll old new (Ok (Some elements)) = TurnedEach elements.items old new
-TurnedAll old new (Ok None) = new ≡ old
-TurnedAll old new (Err e) = new ≡ old
+-- ---- refused lists
 
 -- it ran out of memory, or a fault was counted
 abbrev pub MemoryOrFault : Counts → Counts → Error → Type 0
 MemoryOrFault before after e = (e ≡ OutOfMemory) ⊎ FaultIsCounted before after
-
--- ---- refused lists
 
 -- a list was refused that was to fill the bytes x: one turn more was added than x has whole elements; if it is
 -- excused, at most that
@@ -66,3 +61,16 @@ pub record TurnedWithinGiven {S : Type 0} (given : Gives S) (n : ℕ) (a b : S) 
   pub bytes : List ℕ
   pub held : given a bytes b
   pub within : TurnedWithin n bytes old new
+
+-- ---- elements at once
+
+-- a list of what a source may still give was refused at once: its turns are those of a list that is read one by one
+pub record TurnedRefusedAtOnce {S : Type 0} (spells : Grammar) (source : Ghosts S) (a b : Bounded S) (old new : Turns) (e : Error) : Type 0 where
+  pub refused : RefusedFor source (source_turns spells (limit_of a) old new) (inner_of a) (inner_of b) e
+  pub bounded : TurnedWithinGiven source.given (limit_of a) (inner_of a) (inner_of b) old new
+
+-- elements that are read at once take a turn each; if there are none, none was added
+abbrev pub TurnedAll : {T S : Type 0} → Grammar → Ghosts S → Bounded S → Bounded S → Turns → Turns → Result (Option (Vec T Global)) Error → Type 0
+TurnedAll spells source a b old new (Ok (Some elements)) = TurnedEach elements.items old new
+TurnedAll spells source a b old new (Ok None) = new ≡ old
+TurnedAll spells source a b old new (Err e) = TurnedRefusedAtOnce spells source a b old new e

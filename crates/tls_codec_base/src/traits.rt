@@ -1,6 +1,6 @@
 //! The five traits of a type with a spelling, and their contracts.
 ghost use Rattle.std.specs.Prelude.{◌≡◌, ◌⊎◌, List, ℕ, IfErr, IfSome, IsErrAnd};
-ghost use Rattle.tls_codec_wire.specs.Bounded.{BorrowAlike, inner_of, limit_of};
+ghost use Rattle.tls_codec_wire.specs.Bounded.{BorrowAlike};
 ghost use Rattle.tls_codec_wire.specs.Counts.{Counts, no_counts};
 ghost use Rattle.tls_codec_wire.specs.declared.error.Error.{Error};
 ghost use Rattle.tls_codec_wire.specs.declared.error.Error.TheVariants.{InvalidVectorLength, OutOfMemory, TrailingData};
@@ -8,7 +8,7 @@ ghost use Rattle.tls_codec_grammar.specs.Tree.{Tree, trees};
 ghost use Rattle.tls_codec_grammar.specs.Format.{Format};
 ghost use Rattle.tls_codec_grammar.specs.Lawful.{MeetsLaws};
 ghost use Rattle.tls_codec_base.specs.Refusals.{NamedWithin};
-ghost use Rattle.tls_codec_base.specs.Turns.{MemoryOrFault, TurnedAll};
+ghost use Rattle.tls_codec_base.specs.Turns.{TurnedAll};
 ghost use Rattle.tls_codec_grammar.specs.Decoding.{AllGiven, AllRead, LeavesBytes, Named, Reads, ReadsWhole, Splits};
 ghost use Rattle.tls_codec_grammar.specs.Encoding.{AllSent, AppendsForm, Makes, Writes};
 
@@ -138,8 +138,8 @@ pub trait Deserialize: Size + Drop {
     /// The elements that fill what a source may still give, each of which is a turn. It is none, and
     /// nothing is taken, if such elements are read one by one.
     ///
-    /// Provided. A type of fixed width may do it at once, and every list then goes through here. If
-    /// the bytes that come are to be refused, it leaves that to the engine.
+    /// Provided. A type of fixed width may do it at once, and every list then goes through here. If the list is
+    /// refused, the attempt that failed is a turn too.
     fn tls_read_elements<R: Source>(
         _alloc: Global,
         within: &mut Bounded<R>,
@@ -149,9 +149,8 @@ pub trait Deserialize: Size + Drop {
         ensures reads { AllGiven Self.format Self.plain R.Source within.old within.new result }
         ensures named { IfErr result
             (NamedWithin Self.format names R.Source within.old within.new) }
-        ensures turned { TurnedAll turns.old turns.new result }
-        ensures at_once { IfErr result
-            (MemoryOrFault (R.counts (inner_of within.old)) (R.counts (inner_of within.new))) }
+        ensures turned { TurnedAll Self.format.spells R.Source within.old within.new turns.old
+            turns.new result }
     {
         Ok(None)
     }

@@ -1,5 +1,5 @@
 -- What the bytes of a number below a limit say, read from the front.
-use Rattle.std.proofs.Common.{take, drop, take-append-drop, refl, inl, inr, suc, ◌⊎◌, Option, None, Some, ◌≡◌, ℕ, ◌+◌, ◌*◌, ◌/◌, ◌%◌, ◌^◌, ◌<◌, ◌≤◌, List, [], ◌∷◌, ◌++◌, length, get_or, sym, ap, subst, ◌∙◌, add-one, arith, pow-suc}
+use Rattle.std.proofs.Common.{take, drop, take-append-drop, refl, inl, inr, suc, ◌⊎◌, ◌≡◌, ℕ, ◌+◌, ◌*◌, ◌/◌, ◌%◌, ◌^◌, ◌<◌, ◌≤◌, List, [], ◌∷◌, ◌++◌, length, get_or, sym, ap, subst, ◌∙◌, add-one, arith, pow-suc}
 use Rattle.std.proofs.lemmas.Bool.{lt-ltb}
 use Rattle.std.proofs.Math.Nat.{pow-le-pow_right}
 use Rattle.tls_codec_wire.proofs.BigEndian.{value-snoc}

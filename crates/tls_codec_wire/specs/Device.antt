@@ -73,6 +73,12 @@ pub record Gave {S : Type 0} (given : Gives S) (old new : S) : Type 0 where
   pub bytes : List ℕ
   pub held : given old bytes new
 
+-- what was given came after the bytes of a vector
+pub record Came {S : Type 0} (given : Gives S) (old new : S) (before after : List ℕ) : Type 0 where
+  pub bytes : List ℕ
+  pub held : given old bytes new
+  pub appended : after ≡ before ++ bytes
+
 -- the bytes that a call moved come after those of a vector
 pub record PulledOnto {S : Type 0} (given : Gives S) (old new : S) (result : Result ℕ Fault) (before after : List ℕ) : Type 0 where
   pub bytes : List ℕ

@@ -1,5 +1,5 @@
 -- What calls on numbers in bytes return, whatever it is that spells them.
-use Rattle.std.specs.Prelude.{◌≡◌, ◌≤◌, ℕ, List, ◌++◌, length, Option, None, Some}
+use Rattle.std.specs.Prelude.{◌≡◌, ◌≤◌, ℕ, List, ◌++◌, length, Option}
 use Rattle.std.specs.Io.KnownBytes.{Appends}
 use Rattle.tls_codec_wire.specs.Counts.{Counts, RoseBy}
 use Rattle.tls_codec_wire.specs.Device.{Gives, Received}

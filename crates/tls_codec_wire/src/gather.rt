@@ -1,10 +1,11 @@
 //! Bytes of a source, gathered in a vector as they come.
-ghost use Rattle.std.specs.Prelude.{◌≡◌, ◌<◌, ◌≤◌, ◌^◌, ◌↔◌, length, max, IsTrue, IfErr, IfOk, MatchOption};
+ghost use Rattle.std.specs.Prelude.{◌≡◌, ◌+◌, ◌<◌, ◌≤◌, ◌^◌, ◌↔◌, length, max, IsTrue, IfErr, IfOk, MatchOption};
+ghost use Rattle.std.specs.Io.KnownBytes.{IsAtEnd};
 ghost use Rattle.tls_codec_wire.specs.Counts.{OnlyInterrupted};
-ghost use Rattle.tls_codec_wire.specs.Device.{Gave};
+ghost use Rattle.tls_codec_wire.specs.Device.{Came, Gave};
 ghost use Rattle.tls_codec_wire.specs.Refused.{RefusedFor};
 ghost use Rattle.tls_codec_wire.specs.Transfer.{BytesRefused};
-ghost use Rattle.tls_codec_wire.specs.declared.error.Error.TheVariants.{InvalidVectorLength, OutOfMemory};
+ghost use Rattle.tls_codec_wire.specs.declared.error.Error.TheVariants.{EndOfStream, InvalidVectorLength, OutOfMemory};
 
 use crate::device::Source;
 use crate::error::Error;
@@ -47,10 +48,12 @@ pub fn read_bytes_bounded<R: Source>(
     if len == 0 {
         return Ok(Vec::new(alloc));
     }
-    match take_at_hand(alloc, src, len)? {
-        Some(bytes) => Ok(bytes),
-        None => gather(alloc, src, len),
+    if let Some(bytes) = take_at_hand(alloc, src, len)? {
+        return Ok(bytes);
     }
+    let mut bytes = Vec::new(alloc);
+    gather(src, &mut bytes, len)?;
+    Ok(bytes)
 }
 
 // The next `len` bytes, if they are at hand. Else it is none, and nothing is taken.
@@ -79,28 +82,41 @@ fn are_at_hand(len: usize, at_hand: &[u8]) -> bool
     len <= at_hand.len()
 }
 
-// The same bytes, as they come. It is kept out of what reads bytes at hand.
+/// Appends the next `len` bytes to a vector, as they come.
+///
+/// After a refusal the vector has all bytes that came. `EndOfStream`: these were all bytes to come. Every other
+/// refusal, the room that is requested, and interruptions are as in [`read_bytes_bounded`].
+///
+/// ```rust
+/// let mut src = [1u8, 2, 3].as_slice();
+/// let mut bytes = Vec::new(alloc);
+/// gather(&mut src, &mut bytes, 2)?;
+/// assert_eq!(rt; bytes.as_slice(), [1, 2].as_slice());
+/// ```
+// It is kept out of what reads bytes at hand.
 #[inline(never)]
-fn gather<R: Source>(alloc: Global, src: &mut R, len: usize) -> Result<Vec<u8>, Error>
-    ensures gave { Gave R.given src.old src.new }
-    ensures ok { IfOk result (λ bytes. R.given src.old bytes.items src.new) }
-    ensures count { IfOk result (λ bytes. length bytes.items ≡ len) }
+pub fn gather<R: Source>(src: &mut R, bytes: &mut Vec<u8>, len: usize) -> Result<(), Error>
+    ensures came { Came R.given src.old src.new bytes.old.items bytes.new.items }
+    ensures count { IfOk result (λ _. length bytes.new.items ≡ length bytes.old.items + len) }
     ensures refused { IfErr result (RefusedFor R.Source (BytesRefused len) src.old src.new) }
+    ensures ended { result ≡ Err EndOfStream → IsAtEnd (R.coming src.new) }
     ensures calm { IfOk result (λ _. OnlyInterrupted (R.counts src.old) (R.counts src.new)) }
 {
-    let mut bytes = Vec::new(alloc);
+    let mut came = 0;
     let mut row = 0;
-    while bytes.len() < len {
-        let came = bytes.len();
+    while came < len {
         let step = (len - came).min(room_for(came, src.at_hand()));
         bytes.reserve_exact(step)?;
-        match src.pull_onto(&mut bytes, step) {
+        match src.pull_onto(bytes, step) {
             Ok(0) => return Err(Error::EndOfStream),
-            Ok(_) => row = 0,
+            Ok(n) => {
+                came += n;
+                row = 0;
+            }
             Err(fault) => row = after_fault(fault, row, Error::DecodingError("read failed"))?,
         }
     }
-    Ok(bytes)
+    Ok(())
 }
 
 // How much room is requested if `came` bytes came and others are at hand: little before any came, and

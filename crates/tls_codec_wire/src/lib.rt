@@ -10,7 +10,8 @@
 //! - [`memory`]: a slice as a source, a vector as a sink.
 //! - [`outside`]: [`Outside`], any `Read` or `Write` as a device.
 //! - [`bounded`]: [`Bounded`], the first bytes of another source.
-//! - [`transfer`]: [`read_exactly`] and [`write_all`], and [`expect_end`]. [`gather`]: [`read_bytes_bounded`].
+//! - [`transfer`]: [`read_exactly`] and [`write_all`], and [`expect_end`]. [`gather`]: [`read_bytes_bounded`](gather::read_bytes_bounded) and
+//!   [`gather`](gather::gather).
 //! - [`uint24`]: [`U24`], a number of 24 bits.
 //! - [`varint`]: [`TlsVarInt`], the number of a variable-length integer (varint).
 //! - [`quic`]: variable-length integers, read and written. [`vlen`]: lengths as such integers. Both

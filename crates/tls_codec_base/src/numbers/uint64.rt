@@ -79,7 +79,7 @@ impl Deserialize for u64 {
         Ok(u64::from_be_bytes(digits))
     }
 
-    /// The numbers are read at once, if they are at hand.
+    /// The numbers are read at once.
     fn tls_read_elements<R: Source>(
         alloc: Global,
         within: &mut Bounded<R>,

@@ -67,13 +67,13 @@ impl Deserialize for u8 {
         Ok(u8::from_be_bytes(digits))
     }
 
-    /// The bytes are read at once, if they are at hand.
+    /// The bytes are read at once.
     fn tls_read_elements<R: Source>(
         alloc: Global,
         within: &mut Bounded<R>,
         turns: &mut Turns,
     ) -> Result<Option<Vec<u8>>, Error> {
-        let Some(bytes) = read_run::<R, 1>(alloc, within)? else {
+        let Some(bytes) = read_run::<R, 1>(alloc, within, turns)? else {
             return Ok(None);
         };
         turns.turn_by(bytes.len());

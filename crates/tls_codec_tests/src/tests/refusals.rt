@@ -53,6 +53,7 @@ fn turns_of_refused_elements(rt: HostRuntime) {
     let end = Error::EndOfStream;
     is_refused_after::<u8>(&rt, alloc, &[1, 2], 10, (end, end), 3);
     is_refused_after::<u16>(&rt, alloc, &[0, 1, 0, 2], 3, (NOT_FILLED, end), 2);
+    is_refused_after::<u16>(&rt, alloc, &[0, 1, 0, 2, 0], 8, (end, end), 3);
     is_refused_after::<()>(&rt, alloc, &[], 5, (NO_BYTES, NO_BYTES), 1);
     let mut turns = Turns::new();
     let found = lists::from_slice::<u8>(alloc, &[0xff], 0, &mut turns);

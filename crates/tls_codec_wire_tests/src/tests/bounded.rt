@@ -10,7 +10,7 @@ use std::test::Fail;
 use tls_codec_wire::bounded::Bounded;
 use tls_codec_wire::device::{Fault, Fill, Source};
 use tls_codec_wire::error::Error;
-use tls_codec_wire::gather::read_bytes_bounded;
+use tls_codec_wire::gather::{gather, read_bytes_bounded};
 use tls_codec_wire::transfer::read_exactly;
 use tls_codec_wire::vlen::{length_form, length_width, read_length, split_length, write_length};
 
@@ -173,6 +173,21 @@ fn bytes_that_are_not_there_are_refused(rt: HostRuntime) {
         same_at(&rt, length, refused, Some(error));
         same_at(&rt, length, src.len(), left);
     }
+}
+
+#[test]
+fn what_came_before_the_end_is_kept(rt: HostRuntime) -> Result<(), Fail> {
+    let mut src = [1, 2, 3].as_slice();
+    let mut bytes = Vec::from_slice(rt.alloc(), &[9])?;
+    gather(&mut src, &mut bytes, 2)?;
+    same(&rt, bytes.as_slice(), [9, 1, 2].as_slice());
+    same(
+        &rt,
+        gather(&mut src, &mut bytes, 2),
+        Err(Error::EndOfStream),
+    );
+    same(&rt, bytes.as_slice(), [9, 1, 2, 3].as_slice());
+    Ok(())
 }
 
 #[test]

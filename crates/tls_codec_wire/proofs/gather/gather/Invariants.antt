@@ -1,17 +1,18 @@
--- What came is what the vector holds, and a row of interruptions was counted.
-use Rattle.std.proofs.Common.{length, ◌-◌, ◌+◌, ◌*◌, ◌≤◌}
+-- What came is after what the vector had, and a row of interruptions was counted.
+use Rattle.std.proofs.Common.{Ok, ◌-◌, ◌+◌, ◌*◌, ◌≤◌}
+use Rattle.tls_codec_wire.specs.Device.{PulledOnto}
 use Rattle.tls_codec_wire.specs.Counts.{OnlyInterrupted, RoseBy}
 use Rattle.tls_codec_wire.proofs.gather.gather.Given as goal
 
-abbrev pub invariant-loop-bytes : goal.invariant-loop-bytes
-invariant-loop-bytes g l = record {
-  within : length l.bytes.items ≤ l.len;
+abbrev pub invariant-loop-came : goal.invariant-loop-came
+invariant-loop-came g l = record {
+  within : l.came ≤ l.len;
   row : l.row ≤ 16;
-  gave : g.R.Source.given l.fn.src l.bytes.items l.src;
+  came : PulledOnto g.R.Source.given l.fn.src l.src (Ok l.came) l.fn.bytes.items l.bytes.items;
   calm : OnlyInterrupted (g.R.Source.counts l.fn.src) (g.R.Source.counts l.src);
   counted : RoseBy l.row (g.R.Source.counts l.fn.src).interruptions (g.R.Source.counts l.src).interruptions;
 }
 
 -- a byte brings the end nearer, and an interruption the end of its row
-abbrev pub decreases-loop-bytes : goal.decreases-loop-bytes
-decreases-loop-bytes g l = 17 * (l.len - length l.bytes.items) + (16 - l.row)
+abbrev pub decreases-loop-came : goal.decreases-loop-came
+decreases-loop-came g l = 17 * (l.len - l.came) + (16 - l.row)

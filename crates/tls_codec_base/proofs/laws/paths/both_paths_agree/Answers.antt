@@ -1,4 +1,4 @@
-use Rattle.std.proofs.Common.{List, ℕ, Some, ap, ◌∙◌}
+use Rattle.std.proofs.Common.{Some, ap, ◌∙◌}
 use Rattle.tls_codec_wire.proofs.Refused.{told_cause}
 use Rattle.tls_codec_base.proofs.BothPaths.{one_front, one_whole, slice_alone, source_alone, was_first, whole_alone}
 use Rattle.tls_codec_base.proofs.laws.paths.both_paths_agree.Goals as goal

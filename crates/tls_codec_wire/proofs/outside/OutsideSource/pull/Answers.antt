@@ -1,4 +1,4 @@
-use Rattle.std.proofs.Common.{rules, arith, sym, subst, take, drop, take-append-drop}
+use Rattle.std.proofs.Common.{arith, sym, subst, take, drop, take-append-drop}
 use Rattle.tls_codec_wire.specs.Counts.{stay}
 use Rattle.tls_codec_wire.specs.Digits.{AreBytes}
 use Rattle.tls_codec_wire.proofs.Bytes.{are_bytes, AreBytes-left}
