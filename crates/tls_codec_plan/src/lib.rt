@@ -3,6 +3,7 @@
 //! - [`plan`]: [`Plan`](plan::Plan), the messages that are written, each with its fields and its tags.
 //! - [`lent`]: [`runs_of`](lent::runs_of), how the fields of a lent struct are written in a row.
 //! - [`planning`]: [`plan_of`](planning::plan_of), the plan of a file, or where and why it is refused.
+//! - [`names`]: what types, fields and values are named in the written sources.
 #![tactic(auto)]
 
 mod cases;
@@ -13,7 +14,7 @@ pub mod lent;
 mod lists;
 mod made;
 mod members;
-mod names;
+pub mod names;
 mod naming;
 mod order;
 mod others;
@@ -28,6 +29,3 @@ mod width;
 mod words;
 
 pub use planning::plan_of;
-
-#[cfg(test)]
-mod tests;

@@ -109,6 +109,3 @@ fn camel(alloc: Global, name: &str) -> Result<String, AllocError> {
     }
     Ok(out)
 }
-
-#[cfg(test)]
-mod tests;

@@ -38,13 +38,8 @@ pub fn plan_of(alloc: Global, file: &File, ends: &[usize]) -> Result<Plan, Troub
     plan_within(alloc, file, ends, MOST)
 }
 
-/// The same, with at most so many fields and cases in all.
-pub(crate) fn plan_within(
-    alloc: Global,
-    file: &File,
-    ends: &[usize],
-    most: usize,
-) -> Result<Plan, Trouble>
+/// The same, with at most so many fields and cases in all, where `plan_of` allows 100,000.
+pub fn plan_within(alloc: Global, file: &File, ends: &[usize], most: usize) -> Result<Plan, Trouble>
     ensures writable { IfOk result (λ plan. AreWritable plan.messages.items) }
     ensures differ { IfOk result (λ plan. HaveModules plan.messages.items) }
 {

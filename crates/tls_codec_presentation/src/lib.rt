@@ -15,7 +15,5 @@ pub mod parser;
 pub mod print;
 pub mod refusal;
 pub mod syntax;
-#[cfg(test)]
-mod tests;
 pub mod token;
 mod tokens;

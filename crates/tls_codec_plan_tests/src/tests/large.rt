@@ -1,8 +1,8 @@
 // Texts that are long, or that would become long.
-use super::refusal;
-use crate::planning::plan_within;
+use super::{expects, refusal, same};
 use std::alloc::{AllocError, Global};
 use std::test::Fail;
+use tls_codec_plan::planning::plan_within;
 use tls_codec_presentation::parser::parse;
 use tls_codec_presentation::refusal::Trouble;
 
@@ -41,8 +41,8 @@ fn many(rt: HostRuntime) -> Result<(), Fail> {
         ),
     ] {
         let refusal = refusal(&rt, alloc, text.as_str());
-        assert_eq!(rt; refusal.found.as_str(), found);
-        assert!(rt; refusal.expected.contains(word), "{refusal}");
+        same(&rt, refusal.found.as_str(), found);
+        expects(&rt, &refusal, word);
     }
     Ok(())
 }
@@ -58,10 +58,10 @@ fn copies_are_counted(rt: HostRuntime) -> Result<(), Fail> {
     let Ok(file) = parse(alloc, text.as_str()) else {
         panic!(rt; "no file");
     };
-    assert!(rt; plan_within(alloc, &file, &[], 18).is_ok());
+    same(&rt, plan_within(alloc, &file, &[], 18).is_ok(), true);
     match plan_within(alloc, &file, &[], 17) {
         Err(Trouble::Refused(refusal)) => {
-            assert!(rt; refusal.expected.contains("a smaller text"), "{refusal}");
+            expects(&rt, &refusal, "a smaller text");
             Ok(())
         }
         _ => panic!(rt; "not refused"),
@@ -72,12 +72,18 @@ fn copies_are_counted(rt: HostRuntime) -> Result<(), Fail> {
 #[test]
 fn structs_in_structs(rt: HostRuntime) -> Result<(), Fail> {
     let alloc = rt.alloc();
-    let mut text = String::from_str(alloc, "struct { select (X.t) { case 1: struct{}; } } D0;")?;
+    let mut text = String::from_str(
+        alloc,
+        "struct { select (X.t) { case 1: struct{}; } } Level0;",
+    )?;
     for k in 0..9u8 {
         let next = k + 1;
-        write!(&mut text, "struct {{ D{k} a; D{k} b; }} D{next};")?;
+        write!(
+            &mut text,
+            "struct {{ Level{k} a; Level{k} b; }} Level{next};"
+        )?;
     }
     let refusal = refusal(&rt, alloc, text.as_str());
-    assert!(rt; refusal.expected.contains("256 parts"), "{refusal}");
+    expects(&rt, &refusal, "256 parts");
     Ok(())
 }

@@ -1,6 +1,6 @@
 // Texts and their plans, by hand.
-use super::made;
 use super::shown::show;
+use super::{made, same_at};
 use std::test::Fail;
 
 static GOOD: [(&str, &str); 19] = [
@@ -100,7 +100,8 @@ static GOOD: [(&str, &str); 19] = [
 fn plans_by_hand(rt: HostRuntime) -> Result<(), Fail> {
     for (text, wanted) in &GOOD {
         let plan = made(&rt, rt.alloc(), text);
-        assert_eq!(rt; show(rt.alloc(), &plan)?.as_str(), *wanted, "{text}");
+        let shown = show(rt.alloc(), &plan)?;
+        same_at(&rt, *text, shown.as_str(), *wanted);
     }
     Ok(())
 }

@@ -1,6 +1,6 @@
 // A plan as a text that one reads: an alias, a message or a variant a line.
-use crate::plan::{Body, Element, Member, Plan, Shape, Type, Variant};
 use std::alloc::{AllocError, Global};
+use tls_codec_plan::plan::{Body, Element, Member, Plan, Shape, Type, Variant};
 
 pub fn show(alloc: Global, plan: &Plan) -> Result<String, AllocError> {
     let mut out = String::new(alloc);

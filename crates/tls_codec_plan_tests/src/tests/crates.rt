@@ -1,9 +1,10 @@
 // Texts over those of other crates.
 use super::shown::show;
-use crate::plan::{Other, Plan};
-use crate::planning::plan_of;
+use super::{expects, same};
 use std::alloc::{AllocError, Global};
 use std::test::Fail;
+use tls_codec_plan::plan::{Other, Plan};
+use tls_codec_plan::planning::plan_of;
 use tls_codec_presentation::parser::parse;
 use tls_codec_presentation::refusal::Trouble;
 
@@ -48,14 +49,14 @@ fn items_of_other_crates(rt: HostRuntime) -> Result<(), Fail> {
     let Ok(plan) = over(alloc, own) else {
         panic!(rt; "refused");
     };
-    assert_eq!(rt;
-        show(alloc, &plan)?.as_str(),
-        "type Name = =Key\nt_data.TData by 1:\n  A A 1: s S,\n  B B 2:\nq.Q: r R, u U, keys =Key<V>, t TData,\n"
+    let shown = show(alloc, &plan)?;
+    same(
+        &rt,
+        shown.as_str(),
+        "type Name = =Key\nt_data.TData by 1:\n  A A 1: s S,\n  B B 2:\nq.Q: r R, u U, keys =Key<V>, t TData,\n",
     );
-    assert_eq!(rt;
-        others(alloc, &plan.others)?.as_str(),
-        "0:names.Key 0:u.U 0:s.S 1:r.R "
-    );
+    let others = others(alloc, &plan.others)?;
+    same(&rt, others.as_str(), "0:names.Key 0:u.U 0:s.S 1:r.R ");
     Ok(())
 }
 
@@ -73,9 +74,9 @@ fn what_other_crates_lack(rt: HostRuntime) -> Result<(), Fail> {
     ] {
         match over(rt.alloc(), own) {
             Err(Trouble::Refused(refusal)) => {
-                assert_eq!(rt; refusal.place.column, column);
-                assert_eq!(rt; refusal.found.as_str(), found);
-                assert!(rt; refusal.expected.contains(expected));
+                same(&rt, refusal.place.column, column);
+                same(&rt, refusal.found.as_str(), found);
+                expects(&rt, &refusal, expected);
             }
             _ => panic!(rt; "not refused: {own}"),
         }

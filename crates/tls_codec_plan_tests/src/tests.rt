@@ -1,20 +1,43 @@
-// What no clause says: the plans of worked texts, and where and why texts are refused.
+// What no clause says: what is read and planned of worked texts, and where and why texts are refused.
 mod bad;
 mod crates;
 mod inputs;
 mod large;
+mod names;
 mod plans;
+mod presentation;
 mod selects;
 mod shown;
 
-use crate::plan::Plan;
-use crate::planning::plan_of;
 use shown::show;
 use std::alloc::Global;
+use std::fmt::Debug;
 use std::process::Abort;
 use std::test::Fail;
+use tls_codec_plan::plan::Plan;
+use tls_codec_plan::planning::plan_of;
 use tls_codec_presentation::parser::parse;
 use tls_codec_presentation::refusal::{Refusal, Trouble};
+
+// An assertion that is written out is proved at each place: this one is proved once.
+fn same<T: PartialEq + Debug + Drop>(rt: &impl Abort, found: T, expected: T) {
+    assert_eq!(rt; found, expected);
+}
+
+// The same at one of several rows, which a failure names.
+fn same_at<Row: Debug + Drop, T: PartialEq + Debug + Drop>(
+    rt: &impl Abort,
+    row: Row,
+    found: T,
+    expected: T,
+) {
+    assert_eq!(rt; found, expected, "at {row:?}");
+}
+
+// A refusal that has this word in what it expects.
+fn expects(rt: &impl Abort, refusal: &Refusal, word: &str) {
+    assert!(rt; refusal.expected.contains(word), "{refusal}");
+}
 
 fn plan(alloc: Global, text: &str) -> Result<Plan, Trouble> {
     let file = parse(alloc, text)?;
@@ -39,13 +62,15 @@ fn refusal(rt: &impl Abort, alloc: Global, text: &str) -> Refusal {
 
 #[test]
 fn worked_texts(rt: HostRuntime) -> Result<(), Fail> {
+    let mls = format!(in rt.alloc(); "{}{}", inputs::MLS, inputs::FRAMING_RFC)?;
     for (text, wanted) in [
         (inputs::SHAPES, plans::SHAPES),
         (inputs::ALERT, plans::ALERT),
-        (inputs::MLS, plans::MLS),
+        (mls.as_str(), plans::MLS),
     ] {
         let plan = made(&rt, rt.alloc(), text);
-        assert_eq!(rt; show(rt.alloc(), &plan)?.as_str(), wanted);
+        let shown = show(rt.alloc(), &plan)?;
+        same(&rt, shown.as_str(), wanted);
     }
     Ok(())
 }

@@ -1,5 +1,5 @@
 // Texts that are refused, each with the place, what stands there, and a word of what would be right.
-use super::refusal;
+use super::{refusal, same_at};
 use std::test::Fail;
 
 static BAD: [(&str, usize, usize, &str, &str); 74] = [
@@ -419,13 +419,10 @@ static BAD: [(&str, usize, usize, &str, &str); 74] = [
 fn refusals(rt: HostRuntime) -> Result<(), Fail> {
     for (text, line, column, found, word) in &BAD {
         let refusal = refusal(&rt, rt.alloc(), text);
-        assert_eq!(rt; refusal.found.as_str(), *found, "{text}");
+        same_at(&rt, *text, refusal.found.as_str(), *found);
         assert!(rt; refusal.expected.contains(*word), "{text}: {refusal}");
-        assert_eq!(rt;
-            (refusal.place.line, refusal.place.column),
-            (*line, *column),
-            "{text}"
-        );
+        same_at(&rt, *text, refusal.place.line, *line);
+        same_at(&rt, *text, refusal.place.column, *column);
     }
     Ok(())
 }

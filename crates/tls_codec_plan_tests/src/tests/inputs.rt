@@ -1,6 +1,7 @@
-//! Texts of the language: messages of TLS 1.3 and of MLS, and one of each shape.
+// Texts of the language: messages of TLS 1.3 and of MLS, and one of each shape.
 
-pub(crate) const SHAPES: &str = r#"opaque Key<V>;
+// One of each shape.
+pub static SHAPES: &str = "opaque Key<V>;
 enum { reserved(0), mls10(1), draft(2), (65535) } Version;
 enum { reserved(0), basic(1), x509(2), both(3), anonymous(4), (65535) } CredentialType;
 struct { opaque cert_data<V>; } Certificate;
@@ -22,13 +23,18 @@ struct {
 } Package;
 struct {
     uint8 a; uint24 b; uint32 c; uint64 d;
-    opaque e[16]; opaque f<0..255>; opaque g<0..2^16-1>; opaque h<0..2^24-1>; opaque i<1..2^32-1>;
+    opaque e[16]; opaque f<0..255>; opaque g<0..2^16-1>; opaque h<0..2^24-1>; opaque i<0..2^32-1>;
     Certificate j<0..2^16-1>; string k; optional<uint16> l;
 } Wide;
-"#;
+";
 
-pub(crate) const TLS13: &str =
-    r#"// Some of TLS 1.3 (RFC 8446, section 4). ProtocolVersion, CipherSuite and NamedGroup are numbers with registries.
+pub static ALERT: &str =
+    "enum { close_notify(0), unexpected_message(10), bad_record_mac(20), record_overflow(22), handshake_failure(40), bad_certificate(42), unsupported_certificate(43), certificate_revoked(44), certificate_expired(45), certificate_unknown(46), illegal_parameter(47), unknown_ca(48), access_denied(49), decode_error(50), decrypt_error(51), protocol_version(70), insufficient_security(71), internal_error(80), inappropriate_fallback(86), user_canceled(90), missing_extension(109), unsupported_extension(110), unrecognized_name(112), bad_certificate_status_response(113), (255) } Alert;
+struct { Alert alert; uint8 level; } Message;
+";
+
+pub static TLS13: &str =
+    "// Some of TLS 1.3 (RFC 8446, section 4). ProtocolVersion, CipherSuite and NamedGroup are numbers with registries.
 uint16 ProtocolVersion;
 opaque Random[32];
 uint8 CipherSuite[2];
@@ -66,140 +72,11 @@ struct {
 } NewSessionTicket;
 enum { update_not_requested(0), update_requested(1), (255) } KeyUpdateRequest;
 struct { KeyUpdateRequest request_update; } KeyUpdate;
-"#;
+";
 
-pub(crate) const FRAMING_RFC: &str = r#"
-// ---- 6.1, 6.2, as in the RFC: selects that depend on earlier messages' tags. FramedContentAuthData is no message of its own;
-// where it is a field, what depends on the tag goes into the tag's cases.
-enum {
-    reserved(0), mls_public_message(1), mls_private_message(2), mls_welcome(3), mls_group_info(4), mls_key_package(5), (65535)
-} WireFormat;
-
-struct {
-    opaque signature<V>;
-    select (FramedContent.content_type) {
-        case commit:
-            MAC confirmation_tag;
-        case application:
-        case proposal:
-            struct{};
-    };
-} FramedContentAuthData;
-
-struct {
-    WireFormat wire_format;
-    FramedContent content;
-    FramedContentAuthData auth;
-} AuthenticatedContent;
-
-struct {
-    FramedContent content;
-    FramedContentAuthData auth;
-    select (PublicMessage.content.sender.sender_type) {
-        case member:
-            MAC membership_tag;
-        case external:
-        case new_member_commit:
-        case new_member_proposal:
-            struct{};
-    };
-} PublicMessage;
-
-struct {
-    ProtocolVersion version = mls10;
-    WireFormat wire_format;
-    FramedContent content;
-    select (FramedContentTBS.content.sender.sender_type) {
-        case member:
-        case new_member_commit:
-            GroupContext context;
-        case external:
-        case new_member_proposal:
-            struct{};
-    };
-} FramedContentTBS;
-
-struct {
-    HPKEPublicKey encryption_key;
-    SignaturePublicKey signature_key;
-    Credential credential;
-    Capabilities capabilities;
-    LeafNodeSource leaf_node_source;
-    select (LeafNodeTBS.leaf_node_source) {
-        case key_package: Lifetime lifetime;
-        case update:      struct{};
-        case commit:      opaque parent_hash<V>;
-    };
-    Extension extensions<V>;
-    select (LeafNodeTBS.leaf_node_source) {
-        case key_package: struct{};
-        case update:      opaque group_id<V>; uint32 leaf_index;
-        case commit:      opaque group_id<V>; uint32 leaf_index;
-    };
-} LeafNodeTBS;
-
-struct {
-    ProtocolVersion version = mls10;
-    WireFormat wire_format;
-    select (MLSMessage.wire_format) {
-        case mls_public_message:  PublicMessage public_message;
-        case mls_private_message: PrivateMessage private_message;
-        case mls_welcome:         Welcome welcome;
-        case mls_group_info:      GroupInfo group_info;
-        case mls_key_package:     KeyPackage key_package;
-    };
-} MLSMessage;
-"#;
-
-pub(crate) const FRAMING: &str = r#"
-// ---- 6.1, 6.2: PublicMessage and MLSMessage, whose later fields depend on earlier tags: what depends stands in the cases, and
-// so does what is between. The bytes are those of the RFC:
-//   struct { FramedContent content; FramedContentAuthData auth;
-//            select (PublicMessage.content.sender.sender_type) { case member: MAC membership_tag; ... } } PublicMessage;
-//   struct { opaque signature<V>; select (FramedContent.content_type) { case commit: MAC confirmation_tag; ... } } FramedContentAuthData;
-struct {
-    ContentType content_type;
-    select (SignedContent.content_type) {
-        case application: opaque application_data<V>; opaque signature<V>;
-        case proposal:    Proposal proposal; opaque signature<V>;
-        case commit:      Commit commit; opaque signature<V>; MAC confirmation_tag;
-    };
-} SignedContent;
-
-struct {
-    opaque group_id<V>;
-    uint64 epoch;
-    SenderType sender_type;
-    select (PublicMessage.sender_type) {
-        case member:
-            uint32 leaf_index; opaque authenticated_data<V>; SignedContent content; MAC membership_tag;
-        case external:
-            uint32 sender_index; opaque authenticated_data<V>; SignedContent content;
-        case new_member_proposal:
-        case new_member_commit:
-            opaque authenticated_data<V>; SignedContent content;
-    };
-} PublicMessage;
-
-enum {
-    reserved(0), mls_public_message(1), mls_private_message(2), mls_welcome(3), mls_group_info(4), mls_key_package(5), (65535)
-} WireFormat;
-
-struct {
-    ProtocolVersion version;
-    WireFormat wire_format;
-    select (MLSMessage.wire_format) {
-        case mls_public_message:  PublicMessage public_message;
-        case mls_private_message: PrivateMessage private_message;
-        case mls_welcome:         Welcome welcome;
-        case mls_group_info:      GroupInfo group_info;
-        case mls_key_package:     KeyPackage key_package;
-    };
-} MLSMessage;
-"#;
-
-pub(crate) const MLS: &str =
-    r#"// Messages of MLS (RFC 9420), in the presentation language of TLS (RFC 8446, section 3).
+// RFC 9420, but for what FRAMING_RFC and FRAMING have.
+pub static MLS: &str =
+    "// Messages of MLS (RFC 9420), in the presentation language of TLS (RFC 8446, section 3).
 // A line `A B;` gives the type A a second name, as in the RFC. Where the RFC has a number with a registry
 // (CredentialType, ProposalType), the tag of a select is written as an enum, since select needs its values.
 
@@ -410,9 +287,136 @@ struct { CipherSuite cipher_suite; EncryptedGroupSecrets secrets<V>; opaque encr
 struct { HPKEPublicKey external_pub; } ExternalPub;
 struct { ExtensionType extension_types<V>; uint16 proposal_types<V>; uint16 credential_types<V>; } RequiredCapabilities;
 struct { Credential credential; SignaturePublicKey signature_key; } ExternalSender;
-"#;
+";
 
-pub(crate) const ALERT: &str =
-    r#"enum { close_notify(0), unexpected_message(10), bad_record_mac(20), record_overflow(22), handshake_failure(40), bad_certificate(42), unsupported_certificate(43), certificate_revoked(44), certificate_expired(45), certificate_unknown(46), illegal_parameter(47), unknown_ca(48), access_denied(49), decode_error(50), decrypt_error(51), protocol_version(70), insufficient_security(71), internal_error(80), inappropriate_fallback(86), user_canceled(90), missing_extension(109), unsupported_extension(110), unrecognized_name(112), bad_certificate_status_response(113), (255) } Alert;
-struct { Alert alert; uint8 level; } Message;
-"#;
+// To stand behind MLS.
+pub static FRAMING_RFC: &str = "
+// ---- 6.1, 6.2, as in the RFC: selects that depend on earlier messages' tags. FramedContentAuthData is no message of its own;
+// where it is a field, what depends on the tag goes into the tag's cases.
+enum {
+    reserved(0), mls_public_message(1), mls_private_message(2), mls_welcome(3), mls_group_info(4), mls_key_package(5), (65535)
+} WireFormat;
+
+struct {
+    opaque signature<V>;
+    select (FramedContent.content_type) {
+        case commit:
+            MAC confirmation_tag;
+        case application:
+        case proposal:
+            struct{};
+    };
+} FramedContentAuthData;
+
+struct {
+    WireFormat wire_format;
+    FramedContent content;
+    FramedContentAuthData auth;
+} AuthenticatedContent;
+
+struct {
+    FramedContent content;
+    FramedContentAuthData auth;
+    select (PublicMessage.content.sender.sender_type) {
+        case member:
+            MAC membership_tag;
+        case external:
+        case new_member_commit:
+        case new_member_proposal:
+            struct{};
+    };
+} PublicMessage;
+
+struct {
+    ProtocolVersion version = mls10;
+    WireFormat wire_format;
+    FramedContent content;
+    select (FramedContentTBS.content.sender.sender_type) {
+        case member:
+        case new_member_commit:
+            GroupContext context;
+        case external:
+        case new_member_proposal:
+            struct{};
+    };
+} FramedContentTBS;
+
+struct {
+    HPKEPublicKey encryption_key;
+    SignaturePublicKey signature_key;
+    Credential credential;
+    Capabilities capabilities;
+    LeafNodeSource leaf_node_source;
+    select (LeafNodeTBS.leaf_node_source) {
+        case key_package: Lifetime lifetime;
+        case update:      struct{};
+        case commit:      opaque parent_hash<V>;
+    };
+    Extension extensions<V>;
+    select (LeafNodeTBS.leaf_node_source) {
+        case key_package: struct{};
+        case update:      opaque group_id<V>; uint32 leaf_index;
+        case commit:      opaque group_id<V>; uint32 leaf_index;
+    };
+} LeafNodeTBS;
+
+struct {
+    ProtocolVersion version = mls10;
+    WireFormat wire_format;
+    select (MLSMessage.wire_format) {
+        case mls_public_message:  PublicMessage public_message;
+        case mls_private_message: PrivateMessage private_message;
+        case mls_welcome:         Welcome welcome;
+        case mls_group_info:      GroupInfo group_info;
+        case mls_key_package:     KeyPackage key_package;
+    };
+} MLSMessage;
+";
+
+// PublicMessage and MLSMessage with the same bytes, by selects on tags of their own structs alone.
+pub static FRAMING: &str = "
+// ---- 6.1, 6.2: PublicMessage and MLSMessage, whose later fields depend on earlier tags: what depends stands in the cases, and
+// so does what is between. The bytes are those of the RFC:
+//   struct { FramedContent content; FramedContentAuthData auth;
+//            select (PublicMessage.content.sender.sender_type) { case member: MAC membership_tag; ... } } PublicMessage;
+//   struct { opaque signature<V>; select (FramedContent.content_type) { case commit: MAC confirmation_tag; ... } } FramedContentAuthData;
+struct {
+    ContentType content_type;
+    select (SignedContent.content_type) {
+        case application: opaque application_data<V>; opaque signature<V>;
+        case proposal:    Proposal proposal; opaque signature<V>;
+        case commit:      Commit commit; opaque signature<V>; MAC confirmation_tag;
+    };
+} SignedContent;
+
+struct {
+    opaque group_id<V>;
+    uint64 epoch;
+    SenderType sender_type;
+    select (PublicMessage.sender_type) {
+        case member:
+            uint32 leaf_index; opaque authenticated_data<V>; SignedContent content; MAC membership_tag;
+        case external:
+            uint32 sender_index; opaque authenticated_data<V>; SignedContent content;
+        case new_member_proposal:
+        case new_member_commit:
+            opaque authenticated_data<V>; SignedContent content;
+    };
+} PublicMessage;
+
+enum {
+    reserved(0), mls_public_message(1), mls_private_message(2), mls_welcome(3), mls_group_info(4), mls_key_package(5), (65535)
+} WireFormat;
+
+struct {
+    ProtocolVersion version;
+    WireFormat wire_format;
+    select (MLSMessage.wire_format) {
+        case mls_public_message:  PublicMessage public_message;
+        case mls_private_message: PrivateMessage private_message;
+        case mls_welcome:         Welcome welcome;
+        case mls_group_info:      GroupInfo group_info;
+        case mls_key_package:     KeyPackage key_package;
+    };
+} MLSMessage;
+";

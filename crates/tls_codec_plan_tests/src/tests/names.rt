@@ -1,5 +1,7 @@
-use super::*;
+// The names in the written sources.
+use super::same_at;
 use std::test::Fail;
+use tls_codec_plan::names::{constant_name, field_name, module_name, variant_name};
 
 #[test]
 fn modules(rt: HostRuntime) -> Result<(), Fail> {
@@ -15,7 +17,8 @@ fn modules(rt: HostRuntime) -> Result<(), Fail> {
         ("", "x"),
         ("9A", "x9_a"),
     ] {
-        assert_eq!(rt; module_name(rt.alloc(), name)?.as_str(), wanted);
+        let found = module_name(rt.alloc(), name)?;
+        same_at(&rt, name, found.as_str(), wanted);
     }
     Ok(())
 }
@@ -33,7 +36,8 @@ fn fields(rt: HostRuntime) -> Result<(), Fail> {
         ("leafIndex", "leaf_index"),
         ("_a", "x_a"),
     ] {
-        assert_eq!(rt; field_name(rt.alloc(), name)?.as_str(), wanted);
+        let found = field_name(rt.alloc(), name)?;
+        same_at(&rt, name, found.as_str(), wanted);
     }
     Ok(())
 }
@@ -54,8 +58,10 @@ fn variants(rt: HostRuntime) -> Result<(), Fail> {
         ("a__b", "AB", "A__B"),
         ("1", "x1", "x1"),
     ] {
-        assert_eq!(rt; variant_name(rt.alloc(), name, "Color")?.as_str(), variant);
-        assert_eq!(rt; constant_name(rt.alloc(), name)?.as_str(), constant);
+        let found = variant_name(rt.alloc(), name, "Color")?;
+        same_at(&rt, name, found.as_str(), variant);
+        let found = constant_name(rt.alloc(), name)?;
+        same_at(&rt, name, found.as_str(), constant);
     }
     Ok(())
 }
