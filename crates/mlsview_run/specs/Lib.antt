@@ -1,3 +1,2 @@
--- Whether an input is a message, and the lines that are printed.
-pub mod Lines
+-- Whether an input is a message.
 pub mod View

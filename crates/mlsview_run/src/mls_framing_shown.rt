@@ -1,6 +1,7 @@
 //! How the messages of `mls_framing` are shown, written by `tls_codec_messages --show`.
 
-use crate::show::{Show, Tree};
+use crate::show::Show;
+use message_tree::Tree;
 use mls_framing::{
     AuthenticatedContent, AuthenticatedContentContentTypeData, ContentType, ContentTypeData,
     FramedContent, MLSMessage, PrivateMessage, PublicMessage, PublicMessageContentTypeData,

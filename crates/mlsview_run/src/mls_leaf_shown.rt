@@ -1,6 +1,7 @@
 //! How the messages of `mls_leaf` are shown, written by `tls_codec_messages --show`.
 
-use crate::show::{Show, Tree};
+use crate::show::Show;
+use message_tree::Tree;
 use mls_leaf::{
     Capabilities, Certificate, CipherSuite, Credential, CredentialType, Extension, ExtensionType,
     KeyPackage, LeafNode, LeafNodeHashInput, LeafNodeOrigin, Lifetime, Node, ParentNode,

@@ -1,6 +1,7 @@
 //! How the messages of `mls_proposals` are shown, written by `tls_codec_messages --show`.
 
-use crate::show::{Show, Tree};
+use crate::show::Show;
+use message_tree::Tree;
 use mls_proposals::{
     Add, Commit, EncryptedGroupSecrets, ExternalInit, ExternalPub, ExternalSender, ExternalSenders,
     GroupContext, GroupContextExtensions, GroupInfo, GroupSecrets, HPKECiphertext, PSKOrigin,

@@ -10,7 +10,7 @@ use crate::types::Names;
 use std::alloc::{AllocError, Global};
 use tls_codec_plan::plan::Plan;
 
-/// `src/NAME_shown.rt`: how each message of the crate `own` is shown that isn't lent, for a crate that has `show::Show` and `show::Tree`.
+/// `src/NAME_shown.rt`: how each message of the crate `own` is shown that isn't lent, for a crate that has `show::Show` and uses `message_tree`.
 pub fn file_of(
     alloc: Global,
     own: &str,
@@ -34,8 +34,9 @@ pub fn file_of(
     let mut text = holes.filled(alloc, shows::HEAD)?;
     text.push_str("\n")?;
     let mut uses = UseLines::new(alloc);
-    uses.add(alloc, "crate::show", &["Show", "Tree"])?;
+    uses.add(alloc, "crate::show", &["Show"])?;
     uses.add(alloc, own, types.as_slice())?;
+    uses.add(alloc, "message_tree", &["Tree"])?;
     uses.add(alloc, "std::alloc", &["AllocError"])?;
     text.push_str(uses.into_text(alloc)?.as_str())?;
     text.push_str(body.as_str())?;

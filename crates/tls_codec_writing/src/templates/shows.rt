@@ -1,4 +1,4 @@
-//! How messages are shown as a tree, in a module of a crate that has `show::Show` and `show::Tree`.
+//! How messages are shown as a tree, in a module of a crate that has `show::Show` and uses `message_tree`.
 
 use crate::lines::Lines;
 

@@ -1,0 +1,2 @@
+-- The lines of a tree.
+pub mod Lines

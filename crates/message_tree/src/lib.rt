@@ -1,0 +1,127 @@
+//! Lines of a tree, a field a line.
+//!
+//! ```text
+//! message: PrivateMessage
+//!   group_id: 1 byte fa
+//!   epoch: 7
+//! ```
+//!
+//! Which line a call adds is in `specs/Lines.antt`. A call that fails, for memory, may have added part of it.
+#![tactic(auto)]
+
+ghost use Rattle.std.specs.Prelude.{◌≡◌, OnOk, [], codes, decimal, length, string_bytes};
+ghost use Rattle.message_tree.specs.Lines.{Adds, Closes, Opens, beginning, bytes_text, count_text, digits_text, line};
+
+use std::alloc::{AllocError, Global};
+
+/// Lines, each further in than what it is part of.
+#[derive(Drop)]
+pub struct Tree {
+    text: String,
+    /// The blanks in front of the next line.
+    indent: String,
+}
+
+impl Tree {
+    pub fn new(alloc: Global) -> Tree
+        ensures text { string_bytes result.text ≡ [] }
+        ensures indent { string_bytes result.indent ≡ [] }
+    {
+        Tree {
+            text: String::new(alloc),
+            indent: String::new(alloc),
+        }
+    }
+
+    /// All lines.
+    pub fn into_text(self) -> String
+        ensures { result ≡ self.text }
+    {
+        self.text
+    }
+
+    // Begins the line of a field.
+    fn begin(&mut self, name: &str) -> Result<(), AllocError>
+        ensures { OnOk result (Adds self.old self.new (beginning self.old name.now)) }
+    {
+        self.text.push_str(self.indent.as_str())?;
+        self.text.push_str(name)?;
+        self.text.push_str(": ")
+    }
+
+    // How many there are of this.
+    fn count(&mut self, count: usize, of: &str) -> Result<(), AllocError>
+        ensures { OnOk result (Adds self.old self.new (count_text count of.now)) }
+    {
+        match count {
+            1 => write!(self.text, "1 {of}"),
+            _ => write!(self.text, "{count} {of}s"),
+        }
+    }
+
+    /// A field, with others below it up to [`close`](Tree::close).
+    pub fn open(&mut self, name: &str, of: &str) -> Result<(), AllocError>
+        ensures { OnOk result (Opens self.old self.new (line self.old name.now of.now)) }
+    {
+        self.value(name, of)?;
+        self.indent.push_str("  ")
+    }
+
+    /// A list of so many elements, which are below it up to [`close`](Tree::close).
+    pub fn open_list(&mut self, name: &str, count: usize) -> Result<(), AllocError>
+        ensures { OnOk result (Opens self.old self.new (line self.old name.now (count_text count (codes "element")))) }
+    {
+        self.begin(name)?;
+        self.count(count, "element")?;
+        self.text.push_str("\n")?;
+        self.indent.push_str("  ")
+    }
+
+    /// Ends what is below a field.
+    pub fn close(&mut self) -> Result<(), AllocError>
+        ensures { Closes self.old self.new }
+    {
+        self.indent.pop();
+        self.indent.pop();
+        Ok(())
+    }
+
+    /// A field with this text.
+    pub fn value(&mut self, name: &str, text: &str) -> Result<(), AllocError>
+        ensures { OnOk result (Adds self.old self.new (line self.old name.now text.now)) }
+    {
+        self.begin(name)?;
+        self.text.push_str(text)?;
+        self.text.push_str("\n")
+    }
+
+    /// A number.
+    pub fn number(&mut self, name: &str, number: u64) -> Result<(), AllocError>
+        ensures { OnOk result (Adds self.old self.new (line self.old name.now (decimal number))) }
+    {
+        self.begin(name)?;
+        writeln!(self.text, "{number}")
+    }
+
+    /// Bytes, as how many there are and their hex text.
+    pub fn bytes(&mut self, name: &str, bytes: &[u8]) -> Result<(), AllocError>
+        ensures { OnOk result (Adds self.old self.new (line self.old name.now (bytes_text bytes.now))) }
+    {
+        self.begin(name)?;
+        self.count(bytes.len(), "byte")?;
+        self.digits(bytes)?;
+        self.text.push_str("\n")
+    }
+
+    // The hex of bytes, after a blank.
+    fn digits(&mut self, bytes: &[u8]) -> Result<(), AllocError>
+        ensures { OnOk result (Adds self.old self.new (digits_text bytes.now)) }
+    {
+        if bytes.is_empty() {
+            return Ok(());
+        }
+        let digits = hex::encode(*self.text.allocator(), bytes)?;
+        self.text.push_str(" ")?;
+        self.text.push_str(digits.as_str())
+    }
+}
