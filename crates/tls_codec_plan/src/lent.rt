@@ -9,6 +9,9 @@ use tls_codec_presentation::refusal::Trouble;
 // The most fields of a run.
 const LONGEST: usize = 9;
 
+// The most runs of a struct, and of a case.
+const MOST_RUNS: usize = 3;
+
 /// How many fields each run of a row has: a lent field is a run of its own, and up to 9 others between are one.
 pub fn runs_of(alloc: Global, are_lent: &[bool]) -> Result<Vec<usize>, AllocError> {
     let mut runs = Vec::new(alloc);
@@ -56,10 +59,10 @@ pub(crate) fn check_runs(
 ) -> Result<(), Trouble> {
     match body {
         Body::Values { .. } => Ok(()),
-        Body::Fields(fields) => check_row(alloc, sequence, fields, made, 3),
+        Body::Fields(fields) => check_row(alloc, sequence, fields, made),
         Body::Choice { variants, .. } => {
             for variant in variants {
-                check_row(alloc, sequence, &variant.fields, made, 2)?;
+                check_row(alloc, sequence, &variant.fields, made)?;
             }
             Ok(())
         }
@@ -71,18 +74,17 @@ fn check_row(
     sequence: &Sequence<'_>,
     fields: &[Member],
     made: &Made,
-    most: usize,
 ) -> Result<(), Trouble> {
     let mut are_lent = Vec::new(alloc);
     for field in fields {
         are_lent.push(is_lent(made, field))?;
     }
-    if are_lent.contains(&true) && runs_of(alloc, &are_lent)?.len() > most {
+    if are_lent.contains(&true) && runs_of(alloc, &are_lent)?.len() > MOST_RUNS {
         return Err(refused(
             alloc,
             sequence.place,
             sequence.name,
-            "at most 3 runs of fields in a lent struct, and 2 in a case: a lent field is a run of its own, and up to 9 others between are one",
+            "at most 3 runs of fields in a lent struct or a case: a lent field is a run of its own, and up to 9 others between are one",
         ));
     }
     Ok(())

@@ -27,7 +27,7 @@ const MOST: usize = 100_000;
 /// or a number twice; a word of Rust or of the definitions as a type's name; a number of more bytes than its enum's;
 /// a vector, bounds or a constant that aren't kept; a select on a tag that isn't in the same bytes, a case that its
 /// enum lacks or that is missing; more fields than can be written in a row; an enum of another crate that isn't
-/// written there, since it is a tag alone; a lent struct in one that isn't.
+/// written there, since it is a tag alone; a lent struct in one that isn't, unless its parts stand in its place.
 ///
 /// In what is made, each struct has at most 27 fields and each case at most 18, with names that differ; the numbers of
 /// an enum and of the cases of a tag differ, and have the bytes of the enum or the tag: 1, 2, 4 or 8.
@@ -98,7 +98,8 @@ fn check_types(alloc: Global, file: &File) -> Result<(), Trouble> {
 fn check_parts(alloc: Global, file: &File, one: &Struct) -> Result<(), Trouble> {
     for part in &one.parts {
         match part {
-            Part::Field(field) => check_type(alloc, file, field, one.is_lent)?,
+            // `check_lent` refuses a lent struct whose parts don't stand in the field's place.
+            Part::Field(field) => check_type(alloc, file, field, true)?,
             Part::Select(select) => check_cases(alloc, file, select, one.is_lent)?,
         }
     }
@@ -114,23 +115,44 @@ fn check_cases(alloc: Global, file: &File, select: &Select, is_lent: bool) -> Re
     Ok(())
 }
 
-// Also refuses a lent struct, unless the field is one of it in another.
+// Also refuses a lent struct, unless it may be one where the field is, and the field is one of it.
 fn check_type(alloc: Global, file: &File, field: &Field, is_lent: bool) -> Result<(), Trouble> {
     type_of(alloc, file, field)?;
-    let of = &field.of;
-    if names_lent(file, of.text.as_str()) && !(is_lent && is_single(field)) {
-        return Err(refused(
-            alloc,
-            of.place,
-            of.text.as_str(),
-            "a type that has its parts: a lent struct is only written, and is a field of lent structs alone, in no vector and no option",
-        ));
+    if names_lent(file, field) && !(is_lent && is_single(field)) {
+        return Err(refused_lent(alloc, field));
     }
     Ok(())
 }
 
-fn names_lent(file: &File, name: &str) -> bool {
-    find_struct(file, name).is_some_and(|one| one.is_lent)
+// Refuses a lent struct that is a field of a struct that isn't, also of one whose parts stand in it.
+fn check_lent(alloc: Global, file: &File, sequence: &Sequence<'_>) -> Result<(), Trouble> {
+    if sequence.is_lent {
+        return Ok(());
+    }
+    for piece in &sequence.pieces {
+        match piece {
+            Piece::Field(field) if names_lent(file, field) => {
+                return Err(refused_lent(alloc, field));
+            }
+            Piece::Field(_) => {}
+            Piece::Select(select, _) => check_cases(alloc, file, select, false)?,
+        }
+    }
+    Ok(())
+}
+
+fn refused_lent(alloc: Global, field: &Field) -> Trouble {
+    let of = &field.of;
+    refused(
+        alloc,
+        of.place,
+        of.text.as_str(),
+        "a type that has its parts: a lent struct is only written, and is a field of lent structs alone, in no vector and no option",
+    )
+}
+
+fn names_lent(file: &File, field: &Field) -> bool {
+    find_struct(file, field.of.text.as_str()).is_some_and(|one| one.is_lent)
 }
 
 fn make_enum(alloc: Global, one: &Enum, made: &mut Made) -> Result<(), Trouble> {
@@ -169,6 +191,7 @@ fn make_struct<'a>(
     made: &mut Made,
 ) -> Result<(), Trouble> {
     let sequence = sequence_of(alloc, &ground.known, one)?;
+    check_lent(alloc, ground.file, &sequence)?;
     make_constants(alloc, ground, one, made)?;
     if sequence.is_whole {
         make_messages(alloc, ground, &sequence, made)?;

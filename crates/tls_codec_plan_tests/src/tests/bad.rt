@@ -2,7 +2,7 @@
 use super::{refusal, same_at};
 use std::test::Fail;
 
-static BAD: [(&str, usize, usize, &str, &str); 74] = [
+static BAD: [(&str, usize, usize, &str, &str); 76] = [
     // types
     ("Foo A;", 1, 1, "Foo", "the name of a type"),
     ("struct { Foo a; } A;", 1, 10, "Foo", "the name of a type"),
@@ -349,6 +349,21 @@ static BAD: [(&str, usize, usize, &str, &str); 74] = [
         "L",
         "a lent struct is only written",
     ),
+    // the parts of a lent struct stand in one that isn't, and one of them is lent
+    (
+        "enum { a(1), b(2) } T; lent struct { uint8 x; } L; lent struct { L l; T t; } F; struct { F f; select (S.f.t) { case a: uint8 y; case b: struct{}; } } S;",
+        1,
+        66,
+        "L",
+        "a lent struct is only written",
+    ),
+    (
+        "enum { a(1), b(2) } T; lent struct { uint8 x; } L; lent struct { T t; select (F.t) { case a: L l; case b: struct{}; } } F; struct { F f; select (S.f.t) { case a: uint8 y; case b: struct{}; } } S;",
+        1,
+        94,
+        "L",
+        "a lent struct is only written",
+    ),
     (
         "lent struct {} L; L M;",
         1,
@@ -371,9 +386,9 @@ static BAD: [(&str, usize, usize, &str, &str); 74] = [
         "at most 3 runs",
     ),
     (
-        "enum { a(1), b(2) } T; lent struct { uint8 x; } L; lent struct { T t; select (M.t) { case a: uint8 y; L b; uint8 z; case b: struct{}; } } M;",
+        "enum { a(1), b(2) } T; lent struct { uint8 x; } L; lent struct { T t; select (M.t) { case a: uint8 y; L b; uint8 z; L c; case b: struct{}; } } M;",
         1,
-        139,
+        144,
         "M",
         "at most 3 runs",
     ),
