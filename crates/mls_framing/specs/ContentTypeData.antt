@@ -8,9 +8,9 @@ use Rattle.mls_framing.specs.declared.content_type_data.ContentTypeData.{Content
 use Rattle.mls_framing.specs.declared.content_type_data.ContentTypeData.TheVariants.{Application, Proposal, Commit}
 
 abbrev pub content_type_data_plain : ContentTypeData → Tree
-content_type_data_plain (Application a0) = Join (Number 1) (Join (number_trees (bytes_of a0)) Empty)
-content_type_data_plain (Proposal a0) = Join (Number 2) (Join (proposal_plain a0) Empty)
-content_type_data_plain (Commit a0) = Join (Number 3) (Join (commit_plain a0) Empty)
+content_type_data_plain (Application a0) = Join (Number 1) (Join (number_trees (bytes_of a0.now)) Empty)
+content_type_data_plain (Proposal a0) = Join (Number 2) (Join (proposal_plain a0.now) Empty)
+content_type_data_plain (Commit a0) = Join (Number 3) (Join (commit_plain a0.now) Empty)
 
 abbrev pub content_type_data_variants : Variants
 content_type_data_variants =

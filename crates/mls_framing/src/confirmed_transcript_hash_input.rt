@@ -12,7 +12,7 @@ pub struct ConfirmedTranscriptHashInput<'a> {
     /// `WireFormat wire_format;`
     pub wire_format: &'a WireFormat,
     /// `FramedContent content;`
-    pub content: &'a FramedContent,
+    pub content: FramedContent<'a>,
     /// `opaque signature<V>;`
     pub signature: &'a VLBytes,
 }
@@ -23,12 +23,7 @@ impl Size for ConfirmedTranscriptHashInput<'_> {
     ghost format = { confirmed_transcript_hash_input_format };
 
     fn tls_serialized_len(&self) -> usize {
-        (
-            Lent(self.wire_format),
-            Lent(self.content),
-            Lent(self.signature),
-        )
-            .tls_serialized_len()
+        (Lent(self.wire_format), self.content, Lent(self.signature)).tls_serialized_len()
     }
 
     ghost lawful = { confirmed_transcript_hash_input_meets };
@@ -36,20 +31,10 @@ impl Size for ConfirmedTranscriptHashInput<'_> {
 
 impl Serialize for ConfirmedTranscriptHashInput<'_> {
     fn tls_serialize<W: Sink>(&self, writer: &mut W) -> Result<usize, Error> {
-        (
-            Lent(self.wire_format),
-            Lent(self.content),
-            Lent(self.signature),
-        )
-            .tls_serialize(writer)
+        (Lent(self.wire_format), self.content, Lent(self.signature)).tls_serialize(writer)
     }
 
     fn tls_serialize_into(&self, out: &mut Vec<u8>) -> Result<usize, Error> {
-        (
-            Lent(self.wire_format),
-            Lent(self.content),
-            Lent(self.signature),
-        )
-            .tls_serialize_into(out)
+        (Lent(self.wire_format), self.content, Lent(self.signature)).tls_serialize_into(out)
     }
 }

@@ -1,13 +1,8 @@
 //! [`ContentTypeData`].
-ghost use Rattle.tls_codec.specs.OwnMessages.{no_variant_names, no_variant_source_names, tagged_names, tagged_source_names, variant_names, variant_source_names};
 ghost use Rattle.mls_framing.specs.ContentTypeData.{content_type_data_format, content_type_data_meets, content_type_data_plain};
 
 use mls_proposals::{Commit, Proposal};
-use std::alloc::Global;
-use tls_codec::{
-    Deserialize, DeserializeBytes, Error, Lent, Serialize, Sink, Size, Source, VLBytes,
-    unknown_value,
-};
+use tls_codec::{Error, Lent, Serialize, Sink, Size, VLBytes};
 
 const APPLICATION: u8 = 1;
 
@@ -16,23 +11,25 @@ const PROPOSAL: u8 = 2;
 const COMMIT: u8 = 3;
 
 /// `ContentType content_type` of `FramedContent`, and what comes after each.
-#[derive(PartialEq, Drop)]
-pub enum ContentTypeData {
+///
+/// It has references to its fields, and is only written.
+#[derive(Clone, Copy)]
+pub enum ContentTypeData<'a> {
     /// `case application: opaque application_data<V>;`
-    Application(VLBytes),
+    Application(&'a VLBytes),
     /// `case proposal: Proposal proposal;`
-    Proposal(Proposal),
+    Proposal(&'a Proposal),
     /// `case commit: Commit commit;`
-    Commit(Commit),
+    Commit(&'a Commit),
 }
 
-impl Size for ContentTypeData {
+impl Size for ContentTypeData<'_> {
     ghost plain = { content_type_data_plain };
 
     ghost format = { content_type_data_format };
 
     fn tls_serialized_len(&self) -> usize {
-        match self {
+        match *self {
             ContentTypeData::Application(application_data) => (
                 APPLICATION,
                 Lent(application_data),
@@ -45,9 +42,9 @@ impl Size for ContentTypeData {
     ghost lawful = { content_type_data_meets };
 }
 
-impl Serialize for ContentTypeData {
+impl Serialize for ContentTypeData<'_> {
     fn tls_serialize<W: Sink>(&self, writer: &mut W) -> Result<usize, Error> {
-        match self {
+        match *self {
             ContentTypeData::Application(application_data) => (
                 APPLICATION,
                 Lent(application_data),
@@ -58,7 +55,7 @@ impl Serialize for ContentTypeData {
     }
 
     fn tls_serialize_into(&self, out: &mut Vec<u8>) -> Result<usize, Error> {
-        match self {
+        match *self {
             ContentTypeData::Application(application_data) => (
                 APPLICATION,
                 Lent(application_data),
@@ -67,63 +64,6 @@ impl Serialize for ContentTypeData {
                 out,
             ),
             ContentTypeData::Commit(commit) => (COMMIT, Lent(commit)).tls_serialize_into(out),
-        }
-    }
-}
-
-impl Deserialize for ContentTypeData {
-    ghost names = { tagged_source_names 1
-        (variant_source_names 1 ⟦<VLBytes as Deserialize>⟧.names
-        (variant_source_names 2 ⟦<Proposal as Deserialize>⟧.names
-        (variant_source_names 3 ⟦<Commit as Deserialize>⟧.names
-        no_variant_source_names))) };
-
-    fn tls_deserialize<R: Source>(alloc: Global, src: &mut R) -> Result<ContentTypeData, Error> {
-        let tag = u8::tls_deserialize(alloc, src)?;
-        match tag {
-            APPLICATION => {
-                let application_data = VLBytes::tls_deserialize(alloc, src)?;
-                Ok(ContentTypeData::Application(application_data))
-            }
-            PROPOSAL => {
-                let proposal = Proposal::tls_deserialize(alloc, src)?;
-                Ok(ContentTypeData::Proposal(proposal))
-            }
-            COMMIT => {
-                let commit = Commit::tls_deserialize(alloc, src)?;
-                Ok(ContentTypeData::Commit(commit))
-            }
-            _ => Err(unknown_value(u64::from(tag))),
-        }
-    }
-}
-
-impl DeserializeBytes for ContentTypeData {
-    ghost names = { tagged_names 1
-        (variant_names 1 ⟦<VLBytes as DeserializeBytes>⟧.names
-        (variant_names 2 ⟦<Proposal as DeserializeBytes>⟧.names
-        (variant_names 3 ⟦<Commit as DeserializeBytes>⟧.names
-        no_variant_names))) };
-
-    fn tls_deserialize_bytes(
-        alloc: Global,
-        whole: &[u8],
-    ) -> Result<(ContentTypeData, &[u8]), Error> {
-        let (tag, rest) = u8::tls_deserialize_bytes(alloc, whole)?;
-        match tag {
-            APPLICATION => {
-                let (application_data, rest) = VLBytes::tls_deserialize_bytes(alloc, rest)?;
-                Ok((ContentTypeData::Application(application_data), rest))
-            }
-            PROPOSAL => {
-                let (proposal, rest) = Proposal::tls_deserialize_bytes(alloc, rest)?;
-                Ok((ContentTypeData::Proposal(proposal), rest))
-            }
-            COMMIT => {
-                let (commit, rest) = Commit::tls_deserialize_bytes(alloc, rest)?;
-                Ok((ContentTypeData::Commit(commit), rest))
-            }
-            _ => Err(unknown_value(u64::from(tag))),
         }
     }
 }

@@ -2,35 +2,39 @@
 ghost use Rattle.mls_framing.specs.FramedContent.{framed_content_format, framed_content_meets, framed_content_plain};
 
 use crate::{ContentTypeData, Sender};
-use std::alloc::Global;
-use tls_codec::{
-    Deserialize, DeserializeBytes, Error, Lent2, Lent3, Serialize, Sink, Size, Source, VLBytes,
-};
+use tls_codec::{Error, Lent4, Serialize, Sink, Size, VLBytes};
 
 /// `FramedContent`.
-#[derive(PartialEq, Drop)]
-pub struct FramedContent {
+///
+/// It has references to its fields, and is only written.
+#[derive(Clone, Copy)]
+pub struct FramedContent<'a> {
     /// `opaque group_id<V>;`
-    pub group_id: VLBytes,
+    pub group_id: &'a VLBytes,
     /// `uint64 epoch;`
-    pub epoch: u64,
+    pub epoch: &'a u64,
     /// `Sender sender;`
-    pub sender: Sender,
+    pub sender: &'a Sender,
     /// `opaque authenticated_data<V>;`
-    pub authenticated_data: VLBytes,
+    pub authenticated_data: &'a VLBytes,
     /// `ContentType content_type;`
-    pub content_type: ContentTypeData,
+    pub content_type: ContentTypeData<'a>,
 }
 
-impl Size for FramedContent {
+impl Size for FramedContent<'_> {
     ghost plain = { framed_content_plain };
 
     ghost format = { framed_content_format };
 
     fn tls_serialized_len(&self) -> usize {
         (
-            Lent3(&self.group_id, &self.epoch, &self.sender),
-            Lent2(&self.authenticated_data, &self.content_type),
+            Lent4(
+                self.group_id,
+                self.epoch,
+                self.sender,
+                self.authenticated_data,
+            ),
+            self.content_type,
         )
             .tls_serialized_len()
     }
@@ -38,59 +42,30 @@ impl Size for FramedContent {
     ghost lawful = { framed_content_meets };
 }
 
-impl Serialize for FramedContent {
+impl Serialize for FramedContent<'_> {
     fn tls_serialize<W: Sink>(&self, writer: &mut W) -> Result<usize, Error> {
         (
-            Lent3(&self.group_id, &self.epoch, &self.sender),
-            Lent2(&self.authenticated_data, &self.content_type),
+            Lent4(
+                self.group_id,
+                self.epoch,
+                self.sender,
+                self.authenticated_data,
+            ),
+            self.content_type,
         )
             .tls_serialize(writer)
     }
 
     fn tls_serialize_into(&self, out: &mut Vec<u8>) -> Result<usize, Error> {
         (
-            Lent3(&self.group_id, &self.epoch, &self.sender),
-            Lent2(&self.authenticated_data, &self.content_type),
+            Lent4(
+                self.group_id,
+                self.epoch,
+                self.sender,
+                self.authenticated_data,
+            ),
+            self.content_type,
         )
             .tls_serialize_into(out)
-    }
-}
-
-impl Deserialize for FramedContent {
-    ghost names = { ⟦<((VLBytes, u64, Sender), (VLBytes, ContentTypeData)) as Deserialize>⟧.names };
-
-    fn tls_deserialize<R: Source>(alloc: Global, src: &mut R) -> Result<FramedContent, Error> {
-        let ((group_id, epoch, sender), (authenticated_data, content_type)) = <(
-            (VLBytes, u64, Sender),
-            (VLBytes, ContentTypeData),
-        )>::tls_deserialize(alloc, src)?;
-        Ok(FramedContent {
-            group_id,
-            epoch,
-            sender,
-            authenticated_data,
-            content_type,
-        })
-    }
-}
-
-impl DeserializeBytes for FramedContent {
-    ghost names = { ⟦<((VLBytes, u64, Sender), (VLBytes, ContentTypeData)) as DeserializeBytes>⟧.names };
-
-    fn tls_deserialize_bytes(alloc: Global, whole: &[u8]) -> Result<(FramedContent, &[u8]), Error> {
-        let (((group_id, epoch, sender), (authenticated_data, content_type)), rest) = <(
-            (VLBytes, u64, Sender),
-            (VLBytes, ContentTypeData),
-        )>::tls_deserialize_bytes(alloc, whole)?;
-        Ok((
-            FramedContent {
-                group_id,
-                epoch,
-                sender,
-                authenticated_data,
-                content_type,
-            },
-            rest,
-        ))
     }
 }

@@ -25,7 +25,7 @@ pub enum SenderTypeData<'a> {
         /// `opaque authenticated_data<V>;`
         authenticated_data: &'a VLBytes,
         /// `ContentType content_type;`
-        content_type: &'a ContentTypeData,
+        content_type: ContentTypeData<'a>,
         /// `GroupContext context;`
         context: &'a GroupContext,
     },
@@ -36,14 +36,14 @@ pub enum SenderTypeData<'a> {
         /// `opaque authenticated_data<V>;`
         authenticated_data: &'a VLBytes,
         /// `ContentType content_type;`
-        content_type: &'a ContentTypeData,
+        content_type: ContentTypeData<'a>,
     },
     /// `case new_member_commit:`
     NewMemberCommit {
         /// `opaque authenticated_data<V>;`
         authenticated_data: &'a VLBytes,
         /// `ContentType content_type;`
-        content_type: &'a ContentTypeData,
+        content_type: ContentTypeData<'a>,
         /// `GroupContext context;`
         context: &'a GroupContext,
     },
@@ -52,7 +52,7 @@ pub enum SenderTypeData<'a> {
         /// `opaque authenticated_data<V>;`
         authenticated_data: &'a VLBytes,
         /// `ContentType content_type;`
-        content_type: &'a ContentTypeData,
+        content_type: ContentTypeData<'a>,
     },
 }
 
@@ -71,7 +71,7 @@ impl Size for SenderTypeData<'_> {
             } => (
                 MEMBER,
                 Lent2(leaf_index, authenticated_data),
-                Lent2(content_type, context),
+                (content_type, Lent(context)),
             )
                 .tls_serialized_len(),
             SenderTypeData::External {
@@ -81,7 +81,7 @@ impl Size for SenderTypeData<'_> {
             } => (
                 EXTERNAL,
                 Lent2(sender_index, authenticated_data),
-                Lent(content_type),
+                content_type,
             )
                 .tls_serialized_len(),
             SenderTypeData::NewMemberCommit {
@@ -90,19 +90,14 @@ impl Size for SenderTypeData<'_> {
                 context,
             } => (
                 NEW_MEMBER_COMMIT,
-                Lent2(authenticated_data, content_type),
-                Lent(context),
+                Lent(authenticated_data),
+                (content_type, Lent(context)),
             )
                 .tls_serialized_len(),
             SenderTypeData::NewMemberProposal {
                 authenticated_data,
                 content_type,
-            } => (
-                NEW_MEMBER_PROPOSAL,
-                Lent(authenticated_data),
-                Lent(content_type),
-            )
-                .tls_serialized_len(),
+            } => (NEW_MEMBER_PROPOSAL, Lent(authenticated_data), content_type).tls_serialized_len(),
         }
     }
 
@@ -120,7 +115,7 @@ impl Serialize for SenderTypeData<'_> {
             } => (
                 MEMBER,
                 Lent2(leaf_index, authenticated_data),
-                Lent2(content_type, context),
+                (content_type, Lent(context)),
             )
                 .tls_serialize(writer),
             SenderTypeData::External {
@@ -130,7 +125,7 @@ impl Serialize for SenderTypeData<'_> {
             } => (
                 EXTERNAL,
                 Lent2(sender_index, authenticated_data),
-                Lent(content_type),
+                content_type,
             )
                 .tls_serialize(writer),
             SenderTypeData::NewMemberCommit {
@@ -139,19 +134,16 @@ impl Serialize for SenderTypeData<'_> {
                 context,
             } => (
                 NEW_MEMBER_COMMIT,
-                Lent2(authenticated_data, content_type),
-                Lent(context),
+                Lent(authenticated_data),
+                (content_type, Lent(context)),
             )
                 .tls_serialize(writer),
             SenderTypeData::NewMemberProposal {
                 authenticated_data,
                 content_type,
-            } => (
-                NEW_MEMBER_PROPOSAL,
-                Lent(authenticated_data),
-                Lent(content_type),
-            )
-                .tls_serialize(writer),
+            } => (NEW_MEMBER_PROPOSAL, Lent(authenticated_data), content_type).tls_serialize(
+                writer,
+            ),
         }
     }
 
@@ -165,7 +157,7 @@ impl Serialize for SenderTypeData<'_> {
             } => (
                 MEMBER,
                 Lent2(leaf_index, authenticated_data),
-                Lent2(content_type, context),
+                (content_type, Lent(context)),
             )
                 .tls_serialize_into(out),
             SenderTypeData::External {
@@ -175,7 +167,7 @@ impl Serialize for SenderTypeData<'_> {
             } => (
                 EXTERNAL,
                 Lent2(sender_index, authenticated_data),
-                Lent(content_type),
+                content_type,
             )
                 .tls_serialize_into(out),
             SenderTypeData::NewMemberCommit {
@@ -184,19 +176,16 @@ impl Serialize for SenderTypeData<'_> {
                 context,
             } => (
                 NEW_MEMBER_COMMIT,
-                Lent2(authenticated_data, content_type),
-                Lent(context),
+                Lent(authenticated_data),
+                (content_type, Lent(context)),
             )
                 .tls_serialize_into(out),
             SenderTypeData::NewMemberProposal {
                 authenticated_data,
                 content_type,
-            } => (
-                NEW_MEMBER_PROPOSAL,
-                Lent(authenticated_data),
-                Lent(content_type),
-            )
-                .tls_serialize_into(out),
+            } => (NEW_MEMBER_PROPOSAL, Lent(authenticated_data), content_type).tls_serialize_into(
+                out,
+            ),
         }
     }
 }

@@ -3,9 +3,9 @@
 use crate::show::Show;
 use message_tree::Tree;
 use mls_framing::{
-    AuthenticatedContent, AuthenticatedContentContentTypeData, ContentType, ContentTypeData,
-    FramedContent, MLSMessage, PrivateMessage, PublicMessage, PublicMessageContentTypeData,
-    PublicMessageSenderTypeData, Sender, SenderData, WireFormat, WireFormatData,
+    AuthenticatedContent, AuthenticatedContentContentTypeData, ContentType, MLSMessage,
+    PrivateMessage, PublicMessage, PublicMessageContentTypeData, PublicMessageSenderTypeData,
+    Sender, SenderData, WireFormat, WireFormatData,
 };
 use std::alloc::AllocError;
 
@@ -48,40 +48,6 @@ impl Show for WireFormat {
             5 => tree.value(name, "mls_key_package (5)"),
             tag => tree.number(name, u64::from(tag)),
         }
-    }
-}
-
-impl Show for ContentTypeData {
-    fn show(&self, tree: &mut Tree, name: &str) -> Result<(), AllocError> {
-        match self {
-            ContentTypeData::Application(application_data) => {
-                tree.open(name, "application (1)")?;
-                application_data.show(tree, "application_data")?;
-                tree.close()
-            }
-            ContentTypeData::Proposal(proposal) => {
-                tree.open(name, "proposal (2)")?;
-                proposal.show(tree, "proposal")?;
-                tree.close()
-            }
-            ContentTypeData::Commit(commit) => {
-                tree.open(name, "commit (3)")?;
-                commit.show(tree, "commit")?;
-                tree.close()
-            }
-        }
-    }
-}
-
-impl Show for FramedContent {
-    fn show(&self, tree: &mut Tree, name: &str) -> Result<(), AllocError> {
-        tree.open(name, "FramedContent")?;
-        self.group_id.show(tree, "group_id")?;
-        self.epoch.show(tree, "epoch")?;
-        self.sender.show(tree, "sender")?;
-        self.authenticated_data.show(tree, "authenticated_data")?;
-        self.content_type.show(tree, "content_type")?;
-        tree.close()
     }
 }
 

@@ -3,10 +3,11 @@ use crate::tests::each_call::is_written;
 use crate::tests::mls::{COMMIT, GROUP_INFO, KEY_PACKAGE, PRIVATE_MESSAGE};
 use crate::tests::same;
 use mls_framing::{
-    Commit, ContentTypeData, FramedContentTBS, GroupContext, GroupInfo, GroupInfoTBS, KeyPackage,
-    KeyPackageTBS, LeafNode, LeafNodeOrigin, LeafNodeTBS, LeafNodeTBSOrigin, MLSMessage,
-    PrivateContentAAD, ProtocolVersionMls10, SenderDataAAD, SenderTypeData, SignContent,
-    WireFormat, WireFormatData,
+    Commit, ConfirmedTranscriptHashInput, ContentTypeData, FramedContent, FramedContentTBS,
+    GroupContext, GroupInfo, GroupInfoTBS, KeyPackage, KeyPackageTBS, LeafNode, LeafNodeOrigin,
+    LeafNodeTBS, LeafNodeTBSOrigin, MLSMessage, PrivateContentAAD, ProtocolVersionMls10,
+    PublicMessage, PublicMessageContentTypeData, PublicMessageSenderTypeData, Sender,
+    SenderDataAAD, SenderTypeData, SignContent, WireFormat, WireFormatData,
 };
 use std::alloc::Global;
 use std::process::Abort;
@@ -117,17 +118,35 @@ fn is_leaf_written(
     is_written(rt, alloc, &signed, &expected)
 }
 
-// Section 6.1, for the commit of a member.
+fn public_message(rt: &impl Abort, alloc: Global) -> Result<PublicMessage, Fail> {
+    let WireFormatData::MlsPublicMessage(message) = read(alloc, &COMMIT)? else {
+        panic!(rt; "no public message");
+    };
+    Ok(message)
+}
+
+// What a commit's signature is over (section 6.1): it is a member's, in a public message that was read.
 fn is_content_written(
     rt: &impl Abort,
     alloc: Global,
-    group_id: &VLBytes,
-    authenticated_data: &VLBytes,
-    content_type: &ContentTypeData,
+    message: &PublicMessage,
     context: &GroupContext,
 ) -> Result<(), Fail> {
-    let sender = SenderTypeData::Member {
-        leaf_index: &2,
+    let PublicMessageSenderTypeData::Member {
+        leaf_index,
+        authenticated_data,
+        content_type,
+        ..
+    } = &message.sender_type
+    else {
+        panic!(rt; "another sender");
+    };
+    let PublicMessageContentTypeData::Commit { commit, .. } = content_type else {
+        panic!(rt; "another content");
+    };
+    let content_type = ContentTypeData::Commit(commit);
+    let sender_type = SenderTypeData::Member {
+        leaf_index,
         authenticated_data,
         content_type,
         context,
@@ -135,9 +154,9 @@ fn is_content_written(
     let signed = FramedContentTBS {
         version: &ProtocolVersionMls10::Mls10,
         wire_format: &WireFormat::MLS_PUBLIC_MESSAGE,
-        group_id,
-        epoch: &7,
-        sender_type: sender,
+        group_id: &message.group_id,
+        epoch: &message.epoch,
+        sender_type,
     };
     // The message up to its signature, and the group's context.
     let context = part(rt, alloc, &GROUP_INFO, 4, 23, &[])?;
@@ -145,26 +164,66 @@ fn is_content_written(
     is_written(rt, alloc, &signed, &expected)
 }
 
+// What the transcript's hash is over (section 8.2): the same up to the signature, but for the version, and then that.
+fn is_transcript_written(
+    rt: &impl Abort,
+    alloc: Global,
+    message: &PublicMessage,
+) -> Result<(), Fail> {
+    let PublicMessageSenderTypeData::Member {
+        leaf_index,
+        authenticated_data,
+        content_type,
+        ..
+    } = &message.sender_type
+    else {
+        panic!(rt; "another sender");
+    };
+    let PublicMessageContentTypeData::Commit {
+        commit,
+        signature,
+        ..
+    } = content_type
+    else {
+        panic!(rt; "another content");
+    };
+    let sender = Sender::Member(*leaf_index);
+    let content_type = ContentTypeData::Commit(commit);
+    let content = FramedContent {
+        group_id: &message.group_id,
+        epoch: &message.epoch,
+        sender: &sender,
+        authenticated_data,
+        content_type,
+    };
+    let hashed = ConfirmedTranscriptHashInput {
+        wire_format: &WireFormat::MLS_PUBLIC_MESSAGE,
+        content,
+        signature,
+    };
+    let expected = part(rt, alloc, &COMMIT, 2, 90, &[])?;
+    is_written(rt, alloc, &hashed, &expected)
+}
+
 #[test]
-fn a_commit_and_its_leaf_node(rt: HostRuntime) -> Result<(), Fail> {
+fn a_commit(rt: HostRuntime) -> Result<(), Fail> {
+    let alloc = rt.alloc();
+    let message = public_message(&rt, alloc)?;
+    let info = group_info(&rt, alloc)?;
+    is_content_written(&rt, alloc, &message, &info.group_context)?;
+    is_transcript_written(&rt, alloc, &message)
+}
+
+#[test]
+fn the_leaf_node_of_a_commit(rt: HostRuntime) -> Result<(), Fail> {
     let alloc = rt.alloc();
     let bytes = part(&rt, alloc, &COMMIT, 22, 88, &[])?;
     let commit = Commit::tls_deserialize_exact_bytes(alloc, &bytes)?;
     let group_id = VLBytes::from_slice(alloc, &[0xfa])?;
-    let authenticated_data = VLBytes::from_slice(alloc, &[0xfb])?;
     match &commit.path {
-        Some(path) => is_leaf_written(&rt, alloc, &path.leaf_node, &group_id, &2)?,
+        Some(path) => is_leaf_written(&rt, alloc, &path.leaf_node, &group_id, &2),
         None => panic!(rt; "no path"),
     }
-    let info = group_info(&rt, alloc)?;
-    is_content_written(
-        &rt,
-        alloc,
-        &group_id,
-        &authenticated_data,
-        &ContentTypeData::Commit(commit),
-        &info.group_context,
-    )
 }
 
 // Sections 6.3.1 and 6.3.2.
