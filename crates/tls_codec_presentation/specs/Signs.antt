@@ -24,6 +24,30 @@ use Rattle.tls_codec_presentation.specs.declared.syntax.Case.{Case}
 use Rattle.tls_codec_presentation.specs.declared.syntax.Label.{Label}
 use Rattle.tls_codec_presentation.specs.declared.syntax.Label.TheVariants as labels
 
+-- how a mark is written
+abbrev pub mark_text : Mark → List ℕ
+mark_text marks.Case = codes "case"
+mark_text marks.Enum = codes "enum"
+mark_text marks.Lent = codes "lent"
+mark_text marks.Open = codes "open"
+mark_text marks.Optional = codes "optional"
+mark_text marks.Select = codes "select"
+mark_text marks.Struct = codes "struct"
+mark_text marks.OpeningBrace = codes "{"
+mark_text marks.ClosingBrace = codes "}"
+mark_text marks.OpeningParenthesis = codes "("
+mark_text marks.ClosingParenthesis = codes ")"
+mark_text marks.OpeningBracket = codes "["
+mark_text marks.ClosingBracket = codes "]"
+mark_text marks.OpeningAngle = codes "<"
+mark_text marks.ClosingAngle = codes ">"
+mark_text marks.Comma = codes ","
+mark_text marks.Semicolon = codes ";"
+mark_text marks.Colon = codes ":"
+mark_text marks.Equals = codes "="
+mark_text marks.Dot = codes "."
+mark_text marks.Dots = codes ".."
+
 -- a token without its place: a word by its bytes, a number by its value, or a mark
 pub data Sign : Type 0 where
   word : List ℕ → Sign

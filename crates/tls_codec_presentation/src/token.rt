@@ -1,6 +1,6 @@
 //! What a text consists of: words, numbers and marks.
-ghost use Rattle.std.specs.Prelude.{◌≡◌, IfSome};
-ghost use Rattle.tls_codec_presentation.specs.Signs.{sign_of};
+ghost use Rattle.std.specs.Prelude.{◌≡◌, [], ◌∷◌, IfSome};
+ghost use Rattle.tls_codec_presentation.specs.Signs.{mark_text, sign_of};
 ghost use Rattle.tls_codec_presentation.specs.Signs as sign;
 
 use crate::refusal::Place;
@@ -50,7 +50,9 @@ pub enum Mark {
 
 impl Mark {
     /// How it is written.
-    pub fn as_str(self) -> &'static str {
+    pub fn as_str(self) -> &'static str
+        ensures { result.now ≡ mark_text self }
+    {
         match self {
             Mark::Case => "case",
             Mark::Enum => "enum",
@@ -77,7 +79,9 @@ impl Mark {
     }
 
     /// The mark that a word is, if it is no name.
-    pub fn of_word(word: &str) -> Option<Mark> {
+    pub fn of_word(word: &str) -> Option<Mark>
+        ensures { IfSome result (λ m. mark_text m ≡ word.now) }
+    {
         match word {
             "case" => Some(Mark::Case),
             "enum" => Some(Mark::Enum),
@@ -91,7 +95,9 @@ impl Mark {
     }
 
     /// The mark that a byte of punctuation begins and ends.
-    pub fn of_byte(byte: u8) -> Option<Mark> {
+    pub fn of_byte(byte: u8) -> Option<Mark>
+        ensures { IfSome result (λ m. mark_text m ≡ byte ∷ []) }
+    {
         match byte {
             b'{' => Some(Mark::OpeningBrace),
             b'}' => Some(Mark::ClosingBrace),
