@@ -20,7 +20,7 @@ RUNS = {
 for at, name in enumerate(MLS):
     others = [word for other in MLS[:at] for word in ("--with", f"{other}={other}.tls")]
     RUNS[name] = (name, name, others)
-    RUNS[f"{name}_shown"] = ("mlsview_run", name, [*others, "--show"])
+    RUNS[f"{name}_shown"] = ("mls_shown", name, [*others, "--show"])
 
 
 def files_of(run, crate):

@@ -16,13 +16,7 @@
 //!
 //! - [`program`]: [`program`](program::program), all of `main`.
 //! - [`view`]: [`view_of`](view::view_of), what is printed of some bytes.
-//! - [`show`]: [`Show`](show::Show), a value as lines of a `Tree` of `message_tree`.
-//! - `mls_leaf_shown`, `mls_proposals_shown`, `mls_framing_shown`: how the messages of these crates are shown.
 #![tactic(auto)]
 
-mod mls_framing_shown;
-mod mls_leaf_shown;
-mod mls_proposals_shown;
 pub mod program;
-pub mod show;
 pub mod view;

@@ -3,9 +3,9 @@ ghost use Rattle.std.specs.Prelude.{◌≡◌, IfErr, IfOk, false, true};
 ghost use Rattle.tls_codec.specs.Devices.{Gave};
 ghost use Rattle.mlsview_run.specs.View.{GaveView, Stands, Tells};
 
-use crate::show::Show;
 use message_tree::Tree;
 use mls_framing::MLSMessage;
+use mls_shown::show::Show;
 use std::alloc::{AllocError, Global};
 use tls_codec::{Deserialize, DeserializeBytes, Error, Source};
 use tlsview_run::fault::ViewFault;

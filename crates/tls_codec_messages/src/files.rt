@@ -1,9 +1,9 @@
 //! Files that are printed, written or compared.
 
-use crate::compare::first_difference;
 use std::fs;
 use std::process::ExitCode;
 use std::rt::Files;
+use text_layout::first_difference;
 use tls_codec_writing::file::Written;
 
 /// Prints each file after a line with its path.

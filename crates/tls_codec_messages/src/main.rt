@@ -11,10 +11,8 @@
 //! - [`words`]: the command line.
 //! - [`texts`]: the texts of a crate and of those that it is over.
 //! - [`files`]: printing, writing and comparing files.
-//! - [`compare`]: where two texts differ in more than layout.
 #![tactic(auto)]
 
-mod compare;
 mod files;
 mod texts;
 mod words;

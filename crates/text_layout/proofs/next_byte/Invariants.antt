@@ -1,7 +1,7 @@
 -- Only layout was passed.
 use Rattle.std.proofs.Common.{◌≡◌, ◌≤◌, length}
-use Rattle.tls_codec_messages.specs.Layout.{significant}
-use Rattle.tls_codec_messages.proofs.compare.next_byte.Given as goal
+use Rattle.text_layout.specs.Layout.{significant}
+use Rattle.text_layout.proofs.next_byte.Given as goal
 
 abbrev pub invariant-loop-byte : goal.invariant-loop-byte
 invariant-loop-byte l = record {

@@ -1,6 +1,6 @@
 use Rattle.std.proofs.Common.{rules}
-use Rattle.tls_codec_messages.proofs.Layouts.{counts, nothing_counts, passes}
-use Rattle.tls_codec_messages.proofs.compare.next_byte.Goals as goal
+use Rattle.text_layout.proofs.Layouts.{counts, nothing_counts, passes}
+use Rattle.text_layout.proofs.next_byte.Goals as goal
 
 pub returns-then-not-is_layout_before-clause-next : goal.returns-then-not-is_layout_before-clause-next
 returns-then-not-is_layout_before-clause-next c =

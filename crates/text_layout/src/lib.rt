@@ -1,6 +1,14 @@
-//! Where two texts differ in more than their layout.
+//! Where two sources differ in more than their layout: blanks, line feeds, tabs, and a comma before a closing bracket.
+//!
+//! ```rust
+//! let written = b"struct { a: u8 }";
+//! assert_eq!(rt; first_difference(written, b"struct {\n    a: u8,\n}"), None);
+//! assert_eq!(rt; first_difference(written, b"struct {\n    b: u8,\n}"), Some(2));
+//! ```
+#![tactic(auto)]
+
 ghost use Rattle.std.specs.Prelude.{◌≡◌, [], ◌∷◌, ◌<◌, length, IfSome, MatchOption};
-ghost use Rattle.tls_codec_messages.specs.Layout.{closes, is_blank, is_closing, is_layout, significant};
+ghost use Rattle.text_layout.specs.Layout.{closes, is_blank, is_closing, is_layout, significant};
 
 /// The line of `theirs`, from 1, at which it first differs from `ours` in more than layout.
 pub fn first_difference(ours: &[u8], theirs: &[u8]) -> Option<usize>

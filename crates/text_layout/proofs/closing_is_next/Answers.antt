@@ -1,6 +1,6 @@
 use Rattle.std.proofs.Common.{rules}
-use Rattle.tls_codec_messages.proofs.Layouts.{closes_later, closes_now, nothing_closes}
-use Rattle.tls_codec_messages.proofs.compare.closing_is_next.Goals as goal
+use Rattle.text_layout.proofs.Layouts.{closes_later, closes_now, nothing_closes}
+use Rattle.text_layout.proofs.closing_is_next.Goals as goal
 
 pub loop-byte-preserved : goal.loop-byte-preserved
 loop-byte-preserved c =
