@@ -2,7 +2,7 @@
 
 use std::alloc::{AllocError, Global};
 use tls_codec_plan::plan::Plan;
-use tls_codec_plan::plan_of;
+use tls_codec_planning::plan_of;
 use tls_codec_presentation::parser::parse;
 use tls_codec_presentation::refusal::Trouble;
 use tls_codec_presentation::syntax::File;

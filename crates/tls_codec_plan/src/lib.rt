@@ -1,31 +1,17 @@
-//! From what a file of the presentation language says to what is written for it.
+//! What is written for a file of the presentation language: messages whose names, types and tags are settled.
 //!
 //! - [`plan`]: [`Plan`](plan::Plan), the messages that are written, each with its fields and its tags.
+//! - [`lists`]: fields, values and cases in a row, in which each name and each number comes once.
+//! - [`messages`]: [`Messages`](messages::Messages), each of which can be written.
 //! - [`lent`]: [`runs_of`](lent::runs_of), how the fields of a lent struct are written in a row.
-//! - [`planning`]: [`plan_of`](planning::plan_of), the plan of a file, or where and why it is refused.
-//! - [`names`]: what types, fields and values are named in the written sources.
+//! - [`names`]: what types, fields and values are named in the written sources. [`words`]: which names these can't be.
+//! - [`width`]: how many bytes a tag and a number have.
 #![tactic(auto)]
 
-mod cases;
-mod checks;
-mod constants;
-mod items;
 pub mod lent;
-mod lists;
-mod made;
-mod members;
+pub mod lists;
+pub mod messages;
 pub mod names;
-mod naming;
-mod order;
-mod others;
 pub mod plan;
-pub mod planning;
-mod refuse;
-mod resolve;
-mod segment;
-mod sequence;
-mod types;
-mod width;
-mod words;
-
-pub use planning::plan_of;
+pub mod width;
+pub mod words;

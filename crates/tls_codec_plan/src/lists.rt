@@ -1,5 +1,5 @@
 //! Lists in which each name and each number comes once.
-ghost use Rattle.std.specs.Prelude.{◌≡◌, ◌<◌, ◌^◌, false, nat_eq};
+ghost use Rattle.std.specs.Prelude.{◌≡◌, [], ◌∷◌, ◌++◌, ◌<◌, ◌^◌, nat_eq, IfOk, IfSome, MatchOption};
 ghost use Rattle.std.specs.List.{All, list_any};
 ghost use Rattle.std.specs.String.{string_eq};
 ghost use Rattle.std.proofs.Props.{props};
@@ -9,6 +9,25 @@ ghost use Rattle.tls_codec_plan.specs.Writable.{HaveNames, HaveNumbers, HaveTags
 use crate::plan::{Body, Member, Value, Variant};
 use crate::width::Width;
 use std::alloc::{AllocError, Global};
+
+// The most fields of a struct.
+const MOST_FIELDS: usize = 27;
+
+// The most fields of a case.
+const MOST_OF_CASE: usize = 18;
+
+/// Why a value or a case isn't appended.
+#[derive(Clone, Copy, PartialEq)]
+pub enum Unfit {
+    /// Its number has more bytes than the others.
+    TooGreat,
+    /// Another has its number.
+    SameNumber,
+    /// Another has its name.
+    SameName,
+    /// A case has more than 18 fields.
+    ManyFields,
+}
 
 /// Fields in a row, each with a type that it may have, and a name that no other has.
 #[derive(Drop)]
@@ -33,21 +52,37 @@ impl Row {
         self.members.iter().any(|member| *name == member.name)
     }
 
-    /// Appends a field.
+    /// Appends a field, or gives it back if another has its name.
     #[tactic(auto, using(crate::proofs::Keys::names_push, crate::proofs::Fits::types_push))]
-    pub fn push(&mut self, member: Member) -> Result<(), AllocError>
-        requires typed { IsType member.of }
-        requires new_name { list_any (λ other. string_eq member.name other.name) self.old.members.items ≡ false }
+    pub fn push(&mut self, member: Member) -> Result<Option<Member>, AllocError>
+        requires { IsType member.of }
+        ensures { IfOk result
+            (λ left. MatchOption left (self.new.members.items ≡ self.old.members.items ++ member ∷ [])
+            (λ other. other ≡ member)) }
     {
+        if self.has_name(&member.name) {
+            return Ok(Some(member));
+        }
         self.members.push(member)?;
-        Ok(())
+        Ok(None)
     }
 
+    /// The fields of a case.
     pub fn into_members(self) -> Vec<Member>
         ensures names { HaveNames result.items }
         ensures types { HaveTypes result.items }
     {
         self.members
+    }
+
+    /// A struct of these fields, if they are 27 at most.
+    pub fn into_body(self) -> Option<Body>
+        ensures { IfSome result IsWritable }
+    {
+        if self.members.len() > MOST_FIELDS {
+            return None;
+        }
+        Some(Body::Fields(self.members))
     }
 }
 
@@ -89,15 +124,22 @@ impl Numbers {
         self.values.iter().any(|value| number == value.number)
     }
 
-    /// Appends a value.
+    /// Appends a value, or says why it isn't.
     #[tactic(auto, using(crate::proofs::Keys::numbers_push, crate::proofs::Keys::value_names_push, crate::proofs::Fits::values_fit_push))]
-    pub fn push(&mut self, value: Value) -> Result<(), AllocError>
-        requires fits { value.number < 256 ^ self.old.width.bytes }
-        requires new_name { list_any (λ other. string_eq value.name other.name) self.old.values.items ≡ false }
-        requires new_number { list_any (λ other. nat_eq value.number other.number) self.old.values.items ≡ false }
+    pub fn push(&mut self, value: Value) -> Result<Option<Unfit>, AllocError>
+        ensures { result ≡ Ok None → self.new.values.items ≡ self.old.values.items ++ value ∷ [] }
     {
+        if self.has_name(&value.name) {
+            return Ok(Some(Unfit::SameName));
+        }
+        if !self.width.holds(value.number) {
+            return Ok(Some(Unfit::TooGreat));
+        }
+        if self.has_number(value.number) {
+            return Ok(Some(Unfit::SameNumber));
+        }
         self.values.push(value)?;
-        Ok(())
+        Ok(None)
     }
 
     pub fn into_body(self, is_open: bool) -> Body
@@ -144,15 +186,27 @@ impl CaseList {
         self.variants.iter().any(|variant| tag == variant.tag)
     }
 
-    /// Appends a case.
+    /// Appends a case, or says why it isn't.
     #[tactic(auto, using(crate::proofs::Keys::tags_push, crate::proofs::Keys::variant_names_push, crate::proofs::Fits::cases_fit_push))]
-    pub fn push(&mut self, variant: Variant) -> Result<(), AllocError>
-        requires fits { IsCase self.old.width.bytes variant }
-        requires new_name { list_any (λ other. string_eq variant.name other.name) self.old.variants.items ≡ false }
-        requires new_tag { list_any (λ other. nat_eq variant.tag other.tag) self.old.variants.items ≡ false }
+    pub fn push(&mut self, variant: Variant) -> Result<Option<Unfit>, AllocError>
+        requires names { HaveNames variant.fields.items }
+        requires types { HaveTypes variant.fields.items }
+        ensures { result ≡ Ok None → self.new.variants.items ≡ self.old.variants.items ++ variant ∷ [] }
     {
+        if variant.fields.len() > MOST_OF_CASE {
+            return Ok(Some(Unfit::ManyFields));
+        }
+        if !self.width.holds(variant.tag) {
+            return Ok(Some(Unfit::TooGreat));
+        }
+        if self.has_tag(variant.tag) {
+            return Ok(Some(Unfit::SameNumber));
+        }
+        if self.has_name(&variant.name) {
+            return Ok(Some(Unfit::SameName));
+        }
         self.variants.push(variant)?;
-        Ok(())
+        Ok(None)
     }
 
     pub fn into_body(self) -> Body

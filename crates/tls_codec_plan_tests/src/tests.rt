@@ -15,7 +15,7 @@ use std::fmt::Debug;
 use std::process::Abort;
 use std::test::Fail;
 use tls_codec_plan::plan::Plan;
-use tls_codec_plan::planning::plan_of;
+use tls_codec_planning::planning::plan_of;
 use tls_codec_presentation::parser::parse;
 use tls_codec_presentation::refusal::{Refusal, Trouble};
 

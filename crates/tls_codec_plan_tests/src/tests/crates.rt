@@ -4,7 +4,7 @@ use super::{expects, same};
 use std::alloc::{AllocError, Global};
 use std::test::Fail;
 use tls_codec_plan::plan::{Other, Plan};
-use tls_codec_plan::planning::plan_of;
+use tls_codec_planning::planning::plan_of;
 use tls_codec_presentation::parser::parse;
 use tls_codec_presentation::refusal::Trouble;
 

@@ -2,7 +2,7 @@
 use super::{expects, refusal, same};
 use std::alloc::{AllocError, Global};
 use std::test::Fail;
-use tls_codec_plan::planning::plan_within;
+use tls_codec_planning::planning::plan_within;
 use tls_codec_presentation::parser::parse;
 use tls_codec_presentation::refusal::Trouble;
 

@@ -8,12 +8,12 @@ use crate::items::{find_struct, is_single};
 use crate::made::Made;
 use crate::order::order_of;
 use crate::others::{check_alone, others_of, tags_alone};
-use crate::plan::{Alias, Plan};
 use crate::refuse::{Budget, refused};
 use crate::resolve::{Ground, make_messages, message};
 use crate::sequence::{Piece, Sequence, is_open, sequence_of};
 use crate::types::{declared, type_of};
 use std::alloc::Global;
+use tls_codec_plan::plan::{Alias, Plan};
 use tls_codec_presentation::refusal::Trouble;
 use tls_codec_presentation::syntax::{Enum, Field, File, Item, Part, Select, Struct};
 

@@ -1,16 +1,13 @@
 //! The messages of a struct: a tag and its selects become one member, a message of its own.
-ghost use Rattle.std.specs.Prelude.{◌≤◌, IfOk, length};
+ghost use Rattle.std.specs.Prelude.{IfOk};
 ghost use Rattle.tls_codec_plan.specs.Writable.{HaveNames, HaveTypes, IsWritable};
 
 use crate::cases::{Labelled, cases_of, find_case, tag_of};
 use crate::checks::{TOO_GREAT, check_letters};
 use crate::lent::{check_runs, lends};
-use crate::lists::{CaseList, Row};
 use crate::made::Made;
 use crate::members::{Placed, copy, member_of, push_member};
-use crate::names::{constant_name, field_name, module_name, variant_name};
 use crate::naming::{choice_doc, own_name};
-use crate::plan::{Body, Element, Member, Message, Shape, Type, Variant};
 use crate::refuse::{Budget, refused};
 use crate::segment::{
     Behind, Chosen, check_segment, given_name, is_on, nearest_select, only_select, refused_crossing,
@@ -18,6 +15,9 @@ use crate::segment::{
 use crate::sequence::{Piece, Sequence, Spot, tag_of_select};
 use crate::types::declared;
 use std::alloc::{AllocError, Global};
+use tls_codec_plan::lists::{CaseList, Row, Unfit};
+use tls_codec_plan::names::{constant_name, field_name, module_name, variant_name};
+use tls_codec_plan::plan::{Body, Element, Member, Message, Shape, Type, Variant};
 use tls_codec_presentation::refusal::{Place, Trouble};
 use tls_codec_presentation::syntax::{Field, File, Name, Select};
 
@@ -241,32 +241,31 @@ fn push_case(
 ) -> Result<(), Trouble>
     requires names { HaveNames fields.items }
     requires types { HaveTypes fields.items }
-    requires few { length fields.items ≤ 18 }
 {
     let label = case.name.as_str();
-    if !list.width.holds(case.number) {
-        return Err(refused(alloc, case.place, label, TOO_GREAT));
-    }
-    if list.has_tag(case.number) {
-        return Err(refused(alloc, case.place, label, "a label that no case above has"));
-    }
-    let variant = variant_name(alloc, label, name)?;
-    if list.has_name(&variant) {
-        return Err(refused(
-            alloc,
-            case.place,
-            label,
-            "a label whose words aren't those of one above",
-        ));
-    }
-    list.push(Variant {
+    let variant = Variant {
         label: case.name.clone()?,
-        name: variant,
+        name: variant_name(alloc, label, name)?,
         constant: constant_name(alloc, label)?,
         tag: case.number,
         fields,
-    })?;
-    Ok(())
+    };
+    match list.push(variant)? {
+        None => Ok(()),
+        Some(unfit) => Err(refused(alloc, case.place, label, fit(unfit))),
+    }
+}
+
+// What is right in the place of a case that isn't appended.
+fn fit(unfit: Unfit) -> &'static str {
+    match unfit {
+        Unfit::TooGreat => TOO_GREAT,
+        Unfit::SameNumber => "a label that no case above has",
+        Unfit::SameName => "a label whose words aren't those of one above",
+        Unfit::ManyFields => {
+            "at most 18 fields in a case, with those between a tag and its select: make a struct of some of them"
+        }
+    }
 }
 
 fn push_choice(
@@ -338,16 +337,15 @@ fn struct_body(
             Behind::Select(chosen) => return Err(refused_crossing(alloc, chosen.place)),
         }
     }
-    let fields = row.into_members();
-    if fields.len() > 27 {
-        return Err(refused(
+    match row.into_body() {
+        Some(body) => Ok(body),
+        None => Err(refused(
             alloc,
             sequence.place,
             sequence.name,
             "at most 27 fields in a struct: make a struct of some of them",
-        ));
+        )),
     }
-    Ok(Body::Fields(fields))
 }
 
 // What stands behind a tag in a case, from the first to the last.
@@ -360,7 +358,6 @@ fn case_fields<'a>(
 ) -> Result<Vec<Member>, Trouble>
     ensures names { IfOk result (λ fields. HaveNames fields.items) }
     ensures types { IfOk result (λ fields. HaveTypes fields.items) }
-    ensures few { IfOk result (λ fields. length fields.items ≤ 18) }
 {
     let mut row = Row::new(alloc);
     for one in segment.iter().rev() {
@@ -371,16 +368,7 @@ fn case_fields<'a>(
             }
         }
     }
-    let fields = row.into_members();
-    if fields.len() > 18 {
-        return Err(refused(
-            alloc,
-            case.place,
-            case.name.as_str(),
-            "at most 18 fields in a case, with those between a tag and its select: make a struct of some of them",
-        ));
-    }
-    Ok(fields)
+    Ok(row.into_members())
 }
 
 // Appends a member that other cases have too.

@@ -2,8 +2,8 @@ use Rattle.std.proofs.Common.{◌≡◌, ◌<◌, rules, get_or, take, length, s
 use Rattle.std.proofs.lemmas.List.{take_all}
 use Rattle.std.proofs.lemmas.List.Elements.{All-more, All-same}
 use Rattle.tls_codec_presentation.specs.declared.syntax.Value.{Value}
-use Rattle.tls_codec_plan.specs.Cases.{HasCase, IsNamed}
-use Rattle.tls_codec_plan.proofs.cases.check_complete.Goals as goal
+use Rattle.tls_codec_planning.specs.Cases.{HasCase, IsNamed}
+use Rattle.tls_codec_planning.proofs.cases.check_complete.Goals as goal
 
 pub loop-value-preserved : goal.loop-value-preserved
 loop-value-preserved c =

@@ -1,13 +1,10 @@
 //! What is made of a file.
-ghost use Rattle.std.specs.Prelude.{◌≡◌};
-ghost use Rattle.std.specs.List.{list_any};
-ghost use Rattle.std.specs.String.{string_eq};
-ghost use Rattle.std.proofs.Props.{props};
-ghost use Rattle.tls_codec_plan.specs.Writable.{AreWritable, AreWritable-prop, HaveModules, IsWritable};
+ghost use Rattle.tls_codec_plan.specs.Writable.{AreWritable, HaveModules, IsWritable};
 
-use crate::plan::Message;
 use crate::refuse::{Budget, refused};
 use std::alloc::{AllocError, Global};
+use tls_codec_plan::messages::Messages;
+use tls_codec_plan::plan::Message;
 use tls_codec_presentation::refusal::{Place, Trouble};
 
 /// A message that was made for a tag and one select behind it.
@@ -19,10 +16,10 @@ struct Choice {
     name: String,
 }
 
-/// The messages that are made, each of which can be written, with a module that no other has.
+/// The messages that are made, and what is kept while they are.
 #[derive(Drop)]
 pub struct Made {
-    messages: Vec<Message>,
+    messages: Messages,
     choices: Vec<Choice>,
     /// The types of tags, which are no members of their own.
     pub tags: Vec<String>,
@@ -31,15 +28,12 @@ pub struct Made {
     /// Which crate has what is made now.
     pub home: usize,
     pub budget: Budget,
-    ghost writable: { AreWritable messages.items } by { AreWritable-prop messages.items },
-    ghost differ: { HaveModules messages.items } by { Prim.hlevel props },
 }
 
 impl Made {
-    #[tactic(auto, using(crate::proofs::Keys::modules_none))]
     pub fn new(alloc: Global, budget: Budget) -> Made {
         Made {
-            messages: Vec::new(alloc),
+            messages: Messages::new(alloc),
             choices: Vec::new(alloc),
             tags: Vec::new(alloc),
             constants: Vec::new(alloc),
@@ -55,39 +49,35 @@ impl Made {
 
     /// The messages so far.
     pub fn messages(&self) -> &[Message] {
-        &self.messages
+        self.messages.as_slice()
     }
 
     /// Which crate has the message of this name.
     pub fn home_of(&self, name: &String) -> Option<usize> {
-        self.messages
+        self.messages()
             .iter()
             .find(|message| message.name == *name)
             .map(|message| message.home)
     }
 
     /// Whether a message has this module.
-    pub fn has_module(&self, name: &String) -> bool
-        ensures { result ≡ list_any (λ other. string_eq name.now other.module) self.now.messages.items }
-    {
-        self.messages.iter().any(|other| *name == other.module)
+    pub fn has_module(&self, name: &String) -> bool {
+        self.messages.has_module(name)
     }
 
     /// Appends a message, and refuses one whose module another has.
-    #[tactic(auto, using(crate::proofs::Fits::writable_push, crate::proofs::Keys::modules_push))]
     pub fn push(&mut self, alloc: Global, place: Place, message: Message) -> Result<(), Trouble>
         requires { IsWritable message.body }
     {
-        if self.has_module(&message.module) {
-            return Err(refused(
+        match self.messages.push(message)? {
+            None => Ok(()),
+            Some(message) => Err(refused(
                 alloc,
                 place,
                 message.name.as_str(),
                 "a name that no type has",
-            ));
+            )),
         }
-        self.messages.push(message)?;
-        Ok(())
     }
 
     /// Keeps the name of a message that was made for a tag and one select behind it.
@@ -127,20 +117,17 @@ impl Made {
 
     /// Whether the message of this name has references to its fields.
     pub fn is_lent(&self, name: &String) -> bool {
-        self.messages
+        self.messages()
             .iter()
             .any(|message| message.is_lent && message.name == *name)
     }
 
     /// The messages of a crate but those that have one of some names.
-    #[tactic(auto, using(crate::proofs::Kept::kept_all, crate::proofs::Kept::kept_modules))]
     pub fn into_messages_but(self, home: usize, names: &[String]) -> Vec<Message>
         ensures writable { AreWritable result.items }
         ensures differ { HaveModules result.items }
     {
-        let mut messages = self.messages;
-        messages.retain(|message| message.home == home && !names.contains(&message.name));
-        messages
+        self.messages.into_messages_but(home, names)
     }
 }
 

@@ -1,13 +1,13 @@
 //! The tags of selects, and their cases.
 ghost use Rattle.std.specs.Prelude.{◌≡◌, IfOk, OnOk, nat_eq};
 ghost use Rattle.std.specs.List.{list_any};
-ghost use Rattle.tls_codec_plan.specs.Cases.{HasAll, HasCase, IsComplete, IsNamed};
+ghost use Rattle.tls_codec_planning.specs.Cases.{HasAll, HasCase, IsComplete, IsNamed};
 
 use crate::checks::{TOO_GREAT, enum_width, named, refused_number};
 use crate::items::{find, integer_width, is_single};
 use crate::refuse::{Budget, refused};
-use crate::width::Width;
 use std::alloc::Global;
+use tls_codec_plan::width::Width;
 use tls_codec_presentation::refusal::{Place, Trouble};
 use tls_codec_presentation::syntax::{
     Case, Enum, Field, File, Item, Label, Name, Number, Select, Value,

@@ -4,8 +4,8 @@ use Rattle.std.specs.Option.{option_copied}
 use Rattle.std.specs.List.{All, list_any}
 use Rattle.tls_codec_presentation.specs.declared.syntax.Enum.{Enum}
 use Rattle.tls_codec_presentation.specs.declared.syntax.Name.{Name}
-use Rattle.tls_codec_plan.specs.declared.cases.Labelled.{Labelled}
-use Rattle.tls_codec_plan.specs.declared.cases.Tag.{Tag}
+use Rattle.tls_codec_planning.specs.declared.cases.Labelled.{Labelled}
+use Rattle.tls_codec_planning.specs.declared.cases.Tag.{Tag}
 
 -- a case has this number
 abbrev pub HasCase : List Labelled → ℕ → Type 0

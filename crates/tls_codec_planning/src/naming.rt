@@ -2,10 +2,10 @@
 use crate::checks::type_module;
 use crate::items::integer_width;
 use crate::made::Made;
-use crate::names::{module_name, variant_name};
 use crate::refuse::refused;
 use crate::resolve::Ground;
 use std::alloc::{AllocError, Global};
+use tls_codec_plan::names::{module_name, variant_name};
 use tls_codec_presentation::refusal::Trouble;
 use tls_codec_presentation::syntax::{Field, Name};
 

@@ -1,16 +1,16 @@
 //! Whether the names and the numbers that a file gives can be written.
 ghost use Rattle.std.specs.Prelude.{◌↔◌, IfOk, IsSome};
-ghost use Rattle.tls_codec_plan.specs.Cases.{IsNamed};
+ghost use Rattle.tls_codec_planning.specs.Cases.{IsNamed};
 ghost use Rattle.tls_codec_plan.specs.Writable.{IsWritable};
 
 use crate::items::item_name;
-use crate::lists::Numbers;
-use crate::names::{constant_name, module_name, variant_name};
-use crate::plan::{Body, Value};
 use crate::refuse::refused;
-use crate::width::{Width, bytes_for};
-use crate::words::{is_module_word, is_type_word};
 use std::alloc::Global;
+use tls_codec_plan::lists::{Numbers, Unfit};
+use tls_codec_plan::names::{constant_name, module_name, variant_name};
+use tls_codec_plan::plan::{Body, Value};
+use tls_codec_plan::width::{Width, bytes_for};
+use tls_codec_plan::words::{is_module_word, is_type_word};
 use tls_codec_presentation::refusal::Trouble;
 use tls_codec_presentation::syntax::{Enum, File, Item, Name, Number};
 
@@ -183,28 +183,27 @@ fn push_value(
     if values.len() >= MOST {
         return Err(refused(alloc, name.place, text, "at most 1024 values"));
     }
-    let variant = variant_name(alloc, text, one.name.text.as_str())?;
-    if values.has_name(&variant) {
-        return Err(refused(
+    let value = Value {
+        label: name.text.clone()?,
+        name: variant_name(alloc, text, one.name.text.as_str())?,
+        constant: constant_name(alloc, text)?,
+        number: number.value,
+    };
+    match values.push(value)? {
+        None => Ok(()),
+        Some(Unfit::TooGreat) => Err(refused_number(alloc, number, TOO_GREAT)),
+        Some(Unfit::SameNumber) => Err(refused_number(
+            alloc,
+            number,
+            "a number that no value above has",
+        )),
+        Some(_) => Err(refused(
             alloc,
             name.place,
             text,
             "a name that no value above has, and whose words aren't those of one above",
-        ));
+        )),
     }
-    if !values.width.holds(number.value) {
-        return Err(refused_number(alloc, number, TOO_GREAT));
-    }
-    if values.has_number(number.value) {
-        return Err(refused_number(alloc, number, "a number that no value above has"));
-    }
-    values.push(Value {
-        label: name.text.clone()?,
-        name: variant,
-        constant: constant_name(alloc, text)?,
-        number: number.value,
-    })?;
-    Ok(())
 }
 
 /// The name of a value, if it has one and isn't reserved.

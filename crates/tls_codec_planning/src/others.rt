@@ -1,9 +1,9 @@
 //! What a file has of other crates, and which enums are written.
 use crate::made::Made;
 use crate::members::copy_type;
-use crate::plan::{Alias, Body, Element, Member, Other};
 use crate::refuse::refused;
 use std::alloc::{AllocError, Global};
+use tls_codec_plan::plan::{Alias, Body, Element, Member, Other};
 use tls_codec_presentation::refusal::Trouble;
 use tls_codec_presentation::syntax::{Field, File, Item, Name, Part};
 

@@ -1,7 +1,7 @@
 use Rattle.std.proofs.Common.{take}
 use Rattle.std.specs.List.{All}
-use Rattle.tls_codec_plan.specs.Cases.{HasCase, IsNamed}
-use Rattle.tls_codec_plan.proofs.cases.check_complete.Given as goal
+use Rattle.tls_codec_planning.specs.Cases.{HasCase, IsNamed}
+use Rattle.tls_codec_planning.proofs.cases.check_complete.Given as goal
 
 -- each value so far that has a name has a case
 abbrev pub invariant-loop-value : goal.invariant-loop-value

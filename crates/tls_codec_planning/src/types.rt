@@ -7,10 +7,10 @@ ghost use Rattle.tls_codec_plan.specs.declared.plan.Shape.TheVariants as shapes;
 use crate::checks::{named, refused_number};
 use crate::constants::{constant_type, open_constant};
 use crate::items::{find, find_enum, integer_width, is_single};
-use crate::plan::{Element, Shape, Type};
 use crate::refuse::refused;
-use crate::width::bytes_for;
 use std::alloc::{AllocError, Global};
+use tls_codec_plan::plan::{Element, Shape, Type};
+use tls_codec_plan::width::bytes_for;
 use tls_codec_presentation::refusal::Trouble;
 use tls_codec_presentation::syntax::{Enum, Field, File, Item, Name, Number, Vector};
 

@@ -4,11 +4,11 @@
 use crate::checks::{constant_body, named};
 use crate::items::{find_enum, is_single};
 use crate::made::Made;
-use crate::names::{module_name, variant_name};
 use crate::naming::is_taken;
 use crate::refuse::refused;
 use crate::resolve::{Ground, message};
 use std::alloc::{AllocError, Global};
+use tls_codec_plan::names::{module_name, variant_name};
 use tls_codec_presentation::refusal::Trouble;
 use tls_codec_presentation::syntax::{Enum, Field, File, Name, Part, Struct};
 

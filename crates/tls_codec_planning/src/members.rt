@@ -5,13 +5,13 @@ ghost use Rattle.tls_codec_plan.specs.Types.{IsType, can_be};
 ghost use Rattle.tls_codec_plan.specs.declared.plan.Shape.{Shape as AShape};
 
 use crate::checks::check_letters;
-use crate::lists::Row;
-use crate::names::field_name;
-use crate::plan::{Element, Member, Type};
 use crate::refuse::{Budget, refused};
 use crate::sequence::{Sequence, is_open};
 use crate::types::{declared, type_of};
 use std::alloc::{AllocError, Global};
+use tls_codec_plan::lists::Row;
+use tls_codec_plan::names::field_name;
+use tls_codec_plan::plan::{Element, Member, Type};
 use tls_codec_presentation::refusal::{Place, Trouble};
 use tls_codec_presentation::syntax::{Field, File};
 
@@ -54,16 +54,16 @@ pub fn member_of(
 
 /// Appends a member to those before it, and refuses it if one of them has its name.
 pub fn push_member(alloc: Global, row: &mut Row, placed: Placed) -> Result<(), Trouble> {
-    if row.has_name(&placed.member.name) {
-        return Err(refused(
+    let place = placed.place;
+    match row.push(placed.member)? {
+        None => Ok(()),
+        Some(member) => Err(refused(
             alloc,
-            placed.place,
-            placed.member.name.as_str(),
+            place,
+            member.name.as_str(),
             "a name that no field before it has, in Rust and with the fields that stand before a select",
-        ));
+        )),
     }
-    row.push(placed.member)?;
-    Ok(())
 }
 
 /// Another member that is the same.
