@@ -4,6 +4,9 @@ pub mod ConfirmedTranscriptHashInput
 pub mod ContentType
 pub mod ContentTypeData
 pub mod FramedContent
+pub mod FramedContentBody
+pub mod FramedContentInGroup
+pub mod FramedContentSender
 pub mod FramedContentTBS
 pub mod InterimTranscriptHashInput
 pub mod MLSMessage
@@ -11,7 +14,6 @@ pub mod PrivateContentAAD
 pub mod PrivateMessage
 pub mod PublicMessage
 pub mod PublicMessageContentTypeData
-pub mod PublicMessageSenderTypeData
 pub mod Sender
 pub mod SenderData
 pub mod SenderDataAAD

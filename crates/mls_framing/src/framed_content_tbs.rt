@@ -1,7 +1,7 @@
 //! [`FramedContentTBS`].
 ghost use Rattle.mls_framing.specs.FramedContentTBS.{framed_content_tbs_format, framed_content_tbs_meets, framed_content_tbs_plain};
 
-use crate::{SenderTypeData, WireFormat};
+use crate::{FramedContentSender, WireFormat};
 use mls_proposals::ProtocolVersionMls10;
 use tls_codec::{Error, Lent4, Serialize, Sink, Size, VLBytes};
 
@@ -19,7 +19,7 @@ pub struct FramedContentTBS<'a> {
     /// `uint64 epoch;`
     pub epoch: &'a u64,
     /// `SenderType sender_type;`
-    pub sender_type: SenderTypeData<'a>,
+    pub sender_type: FramedContentSender<'a>,
 }
 
 impl Size for FramedContentTBS<'_> {

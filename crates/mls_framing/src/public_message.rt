@@ -1,7 +1,7 @@
 //! [`PublicMessage`].
 ghost use Rattle.mls_framing.specs.PublicMessage.{public_message_format, public_message_meets, public_message_plain};
 
-use crate::PublicMessageSenderTypeData;
+use crate::SenderTypeData;
 use std::alloc::Global;
 use tls_codec::{
     Deserialize, DeserializeBytes, Error, Lent, Serialize, Sink, Size, Source, VLBytes,
@@ -15,7 +15,7 @@ pub struct PublicMessage {
     /// `uint64 epoch;`
     pub epoch: u64,
     /// `SenderType sender_type;`
-    pub sender_type: PublicMessageSenderTypeData,
+    pub sender_type: SenderTypeData,
 }
 
 impl Size for PublicMessage {
@@ -56,14 +56,12 @@ impl Serialize for PublicMessage {
 }
 
 impl Deserialize for PublicMessage {
-    ghost names = { ⟦<(VLBytes, u64, PublicMessageSenderTypeData) as Deserialize>⟧.names };
+    ghost names = { ⟦<(VLBytes, u64, SenderTypeData) as Deserialize>⟧.names };
 
     fn tls_deserialize<R: Source>(alloc: Global, src: &mut R) -> Result<PublicMessage, Error> {
-        let (group_id, epoch, sender_type) = <(
-            VLBytes,
-            u64,
-            PublicMessageSenderTypeData,
-        )>::tls_deserialize(alloc, src)?;
+        let (group_id, epoch, sender_type) = <(VLBytes, u64, SenderTypeData)>::tls_deserialize(
+            alloc, src,
+        )?;
         Ok(PublicMessage {
             group_id,
             epoch,
@@ -73,13 +71,13 @@ impl Deserialize for PublicMessage {
 }
 
 impl DeserializeBytes for PublicMessage {
-    ghost names = { ⟦<(VLBytes, u64, PublicMessageSenderTypeData) as DeserializeBytes>⟧.names };
+    ghost names = { ⟦<(VLBytes, u64, SenderTypeData) as DeserializeBytes>⟧.names };
 
     fn tls_deserialize_bytes(alloc: Global, whole: &[u8]) -> Result<(PublicMessage, &[u8]), Error> {
         let ((group_id, epoch, sender_type), rest) = <(
             VLBytes,
             u64,
-            PublicMessageSenderTypeData,
+            SenderTypeData,
         )>::tls_deserialize_bytes(alloc, whole)?;
         Ok((
             PublicMessage {

@@ -1,9 +1,14 @@
 //! [`SenderTypeData`].
+ghost use Rattle.tls_codec.specs.OwnMessages.{no_variant_names, no_variant_source_names, tagged_names, tagged_source_names, variant_names, variant_source_names};
 ghost use Rattle.mls_framing.specs.SenderTypeData.{sender_type_data_format, sender_type_data_meets, sender_type_data_plain};
 
-use crate::ContentTypeData;
-use mls_proposals::GroupContext;
-use tls_codec::{Error, Lent, Lent2, Serialize, Sink, Size, VLBytes};
+use crate::PublicMessageContentTypeData;
+use mls_proposals::MAC;
+use std::alloc::Global;
+use tls_codec::{
+    Deserialize, DeserializeBytes, Error, Lent, Lent2, Serialize, Sink, Size, Source, VLBytes,
+    unknown_value,
+};
 
 const MEMBER: u8 = 1;
 
@@ -13,65 +18,61 @@ const NEW_MEMBER_COMMIT: u8 = 4;
 
 const NEW_MEMBER_PROPOSAL: u8 = 3;
 
-/// `SenderType sender_type` of `FramedContentTBS`, and what comes after each.
-///
-/// It has references to its fields, and is only written.
-#[derive(Clone, Copy)]
-pub enum SenderTypeData<'a> {
+/// `SenderType sender_type` of `PublicMessage`, and what comes after each.
+#[derive(PartialEq, Drop)]
+pub enum SenderTypeData {
     /// `case member:`
     Member {
         /// `uint32 leaf_index;`
-        leaf_index: &'a u32,
+        leaf_index: u32,
         /// `opaque authenticated_data<V>;`
-        authenticated_data: &'a VLBytes,
+        authenticated_data: VLBytes,
         /// `ContentType content_type;`
-        content_type: ContentTypeData<'a>,
-        /// `GroupContext context;`
-        context: &'a GroupContext,
+        content_type: PublicMessageContentTypeData,
+        /// `MAC membership_tag;`
+        membership_tag: MAC,
     },
     /// `case external:`
     External {
         /// `uint32 sender_index;`
-        sender_index: &'a u32,
+        sender_index: u32,
         /// `opaque authenticated_data<V>;`
-        authenticated_data: &'a VLBytes,
+        authenticated_data: VLBytes,
         /// `ContentType content_type;`
-        content_type: ContentTypeData<'a>,
+        content_type: PublicMessageContentTypeData,
     },
     /// `case new_member_commit:`
     NewMemberCommit {
         /// `opaque authenticated_data<V>;`
-        authenticated_data: &'a VLBytes,
+        authenticated_data: VLBytes,
         /// `ContentType content_type;`
-        content_type: ContentTypeData<'a>,
-        /// `GroupContext context;`
-        context: &'a GroupContext,
+        content_type: PublicMessageContentTypeData,
     },
     /// `case new_member_proposal:`
     NewMemberProposal {
         /// `opaque authenticated_data<V>;`
-        authenticated_data: &'a VLBytes,
+        authenticated_data: VLBytes,
         /// `ContentType content_type;`
-        content_type: ContentTypeData<'a>,
+        content_type: PublicMessageContentTypeData,
     },
 }
 
-impl Size for SenderTypeData<'_> {
+impl Size for SenderTypeData {
     ghost plain = { sender_type_data_plain };
 
     ghost format = { sender_type_data_format };
 
     fn tls_serialized_len(&self) -> usize {
-        match *self {
+        match self {
             SenderTypeData::Member {
                 leaf_index,
                 authenticated_data,
                 content_type,
-                context,
+                membership_tag,
             } => (
                 MEMBER,
                 Lent2(leaf_index, authenticated_data),
-                (content_type, Lent(context)),
+                Lent2(content_type, membership_tag),
             )
                 .tls_serialized_len(),
             SenderTypeData::External {
@@ -81,41 +82,45 @@ impl Size for SenderTypeData<'_> {
             } => (
                 EXTERNAL,
                 Lent2(sender_index, authenticated_data),
-                content_type,
+                Lent(content_type),
             )
                 .tls_serialized_len(),
             SenderTypeData::NewMemberCommit {
                 authenticated_data,
                 content_type,
-                context,
             } => (
                 NEW_MEMBER_COMMIT,
                 Lent(authenticated_data),
-                (content_type, Lent(context)),
+                Lent(content_type),
             )
                 .tls_serialized_len(),
             SenderTypeData::NewMemberProposal {
                 authenticated_data,
                 content_type,
-            } => (NEW_MEMBER_PROPOSAL, Lent(authenticated_data), content_type).tls_serialized_len(),
+            } => (
+                NEW_MEMBER_PROPOSAL,
+                Lent(authenticated_data),
+                Lent(content_type),
+            )
+                .tls_serialized_len(),
         }
     }
 
     ghost lawful = { sender_type_data_meets };
 }
 
-impl Serialize for SenderTypeData<'_> {
+impl Serialize for SenderTypeData {
     fn tls_serialize<W: Sink>(&self, writer: &mut W) -> Result<usize, Error> {
-        match *self {
+        match self {
             SenderTypeData::Member {
                 leaf_index,
                 authenticated_data,
                 content_type,
-                context,
+                membership_tag,
             } => (
                 MEMBER,
                 Lent2(leaf_index, authenticated_data),
-                (content_type, Lent(context)),
+                Lent2(content_type, membership_tag),
             )
                 .tls_serialize(writer),
             SenderTypeData::External {
@@ -125,39 +130,41 @@ impl Serialize for SenderTypeData<'_> {
             } => (
                 EXTERNAL,
                 Lent2(sender_index, authenticated_data),
-                content_type,
+                Lent(content_type),
             )
                 .tls_serialize(writer),
             SenderTypeData::NewMemberCommit {
                 authenticated_data,
                 content_type,
-                context,
             } => (
                 NEW_MEMBER_COMMIT,
                 Lent(authenticated_data),
-                (content_type, Lent(context)),
+                Lent(content_type),
             )
                 .tls_serialize(writer),
             SenderTypeData::NewMemberProposal {
                 authenticated_data,
                 content_type,
-            } => (NEW_MEMBER_PROPOSAL, Lent(authenticated_data), content_type).tls_serialize(
-                writer,
-            ),
+            } => (
+                NEW_MEMBER_PROPOSAL,
+                Lent(authenticated_data),
+                Lent(content_type),
+            )
+                .tls_serialize(writer),
         }
     }
 
     fn tls_serialize_into(&self, out: &mut Vec<u8>) -> Result<usize, Error> {
-        match *self {
+        match self {
             SenderTypeData::Member {
                 leaf_index,
                 authenticated_data,
                 content_type,
-                context,
+                membership_tag,
             } => (
                 MEMBER,
                 Lent2(leaf_index, authenticated_data),
-                (content_type, Lent(context)),
+                Lent2(content_type, membership_tag),
             )
                 .tls_serialize_into(out),
             SenderTypeData::External {
@@ -167,25 +174,160 @@ impl Serialize for SenderTypeData<'_> {
             } => (
                 EXTERNAL,
                 Lent2(sender_index, authenticated_data),
-                content_type,
+                Lent(content_type),
             )
                 .tls_serialize_into(out),
             SenderTypeData::NewMemberCommit {
                 authenticated_data,
                 content_type,
-                context,
             } => (
                 NEW_MEMBER_COMMIT,
                 Lent(authenticated_data),
-                (content_type, Lent(context)),
+                Lent(content_type),
             )
                 .tls_serialize_into(out),
             SenderTypeData::NewMemberProposal {
                 authenticated_data,
                 content_type,
-            } => (NEW_MEMBER_PROPOSAL, Lent(authenticated_data), content_type).tls_serialize_into(
-                out,
-            ),
+            } => (
+                NEW_MEMBER_PROPOSAL,
+                Lent(authenticated_data),
+                Lent(content_type),
+            )
+                .tls_serialize_into(out),
+        }
+    }
+}
+
+impl Deserialize for SenderTypeData {
+    ghost names = { tagged_source_names 1
+        (variant_source_names 1 ⟦<((u32, VLBytes), (PublicMessageContentTypeData, MAC)) as Deserialize>⟧.names
+        (variant_source_names 2 ⟦<((u32, VLBytes), PublicMessageContentTypeData) as Deserialize>⟧.names
+        (variant_source_names 4 ⟦<(VLBytes, PublicMessageContentTypeData) as Deserialize>⟧.names
+        (variant_source_names 3 ⟦<(VLBytes, PublicMessageContentTypeData) as Deserialize>⟧.names
+        no_variant_source_names)))) };
+
+    fn tls_deserialize<R: Source>(alloc: Global, src: &mut R) -> Result<SenderTypeData, Error> {
+        let tag = u8::tls_deserialize(alloc, src)?;
+        match tag {
+            MEMBER => {
+                let ((leaf_index, authenticated_data), (content_type, membership_tag)) = <(
+                    (u32, VLBytes),
+                    (PublicMessageContentTypeData, MAC),
+                )>::tls_deserialize(alloc, src)?;
+                Ok(SenderTypeData::Member {
+                    leaf_index,
+                    authenticated_data,
+                    content_type,
+                    membership_tag,
+                })
+            }
+            EXTERNAL => {
+                let ((sender_index, authenticated_data), content_type) = <(
+                    (u32, VLBytes),
+                    PublicMessageContentTypeData,
+                )>::tls_deserialize(alloc, src)?;
+                Ok(SenderTypeData::External {
+                    sender_index,
+                    authenticated_data,
+                    content_type,
+                })
+            }
+            NEW_MEMBER_COMMIT => {
+                let (authenticated_data, content_type) = <(
+                    VLBytes,
+                    PublicMessageContentTypeData,
+                )>::tls_deserialize(alloc, src)?;
+                Ok(SenderTypeData::NewMemberCommit {
+                    authenticated_data,
+                    content_type,
+                })
+            }
+            NEW_MEMBER_PROPOSAL => {
+                let (authenticated_data, content_type) = <(
+                    VLBytes,
+                    PublicMessageContentTypeData,
+                )>::tls_deserialize(alloc, src)?;
+                Ok(SenderTypeData::NewMemberProposal {
+                    authenticated_data,
+                    content_type,
+                })
+            }
+            _ => Err(unknown_value(u64::from(tag))),
+        }
+    }
+}
+
+impl DeserializeBytes for SenderTypeData {
+    ghost names = { tagged_names 1
+        (variant_names 1 ⟦<((u32, VLBytes), (PublicMessageContentTypeData, MAC)) as DeserializeBytes>⟧.names
+        (variant_names 2 ⟦<((u32, VLBytes), PublicMessageContentTypeData) as DeserializeBytes>⟧.names
+        (variant_names 4 ⟦<(VLBytes, PublicMessageContentTypeData) as DeserializeBytes>⟧.names
+        (variant_names 3 ⟦<(VLBytes, PublicMessageContentTypeData) as DeserializeBytes>⟧.names
+        no_variant_names)))) };
+
+    fn tls_deserialize_bytes(
+        alloc: Global,
+        whole: &[u8],
+    ) -> Result<(SenderTypeData, &[u8]), Error> {
+        let (tag, rest) = u8::tls_deserialize_bytes(alloc, whole)?;
+        match tag {
+            MEMBER => {
+                let (((leaf_index, authenticated_data), (content_type, membership_tag)), rest) = <(
+                    (u32, VLBytes),
+                    (PublicMessageContentTypeData, MAC),
+                )>::tls_deserialize_bytes(alloc, rest)?;
+                Ok((
+                    SenderTypeData::Member {
+                        leaf_index,
+                        authenticated_data,
+                        content_type,
+                        membership_tag,
+                    },
+                    rest,
+                ))
+            }
+            EXTERNAL => {
+                let (((sender_index, authenticated_data), content_type), rest) = <(
+                    (u32, VLBytes),
+                    PublicMessageContentTypeData,
+                )>::tls_deserialize_bytes(alloc, rest)?;
+                Ok((
+                    SenderTypeData::External {
+                        sender_index,
+                        authenticated_data,
+                        content_type,
+                    },
+                    rest,
+                ))
+            }
+            NEW_MEMBER_COMMIT => {
+                let ((authenticated_data, content_type), rest) = <(
+                    VLBytes,
+                    PublicMessageContentTypeData,
+                )>::tls_deserialize_bytes(alloc, rest)?;
+                Ok((
+                    SenderTypeData::NewMemberCommit {
+                        authenticated_data,
+                        content_type,
+                    },
+                    rest,
+                ))
+            }
+            NEW_MEMBER_PROPOSAL => {
+                let ((authenticated_data, content_type), rest) = <(
+                    VLBytes,
+                    PublicMessageContentTypeData,
+                )>::tls_deserialize_bytes(alloc, rest)?;
+                Ok((
+                    SenderTypeData::NewMemberProposal {
+                        authenticated_data,
+                        content_type,
+                    },
+                    rest,
+                ))
+            }
+            _ => Err(unknown_value(u64::from(tag))),
         }
     }
 }

@@ -4,8 +4,8 @@ use crate::show::Show;
 use message_tree::Tree;
 use mls_framing::{
     AuthenticatedContent, AuthenticatedContentContentTypeData, ContentType, MLSMessage,
-    PrivateMessage, PublicMessage, PublicMessageContentTypeData, PublicMessageSenderTypeData,
-    Sender, SenderData, WireFormat, WireFormatData,
+    PrivateMessage, PublicMessage, PublicMessageContentTypeData, Sender, SenderData,
+    SenderTypeData, WireFormat, WireFormatData,
 };
 use std::alloc::AllocError;
 
@@ -136,10 +136,10 @@ impl Show for PublicMessageContentTypeData {
     }
 }
 
-impl Show for PublicMessageSenderTypeData {
+impl Show for SenderTypeData {
     fn show(&self, tree: &mut Tree, name: &str) -> Result<(), AllocError> {
         match self {
-            PublicMessageSenderTypeData::Member {
+            SenderTypeData::Member {
                 leaf_index,
                 authenticated_data,
                 content_type,
@@ -152,7 +152,7 @@ impl Show for PublicMessageSenderTypeData {
                 membership_tag.show(tree, "membership_tag")?;
                 tree.close()
             }
-            PublicMessageSenderTypeData::External {
+            SenderTypeData::External {
                 sender_index,
                 authenticated_data,
                 content_type,
@@ -163,7 +163,7 @@ impl Show for PublicMessageSenderTypeData {
                 content_type.show(tree, "content_type")?;
                 tree.close()
             }
-            PublicMessageSenderTypeData::NewMemberCommit {
+            SenderTypeData::NewMemberCommit {
                 authenticated_data,
                 content_type,
             } => {
@@ -172,7 +172,7 @@ impl Show for PublicMessageSenderTypeData {
                 content_type.show(tree, "content_type")?;
                 tree.close()
             }
-            PublicMessageSenderTypeData::NewMemberProposal {
+            SenderTypeData::NewMemberProposal {
                 authenticated_data,
                 content_type,
             } => {

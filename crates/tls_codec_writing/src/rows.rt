@@ -43,8 +43,7 @@ static SHOWN_IN_VARIANT: &str = "                $name$.show(tree, \"$name$\")?;
 ";
 
 impl Row {
-    /// The fields of a struct in three groups at most, or those of a variant in two. Where one is lent itself, there are three
-    /// of a variant too, and the last two are one part behind its tag.
+    /// The fields of a struct in three groups at most, or those of a variant in two.
     pub fn of(
         alloc: Global,
         names: &Names<'_>,
@@ -170,26 +169,7 @@ impl Row {
             self.nesting.counts.as_slice(),
             join,
         )?;
-        let groups = self.behind_tag(alloc, groups, join)?;
         join.joined(alloc, groups.as_slice(), gap)
-    }
-
-    // The groups, but those of a variant as two parts at most: behind the first, the others are one.
-    fn behind_tag(
-        &self,
-        alloc: Global,
-        groups: Vec<String>,
-        join: Join,
-    ) -> Result<Vec<String>, AllocError> {
-        match (self.owner, groups.as_slice().split_first()) {
-            (Owner::Variant, Some((first, others))) if others.len() > 1 => {
-                let mut parts = Vec::new(alloc);
-                parts.push(first.clone()?)?;
-                parts.push(join.joined(alloc, others, " ")?)?;
-                Ok(parts)
-            }
-            _ => Ok(groups),
-        }
     }
 
     // A text for each field.
@@ -218,7 +198,6 @@ impl Row {
             })?;
             first = first.saturating_add(*size);
         }
-        let lent = self.behind_tag(alloc, lent, Join::Tuple)?;
         let lent = joined(alloc, lent.as_slice(), ", ")?;
         match self.owner {
             Owner::Struct => format!(in alloc; "({lent})"),

@@ -1,0 +1,33 @@
+-- FramedContentBody: what it stands for, its format and its law.
+use Rattle.std.proofs.Common.{arith}
+use Rattle.tls_codec.specs.OwnMessages.{Tree, Number, Empty, Join, number_trees, Format, nothing_format, fields_format, bytes_format, Variants, no_variant, variant, tagged_format, MeetsLaws, MeetVariantLaws, nothing_meets, fields_meets, bytes_meets, no_variant_meets, variant_meets, tagged_meets}
+use Rattle.tls_codec.specs.Contents.{bytes_of}
+use Rattle.mls_proposals.specs.Proposal.{proposal_plain, proposal_format, proposal_meets}
+use Rattle.mls_proposals.specs.Commit.{commit_plain, commit_format, commit_meets}
+use Rattle.mls_framing.specs.declared.framed_content_body.FramedContentBody.{FramedContentBody}
+use Rattle.mls_framing.specs.declared.framed_content_body.FramedContentBody.TheVariants.{Application, Proposal, Commit}
+
+abbrev pub framed_content_body_plain : FramedContentBody → Tree
+framed_content_body_plain (Application a0) = Join (Number 1) (Join (number_trees (bytes_of a0.now)) Empty)
+framed_content_body_plain (Proposal a0) = Join (Number 2) (Join (proposal_plain a0.now) Empty)
+framed_content_body_plain (Commit a0) = Join (Number 3) (Join (commit_plain a0.now) Empty)
+
+abbrev pub framed_content_body_variants : Variants
+framed_content_body_variants =
+    variant 1 (fields_format bytes_format nothing_format)
+    (variant 2 (fields_format proposal_format nothing_format)
+    (variant 3 (fields_format commit_format nothing_format)
+    no_variant))
+
+pub framed_content_body_variants_meet : MeetVariantLaws framed_content_body_variants
+framed_content_body_variants_meet =
+    variant_meets 1 (fields_meets bytes_meets nothing_meets)
+    (variant_meets 2 (fields_meets proposal_meets nothing_meets)
+    (variant_meets 3 (fields_meets commit_meets nothing_meets)
+    no_variant_meets))
+
+abbrev pub framed_content_body_format : Format
+framed_content_body_format = tagged_format 1 framed_content_body_variants
+
+pub framed_content_body_meets : MeetsLaws framed_content_body_format
+framed_content_body_meets = tagged_meets 1 (omega arith) framed_content_body_variants_meet

@@ -1,0 +1,39 @@
+//! [`FramedContentInGroup`].
+ghost use Rattle.mls_framing.specs.FramedContentInGroup.{framed_content_in_group_format, framed_content_in_group_meets, framed_content_in_group_plain};
+
+use crate::FramedContentBody;
+use mls_proposals::GroupContext;
+use tls_codec::{Error, Lent, Serialize, Sink, Size};
+
+/// `FramedContentInGroup`.
+///
+/// It has references to its fields, and is only written.
+#[derive(Clone, Copy)]
+pub struct FramedContentInGroup<'a> {
+    /// `FramedContentBody body;`
+    pub body: FramedContentBody<'a>,
+    /// `GroupContext context;`
+    pub context: &'a GroupContext,
+}
+
+impl Size for FramedContentInGroup<'_> {
+    ghost plain = { framed_content_in_group_plain };
+
+    ghost format = { framed_content_in_group_format };
+
+    fn tls_serialized_len(&self) -> usize {
+        (self.body, Lent(self.context)).tls_serialized_len()
+    }
+
+    ghost lawful = { framed_content_in_group_meets };
+}
+
+impl Serialize for FramedContentInGroup<'_> {
+    fn tls_serialize<W: Sink>(&self, writer: &mut W) -> Result<usize, Error> {
+        (self.body, Lent(self.context)).tls_serialize(writer)
+    }
+
+    fn tls_serialize_into(&self, out: &mut Vec<u8>) -> Result<usize, Error> {
+        (self.body, Lent(self.context)).tls_serialize_into(out)
+    }
+}
