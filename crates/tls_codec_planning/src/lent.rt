@@ -7,8 +7,11 @@ use tls_codec_plan::lent::runs_of;
 use tls_codec_plan::plan::{Body, Element, Member};
 use tls_codec_presentation::refusal::Trouble;
 
-// The most runs of a struct, and of a case.
+// The most runs of a struct.
 const MOST_RUNS: usize = 3;
+
+// The most runs of a case, which has its tag before them.
+const MOST_OF_CASE: usize = 2;
 
 /// Whether a message of a struct has references. One without fields has none.
 pub fn lends(sequence: &Sequence<'_>, body: &Body) -> bool {
@@ -31,10 +34,10 @@ pub fn check_runs(
 ) -> Result<(), Trouble> {
     match body {
         Body::Values { .. } => Ok(()),
-        Body::Fields(fields) => check_row(alloc, sequence, fields, made),
+        Body::Fields(fields) => check_row(alloc, sequence, fields, made, MOST_RUNS),
         Body::Choice { variants, .. } => {
             for variant in variants {
-                check_row(alloc, sequence, &variant.fields, made)?;
+                check_row(alloc, sequence, &variant.fields, made, MOST_OF_CASE)?;
             }
             Ok(())
         }
@@ -46,17 +49,18 @@ fn check_row(
     sequence: &Sequence<'_>,
     fields: &[Member],
     made: &Made,
+    most: usize,
 ) -> Result<(), Trouble> {
     let mut are_lent = Vec::new(alloc);
     for field in fields {
         are_lent.push(is_lent(made, field))?;
     }
-    if are_lent.contains(&true) && runs_of(alloc, &are_lent)?.len() > MOST_RUNS {
+    if are_lent.contains(&true) && runs_of(alloc, &are_lent)?.len() > most {
         return Err(refused(
             alloc,
             sequence.place,
             sequence.name,
-            "at most 3 runs of fields in a lent struct or a case: a lent field is a run of its own, and up to 9 others between are one",
+            "at most 3 runs of fields in a lent struct, and 2 in a case: a lent field is a run of its own, and up to 9 others between are one",
         ));
     }
     Ok(())

@@ -3,11 +3,12 @@ use crate::tests::each_call::is_written;
 use crate::tests::mls::{COMMIT, GROUP_INFO, KEY_PACKAGE, PRIVATE_MESSAGE};
 use crate::tests::same;
 use mls_framing::{
-    Commit, ConfirmedTranscriptHashInput, ContentTypeData, FramedContent, FramedContentTBS,
-    GroupContext, GroupInfo, GroupInfoTBS, KeyPackage, KeyPackageTBS, LeafNode, LeafNodeOrigin,
-    LeafNodeTBS, LeafNodeTBSOrigin, MLSMessage, PrivateContentAAD, ProtocolVersionMls10,
-    PublicMessage, PublicMessageContentTypeData, PublicMessageSenderTypeData, Sender,
-    SenderDataAAD, SenderTypeData, SignContent, WireFormat, WireFormatData,
+    Commit, ConfirmedTranscriptHashInput, ContentTypeData, FramedContent, FramedContentBody,
+    FramedContentInGroup, FramedContentSender, FramedContentTBS, GroupContext, GroupInfo,
+    GroupInfoTBS, KeyPackage, KeyPackageTBS, LeafNode, LeafNodeOrigin, LeafNodeTBS,
+    LeafNodeTBSOrigin, MLSMessage, PrivateContentAAD, ProtocolVersionMls10, PublicMessage,
+    PublicMessageContentTypeData, Sender, SenderDataAAD, SenderTypeData, SignContent, WireFormat,
+    WireFormatData,
 };
 use std::alloc::Global;
 use std::process::Abort;
@@ -132,7 +133,7 @@ fn is_content_written(
     message: &PublicMessage,
     context: &GroupContext,
 ) -> Result<(), Fail> {
-    let PublicMessageSenderTypeData::Member {
+    let SenderTypeData::Member {
         leaf_index,
         authenticated_data,
         content_type,
@@ -144,12 +145,12 @@ fn is_content_written(
     let PublicMessageContentTypeData::Commit { commit, .. } = content_type else {
         panic!(rt; "another content");
     };
-    let content_type = ContentTypeData::Commit(commit);
-    let sender_type = SenderTypeData::Member {
+    let body = FramedContentBody::Commit(commit);
+    let content = FramedContentInGroup { body, context };
+    let sender_type = FramedContentSender::Member {
         leaf_index,
         authenticated_data,
-        content_type,
-        context,
+        content,
     };
     let signed = FramedContentTBS {
         version: &ProtocolVersionMls10::Mls10,
@@ -170,7 +171,7 @@ fn is_transcript_written(
     alloc: Global,
     message: &PublicMessage,
 ) -> Result<(), Fail> {
-    let PublicMessageSenderTypeData::Member {
+    let SenderTypeData::Member {
         leaf_index,
         authenticated_data,
         content_type,

@@ -386,9 +386,9 @@ static BAD: [(&str, usize, usize, &str, &str); 76] = [
         "at most 3 runs",
     ),
     (
-        "enum { a(1), b(2) } T; lent struct { uint8 x; } L; lent struct { T t; select (M.t) { case a: uint8 y; L b; uint8 z; L c; case b: struct{}; } } M;",
+        "enum { a(1), b(2) } T; lent struct { uint8 x; } L; lent struct { T t; select (M.t) { case a: uint8 y; L b; uint8 z; case b: struct{}; } } M;",
         1,
-        144,
+        139,
         "M",
         "at most 3 runs",
     ),
