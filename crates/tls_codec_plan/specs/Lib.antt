@@ -1,4 +1,5 @@
 pub mod Names
+pub mod Taking
 pub mod Types
 pub mod Width
 pub mod Writable

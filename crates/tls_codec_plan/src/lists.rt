@@ -1,10 +1,12 @@
 //! Lists in which each name and each number comes once.
-ghost use Rattle.std.specs.Prelude.{◌≡◌, [], ◌∷◌, ◌++◌, ◌<◌, ◌^◌, nat_eq, IfOk, IfSome, MatchOption};
+ghost use Rattle.std.specs.Prelude.{◌≡◌, [], ◌≤◌, ◌<◌, ◌^◌, nat_eq, IfOk, IfSome, length};
 ghost use Rattle.std.specs.List.{All, list_any};
 ghost use Rattle.std.specs.String.{string_eq};
 ghost use Rattle.std.proofs.Props.{props};
+ghost use Rattle.tls_codec_plan.specs.Taking.{AppendsUnless, RefusesCase, RefusesValue, Takes, has_name_of};
 ghost use Rattle.tls_codec_plan.specs.Types.{IsType};
 ghost use Rattle.tls_codec_plan.specs.Writable.{HaveNames, HaveNumbers, HaveTags, HaveTypes, HaveValueNames, HaveVariantNames, IsCase, IsWritable};
+ghost use Rattle.tls_codec_plan.specs.declared.plan.Body.TheVariants as bodies;
 
 use crate::plan::{Body, Member, Value, Variant};
 use crate::width::Width;
@@ -39,7 +41,9 @@ pub struct Row {
 
 impl Row {
     #[tactic(auto, using(crate::proofs::Keys::names_none))]
-    pub fn new(alloc: Global) -> Row {
+    pub fn new(alloc: Global) -> Row
+        ensures { result.members.items ≡ [] }
+    {
         Row {
             members: Vec::new(alloc),
         }
@@ -56,9 +60,8 @@ impl Row {
     #[tactic(auto, using(crate::proofs::Keys::names_push, crate::proofs::Fits::types_push))]
     pub fn push(&mut self, member: Member) -> Result<Option<Member>, AllocError>
         requires { IsType member.of }
-        ensures { IfOk result
-            (λ left. MatchOption left (self.new.members.items ≡ self.old.members.items ++ member ∷ [])
-            (λ other. other ≡ member)) }
+        ensures { IfOk result (AppendsUnless (has_name_of self.old.members.items member)
+            self.old.members.items self.new.members.items member) }
     {
         if self.has_name(&member.name) {
             return Ok(Some(member));
@@ -69,6 +72,7 @@ impl Row {
 
     /// The fields of a case.
     pub fn into_members(self) -> Vec<Member>
+        ensures members { result ≡ self.members }
         ensures names { HaveNames result.items }
         ensures types { HaveTypes result.items }
     {
@@ -77,7 +81,9 @@ impl Row {
 
     /// A struct of these fields, if they are 27 at most.
     pub fn into_body(self) -> Option<Body>
-        ensures { IfSome result IsWritable }
+        ensures body { IfSome result (λ body. body ≡ bodies.Fields self.members) }
+        ensures none { result ≡ None → length self.members.items ≤ 27 → ⊥ }
+        ensures writable { IfSome result IsWritable }
     {
         if self.members.len() > MOST_FIELDS {
             return None;
@@ -98,7 +104,10 @@ pub struct Numbers {
 
 impl Numbers {
     #[tactic(auto, using(crate::proofs::Keys::numbers_none, crate::proofs::Keys::value_names_none))]
-    pub fn new(alloc: Global, width: Width) -> Numbers {
+    pub fn new(alloc: Global, width: Width) -> Numbers
+        ensures values { result.values.items ≡ [] }
+        ensures width { result.width.bytes ≡ width.bytes }
+    {
         Numbers {
             width,
             values: Vec::new(alloc),
@@ -106,7 +115,9 @@ impl Numbers {
     }
 
     /// How many values there are so far.
-    pub fn len(&self) -> usize {
+    pub fn len(&self) -> usize
+        ensures { result ≡ length self.now.values.items }
+    {
         self.values.len()
     }
 
@@ -127,7 +138,9 @@ impl Numbers {
     /// Appends a value, or says why it isn't.
     #[tactic(auto, using(crate::proofs::Keys::numbers_push, crate::proofs::Keys::value_names_push, crate::proofs::Fits::values_fit_push))]
     pub fn push(&mut self, value: Value) -> Result<Option<Unfit>, AllocError>
-        ensures { result ≡ Ok None → self.new.values.items ≡ self.old.values.items ++ value ∷ [] }
+        ensures taken { IfOk result (Takes (RefusesValue self.old.width.bytes self.old.values.items value)
+            self.old.values.items self.new.values.items value) }
+        ensures width { self.new.width ≡ self.old.width }
     {
         if self.has_name(&value.name) {
             return Ok(Some(Unfit::SameName));
@@ -143,7 +156,8 @@ impl Numbers {
     }
 
     pub fn into_body(self, is_open: bool) -> Body
-        ensures { IsWritable result }
+        ensures body { result ≡ bodies.Values self.width.bytes is_open self.values }
+        ensures writable { IsWritable result }
     {
         Body::Values {
             width: self.width.bytes,
@@ -165,7 +179,10 @@ pub struct CaseList {
 
 impl CaseList {
     #[tactic(auto, using(crate::proofs::Keys::tags_none, crate::proofs::Keys::variant_names_none))]
-    pub fn new(alloc: Global, width: Width) -> CaseList {
+    pub fn new(alloc: Global, width: Width) -> CaseList
+        ensures variants { result.variants.items ≡ [] }
+        ensures width { result.width.bytes ≡ width.bytes }
+    {
         CaseList {
             width,
             variants: Vec::new(alloc),
@@ -191,7 +208,9 @@ impl CaseList {
     pub fn push(&mut self, variant: Variant) -> Result<Option<Unfit>, AllocError>
         requires names { HaveNames variant.fields.items }
         requires types { HaveTypes variant.fields.items }
-        ensures { result ≡ Ok None → self.new.variants.items ≡ self.old.variants.items ++ variant ∷ [] }
+        ensures taken { IfOk result (Takes (RefusesCase self.old.width.bytes self.old.variants.items variant)
+            self.old.variants.items self.new.variants.items variant) }
+        ensures width { self.new.width ≡ self.old.width }
     {
         if variant.fields.len() > MOST_OF_CASE {
             return Ok(Some(Unfit::ManyFields));
@@ -210,7 +229,8 @@ impl CaseList {
     }
 
     pub fn into_body(self) -> Body
-        ensures { IsWritable result }
+        ensures body { result ≡ bodies.Choice self.width.bytes self.variants }
+        ensures writable { IsWritable result }
     {
         Body::Choice {
             width: self.width.bytes,

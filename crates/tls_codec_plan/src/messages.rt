@@ -1,8 +1,9 @@
 //! Messages, each of which can be written.
-ghost use Rattle.std.specs.Prelude.{◌≡◌, [], ◌∷◌, ◌++◌, IfOk, MatchOption};
-ghost use Rattle.std.specs.List.{list_any};
+ghost use Rattle.std.specs.Prelude.{◌≡◌, [], IfOk};
+ghost use Rattle.std.specs.List.{filter, list_any};
 ghost use Rattle.std.specs.String.{string_eq};
 ghost use Rattle.std.proofs.Props.{props};
+ghost use Rattle.tls_codec_plan.specs.Taking.{AppendsUnless, has_module_of, stays};
 ghost use Rattle.tls_codec_plan.specs.Writable.{AreWritable, AreWritable-prop, HaveModules, IsWritable};
 
 use crate::plan::Message;
@@ -18,7 +19,9 @@ pub struct Messages {
 
 impl Messages {
     #[tactic(auto, using(crate::proofs::Keys::modules_none))]
-    pub fn new(alloc: Global) -> Messages {
+    pub fn new(alloc: Global) -> Messages
+        ensures { result.messages.items ≡ [] }
+    {
         Messages {
             messages: Vec::new(alloc),
         }
@@ -41,9 +44,8 @@ impl Messages {
     #[tactic(auto, using(crate::proofs::Fits::writable_push, crate::proofs::Keys::modules_push))]
     pub fn push(&mut self, message: Message) -> Result<Option<Message>, AllocError>
         requires { IsWritable message.body }
-        ensures { IfOk result
-            (λ left. MatchOption left (self.new.messages.items ≡ self.old.messages.items ++ message ∷ [])
-            (λ other. other ≡ message)) }
+        ensures { IfOk result (AppendsUnless (has_module_of self.old.messages.items message)
+            self.old.messages.items self.new.messages.items message) }
     {
         if self.has_module(&message.module) {
             return Ok(Some(message));
@@ -55,6 +57,7 @@ impl Messages {
     /// The messages of a crate but those that have one of some names.
     #[tactic(auto, using(crate::proofs::Kept::kept_all, crate::proofs::Kept::kept_modules))]
     pub fn into_messages_but(self, home: usize, names: &[String]) -> Vec<Message>
+        ensures kept { result.items ≡ filter (stays home names.now) self.messages.items }
         ensures writable { AreWritable result.items }
         ensures differ { HaveModules result.items }
     {
