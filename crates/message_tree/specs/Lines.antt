@@ -16,6 +16,10 @@ abbrev pub count_text : ℕ → (of : List ℕ) → List ℕ
 count_text (suc zero) of = codes "1 " ++ of
 count_text n of = decimal n ++ (codes " " ++ (of ++ codes "s"))
 
+-- how many elements there are
+abbrev pub elements_text : ℕ → List ℕ
+elements_text count = count_text count (codes "element")
+
 -- the hex of bytes after a blank, and nothing for none
 abbrev pub digits_text : List ℕ → List ℕ
 digits_text [] = []
@@ -30,12 +34,18 @@ abbrev pub Adds : (old new : Tree) → List ℕ → Type 0
 Adds old new text =
     (string_bytes new.text ≡ string_bytes old.text ++ text) × (string_bytes new.indent ≡ string_bytes old.indent)
 
+-- what was there, and the line of a field with this text
+abbrev pub AddsLine : (old new : Tree) → (name text : List ℕ) → Type 0
+AddsLine old new name text = Adds old new (line old name text)
+
 -- the same, and the next line is two blanks further in
-abbrev pub Opens : (old new : Tree) → List ℕ → Type 0
-Opens old new text =
-    (string_bytes new.text ≡ string_bytes old.text ++ text) × (string_bytes new.indent ≡ string_bytes old.indent ++ codes "  ")
+abbrev pub OpensLine : (old new : Tree) → (name text : List ℕ) → Type 0
+OpensLine old new name text =
+    (string_bytes new.text ≡ string_bytes old.text ++ line old name text) ×
+    (string_bytes new.indent ≡ string_bytes old.indent ++ codes "  ")
 
 -- what was there; the next line is as far in as it was before two blanks
 abbrev pub Closes : (old new : Tree) → Type 0
 Closes old new =
-    (string_bytes new.text ≡ string_bytes old.text) × ((outer : List ℕ) → string_bytes old.indent ≡ outer ++ codes "  " → string_bytes new.indent ≡ outer)
+    (string_bytes new.text ≡ string_bytes old.text) ×
+    ((outer : List ℕ) → string_bytes old.indent ≡ outer ++ codes "  " → string_bytes new.indent ≡ outer)

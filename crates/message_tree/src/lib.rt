@@ -9,8 +9,8 @@
 //! Which line a call adds is in `specs/Lines.antt`. A call that fails, for memory, may have added part of it.
 #![tactic(auto)]
 
-ghost use Rattle.std.specs.Prelude.{◌≡◌, OnOk, [], codes, decimal, length, string_bytes};
-ghost use Rattle.message_tree.specs.Lines.{Adds, Closes, Opens, beginning, bytes_text, count_text, digits_text, line};
+ghost use Rattle.std.specs.Prelude.{◌≡◌, OnOk, [], decimal, string_bytes};
+ghost use Rattle.message_tree.specs.Lines.{Adds, AddsLine, Closes, OpensLine, beginning, bytes_text, count_text, digits_text, elements_text};
 
 use std::alloc::{AllocError, Global};
 
@@ -61,7 +61,7 @@ impl Tree {
 
     /// A field, with others below it up to [`close`](Tree::close).
     pub fn open(&mut self, name: &str, of: &str) -> Result<(), AllocError>
-        ensures { OnOk result (Opens self.old self.new (line self.old name.now of.now)) }
+        ensures { OnOk result (OpensLine self.old self.new name.now of.now) }
     {
         self.value(name, of)?;
         self.indent.push_str("  ")
@@ -69,7 +69,7 @@ impl Tree {
 
     /// A list of so many elements, which are below it up to [`close`](Tree::close).
     pub fn open_list(&mut self, name: &str, count: usize) -> Result<(), AllocError>
-        ensures { OnOk result (Opens self.old self.new (line self.old name.now (count_text count (codes "element")))) }
+        ensures { OnOk result (OpensLine self.old self.new name.now (elements_text count)) }
     {
         self.begin(name)?;
         self.count(count, "element")?;
@@ -88,7 +88,7 @@ impl Tree {
 
     /// A field with this text.
     pub fn value(&mut self, name: &str, text: &str) -> Result<(), AllocError>
-        ensures { OnOk result (Adds self.old self.new (line self.old name.now text.now)) }
+        ensures { OnOk result (AddsLine self.old self.new name.now text.now) }
     {
         self.begin(name)?;
         self.text.push_str(text)?;
@@ -97,7 +97,7 @@ impl Tree {
 
     /// A number.
     pub fn number(&mut self, name: &str, number: u64) -> Result<(), AllocError>
-        ensures { OnOk result (Adds self.old self.new (line self.old name.now (decimal number))) }
+        ensures { OnOk result (AddsLine self.old self.new name.now (decimal number)) }
     {
         self.begin(name)?;
         writeln!(self.text, "{number}")
@@ -105,7 +105,7 @@ impl Tree {
 
     /// Bytes, as how many there are and their hex text.
     pub fn bytes(&mut self, name: &str, bytes: &[u8]) -> Result<(), AllocError>
-        ensures { OnOk result (Adds self.old self.new (line self.old name.now (bytes_text bytes.now))) }
+        ensures { OnOk result (AddsLine self.old self.new name.now (bytes_text bytes.now)) }
     {
         self.begin(name)?;
         self.count(bytes.len(), "byte")?;

@@ -4,7 +4,7 @@ use std::fs;
 use std::process::ExitCode;
 use std::rt::Files;
 use text_layout::first_difference;
-use tls_codec_writing::file::Written;
+use tls_codec_files::Written;
 
 /// Prints each file after a line with its path.
 pub fn print<R: Print>(rt: &R, written: &[Written]) -> anyhow::Result<ExitCode> {

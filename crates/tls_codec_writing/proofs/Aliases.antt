@@ -3,8 +3,9 @@ use Rattle.std.proofs.Common.{◌≡◌, ◌<◌, ◌++◌, List, [], ◌∷◌,
 use Rattle.std.specs.Prelude.{codes}
 use Rattle.std.proofs.lemmas.List.{append_assoc, map-append}
 use Rattle.tls_codec_plan.specs.declared.plan.Alias.{Alias}
-use Rattle.tls_codec_writing.specs.Paths.{Path, path_of, paths_in, paths_of_aliases}
-use Rattle.tls_codec_writing.specs.declared.file.Written.{Written}
+use Rattle.tls_codec_files.specs.Paths.{Path, path_of}
+use Rattle.tls_codec_writing.specs.Paths.{paths_in, paths_of_aliases}
+use Rattle.tls_codec_files.specs.declared.Written.{Written}
 
 pub no_aliases : (aliases : List Alias) → length aliases ≡ 0 → paths_of_aliases aliases ≡ []
 no_aliases [] none = refl

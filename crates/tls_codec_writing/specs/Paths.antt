@@ -1,34 +1,18 @@
 -- Which files a crate has, by their paths.
-use Rattle.std.specs.Prelude.{ℕ, List, [], ◌∷◌, ◌++◌, map, Bool, true, false, codes, string_bytes}
+use Rattle.std.specs.Prelude.{List, [], ◌∷◌, ◌++◌, map, Bool, true, false, codes}
 use Rattle.std.specs.List.{flat_map}
+use Rattle.tls_codec_files.specs.Paths.{Path, answers_path, code_path, path_of, specs_path}
+use Rattle.tls_codec_files.specs.declared.Written.{Written}
 use Rattle.tls_codec_plan.specs.declared.plan.Alias.{Alias}
 use Rattle.tls_codec_plan.specs.declared.plan.Body.{Body}
 use Rattle.tls_codec_plan.specs.declared.plan.Body.TheVariants.{Values, Fields, Choice}
 use Rattle.tls_codec_plan.specs.declared.plan.Message.{Message}
 use Rattle.tls_codec_plan.specs.declared.plan.Plan.{Plan}
-use Rattle.tls_codec_writing.specs.declared.file.Written.{Written}
-
-abbrev pub Path : Type 0
-Path = List ℕ
-
-abbrev pub path_of : Written → Path
-path_of file = string_bytes file.path
 
 abbrev pub paths_in : List Written → List Path
 paths_in files = map path_of files
 
 -- ---- of a message
-
-abbrev pub code_path : Message → Path
-code_path m = codes "src/" ++ (string_bytes m.module ++ codes ".rt")
-
-abbrev pub specs_path : Message → Path
-specs_path m = codes "specs/" ++ (string_bytes m.name ++ codes ".antt")
-
--- the answers of a function of a trait
-abbrev pub answers_path : Message → (of_trait function : List ℕ) → Path
-answers_path m of_trait function =
-    codes "proofs/" ++ (string_bytes m.module ++ (codes "/" ++ (string_bytes m.name ++ (of_trait ++ (codes "/" ++ (function ++ codes "/Answers.antt"))))))
 
 -- a lent message has no decoders
 abbrev pub decoders_unless : Bool → Message → List Path

@@ -1,20 +1,14 @@
 //! The files that are written.
-ghost use Rattle.std.specs.Prelude.{◌≡◌, ◌++◌, IfOk, OnOk, codes};
+ghost use Rattle.std.specs.Prelude.{◌≡◌, ◌++◌, IfOk, OnOk};
 ghost use Rattle.std.specs.List.{flat_map};
-ghost use Rattle.tls_codec_writing.specs.Paths.{first_paths, path_of, paths_in, paths_of, paths_of_aliases, paths_of_message};
+ghost use Rattle.tls_codec_writing.specs.Paths.{first_paths, paths_in, paths_of, paths_of_aliases, paths_of_message};
 
 use crate::forms::Form;
 use crate::types::Names;
 use crate::{code, proofs, specs};
 use std::alloc::{AllocError, Global};
+use tls_codec_files::Written;
 use tls_codec_plan::plan::{Message, Plan};
-
-#[derive(Drop)]
-pub struct Written {
-    /// Its path in the crate's folder, as `src/leaf_node.rt`.
-    pub path: String,
-    pub text: String,
-}
 
 /// All files of the crate `own`, over these other crates: its root, its other names of types, a module and a file
 /// of definitions for each message, the answers of enums, and the lists of definitions and lemmas.
@@ -30,8 +24,8 @@ pub fn files_of(
     let mut files = Vec::new(alloc);
     push_first(alloc, &mut files, &names, plan)?;
     push_messages(alloc, &mut files, &names, plan.messages.as_slice())?;
-    files.push(file(alloc, "specs/Lib.antt", specs::list(alloc, plan)?)?)?;
-    files.push(file(alloc, "proofs/Lib.antt", String::new(alloc))?)?;
+    files.push(Written::new(alloc, "specs/Lib.antt", specs::list(alloc, plan)?)?)?;
+    files.push(Written::new(alloc, "proofs/Lib.antt", String::new(alloc))?)?;
     Ok(files)
 }
 
@@ -45,7 +39,7 @@ fn push_first(
     ensures { OnOk result (paths_in files.new.items
         ≡ paths_in files.old.items ++ first_paths plan.now) }
 {
-    files.push(file(alloc, "src/lib.rt", code::root(alloc, names, plan)?)?)?;
+    files.push(Written::new(alloc, "src/lib.rt", code::root(alloc, names, plan)?)?)?;
     push_aliases(alloc, files, names, plan)?;
     Ok(())
 }
@@ -65,7 +59,7 @@ fn push_aliases(
         return Ok(());
     }
     let aliases = code::aliases(alloc, names, plan)?;
-    files.push(file(alloc, "src/names.rt", aliases)?)?;
+    files.push(Written::new(alloc, "src/names.rt", aliases)?)?;
     Ok(())
 }
 
@@ -95,22 +89,10 @@ fn push_files(
     ensures { OnOk result (paths_in files.new.items
         ≡ paths_in files.old.items ++ paths_of_message message.now) }
 {
-    let name = message.name.as_str();
-    let module = message.module.as_str();
     let form = Form::of(alloc, names, message)?;
     let code = code::module(alloc, names, &form)?;
-    let path = format!(in alloc; "src/{module}.rt")?;
-    files.push(file(alloc, path.as_str(), code)?)?;
+    files.push(Written::code(alloc, message, code)?)?;
     let definitions = specs::file(alloc, names, &form)?;
-    let path = format!(in alloc; "specs/{name}.antt")?;
-    files.push(file(alloc, path.as_str(), definitions)?)?;
+    files.push(Written::definitions(alloc, message, definitions)?)?;
     proofs::push_files(alloc, files, message, &form)
-}
-
-// A file with this path.
-fn file(alloc: Global, path: &str, text: String) -> Result<Written, AllocError>
-    ensures { IfOk result (λ file. path_of file ≡ path.now) }
-{
-    let path = String::from_str(alloc, path)?;
-    Ok(Written { path, text })
 }

@@ -1,6 +1,6 @@
 //! The files that are written for a plan: code, definitions and answers.
 //!
-//! - [`file`]: [`files_of`](file::files_of), all files of a crate, each of them a [`Written`](file::Written).
+//! - [`file`]: [`files_of`](file::files_of), all files of a crate, each of them a [`Written`](tls_codec_files::Written).
 //! - [`shows`]: [`file_of`](shows::file_of), the module that shows messages as a tree.
 //! - `code`, `specs` and `proofs`: the texts of `src/`, `specs/` and the answers, by `templates`; `imports`: which
 //!   lines of imports a text needs.

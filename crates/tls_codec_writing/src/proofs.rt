@@ -1,47 +1,16 @@
 //! The answers of a crate: four files for each enum that isn't open, two if it is lent.
-ghost use Rattle.std.specs.Prelude.{◌≡◌, ◌++◌, ◌∷◌, [], OnOk, IfOk};
-ghost use Rattle.tls_codec_writing.specs.Answered.{function_of, trait_of};
+ghost use Rattle.std.specs.Prelude.{◌≡◌, ◌++◌, ◌∷◌, [], OnOk};
+ghost use Rattle.tls_codec_files.specs.Answered.{function_of, trait_of};
+ghost use Rattle.tls_codec_files.specs.Paths.{answers_path};
 ghost use Rattle.tls_codec_writing.specs.Forms.{has_answers};
-ghost use Rattle.tls_codec_writing.specs.Paths.{answers_if, answers_path, path_of, paths_in};
+ghost use Rattle.tls_codec_writing.specs.Paths.{answers_if, paths_in};
 
-use crate::file::Written;
 use crate::forms::{Form, Kind};
 use crate::imports;
 use crate::templates::{choices_answers, values};
 use std::alloc::{AllocError, Global};
+use tls_codec_files::{Answered, Written};
 use tls_codec_plan::plan::Message;
-
-/// A function whose goals have answers.
-#[derive(Clone, Copy)]
-pub enum Answered {
-    Writes,
-    Appends,
-    Reads,
-    Splits,
-}
-
-impl Answered {
-    fn of_trait(self) -> &'static str
-        ensures { result.now ≡ trait_of self }
-    {
-        match self {
-            Answered::Writes | Answered::Appends => "Serialize",
-            Answered::Reads => "Deserialize",
-            Answered::Splits => "DeserializeBytes",
-        }
-    }
-
-    fn function(self) -> &'static str
-        ensures { result.now ≡ function_of self }
-    {
-        match self {
-            Answered::Writes => "tls_serialize",
-            Answered::Appends => "tls_serialize_into",
-            Answered::Reads => "tls_deserialize",
-            Answered::Splits => "tls_deserialize_bytes",
-        }
-    }
-}
 
 /// Adds a message's answers.
 pub fn push_files(
@@ -56,33 +25,30 @@ pub fn push_files(
     if !form.kind.has_answers() {
         return Ok(());
     }
-    files.push(file(alloc, message, form, Answered::Writes)?)?;
-    files.push(file(alloc, message, form, Answered::Appends)?)?;
+    push_answers(alloc, files, message, form, Answered::Writes)?;
+    push_answers(alloc, files, message, form, Answered::Appends)?;
     if message.is_lent {
         return Ok(());
     }
-    files.push(file(alloc, message, form, Answered::Reads)?)?;
-    files.push(file(alloc, message, form, Answered::Splits)?)?;
+    push_answers(alloc, files, message, form, Answered::Reads)?;
+    push_answers(alloc, files, message, form, Answered::Splits)?;
     Ok(())
 }
 
-// The answers of one function.
-fn file(
+// Adds the answers of one function.
+fn push_answers(
     alloc: Global,
+    files: &mut Vec<Written>,
     message: &Message,
     form: &Form<'_>,
     function: Answered,
-) -> Result<Written, AllocError>
-    ensures { IfOk result (λ file. path_of file
-        ≡ answers_path message.now (trait_of function) (function_of function)) }
+) -> Result<(), AllocError>
+    ensures { OnOk result (paths_in files.new.items ≡ paths_in files.old.items
+        ++ answers_path message.now (trait_of function) (function_of function) ∷ []) }
 {
-    let name = message.name.as_str();
-    let module = message.module.as_str();
-    let of_trait = function.of_trait();
-    let called = function.function();
     let text = text(alloc, form, function)?;
-    let path = format!(in alloc; "proofs/{module}/{name}{of_trait}/{called}/Answers.antt")?;
-    Ok(Written { path, text })
+    files.push(Written::answers(alloc, message, function, text)?)?;
+    Ok(())
 }
 
 // The answers of one function, with their imports.

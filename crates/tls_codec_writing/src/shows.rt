@@ -1,6 +1,5 @@
 //! The module that shows messages as a tree.
 
-use crate::file::Written;
 use crate::forms::{Form, Kind};
 use crate::imports::UseLines;
 use crate::lines::Lines;
@@ -8,6 +7,7 @@ use crate::template::Holes;
 use crate::templates::shows;
 use crate::types::Names;
 use std::alloc::{AllocError, Global};
+use tls_codec_files::Written;
 use tls_codec_plan::plan::Plan;
 
 /// `src/NAME_shown.rt`: how each message of the crate `own` is shown that isn't lent, for a crate that has `show::Show` and uses `message_tree`.

@@ -1,7 +1,8 @@
 use Rattle.std.proofs.Common.{rules, ◌≡◌, ◌<◌, ◌++◌, ◌∷◌, [], length, ap, sym, ◌∙◌}
 use Rattle.std.specs.Prelude.{codes}
 use Rattle.std.proofs.lemmas.List.{map-append}
-use Rattle.tls_codec_writing.specs.Paths.{path_of, paths_in}
+use Rattle.tls_codec_files.specs.Paths.{path_of}
+use Rattle.tls_codec_writing.specs.Paths.{paths_in}
 use Rattle.tls_codec_writing.proofs.Aliases.{some_aliases}
 use Rattle.tls_codec_writing.proofs.file.push_aliases.Goals as goal
 
@@ -9,7 +10,7 @@ pub returns : goal.returns
 returns c =
     let files = c.args.files.now.items in
     let aliases = c.args.plan.now.aliases.items in
-    let names = c.in_ok-file.field-0 in
+    let names = c.in_ok-new.field-0 in
     let some : 0 < length aliases = search rules in
     let pushed : c.push.new.self.items ≡ files ++ names ∷ [] = search rules in
     let path : path_of names ≡ codes "src/names.rt" = search rules in

@@ -1,7 +1,7 @@
 -- The functions whose goals have answers.
 use Rattle.std.specs.Prelude.{ℕ, List, codes}
-use Rattle.tls_codec_writing.specs.declared.proofs.Answered.{Answered}
-use Rattle.tls_codec_writing.specs.declared.proofs.Answered.TheVariants.{Writes, Appends, Reads, Splits}
+use Rattle.tls_codec_files.specs.declared.Answered.{Answered}
+use Rattle.tls_codec_files.specs.declared.Answered.TheVariants.{Writes, Appends, Reads, Splits}
 
 abbrev pub trait_of : Answered → List ℕ
 trait_of Writes = codes "Serialize"

@@ -1,0 +1,3 @@
+-- Which functions have answers, and where files are.
+pub mod Answered
+pub mod Paths
