@@ -1,5 +1,11 @@
--- How many bytes a tag may have.
-use Rattle.std.specs.Prelude.{ℕ, Bool, ◌==◌, ◌||◌}
+-- How many bytes a tag may have, and how many a number needs.
+use Rattle.std.specs.Prelude.{ℕ, zero, suc, Bool, ◌==◌, ◌||◌, ◌<◌, ◌≤◌, ◌^◌}
 
 abbrev pub is_tag_width : ℕ → Bool
 is_tag_width width = (width == 1) || (width == 2) || (width == 4) || (width == 8)
+
+-- so many bytes hold the number, and one byte fewer doesn't, or would be none
+abbrev pub IsLeastWidth : (number bytes : ℕ) → Type 0
+IsLeastWidth number zero = ⊥
+IsLeastWidth number (suc zero) = number < 256
+IsLeastWidth number (suc (suc fewer)) = (number < 256 ^ suc (suc fewer)) × (256 ^ suc fewer ≤ number)

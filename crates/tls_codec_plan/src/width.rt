@@ -1,6 +1,6 @@
 //! How many bytes a tag has.
-ghost use Rattle.std.specs.Prelude.{◌≡◌, ◌<◌, ◌+◌, ◌^◌, ◌≤◌, ◌↔◌, IfSome, IsTrue};
-ghost use Rattle.tls_codec_plan.specs.Width.{is_tag_width};
+ghost use Rattle.std.specs.Prelude.{◌≡◌, ◌<◌, ◌+◌, ◌^◌, ◌≤◌, ◌↔◌, IfSome, IsSome, IsTrue};
+ghost use Rattle.tls_codec_plan.specs.Width.{IsLeastWidth, is_tag_width};
 
 /// 1, 2, 4 or 8 bytes.
 #[derive(Clone, Copy)]
@@ -15,7 +15,8 @@ pub struct Width {
 impl Width {
     /// So many bytes, if a tag may have so many.
     pub fn new(bytes: usize) -> Option<Width>
-        ensures { IfSome result (λ width. width.bytes ≡ bytes) }
+        ensures bytes { IfSome result (λ width. width.bytes ≡ bytes) }
+        ensures some { IsSome result ↔ IsTrue (is_tag_width bytes) }
     {
         match bytes {
             1 => Some(Width {
@@ -46,11 +47,11 @@ impl Width {
     }
 }
 
-/// How many bytes a number takes, if those are 4 at most.
+/// The fewest bytes that hold a number, 1 at least, if those are 4 at most.
 pub fn bytes_for(number: u64) -> Option<usize>
-    ensures some { IfSome result (λ bytes. 0 < bytes) }
-    ensures few { IfSome result (λ bytes. bytes ≤ 4) }
-    ensures holds { IfSome result (λ bytes. number < 256 ^ bytes) }
+    ensures some { IsSome result ↔ (number < 256 ^ 4) }
+    ensures least { IfSome result (IsLeastWidth number) }
+    ensures holds { IfSome result (λ bytes. (number < 256 ^ bytes) × (0 < bytes) × (bytes ≤ 4)) }
 {
     match number {
         0..=0xff => Some(1),
