@@ -1,5 +1,5 @@
 -- What the first byte of a text says of the whole.
-use Rattle.std.proofs.Common.{◌≡◌, ℕ, Bool, List, [], ◌∷◌, true, false, refl, length, arith}
+use Rattle.std.proofs.Common.{◌≡◌, ℕ, List, [], ◌∷◌, true, false, refl, length, arith}
 use Rattle.text_layout.specs.Layout.{closes, is_blank, is_closing, is_layout, significant}
 
 pub passes : (b : ℕ) (bs : List ℕ) → is_layout b bs ≡ true → significant (b ∷ bs) ≡ significant bs

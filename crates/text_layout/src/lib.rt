@@ -27,12 +27,13 @@ pub fn first_difference(ours: &[u8], theirs: &[u8]) -> Option<usize>
                 mine = after;
                 other = behind;
             }
-            _ => return Some(line_before(theirs, other.len())),
+            (_, Some((_, behind))) => return Some(line_before(theirs, behind.len())),
+            (_, None) => return Some(line_before(theirs, 0)),
         }
     }
 }
 
-/// The line, from 1, on which the last `left` bytes of a text begin.
+/// The line, from 1, on which the byte before the last `left` bytes of a text is.
 fn line_before(text: &[u8], left: usize) -> usize {
     let taken = text.len().saturating_sub(left);
     let mut line = 1usize;

@@ -3,6 +3,7 @@ mod bad;
 mod crates;
 mod inputs;
 mod large;
+mod layout;
 mod names;
 mod plans;
 mod presentation;
