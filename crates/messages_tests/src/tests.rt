@@ -3,7 +3,6 @@ mod each_call;
 mod hellos;
 mod mls;
 mod shapes;
-mod shown;
 mod signed;
 
 use std::fmt::Debug;
