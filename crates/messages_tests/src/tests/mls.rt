@@ -84,7 +84,7 @@ pub(super) static PRIVATE_MESSAGE: [u8; 21] = [
 ];
 
 // Section 12.4.3.1.
-pub(super) static WELCOME: [u8; 17] = [
+static WELCOME: [u8; 17] = [
     0, 1, 0, 3, // version, wire_format: mls_welcome
     0, 1, // cipher_suite
     6, 1, 0xb1, // secrets: one, its new_member
