@@ -14,9 +14,9 @@
 //!
 //! What is no message gives a line such as `refused: EndOfStream after 4 of 4 bytes` and status 1.
 //!
-//! - [`program`]: [`program`](program::program), all of `main`.
-//! - [`view`]: [`view_of`](view::view_of), what is printed of some bytes.
+//! The program itself, from its words to its status, is the crate `mlsview`.
+//!
+//! - [`view`]: [`run`](view::run), what is printed of an input.
 #![tactic(auto)]
 
-pub mod program;
 pub mod view;

@@ -1,38 +1,44 @@
 //! `tls_codec_bench` times the codecs of `tls_codec_base`.
 //!
-//! With no argument it prints the names of its cases, one a line. With the argument `run` it prints a
-//! line for each case, with tabs between: its name, the bytes of its spelling, and the nanoseconds of a
-//! call of `tls_serialize_detached`, of `tls_serialize_into` a vector that is used again, of
-//! `tls_deserialize_bytes` and of `tls_deserialize` over a slice. In the rows that end with `outside`,
-//! the last one is over a `Cursor`, which has no bytes at hand. A figure is the median of 15 batches of
-//! at least 20 milliseconds. With any other argument it ends with status 1.
+//! With no argument it makes each call a few times, and prints the name of each case and the bytes of its
+//! spelling, with a tab between. With the argument `run` it prints a line for each case, with tabs between: its
+//! name, the bytes of its spelling, and the nanoseconds of a call of `tls_serialize_detached`, of
+//! `tls_serialize_into` a vector that is used again, of `tls_deserialize_bytes` and of `tls_deserialize` over a
+//! slice. In the rows that end with `outside`, the last one is over a `Cursor`, which has no bytes at hand. A
+//! figure is the median of 15 batches of at least 20 milliseconds. With any other argument it ends with status 1.
 //!
 //! [`figures`] has the figures of a case. What times them is in `tls_codec_timing`.
 #![tactic(auto)]
 
 mod figures;
-#[cfg(test)]
-mod tests;
 
 use figures::measure;
 use std::env;
 use std::rt::Clock;
-use tls_codec_timing::cases::{CASES, names};
+use tls_codec_timing::cases::CASES;
 use tls_codec_timing::fault::BenchFault;
+use tls_codec_timing::ticks::Ticks;
 
 fn main(rt: HostRuntime) -> Result<(), BenchFault> {
     let words: Vec<String> = env::args(&rt)?.collect(rt.alloc())?;
     match words.as_slice() {
-        [] | [_] => print_names(&rt),
+        [] | [_] => print_sizes(&rt),
         [_, word] if word.as_str() == "run" => print_rows(&rt),
         _ => Err(BenchFault::Argument),
     }
 }
 
-// Prints the names of the cases.
-fn print_names<R: Print + AllocGlobal>(rt: &R) -> Result<(), BenchFault> {
-    let names = names(rt.alloc(), &CASES)?;
-    print!(rt; "{names}")?;
+// The clock goes on by a whole batch each time, so that a batch has one call.
+const BATCH_MILLIS: u64 = 20;
+
+// Makes each call of each case, and prints the name of the case and how many bytes it has.
+fn print_sizes<R: Print + AllocGlobal>(rt: &R) -> Result<(), BenchFault> {
+    let clock = Ticks::new(BATCH_MILLIS);
+    for case in CASES {
+        let figures = measure(rt.alloc(), &clock, case)?;
+        let name = case.name();
+        println!(rt; "{name}\t{}", figures.bytes)?;
+    }
     Ok(())
 }
 

@@ -1,5 +1,5 @@
 -- What the cases are called.
-use Rattle.std.specs.Prelude.{ℕ, List, [], ◌∷◌, ◌++◌, codes}
+use Rattle.std.specs.Prelude.{ℕ, List, codes}
 use Rattle.tls_codec_timing.specs.declared.cases.Case.{Case}
 use Rattle.tls_codec_timing.specs.declared.cases.Case.TheVariants.{Copy64, Copy4096, Copy1048576, Bytes64, Bytes4096, Bytes1048576, Numbers512, Numbers65536, FixedNumbers65536, Lists, Vl64, Vl4096, Vl1048576, Fixed1048576, VlLists, VlEmpty, Text64, Text4096, Log, Vl4096Outside, Numbers512Outside, DeepOne, DeepTwo, Deep2, Deep4, Deep8, Deep16}
 
@@ -31,8 +31,3 @@ name_of Deep2 = codes "2 deep 2x2048"
 name_of Deep4 = codes "4 deep 2x2048"
 name_of Deep8 = codes "8 deep 2x2048"
 name_of Deep16 = codes "16 deep 2x2048"
-
--- the names of some cases, each ended by a line feed
-abbrev pub names_of : List Case → List ℕ
-names_of [] = []
-names_of (case ∷ cases) = name_of case ++ (10 ∷ []) ++ names_of cases

@@ -1,8 +1,6 @@
 //! What is timed.
-ghost use Rattle.std.specs.Prelude.{◌≡◌, IfOk, string_bytes};
-ghost use Rattle.tls_codec_timing.specs.Names.{name_of, names_of};
-
-use std::alloc::{AllocError, Global};
+ghost use Rattle.std.specs.Prelude.{◌≡◌};
+ghost use Rattle.tls_codec_timing.specs.Names.{name_of};
 
 /// A value, or a plain copy, that is timed.
 #[derive(Clone, Copy, PartialEq, Eq, Debug)]
@@ -131,16 +129,4 @@ impl Case {
             Case::Deep16 => "16 deep 2x2048",
         }
     }
-}
-
-/// The names of some cases, one a line.
-pub fn names(alloc: Global, cases: &[Case]) -> Result<String, AllocError>
-    ensures { IfOk result (λ text. string_bytes text ≡ names_of cases.now) }
-{
-    let mut text = String::new(alloc);
-    for case in cases {
-        text.push_str(case.name())?;
-        text.push('\n')?;
-    }
-    Ok(text)
 }

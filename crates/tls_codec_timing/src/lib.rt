@@ -2,7 +2,8 @@
 //!
 //! - [`cases`]: the cases and their names. [`values`]: their values, over the numbers of a [`noise`].
 //! - [`calls`]: the calls that are timed.
-//! - [`timing`]: how long a call takes. [`median`]: the middle one of the batches.
+//! - [`timing`]: how long a call takes. [`median`]: the middle one of the batches. [`ticks`]: a clock that shows
+//!   what it is told.
 //! - [`fault`]: [`BenchFault`](fault::BenchFault), why nothing is timed.
 #![tactic(auto)]
 
@@ -13,5 +14,6 @@ pub mod median;
 pub mod noise;
 #[cfg(test)]
 mod tests;
+pub mod ticks;
 pub mod timing;
 pub mod values;

@@ -1,11 +1,13 @@
-// What no clause says: that calls succeed, and which numbers and values come. `tls_codec_bench` tests `timing`.
+// What no clause says: that calls succeed, which numbers and values come, and which figures a known clock gives.
 use crate::calls::{
     copy, copy_into, decode_outside, decode_reader, decode_slice, encode, encode_into,
 };
-use crate::cases::{Case, names};
+use crate::cases::Case;
 use crate::fault::BenchFault;
 use crate::median::median;
 use crate::noise::Noise;
+use crate::ticks::Ticks;
+use crate::timing::time;
 use crate::values::FromNoise;
 use std::alloc::AllocError;
 use std::fmt::Debug;
@@ -20,16 +22,27 @@ fn same<T: PartialEq + Debug + Drop>(rt: &impl Abort, found: T, expected: T) {
     assert_eq!(rt; found, expected);
 }
 
+fn holds(rt: &impl Abort, condition: bool) {
+    assert!(rt; condition);
+}
+
 #[test]
-fn each_name_stands_on_a_line(rt: HostRuntime) -> Result<(), Fail> {
-    let text = names(rt.alloc(), &[Case::Lists, Case::DeepOne])?;
-    same(
+fn a_call_takes_its_part_of_a_batch(rt: HostRuntime) {
+    same(&rt, time(&Ticks::new(1), || true).ok(), Some(1_000_000));
+    same(&rt, time(&Ticks::new(25), || true).ok(), Some(25_000_000));
+    holds(
         &rt,
-        text.as_str(),
-        "Vec<Vec<u16>> 256x64\n8 deep, one element a level\n",
+        matches!(time(&Ticks::new(1), || false), Err(BenchFault::Refused)),
     );
+    holds(
+        &rt,
+        matches!(time(&Ticks::new(0), || true), Err(BenchFault::Clock)),
+    );
+}
+
+#[test]
+fn a_case_has_its_name(rt: HostRuntime) {
     same(&rt, Case::Numbers512.name(), "Vec<u16> 512");
-    Ok(())
 }
 
 // The first numbers of Marsaglia's example, computed by another program.
@@ -81,16 +94,14 @@ fn the_median_is_the_middle_one(rt: HostRuntime) {
 
 #[test]
 fn errors_of_std_are_faults(rt: HostRuntime) {
-    same(
+    holds(
         &rt,
         matches!(BenchFault::from(AllocError), BenchFault::Memory),
-        true,
     );
     let failed = io::Error::from(ErrorKind::PermissionDenied);
-    same(
+    holds(
         &rt,
         matches!(BenchFault::from(failed), BenchFault::Outside(_)),
-        true,
     );
 }
 
