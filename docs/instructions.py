@@ -46,11 +46,11 @@ def with_same_calls(room):
 def rows(program, is_same):
     """The instructions of each timed call, by the row's name."""
     names = subprocess.run(["nm", program], capture_output=True, text=True, check=True).stdout
-    measure = re.search(r" t (tls_codec_bench::figures::measure::<.*>)$", names, re.M).group(1)
+    dumps = [f"--dump-after={it}" for it in re.findall(r" t (tls_codec_bench::figures::measure::<.*>)$", names, re.M)]
     with tempfile.TemporaryDirectory() as room:
         words = ["valgrind", "--tool=callgrind", "--callgrind-out-file=count", "--compress-strings=no", "--compress-pos=no"]
         how = {"env": with_same_calls(room) if is_same else None, "cwd": room, "capture_output": True, "text": True, "check": True}
-        ran = subprocess.run([*words, f"--dump-after={measure}", program, "run"], **how)
+        ran = subprocess.run([*words, *dumps, program, "run"], **how)
         lines = [line.split("\t")[0] for line in ran.stdout.splitlines() if "\t" in line]
         return {name: counted(pathlib.Path(room, f"count.{at}")) for at, name in enumerate(lines, 1)}
 
