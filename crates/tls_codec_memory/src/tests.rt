@@ -36,7 +36,7 @@ use std::test::Fail;
 use tls_codec::Error;
 
 // No test makes more requests.
-const MOST_REQUESTS: u64 = 11;
+const MOST_REQUESTS: u64 = 6;
 
 // The requests of a test for memory, in their order. At most one is refused.
 #[derive(Drop)]

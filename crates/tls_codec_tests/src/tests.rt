@@ -1,20 +1,14 @@
 //! Worked rows of every type, by both paths and each encoder.
-mod appending;
 mod bounds;
 mod byte_vectors;
-mod clearing;
-mod devices;
 mod each_call;
-mod engines;
 mod families;
-mod laws;
 mod lengths;
 mod lists;
 mod messages;
 mod numbers;
 mod outside;
 mod plain;
-mod quiet;
 mod refusals;
 mod runs;
 mod sizes;

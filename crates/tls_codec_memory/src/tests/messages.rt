@@ -125,11 +125,20 @@ fn a_triple_is_appended(rt: HostRuntime) -> Result<(), Fail> {
 }
 
 #[test]
-fn a_triple_is_read(rt: HostRuntime) -> Result<(), Fail> {
+fn a_triple_is_split(rt: HostRuntime) -> Result<(), Fail> {
     let alloc = rt.alloc();
     let mut requests = Requests::new(&rt)?;
     let value = told!(rt, requests, 2, mixed(alloc))?;
     is_split(&rt, alloc, &mut requests, 2, &MIXED, &value)?;
+    requests.end(&rt);
+    Ok(())
+}
+
+#[test]
+fn a_triple_is_read(rt: HostRuntime) -> Result<(), Fail> {
+    let alloc = rt.alloc();
+    let mut requests = Requests::new(&rt)?;
+    let value = told!(rt, requests, 2, mixed(alloc))?;
     is_read(&rt, alloc, &mut requests, 3, &MIXED, &value)?;
     requests.end(&rt);
     Ok(())

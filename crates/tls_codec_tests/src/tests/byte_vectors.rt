@@ -1,5 +1,4 @@
-//! Byte vectors as messages spell them, and the calls of each type.
-mod calls;
+//! Byte vectors as messages spell them.
 mod lists;
 mod secrets;
 mod spellings;

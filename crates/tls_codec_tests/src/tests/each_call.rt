@@ -2,7 +2,6 @@
 use super::outside::{is_read_outside, is_refused_outside};
 use crate::tests::{holds, same};
 use std::alloc::{AllocError, Global};
-use std::hash::{DefaultHasher, Hash, Hasher};
 use std::process::Abort;
 use std::test::Fail;
 use tls_codec::{
@@ -13,12 +12,6 @@ use tls_codec_vectors::Drip;
 // So many bytes of one value.
 pub(super) fn filled(alloc: Global, count: usize, byte: u8) -> Result<Vec<u8>, AllocError> {
     vec![in alloc; byte; count]
-}
-
-pub(super) fn hash_of<T: Hash>(value: &T) -> u64 {
-    let mut state = DefaultHasher::new();
-    value.hash(&mut state);
-    state.finish()
 }
 
 // The value is announced and written as these bytes, also after what a vector has.

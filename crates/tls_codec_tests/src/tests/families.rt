@@ -1,7 +1,6 @@
 //! Vectors, byte vectors and wrappers of slices after a length of one to four bytes, and secrets of the
 //! same lengths.
 mod bytes;
-mod callers;
 mod secrets;
 mod slices;
 mod vectors;

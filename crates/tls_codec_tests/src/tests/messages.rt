@@ -1,16 +1,9 @@
-//! Rows of the messages by each call, of the devices, of bytes and devices that fail, and of the laws.
-mod devices;
-mod laws;
-mod lying_lengths;
-
+//! Rows of the messages by each call.
 use crate::tests::each_call::{is_refused, is_spelled};
 use std::alloc::Global;
 use std::test::Fail;
 use tls_codec::{Error, TlsByteVecU8, TlsVecU16, VLBytes};
 use tls_codec_vectors::{Leaf, Log, Step};
-
-// The worked log.
-const LOG: [u8; 14] = [1, 0xab, 0, 4, 0, 1, 1, 7, 1, 2, 0, 0, 0, 5];
 
 fn worked_log(alloc: Global) -> Result<Log, Fail> {
     let name = VLBytes::from_array(alloc, &[7])?;
@@ -61,7 +54,8 @@ fn logs(rt: HostRuntime) -> Result<(), Fail> {
         last: None,
     };
     is_spelled(&rt, alloc, &empty, &[0, 0, 0, 0])?;
-    is_spelled(&rt, alloc, &worked_log(alloc)?, &LOG)?;
+    let bytes = [1, 0xab, 0, 4, 0, 1, 1, 7, 1, 2, 0, 0, 0, 5];
+    is_spelled(&rt, alloc, &worked_log(alloc)?, &bytes)?;
     is_refused::<Log>(&rt, alloc, &[0, 0, 2, 0], Error::EndOfStream);
     is_refused::<Log>(&rt, alloc, &[0, 0, 0, 1, 7], Error::UnknownValue(7));
     Ok(())

@@ -1,68 +1,12 @@
-//! `SecretVLBytes` and `SecretVLByteVec`.
-use crate::tests::each_call::{hash_of, is_refused, is_refused_by_each, is_spelled, is_written};
-use crate::tests::{NOT_THERE, holds, same};
+//! `SecretVLBytes` and `SecretVLByteVec` as messages spell them.
+use crate::tests::NOT_THERE;
+use crate::tests::each_call::{is_refused, is_refused_by_each, is_spelled};
 use std::alloc::Global;
-use std::hash::Hash;
 use std::process::Abort;
 use std::test::Fail;
 use tls_codec::{
-    Deserialize, DeserializeBytes, Error, SecretVLByteVec, SecretVLBytes, Serialize, Zeroize,
+    Deserialize, DeserializeBytes, Error, SecretVLByteVec, SecretVLBytes, Serialize,
 };
-
-// Each call of a secret that reads and writes nothing.
-macro_rules! secret_calls {
-    ($rt:ident, $Secret:ident, $shown:literal, $shown_empty:literal) => {
-        let alloc = $rt.alloc();
-        let mut secret = $Secret::new(Vec::new(alloc));
-        same(&$rt, secret.pop(), None);
-        let text = format!(in alloc; "{secret:?}")?;
-        same(&$rt, text.as_str(), $shown_empty);
-        secret.push(0xff)?;
-        let text = format!(in alloc; "{secret:?}")?;
-        same(&$rt, text.as_str(), $shown);
-        let copy = secret.clone()?;
-        same(&$rt, secret.pop(), Some(0xff));
-        same(&$rt, copy.as_slice(), [0xff].as_slice());
-    };
-}
-
-#[test]
-fn calls_of_secret_vl_bytes(rt: HostRuntime) -> Result<(), Fail> {
-    secret_calls!(
-        rt,
-        SecretVLBytes,
-        "SecretVLBytes { 0xff }",
-        "SecretVLBytes { b\"\" }"
-    );
-    Ok(())
-}
-
-#[test]
-fn calls_of_secret_vl_byte_vec(rt: HostRuntime) -> Result<(), Fail> {
-    secret_calls!(
-        rt,
-        SecretVLByteVec,
-        "SecretVLByteVec { 0xff }",
-        "SecretVLByteVec { b\"\" }"
-    );
-    Ok(())
-}
-
-// Secrets are compared by their bytes. The first two differ, the last is the first.
-fn are_compared<S: Ord + Hash + Zeroize + Serialize>(
-    rt: &impl Abort,
-    alloc: Global,
-    low: &S,
-    high: &S,
-    mut equal: S,
-) -> Result<(), Fail> {
-    holds(rt, low < high);
-    holds(rt, low != high);
-    holds(rt, *low == equal);
-    same(rt, hash_of(low), hash_of(&equal));
-    equal.zeroize();
-    is_written(rt, alloc, &equal, &[0])
-}
 
 // What the secret of the bytes 00 and ff is written as and read from.
 fn is_coded<S: PartialEq + Serialize + Deserialize + DeserializeBytes + Drop>(
@@ -86,19 +30,13 @@ fn is_coded<S: PartialEq + Serialize + Deserialize + DeserializeBytes + Drop>(
 #[test]
 fn contents_of_secret_vl_bytes(rt: HostRuntime) -> Result<(), Fail> {
     let alloc = rt.alloc();
-    let low = SecretVLBytes::from_slice(alloc, &[0x00, 0xff])?;
-    let high = SecretVLBytes::from_array(alloc, &[0x01])?;
-    let equal = SecretVLBytes::from([0x00u8, 0xff].to_vec(alloc)?);
-    are_compared(&rt, alloc, &low, &high, equal)?;
-    is_coded(&rt, alloc, &low)
+    let secret = SecretVLBytes::from_slice(alloc, &[0x00, 0xff])?;
+    is_coded(&rt, alloc, &secret)
 }
 
 #[test]
 fn contents_of_secret_vl_byte_vec(rt: HostRuntime) -> Result<(), Fail> {
     let alloc = rt.alloc();
-    let low = SecretVLByteVec::from_slice(alloc, &[0x00, 0xff])?;
-    let high = SecretVLByteVec::from_array(alloc, &[0x01])?;
-    let equal = SecretVLByteVec::from([0x00u8, 0xff].to_vec(alloc)?);
-    are_compared(&rt, alloc, &low, &high, equal)?;
-    is_coded(&rt, alloc, &low)
+    let secret = SecretVLByteVec::from_slice(alloc, &[0x00, 0xff])?;
+    is_coded(&rt, alloc, &secret)
 }

@@ -1,6 +1,4 @@
 //! `TlsByteVecU8` to `TlsByteVecU32`: the bytes of each, and what is refused.
-mod calls;
-
 use crate::tests::each_call::{
     filled, is_refused, is_spelled, is_spelled_alone, is_too_long_alone, is_written,
 };

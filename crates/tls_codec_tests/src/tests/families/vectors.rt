@@ -1,6 +1,4 @@
 //! `TlsVecU8` to `TlsVecU32`: what is written and read, and what is refused.
-mod calls;
-
 use crate::tests::each_call::{
     filled, is_left, is_refused, is_refused_by_each, is_spelled, is_too_long, is_written,
 };

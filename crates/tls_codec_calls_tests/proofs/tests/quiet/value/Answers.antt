@@ -7,7 +7,7 @@ use Rattle.tls_codec_grammar.specs.Format.{Format}
 use Rattle.tls_codec_grammar.specs.Tree.{Tree}
 use Rattle.tls_codec.proofs.Refused.{seen_untold}
 use Rattle.tls_codec_base.proofs.Whole.{slice_refuses}
-use Rattle.tls_codec_tests.proofs.tests.quiet.value.Goals as goal
+use Rattle.tls_codec_calls_tests.proofs.tests.quiet.value.Goals as goal
 
 module _ {T S : Type 0} (f : Format) (plain : T → Tree) (source : SourceGhosts S) (old new : S)
     (order : GivesInOrder source.given) (never : (s : S) → source.coming s ≡ None) (none : (s : S) → source.counts s ≡ no_counts) where

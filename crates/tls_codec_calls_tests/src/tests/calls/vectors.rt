@@ -1,6 +1,5 @@
 //! The calls that read and write no bytes.
-use crate::tests::each_call::hash_of;
-use crate::tests::{holds, same};
+use crate::tests::{hash_of, holds, same};
 use std::test::Fail;
 use tls_codec::{TlsVecU8, TlsVecU16, TlsVecU24, TlsVecU32};
 

@@ -1,6 +1,5 @@
 //! The calls that read and write nothing.
-use crate::tests::each_call::hash_of;
-use crate::tests::{holds, same};
+use crate::tests::{hash_of, holds, same};
 use std::test::Fail;
 use tls_codec::{VLByteSlice, VLByteVec, VLBytes};
 

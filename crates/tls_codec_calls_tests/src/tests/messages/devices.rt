@@ -1,5 +1,5 @@
 //! Devices that move one byte a call, and fail.
-use super::{LOG, worked_log};
+use super::LOG;
 use crate::tests::{holds, same, same_at};
 use std::test::Fail;
 use tls_codec::{
@@ -52,7 +52,7 @@ fn a_length_one_byte_a_call(rt: HostRuntime) {
 #[test]
 fn a_log_from_a_source_that_fails(rt: HostRuntime) -> Result<(), Fail> {
     let alloc = rt.alloc();
-    let log = worked_log(alloc)?;
+    let log = Log::tls_deserialize_exact_bytes(alloc, &LOG)?;
     for (fault, times, error) in [
         (Fault::Failed, 1, Some(READ_FAILED)),
         (Fault::NoMemory, 1, Some(Error::OutOfMemory)),
@@ -95,7 +95,7 @@ fn a_list_from_a_source_that_fails(rt: HostRuntime) {
 #[test]
 fn a_log_into_a_sink_that_fails(rt: HostRuntime) -> Result<(), Fail> {
     let alloc = rt.alloc();
-    let log = worked_log(alloc)?;
+    let log = Log::tls_deserialize_exact_bytes(alloc, &LOG)?;
     for (fault, error) in [
         (Fault::Failed, WRITE_FAILED),
         (Fault::NoMemory, Error::OutOfMemory),

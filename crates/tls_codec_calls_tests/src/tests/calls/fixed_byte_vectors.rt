@@ -1,6 +1,5 @@
 //! The calls that write and read nothing.
-use crate::tests::each_call::hash_of;
-use crate::tests::{holds, same};
+use crate::tests::{hash_of, holds, same};
 use std::alloc::Global;
 use std::process::Abort;
 use std::test::Fail;

@@ -1,7 +1,6 @@
 // What the laws say, seen at messages and at vectors.
 use super::LOG;
-use crate::tests::each_call::hash_of;
-use crate::tests::{holds, same, same_at};
+use crate::tests::{hash_of, holds, same, same_at};
 use std::hash::Hash;
 use std::process::Abort;
 use std::test::Fail;
