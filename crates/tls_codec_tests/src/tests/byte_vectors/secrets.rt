@@ -4,9 +4,7 @@ use crate::tests::each_call::{is_refused, is_refused_by_each, is_spelled};
 use std::alloc::Global;
 use std::process::Abort;
 use std::test::Fail;
-use tls_codec::{
-    Deserialize, DeserializeBytes, Error, SecretVLByteVec, SecretVLBytes, Serialize,
-};
+use tls_codec::{Deserialize, DeserializeBytes, Error, SecretVLByteVec, SecretVLBytes, Serialize};
 
 // What the secret of the bytes 00 and ff is written as and read from.
 fn is_coded<S: PartialEq + Serialize + Deserialize + DeserializeBytes + Drop>(
