@@ -2,8 +2,9 @@
 """framing.py [LEFT]: prints a sum of all that mls_framing and the crates above it are proved from, and, if it is the one in
 framing.sum, makes the folder LEFT: a copy of the repository without these crates, for rt ci.
 
-The sum is that of their files and lines in crates.txt, of those of the crates below them, and of the toolchain. framing.sum has
-the sum with which CI last proved them; write it there in the change after that one. The status is 1 if LEFT isn't made.
+The sum is that of their files and lines in crates.txt, of those of the crates below them, and of the toolchain. Of the crates
+below it leaves out the must-fail edits: rt ci tries those in LEFT too. framing.sum has the sum with which CI last proved them;
+write it there in the change after that one. The status is 1 if LEFT isn't made.
 """
 import hashlib
 import pathlib
@@ -33,7 +34,8 @@ def summed(lines):
     for crate in below(lines, APART):
         found.update(f"{lines[crate]}\n".encode())
         folder = ROOT / "crates" / crate
-        for file in sorted(it for it in folder.rglob("*") if it.is_file() and "out" not in it.relative_to(folder).parts):
+        apart = {"out"} if crate in APART else {"out", "must-fail"}
+        for file in sorted(it for it in folder.rglob("*") if it.is_file() and not apart & set(it.relative_to(folder).parts)):
             content = file.read_bytes()
             found.update(f"{file.relative_to(ROOT)} {len(content)}\n".encode() + content)
     return found.hexdigest()
