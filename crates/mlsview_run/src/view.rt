@@ -1,7 +1,7 @@
 //! What is printed of some bytes.
 ghost use Rattle.std.specs.Prelude.{◌≡◌, IfErr, IfOk, false, true};
-ghost use Rattle.tls_codec.specs.Devices.{Gave};
-ghost use Rattle.mlsview_run.specs.View.{GaveView, Stands, Tells};
+ghost use Rattle.tls_codec.specs.Devices.{Gave, NoneFell};
+ghost use Rattle.mlsview_run.specs.View.{GaveView, Stands, Tells, WhyNoBytes, WhyNoView};
 
 use message_tree::Tree;
 use mls_framing::MLSMessage;
@@ -23,7 +23,9 @@ pub struct View {
 /// The view of all bytes of an input, which are a hex text, or the message itself.
 pub fn run<R: Source>(alloc: Global, is_binary: bool, input: &mut R) -> Result<View, ViewFault>
     ensures gave { Gave R.given input.old input.new }
+    ensures counts { NoneFell (R.counts input.old) (R.counts input.new) }
     ensures ok { IfOk result (λ view. GaveView R.Source is_binary input.old input.new view.is_message) }
+    ensures err { IfErr result (WhyNoView R.Source is_binary input.old input.new) }
 {
     let text = read_text(alloc, input)?;
     let bytes = bytes_of(alloc, is_binary, text)?;
@@ -32,7 +34,8 @@ pub fn run<R: Source>(alloc: Global, is_binary: bool, input: &mut R) -> Result<V
 
 // The bytes that a text stands for: those of its hex, or its own.
 fn bytes_of(alloc: Global, is_binary: bool, text: Vec<u8>) -> Result<Vec<u8>, ViewFault>
-    ensures { IfOk result (λ bytes. Stands is_binary text.items bytes.items) }
+    ensures ok { IfOk result (λ bytes. Stands is_binary text.items bytes.items) }
+    ensures err { IfErr result (WhyNoBytes is_binary text.items) }
 {
     if is_binary {
         Ok(text)
