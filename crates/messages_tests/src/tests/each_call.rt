@@ -46,6 +46,9 @@ pub(super) fn is_written<T: Serialize>(
     let count = value.tls_serialize(&mut received)?;
     same(rt, count, bytes.len());
     same(rt, received.as_slice(), bytes);
+    let count = value.tls_serialize_into(&mut received)?;
+    same(rt, count, bytes.len());
+    same(rt, received.get(bytes.len()..), Some(bytes));
     Ok(())
 }
 
