@@ -21,6 +21,9 @@ pub struct View {
 }
 
 /// The view of all bytes of an input, which are a hex text, or the message itself.
+///
+/// `Long`: there are more than 1,048,576 of them. `Read`: the input failed. `Hex`: the text is no hex. `Memory`: as of [`view_of`], or
+/// the input's bytes ask for it.
 pub fn run<R: Source>(alloc: Global, is_binary: bool, input: &mut R) -> Result<View, ViewFault>
     ensures gave { Gave R.given input.old input.new }
     ensures counts { NoneFell (R.counts input.old) (R.counts input.new) }
