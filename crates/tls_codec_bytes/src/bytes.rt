@@ -11,7 +11,7 @@ ghost use Rattle.tls_codec_wire.specs.declared.error.Error.TheVariants.{OutOfMem
 ghost use Rattle.tls_codec_bytes.specs.Contents.{bytes_of};
 ghost use Rattle.tls_codec_bytes.specs.Lends.{lends_byte};
 
-use std::alloc::Global;
+use std::alloc::{AllocError, Global};
 use std::marker::PhantomData;
 use std::ops::{Index, IndexMut};
 use std::{fmt, slice};
@@ -105,7 +105,8 @@ impl<F> TlsByteVec<F> {
         ensures err { IfErr result (λ e. e ≡ OutOfMemory) }
         ensures none { length (bytes_of self.now) ≡ 0 → IsOk result }
     {
-        TlsByteVec::from_slice(*self.vec.allocator(), self.as_slice())
+        let copy = Clone::clone(self)?;
+        Ok(copy)
     }
 
     /// The number of bytes.
@@ -187,6 +188,20 @@ impl<F> TlsByteVec<F> {
         ensures { IsFiltered (CalledAt K.FnMut) keep (bytes_of self.old) (bytes_of self.new) }
     {
         self.vec.retain(keep);
+    }
+}
+
+impl<F> Clone for TlsByteVec<F> {
+    ghost is_clone = { λ v copy. bytes_of copy ≡ bytes_of v };
+
+    ghost is_infallible = { λ v. length (bytes_of v) ≡ 0 };
+
+    /// The same copy, for code that is generic over `Clone`, and for `derive`.
+    fn clone(&self) -> Result<TlsByteVec<F>, AllocError> {
+        match TlsByteVec::from_slice(*self.vec.allocator(), self.as_slice()) {
+            Ok(copy) => Ok(copy),
+            Err(_) => Err(AllocError),
+        }
     }
 }
 

@@ -3,7 +3,7 @@ use Rattle.std.proofs.Common.{◌≡◌, List, [], ◌∷◌, ◌++◌, suc, ref
 use Rattle.std.specs.List.{AllZip, AppendsClones}
 use Rattle.tls_codec_vec.specs.Contents.{ClonesAreEqual}
 
-cloned_same : {T : Type 0} (is_clone : T → T → Type 0) (xs ys : List T) → ClonesAreEqual is_clone xs → AllZip is_clone xs ys → ys ≡ xs
+pub cloned_same : {T : Type 0} (is_clone : T → T → Type 0) (xs ys : List T) → ClonesAreEqual is_clone xs → AllZip is_clone xs ys → ys ≡ xs
 cloned_same is_clone [] [] same each = refl
 cloned_same is_clone [] (y ∷ ys) same each = absurd each
 cloned_same is_clone (x ∷ xs) [] same each = absurd each

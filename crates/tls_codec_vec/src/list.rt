@@ -3,14 +3,14 @@ ghost use Rattle.std.specs.Prelude.{◌≡◌, ◌==◌, ◌<◌, ◌^◌, [], �
 ghost use Rattle.std.specs.Fn.{CalledAt};
 ghost use Rattle.std.specs.Iterator.{Drains, IsFiniteIterable};
 ghost use Rattle.std.specs.Iterator.Adapters.{IterYieldsInOrder, IterYieldsInReverse};
-ghost use Rattle.std.specs.List.{remove};
+ghost use Rattle.std.specs.List.{AllZip, remove};
 ghost use Rattle.std.specs.List.Retain.{IsFiltered};
 ghost use Rattle.std.specs.Slice.Iter.{iter_rest};
 ghost use Rattle.tls_codec_wire.specs.declared.error.Error.TheVariants.{OutOfMemory};
 ghost use Rattle.tls_codec_vec.specs.Contents.{ClonesAreEqual, elements_of};
 
 use crate::collecting::collected;
-use std::alloc::Global;
+use std::alloc::{AllocError, Global};
 use std::marker::PhantomData;
 use std::slice::Iter;
 use tls_codec_base::LengthField;
@@ -192,7 +192,18 @@ impl<F, T: Clone> TlsVec<F, T> {
         ensures ok { IfOk result (λ v. elements_of v ≡ elements_of self.now) }
         ensures err { IfErr result (λ e. e ≡ OutOfMemory) }
     {
-        TlsVec::from_slice(*self.vec.allocator(), self.as_slice())
+        let copy = Clone::clone(self)?;
+        Ok(copy)
+    }
+}
+
+impl<F, T: Clone> Clone for TlsVec<F, T> {
+    ghost is_clone = { λ v copy. AllZip T.is_clone (elements_of v) (elements_of copy) };
+
+    /// The same clones, for code that is generic over `Clone`, and for `derive`.
+    fn clone(&self) -> Result<TlsVec<F, T>, AllocError> {
+        let vec = self.vec.clone()?;
+        Ok(TlsVec::new(vec))
     }
 }
 

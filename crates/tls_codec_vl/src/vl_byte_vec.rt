@@ -11,7 +11,7 @@ ghost use Rattle.tls_codec_vl.specs.Shown.{debug_text};
 
 use crate::zeroize::wipe;
 use crate::{Zeroize, show};
-use std::alloc::Global;
+use std::alloc::{AllocError, Global};
 use std::fmt;
 use tls_codec_base::{Deserialize, DeserializeBytes, Serialize, SerializeBytes, Size, opaque};
 use tls_codec_wire::{Error, Sink, Source, TlsVarInt};
@@ -64,7 +64,8 @@ impl VLByteVec {
         ensures err { IfErr result (λ e. e ≡ OutOfMemory) }
         ensures none { length (vec_bytes_of self.now) ≡ 0 → IsOk result }
     {
-        VLByteVec::from_slice(*self.0.allocator(), self.as_slice())
+        let copy = Clone::clone(self)?;
+        Ok(copy)
     }
 
     /// The bytes.
@@ -89,6 +90,20 @@ impl VLByteVec {
             (λ byte. vec_bytes_of self.old ≡ vec_bytes_of self.new ++ byte ∷ []) }
     {
         self.0.pop()
+    }
+}
+
+impl Clone for VLByteVec {
+    ghost is_clone = { λ v copy. vec_bytes_of copy ≡ vec_bytes_of v };
+
+    ghost is_infallible = { λ v. length (vec_bytes_of v) ≡ 0 };
+
+    /// The same copy, for code that is generic over `Clone`, and for `derive`.
+    fn clone(&self) -> Result<VLByteVec, AllocError> {
+        match VLByteVec::from_slice(*self.0.allocator(), self.as_slice()) {
+            Ok(copy) => Ok(copy),
+            Err(_) => Err(AllocError),
+        }
     }
 }
 

@@ -11,7 +11,7 @@ ghost use Rattle.tls_codec_vl.specs.Shown.{debug_text};
 
 use crate::zeroize::wipe;
 use crate::{Zeroize, show};
-use std::alloc::Global;
+use std::alloc::{AllocError, Global};
 use std::fmt;
 use tls_codec_base::{Deserialize, DeserializeBytes, Serialize, SerializeBytes, Size, opaque};
 use tls_codec_wire::{Error, Sink, Source, TlsVarInt};
@@ -63,7 +63,8 @@ impl VLBytes {
         ensures err { IfErr result (λ e. e ≡ OutOfMemory) }
         ensures none { length (bytes_of self.now) ≡ 0 → IsOk result }
     {
-        VLBytes::from_slice(*self.0.allocator(), self.as_slice())
+        let copy = Clone::clone(self)?;
+        Ok(copy)
     }
 
     /// The bytes.
@@ -88,6 +89,20 @@ impl VLBytes {
             (λ byte. bytes_of self.old ≡ bytes_of self.new ++ byte ∷ []) }
     {
         self.0.pop()
+    }
+}
+
+impl Clone for VLBytes {
+    ghost is_clone = { λ v copy. bytes_of copy ≡ bytes_of v };
+
+    ghost is_infallible = { λ v. length (bytes_of v) ≡ 0 };
+
+    /// The same copy, for code that is generic over `Clone`, and for `derive`.
+    fn clone(&self) -> Result<VLBytes, AllocError> {
+        match VLBytes::from_slice(*self.0.allocator(), self.as_slice()) {
+            Ok(copy) => Ok(copy),
+            Err(_) => Err(AllocError),
+        }
     }
 }
 
