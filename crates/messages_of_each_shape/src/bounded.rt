@@ -8,7 +8,7 @@ use tls_codec::{
 };
 
 /// `Bounded`.
-#[derive(PartialEq, Drop)]
+#[derive(PartialEq, Eq, Debug, Clone, Drop)]
 pub struct Bounded {
     /// `opaque session<0..32>;`
     pub session: TlsByteVec<Within<u8, 0, 32>>,

@@ -7,7 +7,7 @@ use tls_codec::{Error, Serialize, Sink, Size};
 /// `CertificateTBS`.
 ///
 /// It has references to its fields, and is only written.
-#[derive(Clone, Copy)]
+#[derive(PartialEq, Eq, Debug, Clone, Copy)]
 pub struct CertificateTBS<'a> {
     /// `Certificate certificate;`
     pub certificate: &'a Certificate,

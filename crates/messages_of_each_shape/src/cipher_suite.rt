@@ -5,7 +5,7 @@ use std::alloc::Global;
 use tls_codec::{Deserialize, DeserializeBytes, Error, Serialize, Sink, Size, Source};
 
 /// `CipherSuite`.
-#[derive(PartialEq, Clone, Copy)]
+#[derive(PartialEq, Eq, Debug, Clone, Copy)]
 pub struct CipherSuite(pub u16);
 
 impl CipherSuite {

@@ -9,7 +9,7 @@ use tls_codec::{
 };
 
 /// `CipherSuiteAes128Gcm`.
-#[derive(PartialEq, Clone, Copy)]
+#[derive(PartialEq, Eq, Debug, Clone, Copy)]
 pub enum CipherSuiteAes128Gcm {
     /// `aes_128_gcm(1)`
     Aes128Gcm,

@@ -14,7 +14,7 @@ const APPLICATION: u8 = 1;
 const PROPOSAL: u8 = 2;
 
 /// `ContentType content_type` of `Framed`, and what comes after each.
-#[derive(PartialEq, Drop)]
+#[derive(PartialEq, Eq, Debug, Clone, Drop)]
 pub enum ContentTypeData {
     /// `case application:`
     Application {

@@ -20,7 +20,7 @@ const FULL: u16 = 4;
 const ANONYMOUS: u16 = 5;
 
 /// `CredentialType credential_type` of `Credential`, and what comes after each.
-#[derive(PartialEq, Drop)]
+#[derive(PartialEq, Eq, Debug, Clone, Drop)]
 pub enum Credential {
     /// `case basic: opaque identity<V>;`
     Basic(VLBytes),

@@ -6,7 +6,7 @@ use std::alloc::Global;
 use tls_codec::{Deserialize, DeserializeBytes, Error, Lent, Serialize, Sink, Size, Source};
 
 /// `Fixed`.
-#[derive(PartialEq, Drop)]
+#[derive(PartialEq, Eq, Debug, Clone, Drop)]
 pub struct Fixed {
     /// `CipherSuite suite = aes_128_gcm;`
     pub suite: CipherSuiteAes128Gcm,

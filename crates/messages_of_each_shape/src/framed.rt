@@ -8,7 +8,7 @@ use tls_codec::{
 };
 
 /// `Framed`.
-#[derive(PartialEq, Drop)]
+#[derive(PartialEq, Eq, Debug, Clone, Drop)]
 pub struct Framed {
     /// `uint32 epoch;`
     pub epoch: u32,

@@ -7,7 +7,7 @@ use tls_codec::{Error, Lent, Serialize, Sink, Size};
 /// `GroupTBS`.
 ///
 /// It has references to its fields, and is only written.
-#[derive(Clone, Copy)]
+#[derive(PartialEq, Eq, Debug, Clone, Copy)]
 pub struct GroupTBS<'a> {
     /// `CertificateTBS certificate;`
     pub certificate: CertificateTBS<'a>,

@@ -8,7 +8,7 @@ use tls_codec::{
 };
 
 /// `LeafNode`.
-#[derive(PartialEq, Drop)]
+#[derive(PartialEq, Eq, Debug, Clone, Drop)]
 pub struct LeafNode {
     /// `Key key;`
     pub key: Key,

@@ -7,7 +7,7 @@ use tls_codec::{Error, Lent, Lent2, Serialize, Sink, Size};
 /// `LeafNodeTBS`.
 ///
 /// It has references to its fields, and is only written.
-#[derive(Clone, Copy)]
+#[derive(PartialEq, Eq, Debug, Clone, Copy)]
 pub struct LeafNodeTBS<'a> {
     /// `Key key;`
     pub key: &'a Key,

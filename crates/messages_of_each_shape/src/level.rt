@@ -9,7 +9,7 @@ use tls_codec::{
 };
 
 /// `Level`.
-#[derive(PartialEq, Clone, Copy)]
+#[derive(PartialEq, Eq, Debug, Clone, Copy)]
 pub enum Level {
     /// `low(1)`
     Low,

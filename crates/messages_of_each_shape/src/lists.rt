@@ -9,7 +9,7 @@ use tls_codec::{
 };
 
 /// `Lists`.
-#[derive(PartialEq, Drop)]
+#[derive(PartialEq, Eq, Debug, Clone, Drop)]
 pub struct Lists {
     /// `uint16 octets<0..2^8-1>;`
     pub octets: TlsVecU8<u16>,

@@ -8,7 +8,7 @@ use tls_codec::{
 };
 
 /// `Package`.
-#[derive(PartialEq, Drop)]
+#[derive(PartialEq, Eq, Debug, Clone, Drop)]
 pub struct Package {
     /// `Key key;`
     pub key: Key,

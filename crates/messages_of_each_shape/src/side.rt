@@ -9,7 +9,7 @@ use tls_codec::{
 };
 
 /// `Side`.
-#[derive(PartialEq, Clone, Copy)]
+#[derive(PartialEq, Eq, Debug, Clone, Copy)]
 pub enum Side {
     /// `client(1)`
     Client,

@@ -9,7 +9,7 @@ use tls_codec::{
 };
 
 /// `Version`.
-#[derive(PartialEq, Clone, Copy)]
+#[derive(PartialEq, Eq, Debug, Clone, Copy)]
 pub enum Version {
     /// `mls10(1)`
     Mls10,

@@ -9,7 +9,7 @@ use tls_codec::{
 };
 
 /// `Wide`.
-#[derive(PartialEq, Drop)]
+#[derive(PartialEq, Eq, Debug, Clone, Drop)]
 pub struct Wide {
     /// `uint8 a;`
     pub a: u8,

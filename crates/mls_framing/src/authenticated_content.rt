@@ -8,7 +8,7 @@ use tls_codec::{
 };
 
 /// `AuthenticatedContent`.
-#[derive(PartialEq, Drop)]
+#[derive(PartialEq, Eq, Debug, Clone, Drop)]
 pub struct AuthenticatedContent {
     /// `WireFormat wire_format;`
     pub wire_format: WireFormat,

@@ -7,7 +7,7 @@ use tls_codec::{Error, Lent, Serialize, Sink, Size, VLBytes};
 /// `ConfirmedTranscriptHashInput`.
 ///
 /// It has references to its fields, and is only written.
-#[derive(Clone, Copy)]
+#[derive(PartialEq, Eq, Debug, Clone, Copy)]
 pub struct ConfirmedTranscriptHashInput<'a> {
     /// `WireFormat wire_format;`
     pub wire_format: &'a WireFormat,

@@ -9,7 +9,7 @@ use tls_codec::{
 };
 
 /// `ContentType`.
-#[derive(PartialEq, Clone, Copy)]
+#[derive(PartialEq, Eq, Debug, Clone, Copy)]
 pub enum ContentType {
     /// `application(1)`
     Application,

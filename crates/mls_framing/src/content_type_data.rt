@@ -13,7 +13,7 @@ const COMMIT: u8 = 3;
 /// `ContentType content_type` of `FramedContent`, and what comes after each.
 ///
 /// It has references to its fields, and is only written.
-#[derive(Clone, Copy)]
+#[derive(PartialEq, Eq, Debug, Clone, Copy)]
 pub enum ContentTypeData<'a> {
     /// `case application: opaque application_data<V>;`
     Application(&'a VLBytes),

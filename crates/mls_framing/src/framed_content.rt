@@ -7,7 +7,7 @@ use tls_codec::{Error, Lent4, Serialize, Sink, Size, VLBytes};
 /// `FramedContent`.
 ///
 /// It has references to its fields, and is only written.
-#[derive(Clone, Copy)]
+#[derive(PartialEq, Eq, Debug, Clone, Copy)]
 pub struct FramedContent<'a> {
     /// `opaque group_id<V>;`
     pub group_id: &'a VLBytes,

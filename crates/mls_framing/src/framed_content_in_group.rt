@@ -8,7 +8,7 @@ use tls_codec::{Error, Lent, Serialize, Sink, Size};
 /// `FramedContentInGroup`.
 ///
 /// It has references to its fields, and is only written.
-#[derive(Clone, Copy)]
+#[derive(PartialEq, Eq, Debug, Clone, Copy)]
 pub struct FramedContentInGroup<'a> {
     /// `FramedContentBody body;`
     pub body: FramedContentBody<'a>,

@@ -15,7 +15,7 @@ const NEW_MEMBER_PROPOSAL: u8 = 3;
 /// `SenderType sender_type` of `FramedContentTBS`, and what comes after each.
 ///
 /// It has references to its fields, and is only written.
-#[derive(Clone, Copy)]
+#[derive(PartialEq, Eq, Debug, Clone, Copy)]
 pub enum FramedContentSender<'a> {
     /// `case member:`
     Member {

@@ -8,7 +8,7 @@ use tls_codec::{Error, Lent4, Serialize, Sink, Size, VLBytes};
 /// `FramedContentTBS`.
 ///
 /// It has references to its fields, and is only written.
-#[derive(Clone, Copy)]
+#[derive(PartialEq, Eq, Debug, Clone, Copy)]
 pub struct FramedContentTBS<'a> {
     /// `ProtocolVersion version = mls10;`
     pub version: &'a ProtocolVersionMls10,

@@ -7,7 +7,7 @@ use tls_codec::{Error, Serialize, Sink, Size};
 /// `InterimTranscriptHashInput`.
 ///
 /// It has references to its fields, and is only written.
-#[derive(Clone, Copy)]
+#[derive(PartialEq, Eq, Debug, Clone, Copy)]
 pub struct InterimTranscriptHashInput<'a> {
     /// `MAC confirmation_tag;`
     pub confirmation_tag: &'a MAC,

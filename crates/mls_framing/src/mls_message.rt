@@ -7,7 +7,7 @@ use std::alloc::Global;
 use tls_codec::{Deserialize, DeserializeBytes, Error, Lent, Serialize, Sink, Size, Source};
 
 /// `MLSMessage`.
-#[derive(PartialEq, Drop)]
+#[derive(PartialEq, Eq, Debug, Clone, Drop)]
 pub struct MLSMessage {
     /// `ProtocolVersion version = mls10;`
     pub version: ProtocolVersionMls10,

@@ -7,7 +7,7 @@ use tls_codec::{Error, Lent2, Serialize, Sink, Size, VLBytes};
 /// `PrivateContentAAD`.
 ///
 /// It has references to its fields, and is only written.
-#[derive(Clone, Copy)]
+#[derive(PartialEq, Eq, Debug, Clone, Copy)]
 pub struct PrivateContentAAD<'a> {
     /// `opaque group_id<V>;`
     pub group_id: &'a VLBytes,

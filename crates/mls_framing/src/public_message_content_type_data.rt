@@ -16,7 +16,7 @@ const PROPOSAL: u8 = 2;
 const COMMIT: u8 = 3;
 
 /// `ContentType content_type` of `PublicMessage`, and what comes after each.
-#[derive(PartialEq, Drop)]
+#[derive(PartialEq, Eq, Debug, Clone, Drop)]
 pub enum PublicMessageContentTypeData {
     /// `case application:`
     Application {

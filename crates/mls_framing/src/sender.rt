@@ -16,7 +16,7 @@ const NEW_MEMBER_COMMIT: u8 = 4;
 const NEW_MEMBER_PROPOSAL: u8 = 3;
 
 /// `SenderType sender_type` of `Sender`, and what comes after each.
-#[derive(PartialEq, Drop)]
+#[derive(PartialEq, Eq, Debug, Clone, Drop)]
 pub enum Sender {
     /// `case member: uint32 leaf_index;`
     Member(u32),

@@ -7,7 +7,7 @@ use tls_codec::{Error, Lent, Serialize, Sink, Size, VLBytes};
 /// `SenderDataAAD`.
 ///
 /// It has references to its fields, and is only written.
-#[derive(Clone, Copy)]
+#[derive(PartialEq, Eq, Debug, Clone, Copy)]
 pub struct SenderDataAAD<'a> {
     /// `opaque group_id<V>;`
     pub group_id: &'a VLBytes,

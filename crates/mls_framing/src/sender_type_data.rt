@@ -19,7 +19,7 @@ const NEW_MEMBER_COMMIT: u8 = 4;
 const NEW_MEMBER_PROPOSAL: u8 = 3;
 
 /// `SenderType sender_type` of `PublicMessage`, and what comes after each.
-#[derive(PartialEq, Drop)]
+#[derive(PartialEq, Eq, Debug, Clone, Drop)]
 pub enum SenderTypeData {
     /// `case member:`
     Member {

@@ -21,7 +21,7 @@ const MLS_GROUP_INFO: u16 = 4;
 const MLS_KEY_PACKAGE: u16 = 5;
 
 /// `WireFormat wire_format` of `MLSMessage`, and what comes after each.
-#[derive(PartialEq, Drop)]
+#[derive(PartialEq, Eq, Debug, Clone, Drop)]
 pub enum WireFormatData {
     /// `case mls_public_message: PublicMessage public_message;`
     MlsPublicMessage(PublicMessage),

@@ -8,7 +8,7 @@ use tls_codec::{
 };
 
 /// `Capabilities`.
-#[derive(PartialEq, Drop)]
+#[derive(PartialEq, Eq, Debug, Clone, Drop)]
 pub struct Capabilities {
     /// `ProtocolVersion versions<V>;`
     pub versions: Vec<ProtocolVersion>,

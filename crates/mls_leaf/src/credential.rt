@@ -14,7 +14,7 @@ const BASIC: u16 = 1;
 const X509: u16 = 2;
 
 /// `CredentialType credential_type` of `Credential`, and what comes after each.
-#[derive(PartialEq, Drop)]
+#[derive(PartialEq, Eq, Debug, Clone, Drop)]
 pub enum Credential {
     /// `case basic: opaque identity<V>;`
     Basic(VLBytes),

@@ -8,7 +8,7 @@ use tls_codec::{
 };
 
 /// `Extension`.
-#[derive(PartialEq, Drop)]
+#[derive(PartialEq, Eq, Debug, Clone, Drop)]
 pub struct Extension {
     /// `ExtensionType extension_type;`
     pub extension_type: ExtensionType,

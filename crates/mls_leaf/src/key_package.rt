@@ -8,7 +8,7 @@ use tls_codec::{
 };
 
 /// `KeyPackage`.
-#[derive(PartialEq, Drop)]
+#[derive(PartialEq, Eq, Debug, Clone, Drop)]
 pub struct KeyPackage {
     /// `ProtocolVersion version;`
     pub version: ProtocolVersion,

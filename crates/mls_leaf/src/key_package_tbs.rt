@@ -7,7 +7,7 @@ use tls_codec::{Error, Lent2, Lent3, Serialize, Sink, Size};
 /// `KeyPackageTBS`.
 ///
 /// It has references to its fields, and is only written.
-#[derive(Clone, Copy)]
+#[derive(PartialEq, Eq, Debug, Clone, Copy)]
 pub struct KeyPackageTBS<'a> {
     /// `ProtocolVersion version;`
     pub version: &'a ProtocolVersion,

@@ -10,7 +10,7 @@ use tls_codec::{
 };
 
 /// `LeafNode`.
-#[derive(PartialEq, Drop)]
+#[derive(PartialEq, Eq, Debug, Clone, Drop)]
 pub struct LeafNode {
     /// `HPKEPublicKey encryption_key;`
     pub encryption_key: HPKEPublicKey,

@@ -6,7 +6,7 @@ use std::alloc::Global;
 use tls_codec::{Deserialize, DeserializeBytes, Error, Lent, Serialize, Sink, Size, Source};
 
 /// `LeafNodeHashInput`.
-#[derive(PartialEq, Drop)]
+#[derive(PartialEq, Eq, Debug, Clone, Drop)]
 pub struct LeafNodeHashInput {
     /// `uint32 leaf_index;`
     pub leaf_index: u32,

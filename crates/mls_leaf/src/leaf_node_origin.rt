@@ -16,7 +16,7 @@ const UPDATE: u8 = 2;
 const COMMIT: u8 = 3;
 
 /// `LeafNodeSource leaf_node_source` of `LeafNode`, and what comes after each.
-#[derive(PartialEq, Drop)]
+#[derive(PartialEq, Eq, Debug, Clone, Drop)]
 pub enum LeafNodeOrigin {
     /// `case key_package: Lifetime lifetime;`
     KeyPackage(Lifetime),

@@ -7,7 +7,7 @@ use tls_codec::{Error, Lent4, Serialize, Sink, Size};
 /// `LeafNodeTBS`.
 ///
 /// It has references to its fields, and is only written.
-#[derive(Clone, Copy)]
+#[derive(PartialEq, Eq, Debug, Clone, Copy)]
 pub struct LeafNodeTBS<'a> {
     /// `HPKEPublicKey encryption_key;`
     pub encryption_key: &'a HPKEPublicKey,

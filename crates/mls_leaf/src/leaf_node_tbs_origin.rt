@@ -13,7 +13,7 @@ const COMMIT: u8 = 3;
 /// `LeafNodeSource leaf_node_source` of `LeafNodeTBS`, and what comes after each.
 ///
 /// It has references to its fields, and is only written.
-#[derive(Clone, Copy)]
+#[derive(PartialEq, Eq, Debug, Clone, Copy)]
 pub enum LeafNodeTBSOrigin<'a> {
     /// `case key_package:`
     KeyPackage {

@@ -13,7 +13,7 @@ const LEAF: u8 = 1;
 const PARENT: u8 = 2;
 
 /// `NodeType node_type` of `Node`, and what comes after each.
-#[derive(PartialEq, Drop)]
+#[derive(PartialEq, Eq, Debug, Clone, Drop)]
 pub enum Node {
     /// `case leaf: LeafNode leaf_node;`
     Leaf(LeafNode),

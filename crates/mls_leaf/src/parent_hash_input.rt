@@ -7,7 +7,7 @@ use tls_codec::{Error, Lent, Serialize, Sink, Size, VLBytes};
 /// `ParentHashInput`.
 ///
 /// It has references to its fields, and is only written.
-#[derive(Clone, Copy)]
+#[derive(PartialEq, Eq, Debug, Clone, Copy)]
 pub struct ParentHashInput<'a> {
     /// `HPKEPublicKey encryption_key;`
     pub encryption_key: &'a HPKEPublicKey,

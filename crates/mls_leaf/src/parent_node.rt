@@ -8,7 +8,7 @@ use tls_codec::{
 };
 
 /// `ParentNode`.
-#[derive(PartialEq, Drop)]
+#[derive(PartialEq, Eq, Debug, Clone, Drop)]
 pub struct ParentNode {
     /// `HPKEPublicKey encryption_key;`
     pub encryption_key: HPKEPublicKey,

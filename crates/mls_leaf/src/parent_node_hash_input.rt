@@ -8,7 +8,7 @@ use tls_codec::{
 };
 
 /// `ParentNodeHashInput`.
-#[derive(PartialEq, Drop)]
+#[derive(PartialEq, Eq, Debug, Clone, Drop)]
 pub struct ParentNodeHashInput {
     /// `optional<ParentNode> parent_node;`
     pub parent_node: Option<ParentNode>,

@@ -6,7 +6,7 @@ use std::alloc::Global;
 use tls_codec::{Deserialize, DeserializeBytes, Error, Serialize, Sink, Size, Source};
 
 /// `RatchetTree`.
-#[derive(PartialEq, Drop)]
+#[derive(PartialEq, Eq, Debug, Clone, Drop)]
 pub struct RatchetTree {
     /// `optional<Node> ratchet_tree<V>;`
     pub ratchet_tree: Vec<Option<Node>>,

@@ -6,7 +6,7 @@ use std::alloc::Global;
 use tls_codec::{Deserialize, DeserializeBytes, Error, Serialize, Sink, Size, Source};
 
 /// `Add`.
-#[derive(PartialEq, Drop)]
+#[derive(PartialEq, Eq, Debug, Clone, Drop)]
 pub struct Add {
     /// `KeyPackage key_package;`
     pub key_package: KeyPackage,

@@ -6,7 +6,7 @@ use std::alloc::Global;
 use tls_codec::{Deserialize, DeserializeBytes, Error, Lent, Serialize, Sink, Size, Source};
 
 /// `EncryptedGroupSecrets`.
-#[derive(PartialEq, Drop)]
+#[derive(PartialEq, Eq, Debug, Clone, Drop)]
 pub struct EncryptedGroupSecrets {
     /// `KeyPackageRef new_member;`
     pub new_member: KeyPackageRef,

@@ -5,7 +5,7 @@ use std::alloc::Global;
 use tls_codec::{Deserialize, DeserializeBytes, Error, Serialize, Sink, Size, Source, VLBytes};
 
 /// `ExternalInit`.
-#[derive(PartialEq, Drop)]
+#[derive(PartialEq, Eq, Debug, Clone, Drop)]
 pub struct ExternalInit {
     /// `opaque kem_output<V>;`
     pub kem_output: VLBytes,

@@ -6,7 +6,7 @@ use std::alloc::Global;
 use tls_codec::{Deserialize, DeserializeBytes, Error, Serialize, Sink, Size, Source};
 
 /// `ExternalPub`.
-#[derive(PartialEq, Drop)]
+#[derive(PartialEq, Eq, Debug, Clone, Drop)]
 pub struct ExternalPub {
     /// `HPKEPublicKey external_pub;`
     pub external_pub: HPKEPublicKey,

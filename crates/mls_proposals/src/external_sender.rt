@@ -6,7 +6,7 @@ use std::alloc::Global;
 use tls_codec::{Deserialize, DeserializeBytes, Error, Lent, Serialize, Sink, Size, Source};
 
 /// `ExternalSender`.
-#[derive(PartialEq, Drop)]
+#[derive(PartialEq, Eq, Debug, Clone, Drop)]
 pub struct ExternalSender {
     /// `SignaturePublicKey signature_key;`
     pub signature_key: SignaturePublicKey,

@@ -6,7 +6,7 @@ use std::alloc::Global;
 use tls_codec::{Deserialize, DeserializeBytes, Error, Serialize, Sink, Size, Source};
 
 /// `ExternalSenders`.
-#[derive(PartialEq, Drop)]
+#[derive(PartialEq, Eq, Debug, Clone, Drop)]
 pub struct ExternalSenders {
     /// `ExternalSender external_senders<V>;`
     pub external_senders: Vec<ExternalSender>,

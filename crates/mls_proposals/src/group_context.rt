@@ -9,7 +9,7 @@ use tls_codec::{
 };
 
 /// `GroupContext`.
-#[derive(PartialEq, Drop)]
+#[derive(PartialEq, Eq, Debug, Clone, Drop)]
 pub struct GroupContext {
     /// `ProtocolVersion version = mls10;`
     pub version: ProtocolVersionMls10,

@@ -9,7 +9,7 @@ use tls_codec::{
 };
 
 /// `GroupInfo`.
-#[derive(PartialEq, Drop)]
+#[derive(PartialEq, Eq, Debug, Clone, Drop)]
 pub struct GroupInfo {
     /// `GroupContext group_context;`
     pub group_context: GroupContext,

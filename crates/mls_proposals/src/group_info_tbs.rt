@@ -8,7 +8,7 @@ use tls_codec::{Error, Lent2, Serialize, Sink, Size};
 /// `GroupInfoTBS`.
 ///
 /// It has references to its fields, and is only written.
-#[derive(Clone, Copy)]
+#[derive(PartialEq, Eq, Debug, Clone, Copy)]
 pub struct GroupInfoTBS<'a> {
     /// `GroupContext group_context;`
     pub group_context: &'a GroupContext,

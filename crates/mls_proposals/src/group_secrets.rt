@@ -8,7 +8,7 @@ use tls_codec::{
 };
 
 /// `GroupSecrets`.
-#[derive(PartialEq, Drop)]
+#[derive(PartialEq, Eq, Debug, Clone, Drop)]
 pub struct GroupSecrets {
     /// `opaque joiner_secret<V>;`
     pub joiner_secret: VLBytes,

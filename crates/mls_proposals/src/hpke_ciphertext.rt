@@ -7,7 +7,7 @@ use tls_codec::{
 };
 
 /// `HPKECiphertext`.
-#[derive(PartialEq, Drop)]
+#[derive(PartialEq, Eq, Debug, Clone, Drop)]
 pub struct HPKECiphertext {
     /// `opaque kem_output<V>;`
     pub kem_output: VLBytes,

@@ -6,7 +6,7 @@ use tls_codec::{Error, Lent, Serialize, Sink, Size, VLBytes};
 /// `KDFLabel`.
 ///
 /// It has references to its fields, and is only written.
-#[derive(Clone, Copy)]
+#[derive(PartialEq, Eq, Debug, Clone, Copy)]
 pub struct KDFLabel<'a> {
     /// `uint16 length;`
     pub length: &'a u16,

@@ -8,7 +8,7 @@ use tls_codec::{
 };
 
 /// `PreSharedKeyID`.
-#[derive(PartialEq, Drop)]
+#[derive(PartialEq, Eq, Debug, Clone, Drop)]
 pub struct PreSharedKeyID {
     /// `PSKType psktype;`
     pub psktype: PSKOrigin,

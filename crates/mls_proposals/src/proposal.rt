@@ -23,7 +23,7 @@ const EXTERNAL_INIT: u16 = 6;
 const GROUP_CONTEXT_EXTENSIONS: u16 = 7;
 
 /// `ProposalType proposal_type` of `Proposal`, and what comes after each.
-#[derive(PartialEq, Drop)]
+#[derive(PartialEq, Eq, Debug, Clone, Drop)]
 pub enum Proposal {
     /// `case add: Add add;`
     Add(Add),

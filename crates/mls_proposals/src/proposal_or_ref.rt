@@ -13,7 +13,7 @@ const PROPOSAL: u8 = 1;
 const REFERENCE: u8 = 2;
 
 /// `ProposalOrRefType type` of `ProposalOrRef`, and what comes after each.
-#[derive(PartialEq, Drop)]
+#[derive(PartialEq, Eq, Debug, Clone, Drop)]
 pub enum ProposalOrRef {
     /// `case proposal: Proposal proposal;`
     Proposal(Proposal),

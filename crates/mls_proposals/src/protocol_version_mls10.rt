@@ -9,7 +9,7 @@ use tls_codec::{
 };
 
 /// `ProtocolVersionMls10`.
-#[derive(PartialEq, Clone, Copy)]
+#[derive(PartialEq, Eq, Debug, Clone, Copy)]
 pub enum ProtocolVersionMls10 {
     /// `mls10(1)`
     Mls10,

@@ -7,7 +7,7 @@ use tls_codec::{Error, Lent, Serialize, Sink, Size};
 /// `PSKLabel`.
 ///
 /// It has references to its fields, and is only written.
-#[derive(Clone, Copy)]
+#[derive(PartialEq, Eq, Debug, Clone, Copy)]
 pub struct PSKLabel<'a> {
     /// `PreSharedKeyID id;`
     pub id: &'a PreSharedKeyID,

@@ -14,7 +14,7 @@ const EXTERNAL: u8 = 1;
 const RESUMPTION: u8 = 2;
 
 /// `PSKType psktype` of `PreSharedKeyID`, and what comes after each.
-#[derive(PartialEq, Drop)]
+#[derive(PartialEq, Eq, Debug, Clone, Drop)]
 pub enum PSKOrigin {
     /// `case external: opaque psk_id<V>;`
     External(VLBytes),

@@ -8,7 +8,7 @@ use tls_codec::{
 };
 
 /// `ReInit`.
-#[derive(PartialEq, Drop)]
+#[derive(PartialEq, Eq, Debug, Clone, Drop)]
 pub struct ReInit {
     /// `opaque group_id<V>;`
     pub group_id: VLBytes,

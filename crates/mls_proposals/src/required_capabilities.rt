@@ -6,7 +6,7 @@ use std::alloc::Global;
 use tls_codec::{Deserialize, DeserializeBytes, Error, Lent, Serialize, Sink, Size, Source};
 
 /// `RequiredCapabilities`.
-#[derive(PartialEq, Drop)]
+#[derive(PartialEq, Eq, Debug, Clone, Drop)]
 pub struct RequiredCapabilities {
     /// `ExtensionType extension_types<V>;`
     pub extension_types: Vec<ExtensionType>,

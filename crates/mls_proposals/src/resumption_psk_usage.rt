@@ -9,7 +9,7 @@ use tls_codec::{
 };
 
 /// `ResumptionPSKUsage`.
-#[derive(PartialEq, Clone, Copy)]
+#[derive(PartialEq, Eq, Debug, Clone, Copy)]
 pub enum ResumptionPSKUsage {
     /// `application(1)`
     Application,

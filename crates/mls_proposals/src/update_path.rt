@@ -7,7 +7,7 @@ use std::alloc::Global;
 use tls_codec::{Deserialize, DeserializeBytes, Error, Lent, Serialize, Sink, Size, Source};
 
 /// `UpdatePath`.
-#[derive(PartialEq, Drop)]
+#[derive(PartialEq, Eq, Debug, Clone, Drop)]
 pub struct UpdatePath {
     /// `LeafNode leaf_node;`
     pub leaf_node: LeafNode,

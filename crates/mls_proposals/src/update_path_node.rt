@@ -7,7 +7,7 @@ use std::alloc::Global;
 use tls_codec::{Deserialize, DeserializeBytes, Error, Lent, Serialize, Sink, Size, Source};
 
 /// `UpdatePathNode`.
-#[derive(PartialEq, Drop)]
+#[derive(PartialEq, Eq, Debug, Clone, Drop)]
 pub struct UpdatePathNode {
     /// `HPKEPublicKey encryption_key;`
     pub encryption_key: HPKEPublicKey,

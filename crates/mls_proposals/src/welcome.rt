@@ -9,7 +9,7 @@ use tls_codec::{
 };
 
 /// `Welcome`.
-#[derive(PartialEq, Drop)]
+#[derive(PartialEq, Eq, Debug, Clone, Drop)]
 pub struct Welcome {
     /// `CipherSuite cipher_suite;`
     pub cipher_suite: CipherSuite,

@@ -9,7 +9,7 @@ use tls_codec::{
 };
 
 /// `AlertDescription`.
-#[derive(PartialEq, Clone, Copy)]
+#[derive(PartialEq, Eq, Debug, Clone, Copy)]
 pub enum AlertDescription {
     /// `close_notify(0)`
     CloseNotify,

@@ -9,7 +9,7 @@ use tls_codec::{
 };
 
 /// `AlertLevel`.
-#[derive(PartialEq, Clone, Copy)]
+#[derive(PartialEq, Eq, Debug, Clone, Copy)]
 pub enum AlertLevel {
     /// `warning(1)`
     Warning,

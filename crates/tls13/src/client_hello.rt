@@ -9,7 +9,7 @@ use tls_codec::{
 };
 
 /// `ClientHello`.
-#[derive(PartialEq, Drop)]
+#[derive(PartialEq, Eq, Debug, Clone, Drop)]
 pub struct ClientHello {
     /// `ProtocolVersion legacy_version;`
     pub legacy_version: ProtocolVersion,

@@ -5,7 +5,7 @@ use std::alloc::Global;
 use tls_codec::{Deserialize, DeserializeBytes, Error, Serialize, Sink, Size, Source};
 
 /// `ExtensionType`.
-#[derive(PartialEq, Clone, Copy)]
+#[derive(PartialEq, Eq, Debug, Clone, Copy)]
 pub struct ExtensionType(pub u16);
 
 impl ExtensionType {

@@ -200,9 +200,9 @@ fn doc(alloc: Global, message: &Message) -> Result<String, AllocError> {
 // Sets the holes `derives`, `lifetime`, `any` and `matched`.
 fn set_lent(alloc: Global, holes: &mut Holes, is_lent: bool) -> Result<(), AllocError> {
     let (derives, lifetime, any, matched) = if is_lent {
-        ("Clone, Copy", "<'a>", "<'_>", "*self")
+        ("PartialEq, Eq, Debug, Clone, Copy", "<'a>", "<'_>", "*self")
     } else {
-        ("PartialEq, Drop", "", "", "self")
+        ("PartialEq, Eq, Debug, Clone, Drop", "", "", "self")
     };
     holes.set("derives", String::from_str(alloc, derives)?)?;
     holes.set("lifetime", String::from_str(alloc, lifetime)?)?;

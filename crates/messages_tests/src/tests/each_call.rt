@@ -1,39 +1,44 @@
 //! What each call makes of a value or of bytes.
-use crate::tests::{holds, same, same_at};
+use crate::tests::{same, same_at};
 use std::alloc::Global;
+use std::fmt::Debug;
 use std::process::Abort;
 use std::test::Fail;
 use tls_codec::{Deserialize, DeserializeBytes, Error, Serialize};
 use tls_codec_vectors::Drip;
 
 // The round trip: the value is written as these bytes by each encoder, and each decoder reads it from them.
-pub(super) fn is_spelled<T: Serialize + Deserialize + DeserializeBytes + PartialEq>(
+pub(super) fn is_spelled<T>(
     rt: &impl Abort,
     alloc: Global,
     value: &T,
     bytes: &[u8],
-) -> Result<(), Fail> {
+) -> Result<(), Fail>
+where
+    T: Serialize + Deserialize + DeserializeBytes + Eq + Debug + Clone,
+{
     is_written(rt, alloc, value, bytes)?;
-    holds(rt, T::tls_deserialize_exact_bytes(alloc, bytes)? == *value);
-    holds(rt, T::tls_deserialize_exact(alloc, bytes)? == *value);
-    holds(
+    same(rt, &T::tls_deserialize_exact_bytes(alloc, bytes)?, value);
+    same(rt, &T::tls_deserialize_exact(alloc, bytes)?, value);
+    same(
         rt,
-        T::tls_deserialize(alloc, &mut Drip::new(bytes))? == *value,
+        &T::tls_deserialize(alloc, &mut Drip::new(bytes))?,
+        value,
     );
     let mut longer = bytes.to_vec(alloc)?;
     longer.push(0xee)?;
     let (found, rest) = T::tls_deserialize_bytes(alloc, &longer)?;
-    holds(rt, found == *value);
+    same(rt, &found, value);
     same(rt, rest, [0xee].as_slice());
     let mut source = longer.as_slice();
-    holds(rt, T::tls_deserialize(alloc, &mut source)? == *value);
+    same(rt, &T::tls_deserialize(alloc, &mut source)?, value);
     same(rt, source, [0xee].as_slice());
     is_cut_off::<T>(rt, alloc, bytes);
     Ok(())
 }
 
-// Each encoder writes the value as these bytes.
-pub(super) fn is_written<T: Serialize>(
+// Each encoder writes the value as these bytes, and its clone equals it.
+pub(super) fn is_written<T: Serialize + Eq + Debug + Clone>(
     rt: &impl Abort,
     alloc: Global,
     value: &T,
@@ -49,6 +54,7 @@ pub(super) fn is_written<T: Serialize>(
     let count = value.tls_serialize_into(&mut received)?;
     same(rt, count, bytes.len());
     same(rt, received.get(bytes.len()..), Some(bytes));
+    same(rt, &value.clone()?, value);
     Ok(())
 }
 

@@ -1,11 +1,13 @@
 //! Messages of MLS (RFC 9420), spelled field by field.
 use crate::tests::each_call::is_spelled;
-use crate::tests::{holds, same_at};
-use mls_framing::{CipherSuite, Credential, LeafNodeOrigin, MLSMessage, WireFormatData};
+use crate::tests::{holds, same, same_at};
+use mls_framing::{
+    CipherSuite, Credential, LeafNodeOrigin, Lifetime, MLSMessage, Sender, WireFormatData,
+};
 use std::alloc::Global;
 use std::process::Abort;
 use std::test::Fail;
-use tls_codec::{Deserialize, DeserializeBytes, Error};
+use tls_codec::{Deserialize, DeserializeBytes, Error, VLBytes};
 
 const END: Error = Error::EndOfStream;
 
@@ -252,6 +254,35 @@ fn a_key_package(rt: HostRuntime) -> Result<(), Fail> {
     match &package.leaf_node.leaf_node_source {
         LeafNodeOrigin::KeyPackage(lifetime) => holds(&rt, lifetime.not_after == 6),
         _ => panic!(rt; "another source"),
+    }
+    Ok(())
+}
+
+// What Rust's derived `Debug` prints.
+#[test]
+fn values_are_shown_by_their_fields(rt: HostRuntime) -> Result<(), Fail> {
+    let alloc = rt.alloc();
+    let lifetime = Lifetime {
+        not_before: 5,
+        not_after: 6,
+    };
+    let sender = Sender::Member(3);
+    let suite = CipherSuite(0x0a0a);
+    let credential = Credential::Basic(VLBytes::from_slice(alloc, b"alice")?);
+    let table = [
+        (
+            format!(in alloc; "{lifetime:?}")?,
+            "Lifetime { not_before: 5, not_after: 6 }",
+        ),
+        (format!(in alloc; "{sender:?}")?, "Member(3)"),
+        (format!(in alloc; "{suite:?}")?, "CipherSuite(2570)"),
+        (
+            format!(in alloc; "{credential:?}")?,
+            "Basic(VLBytes { 0x616c696365 })",
+        ),
+    ];
+    for (text, shown) in table {
+        same(&rt, text.as_str(), shown);
     }
     Ok(())
 }

@@ -23,7 +23,7 @@ pub static TEXTS: [Lines; 2] = [
     },
 ];
 
-pub static CODE: &str = "$doc$#[derive(PartialEq, Clone, Copy)]
+pub static CODE: &str = "$doc$#[derive(PartialEq, Eq, Debug, Clone, Copy)]
 pub struct $name$(pub u$bits$);
 
 impl $name$ {

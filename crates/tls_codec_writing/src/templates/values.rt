@@ -64,7 +64,7 @@ pub static TEXTS: [Lines; 6] = [
     },
 ];
 
-pub static CODE: &str = "$doc$#[derive(PartialEq, Clone, Copy)]
+pub static CODE: &str = "$doc$#[derive(PartialEq, Eq, Debug, Clone, Copy)]
 pub enum $name$ {
 $variants$}
 
