@@ -3,10 +3,10 @@
 //!
 //! It prints each file after a line with its path. With `--to FOLDER` it writes them there, and with `--compare FOLDER`
 //! it ends with status 0 if the files there are the same but for layout, and else with 1 and the first line that
-//! differs. `--show` is for one file in place of those: a module that shows the messages as a tree, for a crate that has
-//! `show::Show` and uses `message_tree`. `--with NAME=FILE` names another crate and its input: the text may name its types.
-//! A text that is refused, and a file that can't be read or written, end it with status 2; nothing is written before the
-//! whole text is read.
+//! differs, or the first file that can't be read. `--show` is for one file in place of those: a module that shows the
+//! messages as a tree, for a crate that has `show::Show` and uses `message_tree`. `--with NAME=FILE` names another crate
+//! and its input: the text may name its types. A text that is refused or can't be read, and a file that can't be written,
+//! end it with status 2; nothing is written before the whole text is read.
 //!
 //! - [`words`]: the command line.
 //! - [`texts`]: the texts of a crate and of those that it is over.

@@ -168,7 +168,12 @@ fn defined(alloc: Global, file: &File, of: &Name) -> Result<Element, Trouble>
     match find(file, text) {
         Some(Item::Alias(_)) => Ok(Element::Alias(String::from_str(alloc, text)?)),
         Some(_) => Ok(Element::Message(String::from_str(alloc, text)?)),
-        None => Err(refused(alloc, of.place, text, "the name of a type")),
+        None => Err(refused(
+            alloc,
+            of.place,
+            text,
+            "the name of a type of the language, of this text, or of one given by --with",
+        )),
     }
 }
 

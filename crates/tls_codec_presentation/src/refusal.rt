@@ -40,7 +40,7 @@ impl Place {
 
 /// Where a text is refused, what it has there, and what would be right.
 ///
-/// It prints as `line 3, column 7: found "Foo", expected the name of a type`.
+/// It prints as `line 3, column 7: found ";", expected the name of a type`.
 #[derive(Drop)]
 pub struct Refusal {
     pub place: Place,

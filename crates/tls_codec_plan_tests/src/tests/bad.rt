@@ -4,28 +4,28 @@ use std::test::Fail;
 
 static BAD: [(&str, usize, usize, &str, &str); 76] = [
     // types
-    ("Foo A;", 1, 1, "Foo", "the name of a type"),
-    ("struct { Foo a; } A;", 1, 10, "Foo", "the name of a type"),
+    ("Foo A;", 1, 1, "Foo", "given by --with"),
+    ("struct { Foo a; } A;", 1, 10, "Foo", "given by --with"),
     (
         "struct { optional<Foo> a; } A;",
         1,
         19,
         "Foo",
-        "the name of a type",
+        "given by --with",
     ),
     (
         "struct { uint12 a; } A;",
         1,
         10,
         "uint12",
-        "the name of a type",
+        "given by --with",
     ),
     (
         "enum { a(1), (255) } T; struct { T t; select (A.t) { case a: Foo b; } } A;",
         1,
         62,
         "Foo",
-        "the name of a type",
+        "given by --with",
     ),
     // names
     ("uint8 a;", 1, 7, "a", "capital"),
