@@ -14,9 +14,9 @@ ghost use Rattle.tls_codec_wire.specs.declared.error.Error.TheVariants.{OutOfMem
 ghost use Rattle.tls_codec_grammar.specs.Tree.{Empty, Join, Number, number_trees, option_plain, trees};
 ghost use Rattle.tls_codec_grammar.specs.Field.{bounded_field, fixed_field, variable_field};
 ghost use Rattle.tls_codec_grammar.specs.Format.{array_format, bytes_format, counted_bytes_format, counted_list_format, fixed_list_format, list_format, nothing_format, number_format, option_format, pair_format, text_format, triple_format, varint_format, with_memory};
-ghost use Rattle.tls_codec_grammar.specs.Opaque.{OpaqueSourceRefused, TextRefused, TextSourceRefused};
+ghost use Rattle.tls_codec_grammar.specs.Opaque.{OpaqueCopyRefused, OpaqueSourceRefused, TextRefused, TextSourceRefused};
 ghost use Rattle.tls_codec_base.specs.Refusals.{counted_list_names, counted_list_source_names, fields_names, fields_source_names, list_names, list_source_names, option_names, option_source_names};
-ghost use Rattle.tls_codec_base.specs.Meanings.{Means, SameField, SameNames, SameSourceNames, opaque_names, too_few};
+ghost use Rattle.tls_codec_base.specs.Meanings.{Means, SameField, SameNames, SameSourceNames, too_few};
 ghost use Rattle.tls_codec_base.specs.OwnMessages.{bounded_bytes_format, bounded_list_format, fixed_bytes_format, pair_tree, triple_tree};
 ghost use Rattle.tls_codec_slice.specs.Contents.{u16_bytes_of, u16_elements_of, u24_bytes_of, u24_elements_of, u32_bytes_of, u32_elements_of, u8_bytes_of, u8_elements_of};
 ghost use Rattle.tls_codec.specs.Contents.{bytes_of, elements_of, fixed_bytes_of, secret_bytes_of, secret_elements_of, secret_vec_bytes_of, slice_bytes_of, vec_bytes_of};
@@ -211,7 +211,7 @@ pub fn lists<'a, T: Deserialize + DeserializeBytes>()
 pub fn texts<'a>()
     ensures owned { Means ⟦<String as Size>⟧ (λ s. number_trees (string_bytes s)) text_format }
     ensures lent { Means ⟦<&'a str as Size>⟧ (λ s. number_trees s.now) text_format }
-    ensures slice { SameNames ⟦<String as DeserializeBytes>⟧.names (λ x e. TextRefused e x) }
+    ensures slice { SameNames ⟦<String as DeserializeBytes>⟧.names TextRefused }
     ensures source { SameSourceNames ⟦<String as Deserialize>⟧.names TextSourceRefused }
 {}
 
@@ -239,13 +239,13 @@ pub fn byte_vectors<'a>()
 /// Why they are not read.
 pub fn byte_vectors_refused()
     ensures vl_bytes { SameNames ⟦<VLBytes as DeserializeBytes>⟧.names
-        (opaque_names variable_field) }
+        (OpaqueCopyRefused variable_field) }
     ensures vl_byte_vec { SameNames ⟦<VLByteVec as DeserializeBytes>⟧.names
-        (opaque_names variable_field) }
+        (OpaqueCopyRefused variable_field) }
     ensures secret_vl_bytes { SameNames ⟦<SecretVLBytes as DeserializeBytes>⟧.names
-        (opaque_names variable_field) }
+        (OpaqueCopyRefused variable_field) }
     ensures secret_vl_byte_vec { SameNames ⟦<SecretVLByteVec as DeserializeBytes>⟧.names
-        (opaque_names variable_field) }
+        (OpaqueCopyRefused variable_field) }
 
     ensures vl_bytes_source { SameSourceNames ⟦<VLBytes as Deserialize>⟧.names
         (OpaqueSourceRefused variable_field) }
@@ -322,7 +322,7 @@ pub fn counted_bytes<'a, F: LengthField>()
         (counted_bytes_format F.field) }
     ensures lent { Means ⟦<&'a TlsByteVec<F> as Size>⟧ (λ v. number_trees (fixed_bytes_of v.now))
         (counted_bytes_format F.field) }
-    ensures slice { SameNames ⟦<TlsByteVec<F> as DeserializeBytes>⟧.names (opaque_names F.field) }
+    ensures slice { SameNames ⟦<TlsByteVec<F> as DeserializeBytes>⟧.names (OpaqueCopyRefused F.field) }
     ensures source { SameSourceNames ⟦<TlsByteVec<F> as Deserialize>⟧.names
         (OpaqueSourceRefused F.field) }
 {}

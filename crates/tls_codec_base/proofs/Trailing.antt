@@ -38,15 +38,15 @@ pub list_never : {field : Field} (element : Format) (names : SliceNames) → Mee
 list_never element names m never x (inl p) = (m.named x TrailingData p).1 refl
 list_never element names m never x (inr p) = elements_never element names never p.0 p.1.rest p.1.named
 
-bytes_never : {field : Field} → MeetsFieldLaws field → NeverTrailing (λ x e. OpaqueRefused field e x)
+bytes_never : {field : Field} → MeetsFieldLaws field → NeverTrailing (OpaqueRefused field)
 bytes_never m x (inl p) = (m.named x TrailingData p).1 refl
 bytes_never m x (inr p) = (m.cut TrailingData p.0).1 refl
 
-pub copy_never : {field : Field} → MeetsFieldLaws field → NeverTrailing (λ x e. OpaqueCopyRefused field e x)
+pub copy_never : {field : Field} → MeetsFieldLaws field → NeverTrailing (OpaqueCopyRefused field)
 copy_never m x (inl p) = let h = p.0 in cc
 copy_never m x (inr p) = bytes_never m x p
 
-pub text_never : NeverTrailing (λ x e. TextRefused e x)
+pub text_never : NeverTrailing TextRefused
 text_never x (inl p) = let h = p.0 in cc
 text_never x (inr (inl p)) = bytes_never variable_field_meets x p
 text_never x (inr (inr p)) = p.0

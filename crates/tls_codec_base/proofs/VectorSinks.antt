@@ -20,7 +20,7 @@ pub written_appended : {f : Format} {v : Tree} {form a b : List ℕ} {n : ℕ} �
 written_appended {f} {v} {form} {a} {b} {n} p held count fits = record { form = form; shortest = p; held = held; count = omega (arith, count, fits, ap length held, length-append a form) }
 
 -- a refusal of the vector that is written to
-pub write_not_appended : {f : Format} {v : Tree} {a d : List ℕ} (e : Error) → d ≡ a → WriteRefused e only_shortages only_shortages ⊎ f.refuses v e → AppendRefused f v a d e
+pub write_not_appended : {f : Format} {v : Tree} {a d : List ℕ} (e : Error) → d ≡ a → WriteRefused only_shortages only_shortages e ⊎ f.refuses v e → AppendRefused f v a d e
 write_not_appended e kept (inr named) = record { kept = kept; cause = inr (inl named) }
 write_not_appended OutOfMemory kept (inl refused) = record { kept = kept; cause = inl refl }
 write_not_appended (EncodingError text) kept (inl refused) = absurd (no_fault refused.1)

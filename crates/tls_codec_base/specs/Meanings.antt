@@ -8,7 +8,6 @@ use Rattle.tls_codec_grammar.specs.Tree.{Tree}
 use Rattle.tls_codec_grammar.specs.Grammar.{Direction}
 use Rattle.tls_codec_grammar.specs.Field.{Field}
 use Rattle.tls_codec_grammar.specs.Format.{Format}
-use Rattle.tls_codec_grammar.specs.Opaque.{OpaqueCopyRefused}
 use Rattle.tls_codec_base.specs.Refusals.{SliceNames}
 use Rattle.tls_codec_base.specs.declared.traits.Size.{Ghosts}
 
@@ -36,10 +35,6 @@ SameSourceNames m n = (x : List ℕ) (old new : Counts) (e : Error) → m x old 
 -- fewer than k bytes are there
 abbrev pub too_few : ℕ → SliceNames
 too_few k x e = (e ≡ EndOfStream) × (length x < k)
-
--- bytes after a length are not split off and copied
-abbrev pub opaque_names : Field → SliceNames
-opaque_names field x e = OpaqueCopyRefused field e x
 
 -- two length fields say the same of each number and of all bytes
 pub record SameField (f g : Field) : Type 0 where

@@ -122,7 +122,7 @@ pub fn what_was_read_is_written_again<T: Size, R: Source, W: Sink>()
 pub fn contents_out_of_bounds_are_not_sent<F: LengthField, T: Size>()
     ensures { (form : List ℕ) (v : Tree)
         → IsShortest (content T.format.spells) form v
-        → (F.field.holds (length form) → ⊥)
+        → ¬ F.field.holds (length form)
         → (counted_list_format F.field T.format).out_of_bounds v }
 {}
 

@@ -44,7 +44,7 @@ pub fn single_values_are_never_trailing<const LEN: usize>()
 
 /// Nor does one of bytes after a length, whatever its field.
 pub fn bytes_are_never_trailing<F: LengthField>()
-    ensures bytes { NeverTrailing (λ x e. OpaqueCopyRefused F.field e x) }
+    ensures bytes { NeverTrailing (OpaqueCopyRefused F.field) }
     ensures read { SourceNeverTrailing (OpaqueSourceRefused F.field) }
 {}
 
@@ -96,12 +96,12 @@ pub fn parts_read_are_never_trailing<
 pub fn contents_out_of_bounds_are_refused<F: LengthField, T: Size>()
     ensures appended { (form : List ℕ) (v : Tree) (old new : List ℕ) (result : Result ℕ Error)
         → IsShortest (content T.format.spells) form v
-        → (F.field.holds (length form) → ⊥)
+        → ¬ F.field.holds (length form)
         → AppendsForm (counted_list_format F.field T.format) v old new result
         → IsErrAnd result (λ e. (e ≡ InvalidVectorLength) ⊎ (e ≡ OutOfMemory)) }
     ensures made { (form : List ℕ) (v : Tree) (result : Result (Vec ℕ Global) Error)
         → IsShortest (content T.format.spells) form v
-        → (F.field.holds (length form) → ⊥)
+        → ¬ F.field.holds (length form)
         → Makes (counted_list_format F.field T.format) v result
         → IsErrAnd result (λ e. (e ≡ InvalidVectorLength) ⊎ (e ≡ OutOfMemory)) }
 {}

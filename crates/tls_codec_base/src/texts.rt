@@ -61,7 +61,7 @@ impl Deserialize for String {
 }
 
 impl DeserializeBytes for String {
-    ghost names = { λ x e. TextRefused e x };
+    ghost names = { TextRefused };
 
     /// `InvalidVectorLength`: the length has more bytes than it needs, or more than 30 bits.
     /// `EndOfStream`: there is no whole length. `DecodingError("declared content is not there")`:

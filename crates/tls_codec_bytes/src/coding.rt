@@ -56,7 +56,7 @@ impl<F: LengthField> Deserialize for TlsByteVec<F> {
 }
 
 impl<F: LengthField> DeserializeBytes for TlsByteVec<F> {
-    ghost names = { λ x e. OpaqueCopyRefused F.field e x };
+    ghost names = { OpaqueCopyRefused F.field };
 
     /// `EndOfStream`: there is no whole length, or fewer bytes come after a length of one to four
     /// bytes than it declares.

@@ -140,7 +140,7 @@ module _ {field : Field} (m : MeetsFieldLaws field) {inside : Format} (l : Meets
     }
 
     -- the same for the length that is put into the gap
-    pub gap_not_filled : {a b c d : List ℕ} {at gap k : ℕ} (e : Error) → inside.announced v ≡ capped (sum v) → at ≡ length a → OpenedGap a b gap → Appended inside v b c k → d ≡ a → GapRefused field e at (length c - (at + gap)) → AppendRefused (counted_format field sum inside) v a d e
+    pub gap_not_filled : {a b c d : List ℕ} {at gap k : ℕ} (e : Error) → inside.announced v ≡ capped (sum v) → at ≡ length a → OpenedGap a b gap → Appended inside v b c k → d ≡ a → GapRefused field at (length c - (at + gap)) e → AppendRefused (counted_format field sum inside) v a d e
     gap_not_filled OutOfMemory is_sum e o p kept q = record { kept = kept; cause = inl refl }
     gap_not_filled {a} {b} {c} {d} {at} {gap} {k} InvalidVectorLength is_sum e o p kept q =
         let size : length c - (at + gap) ≡ length p.form = omega (arith, e, o.count, ap length o.held, length-append a o.gap, ap length p.held, length-append b p.form) in

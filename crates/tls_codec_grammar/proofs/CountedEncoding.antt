@@ -70,7 +70,7 @@ module _ {field : Field} (m : MeetsFieldLaws field) {inside : Format} (l : Meets
     }
 
     -- the field is refused
-    pub counted_breaks_count : {v : Tree} {a : List ℕ} {old new : S} {e : Error} → CountsInside field.spells (inside.announced v) a → Received (sink.received old) (sink.received new) a → WriteRefused e (sink.counts old) (sink.counts new) → NoneFell (sink.counts old) (sink.counts new)
+    pub counted_breaks_count : {v : Tree} {a : List ℕ} {old new : S} {e : Error} → CountsInside field.spells (inside.announced v) a → Received (sink.received old) (sink.received new) a → WriteRefused (sink.counts old) (sink.counts new) e → NoneFell (sink.counts old) (sink.counts new)
         → Breaks (counted_format field sum inside) v sink old new e
     counted_breaks_count {v} {a} {old} {new} {e} p r refused fell = record {
       sent = r.front;
@@ -114,7 +114,7 @@ module _ {field : Field} (m : MeetsFieldLaws field) {inside : Format} (l : Meets
 
     -- the field is refused
     pub field_breaks_count : {v : Tree} {n : ℕ} {old new : S} (e : Error) → MeetsLaws (counted_format field sum inside) → inside.announced v ≡ capped n → n ≡ sum v
-        → (field.holds n → BeganNumber field.spells (sink.received old) (sink.received new) n) → ((field.holds n → ⊥) → new ≡ old) → LengthNotSent field e n (sink.counts old) (sink.counts new) → NoneFell (sink.counts old) (sink.counts new)
+        → (field.holds n → BeganNumber field.spells (sink.received old) (sink.received new) n) → ((field.holds n → ⊥) → new ≡ old) → LengthNotSent field n (sink.counts old) (sink.counts new) e → NoneFell (sink.counts old) (sink.counts new)
         → Breaks (counted_format field sum inside) v sink old new e
     field_breaks_count {v} {n} InvalidVectorLength laws announced is_sum began kept refused fell = named_breaks laws (inl (refl, λ held. refused (subst field.holds (sym is_sum) held))) (kept refused)
     field_breaks_count {v} {n} e laws announced is_sum began kept refused fell = counted_breaks_count (field_counts announced (began refused.0).spelled) (began refused.0).received refused.1 fell

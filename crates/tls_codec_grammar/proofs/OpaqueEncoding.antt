@@ -40,7 +40,7 @@ module _ {field : Field} (m : MeetsFieldLaws field) (c : List ℕ) (small : AreB
         field_sends m byte_contents_meet (bytes_length c) p fell sent (omega (arith, count))
 
     -- their length was sent, and then a prefix of them
-    pub bytes_broken : {old new : S} (mid : S) {width : ℕ} {e : Error} → SentNumber field.spells (sink.received old) (sink.received mid) (length c) width → NoneFell (sink.counts old) (sink.counts mid) → Received (sink.received mid) (sink.received new) c → WriteRefused e (sink.counts mid) (sink.counts new) → NoneFell (sink.counts mid) (sink.counts new)
+    pub bytes_broken : {old new : S} (mid : S) {width : ℕ} {e : Error} → SentNumber field.spells (sink.received old) (sink.received mid) (length c) width → NoneFell (sink.counts old) (sink.counts mid) → Received (sink.received mid) (sink.received new) c → WriteRefused (sink.counts mid) (sink.counts new) e → NoneFell (sink.counts mid) (sink.counts new)
         → Breaks (counted_bytes_format field) (number_trees c) sink old new e
     bytes_broken {old} {new} mid {width} {e} p fell received refused later =
         field_breaks_inside m byte_contents_meet (bytes_length c) p fell (breaks_whole (content_format (number_format 1)) _ c (bytes_shortest c small) sink mid new e received refused later)

@@ -17,7 +17,7 @@ pub sends_count : {S : Type 0} {f : Format} {v : Tree} {sink : Ghosts S} {old ne
 sends_count p e = record { form = p.form; shortest = p.shortest; held = p.held; count = e ∙ p.count; fell = p.fell }
 
 module _ (f : Format) (v : Tree) (form : List ℕ) (p : IsShortest f.spells form v) {S : Type 0} (sink : Ghosts S) (old new : S) where
-  pub breaks_whole : (e : Error) → Received (sink.received old) (sink.received new) form → WriteRefused e (sink.counts old) (sink.counts new) → NoneFell (sink.counts old) (sink.counts new) → Breaks f v sink old new e
+  pub breaks_whole : (e : Error) → Received (sink.received old) (sink.received new) form → WriteRefused (sink.counts old) (sink.counts new) e → NoneFell (sink.counts old) (sink.counts new) → Breaks f v sink old new e
   breaks_whole e received refused fell = record {
     sent = received.front;
     held = received.held;

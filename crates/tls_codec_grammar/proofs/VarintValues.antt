@@ -43,7 +43,7 @@ varint_shortest : (form : List ℕ) (n : ℕ) → Varint form n → IsShortest v
 varint_shortest form n p = alone_shortest varint_lawful form (Number n) p
 
 pub varint_writes : {S : Type 0} (sink : Ghosts S) (old new : S) (n : ℕ) (r : Result ℕ Error) → IfOk r (SentNumber Varint (sink.received old) (sink.received new) n) → BeganNumber Varint (sink.received old) (sink.received new) n
-    → IfErr r (λ e. WriteRefused e (sink.counts old) (sink.counts new)) → NoneFell (sink.counts old) (sink.counts new) → Writes varint_format (Number n) sink old new r
+    → IfErr r (WriteRefused (sink.counts old) (sink.counts new)) → NoneFell (sink.counts old) (sink.counts new) → Writes varint_format (Number n) sink old new r
 varint_writes sink old new n (Ok width) ok began err fell =
     let narrow = layout_narrow ok.form n ok.spelled.laid_out in
     record { form = ok.form; shortest = varint_shortest ok.form n ok.spelled; held = ok.held; count = omega (arith, ok.count, narrow); fell = fell }

@@ -30,7 +30,7 @@ pub record Breaks {S : Type 0} (f : Format) (v : Tree) (sink : Ghosts S) (old ne
   pub sent : List ℕ
   pub held : Appends (sink.received old) (sink.received new) sent
   pub beginning : (form : List ℕ) → IsShortest f.spells form v → IsBeginning sent form
-  pub cause : WriteRefused e (sink.counts old) (sink.counts new) ⊎ f.refuses v e
+  pub cause : WriteRefused (sink.counts old) (sink.counts new) e ⊎ f.refuses v e
   pub fell : NoneFell (sink.counts old) (sink.counts new)
 
 -- an encoder that is given a sink

@@ -72,9 +72,9 @@ bounded_field least most field = record {
 -- ---- to a sink
 
 -- why a number is not sent: the field doesn't hold it; or it does, and the sink failed or had no memory
-abbrev pub LengthNotSent : Field → Error → ℕ → Counts → Counts → Type 0
-LengthNotSent field InvalidVectorLength n old new = field.holds n → ⊥
-LengthNotSent field e n old new = field.holds n × WriteRefused e old new
+abbrev pub LengthNotSent : Field → ℕ → Counts → Counts → Error → Type 0
+LengthNotSent field n old new InvalidVectorLength = ¬ field.holds n
+LengthNotSent field n old new e = field.holds n × WriteRefused old new e
 
 -- ---- the content
 
@@ -97,10 +97,10 @@ pub record FilledGap (field : Field) (old new : List ℕ) (at gap width : ℕ) :
 
 -- why a gap before n bytes is not filled: the field doesn't hold the length, the vector would pass `isize::MAX` bytes after so many
 -- bytes, or there was no memory
-abbrev pub GapRefused : Field → Error → ℕ → ℕ → Type 0
-GapRefused field InvalidVectorLength at n = (field.holds n → ⊥) ⊎ (2 ^ 63 ≤ at + field.width n + n)
-GapRefused field OutOfMemory at n = ⊤
-GapRefused field _ at n = ⊥
+abbrev pub GapRefused : Field → (at n : ℕ) → Error → Type 0
+GapRefused field at n InvalidVectorLength = (¬ field.holds n) ⊎ (2 ^ 63 ≤ at + field.width n + n)
+GapRefused field at n OutOfMemory = ⊤
+GapRefused field at n _ = ⊥
 
 -- so many bytes come after the old ones
 pub record OpenedGap (old new : List ℕ) (width : ℕ) : Type 0 where

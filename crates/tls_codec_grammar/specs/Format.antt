@@ -105,8 +105,8 @@ counted_format field sum inside = record {
   spells = counted field.spells inside.spells;
   announced = counted_length field.width inside.announced;
   lean = false;
-  refuses = λ v e. ((e ≡ InvalidVectorLength) × (field.holds (sum v) → ⊥)) ⊎ inside.refuses v e;
-  out_of_bounds = λ v. field.holds (sum v) → ⊥;
+  refuses = λ v e. ((e ≡ InvalidVectorLength) × (¬ field.holds (sum v))) ⊎ inside.refuses v e;
+  out_of_bounds = λ v. ¬ field.holds (sum v);
 }
 
 -- elements after any length field

@@ -12,12 +12,12 @@ use Rattle.tls_codec_grammar.specs.Grammar.{bytes, text}
 use Rattle.tls_codec_grammar.specs.Decoding.{Begins, BeginsSome}
 
 -- why bytes are not read from a slice: no length begins it, or it is cut off
-abbrev pub OpaqueRefused : Field → Error → List ℕ → Type 0
-OpaqueRefused field e x = field.refuses x e ⊎ (field.cut_off e × IsCutOff field x)
+abbrev pub OpaqueRefused : Field → List ℕ → Error → Type 0
+OpaqueRefused field x e = field.refuses x e ⊎ (field.cut_off e × IsCutOff field x)
 
 -- why no copy of them is made: there was no memory for bytes that are all there, or they are not read
-abbrev pub OpaqueCopyRefused : Field → Error → List ℕ → Type 0
-OpaqueCopyRefused field e x = ((e ≡ OutOfMemory) × BeginsSome (counted_bytes_format field).spells x) ⊎ OpaqueRefused field e x
+abbrev pub OpaqueCopyRefused : Field → List ℕ → Error → Type 0
+OpaqueCopyRefused field x e = ((e ≡ OutOfMemory) × BeginsSome (counted_bytes_format field).spells x) ⊎ OpaqueRefused field x e
 
 -- why they are not read from a source: x was seen of it; it failed, there was no memory, x ends within a length or
 -- within what it declares, or the length is refused
@@ -36,9 +36,9 @@ pub record IsNoText (x : List ℕ) : Type 0 where
 
 -- why a text is not read from a slice: there was no memory for a text that is all there, its bytes are not read, or
 -- they are no text
-abbrev pub TextRefused : Error → List ℕ → Type 0
-TextRefused e x =
-    ((e ≡ OutOfMemory) × BeginsSome text x) ⊎ (OpaqueRefused variable_field e x ⊎ (Says (codes "invalid utf8") e × IsNoText x))
+abbrev pub TextRefused : List ℕ → Error → Type 0
+TextRefused x e =
+    ((e ≡ OutOfMemory) × BeginsSome text x) ⊎ (OpaqueRefused variable_field x e ⊎ (Says (codes "invalid utf8") e × IsNoText x))
 
 -- why a text is not read from a source, of which x was seen
 abbrev pub TextSourceRefused : List ℕ → Counts → Counts → Error → Type 0

@@ -45,7 +45,7 @@ pub trait LengthField {
     /// The bytes of a length: those of these eight from this place on. It is none if the field
     /// doesn't hold the length.
     fn form(length: usize) -> Option<([u8; 8], usize)>
-        ensures { MatchOption result (field.holds length → ⊥)
+        ensures { MatchOption result (¬ field.holds length)
             (λ form. (form.1 ≤ 8) × field.spells (drop form.1 form.0) length) };
 
     /// Reads a length. Only its bytes are taken.

@@ -87,7 +87,7 @@ pub fn to_vec<F: LengthField>(alloc: Global, content: &[u8]) -> Result<Vec<u8>, 
 pub fn split<F: LengthField>(whole: &[u8]) -> Result<(&[u8], &[u8]), Error>
     ensures splits { Splits (record (counted_bytes_format F.field) { lean = true })
         (λ found. number_trees found.now) whole.now result }
-    ensures named { IfErr result (λ e. OpaqueRefused F.field e whole.now) }
+    ensures named { IfErr result (OpaqueRefused F.field whole.now) }
 {
     let (length, rest) = F::split_length(whole)?;
     if rest.len() < length {
@@ -104,7 +104,7 @@ pub fn split<F: LengthField>(whole: &[u8]) -> Result<(&[u8], &[u8]), Error>
 pub fn split_copied<F: LengthField>(alloc: Global, whole: &[u8]) -> Result<(Vec<u8>, &[u8]), Error>
     ensures splits { Splits (counted_bytes_format F.field) (λ content. number_trees content.items)
         whole.now result }
-    ensures named { IfErr result (λ e. OpaqueCopyRefused F.field e whole.now) }
+    ensures named { IfErr result (OpaqueCopyRefused F.field whole.now) }
 {
     let (content, rest) = split::<F>(whole)?;
     let copy = copied(alloc, content)?;

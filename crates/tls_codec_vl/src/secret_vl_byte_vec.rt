@@ -177,7 +177,7 @@ impl Deserialize for SecretVLByteVec {
 }
 
 impl DeserializeBytes for SecretVLByteVec {
-    ghost names = { λ x e. OpaqueCopyRefused variable_field e x };
+    ghost names = { OpaqueCopyRefused variable_field };
 
     /// `InvalidVectorLength`: the length has more bytes than it needs, or more than 30 bits.
     /// `EndOfStream`: there is no whole length. `DecodingError("declared content is not there")`:

@@ -12,12 +12,12 @@ pub fault_later : (start before after : Counts) → NoneFell start before → Fa
 fault_later start before after fell (inl failed) = inl (omega (arith, fell.failures, failed))
 fault_later start before after fell (inr interrupted) = inr (omega (arith, fell.interruptions, interrupted))
 
-pub refused_later : (start before after : Counts) (e : Error) → NoneFell start before → WriteRefused e before after → WriteRefused e start after
+pub refused_later : (start before after : Counts) (e : Error) → NoneFell start before → WriteRefused before after e → WriteRefused start after e
 refused_later start before after (EncodingError text) fell p = (p.0, fault_later start before after fell p.1)
 refused_later start before after OutOfMemory fell p = rose_later start before after fell p
 refused_later start before after _ fell p = absurd p
 
 -- so is a cause, which is a refusal or one of these errors
-pub cause_later : {P Q : Type 0} (start before after : Counts) (e : Error) → NoneFell start before → (P → Q) → WriteRefused e before after ⊎ P → WriteRefused e start after ⊎ Q
+pub cause_later : {P Q : Type 0} (start before after : Counts) (e : Error) → NoneFell start before → (P → Q) → WriteRefused before after e ⊎ P → WriteRefused start after e ⊎ Q
 cause_later start before after e fell f (inl refused) = inl (refused_later start before after e fell refused)
 cause_later start before after e fell f (inr named) = inr (f named)

@@ -47,6 +47,6 @@ pub record BeganNumber (spells : List ℕ → ℕ → Type 0) (old new : Option 
   pub received : Received old new form
 
 -- why a number is not sent: it is not below the limit, the sink failed, or it had no memory
-abbrev pub NumberNotSent : ℕ → Error → ℕ → Counts → Counts → Type 0
-NumberNotSent limit InvalidVectorLength n old new = limit ≤ n
-NumberNotSent limit e n old new = WriteRefused e old new
+abbrev pub NumberNotSent : (limit n : ℕ) → Counts → Counts → Error → Type 0
+NumberNotSent limit n old new InvalidVectorLength = limit ≤ n
+NumberNotSent limit n old new e = WriteRefused old new e

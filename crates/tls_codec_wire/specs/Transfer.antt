@@ -46,7 +46,7 @@ BytesRefused n x old new OutOfMemory = ⊤
 BytesRefused n x old new _ = ⊥
 
 -- why a piece is not sent whole: the sink failed, or it had no memory
-abbrev pub WriteRefused : Error → Counts → Counts → Type 0
-WriteRefused (EncodingError text) old new = (text.now ≡ codes "write failed") × FaultIsCounted old new
-WriteRefused OutOfMemory old new = RoseBy 1 old.shortages new.shortages
-WriteRefused _ old new = ⊥
+abbrev pub WriteRefused : Counts → Counts → Error → Type 0
+WriteRefused old new (EncodingError text) = (text.now ≡ codes "write failed") × FaultIsCounted old new
+WriteRefused old new OutOfMemory = RoseBy 1 old.shortages new.shortages
+WriteRefused old new _ = ⊥

@@ -55,7 +55,7 @@ pub record InsertedLength (old new : List ℕ) (at width : ℕ) : Type 0 where
 
 -- why a length is not put before n bytes of a vector of so many: none holds it, the vector would pass `isize::MAX`
 -- bytes, or there was no memory
-abbrev pub InsertRefused : Error → ℕ → ℕ → Type 0
-InsertRefused InvalidVectorLength n whole = (2 ^ 30 ≤ n) ⊎ (2 ^ 63 ≤ whole + width_below (2 ^ 30) n)
-InsertRefused OutOfMemory n whole = ⊤
-InsertRefused _ n whole = ⊥
+abbrev pub InsertRefused : (n whole : ℕ) → Error → Type 0
+InsertRefused n whole InvalidVectorLength = (2 ^ 30 ≤ n) ⊎ (2 ^ 63 ≤ whole + width_below (2 ^ 30) n)
+InsertRefused n whole OutOfMemory = ⊤
+InsertRefused n whole _ = ⊥

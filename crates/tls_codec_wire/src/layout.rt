@@ -180,7 +180,7 @@ pub(crate) fn write_below<W: Sink, const LIMIT: u64>(
         → BeganNumber (SpelledBelow LIMIT) (W.received sink.old) (W.received sink.new) number }
     ensures counts { NoneFell (W.counts sink.old) (W.counts sink.new) }
     ensures refused { IfErr result
-        (λ e. NumberNotSent LIMIT e number (W.counts sink.old) (W.counts sink.new)) }
+        (NumberNotSent LIMIT number (W.counts sink.old) (W.counts sink.new)) }
     ensures calm { IfOk result (λ _. OnlyInterrupted (W.counts sink.old) (W.counts sink.new)) }
     ensures too_great { LIMIT ≤ number
         → (result ≡ Err InvalidVectorLength) × (sink.new ≡ sink.old) }

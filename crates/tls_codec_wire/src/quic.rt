@@ -63,7 +63,7 @@ pub fn write_varint<W: Sink>(sink: &mut W, n: TlsVarInt) -> Result<usize, Error>
     ensures beginning { BeganNumber Varint (W.received sink.old) (W.received sink.new)
         (number_of n) }
     ensures counts { NoneFell (W.counts sink.old) (W.counts sink.new) }
-    ensures refused { IfErr result (λ e. WriteRefused e (W.counts sink.old) (W.counts sink.new)) }
+    ensures refused { IfErr result (WriteRefused (W.counts sink.old) (W.counts sink.new)) }
     ensures calm { IfOk result (λ _. OnlyInterrupted (W.counts sink.old) (W.counts sink.new)) }
 {
     let width = write_below::<W, LIMIT>(sink, n.value())?;

@@ -120,7 +120,7 @@ pub fn write_all<W: Sink>(sink: &mut W, bytes: &[u8]) -> Result<(), Error>
     ensures whole { OnOk result (Appends (W.received sink.old) (W.received sink.new) bytes.now) }
     ensures beginning { Received (W.received sink.old) (W.received sink.new) bytes.now }
     ensures counts { NoneFell (W.counts sink.old) (W.counts sink.new) }
-    ensures refused { IfErr result (λ e. WriteRefused e (W.counts sink.old) (W.counts sink.new)) }
+    ensures refused { IfErr result (WriteRefused (W.counts sink.old) (W.counts sink.new)) }
     ensures calm { OnOk result (OnlyInterrupted (W.counts sink.old) (W.counts sink.new)) }
     ensures nothing_sent { length bytes.now ≡ 0 → (result ≡ Ok tt) × (sink.new ≡ sink.old) }
 {

@@ -73,7 +73,7 @@ pub fn write_length<W: Sink>(sink: &mut W, content_length: usize) -> Result<usiz
         → BeganNumber VectorLength (W.received sink.old) (W.received sink.new) content_length }
     ensures counts { NoneFell (W.counts sink.old) (W.counts sink.new) }
     ensures refused { IfErr result
-        (λ e. NumberNotSent (2 ^ 30) e content_length (W.counts sink.old) (W.counts sink.new)) }
+        (NumberNotSent (2 ^ 30) content_length (W.counts sink.old) (W.counts sink.new)) }
     ensures calm { IfOk result (λ _. OnlyInterrupted (W.counts sink.old) (W.counts sink.new)) }
     ensures too_long { 2 ^ 30 ≤ content_length
         → (result ≡ Err InvalidVectorLength) × (sink.new ≡ sink.old) }
@@ -114,7 +114,7 @@ pub fn insert_length(out: &mut Vec<u8>, at: usize) -> Result<usize, Error>
     ensures ok { IfOk result (InsertedLength out.old.items out.new.items at) }
     ensures kept { OnErr result (out.new.items ≡ out.old.items) }
     ensures refused { IfErr result
-        (λ e. InsertRefused e (length out.old.items - at) (length out.old.items)) }
+        (InsertRefused (length out.old.items - at) (length out.old.items)) }
     ensures too_long { 2 ^ 30 ≤ length out.old.items - at → result ≡ Err InvalidVectorLength }
     ensures passed { 2 ^ 63
         ≤ length out.old.items + width_below (2 ^ 30) (length out.old.items - at)

@@ -16,7 +16,7 @@ use tls_codec_wire::Sink;
 pub fn encoders_refuse_only_what_has_no_form<T: Size, W: Sink>()
     ensures sent { (form : List ℕ) (v : Tree) (old new : W) (e : Error)
         → IsShortest T.format.spells form v → Writes T.format v W.Sink old new (Err e)
-        → WriteRefused e (W.counts old) (W.counts new) }
+        → WriteRefused (W.counts old) (W.counts new) e }
     ensures begun { (form : List ℕ) (v : Tree) (old new : W) (e : Error)
         → IsShortest T.format.spells form v → Writes T.format v W.Sink old new (Err e)
         → Received (W.received old) (W.received new) form }

@@ -24,10 +24,9 @@ pub fn write_length<F: LengthField, W: Sink>(
         → BeganNumber F.field.spells (W.received sink.old) (W.received sink.new) content_length }
     ensures counts { NoneFell (W.counts sink.old) (W.counts sink.new) }
     ensures refused { IfErr result
-        (λ e. LengthNotSent F.field e content_length (W.counts sink.old)
-        (W.counts sink.new)) }
+        (LengthNotSent F.field content_length (W.counts sink.old) (W.counts sink.new)) }
     ensures calm { IfOk result (λ _. OnlyInterrupted (W.counts sink.old) (W.counts sink.new)) }
-    ensures out_of_bounds { (F.field.holds content_length → ⊥)
+    ensures out_of_bounds { (¬ F.field.holds content_length)
         → (result ≡ Err InvalidVectorLength) × (sink.new ≡ sink.old) }
 {
     let Some(found) = F::form(content_length) else {
@@ -137,7 +136,7 @@ pub fn fill_gap<F: LengthField>(out: &mut Vec<u8>, at: usize, gap: usize) -> Res
     ensures ok { IfOk result (λ width. FilledGap F.field out.old.items out.new.items at gap width) }
     ensures kept { OnErr result (take at out.new.items ≡ take at out.old.items) }
     ensures refused { IfErr result
-        (λ e. GapRefused F.field e at (length out.old.items - (at + gap))) }
+        (GapRefused F.field at (length out.old.items - (at + gap))) }
 {
     let content_length = out.len() - at - gap;
     let Some(found) = F::form(content_length) else {
