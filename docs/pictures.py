@@ -154,41 +154,68 @@ def limits(dark):
     return p
 
 
+def sections():
+    """The sections of crates.txt: each heading with its crates, in their order."""
+    found = []
+    for line in (HERE.parent / "crates.txt").read_text().splitlines():
+        if line.startswith("# "):
+            found.append((line[2:], []))
+        elif ":" in line:
+            found[-1][1].append(line.split(":")[0].split()[0])
+    return found
+
+
 def crates(dark):
-    """The layers of crates."""
-    p = Picture(440, "The layers of crates", dark)
-    left, right, high, gap = 110, 700, 42, 10
+    """All crates, in the sections of crates.txt: an arrow leads to what a section stands on."""
+    library, messages, generator, programs, tests, benchmark = sections()
+    p = Picture(500, "All crates, in six groups, with what each group stands on", dark)
 
-    def box(x1, x2, row, name, words, role):
-        y = 16 + row * (high + gap)
-        p.box(x1, y, x2 - x1, high, role, 5)
-        p.text((x1 + x2) / 2, y + (18 if words else 26), name, 12, font=MONO, bold=True)
-        if words:
-            p.text((x1 + x2) / 2, y + 34, words, 11, "soft")
+    def group(x, y, width, section, columns, role="plain"):
+        """A box with the names of a section's crates, in this many columns; returns its height."""
+        heading, names = section
+        rows = -(-len(names) // columns)
+        height = 34 + 17 * rows
+        p.box(x, y, width, height, role, 5)
+        p.text(x + 10, y + 18, heading.split(",")[0], 12, anchor="start", bold=True)
+        for at, name in enumerate(names):
+            column, row = divmod(at, rows)
+            p.text(x + 10 + column * (width - 10) / columns, y + 36 + 17 * row, name, 11, anchor="start", font=MONO)
+        return height
 
-    box(left, 204, 0, "tlsview, ..", "programs", "plain")
-    box(214, 338, 0, "tls_codec_memory", "tests", "plain")
-    box(left, 338, 1, "tlsview_run", "all of the program", "plain")
-    box(348, 466, 1, "tls_codec_tests", "tests", "plain")
-    box(left, 466, 2, "tls_codec_vectors", "messages; devices for tests", "plain")
-    box(476, 560, 2, "guide", "a program", "plain")
-    box(570, right, 2, "tls_codec_bench", "a program", "plain")
-    box(left, 560, 3, "tls_codec", "every public name; the words for messages of your own", "lib")
-    box(570, right, 3, "tls_codec_timing", "what it times", "plain")
-    wide = (right - left - 4 * gap) / 5
-    for at, (name, words) in enumerate(
-        (("_vl", "variable length"), ("_vec", "lists"), ("_bytes", "bytes"), ("_slice", "borrowed"), ("_secret", "cleared"))
-    ):
-        x1 = left + at * (wide + gap)
-        box(x1, x1 + wide, 4, name, words, "lib")
-    box(left, right, 5, "tls_codec_base", "five traits with their laws; types of std; engines of lists", "lib")
-    box(left, right, 6, "tls_codec_grammar", "formats and laws; digits, lengths, bytes after a length", "lib")
-    box(left, right, 7, "tls_codec_wire", "errors, devices, pieces moved whole", "lib")
-    p.line(left - 12, 172, left - 12, 422)
-    p.line(left - 12, 172, left - 6, 172)
-    p.line(left - 12, 422, left - 6, 422)
-    p.text(left - 20, 292, "the nine", 12, "soft", "end")
-    p.text(left - 20, 308, "that you copy", 12, "soft", "end")
+    def arrow(x1, y1, x2, y2):
+        p.line(x1, y1, x2, y2, "ink")
+        across = 1 if x2 > x1 else -1
+        if y1 == y2:
+            p.line(x2, y2, x2 - 6 * across, y2 - 4, "ink")
+            p.line(x2, y2, x2 - 6 * across, y2 + 4, "ink")
+        else:
+            p.line(x2, y2, x2 - 4, y2 - 6, "ink")
+            p.line(x2, y2, x2 + 4, y2 - 6, "ink")
+
+    top = group(20, 16, 430, tests, 2)
+    group(470, 16, 230, benchmark, 1)
+    middle = 16 + top + 28
+    shown = group(20, middle, 200, programs, 1)
+    written = group(240, middle, 210, messages, 1)
+    group(470, middle, 230, generator, 1)
+    low = middle + max(shown, written) + 28
+    group(20, low, 680, library, 3, "lib")
+    p.height = low + 34 + 17 * 3 + 40
+    for x in (60, 300):
+        arrow(x, 16 + top, x, middle - 1)
+    arrow(220, middle + 40, 239, middle + 40)
+    arrow(120, middle + shown, 120, low - 1)
+    arrow(345, middle + written, 345, low - 1)
+    # tests on the generator
+    p.line(430, 16 + top, 430, middle - 14, "ink")
+    p.line(430, middle - 14, 580, middle - 14, "ink")
+    arrow(580, middle - 14, 580, middle - 1)
+    # tests and the benchmark on messages and the library
+    arrow(460, 40, 460, low - 1)
+    p.line(450, 40, 470, 40, "ink")
+    arrow(460, middle + 40, 451, middle + 40)
+    p.line(470, middle + 80, 450, middle + 80, "ink", dashed=True)
+    p.text(WIDTH / 2, p.height - 14, "an arrow leads to what a group stands on; the dashed line: the generator writes these crates", 12, "soft")
     return p
 
 
