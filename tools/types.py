@@ -1,0 +1,74 @@
+#!/usr/bin/env python3
+"""Compares the public types of tls_codec with its table of types.
+
+Each struct that `crates/tls_codec/src/lib.rt` exports, and that has an `impl Size`, has a line of `Means` in `types.rt`. Each
+that has a decoder has a line of names for it, and each that has `PartialEq` a line in `equality.rt`. A family such as `TlsVecU8`
+stands under the generic type that it names. Prints what is missing; the status is 1 then.
+"""
+import pathlib
+import re
+import sys
+
+CRATES = pathlib.Path(__file__).resolve().parent.parent / "crates"
+TABLE = CRATES / "tls_codec/src"
+EXPORT = re.compile(r"pub use (\w+)::\{([^}]*)\};", re.S)
+NAME = re.compile(r"[A-Z]\w*")
+# an impl of a trait for a type, with or without parameters
+IMPL = re.compile(r"^impl(?:<[^{]*?>)? (\w+) for &?(?:'a )?(\w+)", re.M)
+DERIVE = re.compile(r"#\[derive\(([^)]*)\)\]\n(?:#\[[^\n]*\]\n)*pub struct (\w+)")
+STRUCT = re.compile(r"^pub struct (\w+)", re.M)
+
+
+def exported():
+    """The names that tls_codec exports, by the crate that each is from."""
+    for crate, names in EXPORT.findall((TABLE / "lib.rt").read_text()):
+        for name in NAME.findall(names):
+            yield crate, name
+
+
+def traits_of(crate):
+    """The structs of a crate, with the traits that each has."""
+    found = {}
+    for path in sorted((CRATES / crate / "src").rglob("*.rt")):
+        text = path.read_text()
+        for name in STRUCT.findall(text):
+            found.setdefault(name, set())
+        for trait, name in IMPL.findall(text):
+            found.setdefault(name, set()).add(trait)
+        for traits, name in DERIVE.findall(text):
+            found.setdefault(name, set()).update(NAME.findall(traits))
+    return found
+
+
+def missing(name, traits, types, equality):
+    """What the tables lack of a type with these traits."""
+    at = r"⟦<" + name + r"\b[^⟦]*? as {}>⟧"
+    for trait, page, where in (
+        ("Size", types, "types.rt"),
+        ("Deserialize", types, "types.rt"),
+        ("DeserializeBytes", types, "types.rt"),
+        ("PartialEq", equality, "equality.rt"),
+    ):
+        reads = trait != "PartialEq" or "Deserialize" in traits
+        if trait in traits and reads and not re.search(at.format(trait), page):
+            yield f"{where}: no line for {name} as {trait}"
+
+
+def main():
+    types, equality = ((TABLE / page).read_text() for page in ("types.rt", "equality.rt"))
+    names = list(exported())
+    by_crate = {crate: traits_of(crate) for crate in {crate for crate, _ in names}}
+    lacks, compared = [], 0
+    for crate, name in names:
+        traits = by_crate[crate].get(name, set())
+        if "Size" in traits or crate == "tls_codec_wire" and name in ("TlsVarInt", "U24"):
+            base = by_crate["tls_codec_base"].get(name, set())
+            lacks += missing(name, traits | base, types, equality)
+            compared += 1
+    print(*lacks, sep="\n", end="\n" if lacks else "")
+    print(f"{compared} public types compared with their table, {len(lacks)} lines missing")
+    return 1 if lacks or not compared else 0
+
+
+if __name__ == "__main__":
+    sys.exit(main())
