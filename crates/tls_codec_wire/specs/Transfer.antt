@@ -18,7 +18,7 @@ ErrorOfFault Interrupted row failed e = (16 ≤ row) × (e ≡ failed)
 ErrorOfFault NoMemory row failed e = e ≡ OutOfMemory
 ErrorOfFault Failed row failed e = e ≡ failed
 
--- n bytes were to be moved: each after 16 interruptions at most, and a refusal after one more
+-- n bytes were to be moved: for each 16 interruptions at most were counted, and one more on a refusal
 abbrev pub TriedWithin : {A : Type 0} → ℕ → Counts → Counts → Result A Error → Type 0
 TriedWithin n old new (Ok a) = new.interruptions ≤ old.interruptions + 16 * n
 TriedWithin n old new (Err e) = new.interruptions ≤ old.interruptions + (16 * n + 1)
