@@ -11,8 +11,9 @@ abbrev pub told_or : Option (List ℕ) → List ℕ → List ℕ
 told_or None gave = gave
 told_or (Some told) gave = told
 
--- x is what a call has seen: the bytes that the source gave up to some point; and after them those that were to come
--- there, if it told them, else those that it gave from there on
+-- x is what a call could see. Of a slice these are all bytes to come, and of a file those that it gave. A later step
+-- sees more: first what was given before it (`front`, up to the state `at`), and then what the source tells at `at`,
+-- or gave from there on (`rest`). The law is `what_was_seen_was_told_or_given`.
 pub record Seen {S : Type 0} (source : Ghosts S) (old new : S) (x : List ℕ) : Type 0 where
   pub front : List ℕ
   pub at : S

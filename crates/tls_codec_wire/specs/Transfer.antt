@@ -1,5 +1,5 @@
 -- Why a piece is not moved whole.
-use Rattle.std.specs.Prelude.{◌≡◌, ◌<◌, ◌≤◌, ◌^◌, ℕ, List, length, codes, Option, None, Some, ⊤}
+use Rattle.std.specs.Prelude.{◌≡◌, ◌+◌, ◌*◌, ◌<◌, ◌≤◌, ◌^◌, ℕ, List, length, codes, Option, None, Some, Result, Ok, Err, ⊤}
 use Rattle.std.proofs.Common.{Bor}
 use Rattle.tls_codec_wire.specs.declared.error.Error.{Error}
 use Rattle.tls_codec_wire.specs.declared.error.Error.TheVariants.{EncodingError, InvalidVectorLength, DecodingError, EndOfStream, OutOfMemory, TrailingData}
@@ -18,6 +18,11 @@ ErrorOfFault Interrupted row failed e = (16 ≤ row) × (e ≡ failed)
 ErrorOfFault NoMemory row failed e = e ≡ OutOfMemory
 ErrorOfFault Failed row failed e = e ≡ failed
 
+-- n bytes were to be moved: for each 16 interruptions at most were counted, and one more on a refusal
+abbrev pub TriedWithin : {A : Type 0} → ℕ → Counts → Counts → Result A Error → Type 0
+TriedWithin n old new (Ok a) = new.interruptions ≤ old.interruptions + 16 * n
+TriedWithin n old new (Err e) = new.interruptions ≤ old.interruptions + (16 * n + 1)
+
 -- a read failed, and a fault is counted
 abbrev pub IsReadFailure : Bor (List ℕ) → Counts → Counts → Type 0
 IsReadFailure text old new = (text.now ≡ codes "read failed") × FaultIsCounted old new
@@ -29,7 +34,7 @@ ReadRefused n x old new EndOfStream = length x < n
 ReadRefused n x old new OutOfMemory = RoseBy 1 old.shortages new.shortages
 ReadRefused n x old new _ = ⊥
 
--- why a source isn't at its end: others were seen, it failed, or it had no memory
+-- why a source isn't at its end: a byte was seen, it failed, or it had no memory
 abbrev pub EndRefused : List ℕ → Counts → Counts → Error → Type 0
 EndRefused x old new TrailingData = 0 < length x
 EndRefused x old new (DecodingError text) = IsReadFailure text old new

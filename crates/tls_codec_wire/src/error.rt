@@ -18,7 +18,9 @@ use std::{fmt, io};
 pub enum Error {
     /// A value could not be written, also if the sink failed.
     EncodingError(&'static str),
-    /// A list's content passes its length field, or a vector would pass `isize::MAX` bytes.
+    /// A length or a variable-length integer has more bytes than it needs, or is above the greatest of
+    /// its field. Or a list's content passes its length field, or a vector would pass `isize::MAX`
+    /// bytes.
     InvalidVectorLength,
     /// Never returned; kept for users of the Rust crate.
     InvalidWriteLength(&'static str),

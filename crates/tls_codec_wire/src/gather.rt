@@ -4,7 +4,7 @@ ghost use Rattle.std.specs.Io.KnownBytes.{IsAtEnd};
 ghost use Rattle.tls_codec_wire.specs.Counts.{OnlyInterrupted};
 ghost use Rattle.tls_codec_wire.specs.Device.{Came, Gave};
 ghost use Rattle.tls_codec_wire.specs.Refused.{RefusedFor};
-ghost use Rattle.tls_codec_wire.specs.Transfer.{BytesRefused};
+ghost use Rattle.tls_codec_wire.specs.Transfer.{BytesRefused, TriedWithin};
 ghost use Rattle.tls_codec_wire.specs.declared.error.Error.TheVariants.{EndOfStream, InvalidVectorLength, OutOfMemory};
 
 use crate::device::Source;
@@ -40,6 +40,9 @@ pub fn read_bytes_bounded<R: Source>(
     ensures refused { IfErr result (RefusedFor R.Source (BytesRefused len) src.old src.new) }
     ensures too_long { 2 ^ 63 ≤ len → (result ≡ Err InvalidVectorLength) × (src.new ≡ src.old) }
     ensures calm { IfOk result (λ _. OnlyInterrupted (R.counts src.old) (R.counts src.new)) }
+    ensures ended { result ≡ Err EndOfStream
+        → OnlyInterrupted (R.counts src.old) (R.counts src.new) }
+    ensures tried { TriedWithin len (R.counts src.old) (R.counts src.new) result }
     ensures nothing_asked { len ≡ 0 → IfErr result (λ e. ⊥) × (src.new ≡ src.old) }
 {
     if len > isize::MAX as usize {
@@ -101,6 +104,9 @@ pub fn gather<R: Source>(src: &mut R, bytes: &mut Vec<u8>, len: usize) -> Result
     ensures refused { IfErr result (RefusedFor R.Source (BytesRefused len) src.old src.new) }
     ensures ended { result ≡ Err EndOfStream → IsAtEnd (R.coming src.new) }
     ensures calm { IfOk result (λ _. OnlyInterrupted (R.counts src.old) (R.counts src.new)) }
+    ensures ended_calmly { result ≡ Err EndOfStream
+        → OnlyInterrupted (R.counts src.old) (R.counts src.new) }
+    ensures tried { TriedWithin len (R.counts src.old) (R.counts src.new) result }
 {
     let mut came = 0;
     let mut row = 0;

@@ -1,7 +1,8 @@
 //! What devices, errors and numbers stand for: what they tell, become and are made of, and how they
 //! are compared, ordered, hashed and copied.
 //!
-//! The functions do nothing. Their contracts state this, and so are proved.
+//! The functions do nothing, except that one returns two constants. Their contracts state this, and so
+//! are proved.
 ghost use Rattle.std.specs.Prelude.{◌≡◌, ◌≢◌, ◌↔◌, ◌-◌, ◌^◌, ◌<◌, ◌≤◌, ◌++◌, ℕ, IsTrue, List, Some, Vec, length, None};
 ghost use Rattle.std.specs.Borrow.{Bor};
 ghost use Rattle.std.specs.Global.{Global};
@@ -34,6 +35,7 @@ use crate::bounded::Bounded;
 use crate::device::{Fault, Fill, Sink, Source};
 use crate::error::Error;
 use crate::outside::Outside;
+use crate::transfer::MOST_INTERRUPTIONS;
 use crate::uint24::U24;
 use crate::varint::TlsVarInt;
 use std::alloc::AllocError;
@@ -72,6 +74,11 @@ pub fn writers_outside_tell_what_was_received<W: Write>()
     ensures received { (s : Outside W) → ⟦<Outside<W> as Sink>⟧.received s
         ≡ W.contents (wrapped s) }
     ensures counts { (s : Outside W) → ⟦<Outside<W> as Sink>⟧.counts s ≡ counts_of s }
+{}
+
+/// 16 interruptions in a row are tried again.
+pub fn interruptions_are_tried_again()
+    ensures { MOST_INTERRUPTIONS ≡ 16 }
 {}
 
 /// A slice tells its bytes, has given those that it lost, and never fails.
@@ -155,6 +162,14 @@ pub fn uint24s_are_made_of_their_numbers()
         → (n ≡ uint24.number_of x) × (n < 2 ^ 24) }
     ensures default { (x : U24) → ⟦<U24 as Default>⟧.is_default x → uint24.number_of x ≡ 0 }
 {}
+
+/// The least `U24` is 0, and the greatest 2^24 - 1. Both are returned, since no clause can name them.
+pub fn least_and_greatest_uint24() -> (U24, U24)
+    ensures least { uint24.number_of result.0 ≡ 0 }
+    ensures greatest { uint24.number_of result.1 ≡ 2 ^ 24 - 1 }
+{
+    (U24::MIN, U24::MAX)
+}
 
 /// Two `TlsVarInt` are equal if their numbers are. They are ordered as these, and hashed as the
 /// number is. A copy of one has its number.

@@ -12,7 +12,7 @@ ghost use Rattle.tls_codec_wire.specs.Transfer.{ReadRefused};
 ghost use Rattle.tls_codec_wire.specs.Numbers.{BeganNumber, BeginsNumber, GaveNumber, NumberNotRead, NumberNotSent, SentNumber};
 ghost use Rattle.tls_codec_wire.specs.Varint.{SpelledBelow, width_below};
 ghost use Rattle.tls_codec_wire.specs.VarintCalls.{IsLaidOut, RefusesBelow, SaysWidth};
-ghost use Rattle.tls_codec_wire.specs.declared.error.Error.TheVariants.{InvalidVectorLength};
+ghost use Rattle.tls_codec_wire.specs.declared.error.Error.TheVariants.{EndOfStream, InvalidVectorLength};
 
 use crate::device::{Sink, Source};
 use crate::error::Error;
@@ -30,6 +30,8 @@ pub(crate) fn read_below<R: Source, const LIMIT: u64>(src: &mut R) -> Result<u64
     ensures refused { IfErr result
         (RefusedFor R.Source (NumberNotRead (RefusesBelow LIMIT)) src.old src.new) }
     ensures calm { IfOk result (λ _. OnlyInterrupted (R.counts src.old) (R.counts src.new)) }
+    ensures ended { result ≡ Err EndOfStream
+        → OnlyInterrupted (R.counts src.old) (R.counts src.new) }
 {
     let mut first = [0u8; 1];
     read_exactly(src, &mut first)?;
@@ -53,6 +55,8 @@ fn read_few<R: Source>(src: &mut R, into: &mut [u8]) -> Result<(), Error>
     ensures refused { IfErr result
         (RefusedFor R.Source (ReadRefused (length into.old)) src.old src.new) }
     ensures calm { OnOk result (OnlyInterrupted (R.counts src.old) (R.counts src.new)) }
+    ensures ended { result ≡ Err EndOfStream
+        → OnlyInterrupted (R.counts src.old) (R.counts src.new) }
 {
     if into.len() == 1 {
         return read_exactly(src, &mut into[..1]);

@@ -11,6 +11,7 @@ ghost use Rattle.tls_codec_wire.specs.Transfer.{WriteRefused};
 ghost use Rattle.tls_codec_wire.specs.Varint.{Varint, width_below};
 ghost use Rattle.tls_codec_wire.specs.VarintCalls.{RefusesBelow};
 ghost use Rattle.tls_codec_wire.specs.VarintValue.{number_of};
+ghost use Rattle.tls_codec_wire.specs.declared.error.Error.TheVariants.{EndOfStream};
 
 use crate::device::{Sink, Source};
 use crate::error::Error;
@@ -36,6 +37,8 @@ pub fn read_varint<R: Source>(src: &mut R) -> Result<TlsVarInt, Error>
     ensures refused { IfErr result
         (RefusedFor R.Source (NumberNotRead (RefusesBelow (2 ^ 62))) src.old src.new) }
     ensures calm { IfOk result (λ _. OnlyInterrupted (R.counts src.old) (R.counts src.new)) }
+    ensures ended { result ≡ Err EndOfStream
+        → OnlyInterrupted (R.counts src.old) (R.counts src.new) }
 {
     let number = read_below::<R, LIMIT>(src)?;
     Ok(TlsVarInt::new(number))

@@ -5,7 +5,7 @@ ghost use Rattle.tls_codec_wire.specs.Counts.{NoneFell, OnlyInterrupted};
 ghost use Rattle.tls_codec_wire.specs.Device.{Gave, Received};
 ghost use Rattle.tls_codec_wire.specs.Digits.{AreBytes};
 ghost use Rattle.tls_codec_wire.specs.Refused.{RefusedFor, Seen};
-ghost use Rattle.tls_codec_wire.specs.Transfer.{EndRefused, ErrorOfFault, ReadRefused, WriteRefused};
+ghost use Rattle.tls_codec_wire.specs.Transfer.{EndRefused, ErrorOfFault, ReadRefused, TriedWithin, WriteRefused};
 ghost use Rattle.tls_codec_wire.specs.declared.error.Error.TheVariants.{EndOfStream};
 ghost use Rattle.tls_codec_wire.specs.declared.device.Fault.TheVariants.{Interrupted};
 
@@ -41,6 +41,7 @@ pub fn read_exactly<R: Source>(src: &mut R, into: &mut [u8]) -> Result<(), Error
     ensures calm { OnOk result (OnlyInterrupted (R.counts src.old) (R.counts src.new)) }
     ensures ended { result ≡ Err EndOfStream
         → OnlyInterrupted (R.counts src.old) (R.counts src.new) }
+    ensures tried { TriedWithin (length into.old) (R.counts src.old) (R.counts src.new) result }
     ensures nothing_asked { length into.old ≡ 0 → (result ≡ Ok tt) × (src.new ≡ src.old) }
 {
     if into.is_empty() {
@@ -63,6 +64,7 @@ fn read_as_it_comes<R: Source>(src: &mut R, into: &mut [u8]) -> Result<(), Error
     ensures calm { OnOk result (OnlyInterrupted (R.counts src.old) (R.counts src.new)) }
     ensures ended { result ≡ Err EndOfStream
         → OnlyInterrupted (R.counts src.old) (R.counts src.new) }
+    ensures tried { TriedWithin (length into.old) (R.counts src.old) (R.counts src.new) result }
     ensures nothing_asked { length into.old ≡ 0 → (result ≡ Ok tt) × (src.new ≡ src.old) }
 {
     let mut at = 0;
@@ -122,6 +124,7 @@ pub fn write_all<W: Sink>(sink: &mut W, bytes: &[u8]) -> Result<(), Error>
     ensures counts { NoneFell (W.counts sink.old) (W.counts sink.new) }
     ensures refused { IfErr result (WriteRefused (W.counts sink.old) (W.counts sink.new)) }
     ensures calm { OnOk result (OnlyInterrupted (W.counts sink.old) (W.counts sink.new)) }
+    ensures tried { TriedWithin (length bytes.now) (W.counts sink.old) (W.counts sink.new) result }
     ensures nothing_sent { length bytes.now ≡ 0 → (result ≡ Ok tt) × (sink.new ≡ sink.old) }
 {
     let mut at = 0;

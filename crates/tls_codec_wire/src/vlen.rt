@@ -9,7 +9,7 @@ ghost use Rattle.tls_codec_wire.specs.Refused.{RefusedFor};
 ghost use Rattle.tls_codec_wire.specs.Numbers.{BeganNumber, BeginsNumber, GaveNumber, NumberNotRead, NumberNotSent, SentNumber};
 ghost use Rattle.tls_codec_wire.specs.Varint.{VectorLength, width_below};
 ghost use Rattle.tls_codec_wire.specs.VarintCalls.{InsertedLength, InsertRefused, RefusesBelow};
-ghost use Rattle.tls_codec_wire.specs.declared.error.Error.TheVariants.{InvalidVectorLength, OutOfMemory};
+ghost use Rattle.tls_codec_wire.specs.declared.error.Error.TheVariants.{EndOfStream, InvalidVectorLength, OutOfMemory};
 
 use crate::device::{Sink, Source};
 use crate::error::Error;
@@ -38,6 +38,8 @@ pub fn read_length<R: Source>(src: &mut R) -> Result<(usize, usize), Error>
     ensures refused { IfErr result
         (RefusedFor R.Source (NumberNotRead (RefusesBelow (2 ^ 30))) src.old src.new) }
     ensures calm { IfOk result (λ _. OnlyInterrupted (R.counts src.old) (R.counts src.new)) }
+    ensures ended { result ≡ Err EndOfStream
+        → OnlyInterrupted (R.counts src.old) (R.counts src.new) }
 {
     let length = read_below::<R, LIMIT>(src)?;
     Ok((length as usize, width_below::<LIMIT>(length)))

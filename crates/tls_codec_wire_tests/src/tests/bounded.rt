@@ -205,6 +205,17 @@ fn a_length_without_its_bytes_asks_for_little_room(rt: HostRuntime) {
     }
 }
 
+// However many are at hand, there is room for what is read alone.
+#[test]
+fn bytes_at_hand_get_no_more_room(rt: HostRuntime) -> Result<(), Fail> {
+    for len in [1, 300, 5_000] {
+        let mut src = [7; 10_000].as_slice();
+        let bytes = read_bytes_bounded(rt.alloc(), &mut src, len)?;
+        same_at(&rt, len, bytes.capacity(), len);
+    }
+    Ok(())
+}
+
 #[test]
 fn a_length_without_its_bytes_has_a_small_buffer(rt: HostRuntime) -> Result<(), Fail> {
     let mut src = BufferWatcher { first: None };

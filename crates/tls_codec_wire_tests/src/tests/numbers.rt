@@ -135,6 +135,19 @@ fn bytes_are_put_into_a_vector(rt: HostRuntime) -> Result<(), Fail> {
 }
 
 #[test]
+fn bytes_put_into_a_vector_get_little_room(rt: HostRuntime) -> Result<(), Fail> {
+    for len in [1, 64, 16_384] {
+        let mut out = Vec::from_slice(rt.alloc(), &[7; 16_384][..len])?;
+        insert_bytes(&mut out, 0, &[1, 2, 3, 4])?;
+        same_at(&rt, len, out.capacity() <= 2 * len + 64, true);
+        let mut out = Vec::from_slice(rt.alloc(), &[7; 16_384][..len])?;
+        insert_length(&mut out, 0)?;
+        same_at(&rt, len, out.capacity() <= 2 * len + 64, true);
+    }
+    Ok(())
+}
+
+#[test]
 fn a_copy_is_equal(rt: HostRuntime) -> Result<(), Fail> {
     let n = TlsVarInt::try_from(37)?;
     same(&rt, n.clone()?, n);

@@ -1,5 +1,5 @@
 -- What came is after what the vector had, and a row of interruptions was counted.
-use Rattle.std.proofs.Common.{Ok, ◌-◌, ◌+◌, ◌*◌, ◌≤◌}
+use Rattle.std.proofs.Common.{Ok, ◌-◌, ◌≡◌, ◌+◌, ◌*◌, ◌≤◌}
 use Rattle.tls_codec_wire.specs.Device.{PulledOnto}
 use Rattle.tls_codec_wire.specs.Counts.{OnlyInterrupted, RoseBy}
 use Rattle.tls_codec_wire.proofs.gather.gather.Given as goal
@@ -11,6 +11,8 @@ invariant-loop-came g l = record {
   came : PulledOnto g.R.Source.given l.fn.src l.src (Ok l.came) l.fn.bytes.items l.bytes.items;
   calm : OnlyInterrupted (g.R.Source.counts l.fn.src) (g.R.Source.counts l.src);
   counted : RoseBy l.row (g.R.Source.counts l.fn.src).interruptions (g.R.Source.counts l.src).interruptions;
+  tried : (g.R.Source.counts l.src).interruptions ≤ (g.R.Source.counts l.fn.src).interruptions + (16 * l.came + l.row);
+  gathered : l.len ≤ l.came → l.row ≡ 0;
 }
 
 -- a byte brings the end nearer, and an interruption the end of its row

@@ -19,6 +19,8 @@ loop-at-preserved-in-Ok g c = record {
       (g.met.R.Source.gives_in_order _ _ _ _ _ c.loop-at.invariant.gave c.in-Ok.ensures.gave);
   calm = search rules;
   counted = omega (arith, c.loop-at.invariant.counted, c.in-Ok.ensures.counted.1);
+  tried = omega (arith, c.loop-at.invariant.tried, c.loop-at.invariant.row, c.in-Ok.ensures.counted.1);
+  moved = λ all. refl;
   bytes = are_bytes _ (λ i. omega (arith, c.type_inv.into i));
   untouched = λ none. absurd (omega arith);
 }
@@ -36,6 +38,8 @@ loop-at-preserved g c =
           (g.met.R.Source.gives_in_order _ _ _ _ _ c.loop-at.invariant.gave c.in-Err.ensures.gave);
       calm = search rules;
       counted = search rules;
+      tried = search rules;
+      moved = λ all. absurd (omega arith);
       bytes = are_bytes _ (λ i. omega (arith, c.type_inv.into i));
       untouched = λ none. absurd (omega arith);
     }
@@ -47,6 +51,8 @@ loop-at-init g c = record {
   gave = g.met.R.Source.gives_nothing _;
   calm = calm_stays _;
   counted = omega arith;
+  tried = omega arith;
+  moved = λ all. refl;
   bytes = are_bytes _ (λ i. omega (arith, c.type_inv.into i));
   untouched = λ none. refl;
 }
@@ -65,3 +71,7 @@ returns-in_err-row-in-Err-clause-refused g c =
     let p = err_from_is_err_and c.from_residual.result c.from_residual.ensures.1 in
     rw (p.1, p.2) (refused_now _ source.gives_nothing (source.gives_in_order _ _ _ _ _ before.gave c.pull.ensures.gave)
     (λ rest. fault_refuses _ _ _ _ _ c.in-Err.fault _ _ _ refl before.counted before.calm c.in-Err.ensures.counted c.in_err-row-in-Err.ensures.err))
+
+pub returns-clause-tried : goal.returns-clause-tried
+returns-clause-tried g c =
+    omega (arith, c.loop-at.invariant.tried, c.loop-at.invariant.within, c.loop-at.invariant.moved (omega (arith, c.loop-at-test.false)))

@@ -12,6 +12,8 @@ invariant-loop-at g l = record {
   calm : OnlyInterrupted (g.R.Source.counts l.fn.src) (g.R.Source.counts l.src);
   counted : RoseBy l.row (g.R.Source.counts l.fn.src).interruptions (g.R.Source.counts l.src).interruptions;
   bytes : AreBytes l.into;
+  tried : (g.R.Source.counts l.src).interruptions ≤ (g.R.Source.counts l.fn.src).interruptions + (16 * l.at + l.row);
+  moved : length l.into ≤ l.at → l.row ≡ 0;
   untouched : length l.into ≡ 0 → l.src ≡ l.fn.src;
 }
 
