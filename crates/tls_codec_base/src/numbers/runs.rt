@@ -131,7 +131,7 @@ fn numbers_of<T: HasDigits<K>, const K: usize>(
     Ok(numbers)
 }
 
-// The numbers that all of these bytes are the digits of; none if a byte is left over.
+// The numbers that all of these bytes are the digits of; none if there are no bytes, or one is left over.
 pub(crate) fn elements_of<T: HasDigits<K>, const K: usize>(
     alloc: Global,
     bytes: &[u8],
@@ -140,7 +140,7 @@ pub(crate) fn elements_of<T: HasDigits<K>, const K: usize>(
     requires width { K ≤ 8 }
     ensures { AllRead (number_format K) (λ x. Number (T.number x)) bytes.now result }
 {
-    if bytes.len() % K != 0 {
+    if bytes.is_empty() || bytes.len() % K != 0 {
         return Ok(None);
     }
     Ok(Some(numbers_of::<T, K>(alloc, bytes)?))
