@@ -78,6 +78,12 @@ LengthNotSent field n old new e = field.holds n × WriteRefused old new e
 
 -- ---- the content
 
+-- x begins with a length
+pub record BeginsLength (field : Field) (x : List ℕ) : Type 0 where
+  pub declared : ℕ
+  pub rest : List ℕ
+  pub begins : BeginsNumber field.spells x declared rest
+
 -- x begins with a length, and fewer bytes come after it
 pub record IsCutOff (field : Field) (x : List ℕ) : Type 0 where
   pub declared : ℕ
