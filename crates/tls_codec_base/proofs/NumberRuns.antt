@@ -1,7 +1,9 @@
 -- Numbers of one width in a row.
-use Rattle.std.proofs.Common.{◌≡◌, ℕ, zero, suc, ◌*◌, ◌%◌, ◌<◌, ◌≤◌, List, [], ◌∷◌, ◌++◌, length, take, drop, take-append-drop, length-take-le, map, refl, sym, ap, subst, arith, length-append, get_or, inl, inr}
+use Rattle.std.proofs.Common.{◌≡◌, ℕ, zero, suc, ◌*◌, ◌%◌, ◌<◌, ◌≤◌, List, [], ◌∷◌, ◌++◌, length, take, drop, take-append-drop, length-take-le, map, refl, sym, ap, subst, arith, length-append, append_assoc, add-one, ◌∙◌, ◌+◌, get_or, inl, inr}
 use Rattle.std.proofs.Math.Nat.{mod-eq_of_lt}
+use Rattle.std.proofs.Math.Seq.{drop-cons}
 use Rattle.std.proofs.lemmas.Bool.{cases_lt}
+use Rattle.std.proofs.lemmas.List.{map-append}
 use Rattle.std.specs.List.{flat_map}
 use Rattle.std.specs.Simd.{first_chunks}
 use Rattle.tls_codec_wire.specs.Digits.{AreBytes, Digits, value}
@@ -61,6 +63,12 @@ groups_content k (suc m) f (y ∷ ys) xs some small n same =
       first = (record { width = width; bytes = AreBytes-left (take k xs) (drop k xs) both; number = sym one }, omega (arith, width, some));
       second = groups_content k m f ys (drop k xs) some (AreBytes-right (take k xs) (drop k xs) both) rest others;
     }
+
+-- the numbers so far are those of the groups before the ones to come
+pub one_number_more : {T : Type 0} (f : T → ℕ) (groups : List (List ℕ)) (i : ℕ) (group : List ℕ) (xs : List T) (y : T) (ys : List T) {numbers : List ℕ} → i < length groups → group ≡ get_or groups i group → map f xs ++ map value (drop i groups) ≡ numbers → f y ≡ value group → ys ≡ xs ++ y ∷ [] → map f ys ++ map value (drop (i + 1) groups) ≡ numbers
+one_number_more f groups i group xs y ys lt is so_far same more =
+    let here : map value (drop i groups) ≡ value group ∷ map value (drop (i + 1) groups) = ap (map value) (drop-cons groups i group lt) ∙ ap (λ (g : List ℕ). value g ∷ map value (drop (suc i) groups)) (sym is) ∙ ap (λ (k : ℕ). value group ∷ map value (drop k groups)) (sym (add-one i)) in
+    ap (λ (zs : List _). map f zs ++ map value (drop (i + 1) groups)) more ∙ ap (λ (ns : List ℕ). ns ++ map value (drop (i + 1) groups)) (map-append f xs (y ∷ [])) ∙ append_assoc (map f xs) (f y ∷ []) (map value (drop (i + 1) groups)) ∙ ap (λ (n : ℕ). map f xs ++ n ∷ map value (drop (i + 1) groups)) same ∙ ap (λ (ns : List ℕ). map f xs ++ ns) (sym here) ∙ so_far
 
 -- ---- sent
 

@@ -1,5 +1,5 @@
 //! Elements that fill a declared number of bytes, from a slice and from a source.
-ghost use Rattle.std.specs.Prelude.{◌≡◌, [], ◌∷◌, ◌++◌, is_ok, if◌then◌else◌, IfErr, IfOk, IsOkAnd};
+ghost use Rattle.std.specs.Prelude.{◌≡◌, ◌<◌, [], ◌∷◌, ◌++◌, is_ok, if◌then◌else◌, vec_capacity, vec_len, IfErr, IfOk, IsOkAnd, OnOk};
 ghost use Rattle.tls_codec_wire.specs.Bounded.{BorrowAlike, inner_of, limit_of};
 ghost use Rattle.tls_codec_wire.specs.Refused.{RefusedFor};
 ghost use Rattle.tls_codec_grammar.specs.Tree.{trees};
@@ -175,22 +175,26 @@ fn each_within<T: Deserialize, R: Source>(
 // Appends an element. Room is looked at once, and the first is requested without a call.
 #[inline(always)]
 fn push_element<T: Drop>(elements: &mut Vec<T>, element: T) -> Result<(), AllocError>
-    ensures { elements.new.items
+    ensures pushed { elements.new.items
         ≡ (if is_ok result then elements.old.items ++ element ∷ [] else elements.old.items) }
+    ensures first_room { vec_capacity elements.old ≡ 0 → OnOk result (vec_capacity elements.new ≡ 4) }
+    ensures room { vec_len elements.old < vec_capacity elements.old
+        → vec_capacity elements.new ≡ vec_capacity elements.old }
 {
     if elements.len() == elements.capacity() {
         make_room(elements)?;
     }
-    match elements.push(element) {
-        Ok(()) => Ok(()),
-        Err(_) => Err(AllocError),
-    }
+    elements.push_reserved(element);
+    Ok(())
 }
 
 // Room for a further element: at first for as many as `push` requests if they are small.
 #[inline(always)]
 fn make_room<T: Drop>(elements: &mut Vec<T>) -> Result<(), AllocError>
-    ensures { elements.new.items ≡ elements.old.items }
+    ensures kept { elements.new.items ≡ elements.old.items }
+    ensures len { vec_len elements.new ≡ vec_len elements.old }
+    ensures room { OnOk result (vec_len elements.new < vec_capacity elements.new) }
+    ensures first_room { vec_capacity elements.old ≡ 0 → OnOk result (vec_capacity elements.new ≡ 4) }
 {
     if elements.capacity() == 0 {
         return elements.reserve_exact(FIRST_ROOM);

@@ -4,8 +4,8 @@ use Rattle.tls_codec_wire.proofs.Bytes.{are_bytes}
 use Rattle.tls_codec_base.proofs.NumberRuns.{digits_begin}
 use Rattle.tls_codec_base.proofs.numbers.runs.elements_of.Goals as goal
 
-pub returns-in_err-numbers_of : goal.returns-in_err-numbers_of
-returns-in_err-numbers_of g c =
+pub returns-in_err-numbers_of-clause-read : goal.returns-in_err-numbers_of-clause-read
+returns-in_err-numbers_of-clause-read g c =
     let p = err_from_is_err_and c.from_residual.result c.from_residual.ensures.1 in
     let bytes = are_bytes c.args.bytes.now (λ i. omega (arith, c.type_inv.bytes i)) in
     let some : 0 < length c.args.bytes.now = search rules in
