@@ -20,7 +20,7 @@ use Rattle.tls_codec_grammar.specs.Format.{Format}
 use Rattle.tls_codec_wire.proofs.Later.{fault_later}
 use Rattle.tls_codec_wire.proofs.Refused.{refused_later, refused_now, seen_now}
 use Rattle.tls_codec_base.specs.WholeElements.{NoElementBegins}
-use Rattle.tls_codec_base.specs.Turns.{MemoryOrFault, TurnedAll, TurnedAtMost, TurnedBy, TurnedEach, TurnedPast, TurnedRefusedAtOnce, TurnedWithin, TurnedWithinGiven, source_turns, turns_of}
+use Rattle.tls_codec_base.specs.Turns.{MemoryOrFault, TurnedAll, TurnedAtMost, TurnedBy, TurnedEach, TurnedPast, TurnedRefusedAtOnce, TurnedWithin, TurnedWithinGiven, SourceTurnedRefused, turns_of}
 use Rattle.tls_codec_base.specs.declared.lists.Turns.{Turns}
 use Rattle.tls_codec_base.proofs.ListReading.{ReadSoFar}
 use Rattle.tls_codec_base.proofs.ListSources.{GivenSoFar}
@@ -57,7 +57,7 @@ module _ (element : Grammar) (f : Tree → ℕ) (l : IsLawful element f) where
   pub refused_turned_given : {S : Type 0} {source : Ghosts S} {T : Type 0} (plain : T → Tree) {start mid end : S} {n left : ℕ} (xs : List T) {causes : Causes} {e : Error} {old new : Turns} → GivesInOrder source.given → NoCountFalls source.given source.counts
       → GivenSoFar source.given element start mid n left (trees plain xs) → TurnedBy (length xs + 1) old new
       → ((x : List ℕ) → causes x (source.counts mid) (source.counts end) e → MemoryOrFault (source.counts mid) (source.counts end) e ⊎ NoElementBegins element (take left x))
-      → RefusedFor source causes mid end e → RefusedFor source (source_turns element n old new) start end e
+      → RefusedFor source causes mid end e → RefusedFor source (SourceTurnedRefused element n old new) start end e
   refused_turned_given {S} {source} plain {start} {mid} {end} {n} {left} xs {causes} {e} {old} {new} order falls p turned why =
       let fell : NoneFell (source.counts start) (source.counts mid) = falls start p.front mid p.held in
       refused_later p.front order p.held (λ x q. refused_turned plain xs (record { front = p.front; whole = refl; fills = p.fills; spelled = p.spelled }) turned (elim (why x q) [
