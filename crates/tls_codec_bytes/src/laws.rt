@@ -1,4 +1,4 @@
-//! Byte vectors are spelled as bytes after a length of one to four bytes. What conversions and places give. Byte
+//! Byte vectors are spelled as bytes after a length of one to four bytes. What conversions, clones and places give. Byte
 //! vectors are compared and hashed as the lists of their bytes are.
 //!
 //! The functions do nothing. Their contracts state this, and so are proved.
@@ -24,6 +24,13 @@ pub fn conversions_keep_the_bytes<F>()
     ensures back { (v : TlsByteVec F) (content : Vec ℕ Global)
         → ⟦<Vec<u8> as From<TlsByteVec<F>>>⟧.from_gives v content
         ↔ (content.items ≡ bytes_of v) }
+{}
+
+/// A clone has the same bytes.
+pub fn clones_have_the_same_bytes<F>()
+    ensures { (v copy : TlsByteVec F)
+        → ⟦<TlsByteVec<F> as Clone>⟧.is_clone v copy
+        ↔ (bytes_of copy ≡ bytes_of v) }
 {}
 
 /// `v[i]` is the byte at a place below the length.

@@ -1,5 +1,5 @@
 //! [`SecretTlsVec`], a list of elements that are cleared when it is dropped.
-ghost use Rattle.std.specs.Prelude.{◌≡◌, ◌==◌, ◌<◌, ◌^◌, [], ◌∷◌, ◌++◌, is_ok, if◌then◌else◌, length, slice_get, slice_index_or, option_copied, IfErr, IfOk, MatchOption};
+ghost use Rattle.std.specs.Prelude.{◌≡◌, ◌==◌, ◌<◌, ◌^◌, [], ◌∷◌, ◌++◌, is_ok, if◌then◌else◌, length, slice_get, slice_index_or, option_copied, IfErr, IfOk, IsOk, MatchOption};
 ghost use Rattle.std.specs.Fn.{CalledAt};
 ghost use Rattle.std.specs.Iterator.{Drains, IsFiniteIterable};
 ghost use Rattle.std.specs.Iterator.Adapters.{IterYieldsInOrder, IterYieldsInReverse};
@@ -14,6 +14,7 @@ use std::alloc::Global;
 use std::marker::PhantomData;
 use std::slice::Iter;
 use tls_codec_base::LengthField;
+use tls_codec_vec::TlsVec;
 use tls_codec_vec::collecting::collected;
 use tls_codec_vl::Zeroize;
 use tls_codec_wire::{Error, U24};
@@ -196,23 +197,25 @@ impl<F, T: Zeroize> SecretTlsVec<F, T> {
 }
 
 impl<F, T: Zeroize + Clone> SecretTlsVec<F, T> {
-    /// A clone of each of these elements. `OutOfMemory`: there was no memory for them.
+    /// A clone of each of these elements. `OutOfMemory`: there was no memory for them. If there are no
+    /// elements, nothing is allocated.
     pub fn from_slice(alloc: Global, elements: &[T]) -> Result<SecretTlsVec<F, T>, Error>
         requires { ClonesAreEqual T.is_clone elements.now }
         ensures ok { IfOk result (λ v. elements_of v ≡ elements.now) }
         ensures err { IfErr result (λ e. e ≡ OutOfMemory) }
+        ensures none { length elements.now ≡ 0 → IsOk result }
     {
-        let mut list = SecretTlsVec::default(alloc);
-        list.vec.extend_with_clones(elements)?;
-        Ok(list)
+        let copy: TlsVec<F, T> = TlsVec::from_slice(alloc, elements)?;
+        Ok(SecretTlsVec::new(copy.into_vec()))
     }
 
-    /// A clone of each element, by the allocator that the list was made with. `OutOfMemory`: there was
-    /// no memory for them.
+    /// A clone of each element, by the allocator that the list was made with. `OutOfMemory` is as in
+    /// [`from_slice`](SecretTlsVec::from_slice).
     pub fn clone(&self) -> Result<SecretTlsVec<F, T>, Error>
         requires { ClonesAreEqual T.is_clone (elements_of self.now) }
         ensures ok { IfOk result (λ v. elements_of v ≡ elements_of self.now) }
         ensures err { IfErr result (λ e. e ≡ OutOfMemory) }
+        ensures none { length (elements_of self.now) ≡ 0 → IsOk result }
     {
         SecretTlsVec::from_slice(*self.vec.allocator(), self.as_slice())
     }

@@ -1,4 +1,4 @@
-//! Vectors are spelled as lists after a length of one to four bytes. What conversions and places give. Vectors are
+//! Vectors are spelled as lists after a length of one to four bytes. What conversions, clones and places give. Vectors are
 //! compared and hashed as the lists of their elements are.
 //!
 //! The functions do nothing. Their contracts state this, and so are proved.
@@ -6,6 +6,7 @@ ghost use Rattle.std.specs.Prelude.{◌≡◌, ◌↔◌, ◌<◌, ℕ, List, Ve
 ghost use Rattle.std.specs.Global.{Global};
 ghost use Rattle.std.specs.Cmp.Lexicographic.{pointwise};
 ghost use Rattle.std.specs.Hash as fed;
+ghost use Rattle.std.specs.List.{AllZip};
 ghost use Rattle.tls_codec_grammar.specs.Tree.{Tree};
 ghost use Rattle.tls_codec_grammar.specs.Grammar.{Direction, fixed_list};
 ghost use Rattle.tls_codec_vec.specs.Contents.{elements_of};
@@ -25,6 +26,13 @@ pub fn conversions_keep_the_elements<F, T>()
     ensures back { (v : TlsVec F T) (elements : Vec T Global)
         → ⟦<Vec<T> as From<TlsVec<F, T>>>⟧.from_gives v elements
         ↔ (elements.items ≡ elements_of v) }
+{}
+
+/// A clone has a clone of each element, in their order.
+pub fn clones_have_clones_of_the_elements<F, T: Clone>()
+    ensures { (v copy : TlsVec F T)
+        → ⟦<TlsVec<F, T> as Clone>⟧.is_clone v copy
+        ↔ AllZip T.is_clone (elements_of v) (elements_of copy) }
 {}
 
 /// `v[i]` is the element at a place below the length.

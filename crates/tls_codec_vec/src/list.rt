@@ -1,5 +1,5 @@
 //! [`TlsVec`], a list of elements, and what is done with it.
-ghost use Rattle.std.specs.Prelude.{◌≡◌, ◌==◌, ◌<◌, ◌^◌, [], ◌∷◌, ◌++◌, is_ok, if◌then◌else◌, length, slice_get, slice_index_or, option_copied, IfErr, IfOk, MatchOption};
+ghost use Rattle.std.specs.Prelude.{◌≡◌, ◌==◌, ◌<◌, ◌^◌, [], ◌∷◌, ◌++◌, is_ok, if◌then◌else◌, length, slice_get, slice_index_or, option_copied, IfErr, IfOk, IsOk, MatchOption};
 ghost use Rattle.std.specs.Fn.{CalledAt};
 ghost use Rattle.std.specs.Iterator.{Drains, IsFiniteIterable};
 ghost use Rattle.std.specs.Iterator.Adapters.{IterYieldsInOrder, IterYieldsInReverse};
@@ -174,26 +174,31 @@ impl<F, T: Drop> TlsVec<F, T> {
 }
 
 impl<F, T: Clone> TlsVec<F, T> {
-    /// A clone of each of these elements. `OutOfMemory`: there was no memory for them.
+    /// A clone of each of these elements. `OutOfMemory`: there was no memory for them. If there are no
+    /// elements, nothing is allocated.
     pub fn from_slice(alloc: Global, elements: &[T]) -> Result<TlsVec<F, T>, Error>
         requires { ClonesAreEqual T.is_clone elements.now }
         ensures ok { IfOk result (λ v. elements_of v ≡ elements.now) }
         ensures err { IfErr result (λ e. e ≡ OutOfMemory) }
+        ensures none { length elements.now ≡ 0 → IsOk result }
     {
         let mut vec = Vec::new(alloc);
+        if elements.is_empty() {
+            return Ok(TlsVec::new(vec));
+        }
         vec.extend_with_clones(elements)?;
         Ok(TlsVec::new(vec))
     }
 
-    /// A clone of each element, by the allocator that the list was made with. `OutOfMemory`: there was
-    /// no memory for them.
+    /// A clone of each element, by the allocator that the list was made with. `OutOfMemory` is as in
+    /// [`from_slice`](TlsVec::from_slice).
     pub fn clone(&self) -> Result<TlsVec<F, T>, Error>
         requires { ClonesAreEqual T.is_clone (elements_of self.now) }
         ensures ok { IfOk result (λ v. elements_of v ≡ elements_of self.now) }
         ensures err { IfErr result (λ e. e ≡ OutOfMemory) }
+        ensures none { length (elements_of self.now) ≡ 0 → IsOk result }
     {
-        let copy = Clone::clone(self)?;
-        Ok(copy)
+        TlsVec::from_slice(*self.vec.allocator(), self.as_slice())
     }
 }
 

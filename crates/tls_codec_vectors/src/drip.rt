@@ -1,12 +1,12 @@
 //! [`Drip`], a source of one byte a call.
-ghost use Rattle.std.specs.Prelude.{◌≡◌, ◌<◌, ◌≤◌, ◌++◌, length, min, IfOk, Some, refl};
+ghost use Rattle.std.specs.Prelude.{◌≡◌, ◌<◌, ◌≤◌, [], ◌++◌, false, length, min, IfOk, Some, refl, vec_capacity, vec_len};
 ghost use Rattle.std.specs.Io.KnownBytes.{IsAtEnd};
 ghost use Rattle.std.proofs.Common.{rules};
 ghost use Rattle.std.proofs.lemmas.Grind.{common_steps};
-ghost use Rattle.tls_codec.specs.Devices.{PullIsCounted, bytes_moved, no_counts, stay};
+ghost use Rattle.tls_codec.specs.Devices.{AppendedAtHand, Full, IsAtHand, IsShortOf, PullIsCounted, PulledOnto, TooFew, Unknown, bytes_moved, no_counts, stay};
 ghost use Rattle.tls_codec_vectors.specs.Devices.{bytes_left};
 
-use tls_codec::{Fault, Source};
+use tls_codec::{Fault, Fill, Source};
 
 /// Bytes that come one a call, whatever room a caller has.
 ///
@@ -42,6 +42,47 @@ impl Source for Drip<'_> {
     {
         let most = into.len().min(1);
         self.left.pull(&mut into[..most])
+    }
+
+    fn at_hand(&self) -> &[u8]
+        ensures first { IsAtHand result.now (Some (bytes_left self.now)) }
+        ensures none { result.now ≡ [] }
+    {
+        &[]
+    }
+
+    fn fill_at_hand(&mut self, _into: &mut [u8]) -> Fill
+        ensures filled { result ≡ Full → bytes_left self.old ≡ _into.new ++ bytes_left self.new }
+        ensures too_few { result ≡ TooFew
+            → IsShortOf (length _into.old) (Some (bytes_left self.old)) × (self.new ≡ self.old) }
+        ensures unknown { result ≡ Unknown → self.new ≡ self.old }
+        ensures calm { no_counts ≡ no_counts }
+        ensures never { result ≡ Unknown }
+    {
+        Fill::Unknown
+    }
+
+    fn append_at_hand(&mut self, _out: &mut Vec<u8>, _n: usize) -> bool
+        ensures appended { AppendedAtHand (λ a g b. bytes_left a ≡ g ++ bytes_left b) self.old self.new
+            _n result _out.old _out.new }
+        ensures calm { no_counts ≡ no_counts }
+        ensures never { result ≡ false }
+    {
+        false
+    }
+
+    fn pull_onto(&mut self, out: &mut Vec<u8>, most: usize) -> Result<usize, Fault>
+        ensures bound { IfOk result (λ n. n ≤ most) }
+        ensures gave { PulledOnto (λ a g b. bytes_left a ≡ g ++ bytes_left b) self.old self.new result
+            out.old.items out.new.items }
+        ensures end { result ≡ Ok 0
+            → 0 < most
+            → vec_len out.old < vec_capacity out.old
+            → IsAtEnd (Some (bytes_left self.new)) }
+        ensures counted { PullIsCounted result no_counts no_counts }
+        ensures one { IfOk result (λ n. n ≤ 1) }
+    {
+        self.left.pull_onto(out, most.min(1))
     }
 
     ghost gives_nothing = { λ s. refl };

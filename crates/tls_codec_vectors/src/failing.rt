@@ -1,10 +1,10 @@
 //! [`Failing`], a device with some calls in a row that return a fault.
-ghost use Rattle.std.specs.Prelude.{◌≡◌, ◌<◌, ◌≤◌, ◌↔◌, IsTrue, length, IfOk};
+ghost use Rattle.std.specs.Prelude.{◌≡◌, ◌<◌, ◌≤◌, ◌↔◌, [], false, IsTrue, length, IfOk, vec_capacity, vec_len};
 ghost use Rattle.std.specs.Io.KnownBytes.{Appends, IsAtEnd};
-ghost use Rattle.tls_codec.specs.Devices.{GiveIsCounted, PullIsCounted, bytes_moved, no_counts};
+ghost use Rattle.tls_codec.specs.Devices.{AppendedAtHand, Full, GiveIsCounted, IsAtHand, IsShortOf, PullIsCounted, PulledOnto, TooFew, Unknown, bytes_moved, no_counts};
 ghost use Rattle.tls_codec_vectors.specs.Devices.{Called, FailsAsPlanned, FailsNext, GaveBehind, IsPlanned, calls_of, counts_with, gives_in_order_behind, gives_nothing_behind, inner_of, no_count_falls_behind, own_counts, plan_of};
 
-use tls_codec::{Fault, Sink, Source};
+use tls_codec::{Fault, Fill, Sink, Source};
 
 // Which calls return a fault, and which.
 #[derive(Clone, Copy)]
@@ -128,6 +128,55 @@ impl<R: Source> Source for Failing<R> {
     {
         self.turn()?;
         let n = self.inner.pull(into)?;
+        Ok(n)
+    }
+
+    fn at_hand(&self) -> &[u8]
+        ensures first { IsAtHand result.now (R.coming (inner_of self.now)) }
+        ensures none { result.now ≡ [] }
+    {
+        &[]
+    }
+
+    fn fill_at_hand(&mut self, _into: &mut [u8]) -> Fill
+        ensures filled { result ≡ Full → GaveBehind R.given self.old _into.new self.new }
+        ensures too_few { result ≡ TooFew
+            → IsShortOf (length _into.old) (R.coming (inner_of self.old)) × (self.new ≡ self.old) }
+        ensures unknown { result ≡ Unknown → self.new ≡ self.old }
+        ensures calm { counts_with R.counts self.new ≡ counts_with R.counts self.old }
+        ensures never { result ≡ Unknown }
+    {
+        Fill::Unknown
+    }
+
+    fn append_at_hand(&mut self, _out: &mut Vec<u8>, _n: usize) -> bool
+        ensures appended { AppendedAtHand (GaveBehind R.given) self.old self.new _n result _out.old
+            _out.new }
+        ensures calm { counts_with R.counts self.new ≡ counts_with R.counts self.old }
+        ensures never { result ≡ false }
+    {
+        false
+    }
+
+    fn pull_onto(&mut self, out: &mut Vec<u8>, most: usize) -> Result<usize, Fault>
+        ensures bound { IfOk result (λ n. n ≤ most) }
+        ensures gave { PulledOnto (GaveBehind R.given) self.old self.new result out.old.items
+            out.new.items }
+        ensures end { result ≡ Ok 0
+            → 0 < most
+            → vec_len out.old < vec_capacity out.old
+            → IsAtEnd (R.coming (inner_of self.new)) }
+        ensures counted { PullIsCounted result (counts_with R.counts self.old)
+            (counts_with R.counts self.new) }
+        ensures called { Called self.old self.new }
+        ensures fails { FailsNext self.old
+            → FailsAsPlanned result self.old self.new × (inner_of self.new ≡ inner_of self.old) }
+        ensures passes { ¬ FailsNext self.old
+            → PullIsCounted result (R.counts (inner_of self.old)) (R.counts (inner_of self.new))
+            × (own_counts self.new ≡ own_counts self.old) }
+    {
+        self.turn()?;
+        let n = self.inner.pull_onto(out, most)?;
         Ok(n)
     }
 

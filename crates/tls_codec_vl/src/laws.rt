@@ -19,7 +19,8 @@ use crate::{SecretVLByteVec, SecretVLBytes, VLByteSlice, VLByteVec, VLBytes, Zer
 use std::fmt::Debug;
 use std::hash::Hash;
 
-/// A conversion from or to a `Vec<u8>` keeps the bytes, and a copy of what is lent equals it.
+/// A conversion from or to a `Vec<u8>` keeps the bytes. A clone of bytes has them, and a copy of what is lent
+/// equals it.
 pub fn conversions_and_copies_keep_the_bytes<'a>()
     ensures to_vl_bytes { (content : Vec ℕ Global) (v : VLBytes)
         → ⟦<VLBytes as From<Vec<u8>>>⟧.from_gives content v
@@ -39,6 +40,12 @@ pub fn conversions_and_copies_keep_the_bytes<'a>()
     ensures to_secret_vl_byte_vec { (content : Vec ℕ Global) (v : SecretVLByteVec)
         → ⟦<SecretVLByteVec as From<Vec<u8>>>⟧.from_gives content v
         ↔ (secret_vec_bytes_of v ≡ content.items) }
+    ensures vl_bytes_copy { (v copy : VLBytes)
+        → ⟦<VLBytes as Clone>⟧.is_clone v copy
+        ↔ (bytes_of copy ≡ bytes_of v) }
+    ensures vl_byte_vec_copy { (v copy : VLByteVec)
+        → ⟦<VLByteVec as Clone>⟧.is_clone v copy
+        ↔ (vec_bytes_of copy ≡ vec_bytes_of v) }
     ensures vl_byte_slice { (v copy : VLByteSlice)
         → ⟦<VLByteSlice<'a> as Clone>⟧.is_clone v copy
         ↔ (copy ≡ v) }
