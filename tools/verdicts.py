@@ -11,10 +11,8 @@ import enum
 import pathlib
 import re
 
-# An error in a function's answers that says of the text, and not of what it proves, that it is wrong.
-NAMES = re.compile(
-    r"not in scope|has no |is no name|is not a name|operand is missing|expected the end|cannot continue|was not admitted|is not admitted|unknown|cannot be read|syntax"
-)
+# How an error begins by which an answer is no proof of its goal. Others say of its text that it is wrong, as a name that isn't there.
+NO_PROOF = re.compile(r"`(?:search|grind|omega)`: |as printed, the two types |computed as far as they go, the two types |expected type ")
 ERROR = re.compile(r"(\S+):\d+:\d+: error: `([^`]+)`: (.*)")
 OPEN = re.compile(r"`search` did not prove ((?:`[^`]+`(?:, | and )?)+)")
 CALLS = re.compile(r"it calls `.*, which (?:is|are) not proved$")
@@ -51,7 +49,7 @@ def of(status: int, output: str, crate: str, function: str) -> Told:
         return Told(Kind.PROVED, own[0])
     if not own[0].startswith(("no proof", "not proved")):
         return Told(Kind.UNREAD, own[0])
-    lost, refused = answers(lines, function)
+    refused, lost = answers(lines, function)
     if refused:
         return Told(Kind.REFUSED, refused[0])
     if lost:
@@ -63,21 +61,15 @@ def of(status: int, output: str, crate: str, function: str) -> Told:
 
 
 def answers(lines: list[str], function: str) -> tuple[list[str], list[str]]:
-    """The errors in a function's own answers: those of the text, and those at a goal."""
+    """The errors in a function's own proof files: those by which an answer is no proof of its goal, and all others."""
     place = "./proofs/" + function.replace("::", "/") + "/"
-    lost, refused = [], []
+    refused, lost = [], []
     for line in lines:
-        if not line.startswith(place) or ": error: " not in line:
-            continue
-        found = ERROR.match(line)
-        is_goal = found is not None and found[1] == f"{place}Answers.antt" and not NAMES.search(without_names(found[3]))
-        (refused if is_goal else lost).append(line.removeprefix(place)[:200])
-    return lost, refused
-
-
-def without_names(text: str) -> str:
-    """A message without the terms that it quotes, whose words are the repository's."""
-    return re.sub(r"`[^`]*`", "", text)
+        if line.startswith(place) and ": error: " in line:
+            found = ERROR.match(line)
+            is_goal = found is not None and found[1] == f"{place}Answers.antt" and NO_PROOF.match(found[3])
+            (refused if is_goal else lost).append(line.removeprefix(place)[:200])
+    return refused, lost
 
 
 def compiler_line(status: int, lines: list[str]) -> str:
