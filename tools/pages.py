@@ -1,0 +1,161 @@
+#!/usr/bin/env python3
+"""Compares the pages with the crates: README.md, CHANGELOG.md and docs/*.md.
+
+- A block of code has to occur, line by line and in order, in the file that the words before it name
+  (`src/leaf.rt`, `specs/Messages.antt`), or, if they name none, in one file under crates/. Space at both ends of a
+  line doesn't count. A block is no quote if it is `console`, or after a line <!-- not quoted -->.
+- A link that isn't of another site has to lead to a file of the repository, and to a heading of it.
+- A name in `code` that is a path under crates/, docs/, tools/ or .ci/, or has an underscore in it, has to occur in the repository;
+  names of what was before, in CHANGELOG.md, and a few of elsewhere don't.
+- The pictures are what docs/pictures.py draws.
+
+Prints a line for each place that doesn't match, and last 'N passed, N failed', which counts pages and pictures; the exit status is 1 if one failed.
+"""
+import pathlib
+import re
+import sys
+
+TOP = pathlib.Path(__file__).resolve().parent.parent
+sys.dont_write_bytecode = True
+sys.path.insert(0, str(TOP / "docs"))
+import pictures
+
+PAGES = [TOP / "README.md", TOP / "CHANGELOG.md", *sorted((TOP / "docs").glob("*.md"))]
+FENCE = re.compile(r"^ *```")
+NOT_QUOTED = "<!-- not quoted -->"
+LINK = re.compile(r"\]\(([^()\s]+)\)")
+CODE = re.compile(r"`([^`]+)`")
+ELSEWHERE = {"conditionally_deserializable", "from_iter", "read_to_end"}
+NAMED = re.compile(r"`((?:src|specs|proofs|must-fail|wrong)/[\w/.-]+|(?:stdin|stdout|crates\.txt))`")
+
+
+def sources():
+    """Each text file under crates/, by its path, as lines without the space around them."""
+    files = {}
+    for path in sorted((TOP / "crates").rglob("*")):
+        if path.is_file() and "out" not in path.relative_to(TOP).parts:
+            try:
+                text = path.read_text()
+            except UnicodeDecodeError:
+                continue
+            files[path.relative_to(TOP).as_posix()] = [line.strip() for line in text.split("\n")]
+    return files
+
+
+def first_missing(quote, lines):
+    """The first line of a quote that doesn't come in its turn, as (number, line), or None."""
+    at = 0
+    for number, line in quote:
+        while at < len(lines) and lines[at] != line:
+            at += 1
+        if at == len(lines):
+            return number, line
+        at += 1
+    return None
+
+
+def blocks(lines):
+    """Each block of a page: the words since the last one, what it is, and its lines by number."""
+    words, kind, quote = [], None, []
+    for number, line in enumerate(lines, 1):
+        if FENCE.match(line):
+            if kind is None:
+                kind, quote = line.strip()[3:], []
+            else:
+                yield words, kind, quote
+                words, kind = [], None
+        elif kind is None:
+            words.append(line)
+        elif line.strip():
+            quote.append((number, line.strip()))
+
+
+def prose(lines):
+    """The lines of a page outside of its blocks, by number."""
+    inside = False
+    for number, line in enumerate(lines, 1):
+        if FENCE.match(line):
+            inside = not inside
+        elif not inside:
+            yield number, line
+
+
+def anchors(path):
+    """The anchors of a page's headings, as the web pages of repositories make them."""
+    found = set()
+    for _, line in prose(path.read_text().split("\n")):
+        if line.startswith("#"):
+            title = line.lstrip("#").strip().lower()
+            slug = re.sub(r"[^\w\- ]", "", title).replace(" ", "-")
+            copy, n = slug, 0
+            while copy in found:
+                n += 1
+                copy = f"{slug}-{n}"
+            found.add(copy)
+    return found
+
+
+def check_quotes(lines, files):
+    for words, kind, quote in blocks(lines):
+        before = [line.strip() for line in words if line.strip()]
+        if not quote or kind == "console" or (before and before[-1] == NOT_QUOTED):
+            continue
+        # the last paragraph, and before it the last heading
+        start = next((n for n in range(len(before) - 1, -1, -1) if before[n].startswith("#")), None)
+        tail = "\n".join(words).strip().split("\n\n")[-1]
+        names = NAMED.findall(("" if start is None else before[start] + "\n") + tail)
+        name = names[-1] if names else None
+        heard = [path for path in files if name and path.endswith("/" + name)]
+        missing = [first_missing(quote, files[path]) for path in heard or files]
+        if all(missing):
+            number, line = max(missing)
+            yield number, f"not in {name if heard else 'one file under crates/'}: {line}"
+
+
+def check_links(page, lines):
+    for number, line in prose(lines):
+        for link in LINK.findall(line):
+            if re.match(r"[a-z]+:", link):
+                continue
+            path, _, anchor = link.partition("#")
+            target = (page.parent / path).resolve() if path else page
+            if not target.exists():
+                yield number, f"no such file: {link}"
+            elif anchor and anchor not in anchors(target):
+                yield number, f"no such heading: {link}"
+
+
+def check_names(lines, words):
+    for number, line in prose(lines):
+        for name in CODE.findall(line):
+            if re.fullmatch(r"(?:crates|docs|tools|\.ci)/[\w/.-]+", name):
+                if "/out/" not in name and not (TOP / name).exists():
+                    yield number, f"no such file: {name}"
+            elif re.fullmatch(r"[a-z]\w*_\w*[a-z0-9]", name) and name not in words | ELSEWHERE:
+                yield number, f"no such name: {name}"
+
+
+def main():
+    files = sources()
+    words = {word for lines in files.values() for line in lines for word in re.findall(r"\w+", line)}
+    words |= {part for path in files for part in re.split(r"[/.]", path)}
+    failed = set()
+    for page in PAGES:
+        lines = page.read_text().split("\n")
+        found = [*check_quotes(lines, files), *check_links(page, lines)]
+        if page.name != "CHANGELOG.md":
+            found += check_names(lines, words)
+        for number, text in sorted(found):
+            print(f"{page.relative_to(TOP)}:{number}: {text}")
+            failed.add(page)
+    for name, draw in pictures.PICTURES.items():
+        if (TOP / "docs" / name).read_text() != draw(False).svg():
+            print(f"docs/{name}: not as docs/pictures.py draws it")
+            failed.add(name)
+    print(f"{len(PAGES)} pages and {len(pictures.PICTURES)} pictures were compared with the crates")
+    print(f"{len(PAGES) + len(pictures.PICTURES) - len(failed)} passed, {len(failed)} failed")
+    return 1 if failed else 0
+
+
+if __name__ == "__main__":
+    sys.exit(main())

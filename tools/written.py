@@ -1,0 +1,56 @@
+#!/usr/bin/env python3
+"""Compares each crate that tls_codec_messages wrote with what the program writes today, but for layout.
+
+The program is built once, without proof (`rt try`), and run once a crate. A line says of each whether it is the same.
+"""
+import pathlib
+import re
+import subprocess
+import sys
+import tempfile
+
+CRATES = pathlib.Path(__file__).resolve().parent.parent / "crates"
+MLS = ["mls_leaf", "mls_proposals", "mls_framing"]
+
+# For each run: the crate whose files are compared, the text, and the words.
+RUNS = {
+    "messages_of_each_shape": ("messages_of_each_shape", "each_shape", []),
+    "tls13": ("tls13", "tls13", []),
+}
+for at, name in enumerate(MLS):
+    others = [word for other in MLS[:at] for word in ("--with", f"{other}={other}.tls")]
+    RUNS[name] = (name, name, others)
+    RUNS[f"{name}_shown"] = ("mls_shown", name, [*others, "--show"])
+
+
+def files_of(run, crate):
+    """The files that are compared: those of the crate, or one module."""
+    if run.endswith("_shown"):
+        return [f"src/{run}.rt"]
+    folder = CRATES / crate
+    return [str(it.relative_to(folder)) for part in ("src", "specs", "proofs") for it in sorted(folder.glob(f"{part}/**/*")) if it.is_file()]
+
+
+def main():
+    words = []
+    for text in sorted({text for _, text, _ in RUNS.values()}):
+        words += ["--data", f"{text}.tls=data/{text}.tls"]
+    with tempfile.TemporaryDirectory() as cases:
+        for run, (crate, text, more) in RUNS.items():
+            pathlib.Path(cases, run).touch()
+            name = run.removesuffix("_shown")
+            pathlib.Path(cases, f"{run}.args").write_text("\n".join([f"{text}.tls", "--crate", name, *more, "--compare", f"of_{run}"]) + "\n")
+            for file in files_of(run, crate):
+                words += ["--data", f"of_{run}/{file}={CRATES / crate / file}"]
+        ran = subprocess.run(["rt", "try", "--cases", cases, *words], cwd=CRATES / "tls_codec_messages", capture_output=True, text=True)
+    told = ran.stdout + ran.stderr
+    same = {run for run in RUNS if re.search(rf"^case={run} run=ended status=0 ", told, re.M)}
+    print(f"{len(same)} of {len(RUNS)} written crates are what tls_codec_messages writes today")
+    if len(same) < len(RUNS):
+        print(told)
+    print(f"{len(same)} passed, {len(RUNS) - len(same)} failed")
+    sys.exit(len(same) < len(RUNS))
+
+
+if __name__ == "__main__":
+    main()
