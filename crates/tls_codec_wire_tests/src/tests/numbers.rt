@@ -136,14 +136,12 @@ fn bytes_are_put_into_a_vector(rt: HostRuntime) -> Result<(), Fail> {
 
 #[test]
 fn bytes_put_into_a_vector_get_little_room(rt: HostRuntime) -> Result<(), Fail> {
-    for len in [1, 64, 16_384] {
-        let mut out = Vec::from_slice(rt.alloc(), &[7; 16_384][..len])?;
-        insert_bytes(&mut out, 0, &[1, 2, 3, 4])?;
-        same_at(&rt, len, out.capacity() <= 2 * len + 64, true);
-        let mut out = Vec::from_slice(rt.alloc(), &[7; 16_384][..len])?;
-        insert_length(&mut out, 0)?;
-        same_at(&rt, len, out.capacity() <= 2 * len + 64, true);
-    }
+    let mut out = Vec::from_slice(rt.alloc(), &[7; 64])?;
+    insert_bytes(&mut out, 0, &[1, 2, 3, 4])?;
+    same(&rt, out.capacity() <= 256, true);
+    let mut out = Vec::from_slice(rt.alloc(), &[7; 64])?;
+    same(&rt, insert_length(&mut out, 0), Ok(2));
+    same(&rt, out.capacity() <= 256, true);
     Ok(())
 }
 
