@@ -14,6 +14,8 @@ import dataclasses
 import pathlib
 import re
 
+# The words with which a contract says something: an edit leaves it as it is.
+STATED = ("requires", "ensures", "ghost ")
 FUNCTION = re.compile(r"\bfn\s+(?:r#)?(\w+)")
 
 
@@ -78,6 +80,8 @@ def change(crate: pathlib.Path, file: str, old: str, new: str) -> Change:
         raise BadEdit(f"its line 'file:' names no file below src/: {file}")
     if not old or old == new:
         raise BadEdit("a line 'new:' changes nothing")
+    if any(new.count(word) != old.count(word) for word in STATED) or any(word in old for word in STATED) and old not in new:
+        raise BadEdit(f"it changes what is stated, and not code alone: {new}")
     text = (crate / file).read_text(encoding="utf-8")
     if text.count(old) != 1:
         raise BadEdit(f"an 'old:' text is in {file} {text.count(old)} times, and not once: {old}")
