@@ -3,7 +3,7 @@
 An edit has the lines of an edit of must-fail/, which `rt --help` describes, and two of its own:
 
     fn: gather::gather          the function that the prover must refuse, as rattle names it below the crate
-    alone: yes                  for what reaches other functions too, as a constant, a type or a derive
+    alone: yes                  where it reaches other functions too: a constant, a type, a derive, what a member means
     file: src/gather.rt
     old: while came < len {
     new: while came + 1 < len {
@@ -14,6 +14,10 @@ import dataclasses
 import pathlib
 import re
 
+# The words with which a contract says something, which no edit changes.
+CLAUSES = ("requires", "ensures")
+# The word with which an impl says what a member of its trait means, which a law may hold it to.
+MEANING = ("ghost ",)
 FUNCTION = re.compile(r"\bfn\s+(?:r#)?(\w+)")
 
 
@@ -67,8 +71,11 @@ def read(path: pathlib.Path, crate: pathlib.Path) -> Edit:
         raise BadEdit("it has no line 'fn: PATH'")
     if not changes:
         raise BadEdit("it has no lines 'old:' and 'new:'")
-    if not is_alone:
-        for it in changes:
+    if any(one.meets(other) for at, one in enumerate(changes) for other in changes[:at]):
+        raise BadEdit("two of its 'old:' texts overlap")
+    for it in changes:
+        hold_to_code(crate, it, CLAUSES if is_alone else CLAUSES + MEANING)
+        if not is_alone:
             hold_to_function(function, crate, it)
     return Edit(path.stem, function, is_alone, tuple(changes))
 
@@ -82,6 +89,13 @@ def change(crate: pathlib.Path, file: str, old: str, new: str) -> Change:
     if text.count(old) != 1:
         raise BadEdit(f"an 'old:' text is in {file} {text.count(old)} times, and not once: {old}")
     return Change(file, text.index(old), text.index(old) + len(old), new)
+
+
+def hold_to_code(crate: pathlib.Path, it: Change, stated: tuple[str, ...]) -> None:
+    """Refuses an edit that changes what is stated, which might be refused whatever the code does."""
+    old = (crate / it.file).read_text(encoding="utf-8")[it.start : it.end]
+    if any(it.new.count(word) != old.count(word) or word in old and old not in it.new for word in stated):
+        raise BadEdit(f"it changes what is stated, and not code alone: {it.new}")
 
 
 def hold_to_function(function: str, crate: pathlib.Path, it: Change) -> None:
