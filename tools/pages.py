@@ -9,7 +9,8 @@
   names of what was before, in CHANGELOG.md, and a few of elsewhere don't.
 - The pictures are what docs/pictures.py draws.
 
-Prints a line for each place that doesn't match, and last 'N passed, N failed', which counts pages and pictures; the exit status is 1 if one failed.
+Prints a line for each place that doesn't match, and last 'N passed, N failed', which counts pages and pictures; the exit status is 1 if
+one failed.
 """
 import pathlib
 import re

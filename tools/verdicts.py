@@ -1,7 +1,7 @@
 """What rattle says of one function in the output of a check: whether it refuses its body, and by what.
 
-A body is refused where a goal of the function's own stays open: `search` did not prove it, or an answer that the
-function's Answers.antt has for it is no proof of it any more. Nothing else counts. A function that only calls what isn't proved may be right; an
+A body is refused where a goal of the function's own stays open: `search` did not prove it, or an answer that the function's
+Answers.antt has for it is no proof of it any more. Nothing else counts. A function that only calls what isn't proved may be right; an
 answer that names what the edit took away says nothing of the body; and what doesn't compile has met no contract.
 """
 from __future__ import annotations
