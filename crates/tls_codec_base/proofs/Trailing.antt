@@ -1,7 +1,7 @@
 -- Why decoders never return `TrailingData`: only a part can name it.
-use Rattle.std.proofs.Common.{◌≡◌, ◌⊎◌, ℕ, inl, inr, refl}
+use Rattle.std.proofs.Common.{ℕ, inl, inr, refl}
 use Rattle.tls_codec_wire.specs.Refused.{Causes}
-use Rattle.tls_codec_wire.specs.declared.error.Error.TheVariants.{OutOfMemory, TrailingData}
+use Rattle.tls_codec_wire.specs.declared.error.Error.TheVariants.{TrailingData}
 use Rattle.tls_codec_grammar.specs.Field.{Field}
 use Rattle.tls_codec_grammar.specs.Format.{Format}
 use Rattle.tls_codec_grammar.specs.Lawful.{MeetsFieldLaws}

@@ -1,6 +1,6 @@
 //! Numbers of one width in a row, read at once.
 ghost use Rattle.std.specs.Prelude.{◌≡◌, ◌<◌, ◌≤◌, ◌/◌, ◌%◌, length, vec_capacity, IfErr, IfOk, IfSome, MatchOption};
-ghost use Rattle.tls_codec_wire.specs.Bounded.{BorrowAlike};
+ghost use Rattle.tls_codec_wire.specs.Bounded.{BorrowAlike, limit_of};
 ghost use Rattle.tls_codec_wire.specs.Transfer.{ReadRefused};
 ghost use Rattle.tls_codec_wire.specs.declared.error.Error.TheVariants.{OutOfMemory};
 ghost use Rattle.tls_codec_grammar.specs.Tree.{Number, trees};
@@ -143,6 +143,8 @@ pub(crate) fn read_elements<T: HasDigits<K>, R: Source, const K: usize>(
         (NamedWithin (number_format K) (ReadRefused K) R.Source within.old within.new) }
     ensures turned { TurnedAll (number K) R.Source within.old within.new turns.old turns.new
         result }
+    ensures room { IfOk result
+        (λ found. IfSome found (λ numbers. vec_capacity numbers ≡ limit_of within.old / K)) }
 {
     let Some(digits) = read_run::<R, K>(alloc, within, turns)? else {
         return Ok(None);

@@ -11,7 +11,7 @@ pub returns-in-Some-clause-turned_at_most : goal.returns-in-Some-clause-turned_a
 returns-in-Some-clause-turned_at_most g c = at_once_within_given g.T.Size.format g.T.Size.plain g.R.Source _ _ _ c.in-Some.elements c.in_ok-elements.ensures.reads c.in-Some.is c.in_ok-elements.ensures.turned
 
 pub returns-in_err-elements-clause-turned_at_most : goal.returns-in_err-elements-clause-turned_at_most
-returns-in_err-elements-clause-turned_at_most g c = c.in_err-elements.ensures.turned.bounded
+returns-in_err-elements-clause-turned_at_most g c = c.in_err-elements.ensures.turned.turned_at_most
 
 pub returns-clause-named : goal.returns-clause-named
 returns-clause-named g c = subst (λ (u : Bounded g.row.R.Denot). IfErr c.each_within.result (NamedWithin g.T.Size.format g.T.Deserialize.names g.R.Source u c.each_within.new.within)) same c.each_within.ensures.named

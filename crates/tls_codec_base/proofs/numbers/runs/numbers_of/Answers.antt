@@ -1,4 +1,4 @@
-use Rattle.std.proofs.Common.{◌≡◌, ◌*◌, ◌/◌, ◌++◌, ◌∙◌, List, ℕ, append-nil, ap, arith, length, map, refl, rules, sym}
+use Rattle.std.proofs.Common.{◌≡◌, ◌*◌, ◌/◌, ◌++◌, ◌∙◌, List, ℕ, append-nil, ap, arith, length, map, refl, sym}
 use Rattle.std.proofs.Math.ListN.{drop_of_length-le}
 use Rattle.std.specs.Simd.{first_chunks}
 use Rattle.std.proofs.lemmas.Nat.{div-add-mod'}
@@ -20,7 +20,7 @@ loop-group-preserved g c =
     record {
       read = one_number_more g.T.HasDigits.number _ _ _ c.loop-group.numbers.items c.of_digits.result c.push_reserved.new.self.items c.loop-group-test.true c.group-item.is before.read c.of_digits.ensures c.push_reserved.ensures.items;
       count = omega (arith, before.count, c.push_reserved.ensures.len);
-      room = c.push_reserved.ensures.capacity ∙ before.room;
+      room = omega (arith, before.room, c.push_reserved.ensures.capacity);
     }
 
 pub returns-clause-ok : goal.returns-clause-ok
