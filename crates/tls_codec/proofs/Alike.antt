@@ -2,7 +2,7 @@
 use Rattle.std.proofs.Common.{◌≡◌, Bool, true, List, [], ◌∷◌, ◌&&◌, nat_eq, refl, eq-eqb}
 use Rattle.std.specs.Prelude.{ℕ}
 use Rattle.std.specs.Cmp.Lexicographic.{pointwise}
-use Rattle.tls_codec_grammar.specs.Tree.{Tree, Number, Empty, Join, number_trees, trees}
+use Rattle.tls_codec_grammar.specs.Tree.{Tree, Number, number_trees, trees}
 use Rattle.tls_codec_base.specs.Meanings.{EqualWhereAlike}
 
 -- two facts that hold hold together

@@ -1,5 +1,5 @@
-//! Byte vectors are spelled as bytes after a length of one to four bytes. What conversions, clones and places give. Byte
-//! vectors are compared and hashed as the lists of their bytes are.
+//! Byte vectors are spelled as bytes after a length of one to four bytes. What conversions, clones and places
+//! give. Byte vectors are compared and hashed as the lists of their bytes are.
 //!
 //! The functions do nothing. Their contracts state this, and so are proved.
 ghost use Rattle.std.specs.Prelude.{◌≡◌, ◌↔◌, ◌<◌, ℕ, IsTrue, List, Some, Vec, length, slice_get};

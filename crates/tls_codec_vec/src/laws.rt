@@ -1,5 +1,5 @@
-//! Vectors are spelled as lists after a length of one to four bytes. What conversions, clones and places give. Vectors are
-//! compared and hashed as the lists of their elements are.
+//! Vectors are spelled as lists after a length of one to four bytes. What conversions, clones and places give.
+//! Vectors are compared and hashed as the lists of their elements are.
 //!
 //! The functions do nothing. Their contracts state this, and so are proved.
 ghost use Rattle.std.specs.Prelude.{◌≡◌, ◌↔◌, ◌<◌, ℕ, List, Vec, length, slice_index_or};

@@ -40,10 +40,10 @@ pub fn conversions_and_copies_keep_the_bytes<'a>()
     ensures to_secret_vl_byte_vec { (content : Vec ℕ Global) (v : SecretVLByteVec)
         → ⟦<SecretVLByteVec as From<Vec<u8>>>⟧.from_gives content v
         ↔ (secret_vec_bytes_of v ≡ content.items) }
-    ensures vl_bytes_copy { (v copy : VLBytes)
+    ensures vl_bytes { (v copy : VLBytes)
         → ⟦<VLBytes as Clone>⟧.is_clone v copy
         ↔ (bytes_of copy ≡ bytes_of v) }
-    ensures vl_byte_vec_copy { (v copy : VLByteVec)
+    ensures vl_byte_vec { (v copy : VLByteVec)
         → ⟦<VLByteVec as Clone>⟧.is_clone v copy
         ↔ (vec_bytes_of copy ≡ vec_bytes_of v) }
     ensures vl_byte_slice { (v copy : VLByteSlice)

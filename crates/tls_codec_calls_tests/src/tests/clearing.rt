@@ -23,26 +23,32 @@ impl<'a> Zeroize for Probe<'a> {
     }
 }
 
-fn three<'a>(alloc: Global, clearings: &'a Cell<u32>) -> Result<Vec<Probe<'a>>, Fail> {
+fn probes<'a>(alloc: Global, clearings: &'a Cell<u32>, count: u32) -> Result<Vec<Probe<'a>>, Fail> {
     let mut probes = Vec::new(alloc);
-    probes.push(Probe { clearings })?;
-    probes.push(Probe { clearings })?;
-    probes.push(Probe { clearings })?;
+    for _ in 0..count {
+        probes.push(Probe { clearings })?;
+    }
     Ok(probes)
+}
+
+fn three<'a>(alloc: Global, clearings: &'a Cell<u32>) -> Result<Vec<Probe<'a>>, Fail> {
+    probes(alloc, clearings, 3)
 }
 
 #[test]
 fn drop_without_zeroize(rt: HostRuntime) -> Result<(), Fail> {
     let alloc = rt.alloc();
     let count = Cell::new(0);
-    drop(SecretTlsVecU8::new(three(alloc, &count)?));
-    same(&rt, count.replace(0), 3);
-    drop(SecretTlsVecU16::new(three(alloc, &count)?));
-    same(&rt, count.replace(0), 3);
-    drop(SecretTlsVecU24::new(three(alloc, &count)?));
-    same(&rt, count.replace(0), 3);
-    drop(SecretTlsVecU32::new(three(alloc, &count)?));
-    same(&rt, count.replace(0), 3);
+    for elements in [0, 1, 3] {
+        drop(SecretTlsVecU8::new(probes(alloc, &count, elements)?));
+        same(&rt, count.replace(0), elements);
+        drop(SecretTlsVecU16::new(probes(alloc, &count, elements)?));
+        same(&rt, count.replace(0), elements);
+        drop(SecretTlsVecU24::new(probes(alloc, &count, elements)?));
+        same(&rt, count.replace(0), elements);
+        drop(SecretTlsVecU32::new(probes(alloc, &count, elements)?));
+        same(&rt, count.replace(0), elements);
+    }
     Ok(())
 }
 

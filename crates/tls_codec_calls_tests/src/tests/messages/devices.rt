@@ -15,25 +15,29 @@ const WRITE_FAILED: Error = Error::EncodingError("write failed");
 #[test]
 fn a_trickle_appends(rt: HostRuntime) -> Result<(), Fail> {
     let alloc = rt.alloc();
-    let mut sink = Trickle::new(vec![in alloc; 0u8; 32]?);
+    let mut sink = Trickle::new(vec![in alloc; 0u8; 65_536]?);
     write_all(&mut sink, &[0, 1, 2])?;
-    let mut whole = vec![in alloc; 0u8; 32]?;
+    let mut whole = vec![in alloc; 0u8; 65_536]?;
     whole.extend_from_slice(&[0, 1, 2])?;
     same(&rt, sink.into_inner().as_slice(), whole.as_slice());
     Ok(())
 }
 
-// A call that is not planned to fail is the call of the device inside, with the whole buffer or
-// piece.
+// A call that is not planned to fail is the call of the device inside, with the whole buffer,
+// vector or piece.
 #[test]
-fn whole_pieces_are_handed_on(rt: HostRuntime) {
-    let mut source = Failing::new([1u8, 2, 3].as_slice(), 2, 1, Fault::Failed);
+fn whole_pieces_are_handed_on(rt: HostRuntime) -> Result<(), Fail> {
+    let mut source = Failing::new([1u8, 2, 3, 4, 5].as_slice(), 3, 1, Fault::Failed);
     let mut into = [0; 3];
     same(&rt, source.pull(&mut into), Ok(3));
     same(&rt, into, [1, 2, 3]);
+    let mut onto = Vec::with_capacity(rt.alloc(), 2)?;
+    same(&rt, source.pull_onto(&mut onto, 2), Ok(2));
+    same(&rt, onto.as_slice(), [4, 5].as_slice());
     let mut sink = Failing::new(Vec::new(rt.alloc()), 2, 1, Fault::Failed);
     same(&rt, sink.give(&[1, 2, 3]), Ok(3));
     same(&rt, sink.into_inner().as_slice(), [1, 2, 3].as_slice());
+    Ok(())
 }
 
 #[test]

@@ -1,4 +1,4 @@
-use Rattle.std.proofs.Common.{◌≡◌, [], ◌∷◌, List, ℕ, inl, inr, refl, ap, length, arith}
+use Rattle.std.proofs.Common.{◌≡◌, [], ◌∷◌, ℕ, inl, inr, refl, ap, length, arith}
 use Rattle.tls_codec.specs.OwnMessages.{Number, Empty, Join}
 use Rattle.tls_codec_vectors.proofs.laws.second_spelling_of_ping_is_unlawful.Goals as goal
 
