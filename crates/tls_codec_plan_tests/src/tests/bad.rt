@@ -2,7 +2,7 @@
 use super::{refusal, same_at};
 use std::test::Fail;
 
-static BAD: [(&str, usize, usize, &str, &str); 76] = [
+static BAD: [(&str, usize, usize, &str, &str); 77] = [
     // types
     ("Foo A;", 1, 1, "Foo", "given by --with"),
     ("struct { Foo a; } A;", 1, 10, "Foo", "given by --with"),
@@ -83,6 +83,14 @@ static BAD: [(&str, usize, usize, &str, &str); 76] = [
         1,
         10,
         "70000",
+        "enum's bytes",
+    ),
+    // 1 past 32 bits
+    (
+        "enum { a(4294967297), (255) } A;",
+        1,
+        10,
+        "4294967297",
         "enum's bytes",
     ),
     ("enum { a(70000) } A;", 1, 19, "A", "1, 2, 4 or 8"),
