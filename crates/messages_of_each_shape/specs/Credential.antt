@@ -1,5 +1,6 @@
 -- Credential: what it stands for, its format and its law.
 use Rattle.std.proofs.Common.{arith}
+use Rattle.std.specs.Prelude.{ℕ}
 use Rattle.tls_codec.specs.OwnMessages.{Tree, Number, Empty, Join, trees, number_trees, option_plain, Format, number_format, option_format, nothing_format, fields_format, list_format, bytes_format, Variants, no_variant, variant, tagged_format, pair_tree, triple_tree, pair_format, triple_format, MeetsLaws, MeetVariantLaws, u32_meets, u64_meets, option_meets, nothing_meets, fields_meets, list_meets, bytes_meets, no_variant_meets, variant_meets, tagged_meets, pair_meets, triple_meets}
 use Rattle.tls_codec.specs.Contents.{bytes_of}
 use Rattle.messages_of_each_shape.specs.Certificate.{certificate_plain, certificate_format, certificate_meets}
@@ -8,6 +9,14 @@ use Rattle.messages_of_each_shape.specs.Side.{side_plain, side_format, side_meet
 use Rattle.messages_of_each_shape.specs.Level.{level_plain, level_format, level_meets}
 use Rattle.messages_of_each_shape.specs.declared.credential.Credential.{Credential}
 use Rattle.messages_of_each_shape.specs.declared.credential.Credential.TheVariants.{Basic, X509, Both, Full, Anonymous}
+
+-- the tag of each case
+abbrev pub credential_tag : Credential → ℕ
+credential_tag (Basic a0) = 1
+credential_tag (X509 a0) = 2
+credential_tag (Both a0 a1) = 3
+credential_tag (Full a0 a1 a2 a3 a4) = 4
+credential_tag Anonymous = 5
 
 abbrev pub credential_plain : Credential → Tree
 credential_plain (Basic a0) = Join (Number 1) (Join (number_trees (bytes_of a0)) Empty)

@@ -1,10 +1,17 @@
 -- LeafNodeOrigin: what it stands for, its format and its law.
 use Rattle.std.proofs.Common.{arith}
+use Rattle.std.specs.Prelude.{ℕ}
 use Rattle.tls_codec.specs.OwnMessages.{Tree, Number, Empty, Join, number_trees, Format, nothing_format, fields_format, bytes_format, Variants, no_variant, variant, tagged_format, MeetsLaws, MeetVariantLaws, nothing_meets, fields_meets, bytes_meets, no_variant_meets, variant_meets, tagged_meets}
 use Rattle.tls_codec.specs.Contents.{bytes_of}
 use Rattle.messages_of_each_shape.specs.Lifetime.{lifetime_plain, lifetime_format, lifetime_meets}
 use Rattle.messages_of_each_shape.specs.declared.leaf_node_origin.LeafNodeOrigin.{LeafNodeOrigin}
 use Rattle.messages_of_each_shape.specs.declared.leaf_node_origin.LeafNodeOrigin.TheVariants.{KeyPackage, Update, Commit}
+
+-- the tag of each case
+abbrev pub leaf_node_origin_tag : LeafNodeOrigin → ℕ
+leaf_node_origin_tag (KeyPackage a0) = 1
+leaf_node_origin_tag Update = 2
+leaf_node_origin_tag (Commit a0) = 3
 
 abbrev pub leaf_node_origin_plain : LeafNodeOrigin → Tree
 leaf_node_origin_plain (KeyPackage a0) = Join (Number 1) (Join (lifetime_plain a0) Empty)

@@ -1,10 +1,17 @@
 -- LeafNodeTBSOrigin: what it stands for, its format and its law.
 use Rattle.std.proofs.Common.{arith}
+use Rattle.std.specs.Prelude.{ℕ}
 use Rattle.tls_codec.specs.OwnMessages.{Tree, Number, Empty, Join, number_trees, Format, number_format, nothing_format, fields_format, bytes_format, Variants, no_variant, variant, tagged_format, pair_tree, pair_format, MeetsLaws, MeetVariantLaws, u8_meets, nothing_meets, fields_meets, bytes_meets, no_variant_meets, variant_meets, tagged_meets, pair_meets}
 use Rattle.tls_codec.specs.Contents.{bytes_of}
 use Rattle.messages_of_each_shape.specs.Lifetime.{lifetime_plain, lifetime_format, lifetime_meets}
 use Rattle.messages_of_each_shape.specs.declared.leaf_node_tbs_origin.LeafNodeTBSOrigin.{LeafNodeTBSOrigin}
 use Rattle.messages_of_each_shape.specs.declared.leaf_node_tbs_origin.LeafNodeTBSOrigin.TheVariants.{KeyPackage, Update, Commit}
+
+-- the tag of each case
+abbrev pub leaf_node_tbs_origin_tag : LeafNodeTBSOrigin → ℕ
+leaf_node_tbs_origin_tag (KeyPackage a0) = 1
+leaf_node_tbs_origin_tag Update = 2
+leaf_node_tbs_origin_tag (Commit a0 a1) = 3
 
 abbrev pub leaf_node_tbs_origin_plain : LeafNodeTBSOrigin → Tree
 leaf_node_tbs_origin_plain (KeyPackage a0) = Join (Number 1) (Join (lifetime_plain a0.now) Empty)

@@ -1,5 +1,7 @@
 //! [`Bounded`].
+ghost use Rattle.std.specs.Prelude.{◌≡◌, ◌&&◌};
 ghost use Rattle.messages_of_each_shape.specs.Bounded.{bounded_format, bounded_meets, bounded_plain};
+ghost use Rattle.messages_of_each_shape.specs.declared.bounded.Bounded.{Bounded};
 
 use std::alloc::Global;
 use tls_codec::{
@@ -61,3 +63,10 @@ impl DeserializeBytes for Bounded {
         Ok((Bounded { session, suites }, rest))
     }
 }
+
+/// Two are equal exactly where each field is.
+pub fn is_compared_by_its_fields()
+    ensures { (x y : Bounded) → ⟦<Bounded as PartialEq>⟧.eq x y
+        ≡ (⟦<TlsByteVec<Within<u8, 0, 32>> as PartialEq>⟧.eq x.session y.session
+        && ⟦<TlsVec<Within<u16, 2, 65534>, u16> as PartialEq>⟧.eq x.suites y.suites) }
+{}

@@ -1,5 +1,7 @@
 //! [`CertificateTBS`].
+ghost use Rattle.std.specs.Prelude.{◌≡◌};
 ghost use Rattle.messages_of_each_shape.specs.CertificateTBS.{certificate_tbs_format, certificate_tbs_meets, certificate_tbs_plain};
+ghost use Rattle.messages_of_each_shape.specs.declared.certificate_tbs.CertificateTBS.{CertificateTBS};
 
 use crate::Certificate;
 use tls_codec::{Error, Serialize, Sink, Size};
@@ -34,3 +36,9 @@ impl Serialize for CertificateTBS<'_> {
         self.certificate.tls_serialize_into(out)
     }
 }
+
+/// Two are equal exactly where each field is.
+pub fn is_compared_by_its_fields()
+    ensures { (x y : CertificateTBS) → ⟦<CertificateTBS<'static> as PartialEq>⟧.eq x y
+        ≡ ⟦<Certificate as PartialEq>⟧.eq x.certificate.now y.certificate.now }
+{}

@@ -1,7 +1,8 @@
 //! [`CipherSuiteAes128Gcm`].
-ghost use Rattle.std.specs.Prelude.{◌≡◌, false, MatchOption};
+ghost use Rattle.std.specs.Prelude.{◌≡◌, MatchOption, false, nat_eq};
 ghost use Rattle.tls_codec.specs.OwnMessages.{values_names, values_source_names};
 ghost use Rattle.messages_of_each_shape.specs.CipherSuiteAes128Gcm.{cipher_suite_aes128_gcm_code, cipher_suite_aes128_gcm_format, cipher_suite_aes128_gcm_has, cipher_suite_aes128_gcm_meets, cipher_suite_aes128_gcm_plain};
+ghost use Rattle.messages_of_each_shape.specs.declared.cipher_suite_aes128_gcm.CipherSuiteAes128Gcm.{CipherSuiteAes128Gcm};
 
 use std::alloc::Global;
 use tls_codec::{
@@ -85,3 +86,8 @@ impl DeserializeBytes for CipherSuiteAes128Gcm {
         }
     }
 }
+
+/// Two are equal exactly where their numbers are.
+pub fn is_compared_by_its_number()
+    ensures { (x y : CipherSuiteAes128Gcm) → ⟦<CipherSuiteAes128Gcm as PartialEq>⟧.eq x y ≡ nat_eq (cipher_suite_aes128_gcm_code x) (cipher_suite_aes128_gcm_code y) }
+{}

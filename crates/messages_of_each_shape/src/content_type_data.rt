@@ -1,6 +1,8 @@
 //! [`ContentTypeData`].
+ghost use Rattle.std.specs.Prelude.{◌≡◌, ◌&&◌, IsTrue};
 ghost use Rattle.tls_codec.specs.OwnMessages.{no_variant_names, no_variant_source_names, tagged_names, tagged_source_names, variant_names, variant_source_names};
-ghost use Rattle.messages_of_each_shape.specs.ContentTypeData.{content_type_data_format, content_type_data_meets, content_type_data_plain};
+ghost use Rattle.messages_of_each_shape.specs.ContentTypeData.{content_type_data_format, content_type_data_meets, content_type_data_plain, content_type_data_tag};
+ghost use Rattle.messages_of_each_shape.specs.declared.content_type_data.ContentTypeData.{ContentTypeData};
 
 use crate::Certificate;
 use std::alloc::Global;
@@ -180,3 +182,15 @@ impl DeserializeBytes for ContentTypeData {
         }
     }
 }
+
+/// Two are equal exactly where they are of one case, and each field is.
+pub fn is_compared_by_its_case()
+    ensures tag { (x y : ContentTypeData) → IsTrue (⟦<ContentTypeData as PartialEq>⟧.eq x y) → content_type_data_tag x ≡ content_type_data_tag y }
+    ensures case_1 { (a0 a1 b0 b1 : _) → ⟦<ContentTypeData as PartialEq>⟧.eq (ContentTypeData.Application a0 a1) (ContentTypeData.Application b0 b1)
+        ≡ (⟦<VLBytes as PartialEq>⟧.eq a0 b0
+        && ⟦<VLBytes as PartialEq>⟧.eq a1 b1) }
+    ensures case_2 { (a0 a1 a2 b0 b1 b2 : _) → ⟦<ContentTypeData as PartialEq>⟧.eq (ContentTypeData.Proposal a0 a1 a2) (ContentTypeData.Proposal b0 b1 b2)
+        ≡ (⟦<VLBytes as PartialEq>⟧.eq a0 b0
+        && (⟦<Certificate as PartialEq>⟧.eq a1 b1
+        && ⟦<u8 as PartialEq>⟧.eq a2 b2)) }
+{}

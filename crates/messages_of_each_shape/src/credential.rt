@@ -1,6 +1,8 @@
 //! [`Credential`].
+ghost use Rattle.std.specs.Prelude.{◌≡◌, ◌&&◌, IsTrue, true};
 ghost use Rattle.tls_codec.specs.OwnMessages.{no_variant_names, no_variant_source_names, nothing_names, nothing_source_names, tagged_names, tagged_source_names, variant_names, variant_source_names};
-ghost use Rattle.messages_of_each_shape.specs.Credential.{credential_format, credential_meets, credential_plain};
+ghost use Rattle.messages_of_each_shape.specs.Credential.{credential_format, credential_meets, credential_plain, credential_tag};
+ghost use Rattle.messages_of_each_shape.specs.declared.credential.Credential.{Credential};
 
 use crate::{Certificate, Key, Level, Side, Version};
 use std::alloc::Global;
@@ -204,3 +206,22 @@ impl DeserializeBytes for Credential {
         }
     }
 }
+
+/// Two are equal exactly where they are of one case, and each field is.
+pub fn is_compared_by_its_case()
+    ensures tag { (x y : Credential) → IsTrue (⟦<Credential as PartialEq>⟧.eq x y) → credential_tag x ≡ credential_tag y }
+    ensures case_1 { (a0 b0 : _) → ⟦<Credential as PartialEq>⟧.eq (Credential.Basic a0) (Credential.Basic b0)
+        ≡ ⟦<VLBytes as PartialEq>⟧.eq a0 b0 }
+    ensures case_2 { (a0 b0 : _) → ⟦<Credential as PartialEq>⟧.eq (Credential.X509 a0) (Credential.X509 b0)
+        ≡ ⟦<Vec<Certificate> as PartialEq>⟧.eq a0 b0 }
+    ensures case_3 { (a0 a1 b0 b1 : _) → ⟦<Credential as PartialEq>⟧.eq (Credential.Both a0 a1) (Credential.Both b0 b1)
+        ≡ (⟦<Version as PartialEq>⟧.eq a0 b0
+        && ⟦<u64 as PartialEq>⟧.eq a1 b1) }
+    ensures case_4 { (a0 a1 a2 a3 a4 b0 b1 b2 b3 b4 : _) → ⟦<Credential as PartialEq>⟧.eq (Credential.Full a0 a1 a2 a3 a4) (Credential.Full b0 b1 b2 b3 b4)
+        ≡ (⟦<Side as PartialEq>⟧.eq a0 b0
+        && (⟦<Level as PartialEq>⟧.eq a1 b1
+        && (⟦<Key as PartialEq>⟧.eq a2 b2
+        && (⟦<u32 as PartialEq>⟧.eq a3 b3
+        && ⟦<Option<Certificate> as PartialEq>⟧.eq a4 b4)))) }
+    ensures case_5 { ⟦<Credential as PartialEq>⟧.eq Credential.Anonymous Credential.Anonymous ≡ true }
+{}

@@ -1,5 +1,7 @@
 //! [`Fixed`].
+ghost use Rattle.std.specs.Prelude.{◌≡◌, ◌&&◌};
 ghost use Rattle.messages_of_each_shape.specs.Fixed.{fixed_format, fixed_meets, fixed_plain};
+ghost use Rattle.messages_of_each_shape.specs.declared.fixed.Fixed.{Fixed};
 
 use crate::CipherSuiteAes128Gcm;
 use std::alloc::Global;
@@ -55,3 +57,10 @@ impl DeserializeBytes for Fixed {
         Ok((Fixed { suite, nonce }, rest))
     }
 }
+
+/// Two are equal exactly where each field is.
+pub fn is_compared_by_its_fields()
+    ensures { (x y : Fixed) → ⟦<Fixed as PartialEq>⟧.eq x y
+        ≡ (⟦<CipherSuiteAes128Gcm as PartialEq>⟧.eq x.suite y.suite
+        && ⟦<[u8; 2] as PartialEq>⟧.eq x.nonce y.nonce) }
+{}

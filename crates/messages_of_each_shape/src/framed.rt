@@ -1,5 +1,7 @@
 //! [`Framed`].
+ghost use Rattle.std.specs.Prelude.{◌≡◌, ◌&&◌};
 ghost use Rattle.messages_of_each_shape.specs.Framed.{framed_format, framed_meets, framed_plain};
+ghost use Rattle.messages_of_each_shape.specs.declared.framed.Framed.{Framed};
 
 use crate::ContentTypeData;
 use std::alloc::Global;
@@ -89,3 +91,11 @@ impl DeserializeBytes for Framed {
         ))
     }
 }
+
+/// Two are equal exactly where each field is.
+pub fn is_compared_by_its_fields()
+    ensures { (x y : Framed) → ⟦<Framed as PartialEq>⟧.eq x y
+        ≡ (⟦<u32 as PartialEq>⟧.eq x.epoch y.epoch
+        && (⟦<ContentTypeData as PartialEq>⟧.eq x.content_type y.content_type
+        && ⟦<VLBytes as PartialEq>⟧.eq x.signature y.signature)) }
+{}

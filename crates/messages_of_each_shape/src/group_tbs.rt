@@ -1,5 +1,7 @@
 //! [`GroupTBS`].
+ghost use Rattle.std.specs.Prelude.{◌≡◌, ◌&&◌};
 ghost use Rattle.messages_of_each_shape.specs.GroupTBS.{group_tbs_format, group_tbs_meets, group_tbs_plain};
+ghost use Rattle.messages_of_each_shape.specs.declared.group_tbs.GroupTBS.{GroupTBS};
 
 use crate::{CertificateTBS, LeafNodeTBS};
 use tls_codec::{Error, Lent, Serialize, Sink, Size};
@@ -38,3 +40,11 @@ impl Serialize for GroupTBS<'_> {
         (self.certificate, Lent(self.epoch), self.node).tls_serialize_into(out)
     }
 }
+
+/// Two are equal exactly where each field is.
+pub fn is_compared_by_its_fields()
+    ensures { (x y : GroupTBS) → ⟦<GroupTBS<'static> as PartialEq>⟧.eq x y
+        ≡ (⟦<CertificateTBS<'static> as PartialEq>⟧.eq x.certificate y.certificate
+        && (⟦<u32 as PartialEq>⟧.eq x.epoch.now y.epoch.now
+        && ⟦<LeafNodeTBS<'static> as PartialEq>⟧.eq x.node y.node)) }
+{}

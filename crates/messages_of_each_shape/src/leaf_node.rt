@@ -1,5 +1,7 @@
 //! [`LeafNode`].
+ghost use Rattle.std.specs.Prelude.{◌≡◌, ◌&&◌};
 ghost use Rattle.messages_of_each_shape.specs.LeafNode.{leaf_node_format, leaf_node_meets, leaf_node_plain};
+ghost use Rattle.messages_of_each_shape.specs.declared.leaf_node.LeafNode.{LeafNode};
 
 use crate::{Key, LeafNodeOrigin};
 use std::alloc::Global;
@@ -89,3 +91,11 @@ impl DeserializeBytes for LeafNode {
         ))
     }
 }
+
+/// Two are equal exactly where each field is.
+pub fn is_compared_by_its_fields()
+    ensures { (x y : LeafNode) → ⟦<LeafNode as PartialEq>⟧.eq x y
+        ≡ (⟦<Key as PartialEq>⟧.eq x.key y.key
+        && (⟦<LeafNodeOrigin as PartialEq>⟧.eq x.leaf_node_source y.leaf_node_source
+        && ⟦<VLBytes as PartialEq>⟧.eq x.signature y.signature)) }
+{}

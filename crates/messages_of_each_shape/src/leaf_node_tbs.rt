@@ -1,5 +1,7 @@
 //! [`LeafNodeTBS`].
+ghost use Rattle.std.specs.Prelude.{◌≡◌, ◌&&◌};
 ghost use Rattle.messages_of_each_shape.specs.LeafNodeTBS.{leaf_node_tbs_format, leaf_node_tbs_meets, leaf_node_tbs_plain};
+ghost use Rattle.messages_of_each_shape.specs.declared.leaf_node_tbs.LeafNodeTBS.{LeafNodeTBS};
 
 use crate::{Certificate, CipherSuite, Key, LeafNodeTBSOrigin};
 use tls_codec::{Error, Lent, Lent2, Serialize, Sink, Size};
@@ -55,3 +57,12 @@ impl Serialize for LeafNodeTBS<'_> {
             .tls_serialize_into(out)
     }
 }
+
+/// Two are equal exactly where each field is.
+pub fn is_compared_by_its_fields()
+    ensures { (x y : LeafNodeTBS) → ⟦<LeafNodeTBS<'static> as PartialEq>⟧.eq x y
+        ≡ (⟦<Key as PartialEq>⟧.eq x.key.now y.key.now
+        && (⟦<LeafNodeTBSOrigin<'static> as PartialEq>⟧.eq x.leaf_node_source y.leaf_node_source
+        && (⟦<Option<Certificate> as PartialEq>⟧.eq x.last.now y.last.now
+        && ⟦<Vec<CipherSuite> as PartialEq>⟧.eq x.suites.now y.suites.now))) }
+{}

@@ -1,5 +1,7 @@
 //! [`LeafNodeTBSOrigin`].
-ghost use Rattle.messages_of_each_shape.specs.LeafNodeTBSOrigin.{leaf_node_tbs_origin_format, leaf_node_tbs_origin_meets, leaf_node_tbs_origin_plain};
+ghost use Rattle.std.specs.Prelude.{◌≡◌, ◌&&◌, IsTrue, true};
+ghost use Rattle.messages_of_each_shape.specs.LeafNodeTBSOrigin.{leaf_node_tbs_origin_format, leaf_node_tbs_origin_meets, leaf_node_tbs_origin_plain, leaf_node_tbs_origin_tag};
+ghost use Rattle.messages_of_each_shape.specs.declared.leaf_node_tbs_origin.LeafNodeTBSOrigin.{LeafNodeTBSOrigin};
 
 use crate::Lifetime;
 use tls_codec::{Error, Lent, Serialize, Sink, Size, VLBytes};
@@ -81,3 +83,14 @@ impl Serialize for LeafNodeTBSOrigin<'_> {
         }
     }
 }
+
+/// Two are equal exactly where they are of one case, and each field is.
+pub fn is_compared_by_its_case()
+    ensures tag { (x y : LeafNodeTBSOrigin) → IsTrue (⟦<LeafNodeTBSOrigin<'static> as PartialEq>⟧.eq x y) → leaf_node_tbs_origin_tag x ≡ leaf_node_tbs_origin_tag y }
+    ensures case_1 { (a0 b0 : _) → ⟦<LeafNodeTBSOrigin<'static> as PartialEq>⟧.eq (LeafNodeTBSOrigin.KeyPackage a0) (LeafNodeTBSOrigin.KeyPackage b0)
+        ≡ ⟦<Lifetime as PartialEq>⟧.eq a0.now b0.now }
+    ensures case_2 { ⟦<LeafNodeTBSOrigin<'static> as PartialEq>⟧.eq LeafNodeTBSOrigin.Update LeafNodeTBSOrigin.Update ≡ true }
+    ensures case_3 { (a0 a1 b0 b1 : _) → ⟦<LeafNodeTBSOrigin<'static> as PartialEq>⟧.eq (LeafNodeTBSOrigin.Commit a0 a1) (LeafNodeTBSOrigin.Commit b0 b1)
+        ≡ (⟦<VLBytes as PartialEq>⟧.eq a0.now b0.now
+        && ⟦<u8 as PartialEq>⟧.eq a1.now b1.now) }
+{}

@@ -1,7 +1,8 @@
 //! [`Level`].
-ghost use Rattle.std.specs.Prelude.{◌≡◌, false, MatchOption};
+ghost use Rattle.std.specs.Prelude.{◌≡◌, MatchOption, false, nat_eq};
 ghost use Rattle.tls_codec.specs.OwnMessages.{values_names, values_source_names};
 ghost use Rattle.messages_of_each_shape.specs.Level.{level_code, level_format, level_has, level_meets, level_plain};
+ghost use Rattle.messages_of_each_shape.specs.declared.level.Level.{Level};
 
 use std::alloc::Global;
 use tls_codec::{
@@ -89,3 +90,8 @@ impl DeserializeBytes for Level {
         }
     }
 }
+
+/// Two are equal exactly where their numbers are.
+pub fn is_compared_by_its_number()
+    ensures { (x y : Level) → ⟦<Level as PartialEq>⟧.eq x y ≡ nat_eq (level_code x) (level_code y) }
+{}

@@ -1,5 +1,7 @@
 //! [`Lists`].
+ghost use Rattle.std.specs.Prelude.{◌≡◌, ◌&&◌};
 ghost use Rattle.messages_of_each_shape.specs.Lists.{lists_format, lists_meets, lists_plain};
+ghost use Rattle.messages_of_each_shape.specs.declared.lists.Lists.{Lists};
 
 use crate::{Certificate, ExtensionType, Level, NameType, Row, Side};
 use std::alloc::Global;
@@ -112,3 +114,16 @@ impl DeserializeBytes for Lists {
         ))
     }
 }
+
+/// Two are equal exactly where each field is.
+pub fn is_compared_by_its_fields()
+    ensures { (x y : Lists) → ⟦<Lists as PartialEq>⟧.eq x y
+        ≡ (⟦<TlsVecU8<u16> as PartialEq>⟧.eq x.octets y.octets
+        && (⟦<TlsVecU16<Side> as PartialEq>⟧.eq x.sides y.sides
+        && (⟦<TlsVecU24<Certificate> as PartialEq>⟧.eq x.certificates y.certificates
+        && (⟦<TlsVecU32<Level> as PartialEq>⟧.eq x.levels y.levels
+        && (⟦<Vec<Row> as PartialEq>⟧.eq x.rows y.rows
+        && (⟦<ExtensionType as PartialEq>⟧.eq x.kind y.kind
+        && (⟦<Vec<NameType> as PartialEq>⟧.eq x.names y.names
+        && ⟦<Row as PartialEq>⟧.eq x.row y.row))))))) }
+{}

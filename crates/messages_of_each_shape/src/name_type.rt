@@ -1,5 +1,7 @@
 //! [`NameType`].
+ghost use Rattle.std.specs.Prelude.{◌≡◌, nat_eq};
 ghost use Rattle.messages_of_each_shape.specs.NameType.{name_type_format, name_type_meets, name_type_plain};
+ghost use Rattle.messages_of_each_shape.specs.declared.name_type.NameType.{NameType};
 
 use std::alloc::Global;
 use tls_codec::{Deserialize, DeserializeBytes, Error, Serialize, Sink, Size, Source};
@@ -56,3 +58,8 @@ impl DeserializeBytes for NameType {
         Ok((NameType(number), rest))
     }
 }
+
+/// Two are equal exactly where their numbers are.
+pub fn is_compared_by_its_number()
+    ensures { (x y : NameType) → ⟦<NameType as PartialEq>⟧.eq x y ≡ nat_eq x.0 y.0 }
+{}

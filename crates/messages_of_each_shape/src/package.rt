@@ -1,5 +1,7 @@
 //! [`Package`].
+ghost use Rattle.std.specs.Prelude.{◌≡◌, ◌&&◌};
 ghost use Rattle.messages_of_each_shape.specs.Package.{package_format, package_meets, package_plain};
+ghost use Rattle.messages_of_each_shape.specs.declared.package.Package.{Package};
 
 use crate::{Certificate, CipherSuite, Credential, Key, Version};
 use std::alloc::Global;
@@ -94,3 +96,13 @@ impl DeserializeBytes for Package {
         ))
     }
 }
+
+/// Two are equal exactly where each field is.
+pub fn is_compared_by_its_fields()
+    ensures { (x y : Package) → ⟦<Package as PartialEq>⟧.eq x y
+        ≡ (⟦<Key as PartialEq>⟧.eq x.key y.key
+        && (⟦<Version as PartialEq>⟧.eq x.version y.version
+        && (⟦<Credential as PartialEq>⟧.eq x.credential y.credential
+        && (⟦<Option<Certificate> as PartialEq>⟧.eq x.last y.last
+        && ⟦<Vec<CipherSuite> as PartialEq>⟧.eq x.suites y.suites)))) }
+{}

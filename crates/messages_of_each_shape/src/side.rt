@@ -1,7 +1,8 @@
 //! [`Side`].
-ghost use Rattle.std.specs.Prelude.{◌≡◌, false, MatchOption};
+ghost use Rattle.std.specs.Prelude.{◌≡◌, MatchOption, false, nat_eq};
 ghost use Rattle.tls_codec.specs.OwnMessages.{values_names, values_source_names};
 ghost use Rattle.messages_of_each_shape.specs.Side.{side_code, side_format, side_has, side_meets, side_plain};
+ghost use Rattle.messages_of_each_shape.specs.declared.side.Side.{Side};
 
 use std::alloc::Global;
 use tls_codec::{
@@ -85,3 +86,8 @@ impl DeserializeBytes for Side {
         }
     }
 }
+
+/// Two are equal exactly where their numbers are.
+pub fn is_compared_by_its_number()
+    ensures { (x y : Side) → ⟦<Side as PartialEq>⟧.eq x y ≡ nat_eq (side_code x) (side_code y) }
+{}

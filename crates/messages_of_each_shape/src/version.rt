@@ -1,7 +1,8 @@
 //! [`Version`].
-ghost use Rattle.std.specs.Prelude.{◌≡◌, false, MatchOption};
+ghost use Rattle.std.specs.Prelude.{◌≡◌, MatchOption, false, nat_eq};
 ghost use Rattle.tls_codec.specs.OwnMessages.{values_names, values_source_names};
 ghost use Rattle.messages_of_each_shape.specs.Version.{version_code, version_format, version_has, version_meets, version_plain};
+ghost use Rattle.messages_of_each_shape.specs.declared.version.Version.{Version};
 
 use std::alloc::Global;
 use tls_codec::{
@@ -79,3 +80,8 @@ impl DeserializeBytes for Version {
         }
     }
 }
+
+/// Two are equal exactly where their numbers are.
+pub fn is_compared_by_its_number()
+    ensures { (x y : Version) → ⟦<Version as PartialEq>⟧.eq x y ≡ nat_eq (version_code x) (version_code y) }
+{}

@@ -1,5 +1,7 @@
 //! [`Wide`].
+ghost use Rattle.std.specs.Prelude.{◌≡◌, ◌&&◌};
 ghost use Rattle.messages_of_each_shape.specs.Wide.{wide_format, wide_meets, wide_plain};
+ghost use Rattle.messages_of_each_shape.specs.declared.wide.Wide.{Wide};
 
 use crate::Certificate;
 use std::alloc::Global;
@@ -134,3 +136,20 @@ impl DeserializeBytes for Wide {
         ))
     }
 }
+
+/// Two are equal exactly where each field is.
+pub fn is_compared_by_its_fields()
+    ensures { (x y : Wide) → ⟦<Wide as PartialEq>⟧.eq x y
+        ≡ (⟦<u8 as PartialEq>⟧.eq x.a y.a
+        && (⟦<U24 as PartialEq>⟧.eq x.b y.b
+        && (⟦<u32 as PartialEq>⟧.eq x.c y.c
+        && (⟦<u64 as PartialEq>⟧.eq x.d y.d
+        && (⟦<[u8; 16] as PartialEq>⟧.eq x.e y.e
+        && (⟦<TlsByteVecU8 as PartialEq>⟧.eq x.f y.f
+        && (⟦<TlsByteVecU16 as PartialEq>⟧.eq x.g y.g
+        && (⟦<TlsByteVecU24 as PartialEq>⟧.eq x.h y.h
+        && (⟦<TlsByteVecU32 as PartialEq>⟧.eq x.i y.i
+        && (⟦<TlsVecU16<Certificate> as PartialEq>⟧.eq x.j y.j
+        && (⟦<String as PartialEq>⟧.eq x.k y.k
+        && ⟦<Option<u16> as PartialEq>⟧.eq x.l y.l))))))))))) }
+{}

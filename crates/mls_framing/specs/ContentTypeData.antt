@@ -1,11 +1,18 @@
 -- ContentTypeData: what it stands for, its format and its law.
 use Rattle.std.proofs.Common.{arith}
+use Rattle.std.specs.Prelude.{ℕ}
 use Rattle.tls_codec.specs.OwnMessages.{Tree, Number, Empty, Join, number_trees, Format, nothing_format, fields_format, bytes_format, Variants, no_variant, variant, tagged_format, MeetsLaws, MeetVariantLaws, nothing_meets, fields_meets, bytes_meets, no_variant_meets, variant_meets, tagged_meets}
 use Rattle.tls_codec.specs.Contents.{bytes_of}
 use Rattle.mls_proposals.specs.Proposal.{proposal_plain, proposal_format, proposal_meets}
 use Rattle.mls_proposals.specs.Commit.{commit_plain, commit_format, commit_meets}
 use Rattle.mls_framing.specs.declared.content_type_data.ContentTypeData.{ContentTypeData}
 use Rattle.mls_framing.specs.declared.content_type_data.ContentTypeData.TheVariants.{Application, Proposal, Commit}
+
+-- the tag of each case
+abbrev pub content_type_data_tag : ContentTypeData → ℕ
+content_type_data_tag (Application a0) = 1
+content_type_data_tag (Proposal a0) = 2
+content_type_data_tag (Commit a0) = 3
 
 abbrev pub content_type_data_plain : ContentTypeData → Tree
 content_type_data_plain (Application a0) = Join (Number 1) (Join (number_trees (bytes_of a0.now)) Empty)

@@ -1,11 +1,18 @@
 -- FramedContentBody: what it stands for, its format and its law.
 use Rattle.std.proofs.Common.{arith}
+use Rattle.std.specs.Prelude.{ℕ}
 use Rattle.tls_codec.specs.OwnMessages.{Tree, Number, Empty, Join, number_trees, Format, nothing_format, fields_format, bytes_format, Variants, no_variant, variant, tagged_format, MeetsLaws, MeetVariantLaws, nothing_meets, fields_meets, bytes_meets, no_variant_meets, variant_meets, tagged_meets}
 use Rattle.tls_codec.specs.Contents.{bytes_of}
 use Rattle.mls_proposals.specs.Proposal.{proposal_plain, proposal_format, proposal_meets}
 use Rattle.mls_proposals.specs.Commit.{commit_plain, commit_format, commit_meets}
 use Rattle.mls_framing.specs.declared.framed_content_body.FramedContentBody.{FramedContentBody}
 use Rattle.mls_framing.specs.declared.framed_content_body.FramedContentBody.TheVariants.{Application, Proposal, Commit}
+
+-- the tag of each case
+abbrev pub framed_content_body_tag : FramedContentBody → ℕ
+framed_content_body_tag (Application a0) = 1
+framed_content_body_tag (Proposal a0) = 2
+framed_content_body_tag (Commit a0) = 3
 
 abbrev pub framed_content_body_plain : FramedContentBody → Tree
 framed_content_body_plain (Application a0) = Join (Number 1) (Join (number_trees (bytes_of a0.now)) Empty)

@@ -1,11 +1,19 @@
 -- FramedContentSender: what it stands for, its format and its law.
 use Rattle.std.proofs.Common.{arith}
+use Rattle.std.specs.Prelude.{ℕ}
 use Rattle.tls_codec.specs.OwnMessages.{Tree, Number, Join, number_trees, Format, number_format, bytes_format, Variants, no_variant, variant, tagged_format, pair_tree, pair_format, MeetsLaws, MeetVariantLaws, u32_meets, bytes_meets, no_variant_meets, variant_meets, tagged_meets, pair_meets}
 use Rattle.tls_codec.specs.Contents.{bytes_of}
 use Rattle.mls_framing.specs.FramedContentInGroup.{framed_content_in_group_plain, framed_content_in_group_format, framed_content_in_group_meets}
 use Rattle.mls_framing.specs.FramedContentBody.{framed_content_body_plain, framed_content_body_format, framed_content_body_meets}
 use Rattle.mls_framing.specs.declared.framed_content_sender.FramedContentSender.{FramedContentSender}
 use Rattle.mls_framing.specs.declared.framed_content_sender.FramedContentSender.TheVariants.{Member, External, NewMemberCommit, NewMemberProposal}
+
+-- the tag of each case
+abbrev pub framed_content_sender_tag : FramedContentSender → ℕ
+framed_content_sender_tag (Member a0 a1 a2) = 1
+framed_content_sender_tag (External a0 a1 a2) = 2
+framed_content_sender_tag (NewMemberCommit a0 a1) = 4
+framed_content_sender_tag (NewMemberProposal a0 a1) = 3
 
 abbrev pub framed_content_sender_plain : FramedContentSender → Tree
 framed_content_sender_plain (Member a0 a1 a2) = Join (Number 1) (pair_tree (pair_tree (Number a0.now) (number_trees (bytes_of a1.now))) (framed_content_in_group_plain a2))

@@ -1,11 +1,18 @@
 -- PublicMessageContentTypeData: what it stands for, its format and its law.
 use Rattle.std.proofs.Common.{arith}
+use Rattle.std.specs.Prelude.{ℕ}
 use Rattle.tls_codec.specs.OwnMessages.{Tree, Number, Join, number_trees, Format, bytes_format, Variants, no_variant, variant, tagged_format, pair_tree, pair_format, MeetsLaws, MeetVariantLaws, bytes_meets, no_variant_meets, variant_meets, tagged_meets, pair_meets}
 use Rattle.tls_codec.specs.Contents.{bytes_of}
 use Rattle.mls_proposals.specs.Proposal.{proposal_plain, proposal_format, proposal_meets}
 use Rattle.mls_proposals.specs.Commit.{commit_plain, commit_format, commit_meets}
 use Rattle.mls_framing.specs.declared.public_message_content_type_data.PublicMessageContentTypeData.{PublicMessageContentTypeData}
 use Rattle.mls_framing.specs.declared.public_message_content_type_data.PublicMessageContentTypeData.TheVariants.{Application, Proposal, Commit}
+
+-- the tag of each case
+abbrev pub public_message_content_type_data_tag : PublicMessageContentTypeData → ℕ
+public_message_content_type_data_tag (Application a0 a1) = 1
+public_message_content_type_data_tag (Proposal a0 a1) = 2
+public_message_content_type_data_tag (Commit a0 a1 a2) = 3
 
 abbrev pub public_message_content_type_data_plain : PublicMessageContentTypeData → Tree
 public_message_content_type_data_plain (Application a0 a1) = Join (Number 1) (pair_tree (number_trees (bytes_of a0)) (number_trees (bytes_of a1)))

@@ -1,8 +1,16 @@
 -- Sender: what it stands for, its format and its law.
 use Rattle.std.proofs.Common.{arith}
+use Rattle.std.specs.Prelude.{ℕ}
 use Rattle.tls_codec.specs.OwnMessages.{Tree, Number, Empty, Join, Format, number_format, nothing_format, fields_format, Variants, no_variant, variant, tagged_format, MeetsLaws, MeetVariantLaws, u32_meets, nothing_meets, fields_meets, no_variant_meets, variant_meets, tagged_meets}
 use Rattle.mls_framing.specs.declared.sender.Sender.{Sender}
 use Rattle.mls_framing.specs.declared.sender.Sender.TheVariants.{Member, External, NewMemberCommit, NewMemberProposal}
+
+-- the tag of each case
+abbrev pub sender_tag : Sender → ℕ
+sender_tag (Member a0) = 1
+sender_tag (External a0) = 2
+sender_tag NewMemberCommit = 4
+sender_tag NewMemberProposal = 3
 
 abbrev pub sender_plain : Sender → Tree
 sender_plain (Member a0) = Join (Number 1) (Join (Number a0) Empty)

@@ -1,5 +1,6 @@
 -- WireFormatData: what it stands for, its format and its law.
 use Rattle.std.proofs.Common.{arith}
+use Rattle.std.specs.Prelude.{ℕ}
 use Rattle.tls_codec.specs.OwnMessages.{Tree, Number, Empty, Join, Format, nothing_format, fields_format, Variants, no_variant, variant, tagged_format, MeetsLaws, MeetVariantLaws, nothing_meets, fields_meets, no_variant_meets, variant_meets, tagged_meets}
 use Rattle.mls_framing.specs.PublicMessage.{public_message_plain, public_message_format, public_message_meets}
 use Rattle.mls_framing.specs.PrivateMessage.{private_message_plain, private_message_format, private_message_meets}
@@ -8,6 +9,14 @@ use Rattle.mls_proposals.specs.GroupInfo.{group_info_plain, group_info_format, g
 use Rattle.mls_leaf.specs.KeyPackage.{key_package_plain, key_package_format, key_package_meets}
 use Rattle.mls_framing.specs.declared.wire_format_data.WireFormatData.{WireFormatData}
 use Rattle.mls_framing.specs.declared.wire_format_data.WireFormatData.TheVariants.{MlsPublicMessage, MlsPrivateMessage, MlsWelcome, MlsGroupInfo, MlsKeyPackage}
+
+-- the tag of each case
+abbrev pub wire_format_data_tag : WireFormatData → ℕ
+wire_format_data_tag (MlsPublicMessage a0) = 1
+wire_format_data_tag (MlsPrivateMessage a0) = 2
+wire_format_data_tag (MlsWelcome a0) = 3
+wire_format_data_tag (MlsGroupInfo a0) = 4
+wire_format_data_tag (MlsKeyPackage a0) = 5
 
 abbrev pub wire_format_data_plain : WireFormatData → Tree
 wire_format_data_plain (MlsPublicMessage a0) = Join (Number 1) (Join (public_message_plain a0) Empty)

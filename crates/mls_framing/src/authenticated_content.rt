@@ -1,5 +1,7 @@
 //! [`AuthenticatedContent`].
+ghost use Rattle.std.specs.Prelude.{◌≡◌, ◌&&◌};
 ghost use Rattle.mls_framing.specs.AuthenticatedContent.{authenticated_content_format, authenticated_content_meets, authenticated_content_plain};
+ghost use Rattle.mls_framing.specs.declared.authenticated_content.AuthenticatedContent.{AuthenticatedContent};
 
 use crate::{AuthenticatedContentContentTypeData, Sender, WireFormat};
 use std::alloc::Global;
@@ -105,3 +107,14 @@ impl DeserializeBytes for AuthenticatedContent {
         ))
     }
 }
+
+/// Two are equal exactly where each field is.
+pub fn is_compared_by_its_fields()
+    ensures { (x y : AuthenticatedContent) → ⟦<AuthenticatedContent as PartialEq>⟧.eq x y
+        ≡ (⟦<WireFormat as PartialEq>⟧.eq x.wire_format y.wire_format
+        && (⟦<VLBytes as PartialEq>⟧.eq x.group_id y.group_id
+        && (⟦<u64 as PartialEq>⟧.eq x.epoch y.epoch
+        && (⟦<Sender as PartialEq>⟧.eq x.sender y.sender
+        && (⟦<VLBytes as PartialEq>⟧.eq x.authenticated_data y.authenticated_data
+        && ⟦<AuthenticatedContentContentTypeData as PartialEq>⟧.eq x.content_type y.content_type))))) }
+{}

@@ -1,5 +1,7 @@
 //! [`ConfirmedTranscriptHashInput`].
+ghost use Rattle.std.specs.Prelude.{◌≡◌, ◌&&◌};
 ghost use Rattle.mls_framing.specs.ConfirmedTranscriptHashInput.{confirmed_transcript_hash_input_format, confirmed_transcript_hash_input_meets, confirmed_transcript_hash_input_plain};
+ghost use Rattle.mls_framing.specs.declared.confirmed_transcript_hash_input.ConfirmedTranscriptHashInput.{ConfirmedTranscriptHashInput};
 
 use crate::{FramedContent, WireFormat};
 use tls_codec::{Error, Lent, Serialize, Sink, Size, VLBytes};
@@ -38,3 +40,11 @@ impl Serialize for ConfirmedTranscriptHashInput<'_> {
         (Lent(self.wire_format), self.content, Lent(self.signature)).tls_serialize_into(out)
     }
 }
+
+/// Two are equal exactly where each field is.
+pub fn is_compared_by_its_fields()
+    ensures { (x y : ConfirmedTranscriptHashInput) → ⟦<ConfirmedTranscriptHashInput<'static> as PartialEq>⟧.eq x y
+        ≡ (⟦<WireFormat as PartialEq>⟧.eq x.wire_format.now y.wire_format.now
+        && (⟦<FramedContent<'static> as PartialEq>⟧.eq x.content y.content
+        && ⟦<VLBytes as PartialEq>⟧.eq x.signature.now y.signature.now)) }
+{}

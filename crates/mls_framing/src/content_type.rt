@@ -1,7 +1,8 @@
 //! [`ContentType`].
-ghost use Rattle.std.specs.Prelude.{◌≡◌, false, MatchOption};
+ghost use Rattle.std.specs.Prelude.{◌≡◌, MatchOption, false, nat_eq};
 ghost use Rattle.tls_codec.specs.OwnMessages.{values_names, values_source_names};
 ghost use Rattle.mls_framing.specs.ContentType.{content_type_code, content_type_format, content_type_has, content_type_meets, content_type_plain};
+ghost use Rattle.mls_framing.specs.declared.content_type.ContentType.{ContentType};
 
 use std::alloc::Global;
 use tls_codec::{
@@ -89,3 +90,8 @@ impl DeserializeBytes for ContentType {
         }
     }
 }
+
+/// Two are equal exactly where their numbers are.
+pub fn is_compared_by_its_number()
+    ensures { (x y : ContentType) → ⟦<ContentType as PartialEq>⟧.eq x y ≡ nat_eq (content_type_code x) (content_type_code y) }
+{}

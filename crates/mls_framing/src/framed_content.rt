@@ -1,5 +1,7 @@
 //! [`FramedContent`].
+ghost use Rattle.std.specs.Prelude.{◌≡◌, ◌&&◌};
 ghost use Rattle.mls_framing.specs.FramedContent.{framed_content_format, framed_content_meets, framed_content_plain};
+ghost use Rattle.mls_framing.specs.declared.framed_content.FramedContent.{FramedContent};
 
 use crate::{ContentTypeData, Sender};
 use tls_codec::{Error, Lent4, Serialize, Sink, Size, VLBytes};
@@ -69,3 +71,13 @@ impl Serialize for FramedContent<'_> {
             .tls_serialize_into(out)
     }
 }
+
+/// Two are equal exactly where each field is.
+pub fn is_compared_by_its_fields()
+    ensures { (x y : FramedContent) → ⟦<FramedContent<'static> as PartialEq>⟧.eq x y
+        ≡ (⟦<VLBytes as PartialEq>⟧.eq x.group_id.now y.group_id.now
+        && (⟦<u64 as PartialEq>⟧.eq x.epoch.now y.epoch.now
+        && (⟦<Sender as PartialEq>⟧.eq x.sender.now y.sender.now
+        && (⟦<VLBytes as PartialEq>⟧.eq x.authenticated_data.now y.authenticated_data.now
+        && ⟦<ContentTypeData<'static> as PartialEq>⟧.eq x.content_type y.content_type)))) }
+{}

@@ -1,5 +1,7 @@
 //! [`FramedContentInGroup`].
+ghost use Rattle.std.specs.Prelude.{◌≡◌, ◌&&◌};
 ghost use Rattle.mls_framing.specs.FramedContentInGroup.{framed_content_in_group_format, framed_content_in_group_meets, framed_content_in_group_plain};
+ghost use Rattle.mls_framing.specs.declared.framed_content_in_group.FramedContentInGroup.{FramedContentInGroup};
 
 use crate::FramedContentBody;
 use mls_proposals::GroupContext;
@@ -37,3 +39,10 @@ impl Serialize for FramedContentInGroup<'_> {
         (self.body, Lent(self.context)).tls_serialize_into(out)
     }
 }
+
+/// Two are equal exactly where each field is.
+pub fn is_compared_by_its_fields()
+    ensures { (x y : FramedContentInGroup) → ⟦<FramedContentInGroup<'static> as PartialEq>⟧.eq x y
+        ≡ (⟦<FramedContentBody<'static> as PartialEq>⟧.eq x.body y.body
+        && ⟦<GroupContext as PartialEq>⟧.eq x.context.now y.context.now) }
+{}

@@ -1,5 +1,7 @@
 //! [`FramedContentTBS`].
+ghost use Rattle.std.specs.Prelude.{◌≡◌, ◌&&◌};
 ghost use Rattle.mls_framing.specs.FramedContentTBS.{framed_content_tbs_format, framed_content_tbs_meets, framed_content_tbs_plain};
+ghost use Rattle.mls_framing.specs.declared.framed_content_tbs.FramedContentTBS.{FramedContentTBS};
 
 use crate::{FramedContentSender, WireFormat};
 use mls_proposals::ProtocolVersionMls10;
@@ -55,3 +57,13 @@ impl Serialize for FramedContentTBS<'_> {
             .tls_serialize_into(out)
     }
 }
+
+/// Two are equal exactly where each field is.
+pub fn is_compared_by_its_fields()
+    ensures { (x y : FramedContentTBS) → ⟦<FramedContentTBS<'static> as PartialEq>⟧.eq x y
+        ≡ (⟦<ProtocolVersionMls10 as PartialEq>⟧.eq x.version.now y.version.now
+        && (⟦<WireFormat as PartialEq>⟧.eq x.wire_format.now y.wire_format.now
+        && (⟦<VLBytes as PartialEq>⟧.eq x.group_id.now y.group_id.now
+        && (⟦<u64 as PartialEq>⟧.eq x.epoch.now y.epoch.now
+        && ⟦<FramedContentSender<'static> as PartialEq>⟧.eq x.sender_type y.sender_type)))) }
+{}

@@ -1,5 +1,7 @@
 //! [`InterimTranscriptHashInput`].
+ghost use Rattle.std.specs.Prelude.{◌≡◌};
 ghost use Rattle.mls_framing.specs.InterimTranscriptHashInput.{interim_transcript_hash_input_format, interim_transcript_hash_input_meets, interim_transcript_hash_input_plain};
+ghost use Rattle.mls_framing.specs.declared.interim_transcript_hash_input.InterimTranscriptHashInput.{InterimTranscriptHashInput};
 
 use mls_proposals::MAC;
 use tls_codec::{Error, Serialize, Sink, Size};
@@ -34,3 +36,9 @@ impl Serialize for InterimTranscriptHashInput<'_> {
         self.confirmation_tag.tls_serialize_into(out)
     }
 }
+
+/// Two are equal exactly where each field is.
+pub fn is_compared_by_its_fields()
+    ensures { (x y : InterimTranscriptHashInput) → ⟦<InterimTranscriptHashInput<'static> as PartialEq>⟧.eq x y
+        ≡ ⟦<MAC as PartialEq>⟧.eq x.confirmation_tag.now y.confirmation_tag.now }
+{}

@@ -1,5 +1,7 @@
 //! [`MLSMessage`].
+ghost use Rattle.std.specs.Prelude.{◌≡◌, ◌&&◌};
 ghost use Rattle.mls_framing.specs.MLSMessage.{mls_message_format, mls_message_meets, mls_message_plain};
+ghost use Rattle.mls_framing.specs.declared.mls_message.MLSMessage.{MLSMessage};
 
 use crate::WireFormatData;
 use mls_proposals::ProtocolVersionMls10;
@@ -68,3 +70,10 @@ impl DeserializeBytes for MLSMessage {
         ))
     }
 }
+
+/// Two are equal exactly where each field is.
+pub fn is_compared_by_its_fields()
+    ensures { (x y : MLSMessage) → ⟦<MLSMessage as PartialEq>⟧.eq x y
+        ≡ (⟦<ProtocolVersionMls10 as PartialEq>⟧.eq x.version y.version
+        && ⟦<WireFormatData as PartialEq>⟧.eq x.wire_format y.wire_format) }
+{}

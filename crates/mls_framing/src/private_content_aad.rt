@@ -1,5 +1,7 @@
 //! [`PrivateContentAAD`].
+ghost use Rattle.std.specs.Prelude.{◌≡◌, ◌&&◌};
 ghost use Rattle.mls_framing.specs.PrivateContentAAD.{private_content_aad_format, private_content_aad_meets, private_content_aad_plain};
+ghost use Rattle.mls_framing.specs.declared.private_content_aad.PrivateContentAAD.{PrivateContentAAD};
 
 use crate::ContentType;
 use tls_codec::{Error, Lent2, Serialize, Sink, Size, VLBytes};
@@ -52,3 +54,12 @@ impl Serialize for PrivateContentAAD<'_> {
             .tls_serialize_into(out)
     }
 }
+
+/// Two are equal exactly where each field is.
+pub fn is_compared_by_its_fields()
+    ensures { (x y : PrivateContentAAD) → ⟦<PrivateContentAAD<'static> as PartialEq>⟧.eq x y
+        ≡ (⟦<VLBytes as PartialEq>⟧.eq x.group_id.now y.group_id.now
+        && (⟦<u64 as PartialEq>⟧.eq x.epoch.now y.epoch.now
+        && (⟦<ContentType as PartialEq>⟧.eq x.content_type.now y.content_type.now
+        && ⟦<VLBytes as PartialEq>⟧.eq x.authenticated_data.now y.authenticated_data.now))) }
+{}

@@ -1,5 +1,7 @@
 //! [`PrivateMessage`].
+ghost use Rattle.std.specs.Prelude.{◌≡◌, ◌&&◌};
 ghost use Rattle.mls_framing.specs.PrivateMessage.{private_message_format, private_message_meets, private_message_plain};
+ghost use Rattle.mls_framing.specs.declared.private_message.PrivateMessage.{PrivateMessage};
 
 use crate::ContentType;
 use std::alloc::Global;
@@ -120,3 +122,14 @@ impl DeserializeBytes for PrivateMessage {
         ))
     }
 }
+
+/// Two are equal exactly where each field is.
+pub fn is_compared_by_its_fields()
+    ensures { (x y : PrivateMessage) → ⟦<PrivateMessage as PartialEq>⟧.eq x y
+        ≡ (⟦<VLBytes as PartialEq>⟧.eq x.group_id y.group_id
+        && (⟦<u64 as PartialEq>⟧.eq x.epoch y.epoch
+        && (⟦<ContentType as PartialEq>⟧.eq x.content_type y.content_type
+        && (⟦<VLBytes as PartialEq>⟧.eq x.authenticated_data y.authenticated_data
+        && (⟦<VLBytes as PartialEq>⟧.eq x.encrypted_sender_data y.encrypted_sender_data
+        && ⟦<VLBytes as PartialEq>⟧.eq x.ciphertext y.ciphertext))))) }
+{}

@@ -1,5 +1,7 @@
 //! [`PublicMessage`].
+ghost use Rattle.std.specs.Prelude.{◌≡◌, ◌&&◌};
 ghost use Rattle.mls_framing.specs.PublicMessage.{public_message_format, public_message_meets, public_message_plain};
+ghost use Rattle.mls_framing.specs.declared.public_message.PublicMessage.{PublicMessage};
 
 use crate::SenderTypeData;
 use std::alloc::Global;
@@ -89,3 +91,11 @@ impl DeserializeBytes for PublicMessage {
         ))
     }
 }
+
+/// Two are equal exactly where each field is.
+pub fn is_compared_by_its_fields()
+    ensures { (x y : PublicMessage) → ⟦<PublicMessage as PartialEq>⟧.eq x y
+        ≡ (⟦<VLBytes as PartialEq>⟧.eq x.group_id y.group_id
+        && (⟦<u64 as PartialEq>⟧.eq x.epoch y.epoch
+        && ⟦<SenderTypeData as PartialEq>⟧.eq x.sender_type y.sender_type)) }
+{}

@@ -1,6 +1,8 @@
 //! [`Sender`].
+ghost use Rattle.std.specs.Prelude.{◌≡◌, IsTrue, true};
 ghost use Rattle.tls_codec.specs.OwnMessages.{no_variant_names, no_variant_source_names, nothing_names, nothing_source_names, tagged_names, tagged_source_names, variant_names, variant_source_names};
-ghost use Rattle.mls_framing.specs.Sender.{sender_format, sender_meets, sender_plain};
+ghost use Rattle.mls_framing.specs.Sender.{sender_format, sender_meets, sender_plain, sender_tag};
+ghost use Rattle.mls_framing.specs.declared.sender.Sender.{Sender};
 
 use std::alloc::Global;
 use tls_codec::{
@@ -118,3 +120,14 @@ impl DeserializeBytes for Sender {
         }
     }
 }
+
+/// Two are equal exactly where they are of one case, and each field is.
+pub fn is_compared_by_its_case()
+    ensures tag { (x y : Sender) → IsTrue (⟦<Sender as PartialEq>⟧.eq x y) → sender_tag x ≡ sender_tag y }
+    ensures case_1 { (a0 b0 : _) → ⟦<Sender as PartialEq>⟧.eq (Sender.Member a0) (Sender.Member b0)
+        ≡ ⟦<u32 as PartialEq>⟧.eq a0 b0 }
+    ensures case_2 { (a0 b0 : _) → ⟦<Sender as PartialEq>⟧.eq (Sender.External a0) (Sender.External b0)
+        ≡ ⟦<u32 as PartialEq>⟧.eq a0 b0 }
+    ensures case_4 { ⟦<Sender as PartialEq>⟧.eq Sender.NewMemberCommit Sender.NewMemberCommit ≡ true }
+    ensures case_3 { ⟦<Sender as PartialEq>⟧.eq Sender.NewMemberProposal Sender.NewMemberProposal ≡ true }
+{}

@@ -1,5 +1,7 @@
 //! [`SenderData`].
+ghost use Rattle.std.specs.Prelude.{◌≡◌, ◌&&◌};
 ghost use Rattle.mls_framing.specs.SenderData.{sender_data_format, sender_data_meets, sender_data_plain};
+ghost use Rattle.mls_framing.specs.declared.sender_data.SenderData.{SenderData};
 
 use std::alloc::Global;
 use tls_codec::{Deserialize, DeserializeBytes, Error, Lent, Serialize, Sink, Size, Source};
@@ -86,3 +88,11 @@ impl DeserializeBytes for SenderData {
         ))
     }
 }
+
+/// Two are equal exactly where each field is.
+pub fn is_compared_by_its_fields()
+    ensures { (x y : SenderData) → ⟦<SenderData as PartialEq>⟧.eq x y
+        ≡ (⟦<u32 as PartialEq>⟧.eq x.leaf_index y.leaf_index
+        && (⟦<u32 as PartialEq>⟧.eq x.generation y.generation
+        && ⟦<[u8; 4] as PartialEq>⟧.eq x.reuse_guard y.reuse_guard)) }
+{}

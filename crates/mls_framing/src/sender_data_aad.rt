@@ -1,5 +1,7 @@
 //! [`SenderDataAAD`].
+ghost use Rattle.std.specs.Prelude.{◌≡◌, ◌&&◌};
 ghost use Rattle.mls_framing.specs.SenderDataAAD.{sender_data_aad_format, sender_data_aad_meets, sender_data_aad_plain};
+ghost use Rattle.mls_framing.specs.declared.sender_data_aad.SenderDataAAD.{SenderDataAAD};
 
 use crate::ContentType;
 use tls_codec::{Error, Lent, Serialize, Sink, Size, VLBytes};
@@ -53,3 +55,11 @@ impl Serialize for SenderDataAAD<'_> {
             .tls_serialize_into(out)
     }
 }
+
+/// Two are equal exactly where each field is.
+pub fn is_compared_by_its_fields()
+    ensures { (x y : SenderDataAAD) → ⟦<SenderDataAAD<'static> as PartialEq>⟧.eq x y
+        ≡ (⟦<VLBytes as PartialEq>⟧.eq x.group_id.now y.group_id.now
+        && (⟦<u64 as PartialEq>⟧.eq x.epoch.now y.epoch.now
+        && ⟦<ContentType as PartialEq>⟧.eq x.content_type.now y.content_type.now)) }
+{}

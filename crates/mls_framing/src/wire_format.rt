@@ -1,5 +1,7 @@
 //! [`WireFormat`].
+ghost use Rattle.std.specs.Prelude.{◌≡◌, nat_eq};
 ghost use Rattle.mls_framing.specs.WireFormat.{wire_format_format, wire_format_meets, wire_format_plain};
+ghost use Rattle.mls_framing.specs.declared.wire_format.WireFormat.{WireFormat};
 
 use std::alloc::Global;
 use tls_codec::{Deserialize, DeserializeBytes, Error, Serialize, Sink, Size, Source};
@@ -68,3 +70,8 @@ impl DeserializeBytes for WireFormat {
         Ok((WireFormat(number), rest))
     }
 }
+
+/// Two are equal exactly where their numbers are.
+pub fn is_compared_by_its_number()
+    ensures { (x y : WireFormat) → ⟦<WireFormat as PartialEq>⟧.eq x y ≡ nat_eq x.0 y.0 }
+{}

@@ -1,6 +1,8 @@
 //! [`WireFormatData`].
+ghost use Rattle.std.specs.Prelude.{◌≡◌, IsTrue};
 ghost use Rattle.tls_codec.specs.OwnMessages.{no_variant_names, no_variant_source_names, tagged_names, tagged_source_names, variant_names, variant_source_names};
-ghost use Rattle.mls_framing.specs.WireFormatData.{wire_format_data_format, wire_format_data_meets, wire_format_data_plain};
+ghost use Rattle.mls_framing.specs.WireFormatData.{wire_format_data_format, wire_format_data_meets, wire_format_data_plain, wire_format_data_tag};
+ghost use Rattle.mls_framing.specs.declared.wire_format_data.WireFormatData.{WireFormatData};
 
 use crate::{PrivateMessage, PublicMessage};
 use mls_leaf::KeyPackage;
@@ -194,3 +196,18 @@ impl DeserializeBytes for WireFormatData {
         }
     }
 }
+
+/// Two are equal exactly where they are of one case, and each field is.
+pub fn is_compared_by_its_case()
+    ensures tag { (x y : WireFormatData) → IsTrue (⟦<WireFormatData as PartialEq>⟧.eq x y) → wire_format_data_tag x ≡ wire_format_data_tag y }
+    ensures case_1 { (a0 b0 : _) → ⟦<WireFormatData as PartialEq>⟧.eq (WireFormatData.MlsPublicMessage a0) (WireFormatData.MlsPublicMessage b0)
+        ≡ ⟦<PublicMessage as PartialEq>⟧.eq a0 b0 }
+    ensures case_2 { (a0 b0 : _) → ⟦<WireFormatData as PartialEq>⟧.eq (WireFormatData.MlsPrivateMessage a0) (WireFormatData.MlsPrivateMessage b0)
+        ≡ ⟦<PrivateMessage as PartialEq>⟧.eq a0 b0 }
+    ensures case_3 { (a0 b0 : _) → ⟦<WireFormatData as PartialEq>⟧.eq (WireFormatData.MlsWelcome a0) (WireFormatData.MlsWelcome b0)
+        ≡ ⟦<Welcome as PartialEq>⟧.eq a0 b0 }
+    ensures case_4 { (a0 b0 : _) → ⟦<WireFormatData as PartialEq>⟧.eq (WireFormatData.MlsGroupInfo a0) (WireFormatData.MlsGroupInfo b0)
+        ≡ ⟦<GroupInfo as PartialEq>⟧.eq a0 b0 }
+    ensures case_5 { (a0 b0 : _) → ⟦<WireFormatData as PartialEq>⟧.eq (WireFormatData.MlsKeyPackage a0) (WireFormatData.MlsKeyPackage b0)
+        ≡ ⟦<KeyPackage as PartialEq>⟧.eq a0 b0 }
+{}

@@ -1,10 +1,16 @@
 -- Credential: what it stands for, its format and its law.
 use Rattle.std.proofs.Common.{arith}
+use Rattle.std.specs.Prelude.{ℕ}
 use Rattle.tls_codec.specs.OwnMessages.{Tree, Number, Empty, Join, trees, number_trees, Format, nothing_format, fields_format, list_format, bytes_format, Variants, no_variant, variant, tagged_format, MeetsLaws, MeetVariantLaws, nothing_meets, fields_meets, list_meets, bytes_meets, no_variant_meets, variant_meets, tagged_meets}
 use Rattle.tls_codec.specs.Contents.{bytes_of}
 use Rattle.mls_leaf.specs.Certificate.{certificate_plain, certificate_format, certificate_meets}
 use Rattle.mls_leaf.specs.declared.credential.Credential.{Credential}
 use Rattle.mls_leaf.specs.declared.credential.Credential.TheVariants.{Basic, X509}
+
+-- the tag of each case
+abbrev pub credential_tag : Credential → ℕ
+credential_tag (Basic a0) = 1
+credential_tag (X509 a0) = 2
 
 abbrev pub credential_plain : Credential → Tree
 credential_plain (Basic a0) = Join (Number 1) (Join (number_trees (bytes_of a0)) Empty)

@@ -1,11 +1,18 @@
 -- LeafNodeTBSOrigin: what it stands for, its format and its law.
 use Rattle.std.proofs.Common.{arith}
+use Rattle.std.specs.Prelude.{ℕ}
 use Rattle.tls_codec.specs.OwnMessages.{Tree, Number, Join, trees, number_trees, Format, number_format, list_format, bytes_format, Variants, no_variant, variant, tagged_format, pair_tree, pair_format, MeetsLaws, MeetVariantLaws, u32_meets, list_meets, bytes_meets, no_variant_meets, variant_meets, tagged_meets, pair_meets}
 use Rattle.tls_codec.specs.Contents.{bytes_of}
 use Rattle.mls_leaf.specs.Lifetime.{lifetime_plain, lifetime_format, lifetime_meets}
 use Rattle.mls_leaf.specs.Extension.{extension_plain, extension_format, extension_meets}
 use Rattle.mls_leaf.specs.declared.leaf_node_tbs_origin.LeafNodeTBSOrigin.{LeafNodeTBSOrigin}
 use Rattle.mls_leaf.specs.declared.leaf_node_tbs_origin.LeafNodeTBSOrigin.TheVariants.{KeyPackage, Update, Commit}
+
+-- the tag of each case
+abbrev pub leaf_node_tbs_origin_tag : LeafNodeTBSOrigin → ℕ
+leaf_node_tbs_origin_tag (KeyPackage a0 a1) = 1
+leaf_node_tbs_origin_tag (Update a0 a1 a2) = 2
+leaf_node_tbs_origin_tag (Commit a0 a1 a2 a3) = 3
 
 abbrev pub leaf_node_tbs_origin_plain : LeafNodeTBSOrigin → Tree
 leaf_node_tbs_origin_plain (KeyPackage a0 a1) = Join (Number 1) (pair_tree (lifetime_plain a0.now) (trees extension_plain a1.now.items))

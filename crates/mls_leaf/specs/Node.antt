@@ -1,10 +1,16 @@
 -- Node: what it stands for, its format and its law.
 use Rattle.std.proofs.Common.{arith}
+use Rattle.std.specs.Prelude.{ℕ}
 use Rattle.tls_codec.specs.OwnMessages.{Tree, Number, Empty, Join, Format, nothing_format, fields_format, Variants, no_variant, variant, tagged_format, MeetsLaws, MeetVariantLaws, nothing_meets, fields_meets, no_variant_meets, variant_meets, tagged_meets}
 use Rattle.mls_leaf.specs.LeafNode.{leaf_node_plain, leaf_node_format, leaf_node_meets}
 use Rattle.mls_leaf.specs.ParentNode.{parent_node_plain, parent_node_format, parent_node_meets}
 use Rattle.mls_leaf.specs.declared.node.Node.{Node}
 use Rattle.mls_leaf.specs.declared.node.Node.TheVariants.{Leaf, Parent}
+
+-- the tag of each case
+abbrev pub node_tag : Node → ℕ
+node_tag (Leaf a0) = 1
+node_tag (Parent a0) = 2
 
 abbrev pub node_plain : Node → Tree
 node_plain (Leaf a0) = Join (Number 1) (Join (leaf_node_plain a0) Empty)

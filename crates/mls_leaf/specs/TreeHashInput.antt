@@ -1,10 +1,16 @@
 -- TreeHashInput: what it stands for, its format and its law.
 use Rattle.std.proofs.Common.{arith}
+use Rattle.std.specs.Prelude.{ℕ}
 use Rattle.tls_codec.specs.OwnMessages.{Tree, Number, Empty, Join, Format, nothing_format, fields_format, Variants, no_variant, variant, tagged_format, MeetsLaws, MeetVariantLaws, nothing_meets, fields_meets, no_variant_meets, variant_meets, tagged_meets}
 use Rattle.mls_leaf.specs.LeafNodeHashInput.{leaf_node_hash_input_plain, leaf_node_hash_input_format, leaf_node_hash_input_meets}
 use Rattle.mls_leaf.specs.ParentNodeHashInput.{parent_node_hash_input_plain, parent_node_hash_input_format, parent_node_hash_input_meets}
 use Rattle.mls_leaf.specs.declared.tree_hash_input.TreeHashInput.{TreeHashInput}
 use Rattle.mls_leaf.specs.declared.tree_hash_input.TreeHashInput.TheVariants.{Leaf, Parent}
+
+-- the tag of each case
+abbrev pub tree_hash_input_tag : TreeHashInput → ℕ
+tree_hash_input_tag (Leaf a0) = 1
+tree_hash_input_tag (Parent a0) = 2
 
 abbrev pub tree_hash_input_plain : TreeHashInput → Tree
 tree_hash_input_plain (Leaf a0) = Join (Number 1) (Join (leaf_node_hash_input_plain a0) Empty)

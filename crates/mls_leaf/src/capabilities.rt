@@ -1,5 +1,7 @@
 //! [`Capabilities`].
+ghost use Rattle.std.specs.Prelude.{◌≡◌, ◌&&◌};
 ghost use Rattle.mls_leaf.specs.Capabilities.{capabilities_format, capabilities_meets, capabilities_plain};
+ghost use Rattle.mls_leaf.specs.declared.capabilities.Capabilities.{Capabilities};
 
 use crate::{CipherSuite, CredentialType, ExtensionType, ProposalType, ProtocolVersion};
 use std::alloc::Global;
@@ -94,3 +96,13 @@ impl DeserializeBytes for Capabilities {
         ))
     }
 }
+
+/// Two are equal exactly where each field is.
+pub fn is_compared_by_its_fields()
+    ensures { (x y : Capabilities) → ⟦<Capabilities as PartialEq>⟧.eq x y
+        ≡ (⟦<Vec<ProtocolVersion> as PartialEq>⟧.eq x.versions y.versions
+        && (⟦<Vec<CipherSuite> as PartialEq>⟧.eq x.cipher_suites y.cipher_suites
+        && (⟦<Vec<ExtensionType> as PartialEq>⟧.eq x.extensions y.extensions
+        && (⟦<Vec<ProposalType> as PartialEq>⟧.eq x.proposals y.proposals
+        && ⟦<Vec<CredentialType> as PartialEq>⟧.eq x.credentials y.credentials)))) }
+{}

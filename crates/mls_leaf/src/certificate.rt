@@ -1,5 +1,7 @@
 //! [`Certificate`].
+ghost use Rattle.std.specs.Prelude.{◌≡◌};
 ghost use Rattle.mls_leaf.specs.Certificate.{certificate_format, certificate_meets, certificate_plain};
+ghost use Rattle.mls_leaf.specs.declared.certificate.Certificate.{Certificate};
 
 use std::alloc::Global;
 use tls_codec::{Deserialize, DeserializeBytes, Error, Serialize, Sink, Size, Source, VLBytes};
@@ -50,3 +52,9 @@ impl DeserializeBytes for Certificate {
         Ok((Certificate { cert_data }, rest))
     }
 }
+
+/// Two are equal exactly where each field is.
+pub fn is_compared_by_its_fields()
+    ensures { (x y : Certificate) → ⟦<Certificate as PartialEq>⟧.eq x y
+        ≡ ⟦<VLBytes as PartialEq>⟧.eq x.cert_data y.cert_data }
+{}

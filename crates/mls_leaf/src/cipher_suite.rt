@@ -1,5 +1,7 @@
 //! [`CipherSuite`].
+ghost use Rattle.std.specs.Prelude.{◌≡◌, nat_eq};
 ghost use Rattle.mls_leaf.specs.CipherSuite.{cipher_suite_format, cipher_suite_meets, cipher_suite_plain};
+ghost use Rattle.mls_leaf.specs.declared.cipher_suite.CipherSuite.{CipherSuite};
 
 use std::alloc::Global;
 use tls_codec::{Deserialize, DeserializeBytes, Error, Serialize, Sink, Size, Source};
@@ -74,3 +76,8 @@ impl DeserializeBytes for CipherSuite {
         Ok((CipherSuite(number), rest))
     }
 }
+
+/// Two are equal exactly where their numbers are.
+pub fn is_compared_by_its_number()
+    ensures { (x y : CipherSuite) → ⟦<CipherSuite as PartialEq>⟧.eq x y ≡ nat_eq x.0 y.0 }
+{}

@@ -1,6 +1,8 @@
 //! [`Credential`].
+ghost use Rattle.std.specs.Prelude.{◌≡◌, IsTrue};
 ghost use Rattle.tls_codec.specs.OwnMessages.{no_variant_names, no_variant_source_names, tagged_names, tagged_source_names, variant_names, variant_source_names};
-ghost use Rattle.mls_leaf.specs.Credential.{credential_format, credential_meets, credential_plain};
+ghost use Rattle.mls_leaf.specs.Credential.{credential_format, credential_meets, credential_plain, credential_tag};
+ghost use Rattle.mls_leaf.specs.declared.credential.Credential.{Credential};
 
 use crate::Certificate;
 use std::alloc::Global;
@@ -96,3 +98,12 @@ impl DeserializeBytes for Credential {
         }
     }
 }
+
+/// Two are equal exactly where they are of one case, and each field is.
+pub fn is_compared_by_its_case()
+    ensures tag { (x y : Credential) → IsTrue (⟦<Credential as PartialEq>⟧.eq x y) → credential_tag x ≡ credential_tag y }
+    ensures case_1 { (a0 b0 : _) → ⟦<Credential as PartialEq>⟧.eq (Credential.Basic a0) (Credential.Basic b0)
+        ≡ ⟦<VLBytes as PartialEq>⟧.eq a0 b0 }
+    ensures case_2 { (a0 b0 : _) → ⟦<Credential as PartialEq>⟧.eq (Credential.X509 a0) (Credential.X509 b0)
+        ≡ ⟦<Vec<Certificate> as PartialEq>⟧.eq a0 b0 }
+{}

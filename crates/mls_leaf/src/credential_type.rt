@@ -1,5 +1,7 @@
 //! [`CredentialType`].
+ghost use Rattle.std.specs.Prelude.{◌≡◌, nat_eq};
 ghost use Rattle.mls_leaf.specs.CredentialType.{credential_type_format, credential_type_meets, credential_type_plain};
+ghost use Rattle.mls_leaf.specs.declared.credential_type.CredentialType.{CredentialType};
 
 use std::alloc::Global;
 use tls_codec::{Deserialize, DeserializeBytes, Error, Serialize, Sink, Size, Source};
@@ -62,3 +64,8 @@ impl DeserializeBytes for CredentialType {
         Ok((CredentialType(number), rest))
     }
 }
+
+/// Two are equal exactly where their numbers are.
+pub fn is_compared_by_its_number()
+    ensures { (x y : CredentialType) → ⟦<CredentialType as PartialEq>⟧.eq x y ≡ nat_eq x.0 y.0 }
+{}

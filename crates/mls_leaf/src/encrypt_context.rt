@@ -1,5 +1,7 @@
 //! [`EncryptContext`].
+ghost use Rattle.std.specs.Prelude.{◌≡◌, ◌&&◌};
 ghost use Rattle.mls_leaf.specs.EncryptContext.{encrypt_context_format, encrypt_context_meets, encrypt_context_plain};
+ghost use Rattle.mls_leaf.specs.declared.encrypt_context.EncryptContext.{EncryptContext};
 
 use tls_codec::{Error, Lent, Serialize, Sink, Size, VLBytes};
 
@@ -35,3 +37,10 @@ impl Serialize for EncryptContext<'_> {
         (Lent(self.label), Lent(self.context)).tls_serialize_into(out)
     }
 }
+
+/// Two are equal exactly where each field is.
+pub fn is_compared_by_its_fields()
+    ensures { (x y : EncryptContext) → ⟦<EncryptContext<'static> as PartialEq>⟧.eq x y
+        ≡ (⟦<VLBytes as PartialEq>⟧.eq x.label.now y.label.now
+        && ⟦<VLBytes as PartialEq>⟧.eq x.context.now y.context.now) }
+{}

@@ -1,5 +1,7 @@
 //! [`ExtensionType`].
+ghost use Rattle.std.specs.Prelude.{◌≡◌, nat_eq};
 ghost use Rattle.mls_leaf.specs.ExtensionType.{extension_type_format, extension_type_meets, extension_type_plain};
+ghost use Rattle.mls_leaf.specs.declared.extension_type.ExtensionType.{ExtensionType};
 
 use std::alloc::Global;
 use tls_codec::{Deserialize, DeserializeBytes, Error, Serialize, Sink, Size, Source};
@@ -68,3 +70,8 @@ impl DeserializeBytes for ExtensionType {
         Ok((ExtensionType(number), rest))
     }
 }
+
+/// Two are equal exactly where their numbers are.
+pub fn is_compared_by_its_number()
+    ensures { (x y : ExtensionType) → ⟦<ExtensionType as PartialEq>⟧.eq x y ≡ nat_eq x.0 y.0 }
+{}

@@ -1,5 +1,7 @@
 //! [`KeyPackage`].
+ghost use Rattle.std.specs.Prelude.{◌≡◌, ◌&&◌};
 ghost use Rattle.mls_leaf.specs.KeyPackage.{key_package_format, key_package_meets, key_package_plain};
+ghost use Rattle.mls_leaf.specs.declared.key_package.KeyPackage.{KeyPackage};
 
 use crate::{CipherSuite, Extension, HPKEPublicKey, LeafNode, ProtocolVersion};
 use std::alloc::Global;
@@ -98,3 +100,14 @@ impl DeserializeBytes for KeyPackage {
         ))
     }
 }
+
+/// Two are equal exactly where each field is.
+pub fn is_compared_by_its_fields()
+    ensures { (x y : KeyPackage) → ⟦<KeyPackage as PartialEq>⟧.eq x y
+        ≡ (⟦<ProtocolVersion as PartialEq>⟧.eq x.version y.version
+        && (⟦<CipherSuite as PartialEq>⟧.eq x.cipher_suite y.cipher_suite
+        && (⟦<HPKEPublicKey as PartialEq>⟧.eq x.init_key y.init_key
+        && (⟦<LeafNode as PartialEq>⟧.eq x.leaf_node y.leaf_node
+        && (⟦<Vec<Extension> as PartialEq>⟧.eq x.extensions y.extensions
+        && ⟦<VLBytes as PartialEq>⟧.eq x.signature y.signature))))) }
+{}

@@ -1,5 +1,7 @@
 //! [`KeyPackageTBS`].
+ghost use Rattle.std.specs.Prelude.{◌≡◌, ◌&&◌};
 ghost use Rattle.mls_leaf.specs.KeyPackageTBS.{key_package_tbs_format, key_package_tbs_meets, key_package_tbs_plain};
+ghost use Rattle.mls_leaf.specs.declared.key_package_tbs.KeyPackageTBS.{KeyPackageTBS};
 
 use crate::{CipherSuite, Extension, HPKEPublicKey, LeafNode, ProtocolVersion};
 use tls_codec::{Error, Lent2, Lent3, Serialize, Sink, Size};
@@ -54,3 +56,13 @@ impl Serialize for KeyPackageTBS<'_> {
             .tls_serialize_into(out)
     }
 }
+
+/// Two are equal exactly where each field is.
+pub fn is_compared_by_its_fields()
+    ensures { (x y : KeyPackageTBS) → ⟦<KeyPackageTBS<'static> as PartialEq>⟧.eq x y
+        ≡ (⟦<ProtocolVersion as PartialEq>⟧.eq x.version.now y.version.now
+        && (⟦<CipherSuite as PartialEq>⟧.eq x.cipher_suite.now y.cipher_suite.now
+        && (⟦<HPKEPublicKey as PartialEq>⟧.eq x.init_key.now y.init_key.now
+        && (⟦<LeafNode as PartialEq>⟧.eq x.leaf_node.now y.leaf_node.now
+        && ⟦<Vec<Extension> as PartialEq>⟧.eq x.extensions.now y.extensions.now)))) }
+{}

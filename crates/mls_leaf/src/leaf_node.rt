@@ -1,5 +1,7 @@
 //! [`LeafNode`].
+ghost use Rattle.std.specs.Prelude.{◌≡◌, ◌&&◌};
 ghost use Rattle.mls_leaf.specs.LeafNode.{leaf_node_format, leaf_node_meets, leaf_node_plain};
+ghost use Rattle.mls_leaf.specs.declared.leaf_node.LeafNode.{LeafNode};
 
 use crate::{
     Capabilities, Credential, Extension, HPKEPublicKey, LeafNodeOrigin, SignaturePublicKey,
@@ -120,3 +122,15 @@ impl DeserializeBytes for LeafNode {
         ))
     }
 }
+
+/// Two are equal exactly where each field is.
+pub fn is_compared_by_its_fields()
+    ensures { (x y : LeafNode) → ⟦<LeafNode as PartialEq>⟧.eq x y
+        ≡ (⟦<HPKEPublicKey as PartialEq>⟧.eq x.encryption_key y.encryption_key
+        && (⟦<SignaturePublicKey as PartialEq>⟧.eq x.signature_key y.signature_key
+        && (⟦<Credential as PartialEq>⟧.eq x.credential y.credential
+        && (⟦<Capabilities as PartialEq>⟧.eq x.capabilities y.capabilities
+        && (⟦<LeafNodeOrigin as PartialEq>⟧.eq x.leaf_node_source y.leaf_node_source
+        && (⟦<Vec<Extension> as PartialEq>⟧.eq x.extensions y.extensions
+        && ⟦<VLBytes as PartialEq>⟧.eq x.signature y.signature)))))) }
+{}

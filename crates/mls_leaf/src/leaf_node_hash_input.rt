@@ -1,5 +1,7 @@
 //! [`LeafNodeHashInput`].
+ghost use Rattle.std.specs.Prelude.{◌≡◌, ◌&&◌};
 ghost use Rattle.mls_leaf.specs.LeafNodeHashInput.{leaf_node_hash_input_format, leaf_node_hash_input_meets, leaf_node_hash_input_plain};
+ghost use Rattle.mls_leaf.specs.declared.leaf_node_hash_input.LeafNodeHashInput.{LeafNodeHashInput};
 
 use crate::LeafNode;
 use std::alloc::Global;
@@ -67,3 +69,10 @@ impl DeserializeBytes for LeafNodeHashInput {
         ))
     }
 }
+
+/// Two are equal exactly where each field is.
+pub fn is_compared_by_its_fields()
+    ensures { (x y : LeafNodeHashInput) → ⟦<LeafNodeHashInput as PartialEq>⟧.eq x y
+        ≡ (⟦<u32 as PartialEq>⟧.eq x.leaf_index y.leaf_index
+        && ⟦<Option<LeafNode> as PartialEq>⟧.eq x.leaf_node y.leaf_node) }
+{}

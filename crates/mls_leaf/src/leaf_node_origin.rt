@@ -1,6 +1,8 @@
 //! [`LeafNodeOrigin`].
+ghost use Rattle.std.specs.Prelude.{◌≡◌, IsTrue, true};
 ghost use Rattle.tls_codec.specs.OwnMessages.{no_variant_names, no_variant_source_names, nothing_names, nothing_source_names, tagged_names, tagged_source_names, variant_names, variant_source_names};
-ghost use Rattle.mls_leaf.specs.LeafNodeOrigin.{leaf_node_origin_format, leaf_node_origin_meets, leaf_node_origin_plain};
+ghost use Rattle.mls_leaf.specs.LeafNodeOrigin.{leaf_node_origin_format, leaf_node_origin_meets, leaf_node_origin_plain, leaf_node_origin_tag};
+ghost use Rattle.mls_leaf.specs.declared.leaf_node_origin.LeafNodeOrigin.{LeafNodeOrigin};
 
 use crate::Lifetime;
 use std::alloc::Global;
@@ -122,3 +124,13 @@ impl DeserializeBytes for LeafNodeOrigin {
         }
     }
 }
+
+/// Two are equal exactly where they are of one case, and each field is.
+pub fn is_compared_by_its_case()
+    ensures tag { (x y : LeafNodeOrigin) → IsTrue (⟦<LeafNodeOrigin as PartialEq>⟧.eq x y) → leaf_node_origin_tag x ≡ leaf_node_origin_tag y }
+    ensures case_1 { (a0 b0 : _) → ⟦<LeafNodeOrigin as PartialEq>⟧.eq (LeafNodeOrigin.KeyPackage a0) (LeafNodeOrigin.KeyPackage b0)
+        ≡ ⟦<Lifetime as PartialEq>⟧.eq a0 b0 }
+    ensures case_2 { ⟦<LeafNodeOrigin as PartialEq>⟧.eq LeafNodeOrigin.Update LeafNodeOrigin.Update ≡ true }
+    ensures case_3 { (a0 b0 : _) → ⟦<LeafNodeOrigin as PartialEq>⟧.eq (LeafNodeOrigin.Commit a0) (LeafNodeOrigin.Commit b0)
+        ≡ ⟦<VLBytes as PartialEq>⟧.eq a0 b0 }
+{}

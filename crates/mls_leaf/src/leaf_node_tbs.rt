@@ -1,5 +1,7 @@
 //! [`LeafNodeTBS`].
+ghost use Rattle.std.specs.Prelude.{◌≡◌, ◌&&◌};
 ghost use Rattle.mls_leaf.specs.LeafNodeTBS.{leaf_node_tbs_format, leaf_node_tbs_meets, leaf_node_tbs_plain};
+ghost use Rattle.mls_leaf.specs.declared.leaf_node_tbs.LeafNodeTBS.{LeafNodeTBS};
 
 use crate::{Capabilities, Credential, HPKEPublicKey, LeafNodeTBSOrigin, SignaturePublicKey};
 use tls_codec::{Error, Lent4, Serialize, Sink, Size};
@@ -69,3 +71,13 @@ impl Serialize for LeafNodeTBS<'_> {
             .tls_serialize_into(out)
     }
 }
+
+/// Two are equal exactly where each field is.
+pub fn is_compared_by_its_fields()
+    ensures { (x y : LeafNodeTBS) → ⟦<LeafNodeTBS<'static> as PartialEq>⟧.eq x y
+        ≡ (⟦<HPKEPublicKey as PartialEq>⟧.eq x.encryption_key.now y.encryption_key.now
+        && (⟦<SignaturePublicKey as PartialEq>⟧.eq x.signature_key.now y.signature_key.now
+        && (⟦<Credential as PartialEq>⟧.eq x.credential.now y.credential.now
+        && (⟦<Capabilities as PartialEq>⟧.eq x.capabilities.now y.capabilities.now
+        && ⟦<LeafNodeTBSOrigin<'static> as PartialEq>⟧.eq x.leaf_node_source y.leaf_node_source)))) }
+{}

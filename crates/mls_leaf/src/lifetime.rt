@@ -1,5 +1,7 @@
 //! [`Lifetime`].
+ghost use Rattle.std.specs.Prelude.{◌≡◌, ◌&&◌};
 ghost use Rattle.mls_leaf.specs.Lifetime.{lifetime_format, lifetime_meets, lifetime_plain};
+ghost use Rattle.mls_leaf.specs.declared.lifetime.Lifetime.{Lifetime};
 
 use std::alloc::Global;
 use tls_codec::{Deserialize, DeserializeBytes, Error, Lent, Serialize, Sink, Size, Source};
@@ -61,3 +63,10 @@ impl DeserializeBytes for Lifetime {
         ))
     }
 }
+
+/// Two are equal exactly where each field is.
+pub fn is_compared_by_its_fields()
+    ensures { (x y : Lifetime) → ⟦<Lifetime as PartialEq>⟧.eq x y
+        ≡ (⟦<u64 as PartialEq>⟧.eq x.not_before y.not_before
+        && ⟦<u64 as PartialEq>⟧.eq x.not_after y.not_after) }
+{}

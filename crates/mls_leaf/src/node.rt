@@ -1,6 +1,8 @@
 //! [`Node`].
+ghost use Rattle.std.specs.Prelude.{◌≡◌, IsTrue};
 ghost use Rattle.tls_codec.specs.OwnMessages.{no_variant_names, no_variant_source_names, tagged_names, tagged_source_names, variant_names, variant_source_names};
-ghost use Rattle.mls_leaf.specs.Node.{node_format, node_meets, node_plain};
+ghost use Rattle.mls_leaf.specs.Node.{node_format, node_meets, node_plain, node_tag};
+ghost use Rattle.mls_leaf.specs.declared.node.Node.{Node};
 
 use crate::{LeafNode, ParentNode};
 use std::alloc::Global;
@@ -95,3 +97,12 @@ impl DeserializeBytes for Node {
         }
     }
 }
+
+/// Two are equal exactly where they are of one case, and each field is.
+pub fn is_compared_by_its_case()
+    ensures tag { (x y : Node) → IsTrue (⟦<Node as PartialEq>⟧.eq x y) → node_tag x ≡ node_tag y }
+    ensures case_1 { (a0 b0 : _) → ⟦<Node as PartialEq>⟧.eq (Node.Leaf a0) (Node.Leaf b0)
+        ≡ ⟦<LeafNode as PartialEq>⟧.eq a0 b0 }
+    ensures case_2 { (a0 b0 : _) → ⟦<Node as PartialEq>⟧.eq (Node.Parent a0) (Node.Parent b0)
+        ≡ ⟦<ParentNode as PartialEq>⟧.eq a0 b0 }
+{}

@@ -1,5 +1,7 @@
 //! [`ParentHashInput`].
+ghost use Rattle.std.specs.Prelude.{◌≡◌, ◌&&◌};
 ghost use Rattle.mls_leaf.specs.ParentHashInput.{parent_hash_input_format, parent_hash_input_meets, parent_hash_input_plain};
+ghost use Rattle.mls_leaf.specs.declared.parent_hash_input.ParentHashInput.{ParentHashInput};
 
 use crate::HPKEPublicKey;
 use tls_codec::{Error, Lent, Serialize, Sink, Size, VLBytes};
@@ -53,3 +55,11 @@ impl Serialize for ParentHashInput<'_> {
             .tls_serialize_into(out)
     }
 }
+
+/// Two are equal exactly where each field is.
+pub fn is_compared_by_its_fields()
+    ensures { (x y : ParentHashInput) → ⟦<ParentHashInput<'static> as PartialEq>⟧.eq x y
+        ≡ (⟦<HPKEPublicKey as PartialEq>⟧.eq x.encryption_key.now y.encryption_key.now
+        && (⟦<VLBytes as PartialEq>⟧.eq x.parent_hash.now y.parent_hash.now
+        && ⟦<VLBytes as PartialEq>⟧.eq x.original_sibling_tree_hash.now y.original_sibling_tree_hash.now)) }
+{}

@@ -1,5 +1,7 @@
 //! [`ParentNode`].
+ghost use Rattle.std.specs.Prelude.{◌≡◌, ◌&&◌};
 ghost use Rattle.mls_leaf.specs.ParentNode.{parent_node_format, parent_node_meets, parent_node_plain};
+ghost use Rattle.mls_leaf.specs.declared.parent_node.ParentNode.{ParentNode};
 
 use crate::HPKEPublicKey;
 use std::alloc::Global;
@@ -91,3 +93,11 @@ impl DeserializeBytes for ParentNode {
         ))
     }
 }
+
+/// Two are equal exactly where each field is.
+pub fn is_compared_by_its_fields()
+    ensures { (x y : ParentNode) → ⟦<ParentNode as PartialEq>⟧.eq x y
+        ≡ (⟦<HPKEPublicKey as PartialEq>⟧.eq x.encryption_key y.encryption_key
+        && (⟦<VLBytes as PartialEq>⟧.eq x.parent_hash y.parent_hash
+        && ⟦<Vec<u32> as PartialEq>⟧.eq x.unmerged_leaves y.unmerged_leaves)) }
+{}

@@ -1,5 +1,7 @@
 //! [`ParentNodeHashInput`].
+ghost use Rattle.std.specs.Prelude.{◌≡◌, ◌&&◌};
 ghost use Rattle.mls_leaf.specs.ParentNodeHashInput.{parent_node_hash_input_format, parent_node_hash_input_meets, parent_node_hash_input_plain};
+ghost use Rattle.mls_leaf.specs.declared.parent_node_hash_input.ParentNodeHashInput.{ParentNodeHashInput};
 
 use crate::ParentNode;
 use std::alloc::Global;
@@ -97,3 +99,11 @@ impl DeserializeBytes for ParentNodeHashInput {
         ))
     }
 }
+
+/// Two are equal exactly where each field is.
+pub fn is_compared_by_its_fields()
+    ensures { (x y : ParentNodeHashInput) → ⟦<ParentNodeHashInput as PartialEq>⟧.eq x y
+        ≡ (⟦<Option<ParentNode> as PartialEq>⟧.eq x.parent_node y.parent_node
+        && (⟦<VLBytes as PartialEq>⟧.eq x.left_hash y.left_hash
+        && ⟦<VLBytes as PartialEq>⟧.eq x.right_hash y.right_hash)) }
+{}

@@ -1,5 +1,7 @@
 //! [`ProposalType`].
+ghost use Rattle.std.specs.Prelude.{◌≡◌, nat_eq};
 ghost use Rattle.mls_leaf.specs.ProposalType.{proposal_type_format, proposal_type_meets, proposal_type_plain};
+ghost use Rattle.mls_leaf.specs.declared.proposal_type.ProposalType.{ProposalType};
 
 use std::alloc::Global;
 use tls_codec::{Deserialize, DeserializeBytes, Error, Serialize, Sink, Size, Source};
@@ -74,3 +76,8 @@ impl DeserializeBytes for ProposalType {
         Ok((ProposalType(number), rest))
     }
 }
+
+/// Two are equal exactly where their numbers are.
+pub fn is_compared_by_its_number()
+    ensures { (x y : ProposalType) → ⟦<ProposalType as PartialEq>⟧.eq x y ≡ nat_eq x.0 y.0 }
+{}

@@ -1,5 +1,7 @@
 //! [`ProtocolVersion`].
+ghost use Rattle.std.specs.Prelude.{◌≡◌, nat_eq};
 ghost use Rattle.mls_leaf.specs.ProtocolVersion.{protocol_version_format, protocol_version_meets, protocol_version_plain};
+ghost use Rattle.mls_leaf.specs.declared.protocol_version.ProtocolVersion.{ProtocolVersion};
 
 use std::alloc::Global;
 use tls_codec::{Deserialize, DeserializeBytes, Error, Serialize, Sink, Size, Source};
@@ -59,3 +61,8 @@ impl DeserializeBytes for ProtocolVersion {
         Ok((ProtocolVersion(number), rest))
     }
 }
+
+/// Two are equal exactly where their numbers are.
+pub fn is_compared_by_its_number()
+    ensures { (x y : ProtocolVersion) → ⟦<ProtocolVersion as PartialEq>⟧.eq x y ≡ nat_eq x.0 y.0 }
+{}

@@ -1,5 +1,7 @@
 //! [`RatchetTree`].
+ghost use Rattle.std.specs.Prelude.{◌≡◌};
 ghost use Rattle.mls_leaf.specs.RatchetTree.{ratchet_tree_format, ratchet_tree_meets, ratchet_tree_plain};
+ghost use Rattle.mls_leaf.specs.declared.ratchet_tree.RatchetTree.{RatchetTree};
 
 use crate::Node;
 use std::alloc::Global;
@@ -51,3 +53,9 @@ impl DeserializeBytes for RatchetTree {
         Ok((RatchetTree { ratchet_tree }, rest))
     }
 }
+
+/// Two are equal exactly where each field is.
+pub fn is_compared_by_its_fields()
+    ensures { (x y : RatchetTree) → ⟦<RatchetTree as PartialEq>⟧.eq x y
+        ≡ ⟦<Vec<Option<Node>> as PartialEq>⟧.eq x.ratchet_tree y.ratchet_tree }
+{}

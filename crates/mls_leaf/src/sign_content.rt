@@ -1,5 +1,7 @@
 //! [`SignContent`].
+ghost use Rattle.std.specs.Prelude.{◌≡◌, ◌&&◌};
 ghost use Rattle.mls_leaf.specs.SignContent.{sign_content_format, sign_content_meets, sign_content_plain};
+ghost use Rattle.mls_leaf.specs.declared.sign_content.SignContent.{SignContent};
 
 use tls_codec::{Error, Lent, Serialize, Sink, Size, VLBytes};
 
@@ -35,3 +37,10 @@ impl Serialize for SignContent<'_> {
         (Lent(self.label), Lent(self.content)).tls_serialize_into(out)
     }
 }
+
+/// Two are equal exactly where each field is.
+pub fn is_compared_by_its_fields()
+    ensures { (x y : SignContent) → ⟦<SignContent<'static> as PartialEq>⟧.eq x y
+        ≡ (⟦<VLBytes as PartialEq>⟧.eq x.label.now y.label.now
+        && ⟦<VLBytes as PartialEq>⟧.eq x.content.now y.content.now) }
+{}

@@ -1,6 +1,8 @@
 //! [`TreeHashInput`].
+ghost use Rattle.std.specs.Prelude.{◌≡◌, IsTrue};
 ghost use Rattle.tls_codec.specs.OwnMessages.{no_variant_names, no_variant_source_names, tagged_names, tagged_source_names, variant_names, variant_source_names};
-ghost use Rattle.mls_leaf.specs.TreeHashInput.{tree_hash_input_format, tree_hash_input_meets, tree_hash_input_plain};
+ghost use Rattle.mls_leaf.specs.TreeHashInput.{tree_hash_input_format, tree_hash_input_meets, tree_hash_input_plain, tree_hash_input_tag};
+ghost use Rattle.mls_leaf.specs.declared.tree_hash_input.TreeHashInput.{TreeHashInput};
 
 use crate::{LeafNodeHashInput, ParentNodeHashInput};
 use std::alloc::Global;
@@ -97,3 +99,12 @@ impl DeserializeBytes for TreeHashInput {
         }
     }
 }
+
+/// Two are equal exactly where they are of one case, and each field is.
+pub fn is_compared_by_its_case()
+    ensures tag { (x y : TreeHashInput) → IsTrue (⟦<TreeHashInput as PartialEq>⟧.eq x y) → tree_hash_input_tag x ≡ tree_hash_input_tag y }
+    ensures case_1 { (a0 b0 : _) → ⟦<TreeHashInput as PartialEq>⟧.eq (TreeHashInput.Leaf a0) (TreeHashInput.Leaf b0)
+        ≡ ⟦<LeafNodeHashInput as PartialEq>⟧.eq a0 b0 }
+    ensures case_2 { (a0 b0 : _) → ⟦<TreeHashInput as PartialEq>⟧.eq (TreeHashInput.Parent a0) (TreeHashInput.Parent b0)
+        ≡ ⟦<ParentNodeHashInput as PartialEq>⟧.eq a0 b0 }
+{}

@@ -1,10 +1,16 @@
 -- PSKOrigin: what it stands for, its format and its law.
 use Rattle.std.proofs.Common.{arith}
+use Rattle.std.specs.Prelude.{ℕ}
 use Rattle.tls_codec.specs.OwnMessages.{Tree, Number, Empty, Join, number_trees, Format, number_format, nothing_format, fields_format, bytes_format, Variants, no_variant, variant, tagged_format, pair_tree, pair_format, MeetsLaws, MeetVariantLaws, u64_meets, nothing_meets, fields_meets, bytes_meets, no_variant_meets, variant_meets, tagged_meets, pair_meets}
 use Rattle.tls_codec.specs.Contents.{bytes_of}
 use Rattle.mls_proposals.specs.ResumptionPSKUsage.{resumption_psk_usage_plain, resumption_psk_usage_format, resumption_psk_usage_meets}
 use Rattle.mls_proposals.specs.declared.psk_origin.PSKOrigin.{PSKOrigin}
 use Rattle.mls_proposals.specs.declared.psk_origin.PSKOrigin.TheVariants.{External, Resumption}
+
+-- the tag of each case
+abbrev pub psk_origin_tag : PSKOrigin → ℕ
+psk_origin_tag (External a0) = 1
+psk_origin_tag (Resumption a0 a1 a2) = 2
 
 abbrev pub psk_origin_plain : PSKOrigin → Tree
 psk_origin_plain (External a0) = Join (Number 1) (Join (number_trees (bytes_of a0)) Empty)

@@ -1,5 +1,6 @@
 -- Proposal: what it stands for, its format and its law.
 use Rattle.std.proofs.Common.{arith}
+use Rattle.std.specs.Prelude.{ℕ}
 use Rattle.tls_codec.specs.OwnMessages.{Tree, Number, Empty, Join, Format, nothing_format, fields_format, Variants, no_variant, variant, tagged_format, MeetsLaws, MeetVariantLaws, nothing_meets, fields_meets, no_variant_meets, variant_meets, tagged_meets}
 use Rattle.mls_proposals.specs.Add.{add_plain, add_format, add_meets}
 use Rattle.mls_proposals.specs.Update.{update_plain, update_format, update_meets}
@@ -10,6 +11,16 @@ use Rattle.mls_proposals.specs.ExternalInit.{external_init_plain, external_init_
 use Rattle.mls_proposals.specs.GroupContextExtensions.{group_context_extensions_plain, group_context_extensions_format, group_context_extensions_meets}
 use Rattle.mls_proposals.specs.declared.proposal.Proposal.{Proposal}
 use Rattle.mls_proposals.specs.declared.proposal.Proposal.TheVariants.{Add, Update, Remove, Psk, Reinit, ExternalInit, GroupContextExtensions}
+
+-- the tag of each case
+abbrev pub proposal_tag : Proposal → ℕ
+proposal_tag (Add a0) = 1
+proposal_tag (Update a0) = 2
+proposal_tag (Remove a0) = 3
+proposal_tag (Psk a0) = 4
+proposal_tag (Reinit a0) = 5
+proposal_tag (ExternalInit a0) = 6
+proposal_tag (GroupContextExtensions a0) = 7
 
 abbrev pub proposal_plain : Proposal → Tree
 proposal_plain (Add a0) = Join (Number 1) (Join (add_plain a0) Empty)

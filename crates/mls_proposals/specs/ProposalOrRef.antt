@@ -1,10 +1,16 @@
 -- ProposalOrRef: what it stands for, its format and its law.
 use Rattle.std.proofs.Common.{arith}
+use Rattle.std.specs.Prelude.{ℕ}
 use Rattle.tls_codec.specs.OwnMessages.{Tree, Number, Empty, Join, number_trees, Format, nothing_format, fields_format, bytes_format, Variants, no_variant, variant, tagged_format, MeetsLaws, MeetVariantLaws, nothing_meets, fields_meets, bytes_meets, no_variant_meets, variant_meets, tagged_meets}
 use Rattle.tls_codec.specs.Contents.{bytes_of}
 use Rattle.mls_proposals.specs.Proposal.{proposal_plain, proposal_format, proposal_meets}
 use Rattle.mls_proposals.specs.declared.proposal_or_ref.ProposalOrRef.{ProposalOrRef}
 use Rattle.mls_proposals.specs.declared.proposal_or_ref.ProposalOrRef.TheVariants.{Proposal, Reference}
+
+-- the tag of each case
+abbrev pub proposal_or_ref_tag : ProposalOrRef → ℕ
+proposal_or_ref_tag (Proposal a0) = 1
+proposal_or_ref_tag (Reference a0) = 2
 
 abbrev pub proposal_or_ref_plain : ProposalOrRef → Tree
 proposal_or_ref_plain (Proposal a0) = Join (Number 1) (Join (proposal_plain a0) Empty)

@@ -1,5 +1,7 @@
 //! [`Add`].
+ghost use Rattle.std.specs.Prelude.{◌≡◌};
 ghost use Rattle.mls_proposals.specs.Add.{add_format, add_meets, add_plain};
+ghost use Rattle.mls_proposals.specs.declared.add.Add.{Add};
 
 use mls_leaf::KeyPackage;
 use std::alloc::Global;
@@ -51,3 +53,9 @@ impl DeserializeBytes for Add {
         Ok((Add { key_package }, rest))
     }
 }
+
+/// Two are equal exactly where each field is.
+pub fn is_compared_by_its_fields()
+    ensures { (x y : Add) → ⟦<Add as PartialEq>⟧.eq x y
+        ≡ ⟦<KeyPackage as PartialEq>⟧.eq x.key_package y.key_package }
+{}

@@ -1,5 +1,7 @@
 //! [`Commit`].
+ghost use Rattle.std.specs.Prelude.{◌≡◌, ◌&&◌};
 ghost use Rattle.mls_proposals.specs.Commit.{commit_format, commit_meets, commit_plain};
+ghost use Rattle.mls_proposals.specs.declared.commit.Commit.{Commit};
 
 use crate::{ProposalOrRef, UpdatePath};
 use std::alloc::Global;
@@ -58,3 +60,10 @@ impl DeserializeBytes for Commit {
         Ok((Commit { proposals, path }, rest))
     }
 }
+
+/// Two are equal exactly where each field is.
+pub fn is_compared_by_its_fields()
+    ensures { (x y : Commit) → ⟦<Commit as PartialEq>⟧.eq x y
+        ≡ (⟦<Vec<ProposalOrRef> as PartialEq>⟧.eq x.proposals y.proposals
+        && ⟦<Option<UpdatePath> as PartialEq>⟧.eq x.path y.path) }
+{}

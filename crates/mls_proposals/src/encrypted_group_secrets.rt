@@ -1,5 +1,7 @@
 //! [`EncryptedGroupSecrets`].
+ghost use Rattle.std.specs.Prelude.{◌≡◌, ◌&&◌};
 ghost use Rattle.mls_proposals.specs.EncryptedGroupSecrets.{encrypted_group_secrets_format, encrypted_group_secrets_meets, encrypted_group_secrets_plain};
+ghost use Rattle.mls_proposals.specs.declared.encrypted_group_secrets.EncryptedGroupSecrets.{EncryptedGroupSecrets};
 
 use crate::{HPKECiphertext, KeyPackageRef};
 use std::alloc::Global;
@@ -74,3 +76,10 @@ impl DeserializeBytes for EncryptedGroupSecrets {
         ))
     }
 }
+
+/// Two are equal exactly where each field is.
+pub fn is_compared_by_its_fields()
+    ensures { (x y : EncryptedGroupSecrets) → ⟦<EncryptedGroupSecrets as PartialEq>⟧.eq x y
+        ≡ (⟦<KeyPackageRef as PartialEq>⟧.eq x.new_member y.new_member
+        && ⟦<HPKECiphertext as PartialEq>⟧.eq x.encrypted_group_secrets y.encrypted_group_secrets) }
+{}

@@ -1,5 +1,7 @@
 //! [`ExternalInit`].
+ghost use Rattle.std.specs.Prelude.{◌≡◌};
 ghost use Rattle.mls_proposals.specs.ExternalInit.{external_init_format, external_init_meets, external_init_plain};
+ghost use Rattle.mls_proposals.specs.declared.external_init.ExternalInit.{ExternalInit};
 
 use std::alloc::Global;
 use tls_codec::{Deserialize, DeserializeBytes, Error, Serialize, Sink, Size, Source, VLBytes};
@@ -50,3 +52,9 @@ impl DeserializeBytes for ExternalInit {
         Ok((ExternalInit { kem_output }, rest))
     }
 }
+
+/// Two are equal exactly where each field is.
+pub fn is_compared_by_its_fields()
+    ensures { (x y : ExternalInit) → ⟦<ExternalInit as PartialEq>⟧.eq x y
+        ≡ ⟦<VLBytes as PartialEq>⟧.eq x.kem_output y.kem_output }
+{}

@@ -1,5 +1,7 @@
 //! [`ExternalPub`].
+ghost use Rattle.std.specs.Prelude.{◌≡◌};
 ghost use Rattle.mls_proposals.specs.ExternalPub.{external_pub_format, external_pub_meets, external_pub_plain};
+ghost use Rattle.mls_proposals.specs.declared.external_pub.ExternalPub.{ExternalPub};
 
 use mls_leaf::HPKEPublicKey;
 use std::alloc::Global;
@@ -51,3 +53,9 @@ impl DeserializeBytes for ExternalPub {
         Ok((ExternalPub { external_pub }, rest))
     }
 }
+
+/// Two are equal exactly where each field is.
+pub fn is_compared_by_its_fields()
+    ensures { (x y : ExternalPub) → ⟦<ExternalPub as PartialEq>⟧.eq x y
+        ≡ ⟦<HPKEPublicKey as PartialEq>⟧.eq x.external_pub y.external_pub }
+{}

@@ -1,5 +1,7 @@
 //! [`ExternalSender`].
+ghost use Rattle.std.specs.Prelude.{◌≡◌, ◌&&◌};
 ghost use Rattle.mls_proposals.specs.ExternalSender.{external_sender_format, external_sender_meets, external_sender_plain};
+ghost use Rattle.mls_proposals.specs.declared.external_sender.ExternalSender.{ExternalSender};
 
 use mls_leaf::{Credential, SignaturePublicKey};
 use std::alloc::Global;
@@ -70,3 +72,10 @@ impl DeserializeBytes for ExternalSender {
         ))
     }
 }
+
+/// Two are equal exactly where each field is.
+pub fn is_compared_by_its_fields()
+    ensures { (x y : ExternalSender) → ⟦<ExternalSender as PartialEq>⟧.eq x y
+        ≡ (⟦<SignaturePublicKey as PartialEq>⟧.eq x.signature_key y.signature_key
+        && ⟦<Credential as PartialEq>⟧.eq x.credential y.credential) }
+{}

@@ -1,5 +1,7 @@
 //! [`ExternalSenders`].
+ghost use Rattle.std.specs.Prelude.{◌≡◌};
 ghost use Rattle.mls_proposals.specs.ExternalSenders.{external_senders_format, external_senders_meets, external_senders_plain};
+ghost use Rattle.mls_proposals.specs.declared.external_senders.ExternalSenders.{ExternalSenders};
 
 use crate::ExternalSender;
 use std::alloc::Global;
@@ -54,3 +56,9 @@ impl DeserializeBytes for ExternalSenders {
         Ok((ExternalSenders { external_senders }, rest))
     }
 }
+
+/// Two are equal exactly where each field is.
+pub fn is_compared_by_its_fields()
+    ensures { (x y : ExternalSenders) → ⟦<ExternalSenders as PartialEq>⟧.eq x y
+        ≡ ⟦<Vec<ExternalSender> as PartialEq>⟧.eq x.external_senders y.external_senders }
+{}

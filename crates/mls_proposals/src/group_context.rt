@@ -1,5 +1,7 @@
 //! [`GroupContext`].
+ghost use Rattle.std.specs.Prelude.{◌≡◌, ◌&&◌};
 ghost use Rattle.mls_proposals.specs.GroupContext.{group_context_format, group_context_meets, group_context_plain};
+ghost use Rattle.mls_proposals.specs.declared.group_context.GroupContext.{GroupContext};
 
 use crate::ProtocolVersionMls10;
 use mls_leaf::{CipherSuite, Extension};
@@ -119,3 +121,15 @@ impl DeserializeBytes for GroupContext {
         ))
     }
 }
+
+/// Two are equal exactly where each field is.
+pub fn is_compared_by_its_fields()
+    ensures { (x y : GroupContext) → ⟦<GroupContext as PartialEq>⟧.eq x y
+        ≡ (⟦<ProtocolVersionMls10 as PartialEq>⟧.eq x.version y.version
+        && (⟦<CipherSuite as PartialEq>⟧.eq x.cipher_suite y.cipher_suite
+        && (⟦<VLBytes as PartialEq>⟧.eq x.group_id y.group_id
+        && (⟦<u64 as PartialEq>⟧.eq x.epoch y.epoch
+        && (⟦<VLBytes as PartialEq>⟧.eq x.tree_hash y.tree_hash
+        && (⟦<VLBytes as PartialEq>⟧.eq x.confirmed_transcript_hash y.confirmed_transcript_hash
+        && ⟦<Vec<Extension> as PartialEq>⟧.eq x.extensions y.extensions)))))) }
+{}

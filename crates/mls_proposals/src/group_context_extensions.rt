@@ -1,5 +1,7 @@
 //! [`GroupContextExtensions`].
+ghost use Rattle.std.specs.Prelude.{◌≡◌};
 ghost use Rattle.mls_proposals.specs.GroupContextExtensions.{group_context_extensions_format, group_context_extensions_meets, group_context_extensions_plain};
+ghost use Rattle.mls_proposals.specs.declared.group_context_extensions.GroupContextExtensions.{GroupContextExtensions};
 
 use mls_leaf::Extension;
 use std::alloc::Global;
@@ -57,3 +59,9 @@ impl DeserializeBytes for GroupContextExtensions {
         Ok((GroupContextExtensions { extensions }, rest))
     }
 }
+
+/// Two are equal exactly where each field is.
+pub fn is_compared_by_its_fields()
+    ensures { (x y : GroupContextExtensions) → ⟦<GroupContextExtensions as PartialEq>⟧.eq x y
+        ≡ ⟦<Vec<Extension> as PartialEq>⟧.eq x.extensions y.extensions }
+{}

@@ -1,5 +1,7 @@
 //! [`GroupInfo`].
+ghost use Rattle.std.specs.Prelude.{◌≡◌, ◌&&◌};
 ghost use Rattle.mls_proposals.specs.GroupInfo.{group_info_format, group_info_meets, group_info_plain};
+ghost use Rattle.mls_proposals.specs.declared.group_info.GroupInfo.{GroupInfo};
 
 use crate::{GroupContext, MAC};
 use mls_leaf::Extension;
@@ -107,3 +109,13 @@ impl DeserializeBytes for GroupInfo {
         ))
     }
 }
+
+/// Two are equal exactly where each field is.
+pub fn is_compared_by_its_fields()
+    ensures { (x y : GroupInfo) → ⟦<GroupInfo as PartialEq>⟧.eq x y
+        ≡ (⟦<GroupContext as PartialEq>⟧.eq x.group_context y.group_context
+        && (⟦<Vec<Extension> as PartialEq>⟧.eq x.extensions y.extensions
+        && (⟦<MAC as PartialEq>⟧.eq x.confirmation_tag y.confirmation_tag
+        && (⟦<u32 as PartialEq>⟧.eq x.signer y.signer
+        && ⟦<VLBytes as PartialEq>⟧.eq x.signature y.signature)))) }
+{}

@@ -1,5 +1,7 @@
 //! [`GroupInfoTBS`].
+ghost use Rattle.std.specs.Prelude.{◌≡◌, ◌&&◌};
 ghost use Rattle.mls_proposals.specs.GroupInfoTBS.{group_info_tbs_format, group_info_tbs_meets, group_info_tbs_plain};
+ghost use Rattle.mls_proposals.specs.declared.group_info_tbs.GroupInfoTBS.{GroupInfoTBS};
 
 use crate::{GroupContext, MAC};
 use mls_leaf::Extension;
@@ -53,3 +55,12 @@ impl Serialize for GroupInfoTBS<'_> {
             .tls_serialize_into(out)
     }
 }
+
+/// Two are equal exactly where each field is.
+pub fn is_compared_by_its_fields()
+    ensures { (x y : GroupInfoTBS) → ⟦<GroupInfoTBS<'static> as PartialEq>⟧.eq x y
+        ≡ (⟦<GroupContext as PartialEq>⟧.eq x.group_context.now y.group_context.now
+        && (⟦<Vec<Extension> as PartialEq>⟧.eq x.extensions.now y.extensions.now
+        && (⟦<MAC as PartialEq>⟧.eq x.confirmation_tag.now y.confirmation_tag.now
+        && ⟦<u32 as PartialEq>⟧.eq x.signer.now y.signer.now))) }
+{}

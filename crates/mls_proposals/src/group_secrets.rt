@@ -1,5 +1,7 @@
 //! [`GroupSecrets`].
+ghost use Rattle.std.specs.Prelude.{◌≡◌, ◌&&◌};
 ghost use Rattle.mls_proposals.specs.GroupSecrets.{group_secrets_format, group_secrets_meets, group_secrets_plain};
+ghost use Rattle.mls_proposals.specs.declared.group_secrets.GroupSecrets.{GroupSecrets};
 
 use crate::{PathSecret, PreSharedKeyID};
 use std::alloc::Global;
@@ -91,3 +93,11 @@ impl DeserializeBytes for GroupSecrets {
         ))
     }
 }
+
+/// Two are equal exactly where each field is.
+pub fn is_compared_by_its_fields()
+    ensures { (x y : GroupSecrets) → ⟦<GroupSecrets as PartialEq>⟧.eq x y
+        ≡ (⟦<VLBytes as PartialEq>⟧.eq x.joiner_secret y.joiner_secret
+        && (⟦<Option<PathSecret> as PartialEq>⟧.eq x.path_secret y.path_secret
+        && ⟦<Vec<PreSharedKeyID> as PartialEq>⟧.eq x.psks y.psks)) }
+{}

@@ -1,5 +1,7 @@
 //! [`HPKECiphertext`].
+ghost use Rattle.std.specs.Prelude.{◌≡◌, ◌&&◌};
 ghost use Rattle.mls_proposals.specs.HPKECiphertext.{hpke_ciphertext_format, hpke_ciphertext_meets, hpke_ciphertext_plain};
+ghost use Rattle.mls_proposals.specs.declared.hpke_ciphertext.HPKECiphertext.{HPKECiphertext};
 
 use std::alloc::Global;
 use tls_codec::{
@@ -68,3 +70,10 @@ impl DeserializeBytes for HPKECiphertext {
         ))
     }
 }
+
+/// Two are equal exactly where each field is.
+pub fn is_compared_by_its_fields()
+    ensures { (x y : HPKECiphertext) → ⟦<HPKECiphertext as PartialEq>⟧.eq x y
+        ≡ (⟦<VLBytes as PartialEq>⟧.eq x.kem_output y.kem_output
+        && ⟦<VLBytes as PartialEq>⟧.eq x.ciphertext y.ciphertext) }
+{}

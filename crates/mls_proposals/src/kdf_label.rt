@@ -1,5 +1,7 @@
 //! [`KDFLabel`].
+ghost use Rattle.std.specs.Prelude.{◌≡◌, ◌&&◌};
 ghost use Rattle.mls_proposals.specs.KDFLabel.{kdf_label_format, kdf_label_meets, kdf_label_plain};
+ghost use Rattle.mls_proposals.specs.declared.kdf_label.KDFLabel.{KDFLabel};
 
 use tls_codec::{Error, Lent, Serialize, Sink, Size, VLBytes};
 
@@ -37,3 +39,11 @@ impl Serialize for KDFLabel<'_> {
         (Lent(self.length), Lent(self.label), Lent(self.context)).tls_serialize_into(out)
     }
 }
+
+/// Two are equal exactly where each field is.
+pub fn is_compared_by_its_fields()
+    ensures { (x y : KDFLabel) → ⟦<KDFLabel<'static> as PartialEq>⟧.eq x y
+        ≡ (⟦<u16 as PartialEq>⟧.eq x.length.now y.length.now
+        && (⟦<VLBytes as PartialEq>⟧.eq x.label.now y.label.now
+        && ⟦<VLBytes as PartialEq>⟧.eq x.context.now y.context.now)) }
+{}

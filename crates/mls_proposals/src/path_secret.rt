@@ -1,5 +1,7 @@
 //! [`PathSecret`].
+ghost use Rattle.std.specs.Prelude.{◌≡◌};
 ghost use Rattle.mls_proposals.specs.PathSecret.{path_secret_format, path_secret_meets, path_secret_plain};
+ghost use Rattle.mls_proposals.specs.declared.path_secret.PathSecret.{PathSecret};
 
 use std::alloc::Global;
 use tls_codec::{Deserialize, DeserializeBytes, Error, Serialize, Sink, Size, Source, VLBytes};
@@ -50,3 +52,9 @@ impl DeserializeBytes for PathSecret {
         Ok((PathSecret { path_secret }, rest))
     }
 }
+
+/// Two are equal exactly where each field is.
+pub fn is_compared_by_its_fields()
+    ensures { (x y : PathSecret) → ⟦<PathSecret as PartialEq>⟧.eq x y
+        ≡ ⟦<VLBytes as PartialEq>⟧.eq x.path_secret y.path_secret }
+{}

@@ -1,5 +1,7 @@
 //! [`PreSharedKey`].
+ghost use Rattle.std.specs.Prelude.{◌≡◌};
 ghost use Rattle.mls_proposals.specs.PreSharedKey.{pre_shared_key_format, pre_shared_key_meets, pre_shared_key_plain};
+ghost use Rattle.mls_proposals.specs.declared.pre_shared_key.PreSharedKey.{PreSharedKey};
 
 use crate::PreSharedKeyID;
 use std::alloc::Global;
@@ -51,3 +53,9 @@ impl DeserializeBytes for PreSharedKey {
         Ok((PreSharedKey { psk }, rest))
     }
 }
+
+/// Two are equal exactly where each field is.
+pub fn is_compared_by_its_fields()
+    ensures { (x y : PreSharedKey) → ⟦<PreSharedKey as PartialEq>⟧.eq x y
+        ≡ ⟦<PreSharedKeyID as PartialEq>⟧.eq x.psk y.psk }
+{}

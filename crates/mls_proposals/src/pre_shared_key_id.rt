@@ -1,5 +1,7 @@
 //! [`PreSharedKeyID`].
+ghost use Rattle.std.specs.Prelude.{◌≡◌, ◌&&◌};
 ghost use Rattle.mls_proposals.specs.PreSharedKeyID.{pre_shared_key_id_format, pre_shared_key_id_meets, pre_shared_key_id_plain};
+ghost use Rattle.mls_proposals.specs.declared.pre_shared_key_id.PreSharedKeyID.{PreSharedKeyID};
 
 use crate::PSKOrigin;
 use std::alloc::Global;
@@ -60,3 +62,10 @@ impl DeserializeBytes for PreSharedKeyID {
         Ok((PreSharedKeyID { psktype, psk_nonce }, rest))
     }
 }
+
+/// Two are equal exactly where each field is.
+pub fn is_compared_by_its_fields()
+    ensures { (x y : PreSharedKeyID) → ⟦<PreSharedKeyID as PartialEq>⟧.eq x y
+        ≡ (⟦<PSKOrigin as PartialEq>⟧.eq x.psktype y.psktype
+        && ⟦<VLBytes as PartialEq>⟧.eq x.psk_nonce y.psk_nonce) }
+{}

@@ -1,6 +1,8 @@
 //! [`ProposalOrRef`].
+ghost use Rattle.std.specs.Prelude.{◌≡◌, IsTrue};
 ghost use Rattle.tls_codec.specs.OwnMessages.{no_variant_names, no_variant_source_names, tagged_names, tagged_source_names, variant_names, variant_source_names};
-ghost use Rattle.mls_proposals.specs.ProposalOrRef.{proposal_or_ref_format, proposal_or_ref_meets, proposal_or_ref_plain};
+ghost use Rattle.mls_proposals.specs.ProposalOrRef.{proposal_or_ref_format, proposal_or_ref_meets, proposal_or_ref_plain, proposal_or_ref_tag};
+ghost use Rattle.mls_proposals.specs.declared.proposal_or_ref.ProposalOrRef.{ProposalOrRef};
 
 use crate::{Proposal, ProposalRef};
 use std::alloc::Global;
@@ -102,3 +104,12 @@ impl DeserializeBytes for ProposalOrRef {
         }
     }
 }
+
+/// Two are equal exactly where they are of one case, and each field is.
+pub fn is_compared_by_its_case()
+    ensures tag { (x y : ProposalOrRef) → IsTrue (⟦<ProposalOrRef as PartialEq>⟧.eq x y) → proposal_or_ref_tag x ≡ proposal_or_ref_tag y }
+    ensures case_1 { (a0 b0 : _) → ⟦<ProposalOrRef as PartialEq>⟧.eq (ProposalOrRef.Proposal a0) (ProposalOrRef.Proposal b0)
+        ≡ ⟦<Proposal as PartialEq>⟧.eq a0 b0 }
+    ensures case_2 { (a0 b0 : _) → ⟦<ProposalOrRef as PartialEq>⟧.eq (ProposalOrRef.Reference a0) (ProposalOrRef.Reference b0)
+        ≡ ⟦<ProposalRef as PartialEq>⟧.eq a0 b0 }
+{}

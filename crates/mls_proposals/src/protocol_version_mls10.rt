@@ -1,7 +1,8 @@
 //! [`ProtocolVersionMls10`].
-ghost use Rattle.std.specs.Prelude.{◌≡◌, false, MatchOption};
+ghost use Rattle.std.specs.Prelude.{◌≡◌, MatchOption, false, nat_eq};
 ghost use Rattle.tls_codec.specs.OwnMessages.{values_names, values_source_names};
 ghost use Rattle.mls_proposals.specs.ProtocolVersionMls10.{protocol_version_mls10_code, protocol_version_mls10_format, protocol_version_mls10_has, protocol_version_mls10_meets, protocol_version_mls10_plain};
+ghost use Rattle.mls_proposals.specs.declared.protocol_version_mls10.ProtocolVersionMls10.{ProtocolVersionMls10};
 
 use std::alloc::Global;
 use tls_codec::{
@@ -85,3 +86,8 @@ impl DeserializeBytes for ProtocolVersionMls10 {
         }
     }
 }
+
+/// Two are equal exactly where their numbers are.
+pub fn is_compared_by_its_number()
+    ensures { (x y : ProtocolVersionMls10) → ⟦<ProtocolVersionMls10 as PartialEq>⟧.eq x y ≡ nat_eq (protocol_version_mls10_code x) (protocol_version_mls10_code y) }
+{}

@@ -1,5 +1,7 @@
 //! [`PSKLabel`].
+ghost use Rattle.std.specs.Prelude.{◌≡◌, ◌&&◌};
 ghost use Rattle.mls_proposals.specs.PSKLabel.{psk_label_format, psk_label_meets, psk_label_plain};
+ghost use Rattle.mls_proposals.specs.declared.psk_label.PSKLabel.{PSKLabel};
 
 use crate::PreSharedKeyID;
 use tls_codec::{Error, Lent, Serialize, Sink, Size};
@@ -38,3 +40,11 @@ impl Serialize for PSKLabel<'_> {
         (Lent(self.id), Lent(self.index), Lent(self.count)).tls_serialize_into(out)
     }
 }
+
+/// Two are equal exactly where each field is.
+pub fn is_compared_by_its_fields()
+    ensures { (x y : PSKLabel) → ⟦<PSKLabel<'static> as PartialEq>⟧.eq x y
+        ≡ (⟦<PreSharedKeyID as PartialEq>⟧.eq x.id.now y.id.now
+        && (⟦<u16 as PartialEq>⟧.eq x.index.now y.index.now
+        && ⟦<u16 as PartialEq>⟧.eq x.count.now y.count.now)) }
+{}

@@ -1,5 +1,7 @@
 //! [`ReInit`].
+ghost use Rattle.std.specs.Prelude.{◌≡◌, ◌&&◌};
 ghost use Rattle.mls_proposals.specs.ReInit.{re_init_format, re_init_meets, re_init_plain};
+ghost use Rattle.mls_proposals.specs.declared.re_init.ReInit.{ReInit};
 
 use mls_leaf::{CipherSuite, Extension, ProtocolVersion};
 use std::alloc::Global;
@@ -90,3 +92,12 @@ impl DeserializeBytes for ReInit {
         ))
     }
 }
+
+/// Two are equal exactly where each field is.
+pub fn is_compared_by_its_fields()
+    ensures { (x y : ReInit) → ⟦<ReInit as PartialEq>⟧.eq x y
+        ≡ (⟦<VLBytes as PartialEq>⟧.eq x.group_id y.group_id
+        && (⟦<ProtocolVersion as PartialEq>⟧.eq x.version y.version
+        && (⟦<CipherSuite as PartialEq>⟧.eq x.cipher_suite y.cipher_suite
+        && ⟦<Vec<Extension> as PartialEq>⟧.eq x.extensions y.extensions))) }
+{}

@@ -1,5 +1,7 @@
 //! [`RefHashInput`].
+ghost use Rattle.std.specs.Prelude.{◌≡◌, ◌&&◌};
 ghost use Rattle.mls_proposals.specs.RefHashInput.{ref_hash_input_format, ref_hash_input_meets, ref_hash_input_plain};
+ghost use Rattle.mls_proposals.specs.declared.ref_hash_input.RefHashInput.{RefHashInput};
 
 use tls_codec::{Error, Lent, Serialize, Sink, Size, VLBytes};
 
@@ -35,3 +37,10 @@ impl Serialize for RefHashInput<'_> {
         (Lent(self.label), Lent(self.value)).tls_serialize_into(out)
     }
 }
+
+/// Two are equal exactly where each field is.
+pub fn is_compared_by_its_fields()
+    ensures { (x y : RefHashInput) → ⟦<RefHashInput<'static> as PartialEq>⟧.eq x y
+        ≡ (⟦<VLBytes as PartialEq>⟧.eq x.label.now y.label.now
+        && ⟦<VLBytes as PartialEq>⟧.eq x.value.now y.value.now) }
+{}

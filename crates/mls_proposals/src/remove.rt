@@ -1,5 +1,7 @@
 //! [`Remove`].
+ghost use Rattle.std.specs.Prelude.{◌≡◌};
 ghost use Rattle.mls_proposals.specs.Remove.{remove_format, remove_meets, remove_plain};
+ghost use Rattle.mls_proposals.specs.declared.remove.Remove.{Remove};
 
 use std::alloc::Global;
 use tls_codec::{Deserialize, DeserializeBytes, Error, Serialize, Sink, Size, Source};
@@ -50,3 +52,9 @@ impl DeserializeBytes for Remove {
         Ok((Remove { removed }, rest))
     }
 }
+
+/// Two are equal exactly where each field is.
+pub fn is_compared_by_its_fields()
+    ensures { (x y : Remove) → ⟦<Remove as PartialEq>⟧.eq x y
+        ≡ ⟦<u32 as PartialEq>⟧.eq x.removed y.removed }
+{}

@@ -1,5 +1,7 @@
 //! [`RequiredCapabilities`].
+ghost use Rattle.std.specs.Prelude.{◌≡◌, ◌&&◌};
 ghost use Rattle.mls_proposals.specs.RequiredCapabilities.{required_capabilities_format, required_capabilities_meets, required_capabilities_plain};
+ghost use Rattle.mls_proposals.specs.declared.required_capabilities.RequiredCapabilities.{RequiredCapabilities};
 
 use mls_leaf::{CredentialType, ExtensionType, ProposalType};
 use std::alloc::Global;
@@ -95,3 +97,11 @@ impl DeserializeBytes for RequiredCapabilities {
         ))
     }
 }
+
+/// Two are equal exactly where each field is.
+pub fn is_compared_by_its_fields()
+    ensures { (x y : RequiredCapabilities) → ⟦<RequiredCapabilities as PartialEq>⟧.eq x y
+        ≡ (⟦<Vec<ExtensionType> as PartialEq>⟧.eq x.extension_types y.extension_types
+        && (⟦<Vec<ProposalType> as PartialEq>⟧.eq x.proposal_types y.proposal_types
+        && ⟦<Vec<CredentialType> as PartialEq>⟧.eq x.credential_types y.credential_types)) }
+{}

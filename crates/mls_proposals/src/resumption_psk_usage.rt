@@ -1,7 +1,8 @@
 //! [`ResumptionPSKUsage`].
-ghost use Rattle.std.specs.Prelude.{◌≡◌, false, MatchOption};
+ghost use Rattle.std.specs.Prelude.{◌≡◌, MatchOption, false, nat_eq};
 ghost use Rattle.tls_codec.specs.OwnMessages.{values_names, values_source_names};
 ghost use Rattle.mls_proposals.specs.ResumptionPSKUsage.{resumption_psk_usage_code, resumption_psk_usage_format, resumption_psk_usage_has, resumption_psk_usage_meets, resumption_psk_usage_plain};
+ghost use Rattle.mls_proposals.specs.declared.resumption_psk_usage.ResumptionPSKUsage.{ResumptionPSKUsage};
 
 use std::alloc::Global;
 use tls_codec::{
@@ -92,3 +93,8 @@ impl DeserializeBytes for ResumptionPSKUsage {
         }
     }
 }
+
+/// Two are equal exactly where their numbers are.
+pub fn is_compared_by_its_number()
+    ensures { (x y : ResumptionPSKUsage) → ⟦<ResumptionPSKUsage as PartialEq>⟧.eq x y ≡ nat_eq (resumption_psk_usage_code x) (resumption_psk_usage_code y) }
+{}

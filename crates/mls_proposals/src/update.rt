@@ -1,5 +1,7 @@
 //! [`Update`].
+ghost use Rattle.std.specs.Prelude.{◌≡◌};
 ghost use Rattle.mls_proposals.specs.Update.{update_format, update_meets, update_plain};
+ghost use Rattle.mls_proposals.specs.declared.update.Update.{Update};
 
 use mls_leaf::LeafNode;
 use std::alloc::Global;
@@ -51,3 +53,9 @@ impl DeserializeBytes for Update {
         Ok((Update { leaf_node }, rest))
     }
 }
+
+/// Two are equal exactly where each field is.
+pub fn is_compared_by_its_fields()
+    ensures { (x y : Update) → ⟦<Update as PartialEq>⟧.eq x y
+        ≡ ⟦<LeafNode as PartialEq>⟧.eq x.leaf_node y.leaf_node }
+{}

@@ -1,5 +1,7 @@
 //! [`UpdatePath`].
+ghost use Rattle.std.specs.Prelude.{◌≡◌, ◌&&◌};
 ghost use Rattle.mls_proposals.specs.UpdatePath.{update_path_format, update_path_meets, update_path_plain};
+ghost use Rattle.mls_proposals.specs.declared.update_path.UpdatePath.{UpdatePath};
 
 use crate::UpdatePathNode;
 use mls_leaf::LeafNode;
@@ -56,3 +58,10 @@ impl DeserializeBytes for UpdatePath {
         Ok((UpdatePath { leaf_node, nodes }, rest))
     }
 }
+
+/// Two are equal exactly where each field is.
+pub fn is_compared_by_its_fields()
+    ensures { (x y : UpdatePath) → ⟦<UpdatePath as PartialEq>⟧.eq x y
+        ≡ (⟦<LeafNode as PartialEq>⟧.eq x.leaf_node y.leaf_node
+        && ⟦<Vec<UpdatePathNode> as PartialEq>⟧.eq x.nodes y.nodes) }
+{}

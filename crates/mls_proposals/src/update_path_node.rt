@@ -1,5 +1,7 @@
 //! [`UpdatePathNode`].
+ghost use Rattle.std.specs.Prelude.{◌≡◌, ◌&&◌};
 ghost use Rattle.mls_proposals.specs.UpdatePathNode.{update_path_node_format, update_path_node_meets, update_path_node_plain};
+ghost use Rattle.mls_proposals.specs.declared.update_path_node.UpdatePathNode.{UpdatePathNode};
 
 use crate::HPKECiphertext;
 use mls_leaf::HPKEPublicKey;
@@ -84,3 +86,10 @@ impl DeserializeBytes for UpdatePathNode {
         ))
     }
 }
+
+/// Two are equal exactly where each field is.
+pub fn is_compared_by_its_fields()
+    ensures { (x y : UpdatePathNode) → ⟦<UpdatePathNode as PartialEq>⟧.eq x y
+        ≡ (⟦<HPKEPublicKey as PartialEq>⟧.eq x.encryption_key y.encryption_key
+        && ⟦<Vec<HPKECiphertext> as PartialEq>⟧.eq x.encrypted_path_secret y.encrypted_path_secret) }
+{}

@@ -1,5 +1,7 @@
 //! [`Welcome`].
+ghost use Rattle.std.specs.Prelude.{◌≡◌, ◌&&◌};
 ghost use Rattle.mls_proposals.specs.Welcome.{welcome_format, welcome_meets, welcome_plain};
+ghost use Rattle.mls_proposals.specs.declared.welcome.Welcome.{Welcome};
 
 use crate::EncryptedGroupSecrets;
 use mls_leaf::CipherSuite;
@@ -92,3 +94,11 @@ impl DeserializeBytes for Welcome {
         ))
     }
 }
+
+/// Two are equal exactly where each field is.
+pub fn is_compared_by_its_fields()
+    ensures { (x y : Welcome) → ⟦<Welcome as PartialEq>⟧.eq x y
+        ≡ (⟦<CipherSuite as PartialEq>⟧.eq x.cipher_suite y.cipher_suite
+        && (⟦<Vec<EncryptedGroupSecrets> as PartialEq>⟧.eq x.secrets y.secrets
+        && ⟦<VLBytes as PartialEq>⟧.eq x.encrypted_group_info y.encrypted_group_info)) }
+{}

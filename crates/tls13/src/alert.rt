@@ -1,5 +1,7 @@
 //! [`Alert`].
+ghost use Rattle.std.specs.Prelude.{◌≡◌, ◌&&◌};
 ghost use Rattle.tls13.specs.Alert.{alert_format, alert_meets, alert_plain};
+ghost use Rattle.tls13.specs.declared.alert.Alert.{Alert};
 
 use crate::{AlertDescription, AlertLevel};
 use std::alloc::Global;
@@ -55,3 +57,10 @@ impl DeserializeBytes for Alert {
         Ok((Alert { level, description }, rest))
     }
 }
+
+/// Two are equal exactly where each field is.
+pub fn is_compared_by_its_fields()
+    ensures { (x y : Alert) → ⟦<Alert as PartialEq>⟧.eq x y
+        ≡ (⟦<AlertLevel as PartialEq>⟧.eq x.level y.level
+        && ⟦<AlertDescription as PartialEq>⟧.eq x.description y.description) }
+{}

@@ -1,7 +1,8 @@
 //! [`AlertDescription`].
-ghost use Rattle.std.specs.Prelude.{◌≡◌, false, MatchOption};
+ghost use Rattle.std.specs.Prelude.{◌≡◌, MatchOption, false, nat_eq};
 ghost use Rattle.tls_codec.specs.OwnMessages.{values_names, values_source_names};
 ghost use Rattle.tls13.specs.AlertDescription.{alert_description_code, alert_description_format, alert_description_has, alert_description_meets, alert_description_plain};
+ghost use Rattle.tls13.specs.declared.alert_description.AlertDescription.{AlertDescription};
 
 use std::alloc::Global;
 use tls_codec::{
@@ -188,3 +189,8 @@ impl DeserializeBytes for AlertDescription {
         }
     }
 }
+
+/// Two are equal exactly where their numbers are.
+pub fn is_compared_by_its_number()
+    ensures { (x y : AlertDescription) → ⟦<AlertDescription as PartialEq>⟧.eq x y ≡ nat_eq (alert_description_code x) (alert_description_code y) }
+{}

@@ -1,7 +1,8 @@
 //! [`AlertLevel`].
-ghost use Rattle.std.specs.Prelude.{◌≡◌, false, MatchOption};
+ghost use Rattle.std.specs.Prelude.{◌≡◌, MatchOption, false, nat_eq};
 ghost use Rattle.tls_codec.specs.OwnMessages.{values_names, values_source_names};
 ghost use Rattle.tls13.specs.AlertLevel.{alert_level_code, alert_level_format, alert_level_has, alert_level_meets, alert_level_plain};
+ghost use Rattle.tls13.specs.declared.alert_level.AlertLevel.{AlertLevel};
 
 use std::alloc::Global;
 use tls_codec::{
@@ -85,3 +86,8 @@ impl DeserializeBytes for AlertLevel {
         }
     }
 }
+
+/// Two are equal exactly where their numbers are.
+pub fn is_compared_by_its_number()
+    ensures { (x y : AlertLevel) → ⟦<AlertLevel as PartialEq>⟧.eq x y ≡ nat_eq (alert_level_code x) (alert_level_code y) }
+{}

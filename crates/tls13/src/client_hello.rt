@@ -1,5 +1,7 @@
 //! [`ClientHello`].
+ghost use Rattle.std.specs.Prelude.{◌≡◌, ◌&&◌};
 ghost use Rattle.tls13.specs.ClientHello.{client_hello_format, client_hello_meets, client_hello_plain};
+ghost use Rattle.tls13.specs.declared.client_hello.ClientHello.{ClientHello};
 
 use crate::{CipherSuite, Extension, ProtocolVersion, Random};
 use std::alloc::Global;
@@ -128,3 +130,14 @@ impl DeserializeBytes for ClientHello {
         ))
     }
 }
+
+/// Two are equal exactly where each field is.
+pub fn is_compared_by_its_fields()
+    ensures { (x y : ClientHello) → ⟦<ClientHello as PartialEq>⟧.eq x y
+        ≡ (⟦<ProtocolVersion as PartialEq>⟧.eq x.legacy_version y.legacy_version
+        && (⟦<Random as PartialEq>⟧.eq x.random y.random
+        && (⟦<TlsByteVec<Within<u8, 0, 32>> as PartialEq>⟧.eq x.legacy_session_id y.legacy_session_id
+        && (⟦<TlsVec<Within<u16, 2, 65534>, CipherSuite> as PartialEq>⟧.eq x.cipher_suites y.cipher_suites
+        && (⟦<TlsByteVec<Within<u8, 1, 255>> as PartialEq>⟧.eq x.legacy_compression_methods y.legacy_compression_methods
+        && ⟦<TlsVec<Within<u16, 8, 65535>, Extension> as PartialEq>⟧.eq x.extensions y.extensions))))) }
+{}

@@ -1,5 +1,7 @@
 //! [`Extension`].
+ghost use Rattle.std.specs.Prelude.{◌≡◌, ◌&&◌};
 ghost use Rattle.tls13.specs.Extension.{extension_format, extension_meets, extension_plain};
+ghost use Rattle.tls13.specs.declared.extension.Extension.{Extension};
 
 use crate::ExtensionType;
 use std::alloc::Global;
@@ -69,3 +71,10 @@ impl DeserializeBytes for Extension {
         ))
     }
 }
+
+/// Two are equal exactly where each field is.
+pub fn is_compared_by_its_fields()
+    ensures { (x y : Extension) → ⟦<Extension as PartialEq>⟧.eq x y
+        ≡ (⟦<ExtensionType as PartialEq>⟧.eq x.extension_type y.extension_type
+        && ⟦<TlsByteVecU16 as PartialEq>⟧.eq x.extension_data y.extension_data) }
+{}

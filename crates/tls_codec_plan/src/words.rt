@@ -146,7 +146,7 @@ static MODULES: [&str; 8] = [
     "tls_codec",
 ];
 
-static TYPES: [&str; 79] = [
+static TYPES: [&str; 81] = [
     "Abort",
     "AllocError",
     "AllocFailed",
@@ -172,6 +172,7 @@ static TYPES: [&str; 79] = [
     "HostRuntime",
     "Into",
     "IntoIterator",
+    "IsTrue",
     "Iterator",
     "LengthField",
     "Lent",
@@ -183,6 +184,7 @@ static TYPES: [&str; 79] = [
     "Lent7",
     "Lent8",
     "Lent9",
+    "MatchOption",
     "None",
     "Ok",
     "Option",

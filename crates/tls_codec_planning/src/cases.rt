@@ -1,7 +1,8 @@
 //! The tags of selects, and their cases.
-ghost use Rattle.std.specs.Prelude.{◌≡◌, IfOk, OnOk, nat_eq};
+ghost use Rattle.std.specs.Prelude.{◌≡◌, IfOk, IfSome, OnOk, nat_eq, string_bytes};
 ghost use Rattle.std.specs.List.{list_any};
-ghost use Rattle.tls_codec_planning.specs.Cases.{HasAll, HasCase, IsComplete, IsNamed};
+ghost use Rattle.tls_codec_presentation.specs.declared.syntax.Label.TheVariants as labels;
+ghost use Rattle.tls_codec_planning.specs.Cases.{AppendsLabelled, HasAll, HasCase, HasValue, IsComplete, IsNamed, IsNumberOf};
 
 use crate::checks::{TOO_GREAT, enum_width, named, refused_number};
 use crate::items::{find, integer_width, is_single};
@@ -94,7 +95,9 @@ fn push_labels<'a>(
     case: &'a Case,
     cases: &mut Vec<Labelled<'a>>,
     budget: &mut Budget,
-) -> Result<(), Trouble> {
+) -> Result<(), Trouble>
+    ensures { OnOk result (AppendsLabelled tag.entry case.now cases.old.items cases.new.items) }
+{
     for label in &case.labels {
         let one = label_case(alloc, tag, label, &case.fields)?;
         budget.take(alloc, one.place, one.name.as_str())?;
@@ -113,7 +116,10 @@ fn label_case<'a>(
     tag: Tag<'a>,
     label: &Label,
     fields: &'a [Field],
-) -> Result<Labelled<'a>, Trouble> {
+) -> Result<Labelled<'a>, Trouble>
+    ensures fields { IfOk result (λ one. one.fields.now ≡ fields.now) }
+    ensures number { IfOk result (λ one. IsNumberOf tag.entry label.now one.number) }
+{
     match label {
         Label::Name(name) => Ok(Labelled {
             number: number_of(alloc, tag, name)?,
@@ -130,7 +136,9 @@ fn label_case<'a>(
     }
 }
 
-fn number_of(alloc: Global, tag: Tag<'_>, name: &Name) -> Result<u64, Trouble> {
+fn number_of(alloc: Global, tag: Tag<'_>, name: &Name) -> Result<u64, Trouble>
+    ensures { IfOk result (λ number. IsNumberOf tag.entry (labels.Name name.now) number) }
+{
     let text = name.text.as_str();
     let Some(one) = tag.of else {
         return Err(refused(
@@ -140,14 +148,23 @@ fn number_of(alloc: Global, tag: Tag<'_>, name: &Name) -> Result<u64, Trouble> {
             "a number: the tag's type gives its numbers no names",
         ));
     };
-    let found = one.values.iter().find(|value| named(&value.name).is_some_and(|own| own
-        .text
-        .as_str()
-        == text));
-    match found {
-        Some(value) => Ok(value.number.value),
+    match find_number(one, text) {
+        Some(number) => Ok(number),
         None => Err(refused(alloc, name.place, text, "a value of the tag's enum")),
     }
+}
+
+fn find_number(one: &Enum, text: &str) -> Option<u64>
+    ensures { IfSome result (HasValue one.now text.now) }
+{
+    for value in &one.values {
+        if let Some(name) = named(&value.name) {
+            if name.text.as_str() == text {
+                return Some(value.number.value);
+            }
+        }
+    }
+    None
 }
 
 fn name_of(alloc: Global, tag: Tag<'_>, number: Number) -> Result<String, Trouble> {
@@ -164,11 +181,17 @@ fn name_of(alloc: Global, tag: Tag<'_>, number: Number) -> Result<String, Troubl
     }
 }
 
-fn find_name(one: &Enum, number: u64) -> Option<&Name> {
-    one.values
-        .iter()
-        .filter(|value| value.number.value == number)
-        .find_map(|value| named(&value.name))
+fn find_name(one: &Enum, number: u64) -> Option<&Name>
+    ensures { IfSome result (λ name. HasValue one.now (string_bytes name.now.text) number) }
+{
+    for value in &one.values {
+        if value.number.value == number {
+            if let Some(name) = named(&value.name) {
+                return Some(name);
+            }
+        }
+    }
+    None
 }
 
 fn case_name(alloc: Global, number: Number) -> Result<String, Trouble> {

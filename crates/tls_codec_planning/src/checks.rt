@@ -1,6 +1,6 @@
 //! Whether the names and the numbers that a file gives can be written.
-ghost use Rattle.std.specs.Prelude.{◌↔◌, IfOk, IsSome};
-ghost use Rattle.tls_codec_planning.specs.Cases.{IsNamed};
+ghost use Rattle.std.specs.Prelude.{◌≡◌, ◌↔◌, ◌++◌, [], ◌∷◌, IfOk, IfSome, IsSome, OnOk, Some};
+ghost use Rattle.tls_codec_planning.specs.Cases.{IsNamed, numbers_of};
 ghost use Rattle.tls_codec_plan.specs.Writable.{IsWritable};
 
 use crate::items::item_name;
@@ -177,7 +177,9 @@ fn push_value(
     name: &Name,
     number: Number,
     values: &mut Numbers,
-) -> Result<(), Trouble> {
+) -> Result<(), Trouble>
+    ensures { OnOk result (numbers_of values.new ≡ numbers_of values.old ++ number.value ∷ []) }
+{
     let text = name.text.as_str();
     check_letters(alloc, name)?;
     if values.len() >= MOST {
@@ -208,7 +210,8 @@ fn push_value(
 
 /// The name of a value, if it has one and isn't reserved.
 pub fn named(name: &Option<Name>) -> Option<&Name>
-    ensures { IsSome result ↔ IsNamed name.now }
+    ensures some { IsSome result ↔ IsNamed name.now }
+    ensures same { IfSome result (λ own. name.now ≡ Some own.now) }
 {
     match name {
         Some(name) if name.text.as_str() != "reserved" => Some(name),

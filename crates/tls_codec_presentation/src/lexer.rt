@@ -1,5 +1,6 @@
 //! Cuts a text into its words, numbers and marks.
-ghost use Rattle.std.specs.Prelude.{◌≡◌, ◌<◌, ◌≤◌, length, IfSome};
+ghost use Rattle.std.specs.Prelude.{◌≡◌, ◌<◌, ◌≤◌, length, IfSome, MatchOption};
+ghost use Rattle.tls_codec_presentation.specs.Comments.{GoesOn, IsComment};
 
 use crate::cursor::Cursor;
 use crate::refusal::{Place, Trouble};
@@ -78,7 +79,8 @@ fn line_len(bytes: &[u8]) -> usize
 
 // How many bytes a comment takes with its end.
 fn comment_len(bytes: &[u8]) -> Option<usize>
-    ensures { IfSome result (λ len. len ≤ length bytes.now) }
+    ensures within { IfSome result (λ len. len ≤ length bytes.now) }
+    ensures first { MatchOption result (GoesOn bytes.now (length bytes.now)) (IsComment bytes.now) }
 {
     for i in 1..bytes.len() {
         if bytes[i - 1] == b'*' && bytes[i] == b'/' {

@@ -136,19 +136,30 @@ fn push_message(
 
 /// The module of a message.
 pub fn module(alloc: Global, names: &Names<'_>, form: &Form<'_>) -> Result<String, AllocError> {
-    let (ghost_uses, code, decoders) = match form.kind {
-        Kind::Struct => (structs::GHOST_USES, structs::CODE, structs::DECODERS),
-        Kind::Open => (structs::GHOST_USES, opens::CODE, ""),
-        Kind::Values => (values::GHOST_USES, values::CODE, ""),
-        Kind::Choice if form.is_lent => (structs::GHOST_USES, choices::CODE, ""),
-        Kind::Choice => (choices::GHOST_USES, choices::CODE, choices::DECODERS),
+    let (ghost_uses, code, decoders, law) = match form.kind {
+        Kind::Struct => (
+            structs::GHOST_USES,
+            structs::CODE,
+            structs::DECODERS,
+            structs::LAW,
+        ),
+        Kind::Open => (structs::GHOST_USES, opens::CODE, "", opens::LAW),
+        Kind::Values => (values::GHOST_USES, values::CODE, "", values::LAW),
+        Kind::Choice => (
+            choices::GHOST_USES,
+            choices::CODE,
+            choices::DECODERS,
+            choices::LAW,
+        ),
     };
     let mut body = form.holes.filled(alloc, code)?;
     if !form.is_lent {
         form.holes.push(&mut body, decoders)?;
     }
+    form.holes.push(&mut body, law)?;
     let uses = imports::code(alloc, names, body.as_str(), form.uses.types.as_slice())?;
     let mut out = form.holes.filled(alloc, "//! [`$name$`].\n")?;
+    out.push_str(imports::clauses(alloc, body.as_str())?.as_str())?;
     form.holes.push(&mut out, ghost_uses)?;
     write!(out, "\n{uses}\n{body}")?;
     Ok(out)

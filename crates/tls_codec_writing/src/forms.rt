@@ -3,6 +3,7 @@ ghost use Rattle.std.specs.Prelude.{◌≡◌, IfOk};
 ghost use Rattle.tls_codec_writing.specs.Forms.{has_answers};
 ghost use Rattle.tls_codec_writing.specs.Paths.{needs_answers};
 
+use crate::joining::joined;
 use crate::lines;
 use crate::rows::{Owner, Row, Uses};
 use crate::template::Holes;
@@ -109,7 +110,7 @@ impl<'a> Form<'a> {
             }
         };
         uses.types.sort()?;
-        set_texts(alloc, kind, &mut holes, parts.as_slice())?;
+        set_texts(alloc, kind, is_lent, &mut holes, parts.as_slice())?;
         Ok(Form {
             kind,
             is_lent,
@@ -124,6 +125,7 @@ impl<'a> Form<'a> {
 fn set_texts(
     alloc: Global,
     kind: Kind,
+    is_lent: bool,
     holes: &mut Holes,
     parts: &[Part],
 ) -> Result<(), AllocError> {
@@ -141,6 +143,9 @@ fn set_texts(
                 ""
             };
             holes.set("nothing", String::from_str(alloc, nothing)?)?;
+            let names_use = if is_lent { "" } else { choices::NAMES_USE };
+            let names_use = holes.filled(alloc, names_use)?;
+            holes.set("names_use", names_use)?;
             lines::set(alloc, holes, parts, &choices::TEXTS)
         }
     }
@@ -197,17 +202,24 @@ fn doc(alloc: Global, message: &Message) -> Result<String, AllocError> {
     Ok(out)
 }
 
-// Sets the holes `derives`, `lifetime`, `any` and `matched`.
+// Sets the holes `derives`, `lifetime`, `any`, `static` and `matched`.
 fn set_lent(alloc: Global, holes: &mut Holes, is_lent: bool) -> Result<(), AllocError> {
     let (derives, lifetime, any, matched) = if is_lent {
         ("PartialEq, Eq, Debug, Clone, Copy", "<'a>", "<'_>", "*self")
     } else {
         ("PartialEq, Eq, Debug, Clone, Drop", "", "", "self")
     };
+    set_static(alloc, holes, is_lent)?;
     holes.set("derives", String::from_str(alloc, derives)?)?;
     holes.set("lifetime", String::from_str(alloc, lifetime)?)?;
     holes.set("any", String::from_str(alloc, any)?)?;
     holes.set("matched", String::from_str(alloc, matched)?)
+}
+
+// Sets the hole `static`: a lent type's lifetime in a clause.
+fn set_static(alloc: Global, holes: &mut Holes, is_lent: bool) -> Result<(), AllocError> {
+    let lifetime = if is_lent { "<'static>" } else { "" };
+    holes.set("static", String::from_str(alloc, lifetime)?)
 }
 
 // Sets the holes `width`, `bits`, `u64`, `cast` and `end`: the tag as a `u64`, and what makes a proof about that of
@@ -279,6 +291,7 @@ fn cases_of(
         set_part(alloc, &mut holes, i, variant.name.as_str(), variant.tag)?;
         holes.set("label", variant.label.clone()?)?;
         holes.set("constant", variant.constant.clone()?)?;
+        set_static(alloc, &mut holes, message.is_lent)?;
         let members = variant.fields.as_slice();
         let row = Row::of(alloc, names, Owner::Variant, message.is_lent, members, uses)?;
         row.set(alloc, &mut holes)?;
@@ -290,13 +303,22 @@ fn cases_of(
     Ok(parts)
 }
 
-// Sets the hole `value`: the variant with a variable for each field, as `(Both a0 a1)`.
+// Sets the holes `lefts`, `rights` and `value`: variables for the fields of two, as `a0 a1` and `b0 b1`, and the
+// variant with the first, as `(Both a0 a1)`.
 fn set_value(alloc: Global, holes: &mut Holes, fields: usize) -> Result<(), AllocError> {
-    let mut value = holes.filled(alloc, "$variant$")?;
+    let mut lefts = Vec::new(alloc);
+    let mut rights = Vec::new(alloc);
     for i in 0..fields {
-        write!(value, " a{i}")?;
+        lefts.push(format!(in alloc; "a{i}")?)?;
+        rights.push(format!(in alloc; "b{i}")?)?;
     }
-    holes.set("value", par(alloc, value)?)
+    let mut value = holes.filled(alloc, "$variant$")?;
+    for left in &lefts {
+        write!(value, " {left}")?;
+    }
+    holes.set("value", par(alloc, value)?)?;
+    holes.set("lefts", joined(alloc, lefts.as_slice(), " ")?)?;
+    holes.set("rights", joined(alloc, rights.as_slice(), " ")?)
 }
 
 // What the call for a case's fields ensures. A field that is alone is a part of the case, by a lemma.

@@ -15,6 +15,17 @@ static PRELUDE: [&str; 8] = [
     "refl",
 ];
 
+// What the clauses of code take of std.
+static CLAUSES: [&str; 7] = [
+    "◌≡◌",
+    "◌&&◌",
+    "IsTrue",
+    "MatchOption",
+    "false",
+    "nat_eq",
+    "true",
+];
+
 // What definitions take of the codec.
 static WORDS: [&str; 53] = [
     "Tree",
@@ -248,6 +259,14 @@ pub fn answers(alloc: Global, text: &str) -> Result<String, AllocError> {
         &LEMMAS,
     )?;
     Ok(out)
+}
+
+/// The line for what the clauses of a module take of std.
+pub fn clauses(alloc: Global, text: &str) -> Result<String, AllocError> {
+    let text = Text::of(alloc, text)?;
+    let used = text.used(alloc, &CLAUSES)?;
+    let names = list(alloc, used.as_slice())?;
+    format!(in alloc; "ghost use Rattle.std.specs.Prelude.{{{names}}};\n")
 }
 
 /// The lines of a module, which has these types of its crate and of others.

@@ -16,8 +16,8 @@ pub enum Owner {
     Variant,
 }
 
-/// The fields of a struct or of a variant, each as the holes `name`, `declared`, `rust`, `tree`, `format` and
-/// `law`.
+/// The fields of a struct or of a variant, each as the holes `name`, `declared`, `rust`, `tree`, `alike`, `format`
+/// and `law`.
 #[derive(Drop)]
 pub struct Row {
     owner: Owner,
@@ -78,11 +78,13 @@ impl Row {
         })
     }
 
-    /// Sets the holes `fields`, `first`, `stated`, `declared`, `lent`, `shown`, `pattern`, `types`, `path`, `gap`,
-    /// `plain`, `format` and `law`.
+    /// Sets the holes `fields`, `first`, `stated`, `declared`, `lent`, `shown`, `pattern`, `types`, `path`, `alike`,
+    /// `gap`, `plain`, `format` and `law`.
     pub fn set(&self, alloc: Global, holes: &mut Holes) -> Result<(), AllocError> {
         self.set_fields(alloc, holes)?;
         self.set_tuples(alloc, holes)?;
+        let alike = self.each(alloc, "$alike$")?;
+        holes.set("alike", all_of(alloc, alike.as_slice())?)?;
         self.set_definitions(alloc, holes)
     }
 
@@ -221,11 +223,21 @@ fn field(
     } else {
         ("", "")
     };
-    let value = match owner {
-        Owner::Struct => format!(in alloc; "v.{name}{now}")?,
-        Owner::Variant => format!(in alloc; "a{at}{now}")?,
+    let (value, left, right) = match owner {
+        Owner::Struct => (
+            format!(in alloc; "v.{name}{now}")?,
+            format!(in alloc; "x.{name}{now}")?,
+            format!(in alloc; "y.{name}{now}")?,
+        ),
+        Owner::Variant => (
+            format!(in alloc; "a{at}{now}")?,
+            format!(in alloc; "a{at}{now}")?,
+            format!(in alloc; "b{at}{now}")?,
+        ),
     };
     let tree = words.tree_of(alloc, value)?;
+    let of = compared(alloc, &words)?;
+    let alike = format!(in alloc; "⟦<{of} as PartialEq>⟧.eq {left} {right}")?;
     let rust = words.rust.as_str();
     let rust = format!(in alloc; "{reference}{rust}")?;
     let mut holes = Holes::new(alloc);
@@ -233,9 +245,34 @@ fn field(
     holes.set("declared", member.declared.clone()?)?;
     holes.set("rust", rust)?;
     holes.set("tree", tree)?;
+    holes.set("alike", alike)?;
     holes.set("format", words.format)?;
     holes.set("law", words.law)?;
     Ok(holes)
+}
+
+// The type of a field in a clause, in which no lifetime is declared.
+fn compared(alloc: Global, words: &Words) -> Result<String, AllocError> {
+    match &words.named {
+        Some(name) if words.is_lent => format!(in alloc; "{name}<'static>"),
+        _ => words.rust.clone(),
+    }
+}
+
+// That each of these is true, as `(a && (b && c))`.
+fn all_of(alloc: Global, texts: &[String]) -> Result<String, AllocError> {
+    let Some((last, others)) = texts.split_last() else {
+        return String::from_str(alloc, "true");
+    };
+    let mut out = String::new(alloc);
+    for text in others {
+        write!(out, "({text}\n        && ")?;
+    }
+    out.push_str(last.as_str())?;
+    for _ in others {
+        out.push_str(")")?;
+    }
+    Ok(out)
 }
 
 // A type in front of `::`.

@@ -2,7 +2,7 @@
 use super::{refusal, same_at};
 use std::test::Fail;
 
-static BAD: [(&str, usize, usize, &str, &str); 76] = [
+static BAD: [(&str, usize, usize, &str, &str); 78] = [
     // types
     ("Foo A;", 1, 1, "Foo", "given by --with"),
     ("struct { Foo a; } A;", 1, 10, "Foo", "given by --with"),
@@ -31,6 +31,7 @@ static BAD: [(&str, usize, usize, &str, &str); 76] = [
     ("uint8 a;", 1, 7, "a", "capital"),
     ("uint8 Vec;", 1, 7, "Vec", "another name"),
     ("uint8 Type;", 1, 7, "Type", "another name"),
+    ("uint8 IsTrue;", 1, 7, "IsTrue", "another name"),
     ("struct {} Match;", 1, 11, "Match", "another name"),
     ("enum { a(1) } VLBytes;", 1, 15, "VLBytes", "another name"),
     ("uint8 A; struct {} A;", 1, 20, "A", "no definition above"),
@@ -83,6 +84,14 @@ static BAD: [(&str, usize, usize, &str, &str); 76] = [
         1,
         10,
         "70000",
+        "enum's bytes",
+    ),
+    // 1 past 32 bits
+    (
+        "enum { a(4294967297), (255) } A;",
+        1,
+        10,
+        "4294967297",
         "enum's bytes",
     ),
     ("enum { a(70000) } A;", 1, 19, "A", "1, 2, 4 or 8"),

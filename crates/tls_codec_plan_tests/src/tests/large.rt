@@ -39,6 +39,13 @@ fn many(rt: HostRuntime) -> Result<(), Fail> {
             "case_1",
             "18 fields",
         ),
+        (
+            format!(in alloc;
+                "open enum {{ a(1), b(2), (255) }} T; struct {{ T t; select (S.t) {{ case a: {nineteen} case b: struct{{}}; }} }} S;"
+            )?,
+            "a",
+            "18 fields",
+        ),
     ] {
         let refusal = refusal(&rt, alloc, text.as_str());
         same(&rt, refusal.found.as_str(), found);
@@ -66,6 +73,32 @@ fn copies_are_counted(rt: HostRuntime) -> Result<(), Fail> {
         }
         _ => panic!(rt; "not refused"),
     }
+}
+
+// So many structs, each with 256 cases, and with 18 fields that stand in each of these.
+fn structs(alloc: Global, count: usize) -> Result<String, AllocError> {
+    let mut labels = String::new(alloc);
+    for k in 0..=255u8 {
+        write!(&mut labels, "case {k}: ")?;
+    }
+    let eighteen = fields(alloc, 18)?;
+    let mut out = String::new(alloc);
+    for k in 0..count {
+        write!(
+            &mut out,
+            "struct {{ uint8 t; {eighteen} select (S{k}.t) {{ {labels}struct{{}}; }} }} S{k};"
+        )?;
+    }
+    Ok(out)
+}
+
+// 21 times 256 cases of 18 fields.
+#[test]
+fn more_than_may_be_in_all(rt: HostRuntime) -> Result<(), Fail> {
+    let text = structs(rt.alloc(), 21)?;
+    let refusal = refusal(&rt, rt.alloc(), text.as_str());
+    expects(&rt, &refusal, "a smaller text");
+    Ok(())
 }
 
 // Each struct has the one before it twice.

@@ -94,7 +94,7 @@ struct {
 }
 
 // Texts that are refused, each with the place, what stands there, and what would be right.
-static BAD: [(&str, usize, usize, &str, &str); 30] = [
+static BAD: [(&str, usize, usize, &str, &str); 32] = [
     ("enum", 1, 5, "", "{"),
     (
         "{",
@@ -135,6 +135,20 @@ static BAD: [(&str, usize, usize, &str, &str); 30] = [
         "a number of 64 bits, as 12, 0x0a or 2^16-1",
     ),
     ("uint8 #;", 1, 7, "#", "a word, a number or a mark"),
+    (
+        "uint8 A;;",
+        1,
+        9,
+        ";",
+        "enum, open, struct, lent or the name of a type",
+    ),
+    (
+        ";uint8 A;",
+        1,
+        1,
+        ";",
+        "enum, open, struct, lent or the name of a type",
+    ),
     ("uint8 struct;", 1, 7, "struct", "the new name of the type"),
     (
         "optional<A> b;",
@@ -207,6 +221,26 @@ fn refusals(rt: HostRuntime) -> Result<(), Fail> {
         same_at(&rt, *text, refusal.place.column, *column);
         same_at(&rt, *text, refusal.found.as_str(), *found);
         same_at(&rt, *text, refusal.expected, *expected);
+    }
+    Ok(())
+}
+
+// Each text, and what is printed of it. A comment goes on at a `*` or a `/` alone.
+static COMMENTS: [(&str, &str); 6] = [
+    ("/* a * b / c */ uint8 A;", "uint8 A;\n"),
+    ("/* a / b * c */ uint8 A;", "uint8 A;\n"),
+    ("/**/uint8 A;/***/uint8 B;", "uint8 A;\nuint8 B;\n"),
+    ("/*/ uint8 A; */uint8 B;", "uint8 B;\n"),
+    ("/* uint8 A; */uint8 B;/* uint8 C; */", "uint8 B;\n"),
+    ("// uint8 A; /*\nuint8 B;// */ uint8 C;", "uint8 B;\n"),
+];
+
+#[test]
+fn comments(rt: HostRuntime) -> Result<(), Fail> {
+    for (text, want) in &COMMENTS {
+        let file = file_of(&rt, rt.alloc(), text);
+        let printed = print(rt.alloc(), &file)?;
+        same_at(&rt, *text, printed.as_str(), *want);
     }
     Ok(())
 }

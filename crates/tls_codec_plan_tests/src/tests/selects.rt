@@ -3,7 +3,7 @@ use super::shown::show;
 use super::{made, same_at};
 use std::test::Fail;
 
-static GOOD: [(&str, &str); 19] = [
+static GOOD: [(&str, &str); 22] = [
     // a tag in a struct, and a struct that is a tag and its select alone
     (
         "enum { a(1), b(2), (255) } T; struct { T t; select (S.t) { case a: uint8 y; case b: struct{}; } uint8 z; } S;",
@@ -34,6 +34,20 @@ static GOOD: [(&str, &str); 19] = [
     (
         "uint64 N; struct { N n; select (S.n) { case 0: uint16 y; case 3: struct{}; } uint8 z; } S;",
         "type N = u8\nn_data.NData by 8:\n  Case0 CASE_0 0: y u2,\n  Case3 CASE_3 3:\ns.S: n NData, z u1,\n",
+    ),
+    // a number between those of an open enum's values
+    (
+        "open enum { a(1), b(5), (255) } T; struct { T t; select (S.t) { case 3: uint8 y; case b: struct{}; } } S;",
+        "s.S by 1:\n  Case3 CASE_3 3: y u1,\n  B B 5:\n",
+    ),
+    // several labels in a row, each with all that comes after them
+    (
+        "open enum { a(1), b(2), (65535) } T; struct { T t; select (S.t) { case a: case b: uint8 y; } } S;",
+        "s.S by 2:\n  A A 1: y u1,\n  B B 2: y u1,\n",
+    ),
+    (
+        "struct { uint8 t; select (S.t) { case 1: case 2: case 4: uint8 y; uint16 z; } } S;",
+        "s.S by 1:\n  Case1 CASE_1 1: y u1, z u2,\n  Case2 CASE_2 2: y u1, z u2,\n  Case4 CASE_4 4: y u1, z u2,\n",
     ),
     // labels in another order than the enum's, and by the numbers of its values
     (

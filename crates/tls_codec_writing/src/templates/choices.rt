@@ -4,14 +4,19 @@
 use crate::lines::Lines;
 
 pub static GHOST_USES: &str =
+    "$names_use$ghost use Rattle.$crate$.specs.$name$.{$module$_format, $module$_meets, $module$_plain, $module$_tag};
+ghost use Rattle.$crate$.specs.declared.$module$.$name$.{$name$};
+";
+
+/// What the decoders of one that isn't lent take of the codec.
+pub static NAMES_USE: &str =
     "ghost use Rattle.tls_codec.specs.OwnMessages.{no_variant_names, no_variant_source_names, $nothing$tagged_names, tagged_source_names, variant_names, variant_source_names};
-ghost use Rattle.$crate$.specs.$name$.{$module$_format, $module$_meets, $module$_plain};
 ";
 
 /// What is brought in for a case without fields.
 pub static NOTHING: &str = "nothing_names, nothing_source_names, ";
 
-pub static TEXTS: [Lines; 14] = [
+pub static TEXTS: [Lines; 16] = [
     Lines {
         hole: "constants",
         before: "",
@@ -132,6 +137,28 @@ $declared$    },
         alone: Some("$module$_plain v = Join (Number $number$) Empty\n"),
     },
     Lines {
+        hole: "tags",
+        before: "",
+        each: "$module$_tag $value$ = $number$\n",
+        bare: None,
+        one: None,
+        behind: "",
+        alone: Some("$module$_tag v = $number$\n"),
+    },
+    Lines {
+        hole: "cases",
+        before: "",
+        each: "    ensures case_$number$ { ($lefts$ $rights$ : _) → ⟦<$name$$static$ as PartialEq>⟧.eq ($name$.$variant$ $lefts$) ($name$.$variant$ $rights$)
+        ≡ $alike$ }
+",
+        bare: Some(
+            "    ensures case_$number$ { ⟦<$name$$static$ as PartialEq>⟧.eq $name$.$variant$ $name$.$variant$ ≡ true }\n",
+        ),
+        one: None,
+        behind: "",
+        alone: None,
+    },
+    Lines {
         hole: "formats",
         before: "",
         each: "    $open$variant $number$ $format$\n",
@@ -219,7 +246,17 @@ $splits$            _ => Err(unknown_value($u64$)),
 }
 ";
 
-pub static SPECS: &str = "abbrev pub $module$_plain : $name$ → Tree
+pub static LAW: &str = "
+/// Two are equal exactly where they are of one case, and each field is.
+pub fn is_compared_by_its_case()
+    ensures tag { (x y : $name$) → IsTrue (⟦<$name$$static$ as PartialEq>⟧.eq x y) → $module$_tag x ≡ $module$_tag y }
+$cases${}
+";
+
+pub static SPECS: &str = "-- the tag of each case
+abbrev pub $module$_tag : $name$ → ℕ
+$tags$
+abbrev pub $module$_plain : $name$ → Tree
 $plains$
 abbrev pub $module$_variants : Variants
 $module$_variants =

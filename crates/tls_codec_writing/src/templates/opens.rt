@@ -74,6 +74,13 @@ impl DeserializeBytes for $name$ {
 }
 ";
 
+pub static LAW: &str = "
+/// Two are equal exactly where their numbers are.
+pub fn is_compared_by_its_number()
+    ensures { (x y : $name$) → ⟦<$name$ as PartialEq>⟧.eq x y ≡ nat_eq x.0 y.0 }
+{}
+";
+
 pub static SPECS: &str = "abbrev pub $module$_plain : $name$ → Tree
 $module$_plain v = Number v.0
 

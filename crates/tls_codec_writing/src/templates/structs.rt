@@ -16,6 +16,7 @@ pub static TEXTS: [Lines; 1] = [Lines {
 
 pub static GHOST_USES: &str =
     "ghost use Rattle.$crate$.specs.$name$.{$module$_format, $module$_meets, $module$_plain};
+ghost use Rattle.$crate$.specs.declared.$module$.$name$.{$name$};
 ";
 
 pub static CODE: &str = "$doc$#[derive($derives$)]
@@ -63,6 +64,14 @@ impl DeserializeBytes for $name$ {
         Ok(($name$ { $fields$ }, rest))
     }
 }
+";
+
+pub static LAW: &str = "
+/// Two are equal exactly where each field is.
+pub fn is_compared_by_its_fields()
+    ensures { (x y : $name$) → ⟦<$name$$static$ as PartialEq>⟧.eq x y
+        ≡ $alike$ }
+{}
 ";
 
 pub static SPECS: &str = "abbrev pub $module$_plain : $name$ → Tree

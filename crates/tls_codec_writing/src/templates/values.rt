@@ -2,9 +2,10 @@
 
 use crate::lines::Lines;
 
-pub static GHOST_USES: &str = "ghost use Rattle.std.specs.Prelude.{◌≡◌, false, MatchOption};
-ghost use Rattle.tls_codec.specs.OwnMessages.{values_names, values_source_names};
+pub static GHOST_USES: &str =
+    "ghost use Rattle.tls_codec.specs.OwnMessages.{values_names, values_source_names};
 ghost use Rattle.$crate$.specs.$name$.{$module$_code, $module$_format, $module$_has, $module$_meets, $module$_plain};
+ghost use Rattle.$crate$.specs.declared.$module$.$name$.{$name$};
 ";
 
 pub static TEXTS: [Lines; 6] = [
@@ -130,6 +131,13 @@ impl DeserializeBytes for $name$ {
         }
     }
 }
+";
+
+pub static LAW: &str = "
+/// Two are equal exactly where their numbers are.
+pub fn is_compared_by_its_number()
+    ensures { (x y : $name$) → ⟦<$name$ as PartialEq>⟧.eq x y ≡ nat_eq ($module$_code x) ($module$_code y) }
+{}
 ";
 
 pub static SPECS: &str = "-- the number of each value

@@ -1,0 +1,14 @@
+-- Where a comment ends.
+use Rattle.std.specs.Prelude.{◌≡◌, ◌+◌, ◌<◌, ℕ, List, get_or, length}
+
+-- `*/` begins at this place
+abbrev pub EndsAt : List ℕ → ℕ → Type 0
+EndsAt bytes at = (at + 1 < length bytes) × (get_or bytes at 0 ≡ 42) × (get_or bytes (at + 1) 0 ≡ 47)
+
+-- no `*/` begins before this place
+abbrev pub GoesOn : List ℕ → ℕ → Type 0
+GoesOn bytes end = (at : ℕ) → at < end → EndsAt bytes at → ⊥
+
+-- so many bytes are those up to the first `*/` and with it
+abbrev pub IsComment : List ℕ → ℕ → Type 0
+IsComment bytes len = (at : ℕ) × (len ≡ at + 2) × GoesOn bytes at × EndsAt bytes at
