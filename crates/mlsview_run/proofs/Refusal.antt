@@ -1,5 +1,5 @@
 -- Why bytes are no message, by what the reader path returns of them.
-use Rattle.std.proofs.Common.{Bool, ◌≡◌, ◌≢◌, ◌+◌, ◌-◌, ◌<◌, ◌∙◌, ℕ, List, [], ◌∷◌, ◌++◌, length, ap, append-nil, arith, sym, subst}
+use Rattle.std.proofs.Common.{Bool, ◌≡◌, ◌≢◌, ◌+◌, ◌-◌, ◌∙◌, ℕ, List, [], ◌∷◌, ◌++◌, length, ap, append-nil, arith, sym, subst}
 use Rattle.std.proofs.lemmas.List.{length-append}
 use Rattle.tls_codec.specs.Calls.{Error}
 use Rattle.tls_codec.specs.Devices.{Gives, no_counts}

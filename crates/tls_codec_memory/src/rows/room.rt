@@ -123,7 +123,7 @@ fn a_length_put_before_bytes(alloc: Global, requests: &mut Requests) -> Result<(
     has_bytes(out, &[2, 1, 2])
 }
 
-// The room for the length of a list is guessed, and here it is one byte short.
+// The room for the length of a list is guessed, and here it is two bytes short.
 fn a_length_wider_than_likely(alloc: Global, requests: &mut Requests) -> Result<(), Wrong> {
     requests.begin("a_length_wider_than_likely");
     let list = told!(requests, 2, one_long(alloc))?;
