@@ -6,7 +6,7 @@ ghost use Rattle.std.specs.Prelude.{◌≡◌, ◌≤◌, ◌⊎◌, ◌^◌, le
 ghost use Rattle.tls_codec_wire.specs.declared.error.Error.TheVariants.{InvalidVectorLength, OutOfMemory};
 ghost use Rattle.tls_codec_grammar.specs.Tree.{trees};
 ghost use Rattle.tls_codec_grammar.specs.Announced.{content_sum};
-ghost use Rattle.tls_codec_grammar.specs.Field.{IsSafeGap};
+ghost use Rattle.tls_codec_grammar.specs.Gaps.{IsSafeGap};
 ghost use Rattle.tls_codec_grammar.specs.Format.{counted_list_format};
 ghost use Rattle.tls_codec_grammar.specs.Decoding.{Named, Reads, Splits};
 ghost use Rattle.tls_codec_grammar.specs.Encoding.{AppendRefused, Appended, AppendsForm, Makes, Writes};

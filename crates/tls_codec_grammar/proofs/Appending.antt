@@ -7,7 +7,8 @@ use Rattle.tls_codec_grammar.specs.Tree.{Tree}
 use Rattle.tls_codec_grammar.specs.Grammar.{Writing}
 use Rattle.tls_codec_grammar.specs.Shortest.{IsShortest}
 use Rattle.tls_codec_grammar.specs.Announced.{capped}
-use Rattle.tls_codec_grammar.specs.Field.{Field, FilledGap, GapRefused, IsSafeGap, OpenedGap}
+use Rattle.tls_codec_grammar.specs.Field.{Field}
+use Rattle.tls_codec_grammar.specs.Gaps.{FilledGap, GapRefused, IsSafeGap, OpenedGap}
 use Rattle.tls_codec_grammar.specs.Format.{Format, counted_format}
 use Rattle.tls_codec_grammar.specs.Lawful.{MeetsFieldLaws, MeetsLaws, MeetsLawsInside}
 use Rattle.tls_codec_grammar.specs.Encoding.{Appended, AppendRefused, RefusesVector}

@@ -32,7 +32,7 @@ module _ {field : Field} (m : MeetsFieldLaws field) (inside : Grammar) where
       let p = b.spelled in
       none (length p.inside) (p.inside ++ rest) (record { front = p.count; whole = b.whole ∙ ap (λ (u : List ℕ). u ++ rest) p.whole ∙ append_assoc p.count p.inside rest; spelled = p.counts })
 
-  -- if so many bytes of the inside don't begin after the length, nothing counted does
+  -- if no inside of the n bytes that the length says begins after it, nothing counted does
   pub counted_none_at_inside : (x behind : List ℕ) (n : ℕ) (a : List ℕ) → x ≡ a ++ behind → field.spells a n → NoneBegins (sized n inside) behind → NoneBegins (counted field.spells inside) x
   counted_none_at_inside x behind n a e f none v rest b =
       let p = b.spelled in

@@ -1,8 +1,8 @@
 -- What is sent of a length field and what it counts.
-use Rattle.std.proofs.Common.{◌≡◌, ℕ, ◌+◌, ◌<◌, ◌≤◌, List, [], ◌++◌, length, inl, inr, refl, sym, ap, subst, ◌∙◌, append_assoc, length-append, arith}
+use Rattle.std.proofs.Common.{◌≡◌, ℕ, ◌+◌, ◌<◌, List, [], ◌++◌, length, inl, inr, refl, sym, ap, subst, ◌∙◌, append_assoc, length-append, arith}
 use Rattle.std.specs.Io.KnownBytes.{Appends}
 use Rattle.std.proofs.KnownBytes.{Appends-nil, Appends-trans}
-use Rattle.tls_codec_wire.specs.Counts.{Counts, NoneFell, fall_never, stay}
+use Rattle.tls_codec_wire.specs.Counts.{NoneFell, fall_never, stay}
 use Rattle.tls_codec_wire.specs.declared.device.Sink.{Ghosts}
 use Rattle.tls_codec_wire.specs.Device.{Received}
 use Rattle.tls_codec_wire.specs.Numbers.{BeganNumber, SentNumber}

@@ -6,7 +6,7 @@ use Rattle.std.specs.Int.{bytes_high_first}
 use Rattle.tls_codec_wire.specs.Digits.{Digits}
 use Rattle.tls_codec_wire.proofs.BigEndian.{AreBytes-high_first, length-high_first, value-high_first}
 use Rattle.tls_codec_wire.proofs.VarintForms.{drop-high_first}
-use Rattle.tls_codec_grammar.specs.Field.{FitGap}
+use Rattle.tls_codec_grammar.specs.Gaps.{FitGap}
 
 -- ---- k bytes
 

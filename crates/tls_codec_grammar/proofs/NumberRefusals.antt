@@ -20,7 +20,8 @@ module _ {spells : Grammar} {lean : Bool} {refuses : List ℕ → Error → Type
   number_refuses x e p = record { cause = inl (none x e p); memory = λ h. absurd ((named x e p).0 h) }
 
   pub number_refused : (e : Error) (x : List ℕ) (old new : Counts) → NumberNotRead refuses x old new e → RefusesSource spells lean x old new e
-  number_refused (DecodingError text) x old new p = record { cause = inr (inl p.1); memory = λ h. absurd cc }
+  number_refused (DecodingError text) x old new (inl failed) = record { cause = inr (inl failed.1); memory = λ h. absurd cc }
+  number_refused (DecodingError text) x old new (inr refused) = record { cause = inl (none x (DecodingError text) refused); memory = λ h. absurd cc }
   number_refused OutOfMemory x old new p = record { cause = inr (inr refl); memory = λ h. inr p }
   number_refused e x old new p = record { cause = inl (none x e p); memory = λ h. absurd ((named x e p).0 h) }
 
@@ -43,7 +44,7 @@ digits_named {S} {source} {old} {new} {e} {k} same p =
 
 -- nor a length of as many
 pub field_not_read : (k : ℕ) (e : Error) (x : List ℕ) (old new : Counts) → ReadRefused k x old new e → NumberNotRead (RefusesDigits k) x old new e
-field_not_read k (DecodingError text) x old new p = p
+field_not_read k (DecodingError text) x old new p = inl p
 field_not_read k EndOfStream x old new p = p
 field_not_read k OutOfMemory x old new p = p
 field_not_read k _ x old new p = absurd p

@@ -49,21 +49,21 @@ module _ {field : Field} (m : MeetsFieldLaws field) where
   -- why the length is not read is why the bytes are not
   pub length_not_read : (e : Error) (x : List ℕ) (old new : Counts) → NumberNotRead field.refuses x old new e → OpaqueSourceRefused field x old new e
   length_not_read (DecodingError text) x old new p = p
-  length_not_read OutOfMemory x old new p = tt
+  length_not_read OutOfMemory x old new p = inl p
   length_not_read EndOfStream x old new p = inl p
   length_not_read e x old new p = p
 
   -- why the bytes after the length are not read
   pub content_not_read : (e : Error) (start before after : Counts) (front : List ℕ) (n : ℕ) → NoneFell start before → field.spells front n → (y : List ℕ) → BytesRefused n y before after e → OpaqueSourceRefused field (front ++ y) start after e
   content_not_read InvalidVectorLength start before after front n fell p y r = absurd (omega (arith, m.small n (m.held front n p), r))
-  content_not_read (DecodingError text) start before after front n fell p y r = (r.0, fault_later start before after fell r.1)
+  content_not_read (DecodingError text) start before after front n fell p y r = inl (r.0, fault_later start before after fell r.1)
   content_not_read EndOfStream start before after front n fell p y r = inr (record { declared = n; behind = y; begins = record { front = front; whole = refl; spelled = p }; short = r })
-  content_not_read OutOfMemory start before after front n fell p y r = tt
+  content_not_read OutOfMemory start before after front n fell p y r = inr (record { declared = n; rest = y; begins = record { front = front; whole = refl; spelled = p } })
   content_not_read _ start before after front n fell p y r = absurd r
 
   -- and that is a refusal of the source
   pub bytes_not_read : (e : Error) (x : List ℕ) (old new : Counts) → OpaqueSourceRefused field x old new e → RefusesSource (counted_bytes_format field).spells false x old new e
-  bytes_not_read (DecodingError text) x old new p = record { cause = inr (inl p.1); memory = λ h. absurd cc }
+  bytes_not_read (DecodingError text) x old new p = count_refused m (content (number 1)) (DecodingError text) x old new p
   bytes_not_read OutOfMemory x old new p = record { cause = inr (inr refl); memory = λ h. inl refl }
   bytes_not_read EndOfStream x old new p = record { cause = inl (none_at_end p); memory = λ h. absurd cc }
     where

@@ -69,8 +69,8 @@ pub record Appended (f : Format) (v : Tree) (old new : List ℕ) (n : ℕ) : Typ
   pub held : new ≡ old ++ form
   pub count : n ≡ length form
 
--- after so many bytes, each shortest form of v passes `isize::MAX` bytes
-abbrev pub PassesVectorBehind : ℕ → Grammar → Tree → Type 0
+-- each shortest form of v passes `isize::MAX` bytes after n others
+abbrev pub PassesVectorBehind : (n : ℕ) → Grammar → Tree → Type 0
 PassesVectorBehind n spells v = (form : List ℕ) → IsShortest spells form v → 2 ^ 63 ≤ n + length form
 
 -- the bytes are the old ones: there was no memory, the format names the error for v, or its shortest form after them

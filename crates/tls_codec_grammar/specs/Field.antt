@@ -1,5 +1,5 @@
 -- Length fields: what comes before a content and says how many bytes the content has.
-use Rattle.std.specs.Prelude.{◌≡◌, ◌+◌, ◌-◌, ◌^◌, ◌<◌, ◌≤◌, ◌⊎◌, ℕ, List, ◌++◌, length, take, drop, codes, ⊤}
+use Rattle.std.specs.Prelude.{◌≡◌, ◌^◌, ◌<◌, ◌≤◌, ◌⊎◌, ℕ, List, length, codes}
 use Rattle.tls_codec_wire.specs.Counts.{Counts}
 use Rattle.tls_codec_wire.specs.Digits.{Digits}
 use Rattle.tls_codec_wire.specs.Numbers.{BeginsNumber}
@@ -7,7 +7,7 @@ use Rattle.tls_codec_wire.specs.Transfer.{WriteRefused}
 use Rattle.tls_codec_wire.specs.Varint.{VectorLength, width_below}
 use Rattle.tls_codec_wire.specs.VarintCalls.{RefusesBelow}
 use Rattle.tls_codec_wire.specs.declared.error.Error.{Error}
-use Rattle.tls_codec_wire.specs.declared.error.Error.TheVariants.{EndOfStream, InvalidVectorLength, OutOfMemory}
+use Rattle.tls_codec_wire.specs.declared.error.Error.TheVariants.{EndOfStream, InvalidVectorLength}
 use Rattle.tls_codec_grammar.specs.Errors.{Says}
 
 pub record Field : Type 1 where
@@ -78,42 +78,15 @@ LengthNotSent field n old new e = field.holds n × WriteRefused old new e
 
 -- ---- the content
 
+-- x begins with a length
+pub record BeginsLength (field : Field) (x : List ℕ) : Type 0 where
+  pub declared : ℕ
+  pub rest : List ℕ
+  pub begins : BeginsNumber field.spells x declared rest
+
 -- x begins with a length, and fewer bytes come after it
 pub record IsCutOff (field : Field) (x : List ℕ) : Type 0 where
   pub declared : ℕ
   pub behind : List ℕ
   pub begins : BeginsNumber field.spells x declared behind
   pub short : length behind < declared
-
--- ---- to a vector
-
--- the spelling of the number of bytes after a gap is in the place of the gap, of so many bytes; the gap began at a
--- place and had a width
-pub record FilledGap (field : Field) (old new : List ℕ) (at gap width : ℕ) : Type 0 where
-  pub form : List ℕ
-  pub spelled : field.spells form (length old - (at + gap))
-  pub held : new ≡ take at old ++ (form ++ drop (at + gap) old)
-  pub count : width ≡ length form
-
--- why a gap before n bytes is not filled: the field doesn't hold the length, the vector would pass `isize::MAX` bytes after so many
--- bytes, or there was no memory
-abbrev pub GapRefused : Field → (at n : ℕ) → Error → Type 0
-GapRefused field at n InvalidVectorLength = (¬ field.holds n) ⊎ (2 ^ 63 ≤ at + field.width n + n)
-GapRefused field at n OutOfMemory = ⊤
-GapRefused field at n _ = ⊥
-
--- so many bytes come after the old ones
-pub record OpenedGap (old new : List ℕ) (width : ℕ) : Type 0 where
-  pub gap : List ℕ
-  pub held : new ≡ old ++ gap
-  pub count : length gap ≡ width
-
--- the gap at a place has another width; what came before and after it does so now
-pub record FitGap (old new : List ℕ) (at gap width : ℕ) : Type 0 where
-  pub between : List ℕ
-  pub held : new ≡ take at old ++ (between ++ drop (at + gap) old)
-  pub count : length between ≡ width
-
--- a gap after so many bytes that can't be what passes the greatest vector, since no field counts so much
-abbrev pub IsSafeGap : ℕ → ℕ → Type 0
-IsSafeGap at gap = (gap ≡ 0) ⊎ ((gap ≤ 8) × (at ≤ 2 ^ 61))

@@ -4,6 +4,7 @@ pub mod Shortest
 pub mod Announced
 pub mod Errors
 pub mod Field
+pub mod Gaps
 pub mod Format
 pub mod Lawful
 pub mod Tagged

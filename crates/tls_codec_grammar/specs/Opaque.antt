@@ -1,12 +1,12 @@
 -- Why bytes and texts after a length field are refused.
-use Rattle.std.specs.Prelude.{◌≡◌, ◌⊎◌, List, ℕ, codes, IsUtf8, ⊤}
-use Rattle.tls_codec_wire.specs.Counts.{Counts}
+use Rattle.std.specs.Prelude.{◌≡◌, ◌⊎◌, List, ℕ, codes, IsUtf8}
+use Rattle.tls_codec_wire.specs.Counts.{Counts, RoseBy}
 use Rattle.tls_codec_wire.specs.Transfer.{IsReadFailure}
 use Rattle.tls_codec_wire.specs.declared.error.Error.{Error}
 use Rattle.tls_codec_wire.specs.declared.error.Error.TheVariants.{DecodingError, EndOfStream, OutOfMemory}
 use Rattle.tls_codec_grammar.specs.Tree.{number_trees}
 use Rattle.tls_codec_grammar.specs.Errors.{Says}
-use Rattle.tls_codec_grammar.specs.Field.{Field, IsCutOff, variable_field}
+use Rattle.tls_codec_grammar.specs.Field.{BeginsLength, Field, IsCutOff, variable_field}
 use Rattle.tls_codec_grammar.specs.Format.{counted_bytes_format}
 use Rattle.tls_codec_grammar.specs.Grammar.{bytes, text}
 use Rattle.tls_codec_grammar.specs.Decoding.{Begins, BeginsSome}
@@ -19,11 +19,11 @@ OpaqueRefused field x e = field.refuses x e ⊎ (field.cut_off e × IsCutOff fie
 abbrev pub OpaqueCopyRefused : Field → List ℕ → Error → Type 0
 OpaqueCopyRefused field x e = ((e ≡ OutOfMemory) × BeginsSome (counted_bytes_format field).spells x) ⊎ OpaqueRefused field x e
 
--- why they are not read from a source: x was seen of it; it failed, there was no memory, x ends within a length or
--- within what it declares, or the length is refused
+-- why they are not read from a source, of which x was seen: it failed, it had no memory, there was no memory for the bytes
+-- after a length, x ends within a length or within what it declares, or the length is refused
 abbrev pub OpaqueSourceRefused : Field → List ℕ → Counts → Counts → Error → Type 0
-OpaqueSourceRefused field x old new (DecodingError text) = IsReadFailure text old new
-OpaqueSourceRefused field x old new OutOfMemory = ⊤
+OpaqueSourceRefused field x old new (DecodingError text) = IsReadFailure text old new ⊎ field.refuses x (DecodingError text)
+OpaqueSourceRefused field x old new OutOfMemory = RoseBy 1 old.shortages new.shortages ⊎ BeginsLength field x
 OpaqueSourceRefused field x old new EndOfStream = field.refuses x EndOfStream ⊎ IsCutOff field x
 OpaqueSourceRefused field x old new e = field.refuses x e
 

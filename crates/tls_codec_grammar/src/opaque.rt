@@ -1,7 +1,7 @@
 //! Bytes after a length field, whatever the field: the `opaque` of RFC 8446, section 3.4.
 //!
 //! Byte vectors and strings go through the calls here, which move the bytes in bulk.
-ghost use Rattle.std.specs.Prelude.{◌≡◌, ◌⊎◌, [], ◌∷◌, ◌++◌, is_ok, if◌then◌else◌, length, true, IfErr, IfOk, IsErrAnd, IsOk};
+ghost use Rattle.std.specs.Prelude.{◌≡◌, ◌⊎◌, ◌+◌, [], ◌∷◌, ◌++◌, is_ok, if◌then◌else◌, length, vec_len, vec_capacity, true, IfErr, IfOk, IsErrAnd, IsOk};
 ghost use Rattle.tls_codec_wire.specs.Digits.{AreBytes};
 ghost use Rattle.tls_codec_wire.specs.declared.error.Error.TheVariants.{InvalidVectorLength, OutOfMemory};
 ghost use Rattle.tls_codec_grammar.specs.Tree.{number_trees};
@@ -124,8 +124,17 @@ pub fn copied(alloc: Global, content: &[u8]) -> Result<Vec<u8>, Error>
         return Ok(Vec::new(alloc));
     }
     let mut copy = Vec::with_capacity(alloc, content.len())?;
-    copy.extend_from_slice(content)?;
+    fill(&mut copy, content);
     Ok(copy)
+}
+
+// Fills a vector that has room for just these bytes.
+#[inline(always)]
+fn fill(out: &mut Vec<u8>, bytes: &[u8])
+    requires { vec_len out.old + length bytes.now ≡ vec_capacity out.old }
+    ensures { out.new.items ≡ out.old.items ++ bytes.now }
+{
+    let _ = out.extend_from_slice(bytes);
 }
 
 /// Appends a byte. `OutOfMemory`: the bytes are as they were.

@@ -115,7 +115,7 @@ not_admitted limit {first} {more} {least} {number} {digits} d e old new same cau
 
 -- no byte was read
 pub no_first_byte : (limit : ℕ) (old new : Counts) (e : Error) (x : List ℕ) → ReadRefused 1 x old new e → NumberNotRead (RefusesBelow limit) x old new e
-no_first_byte limit old new (DecodingError text) x p = p
+no_first_byte limit old new (DecodingError text) x p = inl p
 no_first_byte limit old new OutOfMemory x p = p
 no_first_byte limit old new EndOfStream [] p = tt
 no_first_byte limit old new EndOfStream (b ∷ bs) p = absurd (omega (arith, p))
@@ -123,7 +123,7 @@ no_first_byte limit old new _ x p = absurd p
 
 -- fewer were read than the first one asks for
 pub too_few_digits : (limit : ℕ) {first more least : ℕ} → SaysWidth first more least → {n : ℕ} → n ≡ more → (start old new : Counts) (e : Error) → NoneFell start old → (x : List ℕ) → ReadRefused n x old new e → NumberNotRead (RefusesBelow limit) (first ∷ x) start new e
-too_few_digits limit says same start old new (DecodingError text) fell x p = (p.0, fault_later start old new fell p.1)
+too_few_digits limit says same start old new (DecodingError text) fell x p = inl (p.0, fault_later start old new fell p.1)
 too_few_digits limit says same start old new OutOfMemory fell x p = rose_later start old new fell p
 too_few_digits limit says same start old new EndOfStream fell x p = omega (arith, p, same, says.width)
 too_few_digits limit says same start old new _ fell x p = absurd p

@@ -1,5 +1,5 @@
 -- What calls on numbers in bytes return, whatever it is that spells them.
-use Rattle.std.specs.Prelude.{◌≡◌, ◌≤◌, ℕ, List, ◌++◌, length, Option}
+use Rattle.std.specs.Prelude.{◌≡◌, ◌≤◌, ◌⊎◌, ℕ, List, ◌++◌, length, Option}
 use Rattle.std.specs.Io.KnownBytes.{Appends}
 use Rattle.tls_codec_wire.specs.Counts.{Counts, RoseBy}
 use Rattle.tls_codec_wire.specs.Device.{Gives, Received}
@@ -27,7 +27,7 @@ pub record GaveNumber {S : Type 0} (given : Gives S) (spells : List ℕ → ℕ 
 
 -- why none is read from a source: it failed, it had no memory, or the bytes are refused so
 abbrev pub NumberNotRead : (List ℕ → Error → Type 0) → List ℕ → Counts → Counts → Error → Type 0
-NumberNotRead refuses x old new (DecodingError text) = IsReadFailure text old new
+NumberNotRead refuses x old new (DecodingError text) = IsReadFailure text old new ⊎ refuses x (DecodingError text)
 NumberNotRead refuses x old new OutOfMemory = RoseBy 1 old.shortages new.shortages
 NumberNotRead refuses x old new e = refuses x e
 

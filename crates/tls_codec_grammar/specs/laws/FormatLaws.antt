@@ -1,5 +1,5 @@
 -- The laws of formats, from those of their parts.
-use Rattle.std.proofs.Common.{◌≡◌, ◌≢◌, ℕ, List, ◌^◌, ◌+◌, ◌<◌, ◌≤◌, ◌++◌, length, codes, refl, ap, inl, inr, sym, subst, ◌∙◌, arith, length-append}
+use Rattle.std.proofs.Common.{◌≡◌, ◌≢◌, ℕ, List, ◌^◌, ◌+◌, ◌<◌, ◌≤◌, length, codes, refl, ap, inl, inr, sym, subst, ◌∙◌, arith, length-append}
 use Rattle.tls_codec_wire.specs.Digits.{Digits}
 use Rattle.tls_codec_wire.specs.Numbers.{NoNumberBegins}
 use Rattle.tls_codec_wire.specs.declared.error.Error.{Error}

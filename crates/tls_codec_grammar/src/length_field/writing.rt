@@ -1,9 +1,10 @@
 //! Lengths sent to a sink, appended to a vector, and put before a content that is already there.
-ghost use Rattle.std.specs.Prelude.{◌≡◌, ◌<◌, ◌≤◌, ◌⊎◌, ◌^◌, ◌+◌, ◌-◌, [], ◌∷◌, ◌++◌, length, vec_len, vec_capacity, take, drop, is_ok, if◌then◌else◌, IfErr, IfOk, OnErr, OnOk};
+ghost use Rattle.std.specs.Prelude.{◌≡◌, ◌<◌, ◌≤◌, ◌⊎◌, ◌^◌, ◌+◌, ◌-◌, [], ◌∷◌, ◌++◌, length, vec_len, vec_capacity, take, drop, max, is_ok, ◌*◌, IsOk, if◌then◌else◌, IfErr, IfOk, OnErr, OnOk};
 ghost use Rattle.tls_codec_wire.specs.Counts.{NoneFell, OnlyInterrupted};
 ghost use Rattle.tls_codec_wire.specs.Numbers.{BeganNumber, SentNumber};
 ghost use Rattle.tls_codec_wire.specs.declared.error.Error.TheVariants.{InvalidVectorLength, OutOfMemory};
-ghost use Rattle.tls_codec_grammar.specs.Field.{FilledGap, FitGap, GapRefused, LengthNotSent, OpenedGap};
+ghost use Rattle.tls_codec_grammar.specs.Field.{LengthNotSent};
+ghost use Rattle.tls_codec_grammar.specs.Gaps.{FilledGap, FitGap, GapRefused, OpenedGap};
 
 use super::LengthField;
 use std::alloc::AllocError;
@@ -86,6 +87,8 @@ fn append_with_room(out: &mut Vec<u8>, few: &[u8], bytes: &[u8]) -> Result<(), A
 fn make_room(out: &mut Vec<u8>, more: usize) -> Result<(), AllocError>
     ensures items { out.new.items ≡ out.old.items }
     ensures room { OnOk result (vec_len out.new + more ≤ vec_capacity out.new) }
+    ensures most { vec_capacity out.new
+        ≤ max (2 * vec_capacity out.old) (vec_len out.old + more) }
 {
     if more <= out.capacity() - out.len() {
         return Ok(());
@@ -93,7 +96,20 @@ fn make_room(out: &mut Vec<u8>, more: usize) -> Result<(), AllocError>
     if out.capacity() == 0 {
         return out.reserve_exact(more);
     }
-    out.reserve(more)
+    double_room(out, more)
+}
+
+// The same by at least twice the room. It is kept out of what appends to a vector that has the room.
+#[cold]
+#[inline(never)]
+fn double_room(out: &mut Vec<u8>, more: usize) -> Result<(), AllocError>
+    ensures items { out.new.items ≡ out.old.items }
+    ensures room { OnOk result (vec_len out.new + more ≤ vec_capacity out.new) }
+    ensures most { vec_capacity out.new
+        ≤ max (2 * vec_capacity out.old) (vec_len out.old + more) }
+{
+    let doubled = out.capacity().saturating_mul(2) - out.len();
+    out.reserve_exact(more.max(doubled))
 }
 
 // Appends a few bytes. One, two or four are stored without a call.
@@ -137,6 +153,8 @@ pub fn fill_gap<F: LengthField>(out: &mut Vec<u8>, at: usize, gap: usize) -> Res
     ensures kept { OnErr result (take at out.new.items ≡ take at out.old.items) }
     ensures refused { IfErr result
         (GapRefused F.field at (length out.old.items - (at + gap))) }
+    ensures nothing_asked { F.field.width (length out.old.items - (at + gap)) ≤ gap
+        → IfErr result (λ e. e ≡ InvalidVectorLength) }
 {
     let content_length = out.len() - at - gap;
     let Some(found) = F::form(content_length) else {
@@ -161,6 +179,7 @@ fn fill_with(out: &mut Vec<u8>, at: usize, gap: usize, form: &[u8]) -> Result<()
         (λ e. (e ≡ OutOfMemory)
         ⊎ ((e ≡ InvalidVectorLength)
         × (2 ^ 63 ≤ length out.old.items - gap + length form.now))) }
+    ensures nothing_asked { length form.now ≤ gap → IsOk result }
 {
     match form.len() {
         1 => fit_and_put(out, at, gap, &form[..1]),
@@ -182,6 +201,7 @@ fn fit_and_put(out: &mut Vec<u8>, at: usize, gap: usize, form: &[u8]) -> Result<
         (λ e. (e ≡ OutOfMemory)
         ⊎ ((e ≡ InvalidVectorLength)
         × (2 ^ 63 ≤ length out.old.items - gap + length form.now))) }
+    ensures nothing_asked { length form.now ≤ gap → IsOk result }
 {
     if form.len() != gap {
         fit_gap(out, at, gap, form.len())?;
@@ -200,6 +220,8 @@ fn fit_gap(out: &mut Vec<u8>, at: usize, gap: usize, width: usize) -> Result<(),
     ensures err { IfErr result
         (λ e. (e ≡ OutOfMemory)
         ⊎ ((e ≡ InvalidVectorLength) × (2 ^ 63 ≤ length out.old.items - gap + width))) }
+    ensures nothing_asked { width ≤ gap
+        → IsOk result × (vec_capacity out.new ≡ vec_capacity out.old) }
 {
     if width <= gap {
         remove_bytes(out, at + width, gap - width);
@@ -247,7 +269,8 @@ fn insert_gap(out: &mut Vec<u8>, at: usize, width: usize) -> Result<(), Error>
 #[inline(always)]
 fn remove_bytes(out: &mut Vec<u8>, at: usize, count: usize)
     requires { at + count ≤ vec_len out.old }
-    ensures { out.new.items ≡ take at out.old.items ++ drop (at + count) out.old.items }
+    ensures items { out.new.items ≡ take at out.old.items ++ drop (at + count) out.old.items }
+    ensures room { vec_capacity out.new ≡ vec_capacity out.old }
 {
     match count {
         0 => {}
@@ -260,7 +283,8 @@ fn remove_bytes(out: &mut Vec<u8>, at: usize, count: usize)
 #[inline(never)]
 fn remove_more(out: &mut Vec<u8>, at: usize, count: usize)
     requires { at + count ≤ vec_len out.old }
-    ensures { out.new.items ≡ take at out.old.items ++ drop (at + count) out.old.items }
+    ensures items { out.new.items ≡ take at out.old.items ++ drop (at + count) out.old.items }
+    ensures room { vec_capacity out.new ≡ vec_capacity out.old }
 {
     match count {
         2 => cut_out(out, at, 2),
@@ -272,7 +296,8 @@ fn remove_more(out: &mut Vec<u8>, at: usize, count: usize)
 #[inline(never)]
 fn remove_byte(out: &mut Vec<u8>, at: usize)
     requires { at < vec_len out.old }
-    ensures { out.new.items ≡ take at out.old.items ++ drop (at + 1) out.old.items }
+    ensures items { out.new.items ≡ take at out.old.items ++ drop (at + 1) out.old.items }
+    ensures room { vec_capacity out.new ≡ vec_capacity out.old }
 {
     match out.len() - at - 1 {
         1 => close_up(out, at, 1),
@@ -294,7 +319,8 @@ fn remove_byte(out: &mut Vec<u8>, at: usize)
 #[inline(always)]
 fn close_up(out: &mut Vec<u8>, at: usize, count: usize)
     requires { at + 1 + count ≡ vec_len out.old }
-    ensures { out.new.items ≡ take at out.old.items ++ drop (at + 1) out.old.items }
+    ensures items { out.new.items ≡ take at out.old.items ++ drop (at + 1) out.old.items }
+    ensures room { vec_capacity out.new ≡ vec_capacity out.old }
 {
     out.copy_within(at + 1..at + 1 + count, at);
     out.truncate(at + count);
@@ -304,7 +330,8 @@ fn close_up(out: &mut Vec<u8>, at: usize, count: usize)
 #[inline(always)]
 fn cut_out(out: &mut Vec<u8>, at: usize, count: usize)
     requires { at + count ≤ vec_len out.old }
-    ensures { out.new.items ≡ take at out.old.items ++ drop (at + count) out.old.items }
+    ensures items { out.new.items ≡ take at out.old.items ++ drop (at + count) out.old.items }
+    ensures room { vec_capacity out.new ≡ vec_capacity out.old }
 {
     let end = out.len();
     out.copy_within(at + count..end, at);

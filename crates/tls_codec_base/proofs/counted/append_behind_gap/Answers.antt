@@ -1,6 +1,6 @@
 use Rattle.std.proofs.Common.{ℕ, arith, refl, subst, ◌∙◌}
 use Rattle.std.proofs.lemmas.Result.{err_from_is_err_and}
-use Rattle.tls_codec_grammar.specs.Field.{IsSafeGap}
+use Rattle.tls_codec_grammar.specs.Gaps.{IsSafeGap}
 use Rattle.tls_codec_grammar.specs.laws.FormatLaws.{content_length_sum, content_meets}
 use Rattle.tls_codec_grammar.proofs.Appending.{counted_appended, cut_off, gap_not_filled, inside_not_appended, kept_before_gap}
 use Rattle.tls_codec_base.proofs.counted.append_behind_gap.Goals as goal

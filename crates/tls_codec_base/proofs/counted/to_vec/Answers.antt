@@ -1,7 +1,7 @@
 use Rattle.std.proofs.Common.{length, arith, refl}
 use Rattle.std.proofs.lemmas.Result.{err_from_is_err_and}
 use Rattle.tls_codec_grammar.specs.Tree.{trees}
-use Rattle.tls_codec_grammar.specs.Field.{IsSafeGap}
+use Rattle.tls_codec_grammar.specs.Gaps.{IsSafeGap}
 use Rattle.tls_codec_grammar.specs.Format.{counted_list_format}
 use Rattle.tls_codec_grammar.specs.Encoding.{RefusesVector}
 use Rattle.tls_codec_grammar.specs.laws.FormatLaws.{content_length_sum, content_meets, counted_list_meets}
