@@ -4,18 +4,17 @@
 //! Each type has a line, and references to it have one. The functions do nothing: each line is a clause, and so
 //! is proved. What an `impl` says of its type has to be what the table says. The formats are explained in
 //! docs/DEFINITIONS.md, and a refused slice or source in docs/REFUSALS.md.
-ghost use Rattle.std.specs.Prelude.{◌≡◌, ◌⊎◌, ◌^◌, string_bytes};
+ghost use Rattle.std.specs.Prelude.{◌≡◌, ◌^◌, string_bytes};
 ghost use Rattle.tls_codec_wire.specs.Numbers.{NumberNotRead};
 ghost use Rattle.tls_codec_wire.specs.Transfer.{ReadRefused};
 ghost use Rattle.tls_codec_wire.specs.Uint24 as uint24;
 ghost use Rattle.tls_codec_wire.specs.VarintCalls.{RefusesBelow};
 ghost use Rattle.tls_codec_wire.specs.VarintValue as varint;
-ghost use Rattle.tls_codec_wire.specs.declared.error.Error.TheVariants.{OutOfMemory};
 ghost use Rattle.tls_codec_grammar.specs.Tree.{Empty, Join, Number, number_trees, option_plain, trees};
 ghost use Rattle.tls_codec_grammar.specs.Field.{bounded_field, fixed_field, variable_field};
 ghost use Rattle.tls_codec_grammar.specs.Format.{array_format, bytes_format, counted_bytes_format, counted_list_format, fixed_list_format, list_format, nothing_format, number_format, option_format, pair_format, text_format, triple_format, varint_format, with_memory};
 ghost use Rattle.tls_codec_grammar.specs.Opaque.{OpaqueCopyRefused, OpaqueSourceRefused, TextRefused, TextSourceRefused};
-ghost use Rattle.tls_codec_base.specs.Refusals.{counted_list_names, counted_list_source_names, fields_names, fields_source_names, list_names, list_source_names, option_names, option_source_names};
+ghost use Rattle.tls_codec_base.specs.Refusals.{box_names, box_source_names, counted_list_names, counted_list_source_names, fields_names, fields_source_names, list_names, list_source_names, option_names, option_source_names};
 ghost use Rattle.tls_codec_base.specs.Meanings.{Means, SameField, SameNames, SameSourceNames, too_few};
 ghost use Rattle.tls_codec_base.specs.OwnMessages.{bounded_bytes_format, bounded_list_format, fixed_bytes_format, pair_tree, triple_tree};
 ghost use Rattle.tls_codec_slice.specs.Contents.{u16_bytes_of, u16_elements_of, u24_bytes_of, u24_elements_of, u32_bytes_of, u32_elements_of, u8_bytes_of, u8_elements_of};
@@ -136,9 +135,9 @@ pub fn nothing<T>()
 pub fn boxes<'a, T: Deserialize + DeserializeBytes + 'a>()
     ensures is { Means ⟦<Box<T> as Size>⟧ (λ b. T.plain b.value) (with_memory T.format) }
     ensures slice { SameNames ⟦<Box<T> as DeserializeBytes>⟧.names
-        (λ x e. (e ≡ OutOfMemory) ⊎ T.DeserializeBytes.names x e) }
+        (box_names T.format T.DeserializeBytes.names) }
     ensures source { SameSourceNames ⟦<Box<T> as Deserialize>⟧.names
-        (λ x old new e. (e ≡ OutOfMemory) ⊎ T.Deserialize.names x old new e) }
+        (box_source_names T.format T.Deserialize.names) }
     ensures lent { Means ⟦<Lent<'a, T> as Size>⟧ (λ v. T.plain v.0.now) T.format }
 {}
 

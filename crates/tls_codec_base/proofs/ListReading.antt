@@ -1,11 +1,11 @@
 -- Elements that are read in a row from the front of some bytes.
-use Rattle.std.proofs.Common.{◌≡◌, ℕ, ◌+◌, ◌-◌, ◌<◌, ◌≤◌, List, [], ◌∷◌, ◌++◌, length, Bool, false, refl, sym, ap, subst, ◌∙◌, inl, inr, append_assoc, append-nil, arith, length-append}
+use Rattle.std.proofs.Common.{◌≡◌, ℕ, ◌+◌, ◌-◌, ◌<◌, ◌≤◌, List, [], ◌∷◌, ◌++◌, length, take, drop, take-append-drop, Bool, false, refl, sym, ap, subst, ◌∙◌, inl, inr, append_assoc, append-nil, arith, length-append}
 use Rattle.std.proofs.lemmas.List.{append_cancel_left, nil_from_length}
 use Rattle.tls_codec_wire.specs.declared.error.Error.{Error}
 use Rattle.tls_codec_grammar.specs.Tree.{Tree, Empty, Join, trees}
 use Rattle.tls_codec_grammar.specs.Grammar.{Reading, Grammar, content, sized}
 use Rattle.tls_codec_grammar.specs.Lawful.{IsLawful}
-use Rattle.tls_codec_grammar.specs.Decoding.{Begins, NoneBegins, Refuses}
+use Rattle.tls_codec_grammar.specs.Decoding.{Begins, NoMemoryFor, NoneBegins, Refuses}
 use Rattle.tls_codec_grammar.specs.Shortest.{IsHollow}
 use Rattle.tls_codec_grammar.specs.Format.{Format}
 use Rattle.tls_codec_base.specs.Refusals.{Overruns, SliceNames, element_names, elements_names}
@@ -117,7 +117,7 @@ module _ (element : Grammar) (f : Tree → ℕ) (l : IsLawful element f) where
 
 -- the next element isn't taken
 pub element_named : (element : Format) {x : List ℕ} {n left : ℕ} {v : Tree} {rest : List ℕ} {e : Error} (names : SliceNames) → ReadSoFar element.spells x n left v rest → 0 < left → element_names element names left rest e → elements_names element names n x e
-element_named element {x} {n} {left} {v} {rest} names p some named = inr (
+element_named element {x} {n} {left} {v} {rest} names p some named = (
   left,
   record {
     front = p.front;
@@ -127,6 +127,19 @@ element_named element {x} {n} {left} {v} {rest} names p some named = inr (
     named = named;
   },
 )
+
+-- an element begins the first n bytes, and so begins all of them
+pub no_memory_at_first : {element : Grammar} (n : ℕ) {first x : List ℕ} {e : Error} → first ≡ take n x → NoMemoryFor element first e → NoMemoryFor element x e
+no_memory_at_first {element} n {first} {x} are_first (out, p) =
+    let rest = drop n x in
+    let whole : x ≡ first ++ rest = sym (take-append-drop n x) ∙ ap (λ (u : List ℕ). u ++ rest) (sym are_first) in (
+      out,
+      record {
+        value = p.value;
+        rest = p.rest ++ rest;
+        begins = record { front = p.begins.front; whole = whole ∙ ap (λ (u : List ℕ). u ++ rest) p.begins.whole ∙ append_assoc p.begins.front p.rest rest; spelled = p.begins.spelled };
+      },
+    )
 
 -- an element of no bytes was found
 pub found_empty : {element : Grammar} {x : List ℕ} {v : Tree} {rest : List ℕ} → Begins element x v rest → length x - length rest ≡ 0 → IsHollow element

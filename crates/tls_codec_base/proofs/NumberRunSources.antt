@@ -174,6 +174,10 @@ run_not_gathered {S} {source} a b k digits {e} {old} {new} some width bytes leas
 
 -- ---- what a run is
 
+-- a run fills what the source might still give
+pub run_length : {S : Type 0} (source : Ghosts S) (a b : Bounded S) (old new : Turns) (k : ℕ) (found : Option (Vec ℕ Global)) (digits : Vec ℕ Global) → ReadsRun k source a b old new (Ok found) → found ≡ Some digits → length digits.items ≡ limit_of a
+run_length source a b old new k found digits p e = (subst (λ (o : Option (Vec ℕ Global)). ReadsRun k source a b old new (Ok o)) e p).0.fills
+
 -- a run of bytes is a list of them
 pub byte_run : {S : Type 0} (source : Ghosts S) (a b : Bounded S) (old new : Turns) (found : Option (Vec ℕ Global)) (bytes : Vec ℕ Global) → ReadsRun 1 source a b old new (Ok found) → found ≡ Some bytes → GaveSpelling source.given (sized (limit_of a) (content (number 1))) (inner_of a) (inner_of b) (number_trees bytes.items)
 byte_run source a b old new found bytes p e =

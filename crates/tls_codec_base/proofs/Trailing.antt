@@ -1,20 +1,20 @@
 -- Why decoders never return `TrailingData`: only a part can name it.
-use Rattle.std.proofs.Common.{◌≡◌, ◌⊎◌, ℕ, inl, inr, refl}
+use Rattle.std.proofs.Common.{ℕ, inl, inr, refl}
 use Rattle.tls_codec_wire.specs.Refused.{Causes}
-use Rattle.tls_codec_wire.specs.declared.error.Error.TheVariants.{OutOfMemory, TrailingData}
+use Rattle.tls_codec_wire.specs.declared.error.Error.TheVariants.{TrailingData}
 use Rattle.tls_codec_grammar.specs.Field.{Field}
 use Rattle.tls_codec_grammar.specs.Format.{Format}
 use Rattle.tls_codec_grammar.specs.Lawful.{MeetsFieldLaws}
 use Rattle.tls_codec_grammar.specs.Opaque.{OpaqueCopyRefused, OpaqueRefused, OpaqueSourceRefused, TextRefused, TextSourceRefused}
 use Rattle.tls_codec_grammar.specs.laws.FormatLaws.{variable_field_meets}
-use Rattle.tls_codec_base.specs.Refusals.{SliceNames, counted_list_names, counted_list_source_names, element_names, element_source_names, elements_names, elements_source_names, fields_names, fields_source_names, option_names, option_source_names}
+use Rattle.tls_codec_base.specs.Refusals.{SliceNames, box_names, box_source_names, counted_list_names, counted_list_source_names, element_names, element_source_names, elements_names, elements_source_names, fields_names, fields_source_names, option_names, option_source_names}
 use Rattle.tls_codec_base.specs.Trailing.{NeverTrailing, SourceNeverTrailing}
 
 -- ---- from a slice
 
-pub box_never : (content : SliceNames) → NeverTrailing content → NeverTrailing (λ x e. (e ≡ OutOfMemory) ⊎ content x e)
-box_never content never x (inl p) = cc
-box_never content never x (inr p) = never x p
+pub box_never : (content : Format) (names : SliceNames) → NeverTrailing names → NeverTrailing (box_names content names)
+box_never content names never x (inl p) = let h = p.0 in cc
+box_never content names never x (inr p) = never x p
 
 pub option_never : (payload : SliceNames) → NeverTrailing payload → NeverTrailing (option_names payload)
 option_never payload never x (inl p) = let h = p.1 in cc
@@ -28,11 +28,11 @@ fields_never part first others never_first never_others x (inr p) = never_others
 element_never : (element : Format) (names : SliceNames) → NeverTrailing names → (left : ℕ) → NeverTrailing (element_names element names left)
 element_never element names never left x (inl p) = never x p.1
 element_never element names never left x (inr (inl p)) = p.0
-element_never element names never left x (inr (inr p)) = p.0
+element_never element names never left x (inr (inr (inl p))) = p.0
+element_never element names never left x (inr (inr (inr p))) = let h = p.0 in cc
 
 elements_never : (element : Format) (names : SliceNames) → NeverTrailing names → (n : ℕ) → NeverTrailing (elements_names element names n)
-elements_never element names never n x (inl p) = cc
-elements_never element names never n x (inr p) = element_never element names never p.0 p.1.rest p.1.named
+elements_never element names never n x p = element_never element names never p.0 p.1.rest p.1.named
 
 pub list_never : {field : Field} (element : Format) (names : SliceNames) → MeetsFieldLaws field → NeverTrailing names → NeverTrailing (counted_list_names field element names)
 list_never element names m never x (inl p) = (m.named x TrailingData p).1 refl
@@ -53,9 +53,9 @@ text_never x (inr (inr p)) = p.0
 
 -- ---- from a source
 
-pub box_source_never : (content : Causes) → SourceNeverTrailing content → SourceNeverTrailing (λ x old new e. (e ≡ OutOfMemory) ⊎ content x old new e)
-box_source_never content never x old new (inl p) = cc
-box_source_never content never x old new (inr p) = never x old new p
+pub box_source_never : (content : Format) (names : Causes) → SourceNeverTrailing names → SourceNeverTrailing (box_source_names content names)
+box_source_never content names never x old new (inl p) = let h = p.0 in cc
+box_source_never content names never x old new (inr p) = never x old new p
 
 pub option_source_never : (payload : Causes) → SourceNeverTrailing payload → SourceNeverTrailing (option_source_names payload)
 option_source_never payload never x old new (inl p) = p

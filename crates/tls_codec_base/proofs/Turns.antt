@@ -20,7 +20,7 @@ use Rattle.tls_codec_grammar.specs.Format.{Format}
 use Rattle.tls_codec_wire.proofs.Later.{fault_later}
 use Rattle.tls_codec_wire.proofs.Refused.{refused_later, refused_now, seen_now}
 use Rattle.tls_codec_base.specs.WholeElements.{NoElementBegins}
-use Rattle.tls_codec_base.specs.Turns.{MemoryOrFault, TurnedAll, TurnedAtMost, TurnedBy, TurnedEach, TurnedPast, TurnedRefusedAtOnce, TurnedWithin, TurnedWithinGiven, source_turns, turns_of}
+use Rattle.tls_codec_base.specs.Turns.{MemoryOrFault, SourceTurnedRefused, TurnedAll, TurnedAtMost, TurnedBy, TurnedEach, TurnedPast, TurnedRefusedAtOnce, TurnedWithin, TurnedWithinGiven, turns_of}
 use Rattle.tls_codec_base.specs.declared.lists.Turns.{Turns}
 use Rattle.tls_codec_base.proofs.ListReading.{ReadSoFar}
 use Rattle.tls_codec_base.proofs.ListSources.{GivenSoFar}
@@ -57,7 +57,7 @@ module _ (element : Grammar) (f : Tree → ℕ) (l : IsLawful element f) where
   pub refused_turned_given : {S : Type 0} {source : Ghosts S} {T : Type 0} (plain : T → Tree) {start mid end : S} {n left : ℕ} (xs : List T) {causes : Causes} {e : Error} {old new : Turns} → GivesInOrder source.given → NoCountFalls source.given source.counts
       → GivenSoFar source.given element start mid n left (trees plain xs) → TurnedBy (length xs + 1) old new
       → ((x : List ℕ) → causes x (source.counts mid) (source.counts end) e → MemoryOrFault (source.counts mid) (source.counts end) e ⊎ NoElementBegins element (take left x))
-      → RefusedFor source causes mid end e → RefusedFor source (source_turns element n old new) start end e
+      → RefusedFor source causes mid end e → RefusedFor source (SourceTurnedRefused element n old new) start end e
   refused_turned_given {S} {source} plain {start} {mid} {end} {n} {left} xs {causes} {e} {old} {new} order falls p turned why =
       let fell : NoneFell (source.counts start) (source.counts mid) = falls start p.front mid p.held in
       refused_later p.front order p.held (λ x q. refused_turned plain xs (record { front = p.front; whole = refl; fills = p.fills; spelled = p.spelled }) turned (elim (why x q) [
@@ -127,8 +127,8 @@ pub no_memory_at_once : {S : Type 0} {source : Ghosts S} (a b : Bounded S) (give
 no_memory_at_once a b given nothing held spells {old} {new} {e} out same =
     let none : (n : ℕ) → TurnedAtMost n old new = λ n. record { more = omega (arith, ap turns_of same); most = omega (arith, ap turns_of same) } in
     record {
-      refused = refused_now given nothing held (λ rest. record { at_most = λ m w. none (m + 1); exactly = inl (inl out) });
-      bounded = record { bytes = given; held = held; within = none _ };
+      turned_if_refused = refused_now given nothing held (λ rest. record { at_most = λ m w. none (m + 1); exactly = inl (inl out) });
+      turned_at_most = record { bytes = given; held = held; within = none _ };
     }
 
 module _ {S : Type 0} {source : Ghosts S} (a b : Bounded S) (given : List ℕ) (nothing : GivesNothing source.given) (gave : GaveWithin source.given a given b) where
@@ -156,7 +156,7 @@ module _ {S : Type 0} {source : Ghosts S} (a b : Bounded S) (given : List ℕ) (
       let sum : length given ≡ length front + length part = ap length whole ∙ length-append front part in
       let fills : length front + left ≡ n = omega (arith, sum, gave.fell) in
       record {
-        refused = refused_after end (λ rest ends.
+        turned_if_refused = refused_after end (λ rest ends.
             let first : take n (given ++ rest) ≡ front ++ take left (part ++ rest) =
             ap (λ (u : List ℕ). take n (u ++ rest)) whole ∙ ap (take n) (append_assoc front part rest) ∙ taken front (part ++ rest) n left fills in
             let cause : MemoryOrFault (source.counts (inner_of a)) (source.counts (inner_of b)) e ⊎ NoElementBegins element (take left (part ++ rest)) = elim why [
@@ -164,5 +164,5 @@ module _ {S : Type 0} {source : Ghosts S} (a b : Bounded S) (given : List ℕ) (
               | inr eos ↦ inr (none_in_fewer element left (part ++ rest) (subst (NoElementBegins element) (sym (ap (λ (u : List ℕ). part ++ u) (ends eos) ∙ append-nil part)) (none eos)))
             ] in
             subst (λ (u : List ℕ). TurnedPast element u (MemoryOrFault (source.counts (inner_of a)) (source.counts (inner_of b)) e) old new) (sym first) (turned_past element f l plain front (take left (part ++ rest)) xs spelled turned cause));
-        bounded = record { bytes = given; held = gave.held; within = at_most turned (omega (arith, content_has_bytes plain element front xs spelled, sum, gave.fell)) };
+        turned_at_most = record { bytes = given; held = gave.held; within = at_most turned (omega (arith, content_has_bytes plain element front xs spelled, sum, gave.fell)) };
       }

@@ -15,7 +15,7 @@ use Rattle.tls_codec_grammar.specs.Errors.{Says}
 use Rattle.tls_codec_grammar.specs.Field.{Field, variable_field}
 use Rattle.tls_codec_grammar.specs.Format.{Format, content_format, sized_format}
 use Rattle.tls_codec_grammar.specs.Shortest.{IsHollow}
-use Rattle.tls_codec_grammar.specs.Decoding.{Begins, Named, Refuses, part_source_names}
+use Rattle.tls_codec_grammar.specs.Decoding.{Begins, Named, NoMemoryFor, Refuses, part_source_names}
 
 -- which errors are named, by the bytes
 abbrev pub SliceNames : Type 1
@@ -44,6 +44,16 @@ pub record SourceNamedBehind (Front : List ℕ → Type 0) (names : Causes) (x :
   pub is_front : Front front
   pub fell : NoneFell old between
   pub named : names rest between new e
+
+-- ---- boxes
+
+-- from a slice: the content is there, and there was no memory for the box; or the content is refused
+abbrev pub box_names : Format → SliceNames → SliceNames
+box_names content names x e = NoMemoryFor content.spells x e ⊎ names x e
+
+-- the same from a source
+abbrev pub box_source_names : Format → Causes → Causes
+box_source_names content names x old new e = NoMemoryFor content.spells x e ⊎ names x old new e
 
 -- ---- options
 
@@ -118,17 +128,17 @@ pub record Overruns (spells : Grammar) (left : ℕ) (x : List ℕ) : Type 0 wher
   pub begins : Begins spells x value rest
   pub long : left < length begins.front
 
--- the element that begins x isn't taken: it is refused, has no bytes, or passes the end
+-- the element that begins x isn't taken: it is refused, has no bytes, passes the end, or there was no memory for it
 abbrev pub element_names : Format → SliceNames → ℕ → SliceNames
 element_names element names left x e =
     part_names element names x e
     ⊎ (IsEmptyElement element.spells e
-    ⊎ (Says (codes "elements do not fill the declared length") e × Overruns element.spells left x))
+    ⊎ ((Says (codes "elements do not fill the declared length") e × Overruns element.spells left x)
+    ⊎ NoMemoryFor element.spells x e))
 
--- from a slice: there was no memory, or after some elements the next one isn't taken
+-- from a slice: after some elements the next one isn't taken
 abbrev pub elements_names : Format → SliceNames → ℕ → SliceNames
-elements_names element names n x e =
-    (e ≡ OutOfMemory) ⊎ ((left : ℕ) × NamedBehind (IsRun element.spells n left) (element_names element names left) x e)
+elements_names element names n x e = (left : ℕ) × NamedBehind (IsRun element.spells n left) (element_names element names left) x e
 
 -- from a source: an element is refused that ends where the list does
 abbrev pub element_source_names : Format → Causes → ℕ → Causes

@@ -47,8 +47,8 @@ abbrev pub TurnedRefused : Grammar → ℕ → List ℕ → Turns → Turns → 
 TurnedRefused spells n x old new e = TurnedPast spells (take n x) (e ≡ OutOfMemory) old new
 
 -- from a source of which x was seen: excused also if a fault was counted
-abbrev pub source_turns : Grammar → ℕ → Turns → Turns → Causes
-source_turns spells n old new x before after e = TurnedPast spells (take n x) (MemoryOrFault before after e) old new
+abbrev pub SourceTurnedRefused : Grammar → ℕ → Turns → Turns → Causes
+SourceTurnedRefused spells n old new x before after e = TurnedPast spells (take n x) (MemoryOrFault before after e) old new
 
 -- ---- at most
 
@@ -66,8 +66,8 @@ pub record TurnedWithinGiven {S : Type 0} (given : Gives S) (n : ℕ) (a b : S) 
 
 -- a list of what a source may still give was refused at once: its turns are those of a list that is read one by one
 pub record TurnedRefusedAtOnce {S : Type 0} (spells : Grammar) (source : Ghosts S) (a b : Bounded S) (old new : Turns) (e : Error) : Type 0 where
-  pub refused : RefusedFor source (source_turns spells (limit_of a) old new) (inner_of a) (inner_of b) e
-  pub bounded : TurnedWithinGiven source.given (limit_of a) (inner_of a) (inner_of b) old new
+  pub turned_if_refused : RefusedFor source (SourceTurnedRefused spells (limit_of a) old new) (inner_of a) (inner_of b) e
+  pub turned_at_most : TurnedWithinGiven source.given (limit_of a) (inner_of a) (inner_of b) old new
 
 -- elements that are read at once take a turn each; if there are none, none was added
 abbrev pub TurnedAll : {T S : Type 0} → Grammar → Ghosts S → Bounded S → Bounded S → Turns → Turns → Result (Option (Vec T Global)) Error → Type 0

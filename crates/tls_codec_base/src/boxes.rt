@@ -1,8 +1,9 @@
 //! `Box<T>`: its spelling is that of its content. A decoder takes memory for it.
-ghost use Rattle.std.specs.Prelude.{◌≡◌, ◌⊎◌, IfErr, IfOk};
+ghost use Rattle.std.specs.Prelude.{◌≡◌, IfErr, IfOk};
 ghost use Rattle.tls_codec_wire.specs.declared.error.Error.TheVariants.{OutOfMemory};
 ghost use Rattle.tls_codec_grammar.specs.Format.{with_memory};
 ghost use Rattle.tls_codec_grammar.specs.laws.FormatLaws.{with_memory_meets};
+ghost use Rattle.tls_codec_base.specs.Refusals.{box_names, box_source_names};
 
 use crate::traits::{Deserialize, DeserializeBytes, Serialize, SerializeBytes, Size};
 use std::alloc::Global;
@@ -37,7 +38,7 @@ impl<T: SerializeBytes> SerializeBytes for Box<T> {
 }
 
 impl<T: Deserialize> Deserialize for Box<T> {
-    ghost names = { λ x old new e. (e ≡ OutOfMemory) ⊎ T.names x old new e };
+    ghost names = { box_source_names T.format T.names };
 
     /// `OutOfMemory`: allocation of the box failed. Every other refusal is the content's.
     fn tls_deserialize<R: Source>(alloc: Global, bytes: &mut R) -> Result<Box<T>, Error> {
@@ -47,7 +48,7 @@ impl<T: Deserialize> Deserialize for Box<T> {
 }
 
 impl<T: DeserializeBytes> DeserializeBytes for Box<T> {
-    ghost names = { λ x e. (e ≡ OutOfMemory) ⊎ T.names x e };
+    ghost names = { box_names T.format T.names };
 
     /// `OutOfMemory`: allocation of the box failed. Every other refusal is the content's.
     fn tls_deserialize_bytes(alloc: Global, bytes: &[u8]) -> Result<(Box<T>, &[u8]), Error> {

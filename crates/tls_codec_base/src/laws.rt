@@ -14,10 +14,11 @@ ghost use Rattle.tls_codec_wire.specs.Digits.{AreBytes};
 ghost use Rattle.tls_codec_grammar.specs.Tree.{Tree, Empty, Join, number_trees, trees};
 ghost use Rattle.tls_codec_grammar.specs.Decoding.{Begins, ComesFirst, GaveSpelling, NoneBegins};
 ghost use Rattle.tls_codec_grammar.specs.Encoding.{AppendsForm, Makes, Writes};
+ghost use Rattle.tls_codec_grammar.specs.Field.{variable_field};
 ghost use Rattle.tls_codec_grammar.specs.Format.{counted_bytes_format, counted_list_format, fields_format, fixed_list_format, list_format, nothing_format, option_format, text_format};
 ghost use Rattle.tls_codec_grammar.specs.Lawful.{MeetsLaws};
 ghost use Rattle.tls_codec_grammar.specs.Tagged.{no_variant, tagged_format, variant};
-ghost use Rattle.tls_codec_grammar.specs.Grammar.{Counted, Direction, Reading, Row, content};
+ghost use Rattle.tls_codec_grammar.specs.Grammar.{Counted, Direction, Reading, Row, content, utf8};
 ghost use Rattle.tls_codec_grammar.specs.Shortest.{IsFull, IsShortest};
 ghost use Rattle.tls_codec_grammar.specs.Spelled.{BeginsWithOne, EachHasNonemptySpelling, FitTogether, HasReadingSpelling};
 
@@ -118,12 +119,16 @@ pub fn what_was_read_is_written_again<T: Size, R: Source, W: Sink>()
 {}
 
 /// If the elements of a list all have shortest forms whose length its field doesn't hold, the list is
-/// refused before any of it is sent.
+/// refused before any of it is sent. So is a string of that many bytes.
 pub fn contents_out_of_bounds_are_not_sent<F: LengthField, T: Size>()
-    ensures { (form : List ℕ) (v : Tree)
+    ensures lists { (form : List ℕ) (v : Tree)
         → IsShortest (content T.format.spells) form v
         → ¬ F.field.holds (length form)
         → (counted_list_format F.field T.format).out_of_bounds v }
+    ensures texts { (form : List ℕ) (v : Tree)
+        → IsShortest utf8 form v
+        → ¬ variable_field.holds (length form)
+        → text_format.out_of_bounds v }
 {}
 
 /// The shortest content is the elements' shortest forms in a row.

@@ -9,7 +9,7 @@ mod whole;
 mod writing;
 
 pub use reading::{from_reader, from_slice};
-pub use whole::whole_elements_are_one_number;
+pub use whole::{turns_are_compared_by_their_counts, whole_elements_are_one_number};
 pub use writing::{append, append_bytes, content_len, write};
 
 /// How often a list engine tried to read an element.

@@ -8,9 +8,10 @@ ghost use Rattle.std.specs.Global.{Global};
 ghost use Rattle.tls_codec_wire.specs.declared.error.Error.{Error};
 ghost use Rattle.tls_codec_wire.specs.declared.error.Error.TheVariants.{InvalidVectorLength, OutOfMemory};
 ghost use Rattle.tls_codec_grammar.specs.Tree.{Tree};
-ghost use Rattle.tls_codec_grammar.specs.Grammar.{content};
+ghost use Rattle.tls_codec_grammar.specs.Grammar.{content, utf8};
 ghost use Rattle.tls_codec_grammar.specs.Shortest.{IsShortest};
-ghost use Rattle.tls_codec_grammar.specs.Format.{counted_list_format};
+ghost use Rattle.tls_codec_grammar.specs.Field.{variable_field};
+ghost use Rattle.tls_codec_grammar.specs.Format.{counted_list_format, text_format};
 ghost use Rattle.tls_codec_grammar.specs.Encoding.{AppendsForm, Makes};
 ghost use Rattle.tls_codec_grammar.specs.Opaque.{OpaqueCopyRefused, OpaqueSourceRefused};
 ghost use Rattle.tls_codec_base.specs.Refusals.{counted_list_names, counted_list_source_names};
@@ -92,7 +93,7 @@ pub fn parts_read_are_never_trailing<
 {}
 
 /// If the elements of a list all have shortest forms whose length its field doesn't hold, encoders to memory
-/// refuse the list as `InvalidVectorLength`, or because memory ran out.
+/// refuse the list as `InvalidVectorLength`, or because memory ran out. So they do a string of that many bytes.
 pub fn contents_out_of_bounds_are_refused<F: LengthField, T: Size>()
     ensures appended { (form : List ℕ) (v : Tree) (old new : List ℕ) (result : Result ℕ Error)
         → IsShortest (content T.format.spells) form v
@@ -103,5 +104,15 @@ pub fn contents_out_of_bounds_are_refused<F: LengthField, T: Size>()
         → IsShortest (content T.format.spells) form v
         → ¬ F.field.holds (length form)
         → Makes (counted_list_format F.field T.format) v result
+        → IsErrAnd result (λ e. (e ≡ InvalidVectorLength) ⊎ (e ≡ OutOfMemory)) }
+    ensures text_appended { (form : List ℕ) (v : Tree) (old new : List ℕ) (result : Result ℕ Error)
+        → IsShortest utf8 form v
+        → ¬ variable_field.holds (length form)
+        → AppendsForm text_format v old new result
+        → IsErrAnd result (λ e. (e ≡ InvalidVectorLength) ⊎ (e ≡ OutOfMemory)) }
+    ensures text_made { (form : List ℕ) (v : Tree) (result : Result (Vec ℕ Global) Error)
+        → IsShortest utf8 form v
+        → ¬ variable_field.holds (length form)
+        → Makes text_format v result
         → IsErrAnd result (λ e. (e ≡ InvalidVectorLength) ⊎ (e ≡ OutOfMemory)) }
 {}

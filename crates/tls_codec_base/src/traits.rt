@@ -187,7 +187,7 @@ pub trait DeserializeBytes: Size + Drop {
     /// by one.
     ///
     /// Provided. A type of fixed width may do it at once, and every list then goes through here.
-    /// `OutOfMemory`: allocation failed.
+    /// `OutOfMemory`: allocation failed, and the bytes begin with an element.
     fn tls_elements(_alloc: Global, bytes: &[u8]) -> Result<Option<Vec<Self>>, Error>
         ensures { AllRead Self.format Self.plain bytes.now result }
     {

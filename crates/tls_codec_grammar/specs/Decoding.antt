@@ -27,6 +27,10 @@ pub record BeginsSome (spells : Grammar) (x : List ℕ) : Type 0 where
   pub rest : List ℕ
   pub begins : Begins spells x value rest
 
+-- a prefix of x is a spelling, and there was no memory for its value
+abbrev pub NoMemoryFor : Grammar → List ℕ → Error → Type 0
+NoMemoryFor spells x e = (e ≡ OutOfMemory) × BeginsSome spells x
+
 -- no prefix of x is a spelling
 abbrev pub NoneBegins : Grammar → List ℕ → Type 0
 NoneBegins spells x = (v : Tree) (rest : List ℕ) → Begins spells x v rest → ⊥
@@ -106,11 +110,12 @@ ReadsWhole f plain x (Err e) = RefusesWhole f.spells f.lean x e
 
 -- ---- elements at once
 
--- elements that all of some bytes spell in a row, or none, of which nothing is said; or there was no memory
+-- elements that all of some bytes spell in a row, or none, of which nothing is said; or there was no memory for them,
+-- though one begins the bytes
 abbrev pub AllRead : {T : Type 0} → Format → (T → Tree) → List ℕ → Result (Option (Vec T Global)) Error → Type 0
 AllRead f plain x (Ok (Some elements)) = content f.spells Reading x (trees plain elements.items)
 AllRead f plain x (Ok None) = ⊤
-AllRead f plain x (Err e) = e ≡ OutOfMemory
+AllRead f plain x (Err e) = NoMemoryFor f.spells x e
 
 -- elements that a source gave up to its limit; or none, and nothing was taken
 abbrev pub AllGiven : {T S : Type 0} → Format → (T → Tree) → Ghosts S → Bounded S → Bounded S → Result (Option (Vec T Global)) Error → Type 0

@@ -1,12 +1,12 @@
 //! Elements that fill a declared number of bytes, from a slice and from a source.
-ghost use Rattle.std.specs.Prelude.{◌≡◌, [], ◌∷◌, ◌++◌, is_ok, if◌then◌else◌, IfErr, IfOk, IsOkAnd};
+ghost use Rattle.std.specs.Prelude.{◌≡◌, ◌<◌, [], ◌∷◌, ◌++◌, is_ok, if◌then◌else◌, vec_capacity, vec_len, IfErr, IfOk, IsOkAnd, OnOk};
 ghost use Rattle.tls_codec_wire.specs.Bounded.{BorrowAlike, inner_of, limit_of};
 ghost use Rattle.tls_codec_wire.specs.Refused.{RefusedFor};
 ghost use Rattle.tls_codec_grammar.specs.Tree.{trees};
 ghost use Rattle.tls_codec_grammar.specs.Format.{content_format, sized_format};
 ghost use Rattle.tls_codec_grammar.specs.Decoding.{Named, Reads, Splits};
 ghost use Rattle.tls_codec_base.specs.Refusals.{NamedWithin, elements_names, elements_source_names};
-ghost use Rattle.tls_codec_base.specs.Turns.{TurnedEach, TurnedRefused, TurnedWithin, TurnedWithinGiven, source_turns};
+ghost use Rattle.tls_codec_base.specs.Turns.{SourceTurnedRefused, TurnedEach, TurnedRefused, TurnedWithin, TurnedWithinGiven};
 
 use crate::lists::Turns;
 use crate::traits::{Deserialize, DeserializeBytes};
@@ -36,9 +36,9 @@ pub fn from_slice<'a, T: DeserializeBytes>(
         (λ elements. trees T.plain elements.items) bytes.now result }
     ensures named { IfErr result (elements_names T.format T.names length bytes.now) }
     ensures turned { IfOk result (λ found. TurnedEach found.0.items turns.old turns.new) }
-    ensures refused { IfErr result
+    ensures turned_if_refused { IfErr result
         (TurnedRefused T.format.spells length bytes.now turns.old turns.new) }
-    ensures bounded { TurnedWithin length bytes.now turns.old turns.new }
+    ensures turned_at_most { TurnedWithin length bytes.now turns.old turns.new }
     ensures nothing_asked { length ≡ 0
         → IsOkAnd result (λ found. (found.0.items ≡ []) × (found.1.now ≡ bytes.now))
         × (turns.new ≡ turns.old) }
@@ -90,10 +90,10 @@ pub fn from_reader<T: Deserialize, R: Source>(
         (Named (sized_format length (content_format T.format))
         (elements_source_names T.format T.names length) R.Source src.old src.new) }
     ensures turned { IfOk result (λ elements. TurnedEach elements.items turns.old turns.new) }
-    ensures refused { IfErr result
-        (RefusedFor R.Source (source_turns T.format.spells length turns.old turns.new) src.old
+    ensures turned_if_refused { IfErr result
+        (RefusedFor R.Source (SourceTurnedRefused T.format.spells length turns.old turns.new) src.old
         src.new) }
-    ensures bounded { TurnedWithinGiven R.given length src.old src.new turns.old turns.new }
+    ensures turned_at_most { TurnedWithinGiven R.given length src.old src.new turns.old turns.new }
     ensures nothing_asked { length ≡ 0
         → IsOkAnd result (λ elements. elements.items ≡ [])
         × (src.new ≡ src.old)
@@ -115,11 +115,11 @@ fn elements_within<T: Deserialize, R: Source>(
         (inner_of within.new) result }
     ensures named { IfErr result (NamedWithin T.format T.names R.Source within.old within.new) }
     ensures turned { IfOk result (λ elements. TurnedEach elements.items turns.old turns.new) }
-    ensures refused { IfErr result
+    ensures turned_if_refused { IfErr result
         (RefusedFor R.Source
-        (source_turns T.format.spells (limit_of within.old) turns.old turns.new)
+        (SourceTurnedRefused T.format.spells (limit_of within.old) turns.old turns.new)
         (inner_of within.old) (inner_of within.new)) }
-    ensures bounded { TurnedWithinGiven R.given (limit_of within.old) (inner_of within.old)
+    ensures turned_at_most { TurnedWithinGiven R.given (limit_of within.old) (inner_of within.old)
         (inner_of within.new) turns.old turns.new }
     ensures nothing_asked { limit_of within.old ≡ 0
         → IsOkAnd result (λ elements. elements.items ≡ [])
@@ -146,11 +146,11 @@ fn each_within<T: Deserialize, R: Source>(
         (inner_of within.new) result }
     ensures named { IfErr result (NamedWithin T.format T.names R.Source within.old within.new) }
     ensures turned { IfOk result (λ elements. TurnedEach elements.items turns.old turns.new) }
-    ensures refused { IfErr result
+    ensures turned_if_refused { IfErr result
         (RefusedFor R.Source
-        (source_turns T.format.spells (limit_of within.old) turns.old turns.new)
+        (SourceTurnedRefused T.format.spells (limit_of within.old) turns.old turns.new)
         (inner_of within.old) (inner_of within.new)) }
-    ensures bounded { TurnedWithinGiven R.given (limit_of within.old) (inner_of within.old)
+    ensures turned_at_most { TurnedWithinGiven R.given (limit_of within.old) (inner_of within.old)
         (inner_of within.new) turns.old turns.new }
     ensures nothing_asked { limit_of within.old ≡ 0
         → IsOkAnd result (λ elements. elements.items ≡ [])
@@ -175,22 +175,26 @@ fn each_within<T: Deserialize, R: Source>(
 // Appends an element. Room is looked at once, and the first is requested without a call.
 #[inline(always)]
 fn push_element<T: Drop>(elements: &mut Vec<T>, element: T) -> Result<(), AllocError>
-    ensures { elements.new.items
+    ensures pushed { elements.new.items
         ≡ (if is_ok result then elements.old.items ++ element ∷ [] else elements.old.items) }
+    ensures first_room { vec_capacity elements.old ≡ 0 → OnOk result (vec_capacity elements.new ≡ 4) }
+    ensures room { vec_len elements.old < vec_capacity elements.old
+        → vec_capacity elements.new ≡ vec_capacity elements.old }
 {
     if elements.len() == elements.capacity() {
         make_room(elements)?;
     }
-    match elements.push(element) {
-        Ok(()) => Ok(()),
-        Err(_) => Err(AllocError),
-    }
+    elements.push_reserved(element);
+    Ok(())
 }
 
 // Room for a further element: at first for as many as `push` requests if they are small.
 #[inline(always)]
 fn make_room<T: Drop>(elements: &mut Vec<T>) -> Result<(), AllocError>
-    ensures { elements.new.items ≡ elements.old.items }
+    ensures kept { elements.new.items ≡ elements.old.items }
+    ensures len { vec_len elements.new ≡ vec_len elements.old }
+    ensures room { OnOk result (vec_len elements.new < vec_capacity elements.new) }
+    ensures first_room { vec_capacity elements.old ≡ 0 → OnOk result (vec_capacity elements.new ≡ 4) }
 {
     if elements.capacity() == 0 {
         return elements.reserve_exact(FIRST_ROOM);

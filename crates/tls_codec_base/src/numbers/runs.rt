@@ -1,8 +1,6 @@
 //! Numbers of one width in a row, read at once.
-ghost use Rattle.std.specs.Prelude.{◌≡◌, ◌<◌, ◌≤◌, ◌%◌, List, length, vec_capacity, vec_len, IfErr, IfOk, MatchOption, ⊤};
-ghost use Rattle.std.specs.Iterator.{DrainsIf, IsFinite};
-ghost use Rattle.tls_codec_wire.specs.Bounded.{BorrowAlike};
-ghost use Rattle.tls_codec_wire.specs.Digits.{value};
+ghost use Rattle.std.specs.Prelude.{◌≡◌, ◌<◌, ◌≤◌, ◌/◌, ◌%◌, length, vec_capacity, IfErr, IfOk, IfSome, MatchOption};
+ghost use Rattle.tls_codec_wire.specs.Bounded.{BorrowAlike, limit_of};
 ghost use Rattle.tls_codec_wire.specs.Transfer.{ReadRefused};
 ghost use Rattle.tls_codec_wire.specs.declared.error.Error.TheVariants.{OutOfMemory};
 ghost use Rattle.tls_codec_grammar.specs.Tree.{Number, trees};
@@ -15,7 +13,7 @@ ghost use Rattle.tls_codec_base.specs.Runs.{GaveRun, ReadsRun};
 
 use super::groups::HasDigits;
 use crate::lists::Turns;
-use std::alloc::{AllocError, Global};
+use std::alloc::Global;
 use tls_codec_grammar::opaque::see_bytes;
 use tls_codec_wire::gather::gather;
 use tls_codec_wire::{Bounded, Error, Source};
@@ -89,26 +87,7 @@ fn gather_run<R: Source, const K: usize>(
     }
 }
 
-// All items. Room for `room` of them is requested at once. If that is refused, there is no second request,
-// unlike in `collect`.
-#[inline(always)]
-fn collected<T: Drop, I: Iterator<Item = T> + Drop>(
-    alloc: Global,
-    room: usize,
-    items: I,
-) -> Result<Vec<T>, AllocError>
-    requires can { I.can_next items }
-    requires ends { IsFinite (I.remaining items) }
-    ensures ran { IfOk result (λ v. (xs : List T) × DrainsIf I.next_gives ⊤ items xs
-        × ((v.items ≡ xs) × (vec_len v ≡ length xs))) }
-    ensures room { IfOk result (λ v. room ≤ vec_capacity v) }
-{
-    let mut all = Vec::with_capacity(alloc, room)?;
-    all.extend(items)?;
-    Ok(all)
-}
-
-// The numbers of these digits.
+// The numbers of these digits. Room for just these is requested, at once.
 //
 // A width is at most that of `u64`, so that memory can hold an array of its digits.
 fn numbers_of<T: HasDigits<K>, const K: usize>(
@@ -121,26 +100,29 @@ fn numbers_of<T: HasDigits<K>, const K: usize>(
         (λ numbers. length digits.now % K ≡ 0
         → content (number K) Reading digits.now
         (trees (λ x. Number (T.number x)) numbers.items)) }
+    ensures room { IfOk result (λ numbers. vec_capacity numbers ≡ length digits.now / K) }
     ensures err { IfErr result (λ e. e ≡ OutOfMemory) }
 {
     let (groups, _) = digits.as_chunks::<K>();
-    let number = |group: &[u8; K]|
-        ensures { T.number result ≡ value group.now }
-    { T::of_digits(group) };
-    let numbers = collected(alloc, groups.len(), groups.iter().map(number))?;
+    let mut numbers = Vec::with_capacity(alloc, groups.len())?;
+    for group in groups {
+        numbers.push_reserved(T::of_digits(group));
+    }
     Ok(numbers)
 }
 
-// The numbers that all of these bytes are the digits of; none if a byte is left over.
+// The numbers that all of these bytes are the digits of; none if there are no bytes, or one is left over.
 pub(crate) fn elements_of<T: HasDigits<K>, const K: usize>(
     alloc: Global,
     bytes: &[u8],
 ) -> Result<Option<Vec<T>>, Error>
     requires some { 0 < K }
     requires width { K ≤ 8 }
-    ensures { AllRead (number_format K) (λ x. Number (T.number x)) bytes.now result }
+    ensures read { AllRead (number_format K) (λ x. Number (T.number x)) bytes.now result }
+    ensures room { IfOk result
+        (λ found. IfSome found (λ numbers. vec_capacity numbers ≡ length bytes.now / K)) }
 {
-    if bytes.len() % K != 0 {
+    if bytes.is_empty() || bytes.len() % K != 0 {
         return Ok(None);
     }
     Ok(Some(numbers_of::<T, K>(alloc, bytes)?))
@@ -161,6 +143,8 @@ pub(crate) fn read_elements<T: HasDigits<K>, R: Source, const K: usize>(
         (NamedWithin (number_format K) (ReadRefused K) R.Source within.old within.new) }
     ensures turned { TurnedAll (number K) R.Source within.old within.new turns.old turns.new
         result }
+    ensures room { IfOk result
+        (λ found. IfSome found (λ numbers. vec_capacity numbers ≡ limit_of within.old / K)) }
 {
     let Some(digits) = read_run::<R, K>(alloc, within, turns)? else {
         return Ok(None);

@@ -94,6 +94,9 @@ impl DeserializeBytes for u8 {
     /// The bytes are copied at once.
     #[inline(always)]
     fn tls_elements(alloc: Global, bytes: &[u8]) -> Result<Option<Vec<u8>>, Error> {
+        if bytes.is_empty() {
+            return Ok(None);
+        }
         Ok(Some(Vec::from_slice(alloc, bytes)?))
     }
 }

@@ -3,7 +3,7 @@ use Rattle.tls_codec_base.proofs.refusals.parts_read_are_never_trailing.Goals as
 
 pub returns : goal.returns
 returns g c = record {
-  boxes = box_source_never g.T.Deserialize.names;
+  boxes = box_source_never g.T.Size.format g.T.Deserialize.names;
   options = option_source_never g.T.Deserialize.names;
   pairs = fields_source_never g.T.Size.format g.T.Deserialize.names g.U.Deserialize.names;
   triples = λ first second third. fields_source_never g.T.Size.format g.T.Deserialize.names _ first (fields_source_never g.U.Size.format g.U.Deserialize.names g.V.Deserialize.names second third);

@@ -53,32 +53,32 @@ elements-preserved g c =
       untouched = λ none. absurd (omega (arith, none, before.read.fills, c.limit.ensures));
     }
 
-pub returns-in_err-element-clause-refused : goal.returns-in_err-element-clause-refused
-returns-in_err-element-clause-refused g c =
+pub returns-in_err-element-clause-turned_if_refused : goal.returns-in_err-element-clause-turned_if_refused
+returns-in_err-element-clause-turned_if_refused g c =
     let source = g.met.R.Source in
     let p = err_from_is_err_and c.from_residual.result c.from_residual.ensures.1 in
     rw (p.1, p.2) (refused_turned_given _ _ g.met.T.Size.lawful.spelled g.T.Size.plain c.elements.elements.items source.gives_in_order source.no_count_falls c.elements.invariant.read (omega (arith, c.elements.invariant.turned, c.turn.ensures)) (λ x q. why_refused _ q.0) (refused_inside c.in_err-element.ensures.named))
 
-pub returns-then-limit-before-clause-refused : goal.returns-then-limit-before-clause-refused
-returns-then-limit-before-clause-refused g c =
+pub returns-then-limit-before-clause-turned_if_refused : goal.returns-then-limit-before-clause-turned_if_refused
+returns-then-limit-before-clause-turned_if_refused g c =
     let source = g.met.R.Source in
     let element = c.in_ok-element.ensures.reads in
     let hollow = given_empty element (omega (arith, c.limit-before.ensures, c.limit-in-elements.ensures, c.if-limit-before.true)) in
     refused_turned_given _ _ g.met.T.Size.lawful.spelled g.T.Size.plain c.elements.elements.items source.gives_in_order source.no_count_falls c.elements.invariant.read (omega (arith, c.elements.invariant.turned, c.turn.ensures)) (λ x q. inr (none_behind_hollow _ _ g.met.T.Size.lawful.spelled _ hollow)) (given_inside source.gives_nothing element)
 
-pub returns-then-is_err-clause-refused : goal.returns-then-is_err-clause-refused
-returns-then-is_err-clause-refused g c =
+pub returns-then-is_err-clause-turned_if_refused : goal.returns-then-is_err-clause-turned_if_refused
+returns-then-is_err-clause-turned_if_refused g c =
     let source = g.met.R.Source in
     refused_turned_given _ _ g.met.T.Size.lawful.spelled g.T.Size.plain c.elements.elements.items source.gives_in_order source.no_count_falls c.elements.invariant.read (omega (arith, c.elements.invariant.turned, c.turn.ensures)) (λ x q. inl (inl refl)) (given_inside source.gives_nothing c.in_ok-element.ensures.reads)
 
-pub returns-in_err-element-clause-bounded : goal.returns-in_err-element-clause-bounded
-returns-in_err-element-clause-bounded g c = turned_within_attempt g.T.Size.plain g.met.R.Source.gives_in_order c.elements.elements.items 1 c.elements.invariant.read (seen_gave (gives_in_order_within g.R.Source.given g.met.R.Source.gives_in_order) c.in_err-element.ensures.reads.refused.seen) (omega (arith, c.elements.invariant.turned, c.turn.ensures)) (omega arith)
+pub returns-in_err-element-clause-turned_at_most : goal.returns-in_err-element-clause-turned_at_most
+returns-in_err-element-clause-turned_at_most g c = turned_within_attempt g.T.Size.plain g.met.R.Source.gives_in_order c.elements.elements.items 1 c.elements.invariant.read (seen_gave (gives_in_order_within g.R.Source.given g.met.R.Source.gives_in_order) c.in_err-element.ensures.reads.refused.seen) (omega (arith, c.elements.invariant.turned, c.turn.ensures)) (omega arith)
 
-pub returns-then-limit-before-clause-bounded : goal.returns-then-limit-before-clause-bounded
-returns-then-limit-before-clause-bounded g c = turned_within_attempt g.T.Size.plain g.met.R.Source.gives_in_order c.elements.elements.items 1 c.elements.invariant.read (record { bytes = c.in_ok-element.ensures.reads.front; held = c.in_ok-element.ensures.reads.held }) (omega (arith, c.elements.invariant.turned, c.turn.ensures)) (omega arith)
+pub returns-then-limit-before-clause-turned_at_most : goal.returns-then-limit-before-clause-turned_at_most
+returns-then-limit-before-clause-turned_at_most g c = turned_within_attempt g.T.Size.plain g.met.R.Source.gives_in_order c.elements.elements.items 1 c.elements.invariant.read (record { bytes = c.in_ok-element.ensures.reads.front; held = c.in_ok-element.ensures.reads.held }) (omega (arith, c.elements.invariant.turned, c.turn.ensures)) (omega arith)
 
-pub returns-then-is_err-clause-bounded : goal.returns-then-is_err-clause-bounded
-returns-then-is_err-clause-bounded g c = turned_within_attempt g.T.Size.plain g.met.R.Source.gives_in_order c.elements.elements.items 1 c.elements.invariant.read (record { bytes = c.in_ok-element.ensures.reads.front; held = c.in_ok-element.ensures.reads.held }) (omega (arith, c.elements.invariant.turned, c.turn.ensures)) (omega arith)
+pub returns-then-is_err-clause-turned_at_most : goal.returns-then-is_err-clause-turned_at_most
+returns-then-is_err-clause-turned_at_most g c = turned_within_attempt g.T.Size.plain g.met.R.Source.gives_in_order c.elements.elements.items 1 c.elements.invariant.read (record { bytes = c.in_ok-element.ensures.reads.front; held = c.in_ok-element.ensures.reads.held }) (omega (arith, c.elements.invariant.turned, c.turn.ensures)) (omega arith)
 
-pub returns-clause-bounded : goal.returns-clause-bounded
-returns-clause-bounded g c = turned_within_given g.T.Size.plain c.elements.elements.items 0 c.elements.invariant.read (omega (arith, c.elements.invariant.turned)) (omega arith)
+pub returns-clause-turned_at_most : goal.returns-clause-turned_at_most
+returns-clause-turned_at_most g c = turned_within_given g.T.Size.plain c.elements.elements.items 0 c.elements.invariant.read (omega (arith, c.elements.invariant.turned)) (omega arith)

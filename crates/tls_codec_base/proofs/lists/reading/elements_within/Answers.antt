@@ -7,11 +7,11 @@ use Rattle.tls_codec_base.proofs.Turns.{at_once_within_given}
 use Rattle.tls_codec_base.proofs.lists.reading.elements_within.Goals.{then-limit-gt0+in_ok-elements+in_default, else-limit-gt0}
 use Rattle.tls_codec_base.proofs.lists.reading.elements_within.Goals as goal
 
-pub returns-in-Some-clause-bounded : goal.returns-in-Some-clause-bounded
-returns-in-Some-clause-bounded g c = at_once_within_given g.T.Size.format g.T.Size.plain g.R.Source _ _ _ c.in-Some.elements c.in_ok-elements.ensures.reads c.in-Some.is c.in_ok-elements.ensures.turned
+pub returns-in-Some-clause-turned_at_most : goal.returns-in-Some-clause-turned_at_most
+returns-in-Some-clause-turned_at_most g c = at_once_within_given g.T.Size.format g.T.Size.plain g.R.Source _ _ _ c.in-Some.elements c.in_ok-elements.ensures.reads c.in-Some.is c.in_ok-elements.ensures.turned
 
-pub returns-in_err-elements-clause-bounded : goal.returns-in_err-elements-clause-bounded
-returns-in_err-elements-clause-bounded g c = c.in_err-elements.ensures.turned.bounded
+pub returns-in_err-elements-clause-turned_at_most : goal.returns-in_err-elements-clause-turned_at_most
+returns-in_err-elements-clause-turned_at_most g c = c.in_err-elements.ensures.turned.turned_at_most
 
 pub returns-clause-named : goal.returns-clause-named
 returns-clause-named g c = subst (λ (u : Bounded g.row.R.Denot). IfErr c.each_within.result (NamedWithin g.T.Size.format g.T.Deserialize.names g.R.Source u c.each_within.new.within)) same c.each_within.ensures.named

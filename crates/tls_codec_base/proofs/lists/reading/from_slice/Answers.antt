@@ -1,6 +1,6 @@
 use Rattle.std.proofs.Common.{rules, ◌≡◌, ◌++◌, ◌∷◌, [], arith, ap, inl, inr, length, length-append, refl}
 use Rattle.std.proofs.lemmas.Result.{err_from_is_err_and}
-use Rattle.tls_codec_base.proofs.ListReading.{element_named, element_refused, found_empty, found_long, none_if_empty, none_if_long, read_more, read_none}
+use Rattle.tls_codec_base.proofs.ListReading.{element_named, element_refused, found_empty, found_long, no_memory_at_first, none_if_empty, none_if_long, read_more, read_none}
 use Rattle.tls_codec_base.proofs.Turns.{at_once_within, refused_turned, turned_within, why_slice_refused}
 use Rattle.tls_codec_base.proofs.WholeElements.{none_behind_hollow, none_fits}
 use Rattle.tls_codec_base.proofs.lists.reading.from_slice.Goals as goal
@@ -51,39 +51,48 @@ returns-then-taken-eq0-clause-named g c =
 
 pub returns-then-taken-left-clause-named : goal.returns-then-taken-left-clause-named
 returns-then-taken-left-clause-named g c =
-    element_named g.T.Size.format g.T.DeserializeBytes.names c.loop-left.invariant.read (omega arith) (inr (inr (refl, found_long c.in_ok-element.ensures.splits (omega arith))))
+    element_named g.T.Size.format g.T.DeserializeBytes.names c.loop-left.invariant.read (omega arith) (inr (inr (inl (refl, found_long c.in_ok-element.ensures.splits (omega arith)))))
 
-pub returns-in_err-element-clause-refused : goal.returns-in_err-element-clause-refused
-returns-in_err-element-clause-refused g c =
+pub returns-then-is_err-clause-named : goal.returns-then-is_err-clause-named
+returns-then-is_err-clause-named g c =
+    element_named g.T.Size.format g.T.DeserializeBytes.names c.loop-left.invariant.read (omega arith) (inr (inr (inr (refl, record { value = _; rest = _; begins = c.in_ok-element.ensures.splits }))))
+
+pub returns-in_err-elements-clause-named : goal.returns-in_err-elements-clause-named
+returns-in_err-elements-clause-named g c =
+    let p = err_from_is_err_and c.from_residual.result c.from_residual.ensures.1 in
+    rw (p.1, p.2) (element_named g.T.Size.format g.T.DeserializeBytes.names (read_none _ _ _) (omega arith) (inr (inr (inr (no_memory_at_first c.args.length (search rules) c.in_err-elements.ensures)))))
+
+pub returns-in_err-element-clause-turned_if_refused : goal.returns-in_err-element-clause-turned_if_refused
+returns-in_err-element-clause-turned_if_refused g c =
     let p = err_from_is_err_and c.from_residual-in_err-element.result c.from_residual-in_err-element.ensures.1 in
     rw (p.1, p.2) (refused_turned _ _ g.met.T.Size.lawful.spelled g.T.Size.plain c.loop-left.elements.items c.loop-left.invariant.read (omega (arith, c.loop-left.invariant.turned, c.turn.ensures)) (why_slice_refused _ c.in_err-element.ensures.splits))
 
-pub returns-then-taken-eq0-clause-refused : goal.returns-then-taken-eq0-clause-refused
-returns-then-taken-eq0-clause-refused g c =
+pub returns-then-taken-eq0-clause-turned_if_refused : goal.returns-then-taken-eq0-clause-turned_if_refused
+returns-then-taken-eq0-clause-turned_if_refused g c =
     refused_turned _ _ g.met.T.Size.lawful.spelled g.T.Size.plain c.loop-left.elements.items c.loop-left.invariant.read (omega (arith, c.loop-left.invariant.turned, c.turn.ensures)) (inr (none_behind_hollow _ _ g.met.T.Size.lawful.spelled _ (found_empty c.in_ok-element.ensures.splits c.if-taken-eq0.true)))
 
-pub returns-then-taken-left-clause-refused : goal.returns-then-taken-left-clause-refused
-returns-then-taken-left-clause-refused g c =
+pub returns-then-taken-left-clause-turned_if_refused : goal.returns-then-taken-left-clause-turned_if_refused
+returns-then-taken-left-clause-turned_if_refused g c =
     refused_turned _ _ g.met.T.Size.lawful.spelled g.T.Size.plain c.loop-left.elements.items c.loop-left.invariant.read (omega (arith, c.loop-left.invariant.turned, c.turn.ensures)) (inr (none_fits _ _ g.met.T.Size.lawful.spelled c.in_ok-element.ensures.splits (omega arith)))
 
-pub returns-then-is_err-clause-refused : goal.returns-then-is_err-clause-refused
-returns-then-is_err-clause-refused g c =
+pub returns-then-is_err-clause-turned_if_refused : goal.returns-then-is_err-clause-turned_if_refused
+returns-then-is_err-clause-turned_if_refused g c =
     refused_turned _ _ g.met.T.Size.lawful.spelled g.T.Size.plain c.loop-left.elements.items c.loop-left.invariant.read (omega (arith, c.loop-left.invariant.turned, c.turn.ensures)) (inl refl)
 
-pub returns-in-Some-clause-bounded : goal.returns-in-Some-clause-bounded
-returns-in-Some-clause-bounded g c = at_once_within g.T.Size.format g.T.Size.plain _ _ _ c.in-Some.elements c.in_ok-elements.ensures c.in-Some.is (omega arith) (omega arith) (omega (arith, c.turn_by.ensures, c.len.ensures))
+pub returns-in-Some-clause-turned_at_most : goal.returns-in-Some-clause-turned_at_most
+returns-in-Some-clause-turned_at_most g c = at_once_within g.T.Size.format g.T.Size.plain _ _ _ c.in-Some.elements c.in_ok-elements.ensures c.in-Some.is (omega arith) (omega arith) (omega (arith, c.turn_by.ensures, c.len.ensures))
 
-pub returns-in_err-element-clause-bounded : goal.returns-in_err-element-clause-bounded
-returns-in_err-element-clause-bounded g c = turned_within g.T.Size.plain c.loop-left.elements.items 1 c.loop-left.invariant.read (omega (arith, c.loop-left.invariant.turned, c.turn.ensures)) (omega arith)
+pub returns-in_err-element-clause-turned_at_most : goal.returns-in_err-element-clause-turned_at_most
+returns-in_err-element-clause-turned_at_most g c = turned_within g.T.Size.plain c.loop-left.elements.items 1 c.loop-left.invariant.read (omega (arith, c.loop-left.invariant.turned, c.turn.ensures)) (omega arith)
 
-pub returns-then-taken-eq0-clause-bounded : goal.returns-then-taken-eq0-clause-bounded
-returns-then-taken-eq0-clause-bounded g c = turned_within g.T.Size.plain c.loop-left.elements.items 1 c.loop-left.invariant.read (omega (arith, c.loop-left.invariant.turned, c.turn.ensures)) (omega arith)
+pub returns-then-taken-eq0-clause-turned_at_most : goal.returns-then-taken-eq0-clause-turned_at_most
+returns-then-taken-eq0-clause-turned_at_most g c = turned_within g.T.Size.plain c.loop-left.elements.items 1 c.loop-left.invariant.read (omega (arith, c.loop-left.invariant.turned, c.turn.ensures)) (omega arith)
 
-pub returns-then-taken-left-clause-bounded : goal.returns-then-taken-left-clause-bounded
-returns-then-taken-left-clause-bounded g c = turned_within g.T.Size.plain c.loop-left.elements.items 1 c.loop-left.invariant.read (omega (arith, c.loop-left.invariant.turned, c.turn.ensures)) (omega arith)
+pub returns-then-taken-left-clause-turned_at_most : goal.returns-then-taken-left-clause-turned_at_most
+returns-then-taken-left-clause-turned_at_most g c = turned_within g.T.Size.plain c.loop-left.elements.items 1 c.loop-left.invariant.read (omega (arith, c.loop-left.invariant.turned, c.turn.ensures)) (omega arith)
 
-pub returns-then-is_err-clause-bounded : goal.returns-then-is_err-clause-bounded
-returns-then-is_err-clause-bounded g c = turned_within g.T.Size.plain c.loop-left.elements.items 1 c.loop-left.invariant.read (omega (arith, c.loop-left.invariant.turned, c.turn.ensures)) (omega arith)
+pub returns-then-is_err-clause-turned_at_most : goal.returns-then-is_err-clause-turned_at_most
+returns-then-is_err-clause-turned_at_most g c = turned_within g.T.Size.plain c.loop-left.elements.items 1 c.loop-left.invariant.read (omega (arith, c.loop-left.invariant.turned, c.turn.ensures)) (omega arith)
 
-pub returns-clause-bounded : goal.returns-clause-bounded
-returns-clause-bounded g c = turned_within g.T.Size.plain c.loop-left.elements.items 0 c.loop-left.invariant.read (omega (arith, c.loop-left.invariant.turned)) (omega arith)
+pub returns-clause-turned_at_most : goal.returns-clause-turned_at_most
+returns-clause-turned_at_most g c = turned_within g.T.Size.plain c.loop-left.elements.items 0 c.loop-left.invariant.read (omega (arith, c.loop-left.invariant.turned)) (omega arith)
