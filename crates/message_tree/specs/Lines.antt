@@ -29,10 +29,12 @@ digits_text (b ∷ bs) = codes " " ++ encode_lower (b ∷ bs)
 abbrev pub bytes_text : List ℕ → List ℕ
 bytes_text bytes = count_text (length bytes) (codes "byte") ++ digits_text bytes
 
--- what was there, and then this text; the next line is as far in
+-- what was there, and then this text; the next line is as far in, and the tree is as whole as it was
 abbrev pub Adds : (old new : Tree) → List ℕ → Type 0
 Adds old new text =
-    (string_bytes new.text ≡ string_bytes old.text ++ text) × (string_bytes new.indent ≡ string_bytes old.indent)
+    (string_bytes new.text ≡ string_bytes old.text ++ text) ×
+    (string_bytes new.indent ≡ string_bytes old.indent) ×
+    (new.is_whole ≡ old.is_whole)
 
 -- what was there, and the line of a field with this text
 abbrev pub AddsLine : (old new : Tree) → (name text : List ℕ) → Type 0
@@ -42,10 +44,12 @@ AddsLine old new name text = Adds old new (line old name text)
 abbrev pub OpensLine : (old new : Tree) → (name text : List ℕ) → Type 0
 OpensLine old new name text =
     (string_bytes new.text ≡ string_bytes old.text ++ line old name text) ×
-    (string_bytes new.indent ≡ string_bytes old.indent ++ codes "  ")
+    (string_bytes new.indent ≡ string_bytes old.indent ++ codes "  ") ×
+    (new.is_whole ≡ old.is_whole)
 
 -- what was there; the next line is as far in as it was before two blanks
 abbrev pub Closes : (old new : Tree) → Type 0
 Closes old new =
     (string_bytes new.text ≡ string_bytes old.text) ×
-    ((outer : List ℕ) → string_bytes old.indent ≡ outer ++ codes "  " → string_bytes new.indent ≡ outer)
+    ((outer : List ℕ) → string_bytes old.indent ≡ outer ++ codes "  " → string_bytes new.indent ≡ outer) ×
+    (new.is_whole ≡ old.is_whole)

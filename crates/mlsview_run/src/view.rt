@@ -1,7 +1,10 @@
 //! What is printed of some bytes.
-ghost use Rattle.std.specs.Prelude.{◌≡◌, IfErr, IfOk, false, true};
+ghost use Rattle.std.specs.Prelude.{◌≡◌, ◌≢◌, ◌++◌, ◌-◌, IfErr, IfOk, OnOk, string_bytes, true};
 ghost use Rattle.tls_codec.specs.Devices.{Gave, NoneFell};
-ghost use Rattle.mlsview_run.specs.View.{GaveView, Stands, Tells, WhyNoBytes, WhyNoView};
+ghost use Rattle.tls_codec.specs.Errors.{OutOfMemory};
+ghost use Rattle.tls_codec.specs.Spellings.{NoneSpelled};
+ghost use Rattle.mls_framing.specs.MLSMessage.{mls_message_format};
+ghost use Rattle.mlsview_run.specs.View.{GaveView, Stands, Tells, WhyNoBytes, WhyNoView, error_text, refusal_line};
 
 use message_tree::Tree;
 use mls_framing::MLSMessage;
@@ -27,7 +30,9 @@ pub struct View {
 pub fn run<R: Source>(alloc: Global, is_binary: bool, input: &mut R) -> Result<View, ViewFault>
     ensures gave { Gave R.given input.old input.new }
     ensures counts { NoneFell (R.counts input.old) (R.counts input.new) }
-    ensures ok { IfOk result (λ view. GaveView R.Source is_binary input.old input.new view.is_message) }
+    ensures ok { IfOk result
+        (λ view. GaveView ⟦<MLSMessage as Deserialize>⟧.names R.Source is_binary input.old input.new
+        view.is_message (string_bytes view.lines)) }
     ensures err { IfErr result (WhyNoView R.Source is_binary input.old input.new) }
 {
     let text = read_text(alloc, input)?;
@@ -51,7 +56,9 @@ fn bytes_of(alloc: Global, is_binary: bool, text: Vec<u8>) -> Result<Vec<u8>, Vi
 ///
 /// `Memory` is an `OutOfMemory` of the decoders, or memory that the lines ask for.
 pub fn view_of(alloc: Global, bytes: &[u8]) -> Result<View, ViewFault>
-    ensures ok { IfOk result (λ view. Tells view.is_message bytes.now) }
+    ensures ok { IfOk result
+        (λ view. Tells ⟦<MLSMessage as Deserialize>⟧.names view.is_message bytes.now
+        (string_bytes view.lines)) }
     ensures err { IfErr result (λ fault. fault ≡ ViewFault.Memory) }
 {
     match MLSMessage::tls_deserialize_exact_bytes(alloc, bytes) {
@@ -61,6 +68,7 @@ pub fn view_of(alloc: Global, bytes: &[u8]) -> Result<View, ViewFault>
     }
 }
 
+// A tree that wants memory gives no text.
 fn shown(alloc: Global, message: MLSMessage) -> Result<View, ViewFault>
     ensures ok { IfOk result (λ view. view.is_message ≡ true) }
     ensures err { IfErr result (λ fault. fault ≡ ViewFault.Memory) }
@@ -68,19 +76,22 @@ fn shown(alloc: Global, message: MLSMessage) -> Result<View, ViewFault>
     let mut tree = Tree::new(alloc);
     message.show(&mut tree, "message")?;
     Ok(View {
-        lines: tree.into_text(),
+        lines: tree.into_text()?,
         is_message: true,
     })
 }
 
+// The line of bytes that are no message. The reader path tells how many of them it took.
 fn refused(alloc: Global, bytes: &[u8]) -> Result<View, ViewFault>
-    ensures ok { IfOk result (λ view. view.is_message ≡ false) }
+    requires { NoneSpelled mls_message_format.spells bytes.now }
+    ensures ok { IfOk result
+        (λ view. Tells ⟦<MLSMessage as Deserialize>⟧.names view.is_message bytes.now
+        (string_bytes view.lines)) }
     ensures err { IfErr result (λ fault. fault ≡ ViewFault.Memory) }
 {
     let mut rest = bytes;
     let error = match MLSMessage::tls_deserialize(alloc, &mut rest) {
         Ok(_) => Error::TrailingData,
-        Err(Error::OutOfMemory) => return Err(ViewFault::Memory),
         Err(error) => error,
     };
     Ok(View {
@@ -89,8 +100,29 @@ fn refused(alloc: Global, bytes: &[u8]) -> Result<View, ViewFault>
     })
 }
 
-// The line of a refusal after which so many bytes of all are left.
-fn refusal(alloc: Global, error: Error, all: usize, left: usize) -> Result<String, AllocError> {
+// The line of a refusal after which so many bytes of all are left. One for memory has no line.
+fn refusal(alloc: Global, error: Error, all: usize, left: usize) -> Result<String, ViewFault>
+    ensures line { IfOk result (λ line. string_bytes line ≡ refusal_line error (all - left) all) }
+    ensures of_bytes { OnOk result (error ≢ OutOfMemory) }
+    ensures err { IfErr result (λ fault. fault ≡ ViewFault.Memory) }
+{
+    if let Error::OutOfMemory = error {
+        return Err(ViewFault::Memory);
+    }
     let taken = all.saturating_sub(left);
-    format!(in alloc; "refused: {error:?} after {taken} of {all} bytes\n")
+    let mut line = String::from_str(alloc, "refused: ")?;
+    push_error(&mut line, error)?;
+    writeln!(line, " after {taken} of {all} bytes")?;
+    Ok(line)
+}
+
+// An error as its `Debug` prints it.
+fn push_error(line: &mut String, error: Error) -> Result<(), AllocError>
+    ensures { OnOk result (string_bytes line.new ≡ string_bytes line.old ++ error_text error) }
+{
+    match error {
+        Error::UnknownValue(value) => write!(line, "UnknownValue({value})"),
+        Error::DecodingError(text) => write!(line, "DecodingError(\"{text}\")"),
+        _ => line.push_str(error.name()),
+    }
 }
