@@ -11,6 +11,9 @@ use std::alloc::AllocError;
 use tls_codec_wire::vlen::insert_bytes;
 use tls_codec_wire::{Error, Sink, write_all};
 
+/// How many bytes a vector that grows has room for at least.
+const LEAST_ROOM: usize = 8;
+
 /// Sends a length, and returns how many bytes it has.
 ///
 /// `InvalidVectorLength`: the field doesn't hold it, and nothing was sent. Every other refusal is the
@@ -88,7 +91,7 @@ fn make_room(out: &mut Vec<u8>, more: usize) -> Result<(), AllocError>
     ensures items { out.new.items ≡ out.old.items }
     ensures room { OnOk result (vec_len out.new + more ≤ vec_capacity out.new) }
     ensures most { vec_capacity out.new
-        ≤ max (2 * vec_capacity out.old) (vec_len out.old + more) }
+        ≤ max 8 (max (2 * vec_capacity out.old) (vec_len out.old + more)) }
 {
     if more <= out.capacity() - out.len() {
         return Ok(());
@@ -99,17 +102,18 @@ fn make_room(out: &mut Vec<u8>, more: usize) -> Result<(), AllocError>
     double_room(out, more)
 }
 
-// The same by at least twice the room. It is kept out of what appends to a vector that has the room.
+// The same by at least twice the room, and room for 8 bytes. It is kept out of what appends to a vector that has
+// the room.
 #[cold]
 #[inline(never)]
 fn double_room(out: &mut Vec<u8>, more: usize) -> Result<(), AllocError>
     ensures items { out.new.items ≡ out.old.items }
     ensures room { OnOk result (vec_len out.new + more ≤ vec_capacity out.new) }
     ensures most { vec_capacity out.new
-        ≤ max (2 * vec_capacity out.old) (vec_len out.old + more) }
+        ≤ max 8 (max (2 * vec_capacity out.old) (vec_len out.old + more)) }
 {
-    let doubled = out.capacity().saturating_mul(2) - out.len();
-    out.reserve_exact(more.max(doubled))
+    let room = out.capacity().saturating_mul(2).max(LEAST_ROOM);
+    out.reserve_exact(more.max(room - out.len()))
 }
 
 // Appends a few bytes. One, two or four are stored without a call.
