@@ -139,14 +139,14 @@ fn a_triple_is_read(alloc: Global, requests: &mut Requests) -> Result<(), Wrong>
 fn a_message_is_made(alloc: Global, requests: &mut Requests) -> Result<(), Wrong> {
     requests.begin("a_message_is_made");
     let value = told!(requests, 3, worked_log(alloc))?;
-    is_made(alloc, requests, 4, &value, &LOG)?;
+    is_made(alloc, requests, 3, &value, &LOG)?;
     Ok(())
 }
 
 fn a_message_is_appended(alloc: Global, requests: &mut Requests) -> Result<(), Wrong> {
     requests.begin("a_message_is_appended");
     let value = told!(requests, 3, worked_log(alloc))?;
-    is_appended(alloc, requests, 4, &value, &LOG)?;
+    is_appended(alloc, requests, 2, &value, &LOG)?;
     Ok(())
 }
 
