@@ -14,7 +14,7 @@ CRATES = pathlib.Path(__file__).resolve().parent.parent / "crates"
 # The exit status of each run.
 STATUS = {
     "tlsview": {"no_spelling": 1, "without_kind": 2, "with_two_kinds": 2, "with_three_kinds": 2},
-    "mlsview": {"private_message": 0, "welcome": 0, "group_info": 0, "key_package": 0, "no_message": 1},
+    "mlsview": {"private_message": 0, "welcome": 0, "group_info": 0, "key_package": 0, "no_message": 1, "trailing_byte": 1},
 }
 
 
