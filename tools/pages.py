@@ -1,5 +1,5 @@
 #!/usr/bin/env python3
-"""Compares the pages with the crates: README.md, CHANGELOG.md and docs/*.md.
+"""Compares the pages with the crates: those at the top and docs/*.md.
 
 - A block of code has to occur, line by line and in order, in the file that the words before it name
   (`src/leaf.rt`, `specs/Messages.antt`), or, if they name none, in one file under crates/. Space at both ends of a
@@ -21,7 +21,7 @@ sys.dont_write_bytecode = True
 sys.path.insert(0, str(TOP / "docs"))
 import pictures
 
-PAGES = [TOP / "README.md", TOP / "CHANGELOG.md", *sorted((TOP / "docs").glob("*.md"))]
+PAGES = [*sorted(TOP.glob("*.md")), *sorted((TOP / "docs").glob("*.md"))]
 FENCE = re.compile(r"^ *```")
 NOT_QUOTED = "<!-- not quoted -->"
 LINK = re.compile(r"\]\(([^()\s]+)\)")

@@ -12,7 +12,10 @@ import pathlib
 import re
 
 # How an error begins by which an answer is no proof of its goal. Others say of its text that it is wrong, as a name that isn't there.
-NO_PROOF = re.compile(r"`(?:search|grind|omega)`: |as printed, the two types |computed as far as they go, the two types |computed as a goal is, one side reads |expected type ")
+NO_PROOF = re.compile(
+    r"`(?:search|grind|omega)`: |as printed, the two types |computed as far as they go, the two types |"
+    r"computed as a goal is, one side reads |expected type "
+)
 ERROR = re.compile(r"(\S+):\d+:\d+: error: `([^`]+)`: (.*)")
 OPEN = re.compile(r"`search` did not prove ((?:`[^`]+`(?:, | and )?)+)")
 CALLS = re.compile(r"it calls `.*, which (?:is|are) not proved$")
