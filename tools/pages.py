@@ -1,5 +1,5 @@
 #!/usr/bin/env python3
-"""Compares the pages with the crates: README.md, CHANGELOG.md and docs/*.md.
+"""Compares the pages with the crates: those at the top and docs/*.md.
 
 - A block of code has to occur, line by line and in order, in the file that the words before it name
   (`src/leaf.rt`, `specs/Messages.antt`), or, if they name none, in one file under crates/. Space at both ends of a
@@ -7,7 +7,7 @@
 - A link that isn't of another site has to lead to a file of the repository, and to a heading of it.
 - A name in `code` that is a path under crates/, docs/, tools/ or .ci/, or has an underscore in it, has to occur in the repository;
   names of what was before, in CHANGELOG.md, and a few of elsewhere don't.
-- The pictures are what docs/pictures.py draws.
+- The pictures are what tools/pictures.py draws.
 
 Prints a line for each place that doesn't match, and last 'N passed, N failed', which counts pages and pictures; the exit status is 1 if
 one failed.
@@ -18,10 +18,9 @@ import sys
 
 TOP = pathlib.Path(__file__).resolve().parent.parent
 sys.dont_write_bytecode = True
-sys.path.insert(0, str(TOP / "docs"))
 import pictures
 
-PAGES = [TOP / "README.md", TOP / "CHANGELOG.md", *sorted((TOP / "docs").glob("*.md"))]
+PAGES = [*sorted(TOP.glob("*.md")), *sorted((TOP / "docs").glob("*.md"))]
 FENCE = re.compile(r"^ *```")
 NOT_QUOTED = "<!-- not quoted -->"
 LINK = re.compile(r"\]\(([^()\s]+)\)")
@@ -151,7 +150,7 @@ def main():
             failed.add(page)
     for name, draw in pictures.PICTURES.items():
         if (TOP / "docs" / name).read_text() != draw(False).svg():
-            print(f"docs/{name}: not as docs/pictures.py draws it")
+            print(f"docs/{name}: not as tools/pictures.py draws it")
             failed.add(name)
     print(f"{len(PAGES)} pages and {len(pictures.PICTURES)} pictures were compared with the crates")
     print(f"{len(PAGES) + len(pictures.PICTURES) - len(failed)} passed, {len(failed)} failed")

@@ -3,7 +3,7 @@
 
 Each struct that `crates/tls_codec/src/lib.rt` exports, and that has an `impl Size`, has a line of `Means` in `types.rt`. Each
 that has a decoder has a line of names for it, and each that has `PartialEq` a line in `equality.rt`. A family such as `TlsVecU8`
-stands under the generic type that it names. Prints what is missing; the status is 1 then.
+stands under the generic type that it names. Prints what is missing; the last line is 'N passed, N failed', a type each.
 """
 import pathlib
 import re
@@ -58,16 +58,16 @@ def main():
     types, equality = ((TABLE / page).read_text() for page in ("types.rt", "equality.rt"))
     names = list(exported())
     by_crate = {crate: traits_of(crate) for crate in {crate for crate, _ in names}}
-    lacks, compared = [], 0
+    passed, failed = 0, 0
     for crate, name in names:
-        traits = by_crate[crate].get(name, set())
-        if "Size" in traits or crate == "tls_codec_wire" and name in ("TlsVarInt", "U24"):
-            base = by_crate["tls_codec_base"].get(name, set())
-            lacks += missing(name, traits | base, types, equality)
-            compared += 1
-    print(*lacks, sep="\n", end="\n" if lacks else "")
-    print(f"{compared} public types compared with their table, {len(lacks)} lines missing")
-    return 1 if lacks or not compared else 0
+        # (an impl for a type of wire stands in base)
+        traits = by_crate[crate].get(name, set()) | by_crate["tls_codec_base"].get(name, set())
+        if "Size" in traits:
+            lacks = list(missing(name, traits, types, equality))
+            print("".join(f"{line}\n" for line in lacks), end="")
+            passed, failed = passed + (not lacks), failed + bool(lacks)
+    print(f"{passed} passed, {failed} failed")
+    return 1 if failed or not passed else 0
 
 
 if __name__ == "__main__":

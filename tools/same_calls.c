@@ -1,4 +1,4 @@
-/* An allocator and a copy whose every call costs the same: for docs/instructions.py.
+/* An allocator and a copy whose every call costs the same: for tools/instructions.py.
  * Sizes are rounded up to a power of two, and a block that is freed goes onto the list of its size, so nothing depends on what
  * was freed before. A copy takes an instruction a byte, where the C library chooses among loops. */
 #include <stddef.h>

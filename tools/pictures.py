@@ -1,14 +1,14 @@
 #!/usr/bin/env python3
-"""Draws the pictures of the pages: `docs/pictures.py` writes message.svg, limits.svg and crates.svg beside it.
+"""Draws the pictures of the pages: `tools/pictures.py` writes message.svg, limits.svg and crates.svg into docs/.
 
-Each colour is an attribute for light pages, and a style for dark ones. `docs/pictures.py FOLDER dark` writes the dark
+Each colour is an attribute for light pages, and a style for dark ones. `tools/pictures.py FOLDER dark` writes the dark
 pictures with attributes alone, for a look at them by a program that knows no styles.
 """
 import html
 import pathlib
 import sys
 
-HERE = pathlib.Path(__file__).resolve().parent
+TOP = pathlib.Path(__file__).resolve().parent.parent
 WIDTH = 720
 MONO = "ui-monospace, Menlo, Consolas, 'DejaVu Sans Mono', monospace"
 SANS = "system-ui, 'Segoe UI', Helvetica, 'DejaVu Sans', sans-serif"
@@ -157,7 +157,7 @@ def limits(dark):
 def sections():
     """The sections of crates.txt: each heading with its crates, in their order."""
     found = []
-    for line in (HERE.parent / "crates.txt").read_text().splitlines():
+    for line in (TOP / "crates.txt").read_text().splitlines():
         if line.startswith("# "):
             found.append((line[2:], []))
         elif ":" in line:
@@ -222,7 +222,7 @@ def crates(dark):
 PICTURES = {"message.svg": message, "limits.svg": limits, "crates.svg": crates}
 
 
-def main(folder=HERE, colours="light"):
+def main(folder=TOP / "docs", colours="light"):
     for name, draw in PICTURES.items():
         (pathlib.Path(folder) / name).write_text(draw(colours == "dark").svg())
 

@@ -1,5 +1,5 @@
 #!/usr/bin/env python3
-"""benchmarks.py OWN CRATE: draws benchmarks.svg beside this script, and prints the table of BENCHMARKS.md.
+"""benchmarks.py OWN CRATE: draws docs/benchmarks.svg, and prints the table of BENCHMARKS.md.
 
 OWN has what `tls_codec_bench run` printed, CRATE what a program over the Rust crate printed: a line for each case, its name,
 the bytes, and the nanoseconds of each call, with tabs between. A file may have the lines of several runs: the
@@ -103,7 +103,7 @@ def table(own, crate):
 
 def main():
     own, crate = lowest(sys.argv[1]), lowest(sys.argv[2])
-    path = os.path.join(os.path.dirname(os.path.abspath(__file__)), "benchmarks.svg")
+    path = os.path.join(os.path.dirname(os.path.dirname(os.path.abspath(__file__))), "docs", "benchmarks.svg")
     with open(path, "w", encoding="utf-8") as file:
         file.write(drawing(own, crate))
     table(own, crate)
