@@ -15,7 +15,7 @@ import sys
 import tempfile
 
 CALLS = ("encode", "encode_into", "decode_slice", "decode_reader", "decode_outside")
-TIMED = re.compile(r"tls_codec_timing::calls::(\w+)::")
+TIMED = re.compile(r"tls_codec_bench::calls::(\w+)::")
 
 
 def counted(path):

@@ -3,7 +3,9 @@
 
 Each struct that `crates/tls_codec/src/lib.rt` exports, and that has an `impl Size`, has a line of `Means` in `types.rt`. Each
 that has a decoder has a line of names for it, and each that has `PartialEq` a line in `equality.rt`. A family such as `TlsVecU8`
-stands under the generic type that it names. Prints what is missing; the last line is 'N passed, N failed', a type each.
+stands under the generic type that it names. Types that a context decides stand in `contexts.rt`, and are held to the traits in a context
+too: such a type has no format but one for each context, so its line is one of `SameFormat` and not of `Means`.
+Prints what is missing; the last line is 'N passed, N failed', a type each.
 """
 import pathlib
 import re
@@ -14,7 +16,7 @@ TABLE = CRATES / "tls_codec/src"
 EXPORT = re.compile(r"pub use (\w+)::\{([^}]*)\};", re.S)
 NAME = re.compile(r"[A-Z]\w*")
 # an impl of a trait for a type, with or without parameters
-IMPL = re.compile(r"^impl(?:<[^{]*?>)? (\w+) for &?(?:'a )?(\w+)", re.M)
+IMPL = re.compile(r"^impl(?:<[^{]*?>)? (\w+)(?:<[CT]>)?\s+for &?(?:'a )?(\w+)", re.M)
 DERIVE = re.compile(r"#\[derive\(([^)]*)\)\]\n(?:#\[[^\n]*\]\n)*pub struct (\w+)")
 STRUCT = re.compile(r"^pub struct (\w+)", re.M)
 
@@ -42,11 +44,14 @@ def traits_of(crate):
 
 def missing(name, traits, types, equality):
     """What the tables lack of a type with these traits."""
-    at = r"⟦<" + name + r"\b[^⟦]*? as {}>⟧"
+    at = r"⟦<" + name + r"\b[^⟦]*? as {}(?:<C>)?>⟧"
     for trait, page, where in (
         ("Size", types, "types.rt"),
         ("Deserialize", types, "types.rt"),
         ("DeserializeBytes", types, "types.rt"),
+        ("SizeFor", types, "contexts.rt"),
+        ("DeserializeFor", types, "contexts.rt"),
+        ("DeserializeBytesFor", types, "contexts.rt"),
         ("PartialEq", equality, "equality.rt"),
     ):
         reads = trait != "PartialEq" or "Deserialize" in traits
@@ -55,14 +60,15 @@ def missing(name, traits, types, equality):
 
 
 def main():
-    types, equality = ((TABLE / page).read_text() for page in ("types.rt", "equality.rt"))
+    types, contexts, equality = ((TABLE / page).read_text() for page in ("types.rt", "contexts.rt", "equality.rt"))
+    types += contexts
     names = list(exported())
     by_crate = {crate: traits_of(crate) for crate in {crate for crate, _ in names}}
     passed, failed = 0, 0
     for crate, name in names:
         # (an impl for a type of wire stands in base)
         traits = by_crate[crate].get(name, set()) | by_crate["tls_codec_base"].get(name, set())
-        if "Size" in traits:
+        if traits & {"Size", "SizeFor"}:
             lacks = list(missing(name, traits, types, equality))
             print("".join(f"{line}\n" for line in lacks), end="")
             passed, failed = passed + (not lacks), failed + bool(lacks)

@@ -13,7 +13,7 @@ import re
 
 # How an error begins by which an answer is no proof of its goal. Others say of its text that it is wrong, as a name that isn't there.
 NO_PROOF = re.compile(
-    r"`(?:search|grind|omega)`: |as printed, the two (?:types|sides) |computed as far as they go, the two (?:types|sides) |"
+    r"`(?:search|grind|omega)`: |`grind` stopped at its own limit |as printed, the two (?:types|sides) |computed as far as they go, the two (?:types|sides) |"
     r"computed as a goal is, one side reads |expected type "
 )
 ERROR = re.compile(r"(\S+):\d+:\d+: error: `([^`]+)`: (.*)")

@@ -1,5 +1,5 @@
 #!/usr/bin/env python3
-"""Compares each crate that tls_codec_messages wrote with what the program writes today, but for layout.
+"""Compares each crate that tlsgen wrote with what the program writes today, but for layout.
 
 The program is built once, without proof (`rt try`), and run once a crate. A line says of each whether it is the same.
 """
@@ -42,10 +42,10 @@ def main():
             pathlib.Path(cases, f"{run}.args").write_text("\n".join([f"{text}.tls", "--crate", name, *more, "--compare", f"of_{run}"]) + "\n")
             for file in files_of(run, crate):
                 words += ["--data", f"of_{run}/{file}={CRATES / crate / file}"]
-        ran = subprocess.run(["rt", "try", "--cases", cases, *words], cwd=CRATES / "tls_codec_messages", capture_output=True, text=True)
+        ran = subprocess.run(["rt", "try", "--cases", cases, *words], cwd=CRATES / "tlsgen", capture_output=True, text=True)
     told = ran.stdout + ran.stderr
     same = {run for run in RUNS if re.search(rf"^case={run} run=ended status=0 ", told, re.M)}
-    print(f"{len(same)} of {len(RUNS)} written crates are what tls_codec_messages writes today")
+    print(f"{len(same)} of {len(RUNS)} written crates are what tlsgen writes today")
     if len(same) < len(RUNS):
         print(told)
     print(f"{len(same)} passed, {len(RUNS) - len(same)} failed")

@@ -27,7 +27,8 @@ pub record NoneRead {S T : Type 0} (source : SourceGhosts S) (old new : S) (befo
   pub is : result ≡ Err error
 
 -- an extension was read, and its shortest form was sent, or a beginning of that
-pub record Rewritten {S T : Type 0} (source : SourceGhosts S) (sink : SinkGhosts T) (old new : S) (before after : T) (result : Result ℕ Error) : Type 0 where
+pub record Rewritten {S T : Type 0} (source : SourceGhosts S) (sink : SinkGhosts T)
+    (old new : S) (before after : T) (result : Result ℕ Error) : Type 0 where
   pub extension : Extension
   pub read : Reads extension_format extension_plain source old new (Ok extension)
   pub sent : Writes extension_format (extension_plain extension) sink before after result

@@ -1,2 +1,5 @@
 pub mod Guide
 pub mod Aad
+pub mod Credentials
+pub mod Signed
+pub mod HelloExtensions

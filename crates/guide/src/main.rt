@@ -7,14 +7,30 @@
 //! - [`rewrite`]: [`rewrite`](rewrite::rewrite), from any source to any sink.
 //! - [`chained`]: [`Chained`](chained::Chained), a source of your own.
 //! - [`aad`]: [`PrivateContentAad`](aad::PrivateContentAad), a message of four fields.
+//! - [`credential`]: [`Credential`](credential::Credential), an enum.
+//! - [`hello_extension`]: [`HelloExtension`](hello_extension::HelloExtension), an enum with a case for every
+//!   other tag; and [`hello_extension_for`], where its tag was read before.
+//! - [`signed`]: [`Signed`](signed::Signed), a message with a part that an earlier field decides; and
+//!   [`auth_data`]: [`AuthData`](auth_data::AuthData), that part.
 #![tactic(auto)]
 
 pub mod aad;
+pub mod auth_data;
 pub mod chained;
+pub mod credential;
+#[cfg(test)]
+mod credential_tests;
+#[cfg(test)]
+mod decided;
 pub mod extension;
+pub mod hello_extension;
+pub mod hello_extension_for;
+#[cfg(test)]
+mod hello_extension_tests;
 #[cfg(test)]
 mod readme;
 pub mod rewrite;
+pub mod signed;
 #[cfg(test)]
 mod tests;
 

@@ -41,7 +41,8 @@ impl Serialize for Bounded {
 }
 
 impl Deserialize for Bounded {
-    ghost names = { ⟦<(TlsByteVec<Within<u8, 0, 32>>, TlsVec<Within<u16, 2, 65534>, u16>) as Deserialize>⟧.names };
+    ghost names = { ⟦<(TlsByteVec<Within<u8, 0, 32>>,
+        TlsVec<Within<u16, 2, 65534>, u16>) as Deserialize>⟧.names };
 
     fn tls_deserialize<R: Source>(alloc: Global, src: &mut R) -> Result<Bounded, Error> {
         let (session, suites) = <(
@@ -53,7 +54,8 @@ impl Deserialize for Bounded {
 }
 
 impl DeserializeBytes for Bounded {
-    ghost names = { ⟦<(TlsByteVec<Within<u8, 0, 32>>, TlsVec<Within<u16, 2, 65534>, u16>) as DeserializeBytes>⟧.names };
+    ghost names = { ⟦<(TlsByteVec<Within<u8, 0, 32>>,
+        TlsVec<Within<u16, 2, 65534>, u16>) as DeserializeBytes>⟧.names };
 
     fn tls_deserialize_bytes(alloc: Global, whole: &[u8]) -> Result<(Bounded, &[u8]), Error> {
         let ((session, suites), rest) = <(
@@ -66,7 +68,8 @@ impl DeserializeBytes for Bounded {
 
 /// Two are equal exactly where each field is.
 pub fn is_compared_by_its_fields()
-    ensures { (x y : Bounded) → ⟦<Bounded as PartialEq>⟧.eq x y
+    ensures { (x y : Bounded) →
+        ⟦<Bounded as PartialEq>⟧.eq x y
         ≡ (⟦<TlsByteVec<Within<u8, 0, 32>> as PartialEq>⟧.eq x.session y.session
         && ⟦<TlsVec<Within<u16, 2, 65534>, u16> as PartialEq>⟧.eq x.suites y.suites) }
 {}

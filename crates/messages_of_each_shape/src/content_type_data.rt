@@ -4,7 +4,6 @@ ghost use Rattle.tls_codec.specs.OwnMessages.{no_variant_names, no_variant_sourc
 ghost use Rattle.messages_of_each_shape.specs.ContentTypeData.{content_type_data_format, content_type_data_meets, content_type_data_plain, content_type_data_tag};
 ghost use Rattle.messages_of_each_shape.specs.declared.content_type_data.ContentTypeData.{ContentTypeData};
 
-use crate::Certificate;
 use std::alloc::Global;
 use tls_codec::{
     Deserialize, DeserializeBytes, Error, Lent, Lent2, Serialize, Sink, Size, Source, VLBytes,
@@ -29,8 +28,8 @@ pub enum ContentTypeData {
     Proposal {
         /// `opaque authenticated_data<V>;`
         authenticated_data: VLBytes,
-        /// `Certificate proposal;`
-        proposal: Certificate,
+        /// `opaque proposal<V>;`
+        proposal: VLBytes,
         /// `uint8 level;`
         level: u8,
     },
@@ -108,7 +107,7 @@ impl Serialize for ContentTypeData {
 impl Deserialize for ContentTypeData {
     ghost names = { tagged_source_names 1
         (variant_source_names 1 ⟦<(VLBytes, VLBytes) as Deserialize>⟧.names
-        (variant_source_names 2 ⟦<((VLBytes, Certificate), u8) as Deserialize>⟧.names
+        (variant_source_names 2 ⟦<((VLBytes, VLBytes), u8) as Deserialize>⟧.names
         no_variant_source_names)) };
 
     fn tls_deserialize<R: Source>(alloc: Global, src: &mut R) -> Result<ContentTypeData, Error> {
@@ -125,7 +124,7 @@ impl Deserialize for ContentTypeData {
             }
             PROPOSAL => {
                 let ((authenticated_data, proposal), level) = <(
-                    (VLBytes, Certificate),
+                    (VLBytes, VLBytes),
                     u8,
                 )>::tls_deserialize(alloc, src)?;
                 Ok(ContentTypeData::Proposal {
@@ -142,7 +141,7 @@ impl Deserialize for ContentTypeData {
 impl DeserializeBytes for ContentTypeData {
     ghost names = { tagged_names 1
         (variant_names 1 ⟦<(VLBytes, VLBytes) as DeserializeBytes>⟧.names
-        (variant_names 2 ⟦<((VLBytes, Certificate), u8) as DeserializeBytes>⟧.names
+        (variant_names 2 ⟦<((VLBytes, VLBytes), u8) as DeserializeBytes>⟧.names
         no_variant_names)) };
 
     fn tls_deserialize_bytes(
@@ -166,7 +165,7 @@ impl DeserializeBytes for ContentTypeData {
             }
             PROPOSAL => {
                 let (((authenticated_data, proposal), level), rest) = <(
-                    (VLBytes, Certificate),
+                    (VLBytes, VLBytes),
                     u8,
                 )>::tls_deserialize_bytes(alloc, rest)?;
                 Ok((
@@ -185,12 +184,18 @@ impl DeserializeBytes for ContentTypeData {
 
 /// Two are equal exactly where they are of one case, and each field is.
 pub fn is_compared_by_its_case()
-    ensures tag { (x y : ContentTypeData) → IsTrue (⟦<ContentTypeData as PartialEq>⟧.eq x y) → content_type_data_tag x ≡ content_type_data_tag y }
-    ensures case_1 { (a0 a1 b0 b1 : _) → ⟦<ContentTypeData as PartialEq>⟧.eq (ContentTypeData.Application a0 a1) (ContentTypeData.Application b0 b1)
+    ensures tag { (x y : ContentTypeData) →
+        IsTrue (⟦<ContentTypeData as PartialEq>⟧.eq x y)
+        → content_type_data_tag x ≡ content_type_data_tag y }
+    ensures case_1 { (a0 a1 b0 b1 : _) →
+        ⟦<ContentTypeData as PartialEq>⟧.eq (ContentTypeData.Application a0 a1)
+        (ContentTypeData.Application b0 b1)
         ≡ (⟦<VLBytes as PartialEq>⟧.eq a0 b0
         && ⟦<VLBytes as PartialEq>⟧.eq a1 b1) }
-    ensures case_2 { (a0 a1 a2 b0 b1 b2 : _) → ⟦<ContentTypeData as PartialEq>⟧.eq (ContentTypeData.Proposal a0 a1 a2) (ContentTypeData.Proposal b0 b1 b2)
+    ensures case_2 { (a0 a1 a2 b0 b1 b2 : _) →
+        ⟦<ContentTypeData as PartialEq>⟧.eq (ContentTypeData.Proposal a0 a1 a2)
+        (ContentTypeData.Proposal b0 b1 b2)
         ≡ (⟦<VLBytes as PartialEq>⟧.eq a0 b0
-        && (⟦<Certificate as PartialEq>⟧.eq a1 b1
+        && (⟦<VLBytes as PartialEq>⟧.eq a1 b1
         && ⟦<u8 as PartialEq>⟧.eq a2 b2)) }
 {}

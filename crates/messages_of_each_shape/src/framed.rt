@@ -94,7 +94,8 @@ impl DeserializeBytes for Framed {
 
 /// Two are equal exactly where each field is.
 pub fn is_compared_by_its_fields()
-    ensures { (x y : Framed) → ⟦<Framed as PartialEq>⟧.eq x y
+    ensures { (x y : Framed) →
+        ⟦<Framed as PartialEq>⟧.eq x y
         ≡ (⟦<u32 as PartialEq>⟧.eq x.epoch y.epoch
         && (⟦<ContentTypeData as PartialEq>⟧.eq x.content_type y.content_type
         && ⟦<VLBytes as PartialEq>⟧.eq x.signature y.signature)) }

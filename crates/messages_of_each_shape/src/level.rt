@@ -93,5 +93,7 @@ impl DeserializeBytes for Level {
 
 /// Two are equal exactly where their numbers are.
 pub fn is_compared_by_its_number()
-    ensures { (x y : Level) → ⟦<Level as PartialEq>⟧.eq x y ≡ nat_eq (level_code x) (level_code y) }
+    ensures { (x y : Level) →
+        ⟦<Level as PartialEq>⟧.eq x y
+        ≡ nat_eq (level_code x) (level_code y) }
 {}

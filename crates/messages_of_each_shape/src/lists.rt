@@ -3,7 +3,7 @@ ghost use Rattle.std.specs.Prelude.{◌≡◌, ◌&&◌};
 ghost use Rattle.messages_of_each_shape.specs.Lists.{lists_format, lists_meets, lists_plain};
 ghost use Rattle.messages_of_each_shape.specs.declared.lists.Lists.{Lists};
 
-use crate::{Certificate, ExtensionType, Level, NameType, Row, Side};
+use crate::{ExtensionType, Identity, Key, Level, NameType, Row};
 use std::alloc::Global;
 use tls_codec::{
     Deserialize, DeserializeBytes, Error, Lent2, Lent3, Serialize, Sink, Size, Source, TlsVecU8,
@@ -15,12 +15,12 @@ use tls_codec::{
 pub struct Lists {
     /// `uint16 octets<0..2^8-1>;`
     pub octets: TlsVecU8<u16>,
-    /// `Side sides<0..2^16-1>;`
-    pub sides: TlsVecU16<Side>,
-    /// `Certificate certificates<0..2^24-1>;`
-    pub certificates: TlsVecU24<Certificate>,
-    /// `Level levels<0..2^32-1>;`
-    pub levels: TlsVecU32<Level>,
+    /// `Level levels<0..2^16-1>;`
+    pub levels: TlsVecU16<Level>,
+    /// `Key keys<0..2^24-1>;`
+    pub keys: TlsVecU24<Key>,
+    /// `Identity identities<0..2^32-1>;`
+    pub identities: TlsVecU32<Identity>,
     /// `Row rows<V>;`
     pub rows: Vec<Row>,
     /// `ExtensionType kind;`
@@ -38,8 +38,8 @@ impl Size for Lists {
 
     fn tls_serialized_len(&self) -> usize {
         (
-            Lent3(&self.octets, &self.sides, &self.certificates),
-            Lent3(&self.levels, &self.rows, &self.kind),
+            Lent3(&self.octets, &self.levels, &self.keys),
+            Lent3(&self.identities, &self.rows, &self.kind),
             Lent2(&self.names, &self.row),
         )
             .tls_serialized_len()
@@ -51,8 +51,8 @@ impl Size for Lists {
 impl Serialize for Lists {
     fn tls_serialize<W: Sink>(&self, writer: &mut W) -> Result<usize, Error> {
         (
-            Lent3(&self.octets, &self.sides, &self.certificates),
-            Lent3(&self.levels, &self.rows, &self.kind),
+            Lent3(&self.octets, &self.levels, &self.keys),
+            Lent3(&self.identities, &self.rows, &self.kind),
             Lent2(&self.names, &self.row),
         )
             .tls_serialize(writer)
@@ -60,8 +60,8 @@ impl Serialize for Lists {
 
     fn tls_serialize_into(&self, out: &mut Vec<u8>) -> Result<usize, Error> {
         (
-            Lent3(&self.octets, &self.sides, &self.certificates),
-            Lent3(&self.levels, &self.rows, &self.kind),
+            Lent3(&self.octets, &self.levels, &self.keys),
+            Lent3(&self.identities, &self.rows, &self.kind),
             Lent2(&self.names, &self.row),
         )
             .tls_serialize_into(out)
@@ -69,19 +69,21 @@ impl Serialize for Lists {
 }
 
 impl Deserialize for Lists {
-    ghost names = { ⟦<((TlsVecU8<u16>, TlsVecU16<Side>, TlsVecU24<Certificate>), (TlsVecU32<Level>, Vec<Row>, ExtensionType), (Vec<NameType>, Row)) as Deserialize>⟧.names };
+    ghost names = { ⟦<((TlsVecU8<u16>, TlsVecU16<Level>, TlsVecU24<Key>),
+        (TlsVecU32<Identity>, Vec<Row>, ExtensionType),
+        (Vec<NameType>, Row)) as Deserialize>⟧.names };
 
     fn tls_deserialize<R: Source>(alloc: Global, src: &mut R) -> Result<Lists, Error> {
-        let ((octets, sides, certificates), (levels, rows, kind), (names, row)) = <(
-            (TlsVecU8<u16>, TlsVecU16<Side>, TlsVecU24<Certificate>),
-            (TlsVecU32<Level>, Vec<Row>, ExtensionType),
+        let ((octets, levels, keys), (identities, rows, kind), (names, row)) = <(
+            (TlsVecU8<u16>, TlsVecU16<Level>, TlsVecU24<Key>),
+            (TlsVecU32<Identity>, Vec<Row>, ExtensionType),
             (Vec<NameType>, Row),
         )>::tls_deserialize(alloc, src)?;
         Ok(Lists {
             octets,
-            sides,
-            certificates,
             levels,
+            keys,
+            identities,
             rows,
             kind,
             names,
@@ -91,20 +93,22 @@ impl Deserialize for Lists {
 }
 
 impl DeserializeBytes for Lists {
-    ghost names = { ⟦<((TlsVecU8<u16>, TlsVecU16<Side>, TlsVecU24<Certificate>), (TlsVecU32<Level>, Vec<Row>, ExtensionType), (Vec<NameType>, Row)) as DeserializeBytes>⟧.names };
+    ghost names = { ⟦<((TlsVecU8<u16>, TlsVecU16<Level>, TlsVecU24<Key>),
+        (TlsVecU32<Identity>, Vec<Row>, ExtensionType),
+        (Vec<NameType>, Row)) as DeserializeBytes>⟧.names };
 
     fn tls_deserialize_bytes(alloc: Global, whole: &[u8]) -> Result<(Lists, &[u8]), Error> {
-        let (((octets, sides, certificates), (levels, rows, kind), (names, row)), rest) = <(
-            (TlsVecU8<u16>, TlsVecU16<Side>, TlsVecU24<Certificate>),
-            (TlsVecU32<Level>, Vec<Row>, ExtensionType),
+        let (((octets, levels, keys), (identities, rows, kind), (names, row)), rest) = <(
+            (TlsVecU8<u16>, TlsVecU16<Level>, TlsVecU24<Key>),
+            (TlsVecU32<Identity>, Vec<Row>, ExtensionType),
             (Vec<NameType>, Row),
         )>::tls_deserialize_bytes(alloc, whole)?;
         Ok((
             Lists {
                 octets,
-                sides,
-                certificates,
                 levels,
+                keys,
+                identities,
                 rows,
                 kind,
                 names,
@@ -117,11 +121,12 @@ impl DeserializeBytes for Lists {
 
 /// Two are equal exactly where each field is.
 pub fn is_compared_by_its_fields()
-    ensures { (x y : Lists) → ⟦<Lists as PartialEq>⟧.eq x y
+    ensures { (x y : Lists) →
+        ⟦<Lists as PartialEq>⟧.eq x y
         ≡ (⟦<TlsVecU8<u16> as PartialEq>⟧.eq x.octets y.octets
-        && (⟦<TlsVecU16<Side> as PartialEq>⟧.eq x.sides y.sides
-        && (⟦<TlsVecU24<Certificate> as PartialEq>⟧.eq x.certificates y.certificates
-        && (⟦<TlsVecU32<Level> as PartialEq>⟧.eq x.levels y.levels
+        && (⟦<TlsVecU16<Level> as PartialEq>⟧.eq x.levels y.levels
+        && (⟦<TlsVecU24<Key> as PartialEq>⟧.eq x.keys y.keys
+        && (⟦<TlsVecU32<Identity> as PartialEq>⟧.eq x.identities y.identities
         && (⟦<Vec<Row> as PartialEq>⟧.eq x.rows y.rows
         && (⟦<ExtensionType as PartialEq>⟧.eq x.kind y.kind
         && (⟦<Vec<NameType> as PartialEq>⟧.eq x.names y.names

@@ -3,7 +3,7 @@ ghost use Rattle.std.specs.Prelude.{◌≡◌, ◌&&◌};
 ghost use Rattle.messages_of_each_shape.specs.Wide.{wide_format, wide_meets, wide_plain};
 ghost use Rattle.messages_of_each_shape.specs.declared.wide.Wide.{Wide};
 
-use crate::Certificate;
+use crate::Key;
 use std::alloc::Global;
 use tls_codec::{
     Deserialize, DeserializeBytes, Error, Lent4, Serialize, Sink, Size, Source, TlsByteVecU8,
@@ -31,8 +31,8 @@ pub struct Wide {
     pub h: TlsByteVecU24,
     /// `opaque i<0..2^32-1>;`
     pub i: TlsByteVecU32,
-    /// `Certificate j<0..2^16-1>;`
-    pub j: TlsVecU16<Certificate>,
+    /// `Key j<0..2^16-1>;`
+    pub j: TlsVecU16<Key>,
     /// `string k;`
     pub k: String,
     /// `optional<uint16> l;`
@@ -77,16 +77,15 @@ impl Serialize for Wide {
 }
 
 impl Deserialize for Wide {
-    ghost names = { ⟦<(((u8, U24), (u32, u64)), (([u8; 16], TlsByteVecU8), (TlsByteVecU16, TlsByteVecU24)), ((TlsByteVecU32, TlsVecU16<Certificate>), (String, Option<u16>))) as Deserialize>⟧.names };
+    ghost names = { ⟦<(((u8, U24), (u32, u64)), (([u8; 16], TlsByteVecU8),
+        (TlsByteVecU16, TlsByteVecU24)), ((TlsByteVecU32, TlsVecU16<Key>),
+        (String, Option<u16>))) as Deserialize>⟧.names };
 
     fn tls_deserialize<R: Source>(alloc: Global, src: &mut R) -> Result<Wide, Error> {
         let (((a, b), (c, d)), ((e, f), (g, h)), ((i, j), (k, l))) = <(
             ((u8, U24), (u32, u64)),
             (([u8; 16], TlsByteVecU8), (TlsByteVecU16, TlsByteVecU24)),
-            (
-                (TlsByteVecU32, TlsVecU16<Certificate>),
-                (String, Option<u16>),
-            ),
+            ((TlsByteVecU32, TlsVecU16<Key>), (String, Option<u16>)),
         )>::tls_deserialize(alloc, src)?;
         Ok(Wide {
             a,
@@ -106,16 +105,15 @@ impl Deserialize for Wide {
 }
 
 impl DeserializeBytes for Wide {
-    ghost names = { ⟦<(((u8, U24), (u32, u64)), (([u8; 16], TlsByteVecU8), (TlsByteVecU16, TlsByteVecU24)), ((TlsByteVecU32, TlsVecU16<Certificate>), (String, Option<u16>))) as DeserializeBytes>⟧.names };
+    ghost names = { ⟦<(((u8, U24), (u32, u64)), (([u8; 16], TlsByteVecU8),
+        (TlsByteVecU16, TlsByteVecU24)), ((TlsByteVecU32, TlsVecU16<Key>),
+        (String, Option<u16>))) as DeserializeBytes>⟧.names };
 
     fn tls_deserialize_bytes(alloc: Global, whole: &[u8]) -> Result<(Wide, &[u8]), Error> {
         let ((((a, b), (c, d)), ((e, f), (g, h)), ((i, j), (k, l))), rest) = <(
             ((u8, U24), (u32, u64)),
             (([u8; 16], TlsByteVecU8), (TlsByteVecU16, TlsByteVecU24)),
-            (
-                (TlsByteVecU32, TlsVecU16<Certificate>),
-                (String, Option<u16>),
-            ),
+            ((TlsByteVecU32, TlsVecU16<Key>), (String, Option<u16>)),
         )>::tls_deserialize_bytes(alloc, whole)?;
         Ok((
             Wide {
@@ -139,7 +137,8 @@ impl DeserializeBytes for Wide {
 
 /// Two are equal exactly where each field is.
 pub fn is_compared_by_its_fields()
-    ensures { (x y : Wide) → ⟦<Wide as PartialEq>⟧.eq x y
+    ensures { (x y : Wide) →
+        ⟦<Wide as PartialEq>⟧.eq x y
         ≡ (⟦<u8 as PartialEq>⟧.eq x.a y.a
         && (⟦<U24 as PartialEq>⟧.eq x.b y.b
         && (⟦<u32 as PartialEq>⟧.eq x.c y.c
@@ -149,7 +148,7 @@ pub fn is_compared_by_its_fields()
         && (⟦<TlsByteVecU16 as PartialEq>⟧.eq x.g y.g
         && (⟦<TlsByteVecU24 as PartialEq>⟧.eq x.h y.h
         && (⟦<TlsByteVecU32 as PartialEq>⟧.eq x.i y.i
-        && (⟦<TlsVecU16<Certificate> as PartialEq>⟧.eq x.j y.j
+        && (⟦<TlsVecU16<Key> as PartialEq>⟧.eq x.j y.j
         && (⟦<String as PartialEq>⟧.eq x.k y.k
         && ⟦<Option<u16> as PartialEq>⟧.eq x.l y.l))))))))))) }
 {}

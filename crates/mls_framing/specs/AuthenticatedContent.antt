@@ -10,7 +10,8 @@ abbrev pub authenticated_content_plain : AuthenticatedContent → Tree
 authenticated_content_plain v =
     pair_tree
     (triple_tree (wire_format_plain v.wire_format) (number_trees (bytes_of v.group_id)) (Number v.epoch))
-    (triple_tree (sender_plain v.sender) (number_trees (bytes_of v.authenticated_data)) (authenticated_content_content_type_data_plain v.content_type))
+    (triple_tree (sender_plain v.sender) (number_trees (bytes_of v.authenticated_data))
+    (authenticated_content_content_type_data_plain v.content_type))
 
 abbrev pub authenticated_content_format : Format
 authenticated_content_format =

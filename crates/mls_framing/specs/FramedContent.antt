@@ -8,7 +8,8 @@ use Rattle.mls_framing.specs.declared.framed_content.FramedContent.{FramedConten
 abbrev pub framed_content_plain : FramedContent → Tree
 framed_content_plain v =
     pair_tree
-    (pair_tree (pair_tree (number_trees (bytes_of v.group_id.now)) (Number v.epoch.now)) (pair_tree (sender_plain v.sender.now) (number_trees (bytes_of v.authenticated_data.now))))
+    (pair_tree (pair_tree (number_trees (bytes_of v.group_id.now)) (Number v.epoch.now))
+    (pair_tree (sender_plain v.sender.now) (number_trees (bytes_of v.authenticated_data.now))))
     (content_type_data_plain v.content_type)
 
 abbrev pub framed_content_format : Format

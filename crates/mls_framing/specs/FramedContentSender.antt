@@ -16,10 +16,14 @@ framed_content_sender_tag (NewMemberCommit a0 a1) = 4
 framed_content_sender_tag (NewMemberProposal a0 a1) = 3
 
 abbrev pub framed_content_sender_plain : FramedContentSender → Tree
-framed_content_sender_plain (Member a0 a1 a2) = Join (Number 1) (pair_tree (pair_tree (Number a0.now) (number_trees (bytes_of a1.now))) (framed_content_in_group_plain a2))
-framed_content_sender_plain (External a0 a1 a2) = Join (Number 2) (pair_tree (pair_tree (Number a0.now) (number_trees (bytes_of a1.now))) (framed_content_body_plain a2))
-framed_content_sender_plain (NewMemberCommit a0 a1) = Join (Number 4) (pair_tree (number_trees (bytes_of a0.now)) (framed_content_in_group_plain a1))
-framed_content_sender_plain (NewMemberProposal a0 a1) = Join (Number 3) (pair_tree (number_trees (bytes_of a0.now)) (framed_content_body_plain a1))
+framed_content_sender_plain (Member a0 a1 a2) = Join (Number 1) (pair_tree (pair_tree (Number a0.now) (number_trees (bytes_of a1.now)))
+    (framed_content_in_group_plain a2))
+framed_content_sender_plain (External a0 a1 a2) = Join (Number 2) (pair_tree (pair_tree (Number a0.now) (number_trees (bytes_of a1.now)))
+    (framed_content_body_plain a2))
+framed_content_sender_plain (NewMemberCommit a0 a1) = Join (Number 4)
+    (pair_tree (number_trees (bytes_of a0.now)) (framed_content_in_group_plain a1))
+framed_content_sender_plain (NewMemberProposal a0 a1) = Join (Number 3)
+    (pair_tree (number_trees (bytes_of a0.now)) (framed_content_body_plain a1))
 
 abbrev pub framed_content_sender_variants : Variants
 framed_content_sender_variants =

@@ -9,7 +9,8 @@ use Rattle.mls_framing.specs.declared.framed_content_tbs.FramedContentTBS.{Frame
 abbrev pub framed_content_tbs_plain : FramedContentTBS → Tree
 framed_content_tbs_plain v =
     pair_tree
-    (pair_tree (pair_tree (protocol_version_mls10_plain v.version.now) (wire_format_plain v.wire_format.now)) (pair_tree (number_trees (bytes_of v.group_id.now)) (Number v.epoch.now)))
+    (pair_tree (pair_tree (protocol_version_mls10_plain v.version.now) (wire_format_plain v.wire_format.now))
+    (pair_tree (number_trees (bytes_of v.group_id.now)) (Number v.epoch.now)))
     (framed_content_sender_plain v.sender_type)
 
 abbrev pub framed_content_tbs_format : Format

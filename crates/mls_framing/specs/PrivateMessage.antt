@@ -8,7 +8,8 @@ abbrev pub private_message_plain : PrivateMessage → Tree
 private_message_plain v =
     pair_tree
     (triple_tree (number_trees (bytes_of v.group_id)) (Number v.epoch) (content_type_plain v.content_type))
-    (triple_tree (number_trees (bytes_of v.authenticated_data)) (number_trees (bytes_of v.encrypted_sender_data)) (number_trees (bytes_of v.ciphertext)))
+    (triple_tree (number_trees (bytes_of v.authenticated_data)) (number_trees (bytes_of v.encrypted_sender_data))
+    (number_trees (bytes_of v.ciphertext)))
 
 abbrev pub private_message_format : Format
 private_message_format =

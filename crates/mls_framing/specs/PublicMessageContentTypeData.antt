@@ -15,9 +15,11 @@ public_message_content_type_data_tag (Proposal a0 a1) = 2
 public_message_content_type_data_tag (Commit a0 a1 a2) = 3
 
 abbrev pub public_message_content_type_data_plain : PublicMessageContentTypeData → Tree
-public_message_content_type_data_plain (Application a0 a1) = Join (Number 1) (pair_tree (number_trees (bytes_of a0)) (number_trees (bytes_of a1)))
+public_message_content_type_data_plain (Application a0 a1) = Join (Number 1)
+    (pair_tree (number_trees (bytes_of a0)) (number_trees (bytes_of a1)))
 public_message_content_type_data_plain (Proposal a0 a1) = Join (Number 2) (pair_tree (proposal_plain a0) (number_trees (bytes_of a1)))
-public_message_content_type_data_plain (Commit a0 a1 a2) = Join (Number 3) (pair_tree (pair_tree (commit_plain a0) (number_trees (bytes_of a1))) (number_trees (bytes_of a2)))
+public_message_content_type_data_plain (Commit a0 a1 a2) = Join (Number 3)
+    (pair_tree (pair_tree (commit_plain a0) (number_trees (bytes_of a1))) (number_trees (bytes_of a2)))
 
 abbrev pub public_message_content_type_data_variants : Variants
 public_message_content_type_data_variants =

@@ -15,10 +15,14 @@ sender_type_data_tag (NewMemberCommit a0 a1) = 4
 sender_type_data_tag (NewMemberProposal a0 a1) = 3
 
 abbrev pub sender_type_data_plain : SenderTypeData → Tree
-sender_type_data_plain (Member a0 a1 a2 a3) = Join (Number 1) (pair_tree (pair_tree (Number a0) (number_trees (bytes_of a1))) (pair_tree (public_message_content_type_data_plain a2) (number_trees (bytes_of a3))))
-sender_type_data_plain (External a0 a1 a2) = Join (Number 2) (pair_tree (pair_tree (Number a0) (number_trees (bytes_of a1))) (public_message_content_type_data_plain a2))
-sender_type_data_plain (NewMemberCommit a0 a1) = Join (Number 4) (pair_tree (number_trees (bytes_of a0)) (public_message_content_type_data_plain a1))
-sender_type_data_plain (NewMemberProposal a0 a1) = Join (Number 3) (pair_tree (number_trees (bytes_of a0)) (public_message_content_type_data_plain a1))
+sender_type_data_plain (Member a0 a1 a2 a3) = Join (Number 1) (pair_tree (pair_tree (Number a0) (number_trees (bytes_of a1)))
+    (pair_tree (public_message_content_type_data_plain a2) (number_trees (bytes_of a3))))
+sender_type_data_plain (External a0 a1 a2) = Join (Number 2) (pair_tree (pair_tree (Number a0) (number_trees (bytes_of a1)))
+    (public_message_content_type_data_plain a2))
+sender_type_data_plain (NewMemberCommit a0 a1) = Join (Number 4) (pair_tree (number_trees (bytes_of a0))
+    (public_message_content_type_data_plain a1))
+sender_type_data_plain (NewMemberProposal a0 a1) = Join (Number 3) (pair_tree (number_trees (bytes_of a0))
+    (public_message_content_type_data_plain a1))
 
 abbrev pub sender_type_data_variants : Variants
 sender_type_data_variants =

@@ -61,7 +61,8 @@ impl Serialize for AuthenticatedContent {
 }
 
 impl Deserialize for AuthenticatedContent {
-    ghost names = { ⟦<((WireFormat, VLBytes, u64), (Sender, VLBytes, AuthenticatedContentContentTypeData)) as Deserialize>⟧.names };
+    ghost names = { ⟦<((WireFormat, VLBytes, u64), (Sender, VLBytes,
+        AuthenticatedContentContentTypeData)) as Deserialize>⟧.names };
 
     fn tls_deserialize<R: Source>(
         alloc: Global,
@@ -83,7 +84,8 @@ impl Deserialize for AuthenticatedContent {
 }
 
 impl DeserializeBytes for AuthenticatedContent {
-    ghost names = { ⟦<((WireFormat, VLBytes, u64), (Sender, VLBytes, AuthenticatedContentContentTypeData)) as DeserializeBytes>⟧.names };
+    ghost names = { ⟦<((WireFormat, VLBytes, u64), (Sender, VLBytes,
+        AuthenticatedContentContentTypeData)) as DeserializeBytes>⟧.names };
 
     fn tls_deserialize_bytes(
         alloc: Global,
@@ -110,11 +112,13 @@ impl DeserializeBytes for AuthenticatedContent {
 
 /// Two are equal exactly where each field is.
 pub fn is_compared_by_its_fields()
-    ensures { (x y : AuthenticatedContent) → ⟦<AuthenticatedContent as PartialEq>⟧.eq x y
+    ensures { (x y : AuthenticatedContent) →
+        ⟦<AuthenticatedContent as PartialEq>⟧.eq x y
         ≡ (⟦<WireFormat as PartialEq>⟧.eq x.wire_format y.wire_format
         && (⟦<VLBytes as PartialEq>⟧.eq x.group_id y.group_id
         && (⟦<u64 as PartialEq>⟧.eq x.epoch y.epoch
         && (⟦<Sender as PartialEq>⟧.eq x.sender y.sender
         && (⟦<VLBytes as PartialEq>⟧.eq x.authenticated_data y.authenticated_data
-        && ⟦<AuthenticatedContentContentTypeData as PartialEq>⟧.eq x.content_type y.content_type))))) }
+        && ⟦<AuthenticatedContentContentTypeData as PartialEq>⟧.eq x.content_type
+        y.content_type))))) }
 {}

@@ -213,14 +213,26 @@ impl DeserializeBytes for AuthenticatedContentContentTypeData {
 
 /// Two are equal exactly where they are of one case, and each field is.
 pub fn is_compared_by_its_case()
-    ensures tag { (x y : AuthenticatedContentContentTypeData) → IsTrue (⟦<AuthenticatedContentContentTypeData as PartialEq>⟧.eq x y) → authenticated_content_content_type_data_tag x ≡ authenticated_content_content_type_data_tag y }
-    ensures case_1 { (a0 a1 b0 b1 : _) → ⟦<AuthenticatedContentContentTypeData as PartialEq>⟧.eq (AuthenticatedContentContentTypeData.Application a0 a1) (AuthenticatedContentContentTypeData.Application b0 b1)
+    ensures tag { (x y : AuthenticatedContentContentTypeData) →
+        IsTrue (⟦<AuthenticatedContentContentTypeData as PartialEq>⟧.eq x y)
+        → authenticated_content_content_type_data_tag x
+        ≡ authenticated_content_content_type_data_tag y }
+    ensures case_1 { (a0 a1 b0 b1 : _) →
+        ⟦<AuthenticatedContentContentTypeData as PartialEq>⟧.eq
+        (AuthenticatedContentContentTypeData.Application a0 a1)
+        (AuthenticatedContentContentTypeData.Application b0 b1)
         ≡ (⟦<VLBytes as PartialEq>⟧.eq a0 b0
         && ⟦<VLBytes as PartialEq>⟧.eq a1 b1) }
-    ensures case_2 { (a0 a1 b0 b1 : _) → ⟦<AuthenticatedContentContentTypeData as PartialEq>⟧.eq (AuthenticatedContentContentTypeData.Proposal a0 a1) (AuthenticatedContentContentTypeData.Proposal b0 b1)
+    ensures case_2 { (a0 a1 b0 b1 : _) →
+        ⟦<AuthenticatedContentContentTypeData as PartialEq>⟧.eq
+        (AuthenticatedContentContentTypeData.Proposal a0 a1)
+        (AuthenticatedContentContentTypeData.Proposal b0 b1)
         ≡ (⟦<Proposal as PartialEq>⟧.eq a0 b0
         && ⟦<VLBytes as PartialEq>⟧.eq a1 b1) }
-    ensures case_3 { (a0 a1 a2 b0 b1 b2 : _) → ⟦<AuthenticatedContentContentTypeData as PartialEq>⟧.eq (AuthenticatedContentContentTypeData.Commit a0 a1 a2) (AuthenticatedContentContentTypeData.Commit b0 b1 b2)
+    ensures case_3 { (a0 a1 a2 b0 b1 b2 : _) →
+        ⟦<AuthenticatedContentContentTypeData as PartialEq>⟧.eq
+        (AuthenticatedContentContentTypeData.Commit a0 a1 a2)
+        (AuthenticatedContentContentTypeData.Commit b0 b1 b2)
         ≡ (⟦<Commit as PartialEq>⟧.eq a0 b0
         && (⟦<VLBytes as PartialEq>⟧.eq a1 b1
         && ⟦<MAC as PartialEq>⟧.eq a2 b2)) }

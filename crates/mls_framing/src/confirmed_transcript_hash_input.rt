@@ -43,7 +43,8 @@ impl Serialize for ConfirmedTranscriptHashInput<'_> {
 
 /// Two are equal exactly where each field is.
 pub fn is_compared_by_its_fields()
-    ensures { (x y : ConfirmedTranscriptHashInput) → ⟦<ConfirmedTranscriptHashInput<'static> as PartialEq>⟧.eq x y
+    ensures { (x y : ConfirmedTranscriptHashInput) →
+        ⟦<ConfirmedTranscriptHashInput<'static> as PartialEq>⟧.eq x y
         ≡ (⟦<WireFormat as PartialEq>⟧.eq x.wire_format.now y.wire_format.now
         && (⟦<FramedContent<'static> as PartialEq>⟧.eq x.content y.content
         && ⟦<VLBytes as PartialEq>⟧.eq x.signature.now y.signature.now)) }

@@ -34,7 +34,8 @@ impl ContentType {
 
     /// The value that has this number.
     pub fn of_code(code: u8) -> Option<ContentType>
-        ensures { MatchOption result (content_type_has code ≡ false) (λ v. content_type_code v ≡ code) }
+        ensures { MatchOption result (content_type_has code ≡ false)
+            (λ v. content_type_code v ≡ code) }
     {
         match code {
             1 => Some(ContentType::Application),
@@ -93,5 +94,7 @@ impl DeserializeBytes for ContentType {
 
 /// Two are equal exactly where their numbers are.
 pub fn is_compared_by_its_number()
-    ensures { (x y : ContentType) → ⟦<ContentType as PartialEq>⟧.eq x y ≡ nat_eq (content_type_code x) (content_type_code y) }
+    ensures { (x y : ContentType) →
+        ⟦<ContentType as PartialEq>⟧.eq x y
+        ≡ nat_eq (content_type_code x) (content_type_code y) }
 {}

@@ -72,11 +72,19 @@ impl Serialize for ContentTypeData<'_> {
 
 /// Two are equal exactly where they are of one case, and each field is.
 pub fn is_compared_by_its_case()
-    ensures tag { (x y : ContentTypeData) → IsTrue (⟦<ContentTypeData<'static> as PartialEq>⟧.eq x y) → content_type_data_tag x ≡ content_type_data_tag y }
-    ensures case_1 { (a0 b0 : _) → ⟦<ContentTypeData<'static> as PartialEq>⟧.eq (ContentTypeData.Application a0) (ContentTypeData.Application b0)
+    ensures tag { (x y : ContentTypeData) →
+        IsTrue (⟦<ContentTypeData<'static> as PartialEq>⟧.eq x y)
+        → content_type_data_tag x ≡ content_type_data_tag y }
+    ensures case_1 { (a0 b0 : _) →
+        ⟦<ContentTypeData<'static> as PartialEq>⟧.eq (ContentTypeData.Application a0)
+        (ContentTypeData.Application b0)
         ≡ ⟦<VLBytes as PartialEq>⟧.eq a0.now b0.now }
-    ensures case_2 { (a0 b0 : _) → ⟦<ContentTypeData<'static> as PartialEq>⟧.eq (ContentTypeData.Proposal a0) (ContentTypeData.Proposal b0)
+    ensures case_2 { (a0 b0 : _) →
+        ⟦<ContentTypeData<'static> as PartialEq>⟧.eq (ContentTypeData.Proposal a0)
+        (ContentTypeData.Proposal b0)
         ≡ ⟦<Proposal as PartialEq>⟧.eq a0.now b0.now }
-    ensures case_3 { (a0 b0 : _) → ⟦<ContentTypeData<'static> as PartialEq>⟧.eq (ContentTypeData.Commit a0) (ContentTypeData.Commit b0)
+    ensures case_3 { (a0 b0 : _) →
+        ⟦<ContentTypeData<'static> as PartialEq>⟧.eq (ContentTypeData.Commit a0)
+        (ContentTypeData.Commit b0)
         ≡ ⟦<Commit as PartialEq>⟧.eq a0.now b0.now }
 {}

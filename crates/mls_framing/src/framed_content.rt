@@ -74,7 +74,8 @@ impl Serialize for FramedContent<'_> {
 
 /// Two are equal exactly where each field is.
 pub fn is_compared_by_its_fields()
-    ensures { (x y : FramedContent) → ⟦<FramedContent<'static> as PartialEq>⟧.eq x y
+    ensures { (x y : FramedContent) →
+        ⟦<FramedContent<'static> as PartialEq>⟧.eq x y
         ≡ (⟦<VLBytes as PartialEq>⟧.eq x.group_id.now y.group_id.now
         && (⟦<u64 as PartialEq>⟧.eq x.epoch.now y.epoch.now
         && (⟦<Sender as PartialEq>⟧.eq x.sender.now y.sender.now

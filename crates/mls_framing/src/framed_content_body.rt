@@ -77,11 +77,19 @@ impl Serialize for FramedContentBody<'_> {
 
 /// Two are equal exactly where they are of one case, and each field is.
 pub fn is_compared_by_its_case()
-    ensures tag { (x y : FramedContentBody) → IsTrue (⟦<FramedContentBody<'static> as PartialEq>⟧.eq x y) → framed_content_body_tag x ≡ framed_content_body_tag y }
-    ensures case_1 { (a0 b0 : _) → ⟦<FramedContentBody<'static> as PartialEq>⟧.eq (FramedContentBody.Application a0) (FramedContentBody.Application b0)
+    ensures tag { (x y : FramedContentBody) →
+        IsTrue (⟦<FramedContentBody<'static> as PartialEq>⟧.eq x y)
+        → framed_content_body_tag x ≡ framed_content_body_tag y }
+    ensures case_1 { (a0 b0 : _) →
+        ⟦<FramedContentBody<'static> as PartialEq>⟧.eq (FramedContentBody.Application a0)
+        (FramedContentBody.Application b0)
         ≡ ⟦<VLBytes as PartialEq>⟧.eq a0.now b0.now }
-    ensures case_2 { (a0 b0 : _) → ⟦<FramedContentBody<'static> as PartialEq>⟧.eq (FramedContentBody.Proposal a0) (FramedContentBody.Proposal b0)
+    ensures case_2 { (a0 b0 : _) →
+        ⟦<FramedContentBody<'static> as PartialEq>⟧.eq (FramedContentBody.Proposal a0)
+        (FramedContentBody.Proposal b0)
         ≡ ⟦<Proposal as PartialEq>⟧.eq a0.now b0.now }
-    ensures case_3 { (a0 b0 : _) → ⟦<FramedContentBody<'static> as PartialEq>⟧.eq (FramedContentBody.Commit a0) (FramedContentBody.Commit b0)
+    ensures case_3 { (a0 b0 : _) →
+        ⟦<FramedContentBody<'static> as PartialEq>⟧.eq (FramedContentBody.Commit a0)
+        (FramedContentBody.Commit b0)
         ≡ ⟦<Commit as PartialEq>⟧.eq a0.now b0.now }
 {}

@@ -42,7 +42,8 @@ impl Serialize for FramedContentInGroup<'_> {
 
 /// Two are equal exactly where each field is.
 pub fn is_compared_by_its_fields()
-    ensures { (x y : FramedContentInGroup) → ⟦<FramedContentInGroup<'static> as PartialEq>⟧.eq x y
+    ensures { (x y : FramedContentInGroup) →
+        ⟦<FramedContentInGroup<'static> as PartialEq>⟧.eq x y
         ≡ (⟦<FramedContentBody<'static> as PartialEq>⟧.eq x.body y.body
         && ⟦<GroupContext as PartialEq>⟧.eq x.context.now y.context.now) }
 {}

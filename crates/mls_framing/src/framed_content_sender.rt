@@ -136,19 +136,30 @@ impl Serialize for FramedContentSender<'_> {
 
 /// Two are equal exactly where they are of one case, and each field is.
 pub fn is_compared_by_its_case()
-    ensures tag { (x y : FramedContentSender) → IsTrue (⟦<FramedContentSender<'static> as PartialEq>⟧.eq x y) → framed_content_sender_tag x ≡ framed_content_sender_tag y }
-    ensures case_1 { (a0 a1 a2 b0 b1 b2 : _) → ⟦<FramedContentSender<'static> as PartialEq>⟧.eq (FramedContentSender.Member a0 a1 a2) (FramedContentSender.Member b0 b1 b2)
+    ensures tag { (x y : FramedContentSender) →
+        IsTrue (⟦<FramedContentSender<'static> as PartialEq>⟧.eq x y)
+        → framed_content_sender_tag x ≡ framed_content_sender_tag y }
+    ensures case_1 { (a0 a1 a2 b0 b1 b2 : _) →
+        ⟦<FramedContentSender<'static> as PartialEq>⟧.eq (FramedContentSender.Member a0 a1 a2)
+        (FramedContentSender.Member b0 b1 b2)
         ≡ (⟦<u32 as PartialEq>⟧.eq a0.now b0.now
         && (⟦<VLBytes as PartialEq>⟧.eq a1.now b1.now
         && ⟦<FramedContentInGroup<'static> as PartialEq>⟧.eq a2 b2)) }
-    ensures case_2 { (a0 a1 a2 b0 b1 b2 : _) → ⟦<FramedContentSender<'static> as PartialEq>⟧.eq (FramedContentSender.External a0 a1 a2) (FramedContentSender.External b0 b1 b2)
+    ensures case_2 { (a0 a1 a2 b0 b1 b2 : _) →
+        ⟦<FramedContentSender<'static> as PartialEq>⟧.eq (FramedContentSender.External a0 a1 a2)
+        (FramedContentSender.External b0 b1 b2)
         ≡ (⟦<u32 as PartialEq>⟧.eq a0.now b0.now
         && (⟦<VLBytes as PartialEq>⟧.eq a1.now b1.now
         && ⟦<FramedContentBody<'static> as PartialEq>⟧.eq a2 b2)) }
-    ensures case_4 { (a0 a1 b0 b1 : _) → ⟦<FramedContentSender<'static> as PartialEq>⟧.eq (FramedContentSender.NewMemberCommit a0 a1) (FramedContentSender.NewMemberCommit b0 b1)
+    ensures case_4 { (a0 a1 b0 b1 : _) →
+        ⟦<FramedContentSender<'static> as PartialEq>⟧.eq (FramedContentSender.NewMemberCommit a0 a1)
+        (FramedContentSender.NewMemberCommit b0 b1)
         ≡ (⟦<VLBytes as PartialEq>⟧.eq a0.now b0.now
         && ⟦<FramedContentInGroup<'static> as PartialEq>⟧.eq a1 b1) }
-    ensures case_3 { (a0 a1 b0 b1 : _) → ⟦<FramedContentSender<'static> as PartialEq>⟧.eq (FramedContentSender.NewMemberProposal a0 a1) (FramedContentSender.NewMemberProposal b0 b1)
+    ensures case_3 { (a0 a1 b0 b1 : _) →
+        ⟦<FramedContentSender<'static> as PartialEq>⟧.eq
+        (FramedContentSender.NewMemberProposal a0 a1)
+        (FramedContentSender.NewMemberProposal b0 b1)
         ≡ (⟦<VLBytes as PartialEq>⟧.eq a0.now b0.now
         && ⟦<FramedContentBody<'static> as PartialEq>⟧.eq a1 b1) }
 {}

@@ -60,7 +60,8 @@ impl Serialize for FramedContentTBS<'_> {
 
 /// Two are equal exactly where each field is.
 pub fn is_compared_by_its_fields()
-    ensures { (x y : FramedContentTBS) → ⟦<FramedContentTBS<'static> as PartialEq>⟧.eq x y
+    ensures { (x y : FramedContentTBS) →
+        ⟦<FramedContentTBS<'static> as PartialEq>⟧.eq x y
         ≡ (⟦<ProtocolVersionMls10 as PartialEq>⟧.eq x.version.now y.version.now
         && (⟦<WireFormat as PartialEq>⟧.eq x.wire_format.now y.wire_format.now
         && (⟦<VLBytes as PartialEq>⟧.eq x.group_id.now y.group_id.now

@@ -39,6 +39,7 @@ impl Serialize for InterimTranscriptHashInput<'_> {
 
 /// Two are equal exactly where each field is.
 pub fn is_compared_by_its_fields()
-    ensures { (x y : InterimTranscriptHashInput) → ⟦<InterimTranscriptHashInput<'static> as PartialEq>⟧.eq x y
+    ensures { (x y : InterimTranscriptHashInput) →
+        ⟦<InterimTranscriptHashInput<'static> as PartialEq>⟧.eq x y
         ≡ ⟦<MAC as PartialEq>⟧.eq x.confirmation_tag.now y.confirmation_tag.now }
 {}

@@ -73,7 +73,8 @@ impl DeserializeBytes for MLSMessage {
 
 /// Two are equal exactly where each field is.
 pub fn is_compared_by_its_fields()
-    ensures { (x y : MLSMessage) → ⟦<MLSMessage as PartialEq>⟧.eq x y
+    ensures { (x y : MLSMessage) →
+        ⟦<MLSMessage as PartialEq>⟧.eq x y
         ≡ (⟦<ProtocolVersionMls10 as PartialEq>⟧.eq x.version y.version
         && ⟦<WireFormatData as PartialEq>⟧.eq x.wire_format y.wire_format) }
 {}

@@ -125,7 +125,8 @@ impl DeserializeBytes for PrivateMessage {
 
 /// Two are equal exactly where each field is.
 pub fn is_compared_by_its_fields()
-    ensures { (x y : PrivateMessage) → ⟦<PrivateMessage as PartialEq>⟧.eq x y
+    ensures { (x y : PrivateMessage) →
+        ⟦<PrivateMessage as PartialEq>⟧.eq x y
         ≡ (⟦<VLBytes as PartialEq>⟧.eq x.group_id y.group_id
         && (⟦<u64 as PartialEq>⟧.eq x.epoch y.epoch
         && (⟦<ContentType as PartialEq>⟧.eq x.content_type y.content_type

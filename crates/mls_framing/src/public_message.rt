@@ -94,7 +94,8 @@ impl DeserializeBytes for PublicMessage {
 
 /// Two are equal exactly where each field is.
 pub fn is_compared_by_its_fields()
-    ensures { (x y : PublicMessage) → ⟦<PublicMessage as PartialEq>⟧.eq x y
+    ensures { (x y : PublicMessage) →
+        ⟦<PublicMessage as PartialEq>⟧.eq x y
         ≡ (⟦<VLBytes as PartialEq>⟧.eq x.group_id y.group_id
         && (⟦<u64 as PartialEq>⟧.eq x.epoch y.epoch
         && ⟦<SenderTypeData as PartialEq>⟧.eq x.sender_type y.sender_type)) }

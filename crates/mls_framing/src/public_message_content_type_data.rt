@@ -213,14 +213,25 @@ impl DeserializeBytes for PublicMessageContentTypeData {
 
 /// Two are equal exactly where they are of one case, and each field is.
 pub fn is_compared_by_its_case()
-    ensures tag { (x y : PublicMessageContentTypeData) → IsTrue (⟦<PublicMessageContentTypeData as PartialEq>⟧.eq x y) → public_message_content_type_data_tag x ≡ public_message_content_type_data_tag y }
-    ensures case_1 { (a0 a1 b0 b1 : _) → ⟦<PublicMessageContentTypeData as PartialEq>⟧.eq (PublicMessageContentTypeData.Application a0 a1) (PublicMessageContentTypeData.Application b0 b1)
+    ensures tag { (x y : PublicMessageContentTypeData) →
+        IsTrue (⟦<PublicMessageContentTypeData as PartialEq>⟧.eq x y)
+        → public_message_content_type_data_tag x ≡ public_message_content_type_data_tag y }
+    ensures case_1 { (a0 a1 b0 b1 : _) →
+        ⟦<PublicMessageContentTypeData as PartialEq>⟧.eq
+        (PublicMessageContentTypeData.Application a0 a1)
+        (PublicMessageContentTypeData.Application b0 b1)
         ≡ (⟦<VLBytes as PartialEq>⟧.eq a0 b0
         && ⟦<VLBytes as PartialEq>⟧.eq a1 b1) }
-    ensures case_2 { (a0 a1 b0 b1 : _) → ⟦<PublicMessageContentTypeData as PartialEq>⟧.eq (PublicMessageContentTypeData.Proposal a0 a1) (PublicMessageContentTypeData.Proposal b0 b1)
+    ensures case_2 { (a0 a1 b0 b1 : _) →
+        ⟦<PublicMessageContentTypeData as PartialEq>⟧.eq
+        (PublicMessageContentTypeData.Proposal a0 a1)
+        (PublicMessageContentTypeData.Proposal b0 b1)
         ≡ (⟦<Proposal as PartialEq>⟧.eq a0 b0
         && ⟦<VLBytes as PartialEq>⟧.eq a1 b1) }
-    ensures case_3 { (a0 a1 a2 b0 b1 b2 : _) → ⟦<PublicMessageContentTypeData as PartialEq>⟧.eq (PublicMessageContentTypeData.Commit a0 a1 a2) (PublicMessageContentTypeData.Commit b0 b1 b2)
+    ensures case_3 { (a0 a1 a2 b0 b1 b2 : _) →
+        ⟦<PublicMessageContentTypeData as PartialEq>⟧.eq
+        (PublicMessageContentTypeData.Commit a0 a1 a2)
+        (PublicMessageContentTypeData.Commit b0 b1 b2)
         ≡ (⟦<Commit as PartialEq>⟧.eq a0 b0
         && (⟦<VLBytes as PartialEq>⟧.eq a1 b1
         && ⟦<MAC as PartialEq>⟧.eq a2 b2)) }

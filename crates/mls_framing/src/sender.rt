@@ -123,11 +123,16 @@ impl DeserializeBytes for Sender {
 
 /// Two are equal exactly where they are of one case, and each field is.
 pub fn is_compared_by_its_case()
-    ensures tag { (x y : Sender) → IsTrue (⟦<Sender as PartialEq>⟧.eq x y) → sender_tag x ≡ sender_tag y }
-    ensures case_1 { (a0 b0 : _) → ⟦<Sender as PartialEq>⟧.eq (Sender.Member a0) (Sender.Member b0)
+    ensures tag { (x y : Sender) →
+        IsTrue (⟦<Sender as PartialEq>⟧.eq x y) → sender_tag x ≡ sender_tag y }
+    ensures case_1 { (a0 b0 : _) →
+        ⟦<Sender as PartialEq>⟧.eq (Sender.Member a0) (Sender.Member b0)
         ≡ ⟦<u32 as PartialEq>⟧.eq a0 b0 }
-    ensures case_2 { (a0 b0 : _) → ⟦<Sender as PartialEq>⟧.eq (Sender.External a0) (Sender.External b0)
+    ensures case_2 { (a0 b0 : _) →
+        ⟦<Sender as PartialEq>⟧.eq (Sender.External a0) (Sender.External b0)
         ≡ ⟦<u32 as PartialEq>⟧.eq a0 b0 }
-    ensures case_4 { ⟦<Sender as PartialEq>⟧.eq Sender.NewMemberCommit Sender.NewMemberCommit ≡ true }
-    ensures case_3 { ⟦<Sender as PartialEq>⟧.eq Sender.NewMemberProposal Sender.NewMemberProposal ≡ true }
+    ensures case_4 { ⟦<Sender as PartialEq>⟧.eq Sender.NewMemberCommit Sender.NewMemberCommit
+        ≡ true }
+    ensures case_3 { ⟦<Sender as PartialEq>⟧.eq Sender.NewMemberProposal Sender.NewMemberProposal
+        ≡ true }
 {}

@@ -91,7 +91,8 @@ impl DeserializeBytes for SenderData {
 
 /// Two are equal exactly where each field is.
 pub fn is_compared_by_its_fields()
-    ensures { (x y : SenderData) → ⟦<SenderData as PartialEq>⟧.eq x y
+    ensures { (x y : SenderData) →
+        ⟦<SenderData as PartialEq>⟧.eq x y
         ≡ (⟦<u32 as PartialEq>⟧.eq x.leaf_index y.leaf_index
         && (⟦<u32 as PartialEq>⟧.eq x.generation y.generation
         && ⟦<[u8; 4] as PartialEq>⟧.eq x.reuse_guard y.reuse_guard)) }

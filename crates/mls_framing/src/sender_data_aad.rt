@@ -58,7 +58,8 @@ impl Serialize for SenderDataAAD<'_> {
 
 /// Two are equal exactly where each field is.
 pub fn is_compared_by_its_fields()
-    ensures { (x y : SenderDataAAD) → ⟦<SenderDataAAD<'static> as PartialEq>⟧.eq x y
+    ensures { (x y : SenderDataAAD) →
+        ⟦<SenderDataAAD<'static> as PartialEq>⟧.eq x y
         ≡ (⟦<VLBytes as PartialEq>⟧.eq x.group_id.now y.group_id.now
         && (⟦<u64 as PartialEq>⟧.eq x.epoch.now y.epoch.now
         && ⟦<ContentType as PartialEq>⟧.eq x.content_type.now y.content_type.now)) }

@@ -203,8 +203,10 @@ impl Serialize for SenderTypeData {
 
 impl Deserialize for SenderTypeData {
     ghost names = { tagged_source_names 1
-        (variant_source_names 1 ⟦<((u32, VLBytes), (PublicMessageContentTypeData, MAC)) as Deserialize>⟧.names
-        (variant_source_names 2 ⟦<((u32, VLBytes), PublicMessageContentTypeData) as Deserialize>⟧.names
+        (variant_source_names 1
+        ⟦<((u32, VLBytes), (PublicMessageContentTypeData, MAC)) as Deserialize>⟧.names
+        (variant_source_names 2
+        ⟦<((u32, VLBytes), PublicMessageContentTypeData) as Deserialize>⟧.names
         (variant_source_names 4 ⟦<(VLBytes, PublicMessageContentTypeData) as Deserialize>⟧.names
         (variant_source_names 3 ⟦<(VLBytes, PublicMessageContentTypeData) as Deserialize>⟧.names
         no_variant_source_names)))) };
@@ -262,8 +264,10 @@ impl Deserialize for SenderTypeData {
 
 impl DeserializeBytes for SenderTypeData {
     ghost names = { tagged_names 1
-        (variant_names 1 ⟦<((u32, VLBytes), (PublicMessageContentTypeData, MAC)) as DeserializeBytes>⟧.names
-        (variant_names 2 ⟦<((u32, VLBytes), PublicMessageContentTypeData) as DeserializeBytes>⟧.names
+        (variant_names 1
+        ⟦<((u32, VLBytes), (PublicMessageContentTypeData, MAC)) as DeserializeBytes>⟧.names
+        (variant_names 2
+        ⟦<((u32, VLBytes), PublicMessageContentTypeData) as DeserializeBytes>⟧.names
         (variant_names 4 ⟦<(VLBytes, PublicMessageContentTypeData) as DeserializeBytes>⟧.names
         (variant_names 3 ⟦<(VLBytes, PublicMessageContentTypeData) as DeserializeBytes>⟧.names
         no_variant_names)))) };
@@ -336,20 +340,30 @@ impl DeserializeBytes for SenderTypeData {
 
 /// Two are equal exactly where they are of one case, and each field is.
 pub fn is_compared_by_its_case()
-    ensures tag { (x y : SenderTypeData) → IsTrue (⟦<SenderTypeData as PartialEq>⟧.eq x y) → sender_type_data_tag x ≡ sender_type_data_tag y }
-    ensures case_1 { (a0 a1 a2 a3 b0 b1 b2 b3 : _) → ⟦<SenderTypeData as PartialEq>⟧.eq (SenderTypeData.Member a0 a1 a2 a3) (SenderTypeData.Member b0 b1 b2 b3)
+    ensures tag { (x y : SenderTypeData) →
+        IsTrue (⟦<SenderTypeData as PartialEq>⟧.eq x y)
+        → sender_type_data_tag x ≡ sender_type_data_tag y }
+    ensures case_1 { (a0 a1 a2 a3 b0 b1 b2 b3 : _) →
+        ⟦<SenderTypeData as PartialEq>⟧.eq (SenderTypeData.Member a0 a1 a2 a3)
+        (SenderTypeData.Member b0 b1 b2 b3)
         ≡ (⟦<u32 as PartialEq>⟧.eq a0 b0
         && (⟦<VLBytes as PartialEq>⟧.eq a1 b1
         && (⟦<PublicMessageContentTypeData as PartialEq>⟧.eq a2 b2
         && ⟦<MAC as PartialEq>⟧.eq a3 b3))) }
-    ensures case_2 { (a0 a1 a2 b0 b1 b2 : _) → ⟦<SenderTypeData as PartialEq>⟧.eq (SenderTypeData.External a0 a1 a2) (SenderTypeData.External b0 b1 b2)
+    ensures case_2 { (a0 a1 a2 b0 b1 b2 : _) →
+        ⟦<SenderTypeData as PartialEq>⟧.eq (SenderTypeData.External a0 a1 a2)
+        (SenderTypeData.External b0 b1 b2)
         ≡ (⟦<u32 as PartialEq>⟧.eq a0 b0
         && (⟦<VLBytes as PartialEq>⟧.eq a1 b1
         && ⟦<PublicMessageContentTypeData as PartialEq>⟧.eq a2 b2)) }
-    ensures case_4 { (a0 a1 b0 b1 : _) → ⟦<SenderTypeData as PartialEq>⟧.eq (SenderTypeData.NewMemberCommit a0 a1) (SenderTypeData.NewMemberCommit b0 b1)
+    ensures case_4 { (a0 a1 b0 b1 : _) →
+        ⟦<SenderTypeData as PartialEq>⟧.eq (SenderTypeData.NewMemberCommit a0 a1)
+        (SenderTypeData.NewMemberCommit b0 b1)
         ≡ (⟦<VLBytes as PartialEq>⟧.eq a0 b0
         && ⟦<PublicMessageContentTypeData as PartialEq>⟧.eq a1 b1) }
-    ensures case_3 { (a0 a1 b0 b1 : _) → ⟦<SenderTypeData as PartialEq>⟧.eq (SenderTypeData.NewMemberProposal a0 a1) (SenderTypeData.NewMemberProposal b0 b1)
+    ensures case_3 { (a0 a1 b0 b1 : _) →
+        ⟦<SenderTypeData as PartialEq>⟧.eq (SenderTypeData.NewMemberProposal a0 a1)
+        (SenderTypeData.NewMemberProposal b0 b1)
         ≡ (⟦<VLBytes as PartialEq>⟧.eq a0 b0
         && ⟦<PublicMessageContentTypeData as PartialEq>⟧.eq a1 b1) }
 {}

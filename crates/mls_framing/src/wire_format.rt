@@ -73,5 +73,6 @@ impl DeserializeBytes for WireFormat {
 
 /// Two are equal exactly where their numbers are.
 pub fn is_compared_by_its_number()
-    ensures { (x y : WireFormat) → ⟦<WireFormat as PartialEq>⟧.eq x y ≡ nat_eq x.0 y.0 }
+    ensures { (x y : WireFormat) →
+        ⟦<WireFormat as PartialEq>⟧.eq x y ≡ nat_eq x.0 y.0 }
 {}

@@ -199,15 +199,27 @@ impl DeserializeBytes for WireFormatData {
 
 /// Two are equal exactly where they are of one case, and each field is.
 pub fn is_compared_by_its_case()
-    ensures tag { (x y : WireFormatData) → IsTrue (⟦<WireFormatData as PartialEq>⟧.eq x y) → wire_format_data_tag x ≡ wire_format_data_tag y }
-    ensures case_1 { (a0 b0 : _) → ⟦<WireFormatData as PartialEq>⟧.eq (WireFormatData.MlsPublicMessage a0) (WireFormatData.MlsPublicMessage b0)
+    ensures tag { (x y : WireFormatData) →
+        IsTrue (⟦<WireFormatData as PartialEq>⟧.eq x y)
+        → wire_format_data_tag x ≡ wire_format_data_tag y }
+    ensures case_1 { (a0 b0 : _) →
+        ⟦<WireFormatData as PartialEq>⟧.eq (WireFormatData.MlsPublicMessage a0)
+        (WireFormatData.MlsPublicMessage b0)
         ≡ ⟦<PublicMessage as PartialEq>⟧.eq a0 b0 }
-    ensures case_2 { (a0 b0 : _) → ⟦<WireFormatData as PartialEq>⟧.eq (WireFormatData.MlsPrivateMessage a0) (WireFormatData.MlsPrivateMessage b0)
+    ensures case_2 { (a0 b0 : _) →
+        ⟦<WireFormatData as PartialEq>⟧.eq (WireFormatData.MlsPrivateMessage a0)
+        (WireFormatData.MlsPrivateMessage b0)
         ≡ ⟦<PrivateMessage as PartialEq>⟧.eq a0 b0 }
-    ensures case_3 { (a0 b0 : _) → ⟦<WireFormatData as PartialEq>⟧.eq (WireFormatData.MlsWelcome a0) (WireFormatData.MlsWelcome b0)
+    ensures case_3 { (a0 b0 : _) →
+        ⟦<WireFormatData as PartialEq>⟧.eq (WireFormatData.MlsWelcome a0)
+        (WireFormatData.MlsWelcome b0)
         ≡ ⟦<Welcome as PartialEq>⟧.eq a0 b0 }
-    ensures case_4 { (a0 b0 : _) → ⟦<WireFormatData as PartialEq>⟧.eq (WireFormatData.MlsGroupInfo a0) (WireFormatData.MlsGroupInfo b0)
+    ensures case_4 { (a0 b0 : _) →
+        ⟦<WireFormatData as PartialEq>⟧.eq (WireFormatData.MlsGroupInfo a0)
+        (WireFormatData.MlsGroupInfo b0)
         ≡ ⟦<GroupInfo as PartialEq>⟧.eq a0 b0 }
-    ensures case_5 { (a0 b0 : _) → ⟦<WireFormatData as PartialEq>⟧.eq (WireFormatData.MlsKeyPackage a0) (WireFormatData.MlsKeyPackage b0)
+    ensures case_5 { (a0 b0 : _) →
+        ⟦<WireFormatData as PartialEq>⟧.eq (WireFormatData.MlsKeyPackage a0)
+        (WireFormatData.MlsKeyPackage b0)
         ≡ ⟦<KeyPackage as PartialEq>⟧.eq a0 b0 }
 {}

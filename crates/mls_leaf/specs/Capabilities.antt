@@ -10,7 +10,8 @@ use Rattle.mls_leaf.specs.declared.capabilities.Capabilities.{Capabilities}
 abbrev pub capabilities_plain : Capabilities → Tree
 capabilities_plain v =
     pair_tree
-    (triple_tree (trees protocol_version_plain v.versions.items) (trees cipher_suite_plain v.cipher_suites.items) (trees extension_type_plain v.extensions.items))
+    (triple_tree (trees protocol_version_plain v.versions.items) (trees cipher_suite_plain v.cipher_suites.items)
+    (trees extension_type_plain v.extensions.items))
     (pair_tree (trees proposal_type_plain v.proposals.items) (trees credential_type_plain v.credentials.items))
 
 abbrev pub capabilities_format : Format

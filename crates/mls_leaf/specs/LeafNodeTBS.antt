@@ -9,7 +9,8 @@ use Rattle.mls_leaf.specs.declared.leaf_node_tbs.LeafNodeTBS.{LeafNodeTBS}
 abbrev pub leaf_node_tbs_plain : LeafNodeTBS → Tree
 leaf_node_tbs_plain v =
     pair_tree
-    (pair_tree (pair_tree (number_trees (bytes_of v.encryption_key.now)) (number_trees (bytes_of v.signature_key.now))) (pair_tree (credential_plain v.credential.now) (capabilities_plain v.capabilities.now)))
+    (pair_tree (pair_tree (number_trees (bytes_of v.encryption_key.now)) (number_trees (bytes_of v.signature_key.now)))
+    (pair_tree (credential_plain v.credential.now) (capabilities_plain v.capabilities.now)))
     (leaf_node_tbs_origin_plain v.leaf_node_source)
 
 abbrev pub leaf_node_tbs_format : Format

@@ -16,8 +16,11 @@ leaf_node_tbs_origin_tag (Commit a0 a1 a2 a3) = 3
 
 abbrev pub leaf_node_tbs_origin_plain : LeafNodeTBSOrigin → Tree
 leaf_node_tbs_origin_plain (KeyPackage a0 a1) = Join (Number 1) (pair_tree (lifetime_plain a0.now) (trees extension_plain a1.now.items))
-leaf_node_tbs_origin_plain (Update a0 a1 a2) = Join (Number 2) (pair_tree (pair_tree (trees extension_plain a0.now.items) (number_trees (bytes_of a1.now))) (Number a2.now))
-leaf_node_tbs_origin_plain (Commit a0 a1 a2 a3) = Join (Number 3) (pair_tree (pair_tree (number_trees (bytes_of a0.now)) (trees extension_plain a1.now.items)) (pair_tree (number_trees (bytes_of a2.now)) (Number a3.now)))
+leaf_node_tbs_origin_plain (Update a0 a1 a2) = Join (Number 2) (pair_tree
+    (pair_tree (trees extension_plain a0.now.items) (number_trees (bytes_of a1.now))) (Number a2.now))
+leaf_node_tbs_origin_plain (Commit a0 a1 a2 a3) = Join (Number 3) (pair_tree
+    (pair_tree (number_trees (bytes_of a0.now)) (trees extension_plain a1.now.items))
+    (pair_tree (number_trees (bytes_of a2.now)) (Number a3.now)))
 
 abbrev pub leaf_node_tbs_origin_variants : Variants
 leaf_node_tbs_origin_variants =

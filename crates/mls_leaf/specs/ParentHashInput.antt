@@ -4,7 +4,8 @@ use Rattle.tls_codec.specs.Contents.{bytes_of}
 use Rattle.mls_leaf.specs.declared.parent_hash_input.ParentHashInput.{ParentHashInput}
 
 abbrev pub parent_hash_input_plain : ParentHashInput → Tree
-parent_hash_input_plain v = triple_tree (number_trees (bytes_of v.encryption_key.now)) (number_trees (bytes_of v.parent_hash.now)) (number_trees (bytes_of v.original_sibling_tree_hash.now))
+parent_hash_input_plain v = triple_tree (number_trees (bytes_of v.encryption_key.now)) (number_trees (bytes_of v.parent_hash.now))
+    (number_trees (bytes_of v.original_sibling_tree_hash.now))
 
 abbrev pub parent_hash_input_format : Format
 parent_hash_input_format = triple_format bytes_format bytes_format bytes_format

@@ -4,7 +4,8 @@ use Rattle.tls_codec.specs.Contents.{bytes_of}
 use Rattle.mls_leaf.specs.declared.parent_node.ParentNode.{ParentNode}
 
 abbrev pub parent_node_plain : ParentNode → Tree
-parent_node_plain v = triple_tree (number_trees (bytes_of v.encryption_key)) (number_trees (bytes_of v.parent_hash)) (trees Number v.unmerged_leaves.items)
+parent_node_plain v = triple_tree (number_trees (bytes_of v.encryption_key)) (number_trees (bytes_of v.parent_hash))
+    (trees Number v.unmerged_leaves.items)
 
 abbrev pub parent_node_format : Format
 parent_node_format = triple_format bytes_format bytes_format (list_format (number_format 4))

@@ -5,7 +5,8 @@ use Rattle.mls_leaf.specs.ParentNode.{parent_node_plain, parent_node_format, par
 use Rattle.mls_leaf.specs.declared.parent_node_hash_input.ParentNodeHashInput.{ParentNodeHashInput}
 
 abbrev pub parent_node_hash_input_plain : ParentNodeHashInput → Tree
-parent_node_hash_input_plain v = triple_tree (option_plain parent_node_plain v.parent_node) (number_trees (bytes_of v.left_hash)) (number_trees (bytes_of v.right_hash))
+parent_node_hash_input_plain v = triple_tree (option_plain parent_node_plain v.parent_node) (number_trees (bytes_of v.left_hash))
+    (number_trees (bytes_of v.right_hash))
 
 abbrev pub parent_node_hash_input_format : Format
 parent_node_hash_input_format = triple_format (option_format parent_node_format) bytes_format bytes_format

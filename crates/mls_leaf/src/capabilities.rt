@@ -59,7 +59,8 @@ impl Serialize for Capabilities {
 }
 
 impl Deserialize for Capabilities {
-    ghost names = { ⟦<((Vec<ProtocolVersion>, Vec<CipherSuite>, Vec<ExtensionType>), (Vec<ProposalType>, Vec<CredentialType>)) as Deserialize>⟧.names };
+    ghost names = { ⟦<((Vec<ProtocolVersion>, Vec<CipherSuite>, Vec<ExtensionType>),
+        (Vec<ProposalType>, Vec<CredentialType>)) as Deserialize>⟧.names };
 
     fn tls_deserialize<R: Source>(alloc: Global, src: &mut R) -> Result<Capabilities, Error> {
         let ((versions, cipher_suites, extensions), (proposals, credentials)) = <(
@@ -77,7 +78,8 @@ impl Deserialize for Capabilities {
 }
 
 impl DeserializeBytes for Capabilities {
-    ghost names = { ⟦<((Vec<ProtocolVersion>, Vec<CipherSuite>, Vec<ExtensionType>), (Vec<ProposalType>, Vec<CredentialType>)) as DeserializeBytes>⟧.names };
+    ghost names = { ⟦<((Vec<ProtocolVersion>, Vec<CipherSuite>, Vec<ExtensionType>),
+        (Vec<ProposalType>, Vec<CredentialType>)) as DeserializeBytes>⟧.names };
 
     fn tls_deserialize_bytes(alloc: Global, whole: &[u8]) -> Result<(Capabilities, &[u8]), Error> {
         let (((versions, cipher_suites, extensions), (proposals, credentials)), rest) = <(
@@ -99,7 +101,8 @@ impl DeserializeBytes for Capabilities {
 
 /// Two are equal exactly where each field is.
 pub fn is_compared_by_its_fields()
-    ensures { (x y : Capabilities) → ⟦<Capabilities as PartialEq>⟧.eq x y
+    ensures { (x y : Capabilities) →
+        ⟦<Capabilities as PartialEq>⟧.eq x y
         ≡ (⟦<Vec<ProtocolVersion> as PartialEq>⟧.eq x.versions y.versions
         && (⟦<Vec<CipherSuite> as PartialEq>⟧.eq x.cipher_suites y.cipher_suites
         && (⟦<Vec<ExtensionType> as PartialEq>⟧.eq x.extensions y.extensions

@@ -55,6 +55,7 @@ impl DeserializeBytes for Certificate {
 
 /// Two are equal exactly where each field is.
 pub fn is_compared_by_its_fields()
-    ensures { (x y : Certificate) → ⟦<Certificate as PartialEq>⟧.eq x y
+    ensures { (x y : Certificate) →
+        ⟦<Certificate as PartialEq>⟧.eq x y
         ≡ ⟦<VLBytes as PartialEq>⟧.eq x.cert_data y.cert_data }
 {}

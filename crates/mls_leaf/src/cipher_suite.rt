@@ -79,5 +79,6 @@ impl DeserializeBytes for CipherSuite {
 
 /// Two are equal exactly where their numbers are.
 pub fn is_compared_by_its_number()
-    ensures { (x y : CipherSuite) → ⟦<CipherSuite as PartialEq>⟧.eq x y ≡ nat_eq x.0 y.0 }
+    ensures { (x y : CipherSuite) →
+        ⟦<CipherSuite as PartialEq>⟧.eq x y ≡ nat_eq x.0 y.0 }
 {}

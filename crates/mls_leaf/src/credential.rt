@@ -101,9 +101,12 @@ impl DeserializeBytes for Credential {
 
 /// Two are equal exactly where they are of one case, and each field is.
 pub fn is_compared_by_its_case()
-    ensures tag { (x y : Credential) → IsTrue (⟦<Credential as PartialEq>⟧.eq x y) → credential_tag x ≡ credential_tag y }
-    ensures case_1 { (a0 b0 : _) → ⟦<Credential as PartialEq>⟧.eq (Credential.Basic a0) (Credential.Basic b0)
+    ensures tag { (x y : Credential) →
+        IsTrue (⟦<Credential as PartialEq>⟧.eq x y) → credential_tag x ≡ credential_tag y }
+    ensures case_1 { (a0 b0 : _) →
+        ⟦<Credential as PartialEq>⟧.eq (Credential.Basic a0) (Credential.Basic b0)
         ≡ ⟦<VLBytes as PartialEq>⟧.eq a0 b0 }
-    ensures case_2 { (a0 b0 : _) → ⟦<Credential as PartialEq>⟧.eq (Credential.X509 a0) (Credential.X509 b0)
+    ensures case_2 { (a0 b0 : _) →
+        ⟦<Credential as PartialEq>⟧.eq (Credential.X509 a0) (Credential.X509 b0)
         ≡ ⟦<Vec<Certificate> as PartialEq>⟧.eq a0 b0 }
 {}

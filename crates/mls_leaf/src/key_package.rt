@@ -61,7 +61,8 @@ impl Serialize for KeyPackage {
 }
 
 impl Deserialize for KeyPackage {
-    ghost names = { ⟦<((ProtocolVersion, CipherSuite, HPKEPublicKey), (LeafNode, Vec<Extension>, VLBytes)) as Deserialize>⟧.names };
+    ghost names = { ⟦<((ProtocolVersion, CipherSuite, HPKEPublicKey),
+        (LeafNode, Vec<Extension>, VLBytes)) as Deserialize>⟧.names };
 
     fn tls_deserialize<R: Source>(alloc: Global, src: &mut R) -> Result<KeyPackage, Error> {
         let ((version, cipher_suite, init_key), (leaf_node, extensions, signature)) = <(
@@ -80,7 +81,8 @@ impl Deserialize for KeyPackage {
 }
 
 impl DeserializeBytes for KeyPackage {
-    ghost names = { ⟦<((ProtocolVersion, CipherSuite, HPKEPublicKey), (LeafNode, Vec<Extension>, VLBytes)) as DeserializeBytes>⟧.names };
+    ghost names = { ⟦<((ProtocolVersion, CipherSuite, HPKEPublicKey),
+        (LeafNode, Vec<Extension>, VLBytes)) as DeserializeBytes>⟧.names };
 
     fn tls_deserialize_bytes(alloc: Global, whole: &[u8]) -> Result<(KeyPackage, &[u8]), Error> {
         let (((version, cipher_suite, init_key), (leaf_node, extensions, signature)), rest) = <(
@@ -103,7 +105,8 @@ impl DeserializeBytes for KeyPackage {
 
 /// Two are equal exactly where each field is.
 pub fn is_compared_by_its_fields()
-    ensures { (x y : KeyPackage) → ⟦<KeyPackage as PartialEq>⟧.eq x y
+    ensures { (x y : KeyPackage) →
+        ⟦<KeyPackage as PartialEq>⟧.eq x y
         ≡ (⟦<ProtocolVersion as PartialEq>⟧.eq x.version y.version
         && (⟦<CipherSuite as PartialEq>⟧.eq x.cipher_suite y.cipher_suite
         && (⟦<HPKEPublicKey as PartialEq>⟧.eq x.init_key y.init_key

@@ -59,7 +59,8 @@ impl Serialize for KeyPackageTBS<'_> {
 
 /// Two are equal exactly where each field is.
 pub fn is_compared_by_its_fields()
-    ensures { (x y : KeyPackageTBS) → ⟦<KeyPackageTBS<'static> as PartialEq>⟧.eq x y
+    ensures { (x y : KeyPackageTBS) →
+        ⟦<KeyPackageTBS<'static> as PartialEq>⟧.eq x y
         ≡ (⟦<ProtocolVersion as PartialEq>⟧.eq x.version.now y.version.now
         && (⟦<CipherSuite as PartialEq>⟧.eq x.cipher_suite.now y.cipher_suite.now
         && (⟦<HPKEPublicKey as PartialEq>⟧.eq x.init_key.now y.init_key.now

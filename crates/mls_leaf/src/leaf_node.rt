@@ -68,7 +68,8 @@ impl Serialize for LeafNode {
 }
 
 impl Deserialize for LeafNode {
-    ghost names = { ⟦<((HPKEPublicKey, SignaturePublicKey, Credential), (Capabilities, LeafNodeOrigin), (Vec<Extension>, VLBytes)) as Deserialize>⟧.names };
+    ghost names = { ⟦<((HPKEPublicKey, SignaturePublicKey, Credential),
+        (Capabilities, LeafNodeOrigin), (Vec<Extension>, VLBytes)) as Deserialize>⟧.names };
 
     fn tls_deserialize<R: Source>(alloc: Global, src: &mut R) -> Result<LeafNode, Error> {
         let (
@@ -93,7 +94,8 @@ impl Deserialize for LeafNode {
 }
 
 impl DeserializeBytes for LeafNode {
-    ghost names = { ⟦<((HPKEPublicKey, SignaturePublicKey, Credential), (Capabilities, LeafNodeOrigin), (Vec<Extension>, VLBytes)) as DeserializeBytes>⟧.names };
+    ghost names = { ⟦<((HPKEPublicKey, SignaturePublicKey, Credential),
+        (Capabilities, LeafNodeOrigin), (Vec<Extension>, VLBytes)) as DeserializeBytes>⟧.names };
 
     fn tls_deserialize_bytes(alloc: Global, whole: &[u8]) -> Result<(LeafNode, &[u8]), Error> {
         let (
@@ -125,7 +127,8 @@ impl DeserializeBytes for LeafNode {
 
 /// Two are equal exactly where each field is.
 pub fn is_compared_by_its_fields()
-    ensures { (x y : LeafNode) → ⟦<LeafNode as PartialEq>⟧.eq x y
+    ensures { (x y : LeafNode) →
+        ⟦<LeafNode as PartialEq>⟧.eq x y
         ≡ (⟦<HPKEPublicKey as PartialEq>⟧.eq x.encryption_key y.encryption_key
         && (⟦<SignaturePublicKey as PartialEq>⟧.eq x.signature_key y.signature_key
         && (⟦<Credential as PartialEq>⟧.eq x.credential y.credential

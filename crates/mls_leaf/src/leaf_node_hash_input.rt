@@ -72,7 +72,8 @@ impl DeserializeBytes for LeafNodeHashInput {
 
 /// Two are equal exactly where each field is.
 pub fn is_compared_by_its_fields()
-    ensures { (x y : LeafNodeHashInput) → ⟦<LeafNodeHashInput as PartialEq>⟧.eq x y
+    ensures { (x y : LeafNodeHashInput) →
+        ⟦<LeafNodeHashInput as PartialEq>⟧.eq x y
         ≡ (⟦<u32 as PartialEq>⟧.eq x.leaf_index y.leaf_index
         && ⟦<Option<LeafNode> as PartialEq>⟧.eq x.leaf_node y.leaf_node) }
 {}

@@ -127,10 +127,16 @@ impl DeserializeBytes for LeafNodeOrigin {
 
 /// Two are equal exactly where they are of one case, and each field is.
 pub fn is_compared_by_its_case()
-    ensures tag { (x y : LeafNodeOrigin) → IsTrue (⟦<LeafNodeOrigin as PartialEq>⟧.eq x y) → leaf_node_origin_tag x ≡ leaf_node_origin_tag y }
-    ensures case_1 { (a0 b0 : _) → ⟦<LeafNodeOrigin as PartialEq>⟧.eq (LeafNodeOrigin.KeyPackage a0) (LeafNodeOrigin.KeyPackage b0)
+    ensures tag { (x y : LeafNodeOrigin) →
+        IsTrue (⟦<LeafNodeOrigin as PartialEq>⟧.eq x y)
+        → leaf_node_origin_tag x ≡ leaf_node_origin_tag y }
+    ensures case_1 { (a0 b0 : _) →
+        ⟦<LeafNodeOrigin as PartialEq>⟧.eq (LeafNodeOrigin.KeyPackage a0)
+        (LeafNodeOrigin.KeyPackage b0)
         ≡ ⟦<Lifetime as PartialEq>⟧.eq a0 b0 }
-    ensures case_2 { ⟦<LeafNodeOrigin as PartialEq>⟧.eq LeafNodeOrigin.Update LeafNodeOrigin.Update ≡ true }
-    ensures case_3 { (a0 b0 : _) → ⟦<LeafNodeOrigin as PartialEq>⟧.eq (LeafNodeOrigin.Commit a0) (LeafNodeOrigin.Commit b0)
+    ensures case_2 { ⟦<LeafNodeOrigin as PartialEq>⟧.eq LeafNodeOrigin.Update LeafNodeOrigin.Update
+        ≡ true }
+    ensures case_3 { (a0 b0 : _) →
+        ⟦<LeafNodeOrigin as PartialEq>⟧.eq (LeafNodeOrigin.Commit a0) (LeafNodeOrigin.Commit b0)
         ≡ ⟦<VLBytes as PartialEq>⟧.eq a0 b0 }
 {}

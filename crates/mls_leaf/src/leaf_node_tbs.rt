@@ -74,10 +74,12 @@ impl Serialize for LeafNodeTBS<'_> {
 
 /// Two are equal exactly where each field is.
 pub fn is_compared_by_its_fields()
-    ensures { (x y : LeafNodeTBS) → ⟦<LeafNodeTBS<'static> as PartialEq>⟧.eq x y
+    ensures { (x y : LeafNodeTBS) →
+        ⟦<LeafNodeTBS<'static> as PartialEq>⟧.eq x y
         ≡ (⟦<HPKEPublicKey as PartialEq>⟧.eq x.encryption_key.now y.encryption_key.now
         && (⟦<SignaturePublicKey as PartialEq>⟧.eq x.signature_key.now y.signature_key.now
         && (⟦<Credential as PartialEq>⟧.eq x.credential.now y.credential.now
         && (⟦<Capabilities as PartialEq>⟧.eq x.capabilities.now y.capabilities.now
-        && ⟦<LeafNodeTBSOrigin<'static> as PartialEq>⟧.eq x.leaf_node_source y.leaf_node_source)))) }
+        && ⟦<LeafNodeTBSOrigin<'static> as PartialEq>⟧.eq x.leaf_node_source
+        y.leaf_node_source)))) }
 {}

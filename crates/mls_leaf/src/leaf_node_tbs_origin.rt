@@ -133,15 +133,23 @@ impl Serialize for LeafNodeTBSOrigin<'_> {
 
 /// Two are equal exactly where they are of one case, and each field is.
 pub fn is_compared_by_its_case()
-    ensures tag { (x y : LeafNodeTBSOrigin) → IsTrue (⟦<LeafNodeTBSOrigin<'static> as PartialEq>⟧.eq x y) → leaf_node_tbs_origin_tag x ≡ leaf_node_tbs_origin_tag y }
-    ensures case_1 { (a0 a1 b0 b1 : _) → ⟦<LeafNodeTBSOrigin<'static> as PartialEq>⟧.eq (LeafNodeTBSOrigin.KeyPackage a0 a1) (LeafNodeTBSOrigin.KeyPackage b0 b1)
+    ensures tag { (x y : LeafNodeTBSOrigin) →
+        IsTrue (⟦<LeafNodeTBSOrigin<'static> as PartialEq>⟧.eq x y)
+        → leaf_node_tbs_origin_tag x ≡ leaf_node_tbs_origin_tag y }
+    ensures case_1 { (a0 a1 b0 b1 : _) →
+        ⟦<LeafNodeTBSOrigin<'static> as PartialEq>⟧.eq (LeafNodeTBSOrigin.KeyPackage a0 a1)
+        (LeafNodeTBSOrigin.KeyPackage b0 b1)
         ≡ (⟦<Lifetime as PartialEq>⟧.eq a0.now b0.now
         && ⟦<Vec<Extension> as PartialEq>⟧.eq a1.now b1.now) }
-    ensures case_2 { (a0 a1 a2 b0 b1 b2 : _) → ⟦<LeafNodeTBSOrigin<'static> as PartialEq>⟧.eq (LeafNodeTBSOrigin.Update a0 a1 a2) (LeafNodeTBSOrigin.Update b0 b1 b2)
+    ensures case_2 { (a0 a1 a2 b0 b1 b2 : _) →
+        ⟦<LeafNodeTBSOrigin<'static> as PartialEq>⟧.eq (LeafNodeTBSOrigin.Update a0 a1 a2)
+        (LeafNodeTBSOrigin.Update b0 b1 b2)
         ≡ (⟦<Vec<Extension> as PartialEq>⟧.eq a0.now b0.now
         && (⟦<VLBytes as PartialEq>⟧.eq a1.now b1.now
         && ⟦<u32 as PartialEq>⟧.eq a2.now b2.now)) }
-    ensures case_3 { (a0 a1 a2 a3 b0 b1 b2 b3 : _) → ⟦<LeafNodeTBSOrigin<'static> as PartialEq>⟧.eq (LeafNodeTBSOrigin.Commit a0 a1 a2 a3) (LeafNodeTBSOrigin.Commit b0 b1 b2 b3)
+    ensures case_3 { (a0 a1 a2 a3 b0 b1 b2 b3 : _) →
+        ⟦<LeafNodeTBSOrigin<'static> as PartialEq>⟧.eq (LeafNodeTBSOrigin.Commit a0 a1 a2 a3)
+        (LeafNodeTBSOrigin.Commit b0 b1 b2 b3)
         ≡ (⟦<VLBytes as PartialEq>⟧.eq a0.now b0.now
         && (⟦<Vec<Extension> as PartialEq>⟧.eq a1.now b1.now
         && (⟦<VLBytes as PartialEq>⟧.eq a2.now b2.now

@@ -66,7 +66,8 @@ impl DeserializeBytes for Lifetime {
 
 /// Two are equal exactly where each field is.
 pub fn is_compared_by_its_fields()
-    ensures { (x y : Lifetime) → ⟦<Lifetime as PartialEq>⟧.eq x y
+    ensures { (x y : Lifetime) →
+        ⟦<Lifetime as PartialEq>⟧.eq x y
         ≡ (⟦<u64 as PartialEq>⟧.eq x.not_before y.not_before
         && ⟦<u64 as PartialEq>⟧.eq x.not_after y.not_after) }
 {}

@@ -100,9 +100,12 @@ impl DeserializeBytes for Node {
 
 /// Two are equal exactly where they are of one case, and each field is.
 pub fn is_compared_by_its_case()
-    ensures tag { (x y : Node) → IsTrue (⟦<Node as PartialEq>⟧.eq x y) → node_tag x ≡ node_tag y }
-    ensures case_1 { (a0 b0 : _) → ⟦<Node as PartialEq>⟧.eq (Node.Leaf a0) (Node.Leaf b0)
+    ensures tag { (x y : Node) →
+        IsTrue (⟦<Node as PartialEq>⟧.eq x y) → node_tag x ≡ node_tag y }
+    ensures case_1 { (a0 b0 : _) →
+        ⟦<Node as PartialEq>⟧.eq (Node.Leaf a0) (Node.Leaf b0)
         ≡ ⟦<LeafNode as PartialEq>⟧.eq a0 b0 }
-    ensures case_2 { (a0 b0 : _) → ⟦<Node as PartialEq>⟧.eq (Node.Parent a0) (Node.Parent b0)
+    ensures case_2 { (a0 b0 : _) →
+        ⟦<Node as PartialEq>⟧.eq (Node.Parent a0) (Node.Parent b0)
         ≡ ⟦<ParentNode as PartialEq>⟧.eq a0 b0 }
 {}

@@ -58,8 +58,10 @@ impl Serialize for ParentHashInput<'_> {
 
 /// Two are equal exactly where each field is.
 pub fn is_compared_by_its_fields()
-    ensures { (x y : ParentHashInput) → ⟦<ParentHashInput<'static> as PartialEq>⟧.eq x y
+    ensures { (x y : ParentHashInput) →
+        ⟦<ParentHashInput<'static> as PartialEq>⟧.eq x y
         ≡ (⟦<HPKEPublicKey as PartialEq>⟧.eq x.encryption_key.now y.encryption_key.now
         && (⟦<VLBytes as PartialEq>⟧.eq x.parent_hash.now y.parent_hash.now
-        && ⟦<VLBytes as PartialEq>⟧.eq x.original_sibling_tree_hash.now y.original_sibling_tree_hash.now)) }
+        && ⟦<VLBytes as PartialEq>⟧.eq x.original_sibling_tree_hash.now
+        y.original_sibling_tree_hash.now)) }
 {}

@@ -96,7 +96,8 @@ impl DeserializeBytes for ParentNode {
 
 /// Two are equal exactly where each field is.
 pub fn is_compared_by_its_fields()
-    ensures { (x y : ParentNode) → ⟦<ParentNode as PartialEq>⟧.eq x y
+    ensures { (x y : ParentNode) →
+        ⟦<ParentNode as PartialEq>⟧.eq x y
         ≡ (⟦<HPKEPublicKey as PartialEq>⟧.eq x.encryption_key y.encryption_key
         && (⟦<VLBytes as PartialEq>⟧.eq x.parent_hash y.parent_hash
         && ⟦<Vec<u32> as PartialEq>⟧.eq x.unmerged_leaves y.unmerged_leaves)) }

@@ -102,7 +102,8 @@ impl DeserializeBytes for ParentNodeHashInput {
 
 /// Two are equal exactly where each field is.
 pub fn is_compared_by_its_fields()
-    ensures { (x y : ParentNodeHashInput) → ⟦<ParentNodeHashInput as PartialEq>⟧.eq x y
+    ensures { (x y : ParentNodeHashInput) →
+        ⟦<ParentNodeHashInput as PartialEq>⟧.eq x y
         ≡ (⟦<Option<ParentNode> as PartialEq>⟧.eq x.parent_node y.parent_node
         && (⟦<VLBytes as PartialEq>⟧.eq x.left_hash y.left_hash
         && ⟦<VLBytes as PartialEq>⟧.eq x.right_hash y.right_hash)) }

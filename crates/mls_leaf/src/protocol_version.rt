@@ -64,5 +64,6 @@ impl DeserializeBytes for ProtocolVersion {
 
 /// Two are equal exactly where their numbers are.
 pub fn is_compared_by_its_number()
-    ensures { (x y : ProtocolVersion) → ⟦<ProtocolVersion as PartialEq>⟧.eq x y ≡ nat_eq x.0 y.0 }
+    ensures { (x y : ProtocolVersion) →
+        ⟦<ProtocolVersion as PartialEq>⟧.eq x y ≡ nat_eq x.0 y.0 }
 {}

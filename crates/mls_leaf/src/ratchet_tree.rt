@@ -56,6 +56,7 @@ impl DeserializeBytes for RatchetTree {
 
 /// Two are equal exactly where each field is.
 pub fn is_compared_by_its_fields()
-    ensures { (x y : RatchetTree) → ⟦<RatchetTree as PartialEq>⟧.eq x y
+    ensures { (x y : RatchetTree) →
+        ⟦<RatchetTree as PartialEq>⟧.eq x y
         ≡ ⟦<Vec<Option<Node>> as PartialEq>⟧.eq x.ratchet_tree y.ratchet_tree }
 {}

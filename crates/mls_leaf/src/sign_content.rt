@@ -40,7 +40,8 @@ impl Serialize for SignContent<'_> {
 
 /// Two are equal exactly where each field is.
 pub fn is_compared_by_its_fields()
-    ensures { (x y : SignContent) → ⟦<SignContent<'static> as PartialEq>⟧.eq x y
+    ensures { (x y : SignContent) →
+        ⟦<SignContent<'static> as PartialEq>⟧.eq x y
         ≡ (⟦<VLBytes as PartialEq>⟧.eq x.label.now y.label.now
         && ⟦<VLBytes as PartialEq>⟧.eq x.content.now y.content.now) }
 {}

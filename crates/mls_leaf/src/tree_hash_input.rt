@@ -102,9 +102,13 @@ impl DeserializeBytes for TreeHashInput {
 
 /// Two are equal exactly where they are of one case, and each field is.
 pub fn is_compared_by_its_case()
-    ensures tag { (x y : TreeHashInput) → IsTrue (⟦<TreeHashInput as PartialEq>⟧.eq x y) → tree_hash_input_tag x ≡ tree_hash_input_tag y }
-    ensures case_1 { (a0 b0 : _) → ⟦<TreeHashInput as PartialEq>⟧.eq (TreeHashInput.Leaf a0) (TreeHashInput.Leaf b0)
+    ensures tag { (x y : TreeHashInput) →
+        IsTrue (⟦<TreeHashInput as PartialEq>⟧.eq x y)
+        → tree_hash_input_tag x ≡ tree_hash_input_tag y }
+    ensures case_1 { (a0 b0 : _) →
+        ⟦<TreeHashInput as PartialEq>⟧.eq (TreeHashInput.Leaf a0) (TreeHashInput.Leaf b0)
         ≡ ⟦<LeafNodeHashInput as PartialEq>⟧.eq a0 b0 }
-    ensures case_2 { (a0 b0 : _) → ⟦<TreeHashInput as PartialEq>⟧.eq (TreeHashInput.Parent a0) (TreeHashInput.Parent b0)
+    ensures case_2 { (a0 b0 : _) →
+        ⟦<TreeHashInput as PartialEq>⟧.eq (TreeHashInput.Parent a0) (TreeHashInput.Parent b0)
         ≡ ⟦<ParentNodeHashInput as PartialEq>⟧.eq a0 b0 }
 {}

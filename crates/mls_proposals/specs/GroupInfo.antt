@@ -8,7 +8,8 @@ use Rattle.mls_proposals.specs.declared.group_info.GroupInfo.{GroupInfo}
 abbrev pub group_info_plain : GroupInfo → Tree
 group_info_plain v =
     pair_tree
-    (triple_tree (group_context_plain v.group_context) (trees extension_plain v.extensions.items) (number_trees (bytes_of v.confirmation_tag)))
+    (triple_tree (group_context_plain v.group_context) (trees extension_plain v.extensions.items)
+    (number_trees (bytes_of v.confirmation_tag)))
     (pair_tree (Number v.signer) (number_trees (bytes_of v.signature)))
 
 abbrev pub group_info_format : Format

@@ -6,7 +6,8 @@ use Rattle.mls_proposals.specs.PreSharedKeyID.{pre_shared_key_id_plain, pre_shar
 use Rattle.mls_proposals.specs.declared.group_secrets.GroupSecrets.{GroupSecrets}
 
 abbrev pub group_secrets_plain : GroupSecrets → Tree
-group_secrets_plain v = triple_tree (number_trees (bytes_of v.joiner_secret)) (option_plain path_secret_plain v.path_secret) (trees pre_shared_key_id_plain v.psks.items)
+group_secrets_plain v = triple_tree (number_trees (bytes_of v.joiner_secret)) (option_plain path_secret_plain v.path_secret)
+    (trees pre_shared_key_id_plain v.psks.items)
 
 abbrev pub group_secrets_format : Format
 group_secrets_format = triple_format bytes_format (option_format path_secret_format) (list_format pre_shared_key_id_format)

@@ -14,7 +14,8 @@ psk_origin_tag (Resumption a0 a1 a2) = 2
 
 abbrev pub psk_origin_plain : PSKOrigin → Tree
 psk_origin_plain (External a0) = Join (Number 1) (Join (number_trees (bytes_of a0)) Empty)
-psk_origin_plain (Resumption a0 a1 a2) = Join (Number 2) (pair_tree (pair_tree (resumption_psk_usage_plain a0) (number_trees (bytes_of a1))) (Number a2))
+psk_origin_plain (Resumption a0 a1 a2) = Join (Number 2) (pair_tree (pair_tree (resumption_psk_usage_plain a0) (number_trees (bytes_of a1)))
+    (Number a2))
 
 abbrev pub psk_origin_variants : Variants
 psk_origin_variants =

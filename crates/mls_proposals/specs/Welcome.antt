@@ -6,7 +6,8 @@ use Rattle.mls_proposals.specs.EncryptedGroupSecrets.{encrypted_group_secrets_pl
 use Rattle.mls_proposals.specs.declared.welcome.Welcome.{Welcome}
 
 abbrev pub welcome_plain : Welcome → Tree
-welcome_plain v = triple_tree (cipher_suite_plain v.cipher_suite) (trees encrypted_group_secrets_plain v.secrets.items) (number_trees (bytes_of v.encrypted_group_info))
+welcome_plain v = triple_tree (cipher_suite_plain v.cipher_suite) (trees encrypted_group_secrets_plain v.secrets.items)
+    (number_trees (bytes_of v.encrypted_group_info))
 
 abbrev pub welcome_format : Format
 welcome_format = triple_format cipher_suite_format (list_format encrypted_group_secrets_format) bytes_format

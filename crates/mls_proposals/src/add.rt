@@ -56,6 +56,7 @@ impl DeserializeBytes for Add {
 
 /// Two are equal exactly where each field is.
 pub fn is_compared_by_its_fields()
-    ensures { (x y : Add) → ⟦<Add as PartialEq>⟧.eq x y
+    ensures { (x y : Add) →
+        ⟦<Add as PartialEq>⟧.eq x y
         ≡ ⟦<KeyPackage as PartialEq>⟧.eq x.key_package y.key_package }
 {}

@@ -63,7 +63,8 @@ impl DeserializeBytes for Commit {
 
 /// Two are equal exactly where each field is.
 pub fn is_compared_by_its_fields()
-    ensures { (x y : Commit) → ⟦<Commit as PartialEq>⟧.eq x y
+    ensures { (x y : Commit) →
+        ⟦<Commit as PartialEq>⟧.eq x y
         ≡ (⟦<Vec<ProposalOrRef> as PartialEq>⟧.eq x.proposals y.proposals
         && ⟦<Option<UpdatePath> as PartialEq>⟧.eq x.path y.path) }
 {}

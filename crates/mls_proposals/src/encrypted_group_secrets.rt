@@ -79,7 +79,8 @@ impl DeserializeBytes for EncryptedGroupSecrets {
 
 /// Two are equal exactly where each field is.
 pub fn is_compared_by_its_fields()
-    ensures { (x y : EncryptedGroupSecrets) → ⟦<EncryptedGroupSecrets as PartialEq>⟧.eq x y
+    ensures { (x y : EncryptedGroupSecrets) →
+        ⟦<EncryptedGroupSecrets as PartialEq>⟧.eq x y
         ≡ (⟦<KeyPackageRef as PartialEq>⟧.eq x.new_member y.new_member
         && ⟦<HPKECiphertext as PartialEq>⟧.eq x.encrypted_group_secrets y.encrypted_group_secrets) }
 {}

@@ -55,6 +55,7 @@ impl DeserializeBytes for ExternalInit {
 
 /// Two are equal exactly where each field is.
 pub fn is_compared_by_its_fields()
-    ensures { (x y : ExternalInit) → ⟦<ExternalInit as PartialEq>⟧.eq x y
+    ensures { (x y : ExternalInit) →
+        ⟦<ExternalInit as PartialEq>⟧.eq x y
         ≡ ⟦<VLBytes as PartialEq>⟧.eq x.kem_output y.kem_output }
 {}

@@ -56,6 +56,7 @@ impl DeserializeBytes for ExternalPub {
 
 /// Two are equal exactly where each field is.
 pub fn is_compared_by_its_fields()
-    ensures { (x y : ExternalPub) → ⟦<ExternalPub as PartialEq>⟧.eq x y
+    ensures { (x y : ExternalPub) →
+        ⟦<ExternalPub as PartialEq>⟧.eq x y
         ≡ ⟦<HPKEPublicKey as PartialEq>⟧.eq x.external_pub y.external_pub }
 {}

@@ -75,7 +75,8 @@ impl DeserializeBytes for ExternalSender {
 
 /// Two are equal exactly where each field is.
 pub fn is_compared_by_its_fields()
-    ensures { (x y : ExternalSender) → ⟦<ExternalSender as PartialEq>⟧.eq x y
+    ensures { (x y : ExternalSender) →
+        ⟦<ExternalSender as PartialEq>⟧.eq x y
         ≡ (⟦<SignaturePublicKey as PartialEq>⟧.eq x.signature_key y.signature_key
         && ⟦<Credential as PartialEq>⟧.eq x.credential y.credential) }
 {}

@@ -59,6 +59,7 @@ impl DeserializeBytes for ExternalSenders {
 
 /// Two are equal exactly where each field is.
 pub fn is_compared_by_its_fields()
-    ensures { (x y : ExternalSenders) → ⟦<ExternalSenders as PartialEq>⟧.eq x y
+    ensures { (x y : ExternalSenders) →
+        ⟦<ExternalSenders as PartialEq>⟧.eq x y
         ≡ ⟦<Vec<ExternalSender> as PartialEq>⟧.eq x.external_senders y.external_senders }
 {}

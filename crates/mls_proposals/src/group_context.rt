@@ -67,7 +67,8 @@ impl Serialize for GroupContext {
 }
 
 impl Deserialize for GroupContext {
-    ghost names = { ⟦<((ProtocolVersionMls10, CipherSuite, VLBytes), (u64, VLBytes), (VLBytes, Vec<Extension>)) as Deserialize>⟧.names };
+    ghost names = { ⟦<((ProtocolVersionMls10, CipherSuite, VLBytes), (u64, VLBytes),
+        (VLBytes, Vec<Extension>)) as Deserialize>⟧.names };
 
     fn tls_deserialize<R: Source>(alloc: Global, src: &mut R) -> Result<GroupContext, Error> {
         let (
@@ -92,7 +93,8 @@ impl Deserialize for GroupContext {
 }
 
 impl DeserializeBytes for GroupContext {
-    ghost names = { ⟦<((ProtocolVersionMls10, CipherSuite, VLBytes), (u64, VLBytes), (VLBytes, Vec<Extension>)) as DeserializeBytes>⟧.names };
+    ghost names = { ⟦<((ProtocolVersionMls10, CipherSuite, VLBytes), (u64, VLBytes),
+        (VLBytes, Vec<Extension>)) as DeserializeBytes>⟧.names };
 
     fn tls_deserialize_bytes(alloc: Global, whole: &[u8]) -> Result<(GroupContext, &[u8]), Error> {
         let (
@@ -124,7 +126,8 @@ impl DeserializeBytes for GroupContext {
 
 /// Two are equal exactly where each field is.
 pub fn is_compared_by_its_fields()
-    ensures { (x y : GroupContext) → ⟦<GroupContext as PartialEq>⟧.eq x y
+    ensures { (x y : GroupContext) →
+        ⟦<GroupContext as PartialEq>⟧.eq x y
         ≡ (⟦<ProtocolVersionMls10 as PartialEq>⟧.eq x.version y.version
         && (⟦<CipherSuite as PartialEq>⟧.eq x.cipher_suite y.cipher_suite
         && (⟦<VLBytes as PartialEq>⟧.eq x.group_id y.group_id

@@ -62,6 +62,7 @@ impl DeserializeBytes for GroupContextExtensions {
 
 /// Two are equal exactly where each field is.
 pub fn is_compared_by_its_fields()
-    ensures { (x y : GroupContextExtensions) → ⟦<GroupContextExtensions as PartialEq>⟧.eq x y
+    ensures { (x y : GroupContextExtensions) →
+        ⟦<GroupContextExtensions as PartialEq>⟧.eq x y
         ≡ ⟦<Vec<Extension> as PartialEq>⟧.eq x.extensions y.extensions }
 {}

@@ -112,7 +112,8 @@ impl DeserializeBytes for GroupInfo {
 
 /// Two are equal exactly where each field is.
 pub fn is_compared_by_its_fields()
-    ensures { (x y : GroupInfo) → ⟦<GroupInfo as PartialEq>⟧.eq x y
+    ensures { (x y : GroupInfo) →
+        ⟦<GroupInfo as PartialEq>⟧.eq x y
         ≡ (⟦<GroupContext as PartialEq>⟧.eq x.group_context y.group_context
         && (⟦<Vec<Extension> as PartialEq>⟧.eq x.extensions y.extensions
         && (⟦<MAC as PartialEq>⟧.eq x.confirmation_tag y.confirmation_tag

@@ -58,7 +58,8 @@ impl Serialize for GroupInfoTBS<'_> {
 
 /// Two are equal exactly where each field is.
 pub fn is_compared_by_its_fields()
-    ensures { (x y : GroupInfoTBS) → ⟦<GroupInfoTBS<'static> as PartialEq>⟧.eq x y
+    ensures { (x y : GroupInfoTBS) →
+        ⟦<GroupInfoTBS<'static> as PartialEq>⟧.eq x y
         ≡ (⟦<GroupContext as PartialEq>⟧.eq x.group_context.now y.group_context.now
         && (⟦<Vec<Extension> as PartialEq>⟧.eq x.extensions.now y.extensions.now
         && (⟦<MAC as PartialEq>⟧.eq x.confirmation_tag.now y.confirmation_tag.now

@@ -96,7 +96,8 @@ impl DeserializeBytes for GroupSecrets {
 
 /// Two are equal exactly where each field is.
 pub fn is_compared_by_its_fields()
-    ensures { (x y : GroupSecrets) → ⟦<GroupSecrets as PartialEq>⟧.eq x y
+    ensures { (x y : GroupSecrets) →
+        ⟦<GroupSecrets as PartialEq>⟧.eq x y
         ≡ (⟦<VLBytes as PartialEq>⟧.eq x.joiner_secret y.joiner_secret
         && (⟦<Option<PathSecret> as PartialEq>⟧.eq x.path_secret y.path_secret
         && ⟦<Vec<PreSharedKeyID> as PartialEq>⟧.eq x.psks y.psks)) }

@@ -73,7 +73,8 @@ impl DeserializeBytes for HPKECiphertext {
 
 /// Two are equal exactly where each field is.
 pub fn is_compared_by_its_fields()
-    ensures { (x y : HPKECiphertext) → ⟦<HPKECiphertext as PartialEq>⟧.eq x y
+    ensures { (x y : HPKECiphertext) →
+        ⟦<HPKECiphertext as PartialEq>⟧.eq x y
         ≡ (⟦<VLBytes as PartialEq>⟧.eq x.kem_output y.kem_output
         && ⟦<VLBytes as PartialEq>⟧.eq x.ciphertext y.ciphertext) }
 {}

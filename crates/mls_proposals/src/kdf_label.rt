@@ -42,7 +42,8 @@ impl Serialize for KDFLabel<'_> {
 
 /// Two are equal exactly where each field is.
 pub fn is_compared_by_its_fields()
-    ensures { (x y : KDFLabel) → ⟦<KDFLabel<'static> as PartialEq>⟧.eq x y
+    ensures { (x y : KDFLabel) →
+        ⟦<KDFLabel<'static> as PartialEq>⟧.eq x y
         ≡ (⟦<u16 as PartialEq>⟧.eq x.length.now y.length.now
         && (⟦<VLBytes as PartialEq>⟧.eq x.label.now y.label.now
         && ⟦<VLBytes as PartialEq>⟧.eq x.context.now y.context.now)) }

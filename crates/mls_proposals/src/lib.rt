@@ -1,4 +1,4 @@
-//! Messages, written by `tls_codec_messages`.
+//! Messages, written by `tlsgen`.
 #![tactic(auto)]
 
 pub mod add;

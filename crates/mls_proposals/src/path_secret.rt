@@ -55,6 +55,7 @@ impl DeserializeBytes for PathSecret {
 
 /// Two are equal exactly where each field is.
 pub fn is_compared_by_its_fields()
-    ensures { (x y : PathSecret) → ⟦<PathSecret as PartialEq>⟧.eq x y
+    ensures { (x y : PathSecret) →
+        ⟦<PathSecret as PartialEq>⟧.eq x y
         ≡ ⟦<VLBytes as PartialEq>⟧.eq x.path_secret y.path_secret }
 {}

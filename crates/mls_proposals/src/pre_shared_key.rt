@@ -56,6 +56,7 @@ impl DeserializeBytes for PreSharedKey {
 
 /// Two are equal exactly where each field is.
 pub fn is_compared_by_its_fields()
-    ensures { (x y : PreSharedKey) → ⟦<PreSharedKey as PartialEq>⟧.eq x y
+    ensures { (x y : PreSharedKey) →
+        ⟦<PreSharedKey as PartialEq>⟧.eq x y
         ≡ ⟦<PreSharedKeyID as PartialEq>⟧.eq x.psk y.psk }
 {}

@@ -65,7 +65,8 @@ impl DeserializeBytes for PreSharedKeyID {
 
 /// Two are equal exactly where each field is.
 pub fn is_compared_by_its_fields()
-    ensures { (x y : PreSharedKeyID) → ⟦<PreSharedKeyID as PartialEq>⟧.eq x y
+    ensures { (x y : PreSharedKeyID) →
+        ⟦<PreSharedKeyID as PartialEq>⟧.eq x y
         ≡ (⟦<PSKOrigin as PartialEq>⟧.eq x.psktype y.psktype
         && ⟦<VLBytes as PartialEq>⟧.eq x.psk_nonce y.psk_nonce) }
 {}

@@ -207,19 +207,28 @@ impl DeserializeBytes for Proposal {
 
 /// Two are equal exactly where they are of one case, and each field is.
 pub fn is_compared_by_its_case()
-    ensures tag { (x y : Proposal) → IsTrue (⟦<Proposal as PartialEq>⟧.eq x y) → proposal_tag x ≡ proposal_tag y }
-    ensures case_1 { (a0 b0 : _) → ⟦<Proposal as PartialEq>⟧.eq (Proposal.Add a0) (Proposal.Add b0)
+    ensures tag { (x y : Proposal) →
+        IsTrue (⟦<Proposal as PartialEq>⟧.eq x y) → proposal_tag x ≡ proposal_tag y }
+    ensures case_1 { (a0 b0 : _) →
+        ⟦<Proposal as PartialEq>⟧.eq (Proposal.Add a0) (Proposal.Add b0)
         ≡ ⟦<Add as PartialEq>⟧.eq a0 b0 }
-    ensures case_2 { (a0 b0 : _) → ⟦<Proposal as PartialEq>⟧.eq (Proposal.Update a0) (Proposal.Update b0)
+    ensures case_2 { (a0 b0 : _) →
+        ⟦<Proposal as PartialEq>⟧.eq (Proposal.Update a0) (Proposal.Update b0)
         ≡ ⟦<Update as PartialEq>⟧.eq a0 b0 }
-    ensures case_3 { (a0 b0 : _) → ⟦<Proposal as PartialEq>⟧.eq (Proposal.Remove a0) (Proposal.Remove b0)
+    ensures case_3 { (a0 b0 : _) →
+        ⟦<Proposal as PartialEq>⟧.eq (Proposal.Remove a0) (Proposal.Remove b0)
         ≡ ⟦<Remove as PartialEq>⟧.eq a0 b0 }
-    ensures case_4 { (a0 b0 : _) → ⟦<Proposal as PartialEq>⟧.eq (Proposal.Psk a0) (Proposal.Psk b0)
+    ensures case_4 { (a0 b0 : _) →
+        ⟦<Proposal as PartialEq>⟧.eq (Proposal.Psk a0) (Proposal.Psk b0)
         ≡ ⟦<PreSharedKey as PartialEq>⟧.eq a0 b0 }
-    ensures case_5 { (a0 b0 : _) → ⟦<Proposal as PartialEq>⟧.eq (Proposal.Reinit a0) (Proposal.Reinit b0)
+    ensures case_5 { (a0 b0 : _) →
+        ⟦<Proposal as PartialEq>⟧.eq (Proposal.Reinit a0) (Proposal.Reinit b0)
         ≡ ⟦<ReInit as PartialEq>⟧.eq a0 b0 }
-    ensures case_6 { (a0 b0 : _) → ⟦<Proposal as PartialEq>⟧.eq (Proposal.ExternalInit a0) (Proposal.ExternalInit b0)
+    ensures case_6 { (a0 b0 : _) →
+        ⟦<Proposal as PartialEq>⟧.eq (Proposal.ExternalInit a0) (Proposal.ExternalInit b0)
         ≡ ⟦<ExternalInit as PartialEq>⟧.eq a0 b0 }
-    ensures case_7 { (a0 b0 : _) → ⟦<Proposal as PartialEq>⟧.eq (Proposal.GroupContextExtensions a0) (Proposal.GroupContextExtensions b0)
+    ensures case_7 { (a0 b0 : _) →
+        ⟦<Proposal as PartialEq>⟧.eq (Proposal.GroupContextExtensions a0)
+        (Proposal.GroupContextExtensions b0)
         ≡ ⟦<GroupContextExtensions as PartialEq>⟧.eq a0 b0 }
 {}

@@ -107,9 +107,13 @@ impl DeserializeBytes for ProposalOrRef {
 
 /// Two are equal exactly where they are of one case, and each field is.
 pub fn is_compared_by_its_case()
-    ensures tag { (x y : ProposalOrRef) → IsTrue (⟦<ProposalOrRef as PartialEq>⟧.eq x y) → proposal_or_ref_tag x ≡ proposal_or_ref_tag y }
-    ensures case_1 { (a0 b0 : _) → ⟦<ProposalOrRef as PartialEq>⟧.eq (ProposalOrRef.Proposal a0) (ProposalOrRef.Proposal b0)
+    ensures tag { (x y : ProposalOrRef) →
+        IsTrue (⟦<ProposalOrRef as PartialEq>⟧.eq x y)
+        → proposal_or_ref_tag x ≡ proposal_or_ref_tag y }
+    ensures case_1 { (a0 b0 : _) →
+        ⟦<ProposalOrRef as PartialEq>⟧.eq (ProposalOrRef.Proposal a0) (ProposalOrRef.Proposal b0)
         ≡ ⟦<Proposal as PartialEq>⟧.eq a0 b0 }
-    ensures case_2 { (a0 b0 : _) → ⟦<ProposalOrRef as PartialEq>⟧.eq (ProposalOrRef.Reference a0) (ProposalOrRef.Reference b0)
+    ensures case_2 { (a0 b0 : _) →
+        ⟦<ProposalOrRef as PartialEq>⟧.eq (ProposalOrRef.Reference a0) (ProposalOrRef.Reference b0)
         ≡ ⟦<ProposalRef as PartialEq>⟧.eq a0 b0 }
 {}

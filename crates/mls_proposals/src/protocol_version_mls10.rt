@@ -26,7 +26,8 @@ impl ProtocolVersionMls10 {
 
     /// The value that has this number.
     pub fn of_code(code: u16) -> Option<ProtocolVersionMls10>
-        ensures { MatchOption result (protocol_version_mls10_has code ≡ false) (λ v. protocol_version_mls10_code v ≡ code) }
+        ensures { MatchOption result (protocol_version_mls10_has code ≡ false)
+            (λ v. protocol_version_mls10_code v ≡ code) }
     {
         match code {
             1 => Some(ProtocolVersionMls10::Mls10),
@@ -89,5 +90,7 @@ impl DeserializeBytes for ProtocolVersionMls10 {
 
 /// Two are equal exactly where their numbers are.
 pub fn is_compared_by_its_number()
-    ensures { (x y : ProtocolVersionMls10) → ⟦<ProtocolVersionMls10 as PartialEq>⟧.eq x y ≡ nat_eq (protocol_version_mls10_code x) (protocol_version_mls10_code y) }
+    ensures { (x y : ProtocolVersionMls10) →
+        ⟦<ProtocolVersionMls10 as PartialEq>⟧.eq x y
+        ≡ nat_eq (protocol_version_mls10_code x) (protocol_version_mls10_code y) }
 {}

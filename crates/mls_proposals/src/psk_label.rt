@@ -43,7 +43,8 @@ impl Serialize for PSKLabel<'_> {
 
 /// Two are equal exactly where each field is.
 pub fn is_compared_by_its_fields()
-    ensures { (x y : PSKLabel) → ⟦<PSKLabel<'static> as PartialEq>⟧.eq x y
+    ensures { (x y : PSKLabel) →
+        ⟦<PSKLabel<'static> as PartialEq>⟧.eq x y
         ≡ (⟦<PreSharedKeyID as PartialEq>⟧.eq x.id.now y.id.now
         && (⟦<u16 as PartialEq>⟧.eq x.index.now y.index.now
         && ⟦<u16 as PartialEq>⟧.eq x.count.now y.count.now)) }

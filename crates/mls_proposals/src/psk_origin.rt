@@ -137,10 +137,14 @@ impl DeserializeBytes for PSKOrigin {
 
 /// Two are equal exactly where they are of one case, and each field is.
 pub fn is_compared_by_its_case()
-    ensures tag { (x y : PSKOrigin) → IsTrue (⟦<PSKOrigin as PartialEq>⟧.eq x y) → psk_origin_tag x ≡ psk_origin_tag y }
-    ensures case_1 { (a0 b0 : _) → ⟦<PSKOrigin as PartialEq>⟧.eq (PSKOrigin.External a0) (PSKOrigin.External b0)
+    ensures tag { (x y : PSKOrigin) →
+        IsTrue (⟦<PSKOrigin as PartialEq>⟧.eq x y) → psk_origin_tag x ≡ psk_origin_tag y }
+    ensures case_1 { (a0 b0 : _) →
+        ⟦<PSKOrigin as PartialEq>⟧.eq (PSKOrigin.External a0) (PSKOrigin.External b0)
         ≡ ⟦<VLBytes as PartialEq>⟧.eq a0 b0 }
-    ensures case_2 { (a0 a1 a2 b0 b1 b2 : _) → ⟦<PSKOrigin as PartialEq>⟧.eq (PSKOrigin.Resumption a0 a1 a2) (PSKOrigin.Resumption b0 b1 b2)
+    ensures case_2 { (a0 a1 a2 b0 b1 b2 : _) →
+        ⟦<PSKOrigin as PartialEq>⟧.eq (PSKOrigin.Resumption a0 a1 a2)
+        (PSKOrigin.Resumption b0 b1 b2)
         ≡ (⟦<ResumptionPSKUsage as PartialEq>⟧.eq a0 b0
         && (⟦<VLBytes as PartialEq>⟧.eq a1 b1
         && ⟦<u64 as PartialEq>⟧.eq a2 b2)) }

@@ -95,7 +95,8 @@ impl DeserializeBytes for ReInit {
 
 /// Two are equal exactly where each field is.
 pub fn is_compared_by_its_fields()
-    ensures { (x y : ReInit) → ⟦<ReInit as PartialEq>⟧.eq x y
+    ensures { (x y : ReInit) →
+        ⟦<ReInit as PartialEq>⟧.eq x y
         ≡ (⟦<VLBytes as PartialEq>⟧.eq x.group_id y.group_id
         && (⟦<ProtocolVersion as PartialEq>⟧.eq x.version y.version
         && (⟦<CipherSuite as PartialEq>⟧.eq x.cipher_suite y.cipher_suite

@@ -55,6 +55,7 @@ impl DeserializeBytes for Remove {
 
 /// Two are equal exactly where each field is.
 pub fn is_compared_by_its_fields()
-    ensures { (x y : Remove) → ⟦<Remove as PartialEq>⟧.eq x y
+    ensures { (x y : Remove) →
+        ⟦<Remove as PartialEq>⟧.eq x y
         ≡ ⟦<u32 as PartialEq>⟧.eq x.removed y.removed }
 {}

@@ -100,7 +100,8 @@ impl DeserializeBytes for RequiredCapabilities {
 
 /// Two are equal exactly where each field is.
 pub fn is_compared_by_its_fields()
-    ensures { (x y : RequiredCapabilities) → ⟦<RequiredCapabilities as PartialEq>⟧.eq x y
+    ensures { (x y : RequiredCapabilities) →
+        ⟦<RequiredCapabilities as PartialEq>⟧.eq x y
         ≡ (⟦<Vec<ExtensionType> as PartialEq>⟧.eq x.extension_types y.extension_types
         && (⟦<Vec<ProposalType> as PartialEq>⟧.eq x.proposal_types y.proposal_types
         && ⟦<Vec<CredentialType> as PartialEq>⟧.eq x.credential_types y.credential_types)) }

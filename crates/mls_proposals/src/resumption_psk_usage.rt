@@ -34,7 +34,8 @@ impl ResumptionPSKUsage {
 
     /// The value that has this number.
     pub fn of_code(code: u8) -> Option<ResumptionPSKUsage>
-        ensures { MatchOption result (resumption_psk_usage_has code ≡ false) (λ v. resumption_psk_usage_code v ≡ code) }
+        ensures { MatchOption result (resumption_psk_usage_has code ≡ false)
+            (λ v. resumption_psk_usage_code v ≡ code) }
     {
         match code {
             1 => Some(ResumptionPSKUsage::Application),
@@ -96,5 +97,7 @@ impl DeserializeBytes for ResumptionPSKUsage {
 
 /// Two are equal exactly where their numbers are.
 pub fn is_compared_by_its_number()
-    ensures { (x y : ResumptionPSKUsage) → ⟦<ResumptionPSKUsage as PartialEq>⟧.eq x y ≡ nat_eq (resumption_psk_usage_code x) (resumption_psk_usage_code y) }
+    ensures { (x y : ResumptionPSKUsage) →
+        ⟦<ResumptionPSKUsage as PartialEq>⟧.eq x y
+        ≡ nat_eq (resumption_psk_usage_code x) (resumption_psk_usage_code y) }
 {}

@@ -56,6 +56,7 @@ impl DeserializeBytes for Update {
 
 /// Two are equal exactly where each field is.
 pub fn is_compared_by_its_fields()
-    ensures { (x y : Update) → ⟦<Update as PartialEq>⟧.eq x y
+    ensures { (x y : Update) →
+        ⟦<Update as PartialEq>⟧.eq x y
         ≡ ⟦<LeafNode as PartialEq>⟧.eq x.leaf_node y.leaf_node }
 {}

@@ -61,7 +61,8 @@ impl DeserializeBytes for UpdatePath {
 
 /// Two are equal exactly where each field is.
 pub fn is_compared_by_its_fields()
-    ensures { (x y : UpdatePath) → ⟦<UpdatePath as PartialEq>⟧.eq x y
+    ensures { (x y : UpdatePath) →
+        ⟦<UpdatePath as PartialEq>⟧.eq x y
         ≡ (⟦<LeafNode as PartialEq>⟧.eq x.leaf_node y.leaf_node
         && ⟦<Vec<UpdatePathNode> as PartialEq>⟧.eq x.nodes y.nodes) }
 {}

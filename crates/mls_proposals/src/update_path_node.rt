@@ -89,7 +89,9 @@ impl DeserializeBytes for UpdatePathNode {
 
 /// Two are equal exactly where each field is.
 pub fn is_compared_by_its_fields()
-    ensures { (x y : UpdatePathNode) → ⟦<UpdatePathNode as PartialEq>⟧.eq x y
+    ensures { (x y : UpdatePathNode) →
+        ⟦<UpdatePathNode as PartialEq>⟧.eq x y
         ≡ (⟦<HPKEPublicKey as PartialEq>⟧.eq x.encryption_key y.encryption_key
-        && ⟦<Vec<HPKECiphertext> as PartialEq>⟧.eq x.encrypted_path_secret y.encrypted_path_secret) }
+        && ⟦<Vec<HPKECiphertext> as PartialEq>⟧.eq x.encrypted_path_secret
+        y.encrypted_path_secret) }
 {}

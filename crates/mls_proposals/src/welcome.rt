@@ -97,7 +97,8 @@ impl DeserializeBytes for Welcome {
 
 /// Two are equal exactly where each field is.
 pub fn is_compared_by_its_fields()
-    ensures { (x y : Welcome) → ⟦<Welcome as PartialEq>⟧.eq x y
+    ensures { (x y : Welcome) →
+        ⟦<Welcome as PartialEq>⟧.eq x y
         ≡ (⟦<CipherSuite as PartialEq>⟧.eq x.cipher_suite y.cipher_suite
         && (⟦<Vec<EncryptedGroupSecrets> as PartialEq>⟧.eq x.secrets y.secrets
         && ⟦<VLBytes as PartialEq>⟧.eq x.encrypted_group_info y.encrypted_group_info)) }

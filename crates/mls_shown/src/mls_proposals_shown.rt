@@ -1,4 +1,4 @@
-//! How the messages of `mls_proposals` are shown, written by `tls_codec_messages --show`.
+//! How the messages of `mls_proposals` are shown, written by `tlsgen --show`.
 
 use crate::show::Show;
 use message_tree::Tree;

@@ -1,7 +1,7 @@
 //! The program, from its words to its status.
 
+use crate::view::run;
 use clap::{Arg, ArgAction, Command};
-use mlsview_run::view::run;
 use std::alloc::{AllocError, Global};
 use std::env;
 use std::env::Env;

@@ -37,7 +37,12 @@ alert_description_code NoApplicationProtocol = 120
 
 -- which numbers there are
 abbrev pub alert_description_has : ℕ → Bool
-alert_description_has n = (n == 0) || ((n == 10) || ((n == 20) || ((n == 22) || ((n == 40) || ((n == 42) || ((n == 43) || ((n == 44) || ((n == 45) || ((n == 46) || ((n == 47) || ((n == 48) || ((n == 49) || ((n == 50) || ((n == 51) || ((n == 70) || ((n == 71) || ((n == 80) || ((n == 86) || ((n == 90) || ((n == 109) || ((n == 110) || ((n == 112) || ((n == 113) || ((n == 115) || ((n == 116) || (n == 120))))))))))))))))))))))))))
+alert_description_has n = (n == 0) || ((n == 10) || ((n == 20) || ((n == 22)
+    || ((n == 40) || ((n == 42) || ((n == 43) || ((n == 44) || ((n == 45)
+    || ((n == 46) || ((n == 47) || ((n == 48) || ((n == 49) || ((n == 50)
+    || ((n == 51) || ((n == 70) || ((n == 71) || ((n == 80) || ((n == 86)
+    || ((n == 90) || ((n == 109) || ((n == 110) || ((n == 112) || ((n == 113)
+    || ((n == 115) || ((n == 116) || (n == 120))))))))))))))))))))))))))
 
 pub alert_description_known : (v : AlertDescription) → alert_description_has (alert_description_code v) ≡ true
 alert_description_known CloseNotify = refl

@@ -60,7 +60,8 @@ impl DeserializeBytes for Alert {
 
 /// Two are equal exactly where each field is.
 pub fn is_compared_by_its_fields()
-    ensures { (x y : Alert) → ⟦<Alert as PartialEq>⟧.eq x y
+    ensures { (x y : Alert) →
+        ⟦<Alert as PartialEq>⟧.eq x y
         ≡ (⟦<AlertLevel as PartialEq>⟧.eq x.level y.level
         && ⟦<AlertDescription as PartialEq>⟧.eq x.description y.description) }
 {}

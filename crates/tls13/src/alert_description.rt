@@ -106,7 +106,8 @@ impl AlertDescription {
 
     /// The value that has this number.
     pub fn of_code(code: u8) -> Option<AlertDescription>
-        ensures { MatchOption result (alert_description_has code ≡ false) (λ v. alert_description_code v ≡ code) }
+        ensures { MatchOption result (alert_description_has code ≡ false)
+            (λ v. alert_description_code v ≡ code) }
     {
         match code {
             0 => Some(AlertDescription::CloseNotify),
@@ -192,5 +193,7 @@ impl DeserializeBytes for AlertDescription {
 
 /// Two are equal exactly where their numbers are.
 pub fn is_compared_by_its_number()
-    ensures { (x y : AlertDescription) → ⟦<AlertDescription as PartialEq>⟧.eq x y ≡ nat_eq (alert_description_code x) (alert_description_code y) }
+    ensures { (x y : AlertDescription) →
+        ⟦<AlertDescription as PartialEq>⟧.eq x y
+        ≡ nat_eq (alert_description_code x) (alert_description_code y) }
 {}

@@ -31,7 +31,8 @@ impl AlertLevel {
 
     /// The value that has this number.
     pub fn of_code(code: u8) -> Option<AlertLevel>
-        ensures { MatchOption result (alert_level_has code ≡ false) (λ v. alert_level_code v ≡ code) }
+        ensures { MatchOption result (alert_level_has code ≡ false)
+            (λ v. alert_level_code v ≡ code) }
     {
         match code {
             1 => Some(AlertLevel::Warning),
@@ -89,5 +90,7 @@ impl DeserializeBytes for AlertLevel {
 
 /// Two are equal exactly where their numbers are.
 pub fn is_compared_by_its_number()
-    ensures { (x y : AlertLevel) → ⟦<AlertLevel as PartialEq>⟧.eq x y ≡ nat_eq (alert_level_code x) (alert_level_code y) }
+    ensures { (x y : AlertLevel) →
+        ⟦<AlertLevel as PartialEq>⟧.eq x y
+        ≡ nat_eq (alert_level_code x) (alert_level_code y) }
 {}

@@ -74,7 +74,9 @@ impl Serialize for ClientHello {
 }
 
 impl Deserialize for ClientHello {
-    ghost names = { ⟦<((ProtocolVersion, Random, TlsByteVec<Within<u8, 0, 32>>), (TlsVec<Within<u16, 2, 65534>, CipherSuite>, TlsByteVec<Within<u8, 1, 255>>, TlsVec<Within<u16, 8, 65535>, Extension>)) as Deserialize>⟧.names };
+    ghost names = { ⟦<((ProtocolVersion, Random, TlsByteVec<Within<u8, 0, 32>>),
+        (TlsVec<Within<u16, 2, 65534>, CipherSuite>, TlsByteVec<Within<u8, 1, 255>>,
+        TlsVec<Within<u16, 8, 65535>, Extension>)) as Deserialize>⟧.names };
 
     fn tls_deserialize<R: Source>(alloc: Global, src: &mut R) -> Result<ClientHello, Error> {
         let (
@@ -100,7 +102,9 @@ impl Deserialize for ClientHello {
 }
 
 impl DeserializeBytes for ClientHello {
-    ghost names = { ⟦<((ProtocolVersion, Random, TlsByteVec<Within<u8, 0, 32>>), (TlsVec<Within<u16, 2, 65534>, CipherSuite>, TlsByteVec<Within<u8, 1, 255>>, TlsVec<Within<u16, 8, 65535>, Extension>)) as DeserializeBytes>⟧.names };
+    ghost names = { ⟦<((ProtocolVersion, Random, TlsByteVec<Within<u8, 0, 32>>),
+        (TlsVec<Within<u16, 2, 65534>, CipherSuite>, TlsByteVec<Within<u8, 1, 255>>,
+        TlsVec<Within<u16, 8, 65535>, Extension>)) as DeserializeBytes>⟧.names };
 
     fn tls_deserialize_bytes(alloc: Global, whole: &[u8]) -> Result<(ClientHello, &[u8]), Error> {
         let (
@@ -133,11 +137,16 @@ impl DeserializeBytes for ClientHello {
 
 /// Two are equal exactly where each field is.
 pub fn is_compared_by_its_fields()
-    ensures { (x y : ClientHello) → ⟦<ClientHello as PartialEq>⟧.eq x y
+    ensures { (x y : ClientHello) →
+        ⟦<ClientHello as PartialEq>⟧.eq x y
         ≡ (⟦<ProtocolVersion as PartialEq>⟧.eq x.legacy_version y.legacy_version
         && (⟦<Random as PartialEq>⟧.eq x.random y.random
-        && (⟦<TlsByteVec<Within<u8, 0, 32>> as PartialEq>⟧.eq x.legacy_session_id y.legacy_session_id
-        && (⟦<TlsVec<Within<u16, 2, 65534>, CipherSuite> as PartialEq>⟧.eq x.cipher_suites y.cipher_suites
-        && (⟦<TlsByteVec<Within<u8, 1, 255>> as PartialEq>⟧.eq x.legacy_compression_methods y.legacy_compression_methods
-        && ⟦<TlsVec<Within<u16, 8, 65535>, Extension> as PartialEq>⟧.eq x.extensions y.extensions))))) }
+        && (⟦<TlsByteVec<Within<u8, 0, 32>> as PartialEq>⟧.eq x.legacy_session_id
+        y.legacy_session_id
+        && (⟦<TlsVec<Within<u16, 2, 65534>, CipherSuite> as PartialEq>⟧.eq x.cipher_suites
+        y.cipher_suites
+        && (⟦<TlsByteVec<Within<u8, 1, 255>> as PartialEq>⟧.eq x.legacy_compression_methods
+        y.legacy_compression_methods
+        && ⟦<TlsVec<Within<u16, 8, 65535>, Extension> as PartialEq>⟧.eq x.extensions
+        y.extensions))))) }
 {}

@@ -74,7 +74,8 @@ impl DeserializeBytes for Extension {
 
 /// Two are equal exactly where each field is.
 pub fn is_compared_by_its_fields()
-    ensures { (x y : Extension) → ⟦<Extension as PartialEq>⟧.eq x y
+    ensures { (x y : Extension) →
+        ⟦<Extension as PartialEq>⟧.eq x y
         ≡ (⟦<ExtensionType as PartialEq>⟧.eq x.extension_type y.extension_type
         && ⟦<TlsByteVecU16 as PartialEq>⟧.eq x.extension_data y.extension_data) }
 {}

@@ -124,5 +124,6 @@ impl DeserializeBytes for ExtensionType {
 
 /// Two are equal exactly where their numbers are.
 pub fn is_compared_by_its_number()
-    ensures { (x y : ExtensionType) → ⟦<ExtensionType as PartialEq>⟧.eq x y ≡ nat_eq x.0 y.0 }
+    ensures { (x y : ExtensionType) →
+        ⟦<ExtensionType as PartialEq>⟧.eq x y ≡ nat_eq x.0 y.0 }
 {}

@@ -9,7 +9,9 @@ use tls_codec_base::{LengthField, Size};
 use tls_codec_bytes::TlsByteVec;
 use tls_codec_secret::SecretTlsVec;
 use tls_codec_vec::TlsVec;
-use tls_codec_vl::{SecretVLByteVec, SecretVLBytes, VLByteVec, VLBytes, Zeroize};
+use tls_codec_vl::{
+    SecretVLByteVec, SecretVLBytes, SecretVarBytes, VLByteVec, VLBytes, VarBytes, Zeroize,
+};
 use tls_codec_wire::{TlsVarInt, U24};
 
 /// Numbers, arrays and texts.
@@ -35,6 +37,13 @@ pub fn bytes_are_equal_where_alike<F: LengthField>()
         ⟦<SecretVLByteVec as PartialEq>⟧.eq }
     ensures counted { EqualWhereAlike ⟦<TlsByteVec<F> as Size>⟧.plain
         ⟦<TlsByteVec<F> as PartialEq>⟧.eq }
+{}
+
+/// Byte vectors after a variable-length length, under any name.
+pub fn bytes_of_any_name_are_equal_where_alike<N>()
+    ensures bytes { EqualWhereAlike ⟦<VarBytes<N> as Size>⟧.plain ⟦<VarBytes<N> as PartialEq>⟧.eq }
+    ensures secret { EqualWhereAlike ⟦<SecretVarBytes<N> as Size>⟧.plain
+        ⟦<SecretVarBytes<N> as PartialEq>⟧.eq }
 {}
 
 /// Options and products, if their parts are.

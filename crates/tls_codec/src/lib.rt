@@ -19,18 +19,23 @@
 //!   [`expect_end`]: the end alone.
 //! - [`Lent`]: a lent value, to write messages of your own; [`Lent2`] to [`Lent9`]: two to nine of them in
 //!   a row.
+//! - Parts that an earlier field or another struct decides: the traits [`SizeFor`], [`SerializeFor`],
+//!   [`DeserializeFor`] and [`DeserializeBytesFor`] of a type in a context; [`Then`], a first part and what it decides;
+//!   [`When`], a part that is there or not, by a [`Condition`]; and [`context`] for the rest.
 //! - [`unknown_value`]: the refusal of a tag that an enum of your own doesn't have.
 //! - [`laws`]: what holds of the spellings of every type with the traits. [`refusals`]: where two errors come
 //!   from.
 #![tactic(auto)]
 
+pub mod contexts;
 pub mod equality;
 pub mod types;
 
 pub use tls_codec_base::{
-    Deserialize, DeserializeBytes, LengthField, Lent, Lent2, Lent3, Lent4, Lent5, Lent6, Lent7,
-    Lent8, Lent9, Serialize, SerializeBytes, Size, Within, deserialize_to_end, laws, lists,
-    refusals, unknown_value,
+    Always, Condition, Deserialize, DeserializeBytes, DeserializeBytesFor, DeserializeFor,
+    LengthField, Lent, Lent2, Lent3, Lent4, Lent5, Lent6, Lent7, Lent8, Lent9, LentIn, LentThen,
+    LentThen2, LentWhen, Serialize, SerializeBytes, SerializeFor, Size, SizeFor, Then, When,
+    Within, context, deserialize_to_end, laws, lists, refusals, unknown_value,
 };
 pub use tls_codec_bytes::{TlsByteVec, TlsByteVecU8, TlsByteVecU16, TlsByteVecU24, TlsByteVecU32};
 pub use tls_codec_secret::{
@@ -41,7 +46,10 @@ pub use tls_codec_slice::{
     TlsSliceU24, TlsSliceU32,
 };
 pub use tls_codec_vec::{TlsVec, TlsVecU8, TlsVecU16, TlsVecU24, TlsVecU32};
-pub use tls_codec_vl::{SecretVLByteVec, SecretVLBytes, VLByteSlice, VLByteVec, VLBytes, Zeroize};
+pub use tls_codec_vl::{
+    SecretVLByteVec, SecretVLBytes, SecretVarBytes, VLByteSlice, VLByteVec, VLBytes, VarBytes,
+    Zeroize,
+};
 pub use tls_codec_wire::{
     Bounded, Error, Fault, Fill, MOST_INTERRUPTIONS, Outside, Sink, Source, TlsVarInt, U24,
     expect_end, read_bytes_bounded, read_exactly, vlen, write_all,

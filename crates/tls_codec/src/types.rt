@@ -32,7 +32,10 @@ use tls_codec_slice::{
     TlsSliceU24, TlsSliceU32,
 };
 use tls_codec_vec::TlsVec;
-use tls_codec_vl::{SecretVLByteVec, SecretVLBytes, VLByteSlice, VLByteVec, VLBytes, Zeroize};
+use tls_codec_vl::{
+    SecretVLByteVec, SecretVLBytes, SecretVarBytes, VLByteSlice, VLByteVec, VLBytes, VarBytes,
+    Zeroize,
+};
 use tls_codec_wire::{TlsVarInt, U24};
 
 /// Numbers of one to eight bytes (RFC 8446, section 3.3).
@@ -253,6 +256,24 @@ pub fn byte_vectors_refused()
     ensures secret_vl_bytes_source { SameSourceNames ⟦<SecretVLBytes as Deserialize>⟧.names
         (OpaqueSourceRefused variable_field) }
     ensures secret_vl_byte_vec_source { SameSourceNames ⟦<SecretVLByteVec as Deserialize>⟧.names
+        (OpaqueSourceRefused variable_field) }
+{}
+
+/// The same under any name.
+pub fn byte_vectors_of_any_name<'a, N: 'a>()
+    ensures is { Means ⟦<VarBytes<N> as Size>⟧ (λ v. number_trees (bytes_of v)) bytes_format }
+    ensures lent { Means ⟦<&'a VarBytes<N> as Size>⟧ (λ v. number_trees (bytes_of v.now))
+        bytes_format }
+    ensures secret { Means ⟦<SecretVarBytes<N> as Size>⟧
+        (λ v. number_trees (secret_bytes_of v)) bytes_format }
+
+    ensures slice { SameNames ⟦<VarBytes<N> as DeserializeBytes>⟧.names
+        (OpaqueCopyRefused variable_field) }
+    ensures source { SameSourceNames ⟦<VarBytes<N> as Deserialize>⟧.names
+        (OpaqueSourceRefused variable_field) }
+    ensures secret_slice { SameNames ⟦<SecretVarBytes<N> as DeserializeBytes>⟧.names
+        (OpaqueCopyRefused variable_field) }
+    ensures secret_source { SameSourceNames ⟦<SecretVarBytes<N> as Deserialize>⟧.names
         (OpaqueSourceRefused variable_field) }
 {}
 

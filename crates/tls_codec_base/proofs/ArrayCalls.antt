@@ -4,7 +4,7 @@ use Rattle.tls_codec_wire.specs.Counts.{Counts}
 use Rattle.tls_codec_wire.specs.Digits.{AreBytes, Digits, value}
 use Rattle.tls_codec_wire.specs.declared.error.Error.{Error}
 use Rattle.tls_codec_grammar.specs.Tree.{Number, number_trees}
-use Rattle.tls_codec_grammar.specs.Grammar.{Itself, array, number}
+use Rattle.tls_codec_grammar.specs.Grammar.{RawBytes, array, number}
 use Rattle.tls_codec_grammar.specs.Shortest.{IsShortest}
 use Rattle.tls_codec_grammar.specs.Decoding.{Begins, GaveSpelling, NoneBegins, Refuses, RefusesSource}
 use Rattle.tls_codec_wire.specs.declared.device.Sink.{Ghosts}
@@ -16,7 +16,7 @@ use Rattle.tls_codec_grammar.proofs.NumberCalls.{own_digits}
 
 module _ (k : ℕ) (a : List ℕ) (width : length a ≡ k) (bytes : AreBytes a) where
   -- digits of the number that they stand for are these bytes
-  itself : (s : List ℕ) → Digits k s (value a) → Itself k s (number_trees a)
+  itself : (s : List ℕ) → Digits k s (value a) → RawBytes k s (number_trees a)
   itself s p = record {
     width = p.width;
     bytes = p.bytes;

@@ -16,5 +16,5 @@ comes_first spells (Some x) None front v took spelled = absurd took
 comes_first spells (Some x) (Some rest) front v took spelled = record { front = front; whole = took; spelled = spelled }
 
 -- what is named after a prefix
-pub named_behind : {Front : List ℕ → Type 0} {names : Causes} {start before after : Counts} {e : Error} (front : List ℕ) → NoneFell start before → Front front → (x : List ℕ) → names x before after e → SourceNamedBehind Front names (front ++ x) start after e
-named_behind {before = before} front fell is_front x named = record { front = front; rest = x; between = before; whole = refl; is_front = is_front; fell = fell; named = named }
+pub named_after : {Front : List ℕ → Type 0} {names : Causes} {start before after : Counts} {e : Error} (front : List ℕ) → NoneFell start before → Front front → (x : List ℕ) → names x before after e → SourceNamedBehind Front names (front ++ x) start after e
+named_after {before = before} front fell is_front x named = record { front = front; rest = x; between = before; whole = refl; is_front = is_front; fell = fell; named = named }

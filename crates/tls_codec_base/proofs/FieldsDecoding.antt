@@ -13,7 +13,7 @@ use Rattle.tls_codec_grammar.specs.Lawful.{IsLawful, MeetsLaws}
 use Rattle.tls_codec_grammar.specs.Format.{Format, fields_format, nothing_format}
 use Rattle.tls_codec_grammar.specs.Decoding.{Begins, GaveSpelling, LeavesSource, Named, NoneBegins, Refuses, RefusesSource}
 use Rattle.tls_codec_base.specs.Refusals.{IsSpelling, NamedBehind, SliceNames, fields_source_names}
-use Rattle.tls_codec_base.proofs.Coming.{named_behind}
+use Rattle.tls_codec_base.proofs.Coming.{named_after}
 use Rattle.tls_codec_wire.proofs.Later.{fault_later, rose_later}
 
 -- ---- no parts
@@ -134,7 +134,7 @@ module _ {S : Type 0} {source : Ghosts S} {first : Format} (others : Format) {e 
         → GaveSpelling source.given first.spells a b v → Named others others_names source b c e → Named (fields_format first others) (fields_source_names first first_names others_names) source a c e
     fields_named_others {a} {b} {c} {v} order falls l p q =
         let fell = falls a p.front b p.held in
-        record { refused = refused_later p.front order p.held (λ x r. (fields_source_refuses_others first.lean p.front l.spelled fell p.spelled x r.0, inr (named_behind p.front fell (v, p.spelled) x r.1))) q.refused }
+        record { refused = refused_later p.front order p.held (λ x r. (fields_source_refuses_others first.lean p.front l.spelled fell p.spelled x r.0, inr (named_after p.front fell (v, p.spelled) x r.1))) q.refused }
 
 -- the last part alone
 pub last_named : {S : Type 0} {source : Ghosts S} {last : Format} (names : Causes) {a b : S} {e : Error} → Named last names source a b e → Named (fields_format last nothing_format) names source a b e

@@ -1,9 +1,15 @@
 pub mod ArrayCalls
 pub mod BothPaths
+pub mod Chosen
 pub mod Coming
+pub mod Contexts
+pub mod Enclosing
 pub mod ToEnd
+pub mod ThenDecoding
+pub mod ThenEncoding
 pub mod FieldsDecoding
 pub mod FieldsEncoding
+pub mod Filling
 pub mod FullValues
 pub mod ListReading
 pub mod ListSources
@@ -18,6 +24,7 @@ pub mod OwnMessages
 pub mod PartsAppending
 pub mod TaggedDecoding
 pub mod TaggedEncoding
+pub mod Presence
 pub mod TextDecoding
 pub mod TextForms
 pub mod Trailing

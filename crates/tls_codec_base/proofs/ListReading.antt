@@ -82,14 +82,14 @@ module _ (element : Grammar) (f : Tree → ℕ) (l : IsLawful element f) where
   next_of x n left v rest p lt w t b = next p.front rest b.front t v w p.spelled b.spelled.1 (sym p.whole ∙ b.whole) (omega (arith, p.fills, b.spelled.0))
 
   -- if no element begins what is left, no list does
-  none_behind : (x : List ℕ) (n left : ℕ) (v : Tree) (rest : List ℕ) → ReadSoFar element x n left v rest → 0 < left → NoneBegins element rest → NoneBegins (sized n (content element)) x
-  none_behind x n left v rest p lt none w t b = let h = next_of x n left v rest p lt w t b in none h.tree h.behind h.begins
+  none_after : (x : List ℕ) (n left : ℕ) (v : Tree) (rest : List ℕ) → ReadSoFar element x n left v rest → 0 < left → NoneBegins element rest → NoneBegins (sized n (content element)) x
+  none_after x n left v rest p lt none w t b = let h = next_of x n left v rest p lt w t b in none h.tree h.behind h.begins
 
   -- an element is refused
   pub element_refused : (lean : Bool) (x : List ℕ) (n left : ℕ) (v : Tree) (rest : List ℕ) (e : Error) → ReadSoFar element x n left v rest → 0 < left → Refuses element lean rest e → Refuses (sized n (content element)) false x e
   element_refused lean x n left v rest e p lt r = record {
     cause = elim r.cause [
-      | inl none ↦ inl (none_behind x n left v rest p lt none)
+      | inl none ↦ inl (none_after x n left v rest p lt none)
       | inr memory ↦ inr memory
     ];
     memory = λ h. refl;

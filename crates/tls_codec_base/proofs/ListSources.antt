@@ -19,7 +19,7 @@ use Rattle.tls_codec_base.proofs.ListReading.{ReadSoFar, content_more, next_of, 
 use Rattle.tls_codec_grammar.specs.Shortest.{IsHollow}
 use Rattle.tls_codec_grammar.specs.Format.{Format, content_format, sized_format}
 use Rattle.tls_codec_base.specs.Refusals.{IsRun, elements_source_names}
-use Rattle.tls_codec_base.proofs.Coming.{named_behind}
+use Rattle.tls_codec_base.proofs.Coming.{named_after}
 use Rattle.tls_codec_wire.proofs.Later.{fault_later}
 use Rattle.tls_codec_wire.proofs.Refused.{refused_later, refused_now, refused_within}
 
@@ -99,7 +99,7 @@ module _ {S : Type 0} {source : Ghosts S} (element : Format) (names : Causes) (l
         ];
         memory = λ h. inl refl;
       },
-      inr (left, named_behind p.front (falls start p.front mid p.held) (is_run p some) x (inl q)),
+      inr (left, named_after p.front (falls start p.front mid p.held) (is_run p some) x (inl q)),
     )) r;
   }
 
@@ -111,7 +111,7 @@ module _ {S : Type 0} {source : Ghosts S} (element : Format) (names : Causes) (l
         cause = inl (none_if_empty element.spells element.announced l (p.front ++ x) n left v x hollow.0 x (read_so_far p x) some (record { front = []; whole = refl; spelled = hollow.1 }) (omega arith));
         memory = λ h. inl refl;
       },
-      inr (left, named_behind p.front (falls start p.front mid p.held) (is_run p some) x (inr (says, hollow))),
+      inr (left, named_after p.front (falls start p.front mid p.held) (is_run p some) x (inr (says, hollow))),
     )) r;
   }
 

@@ -110,8 +110,8 @@ module _ {element : Format} (l : MeetsLaws element) where
 -- ---- many elements at once
 
 -- what comes after a part of what is left
-pub form_behind : {element : Format} {all left behind : Tree} {form more : List ℕ} → FormSoFar element all left form → FormSoFar element left behind more → FormSoFar element all behind (form ++ more)
-form_behind {element} {all} {left} {behind} {form} {more} p q = record {
+pub form_after : {element : Format} {all left behind : Tree} {form more : List ℕ} → FormSoFar element all left form → FormSoFar element left behind more → FormSoFar element all behind (form ++ more)
+form_after {element} {all} {left} {behind} {form} {more} p q = record {
   onward = λ c r. subst (λ (u : List ℕ). IsShortest (content element.spells) u all) (sym (append_assoc form more c)) (p.onward (more ++ c) (q.onward c r));
   back = λ s r.
       let a = p.back s r in
@@ -132,7 +132,7 @@ module _ {element : Format} (l : MeetsLaws element) {T : Type 0} (plain : T → 
   form_next : (x : T) (xs ys : List T) (c : List ℕ) (n : NextForm element.spells (trees plain (x ∷ xs)) (plain x) (trees plain xs) [] c) → FormSoFar element (trees plain (xs ++ ys)) (trees plain ys) n.others → FormSoFar element (trees plain (x ∷ (xs ++ ys))) (trees plain ys) c
   form_next x xs ys c n p =
       let one = form_more l (form_none element (trees plain (x ∷ (xs ++ ys)))) refl n.next_shortest in
-      subst (λ (u : List ℕ). FormSoFar element (trees plain (x ∷ (xs ++ ys))) (trees plain ys) u) (sym n.whole) (form_behind one p)
+      subst (λ (u : List ℕ). FormSoFar element (trees plain (x ∷ (xs ++ ys))) (trees plain ys) u) (sym n.whole) (form_after one p)
 
   pub form_first : (xs ys : List T) (c : List ℕ) → IsShortest (content element.spells) c (trees plain xs) → FormSoFar element (trees plain (xs ++ ys)) (trees plain ys) c
   form_first [] ys c p = subst (λ (u : List ℕ). FormSoFar element (trees plain ys) (trees plain ys) u) (sym p.spelled) (form_none element (trees plain ys))
@@ -203,7 +203,7 @@ module _ {S : Type 0} {sink : Ghosts S} {element : Format} (l : MeetsLaws elemen
   pub sent_first : (xs ys : List T) {all left : Tree} {a b c : S} {n k m : ℕ} → SentSoFar element sink all left a b n → left ≡ trees plain (xs ++ ys) → Sends (content_format element) (trees plain xs) sink b c k → m ≡ capped (n + k) → SentSoFar element sink all (trees plain ys) a c m
   sent_first xs ys {all} {left} {a} {b} {c} {n} {k} {m} p e q h = record {
     form = p.form ++ q.form;
-    so_far = form_behind p.so_far (subst (λ (u : Tree). FormSoFar element u (trees plain ys) q.form) (sym e) (form_first l plain xs ys q.form q.shortest));
+    so_far = form_after p.so_far (subst (λ (u : Tree). FormSoFar element u (trees plain ys) q.form) (sym e) (form_first l plain xs ys q.form q.shortest));
     held = Appends-trans (sink.received a) (sink.received b) (sink.received c) p.form q.form p.held q.held;
     fell = fall_never p.fell q.fell;
     count = omega (arith, h, p.count, q.count, length-append p.form q.form);

@@ -32,19 +32,19 @@ module _ (payload : Grammar) where
   }
 
   -- if no payload begins after the tag, no option does
-  none_behind : (b x : List ℕ) → b ≡ 1 ∷ x → NoneBegins payload x → NoneBegins (option payload) b
-  none_behind b x e none Empty rest p =
+  none_after : (b x : List ℕ) → b ≡ 1 ∷ x → NoneBegins payload x → NoneBegins (option payload) b
+  none_after b x e none Empty rest p =
       let h : 1 ∷ x ≡ 0 ∷ rest = sym e ∙ p.whole ∙ ap (λ (u : List ℕ). u ++ rest) p.spelled in
       absurd cc
-  none_behind b x e none (Join v Empty) rest p =
+  none_after b x e none (Join v Empty) rest p =
       let h : 1 ∷ x ≡ 1 ∷ (p.spelled.0 ++ rest) = sym e ∙ p.whole ∙ ap (λ (u : List ℕ). u ++ rest) p.spelled.1 in
       none v rest (record { front = p.spelled.0; whole = cc; spelled = p.spelled.2 })
-  none_behind b x e none _ rest p = absurd p.spelled
+  none_after b x e none _ rest p = absurd p.spelled
 
   pub option_refuses : (lean : Bool) (b : List ℕ) (tag : ℕ) (x : List ℕ) (e : Error) → b ≡ tag ∷ x → tag ≡ 1 → Refuses payload lean x e → Refuses (option payload) lean b e
   option_refuses lean b tag x e h k r = record {
     cause = elim r.cause [
-      | inl none ↦ inl (none_behind b x (h ∙ ap (λ (u : ℕ). u ∷ x) k) none)
+      | inl none ↦ inl (none_after b x (h ∙ ap (λ (u : ℕ). u ∷ x) k) none)
       | inr out ↦ inr out
     ];
     memory = r.memory;
@@ -84,7 +84,7 @@ module _ (payload : Grammar) where
   pub payload_refused : (lean : Bool) {start before after : Counts} {e : Error} (buffer : List ℕ) → length buffer ≡ 1 → get_or buffer 0 0 ≡ 1 → NoneFell start before → (x : List ℕ) → RefusesSource payload lean x before after e → RefusesSource (option payload) lean (buffer ++ x) start after e
   payload_refused lean {start} {before} {after} {e} buffer width one fell x r = record {
     cause = elim r.cause [
-      | inl none ↦ inl (none_behind (buffer ++ x) x (ap (λ (u : List ℕ). u ++ x) (one_byte_buffer buffer 1 width one)) none)
+      | inl none ↦ inl (none_after (buffer ++ x) x (ap (λ (u : List ℕ). u ++ x) (one_byte_buffer buffer 1 width one)) none)
       | inr (inl fault) ↦ inr (inl (fault_later start before after fell fault))
       | inr (inr memory) ↦ inr (inr memory)
     ];

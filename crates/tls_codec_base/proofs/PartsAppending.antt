@@ -66,8 +66,8 @@ pub appended_size : {f : Format} {v : Tree} {a b : List ℕ} {n : ℕ} → Appen
 appended_size {f} {v} {a} {b} {n} p = omega (arith, p.count, ap length p.held, length-append a p.form)
 
 -- what was appended in two steps
-pub appended_behind : {f g : Format} {v w : Tree} {a b c : List ℕ} {m n : ℕ} → (p : Appended f v a b m) → (q : Appended g w b c n) → c ≡ a ++ (p.form ++ q.form)
-appended_behind {f} {g} {v} {w} {a} {b} {c} {m} {n} p q = q.held ∙ ap (λ (u : List ℕ). u ++ q.form) p.held ∙ append_assoc a p.form q.form
+pub appended_after : {f g : Format} {v w : Tree} {a b c : List ℕ} {m n : ℕ} → (p : Appended f v a b m) → (q : Appended g w b c n) → c ≡ a ++ (p.form ++ q.form)
+appended_after {f} {g} {v} {w} {a} {b} {c} {m} {n} p q = q.held ∙ ap (λ (u : List ℕ). u ++ q.form) p.held ∙ append_assoc a p.form q.form
 
 -- ---- lists
 

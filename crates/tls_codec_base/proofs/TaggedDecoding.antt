@@ -20,7 +20,7 @@ use Rattle.tls_codec_grammar.specs.Decoding.{Begins, GaveSpelling, LeavesSource,
 use Rattle.tls_codec_grammar.specs.Tagged.{MeetVariantLaws, Variants, tagged, tagged_format}
 use Rattle.tls_codec_wire.proofs.Later.{fault_later, rose_later}
 use Rattle.tls_codec_base.specs.Refusals.{SliceNames}
-use Rattle.tls_codec_base.proofs.Coming.{named_behind}
+use Rattle.tls_codec_base.proofs.Coming.{named_after}
 use Rattle.tls_codec_base.proofs.FieldsDecoding.{fields_begins, fields_given, fields_leaves_first, last_named, none_at_first, nothing_begins, nothing_given}
 use Rattle.tls_codec_base.specs.TaggedNames.{tagged_names, tagged_source_names}
 
@@ -170,7 +170,7 @@ module _ {k : ℕ} {variants : Variants} (l : MeetsLaws (number_format k)) (m : 
         let fell = falls a p.front b p.held in
         let digits : Digits k p.front n = subst (λ (u : ℕ). Digits k p.front u) same p.spelled in
         subst (λ (u : Error). Named (tagged_format k variants) (tagged_source_names k names) source a c u) (sym h)
-        (record { refused = refused_later p.front order p.held (λ x r. (parts_refused p.front tag n fell p.spelled same x r.0, inr (n, named_behind p.front fell digits x r.1))) q.refused })
+        (record { refused = refused_later p.front order p.held (λ x r. (parts_refused p.front tag n fell p.spelled same x r.0, inr (n, named_after p.front fell digits x r.1))) q.refused })
 
     -- no variant has the tag
     pub tagged_leaves_unknown : {source : Ghosts S} {a b : S} {tag n : ℕ} → GivesNothing source.given → GaveSpelling source.given (number k) a b (Number tag) → variants.has tag ≡ false → LeavesSource (tagged_format k variants) source a b (UnknownValue n)
@@ -179,4 +179,4 @@ module _ {k : ℕ} {variants : Variants} (l : MeetsLaws (number_format k)) (m : 
     pub unknown_named_source : {source : Ghosts S} {a b : S} (names : ℕ → Causes) {tag n : ℕ} → GivesNothing source.given → NoCountFalls source.given source.counts → GaveSpelling source.given (number k) a b (Number tag) → variants.has tag ≡ false
         → ((x : List ℕ) → names tag x (source.counts b) (source.counts b) (UnknownValue n)) → Named (tagged_format k variants) (tagged_source_names k names) source a b (UnknownValue n)
     unknown_named_source {source} {a} {b} names {tag} nothing falls p none named =
-        record { refused = refused_now p.front nothing p.held (λ rest. (unknown_refused p.front p.spelled none rest, inr (tag, named_behind p.front (falls a p.front b p.held) p.spelled rest (named rest)))) }
+        record { refused = refused_now p.front nothing p.held (λ rest. (unknown_refused p.front p.spelled none rest, inr (tag, named_after p.front (falls a p.front b p.held) p.spelled rest (named rest)))) }

@@ -10,7 +10,7 @@ use Rattle.tls_codec_grammar.specs.Tree.{Tree}
 use Rattle.tls_codec_grammar.specs.Format.{Format}
 use Rattle.tls_codec_grammar.specs.Decoding.{GaveSpelling, Named}
 use Rattle.tls_codec_base.specs.Refusals.{SawSpelling, to_end_names}
-use Rattle.tls_codec_base.proofs.Coming.{named_behind}
+use Rattle.tls_codec_base.proofs.Coming.{named_after}
 
 module _ {S : Type 0} (source : Ghosts S) (f : Format) {a b c : S} {v : Tree} (order : GivesInOrder source.given) (p : GaveSpelling source.given f.spells a b v) where
   pub gave_all : source.given b [] c → GaveSpelling source.given f.spells a c v
@@ -20,7 +20,7 @@ module _ {S : Type 0} (source : Ghosts S) (f : Format) {a b c : S} {v : Tree} (o
   saw_all nothing = record { bytes = p.front; seen = subst (Seen source a c) (append-nil p.front) (seen_later p.front order p.held nothing); spelled = p.spelled }
 
   pub not_to_end : (names : Causes) {e : Error} → NoCountFalls source.given source.counts → RefusedFor source EndRefused b c e → RefusedFor source (to_end_names f names) a c e
-  not_to_end names falls q = refused_later p.front order p.held (λ x r. inr (named_behind p.front (falls a p.front b p.held) (v, p.spelled) x r)) q
+  not_to_end names falls q = refused_later p.front order p.held (λ x r. inr (named_after p.front (falls a p.front b p.held) (v, p.spelled) x r)) q
 
 pub not_read_to_end : {S : Type 0} {source : Ghosts S} {f : Format} {names : Causes} {a b : S} {e : Error} → Named f names source a b e → RefusedFor source (to_end_names f names) a b e
 not_read_to_end p = refused_so (λ x q. inl q) p.refused

@@ -49,8 +49,8 @@ module _ (element : Grammar) (f : Tree → ℕ) (l : IsLawful element f) where
       ap suc (one_number m n p.rest p.second (subst (WholeElements element n) (sym rests) q.second))
 
   -- if an element is spelled by no bytes, no other one begins
-  pub none_behind_hollow : (x : List ℕ) → IsHollow element → NoElementBegins element x
-  none_behind_hollow x h row =
+  pub none_after_hollow : (x : List ℕ) → IsHollow element → NoElementBegins element x
+  none_after_hollow x h row =
       let same = l.one [] row.front x row.rest h.0 row.first.0.0 h.1 row.first.0.1 row.whole in
       omega (arith, row.first.1, ap length same.0)
 

@@ -2,7 +2,9 @@ pub mod WholeElements
 pub mod Turns
 pub mod Refusals
 pub mod Runs
+pub mod Filling
 pub mod TaggedNames
+pub mod ContextNames
 pub mod Values
 pub mod OwnMessages
 pub mod Trailing

@@ -7,9 +7,15 @@ use Rattle.tls_codec_grammar.specs.laws.FormatLaws.{bounded_field_meets, counted
 pub use Rattle.tls_codec_grammar.specs.Tree.{Tree, Number, Empty, Join, trees, number_trees, option_plain}
 pub use Rattle.tls_codec_grammar.specs.Format.{Format, number_format, varint_format, array_format, with_memory, option_format, nothing_format, fields_format, pair_format, triple_format, list_format, fixed_list_format, bytes_format, text_format}
 pub use Rattle.tls_codec_grammar.specs.Tagged.{MeetVariantLaws, Variants, no_variant, variant, tagged_format}
-pub use Rattle.tls_codec_grammar.specs.Lawful.{MeetsLaws}
+pub use Rattle.tls_codec_grammar.specs.Lawful.{MeetsLaws, MeetsLawsInside}
+pub use Rattle.tls_codec_grammar.specs.Contexts.{EachMeetsLaws, chosen_format, has_tag, is_number, present_format, then_format}
+pub use Rattle.tls_codec_grammar.specs.Inside.{ReadsInside, bytes_to_end_format, enclosed_format, zeros_format}
 pub use Rattle.tls_codec_grammar.specs.laws.FormatLaws.{array_meets, varint_meets, with_memory_meets, option_meets, nothing_meets, fields_meets, pair_meets, triple_meets, list_meets, fixed_list_meets, bytes_meets, text_meets}
 pub use Rattle.tls_codec_grammar.specs.laws.TaggedLaws.{no_variant_meets, variant_meets, tagged_meets}
+pub use Rattle.tls_codec_grammar.specs.laws.ThenLaws.{then_meets}
+pub use Rattle.tls_codec_grammar.specs.laws.ContextLaws.{chosen_meets, present_meets}
+pub use Rattle.tls_codec_grammar.specs.laws.InsideLaws.{bytes_to_end_meet, enclosed_meets, fields_meet_inside, inside_meets, zeros_meet}
+pub use Rattle.tls_codec_base.specs.ContextNames.{then_names, then_source_names}
 pub use Rattle.tls_codec_base.specs.TaggedNames.{no_variant_names, no_variant_source_names, nothing_names, nothing_source_names, tagged_names, tagged_source_names, variant_names, variant_source_names}
 pub use Rattle.tls_codec_base.specs.Values.{values, values_format, values_meet, values_names, values_source_names}
 

@@ -1,5 +1,5 @@
 //! A value and the end of its source.
-ghost use Rattle.std.specs.Prelude.{◌≡◌, IfErr, IfOk};
+ghost use Rattle.std.specs.Prelude.{IfErr, IfOk};
 ghost use Rattle.tls_codec_wire.specs.Refused.{RefusedFor};
 ghost use Rattle.tls_codec_grammar.specs.Decoding.{GaveSpelling};
 ghost use Rattle.tls_codec_base.specs.Refusals.{SawSpelling, to_end_names};

@@ -6,7 +6,7 @@
 //! - that encoders refuse only what has no form, and which values are full.
 //!
 //! The functions do nothing. Their contracts state the laws, and so are proved.
-ghost use Rattle.std.specs.Prelude.{◌≡◌, ◌↔◌, ℕ, ◌<◌, ◌≤◌, ◌^◌, List, [], ◌++◌, length, Vec};
+ghost use Rattle.std.specs.Prelude.{◌≡◌, ◌↔◌, ℕ, ◌<◌, ◌^◌, List, [], ◌++◌, length, Vec};
 ghost use Rattle.std.specs.Global.{Global};
 ghost use Rattle.std.specs.Io.KnownBytes.{Appends};
 ghost use Rattle.tls_codec_wire.specs.Device.{IsBeginning};
@@ -18,16 +18,18 @@ ghost use Rattle.tls_codec_grammar.specs.Field.{variable_field};
 ghost use Rattle.tls_codec_grammar.specs.Format.{counted_bytes_format, counted_list_format, fields_format, fixed_list_format, list_format, nothing_format, option_format, text_format};
 ghost use Rattle.tls_codec_grammar.specs.Lawful.{MeetsLaws};
 ghost use Rattle.tls_codec_grammar.specs.Tagged.{no_variant, tagged_format, variant};
-ghost use Rattle.tls_codec_grammar.specs.Grammar.{Counted, Direction, Reading, Row, content, utf8};
+ghost use Rattle.tls_codec_grammar.specs.Grammar.{Concat, Counted, Direction, Reading, content, utf8};
 ghost use Rattle.tls_codec_grammar.specs.Shortest.{IsFull, IsShortest};
 ghost use Rattle.tls_codec_grammar.specs.Spelled.{BeginsWithOne, EachHasNonemptySpelling, FitTogether, HasReadingSpelling};
 
+mod contexts;
 mod encoders;
 mod full;
 mod paths;
 mod sources;
 
 use crate::traits::Size;
+pub use contexts::contexts_are_lawful;
 pub use encoders::encoders_refuse_only_what_has_no_form;
 pub use full::{each_value_is_full, full_values_have_full_parts};
 pub use paths::both_paths_agree;
@@ -136,7 +138,7 @@ pub fn shortest_contents_are_in_a_row<T: Size>()
     ensures none { (form : List ℕ) → IsShortest (content T.format.spells) form Empty ↔ (form ≡ []) }
     ensures more { (form : List ℕ) (v vs : Tree)
         → IsShortest (content T.format.spells) form (Join v vs)
-        ↔ Row form (λ a. IsShortest T.format.spells a v)
+        ↔ Concat form (λ a. IsShortest T.format.spells a v)
         (λ b. IsShortest (content T.format.spells) b vs) }
 {}
 

@@ -14,6 +14,7 @@
 //! - [`products`]: `(T, U)`, `(T, U, V)`, `()` and `PhantomData<T>`.
 //! - [`boxes`]: `Box<T>`. [`lent`]: [`Lent`], a lent value, for messages of your own; [`lents`]:
 //!   [`Lent2`] to [`Lent9`], two to nine of them in a row.
+//! - [`context`]: parts that something read earlier decides, with four traits of their own.
 //! - [`tags`]: [`unknown_value`], the refusal of a tag that an enum of your own doesn't have.
 //! - [`lists`]: the engines that every list goes through. [`vectors`]: `Vec<T>` and `&[T]`.
 //! - [`ends`]: [`deserialize_to_end`], a value and the end of its source.
@@ -24,6 +25,7 @@
 
 pub mod arrays;
 pub mod boxes;
+pub mod context;
 pub mod counted;
 pub mod ends;
 pub mod laws;
@@ -40,6 +42,10 @@ pub mod traits;
 pub mod varint;
 pub mod vectors;
 
+pub use context::{
+    Always, Condition, DeserializeBytesFor, DeserializeFor, LentIn, LentThen, LentThen2, LentWhen,
+    SerializeFor, SizeFor, Then, When,
+};
 pub use ends::deserialize_to_end;
 pub use lent::Lent;
 pub use lents::{Lent2, Lent3, Lent4, Lent5, Lent6, Lent7, Lent8, Lent9};

@@ -4,13 +4,16 @@
 //! traits' contracts.
 ghost use Rattle.std.specs.Prelude.{◌≡◌, ◌<◌, ◌^◌};
 
+pub(crate) mod engines;
 mod reading;
 mod whole;
 mod writing;
 
-pub use reading::{from_reader, from_slice};
+pub use reading::{from_reader, from_reader_for, from_slice, from_slice_for};
 pub use whole::{turns_are_compared_by_their_counts, whole_elements_are_one_number};
-pub use writing::{append, append_bytes, content_len, write};
+pub use writing::{
+    append, append_bytes, append_for, content_len, content_len_for, write, write_for,
+};
 
 /// How often a list engine tried to read an element.
 ///

@@ -3,7 +3,7 @@
 //! together pass their length field.
 //!
 //! The functions do nothing. Their contracts state the laws, and so are proved.
-ghost use Rattle.std.specs.Prelude.{◌≡◌, ◌≤◌, ◌⊎◌, ℕ, List, length, IsErrAnd, Result, Vec};
+ghost use Rattle.std.specs.Prelude.{◌≡◌, ◌⊎◌, ℕ, List, length, IsErrAnd, Result, Vec};
 ghost use Rattle.std.specs.Global.{Global};
 ghost use Rattle.tls_codec_wire.specs.declared.error.Error.{Error};
 ghost use Rattle.tls_codec_wire.specs.declared.error.Error.TheVariants.{InvalidVectorLength, OutOfMemory};

@@ -1,21 +1,21 @@
 //! The figures of a case.
 ghost use Rattle.std.specs.Prelude.{◌≡◌, IfOk};
 ghost use Rattle.tls_codec_bench.specs.Figures.{IsOfCopy};
-ghost use Rattle.tls_codec_timing.specs.declared.cases.Case.TheVariants.{Copy1048576, Copy4096, Copy64};
+ghost use Rattle.tls_codec_bench.specs.declared.cases.Case.TheVariants.{Copy1048576, Copy4096, Copy64};
 
+use crate::calls::{
+    copy, copy_into, decode_outside, decode_reader, decode_slice, encode, encode_into,
+};
+use crate::cases::Case;
+use crate::fault::BenchFault;
+use crate::noise::Noise;
+use crate::timing::time;
+use crate::values::FromNoise;
 use std::alloc::Global;
 use std::cell::RefCell;
 use std::rt::Clock;
 use tls_codec_base::{Deserialize, DeserializeBytes, Serialize};
 use tls_codec_bytes::TlsByteVecU32;
-use tls_codec_timing::calls::{
-    copy, copy_into, decode_outside, decode_reader, decode_slice, encode, encode_into,
-};
-use tls_codec_timing::cases::Case;
-use tls_codec_timing::fault::BenchFault;
-use tls_codec_timing::noise::Noise;
-use tls_codec_timing::timing::time;
-use tls_codec_timing::values::FromNoise;
 use tls_codec_vec::TlsVecU32;
 use tls_codec_vectors::Log;
 use tls_codec_vl::VLBytes;

@@ -7,17 +7,31 @@
 //! slice. In the rows that end with `outside`, the last one is over a `Cursor`, which has no bytes at hand. A
 //! figure is the median of 15 batches of at least 20 milliseconds. With any other argument it ends with status 1.
 //!
-//! [`figures`] has the figures of a case. What times them is in `tls_codec_timing`.
+//! - [`cases`]: the cases and their names. [`values`]: their values, over the numbers of a [`noise`].
+//! - [`calls`]: the calls that are timed. [`figures`]: the figures of a case.
+//! - [`timing`]: how long a call takes. [`median`]: the middle one of the batches. [`ticks`]: a clock that shows
+//!   what it is told.
+//! - [`fault`]: [`BenchFault`](fault::BenchFault), why nothing is timed.
 #![tactic(auto)]
 
+mod calls;
+mod cases;
+mod fault;
 mod figures;
+mod median;
+mod noise;
+#[cfg(test)]
+mod tests;
+mod ticks;
+mod timing;
+mod values;
 
+use cases::CASES;
+use fault::BenchFault;
 use figures::measure;
 use std::env;
 use std::rt::Clock;
-use tls_codec_timing::cases::CASES;
-use tls_codec_timing::fault::BenchFault;
-use tls_codec_timing::ticks::Ticks;
+use ticks::Ticks;
 
 fn main(rt: HostRuntime) -> Result<(), BenchFault> {
     let words: Vec<String> = env::args(&rt)?.collect(rt.alloc())?;

@@ -31,8 +31,8 @@ slice_form P b k width le p =
     subst P (sym (ap (λ (n : ℕ). take n (drop k b)) (sym size) ∙ take-length (drop k b))) p
 
 -- the first bytes after a place
-part_behind : (at w : ℕ) (a : List ℕ) → at + w ≤ length a → (take (at + w) a ≡ take at a ++ take w (drop at a)) × (length (take w (drop at a)) ≡ w)
-part_behind at w a le =
+part_after : (at w : ℕ) (a : List ℕ) → at + w ≤ length a → (take (at + w) a ≡ take at a ++ take w (drop at a)) × (length (take w (drop at a)) ≡ w)
+part_after at w a le =
     let parts = length-append (take at a) (drop at a) in
     let rest : w ≤ length (drop at a) = omega (arith, le, parts, ap length (take-append-drop at a), length-take-le at a (omega (arith, le))) in
     (take-add at w a, length-take-le w (drop at a) rest)
@@ -40,7 +40,7 @@ part_behind at w a le =
 -- more bytes come after it
 pub gap_widened : {a b : List ℕ} {at gap more width : ℕ} → FitGap a b (at + gap) 0 more → at + gap ≤ length a → width ≡ gap + more → FitGap a b at gap width
 gap_widened {a} {b} {at} {gap} {more} {width} p le e =
-    let part = part_behind at gap a le in
+    let part = part_after at gap a le in
     let zero_more : at + gap + 0 ≡ at + gap = omega arith in
     record {
       between = take gap (drop at a) ++ p.between;
@@ -52,7 +52,7 @@ gap_widened {a} {b} {at} {gap} {more} {width} p le e =
 -- its last bytes were taken out
 pub gap_narrowed : {a b : List ℕ} {at gap width : ℕ} (less : ℕ) → b ≡ take (at + width) a ++ drop (at + width + less) a → at + gap ≤ length a → gap ≡ width + less → FitGap a b at gap width
 gap_narrowed {a} {b} {at} {gap} {width} less held le e =
-    let part = part_behind at width a (omega (arith, le, e)) in
+    let part = part_after at width a (omega (arith, le, e)) in
     let place : at + width + less ≡ at + gap = omega (arith, e) in
     record {
       between = take width (drop at a);

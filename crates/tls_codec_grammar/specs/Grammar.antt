@@ -29,13 +29,13 @@ varint d b Empty = ⊥
 varint d b (Join v vs) = ⊥
 
 -- k bytes that are spelled by themselves (RFC 8446, section 3.4)
-pub record Itself (k : ℕ) (b : List ℕ) (v : Tree) : Type 0 where
+pub record RawBytes (k : ℕ) (b : List ℕ) (v : Tree) : Type 0 where
   pub width : length b ≡ k
   pub bytes : AreBytes b
   pub same : v ≡ number_trees b
 
 abbrev pub array : ℕ → Grammar
-array k d b v = Itself k b v
+array k d b v = RawBytes k b v
 
 -- ---- options (the crate's rule; RFC 9420, section 2.1.1)
 
@@ -50,7 +50,7 @@ option payload d b (Join v (Join w ws)) = ⊥
 -- ---- products (RFC 8446, section 3.6)
 
 -- two spellings in a row
-pub record Row (b : List ℕ) (First Second : List ℕ → Type 0) : Type 0 where
+pub record Concat (b : List ℕ) (First Second : List ℕ → Type 0) : Type 0 where
   pub front : List ℕ
   pub rest : List ℕ
   pub whole : b ≡ front ++ rest
@@ -67,7 +67,7 @@ nothing d b (Join v vs) = ⊥
 abbrev pub fields : Grammar → Grammar → Grammar
 fields first others d b (Number n) = ⊥
 fields first others d b Empty = ⊥
-fields first others d b (Join v vs) = Row b (λ s. first d s v) (λ s. others d s vs)
+fields first others d b (Join v vs) = Concat b (λ s. first d s v) (λ s. others d s vs)
 
 abbrev pub pair : Grammar → Grammar → Grammar
 pair first second = fields first (fields second nothing)
@@ -86,7 +86,7 @@ Admits Writing s = Unit {0}
 abbrev pub content : Grammar → Grammar
 content element d c (Number n) = ⊥
 content element d c Empty = c ≡ []
-content element d c (Join v vs) = Row c (λ s. element d s v × Admits d s) (λ s. content element d s vs)
+content element d c (Join v vs) = Concat c (λ s. element d s v × Admits d s) (λ s. content element d s vs)
 
 -- a length field, and after it what it counts, in bytes
 pub record Counted (field : List ℕ → ℕ → Type 0) (b : List ℕ) (Inside : List ℕ → Type 0) : Type 0 where

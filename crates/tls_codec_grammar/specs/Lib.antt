@@ -12,4 +12,6 @@ pub mod Decoding
 pub mod Encoding
 pub mod Spelled
 pub mod Opaque
+pub mod Contexts
+pub mod Inside
 pub mod laws

@@ -1,7 +1,7 @@
 -- Which lists have a spelling, and what begins with one spelling alone.
 use Rattle.std.specs.Prelude.{◌≡◌, ◌<◌, ℕ, List, [], length}
 use Rattle.tls_codec_grammar.specs.Tree.{Tree, Number, Empty, Join}
-use Rattle.tls_codec_grammar.specs.Grammar.{Grammar, Reading, Row}
+use Rattle.tls_codec_grammar.specs.Grammar.{Grammar, Reading, Concat}
 use Rattle.tls_codec_grammar.specs.Shortest.{IsShortest}
 use Rattle.tls_codec_grammar.specs.Decoding.{Begins}
 
@@ -23,7 +23,7 @@ EachHasNonemptySpelling element (Join v vs) = HasNonemptySpelling element v × E
 abbrev pub ShortestInARow : Grammar → List ℕ → Tree → Type 0
 ShortestInARow element c (Number n) = ⊥
 ShortestInARow element c Empty = c ≡ []
-ShortestInARow element c (Join v vs) = Row c (λ s. IsShortest element s v) (λ s. ShortestInARow element s vs)
+ShortestInARow element c (Join v vs) = Concat c (λ s. IsShortest element s v) (λ s. ShortestInARow element s vs)
 
 -- together they have as many bytes as a length field holds
 pub record FitTogether (element : Grammar) (holds : ℕ → Type 0) (v : Tree) : Type 0 where

@@ -8,3 +8,6 @@ pub mod VarintLaws
 pub mod ListLaws
 pub mod FormatLaws
 pub mod TaggedLaws
+pub mod ThenLaws
+pub mod ContextLaws
+pub mod InsideLaws

@@ -8,9 +8,10 @@
 //! - [`length_field`]: [`LengthField`], what comes before a content and says how many bytes it has;
 //!   [`Within`], such a length with bounds.
 //! - [`opaque`]: bytes after their length, as in byte vectors and strings.
-//! - [`examples`]: the definitions at work. It does nothing when it runs.
+//! - [`examples`] and [`context_examples`]: the definitions at work. They do nothing when they run.
 #![tactic(auto)]
 
+pub mod context_examples;
 pub mod digits;
 pub mod examples;
 pub mod length_field;

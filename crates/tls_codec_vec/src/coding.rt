@@ -10,6 +10,8 @@ use std::alloc::Global;
 use tls_codec_base::{Deserialize, DeserializeBytes, LengthField, Serialize, Size, counted};
 use tls_codec_wire::{Error, Sink, Source};
 
+mod in_context;
+
 impl<F: LengthField, T: Size> Size for TlsVec<F, T> {
     ghost plain = { λ v. trees T.plain (elements_of v) };
 

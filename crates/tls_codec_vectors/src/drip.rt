@@ -63,8 +63,8 @@ impl Source for Drip<'_> {
     }
 
     fn append_at_hand(&mut self, _out: &mut Vec<u8>, _n: usize) -> bool
-        ensures appended { AppendedAtHand (λ a g b. bytes_left a ≡ g ++ bytes_left b) self.old self.new
-            _n result _out.old _out.new }
+        ensures appended { AppendedAtHand (λ a g b. bytes_left a ≡ g ++ bytes_left b) self.old
+            self.new _n result _out.old _out.new }
         ensures calm { no_counts ≡ no_counts }
         ensures never { result ≡ false }
     {
@@ -73,8 +73,8 @@ impl Source for Drip<'_> {
 
     fn pull_onto(&mut self, out: &mut Vec<u8>, most: usize) -> Result<usize, Fault>
         ensures bound { IfOk result (λ n. n ≤ most) }
-        ensures gave { PulledOnto (λ a g b. bytes_left a ≡ g ++ bytes_left b) self.old self.new result
-            out.old.items out.new.items }
+        ensures gave { PulledOnto (λ a g b. bytes_left a ≡ g ++ bytes_left b) self.old self.new
+            result out.old.items out.new.items }
         ensures end { result ≡ Ok 0
             → 0 < most
             → vec_len out.old < vec_capacity out.old

@@ -7,51 +7,40 @@ ghost use Rattle.std.specs.Global.{Global};
 ghost use Rattle.std.specs.Ordering.{nat_cmp};
 ghost use Rattle.std.specs.Cmp.Lexicographic.{slice_cmp};
 ghost use Rattle.std.specs.Hash as fed;
-ghost use Rattle.tls_codec_vl.specs.Contents.{bytes_of, secret_bytes_of, secret_vec_bytes_of, slice_bytes_of, vec_bytes_of};
+ghost use Rattle.tls_codec_vl.specs.Contents.{SecretVLByteVec, SecretVLBytes, VLByteVec, VLBytes, bytes_of, secret_bytes_of, secret_vec_bytes_of, slice_bytes_of, vec_bytes_of};
 ghost use Rattle.tls_codec_vl.specs.Shown.{debug_text};
-ghost use Rattle.tls_codec_vl.specs.declared.secret_vl_byte_vec.SecretVLByteVec.{SecretVLByteVec};
-ghost use Rattle.tls_codec_vl.specs.declared.secret_vl_bytes.SecretVLBytes.{SecretVLBytes};
+ghost use Rattle.tls_codec_vl.specs.declared.secret_var_bytes.SecretVarBytes.{SecretVarBytes};
+ghost use Rattle.tls_codec_vl.specs.declared.var_bytes.VarBytes.{VarBytes};
 ghost use Rattle.tls_codec_vl.specs.declared.vl_byte_slice.VLByteSlice.{VLByteSlice};
-ghost use Rattle.tls_codec_vl.specs.declared.vl_byte_vec.VLByteVec.{VLByteVec};
-ghost use Rattle.tls_codec_vl.specs.declared.vl_bytes.VLBytes.{VLBytes};
 
-use crate::{SecretVLByteVec, SecretVLBytes, VLByteSlice, VLByteVec, VLBytes, Zeroize};
+use crate::{
+    SecretVLByteVec, SecretVLBytes, SecretVarBytes, VLByteSlice, VLByteVec, VLBytes, VarBytes,
+    Zeroize,
+};
 use std::fmt::Debug;
 use std::hash::Hash;
 
 /// A conversion from or to a `Vec<u8>` keeps the bytes. A clone of bytes has them, and a copy of what is lent
 /// equals it.
-pub fn conversions_and_copies_keep_the_bytes<'a>()
-    ensures to_vl_bytes { (content : Vec ℕ Global) (v : VLBytes)
-        → ⟦<VLBytes as From<Vec<u8>>>⟧.from_gives content v
+pub fn conversions_and_copies_keep_the_bytes<'a, N>()
+    ensures to_bytes { (content : Vec ℕ Global) (v : VarBytes N)
+        → ⟦<VarBytes<N> as From<Vec<u8>>>⟧.from_gives content v
         ↔ (bytes_of v ≡ content.items) }
-    ensures from_vl_bytes { (v : VLBytes) (content : Vec ℕ Global)
-        → ⟦<Vec<u8> as From<VLBytes>>⟧.from_gives v content
+    ensures from_bytes { (v : VarBytes N) (content : Vec ℕ Global)
+        → ⟦<Vec<u8> as From<VarBytes<N>>>⟧.from_gives v content
         ↔ (content.items ≡ bytes_of v) }
-    ensures to_vl_byte_vec { (content : Vec ℕ Global) (v : VLByteVec)
-        → ⟦<VLByteVec as From<Vec<u8>>>⟧.from_gives content v
-        ↔ (vec_bytes_of v ≡ content.items) }
-    ensures from_vl_byte_vec { (v : VLByteVec) (content : Vec ℕ Global)
-        → ⟦<Vec<u8> as From<VLByteVec>>⟧.from_gives v content
-        ↔ (content.items ≡ vec_bytes_of v) }
-    ensures to_secret_vl_bytes { (content : Vec ℕ Global) (v : SecretVLBytes)
-        → ⟦<SecretVLBytes as From<Vec<u8>>>⟧.from_gives content v
+    ensures to_secret { (content : Vec ℕ Global) (v : SecretVarBytes N)
+        → ⟦<SecretVarBytes<N> as From<Vec<u8>>>⟧.from_gives content v
         ↔ (secret_bytes_of v ≡ content.items) }
-    ensures to_secret_vl_byte_vec { (content : Vec ℕ Global) (v : SecretVLByteVec)
-        → ⟦<SecretVLByteVec as From<Vec<u8>>>⟧.from_gives content v
-        ↔ (secret_vec_bytes_of v ≡ content.items) }
-    ensures vl_bytes { (v copy : VLBytes)
-        → ⟦<VLBytes as Clone>⟧.is_clone v copy
+    ensures bytes { (v copy : VarBytes N)
+        → ⟦<VarBytes<N> as Clone>⟧.is_clone v copy
         ↔ (bytes_of copy ≡ bytes_of v) }
-    ensures vl_byte_vec { (v copy : VLByteVec)
-        → ⟦<VLByteVec as Clone>⟧.is_clone v copy
-        ↔ (vec_bytes_of copy ≡ vec_bytes_of v) }
     ensures vl_byte_slice { (v copy : VLByteSlice)
         → ⟦<VLByteSlice<'a> as Clone>⟧.is_clone v copy
         ↔ (copy ≡ v) }
 {}
 
-/// A number is cleared if it is 0, an array if it holds zeros, and a vector if it is empty.
+/// A number is cleared if it is 0, an array if it holds zeros, and a list if it is empty.
 pub fn cleared_values_hold_nothing<const LEN: usize, T: Zeroize>()
     ensures one_byte { (n : ℕ) → ⟦<u8 as Zeroize>⟧.cleared n ↔ (n ≡ 0) }
     ensures two_bytes { (n : ℕ) → ⟦<u16 as Zeroize>⟧.cleared n ↔ (n ≡ 0) }
@@ -61,16 +50,14 @@ pub fn cleared_values_hold_nothing<const LEN: usize, T: Zeroize>()
         → ⟦<[u8; LEN] as Zeroize>⟧.cleared bytes
         ↔ (bytes ≡ replicate LEN 0) }
     ensures list { (list : Vec T Global) → ⟦<Vec<T> as Zeroize>⟧.cleared list ↔ (list.items ≡ []) }
-    ensures vl_bytes { (v : VLBytes) → ⟦<VLBytes as Zeroize>⟧.cleared v ↔ (bytes_of v ≡ []) }
-    ensures vl_byte_vec { (v : VLByteVec)
-        → ⟦<VLByteVec as Zeroize>⟧.cleared v
-        ↔ (vec_bytes_of v ≡ []) }
-    ensures secret_vl_bytes { (v : SecretVLBytes)
-        → ⟦<SecretVLBytes as Zeroize>⟧.cleared v
+{}
+
+/// A byte vector is cleared if it is empty.
+pub fn cleared_byte_vectors_are_empty<N>()
+    ensures bytes { (v : VarBytes N) → ⟦<VarBytes<N> as Zeroize>⟧.cleared v ↔ (bytes_of v ≡ []) }
+    ensures secret { (v : SecretVarBytes N)
+        → ⟦<SecretVarBytes<N> as Zeroize>⟧.cleared v
         ↔ (secret_bytes_of v ≡ []) }
-    ensures secret_vl_byte_vec { (v : SecretVLByteVec)
-        → ⟦<SecretVLByteVec as Zeroize>⟧.cleared v
-        ↔ (secret_vec_bytes_of v ≡ []) }
 {}
 
 /// `{:?}` prints the type's name and the bytes in braces, those of secrets too.
@@ -91,61 +78,32 @@ pub fn bytes_are_printed<'a>()
         ≡ Some (debug_text (codes "SecretVLByteVec") (secret_vec_bytes_of v)) }
 {}
 
-/// Two `VLBytes` are equal if their bytes are. They are ordered at the first byte in which they
+/// Byte vectors are equal if their bytes are. They are ordered at the first byte in which they
 /// differ, the shorter first if there is none. They are hashed as the slice of their bytes is.
-pub fn vl_bytes_are_compared_by_their_bytes()
-    ensures equal { (x y : VLBytes)
-        → IsTrue (⟦<VLBytes as PartialEq>⟧.eq x y)
+pub fn byte_vectors_are_compared_by_their_bytes<N>()
+    ensures equal { (x y : VarBytes N)
+        → IsTrue (⟦<VarBytes<N> as PartialEq>⟧.eq x y)
         ↔ (bytes_of x ≡ bytes_of y) }
-    ensures ordered { (x y : VLBytes)
-        → ⟦<VLBytes as Ord>⟧.cmp x y ≡ slice_cmp nat_cmp (bytes_of x) (bytes_of y) }
-    ensures partly { (x y : VLBytes)
-        → ⟦<VLBytes as PartialOrd>⟧.partial_cmp x y
+    ensures ordered { (x y : VarBytes N)
+        → ⟦<VarBytes<N> as Ord>⟧.cmp x y ≡ slice_cmp nat_cmp (bytes_of x) (bytes_of y) }
+    ensures partly { (x y : VarBytes N)
+        → ⟦<VarBytes<N> as PartialOrd>⟧.partial_cmp x y
         ≡ Some (slice_cmp nat_cmp (bytes_of x) (bytes_of y)) }
-    ensures hashed { (x : VLBytes)
-        → ⟦<VLBytes as Hash>⟧.hash_input x ≡ fed.slice fed.u8 (bytes_of x) }
+    ensures hashed { (x : VarBytes N)
+        → ⟦<VarBytes<N> as Hash>⟧.hash_input x ≡ fed.slice fed.u8 (bytes_of x) }
 {}
 
-/// The same of `VLByteVec`.
-pub fn vl_byte_vecs_are_compared_by_their_bytes()
-    ensures equal { (x y : VLByteVec)
-        → IsTrue (⟦<VLByteVec as PartialEq>⟧.eq x y)
-        ↔ (vec_bytes_of x ≡ vec_bytes_of y) }
-    ensures ordered { (x y : VLByteVec)
-        → ⟦<VLByteVec as Ord>⟧.cmp x y ≡ slice_cmp nat_cmp (vec_bytes_of x) (vec_bytes_of y) }
-    ensures partly { (x y : VLByteVec)
-        → ⟦<VLByteVec as PartialOrd>⟧.partial_cmp x y
-        ≡ Some (slice_cmp nat_cmp (vec_bytes_of x) (vec_bytes_of y)) }
-    ensures hashed { (x : VLByteVec)
-        → ⟦<VLByteVec as Hash>⟧.hash_input x ≡ fed.slice fed.u8 (vec_bytes_of x) }
-{}
-
-/// The same of `SecretVLBytes`.
-pub fn secret_vl_bytes_are_compared_by_their_bytes()
-    ensures equal { (x y : SecretVLBytes)
-        → IsTrue (⟦<SecretVLBytes as PartialEq>⟧.eq x y)
+/// The same of secret ones.
+pub fn secret_byte_vectors_are_compared_by_their_bytes<N>()
+    ensures equal { (x y : SecretVarBytes N)
+        → IsTrue (⟦<SecretVarBytes<N> as PartialEq>⟧.eq x y)
         ↔ (secret_bytes_of x ≡ secret_bytes_of y) }
-    ensures ordered { (x y : SecretVLBytes)
-        → ⟦<SecretVLBytes as Ord>⟧.cmp x y
+    ensures ordered { (x y : SecretVarBytes N)
+        → ⟦<SecretVarBytes<N> as Ord>⟧.cmp x y
         ≡ slice_cmp nat_cmp (secret_bytes_of x) (secret_bytes_of y) }
-    ensures partly { (x y : SecretVLBytes)
-        → ⟦<SecretVLBytes as PartialOrd>⟧.partial_cmp x y
+    ensures partly { (x y : SecretVarBytes N)
+        → ⟦<SecretVarBytes<N> as PartialOrd>⟧.partial_cmp x y
         ≡ Some (slice_cmp nat_cmp (secret_bytes_of x) (secret_bytes_of y)) }
-    ensures hashed { (x : SecretVLBytes)
-        → ⟦<SecretVLBytes as Hash>⟧.hash_input x ≡ fed.slice fed.u8 (secret_bytes_of x) }
-{}
-
-/// The same of `SecretVLByteVec`.
-pub fn secret_vl_byte_vecs_are_compared_by_their_bytes()
-    ensures equal { (x y : SecretVLByteVec)
-        → IsTrue (⟦<SecretVLByteVec as PartialEq>⟧.eq x y)
-        ↔ (secret_vec_bytes_of x ≡ secret_vec_bytes_of y) }
-    ensures ordered { (x y : SecretVLByteVec)
-        → ⟦<SecretVLByteVec as Ord>⟧.cmp x y
-        ≡ slice_cmp nat_cmp (secret_vec_bytes_of x) (secret_vec_bytes_of y) }
-    ensures partly { (x y : SecretVLByteVec)
-        → ⟦<SecretVLByteVec as PartialOrd>⟧.partial_cmp x y
-        ≡ Some (slice_cmp nat_cmp (secret_vec_bytes_of x) (secret_vec_bytes_of y)) }
-    ensures hashed { (x : SecretVLByteVec)
-        → ⟦<SecretVLByteVec as Hash>⟧.hash_input x ≡ fed.slice fed.u8 (secret_vec_bytes_of x) }
+    ensures hashed { (x : SecretVarBytes N)
+        → ⟦<SecretVarBytes<N> as Hash>⟧.hash_input x ≡ fed.slice fed.u8 (secret_bytes_of x) }
 {}

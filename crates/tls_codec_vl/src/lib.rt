@@ -5,26 +5,24 @@
 //! moved in bulk if the source has them in memory. A declared length allocates nothing: memory is requested
 //! as the bytes come.
 //!
-//! - [`vl_bytes`]: [`VLBytes`]. [`vl_byte_vec`]: [`VLByteVec`], which is the same under another name.
+//! - [`var_bytes`]: [`VarBytes`], under two names: [`VLBytes`] and [`VLByteVec`]. [`names`]: what tells them
+//!   apart.
 //! - [`vl_byte_slice`]: [`VLByteSlice`], borrowed bytes, which are written and not read.
 //! - [`zeroize`]: [`Zeroize`], values that empty themselves.
-//! - [`secret_vl_bytes`]: [`SecretVLBytes`], a [`VLBytes`] that is cleared when it is dropped.
-//!   [`secret_vl_byte_vec`]: [`SecretVLByteVec`], which is the same under another name.
+//! - [`secret_var_bytes`]: [`SecretVarBytes`], a [`VarBytes`] that is cleared when it is dropped, under two
+//!   names: [`SecretVLBytes`] and [`SecretVLByteVec`].
 //! - [`laws`]: what the types stand for, how they are spelled, compared and cleared. It does nothing when it runs.
 #![tactic(auto)]
 
 pub mod laws;
-pub mod secret_vl_byte_vec;
-pub mod secret_vl_bytes;
+pub mod names;
+pub mod secret_var_bytes;
 mod show;
+pub mod var_bytes;
 pub mod vl_byte_slice;
-pub mod vl_byte_vec;
-pub mod vl_bytes;
 pub mod zeroize;
 
-pub use secret_vl_byte_vec::SecretVLByteVec;
-pub use secret_vl_bytes::SecretVLBytes;
+pub use secret_var_bytes::{SecretVLByteVec, SecretVLBytes, SecretVarBytes};
+pub use var_bytes::{VLByteVec, VLBytes, VarBytes};
 pub use vl_byte_slice::VLByteSlice;
-pub use vl_byte_vec::VLByteVec;
-pub use vl_bytes::VLBytes;
 pub use zeroize::Zeroize;

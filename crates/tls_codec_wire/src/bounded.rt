@@ -1,5 +1,5 @@
 //! The first bytes of another source, as a source.
-ghost use Rattle.std.specs.Prelude.{◌≡◌, ℕ, ◌<◌, ◌≤◌, List, length, IfOk, vec_capacity, vec_len};
+ghost use Rattle.std.specs.Prelude.{◌≡◌, ◌<◌, ◌≤◌, length, IfOk, vec_capacity, vec_len};
 ghost use Rattle.std.specs.Io.KnownBytes.{IsAtEnd};
 ghost use Rattle.tls_codec_wire.specs.Bounded.{first_bytes, GaveWithin, gives_from_front_within, gives_in_order_within, gives_nothing_within, inner_of, limit_of};
 ghost use Rattle.tls_codec_wire.specs.Device.{bytes_moved, PullIsCounted, PulledOnto};

@@ -1,5 +1,5 @@
 //! Where bytes come from and go to.
-ghost use Rattle.std.specs.Prelude.{◌≡◌, ℕ, ◌+◌, ◌<◌, ◌≤◌, List, length, Option, IfOk, vec_capacity, vec_len};
+ghost use Rattle.std.specs.Prelude.{◌≡◌, ℕ, ◌<◌, ◌≤◌, List, length, Option, IfOk, vec_capacity, vec_len};
 ghost use Rattle.std.specs.Io.KnownBytes.{Appends, IsAtEnd};
 ghost use Rattle.tls_codec_wire.specs.Counts.{Counts};
 ghost use Rattle.tls_codec_wire.specs.Device.{AppendedAtHand, bytes_moved, GiveIsCounted, GivesFromFront, GivesInOrder, GivesNothing, IsAtHand, NoCountFalls, PullIsCounted, PulledOnto};

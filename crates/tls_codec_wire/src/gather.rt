@@ -111,7 +111,7 @@ pub fn gather<R: Source>(src: &mut R, bytes: &mut Vec<u8>, len: usize) -> Result
     let mut came = 0;
     let mut row = 0;
     while came < len {
-        let step = (len - came).min(room_for(came, src.at_hand()));
+        let step = (len - came).min(next_chunk_len(came, src.at_hand()));
         bytes.reserve_exact(step)?;
         match src.pull_onto(bytes, step) {
             Ok(0) => return Err(Error::EndOfStream),
@@ -127,7 +127,7 @@ pub fn gather<R: Source>(src: &mut R, bytes: &mut Vec<u8>, len: usize) -> Result
 
 // How much room is requested if `came` bytes came and others are at hand: little before any came, and
 // then for what is at hand, or as much as came.
-fn room_for(came: usize, at_hand: &[u8]) -> usize
+fn next_chunk_len(came: usize, at_hand: &[u8]) -> usize
     ensures some { 0 < result }
     ensures first { came ≡ 0 → result ≤ 4096 }
     ensures most { result ≤ max 4096 (max came (length at_hand.now)) }

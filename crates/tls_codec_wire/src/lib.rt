@@ -15,7 +15,7 @@
 //! - [`uint24`]: [`U24`], a number of 24 bits.
 //! - [`varint`]: [`TlsVarInt`], the number of a variable-length integer (varint).
 //! - [`quic`]: variable-length integers, read and written. [`vlen`]: lengths as such integers. Both
-//!   use `layout`, numbers below a limit in the least width.
+//!   use `varint_bits`, numbers below a limit in the least width.
 //! - [`laws`]: what devices tell, and what errors and numbers stand for.
 #![tactic(auto)]
 
@@ -24,13 +24,13 @@ pub mod device;
 pub mod error;
 pub mod gather;
 pub mod laws;
-mod layout;
 pub mod memory;
 pub mod outside;
 pub mod quic;
 pub mod transfer;
 pub mod uint24;
 pub mod varint;
+mod varint_bits;
 pub mod vlen;
 
 pub use bounded::Bounded;

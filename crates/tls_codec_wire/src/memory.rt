@@ -63,9 +63,9 @@ impl Source for &[u8] {
     #[inline(always)]
     fn pull_onto(&mut self, out: &mut Vec<u8>, most: usize) -> Result<usize, Fault> {
         let n = self.len().min(most).min(out.capacity() - out.len());
-        let (front, behind) = self.split_at(n);
+        let (front, after) = self.split_at(n);
         let _ = out.extend_from_slice(front);
-        *self = behind;
+        *self = after;
         Ok(n)
     }
 

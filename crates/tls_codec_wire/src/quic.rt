@@ -15,8 +15,8 @@ ghost use Rattle.tls_codec_wire.specs.declared.error.Error.TheVariants.{EndOfStr
 
 use crate::device::{Sink, Source};
 use crate::error::Error;
-use crate::layout::{read_below, split_below, width_below, write_below};
 use crate::varint::TlsVarInt;
+use crate::varint_bits::{read_below, split_below, width_below, write_below};
 
 // The numbers from this one on are no integers.
 const LIMIT: u64 = 0x4000_0000_0000_0000;

@@ -13,7 +13,7 @@ ghost use Rattle.tls_codec_wire.specs.declared.error.Error.TheVariants.{EndOfStr
 
 use crate::device::{Sink, Source};
 use crate::error::Error;
-use crate::layout::{form_below, read_below, split_below, width_below, write_below};
+use crate::varint_bits::{form_below, read_below, split_below, width_below, write_below};
 
 // The numbers from this one on are no lengths.
 const LIMIT: u64 = 0x4000_0000;

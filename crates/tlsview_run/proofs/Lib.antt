@@ -1,4 +1,3 @@
 pub mod Bytes
 pub mod Hex
 pub mod Paths
-pub mod Reading

@@ -16,6 +16,9 @@ use Rattle.tlsview_run.specs.Run.{Runs, SinkIsToBlame}
 use Rattle.tlsview_run.specs.View.{line_feed}
 use Rattle.tlsview_run.specs.declared.fault.ViewFault.{ViewFault}
 use Rattle.tlsview_run.specs.declared.fault.ViewFault.TheVariants.{Kind, Long, Read, Hex, Memory, Write}
+use Rattle.view_input.specs.Faults as faults
+use Rattle.view_input.specs.declared.fault.InputFault.{InputFault}
+use Rattle.view_input.specs.declared.fault.InputFault.TheVariants as input
 
 -- ---- the argument
 
@@ -40,13 +43,20 @@ argument_of (Err error) = Err (fault_without_words (error_kind error))
 
 -- ---- the line and the status
 
+-- the fault of a view whose input has this one
+abbrev pub view_fault : InputFault → ViewFault
+view_fault input.Long = Long
+view_fault input.Read = Read
+view_fault input.Hex = Hex
+view_fault input.Memory = Memory
+
 -- what is printed if there is no view: nothing if the sink failed
 abbrev pub fault_line : ViewFault → List ℕ
 fault_line Kind = codes "error kind" ++ line_feed
-fault_line Long = codes "error long" ++ line_feed
-fault_line Read = codes "error read" ++ line_feed
-fault_line Hex = codes "error hex" ++ line_feed
-fault_line Memory = codes "error memory" ++ line_feed
+fault_line Long = faults.fault_line input.Long
+fault_line Read = faults.fault_line input.Read
+fault_line Hex = faults.fault_line input.Hex
+fault_line Memory = faults.fault_line input.Memory
 fault_line Write = []
 
 -- what is printed after a run
@@ -69,7 +79,8 @@ TellsLine sink before after line =
 -- ---- the program
 
 -- a run of this kind ended in some way, and then its line and its status were told
-pub record RunsAndTells {S T : Type 0} (kind : List ℕ) (source : SourceGhosts S) (sink : SinkGhosts T) (old new : S) (before after : T) (status : ℕ) : Type 0 where
+pub record RunsAndTells {S T : Type 0} (kind : List ℕ) (source : SourceGhosts S) (sink : SinkGhosts T)
+    (old new : S) (before after : T) (status : ℕ) : Type 0 where
   pub outcome : Result Bool ViewFault
   pub between : T
   pub ran : Runs kind source sink old new before between outcome
@@ -89,7 +100,8 @@ Answers source sink old new before after (Err fault) status = TellsFault fault s
 
 -- the program ended as it does by some words; its input had these bytes to come and its sink had received these;
 -- neither had counted anything
-pub record EndsBySomeWords {S T : Type 0} (source : SourceGhosts S) (sink : SinkGhosts T) (coming received : Option (List ℕ)) (code : ExitCode) : Type 0 where
+pub record EndsBySomeWords {S T : Type 0} (source : SourceGhosts S) (sink : SinkGhosts T)
+    (coming received : Option (List ℕ)) (code : ExitCode) : Type 0 where
   pub words : Words
   pub old : S
   pub new : S

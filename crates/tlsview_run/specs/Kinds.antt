@@ -24,7 +24,8 @@ kinds =
     ∷ kind (codes "vec-u16") (list (number 2)) (list_text number_text)
     ∷ kind (codes "vec-vec-u16") (list (list (number 2))) (list_text (list_text number_text))
     ∷ kind (codes "string") text bytes_text
-    ∷ kind (codes "mixed") (triple (number 1) (list (number 2)) (option text)) (triple_text number_text (list_text number_text) (option_text bytes_text))
+    ∷ kind (codes "mixed") (triple (number 1) (list (number 2)) (option text))
+    (triple_text number_text (list_text number_text) (option_text bytes_text))
     ∷ kind (codes "vlbytes") bytes bytes_text
     ∷ kind (codes "vec-vlbytes") (list bytes) (list_text bytes_text)
     ∷ kind (codes "vecu8-u16") (fixed_list 1 (number 2)) (list_text number_text)

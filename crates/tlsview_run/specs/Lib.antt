@@ -1,4 +1,3 @@
-pub mod Input
 pub mod Texts
 pub mod View
 pub mod Kinds

@@ -4,11 +4,12 @@ use Rattle.std.specs.Io.KnownBytes.{Appends}
 use Rattle.hex.specs.Hex.{encode_lower}
 use Rattle.tls_codec.specs.Calls.{SinkGhosts, SourceGhosts}
 use Rattle.tls_codec.specs.Devices.{Counts, FaultIsCounted, OnlyInterrupted, Received, RoseBy}
-use Rattle.tlsview_run.specs.Input.{GaveAll, StandsFor, IsNoHex, WhyNoText, lower_digits_in}
 use Rattle.tlsview_run.specs.Kinds.{kinds, FirstNamed}
 use Rattle.tlsview_run.specs.View.{Views, IsView}
 use Rattle.tlsview_run.specs.declared.fault.ViewFault.{ViewFault}
-use Rattle.tlsview_run.specs.declared.fault.ViewFault.TheVariants.{Kind, Hex, Write}
+use Rattle.tlsview_run.specs.declared.fault.ViewFault.TheVariants.{Kind, Long, Read, Hex, Memory, Write}
+use Rattle.view_input.specs.Input.{GaveAll, StandsFor, WhyNoInput, lower_digits_in}
+use Rattle.view_input.specs.declared.fault.InputFault.TheVariants as input
 
 -- the lines are a view of the bytes that the input, read whole, stands for; their hex is its, in lower case and without
 -- the blanks
@@ -21,7 +22,8 @@ pub record ViewsInput {S : Type 0} (views : Views) (source : SourceGhosts S) (ol
   pub view : views bytes accepted lines
 
 -- the sink received just such lines, and counted nothing but interruptions
-pub record SentView {S T : Type 0} (views : Views) (source : SourceGhosts S) (sink : SinkGhosts T) (old new : S) (before after : T) (accepted : Bool) : Type 0 where
+pub record SentView {S T : Type 0} (views : Views) (source : SourceGhosts S) (sink : SinkGhosts T)
+    (old new : S) (before after : T) (accepted : Bool) : Type 0 where
   pub lines : List ℕ
   pub viewed : ViewsInput views source old new accepted lines
   pub sent : Appends (sink.received before) (sink.received after) lines
@@ -32,23 +34,21 @@ abbrev pub SinkIsToBlame : Counts → Counts → Type 0
 SinkIsToBlame old new = FaultIsCounted old new ⊎ RoseBy 1 old.shortages new.shortages
 
 -- the sink received a prefix of such lines, and is to blame
-pub record BrokeOff {S T : Type 0} (views : Views) (source : SourceGhosts S) (sink : SinkGhosts T) (old new : S) (before after : T) : Type 0 where
+pub record BrokeOff {S T : Type 0} (views : Views) (source : SourceGhosts S) (sink : SinkGhosts T)
+    (old new : S) (before after : T) : Type 0 where
   pub accepted : Bool
   pub lines : List ℕ
   pub viewed : ViewsInput views source old new accepted lines
   pub received : Received (sink.received before) (sink.received after) lines
   pub blame : SinkIsToBlame (sink.counts before) (sink.counts after)
 
--- the input gave a text that is not hex
-pub record GaveNoHex {S : Type 0} (source : SourceGhosts S) (old new : S) : Type 0 where
-  pub text : List ℕ
-  pub read : GaveAll source old new text
-  pub no_hex : IsNoHex text
-
 -- why there is no view, if the kind is one and the sink is as it was
 abbrev pub WhyNoView : {S : Type 0} → SourceGhosts S → S → S → ViewFault → Type 0
-WhyNoView source old new Hex = GaveNoHex source old new
-WhyNoView source old new fault = WhyNoText source old new fault
+WhyNoView source old new Long = WhyNoInput source old new input.Long
+WhyNoView source old new Read = WhyNoInput source old new input.Read
+WhyNoView source old new Hex = WhyNoInput source old new input.Hex
+WhyNoView source old new Memory = WhyNoInput source old new input.Memory
+WhyNoView source old new _ = ⊥
 
 -- what a run does that prints by these views
 abbrev pub RunsBy : {S T : Type 0} → Views → SourceGhosts S → SinkGhosts T → S → S → T → T → Result Bool ViewFault → Type 0

@@ -27,7 +27,8 @@ pair_text first second _ = []
 
 -- a triple, or a struct of three fields, the same
 abbrev pub triple_text : (Tree → List ℕ) → (Tree → List ℕ) → (Tree → List ℕ) → Tree → List ℕ
-triple_text first second third (Join v (Join w (Join x Empty))) = codes "(" ++ first v ++ codes "," ++ second w ++ codes "," ++ third x ++ codes ")"
+triple_text first second third (Join v (Join w (Join x Empty))) =
+    codes "(" ++ first v ++ codes "," ++ second w ++ codes "," ++ third x ++ codes ")"
 triple_text first second third _ = []
 
 -- the parts of a list

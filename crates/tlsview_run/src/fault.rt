@@ -1,9 +1,10 @@
 //! Why no view is printed.
 ghost use Rattle.std.specs.Prelude.{◌≡◌};
-ghost use Rattle.tlsview_run.specs.Endings.{fault_line};
+ghost use Rattle.tlsview_run.specs.Endings.{fault_line, view_fault};
 ghost use Rattle.tlsview_run.specs.declared.fault.ViewFault.TheVariants.{Memory};
 
 use std::alloc::AllocError;
+use view_input::fault::InputFault;
 
 /// Why no view is printed.
 #[derive(Clone, Copy, PartialEq, Eq, Debug)]
@@ -29,10 +30,10 @@ impl ViewFault {
     {
         match self {
             ViewFault::Kind => "error kind\n",
-            ViewFault::Long => "error long\n",
-            ViewFault::Read => "error read\n",
-            ViewFault::Hex => "error hex\n",
-            ViewFault::Memory => "error memory\n",
+            ViewFault::Long => InputFault::Long.line(),
+            ViewFault::Read => InputFault::Read.line(),
+            ViewFault::Hex => InputFault::Hex.line(),
+            ViewFault::Memory => InputFault::Memory.line(),
             ViewFault::Write => "",
         }
     }
@@ -43,5 +44,18 @@ impl From<AllocError> for ViewFault {
 
     fn from(_error: AllocError) -> ViewFault {
         ViewFault::Memory
+    }
+}
+
+impl From<InputFault> for ViewFault {
+    ghost from_gives = { λ fault view. view ≡ view_fault fault };
+
+    fn from(fault: InputFault) -> ViewFault {
+        match fault {
+            InputFault::Long => ViewFault::Long,
+            InputFault::Read => ViewFault::Read,
+            InputFault::Hex => ViewFault::Hex,
+            InputFault::Memory => ViewFault::Memory,
+        }
     }
 }

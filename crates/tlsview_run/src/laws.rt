@@ -4,19 +4,25 @@
 ghost use Rattle.std.specs.Prelude.{◌≡◌, ◌↔◌, List, [], ◌∷◌, length, map, codes, IsTrue};
 ghost use Rattle.std.specs.declared.alloc.AllocError.{AllocError};
 ghost use Rattle.tlsview_run.specs.Kinds.{kinds};
+ghost use Rattle.tlsview_run.specs.Endings.{view_fault};
 ghost use Rattle.tlsview_run.specs.declared.fault.ViewFault.{ViewFault};
+ghost use Rattle.view_input.specs.declared.fault.InputFault.{InputFault};
 
 use crate::fault::ViewFault;
 use std::alloc::AllocError;
+use view_input::fault::InputFault;
 
 /// Faults are equal if they are the same variant, and a copy of one is that fault. Refused memory is
-/// `Memory`.
+/// `Memory`, and a fault of the input keeps its name.
 pub fn faults_are_compared_by_their_variants()
     ensures equal { (x y : ViewFault) → IsTrue (⟦<ViewFault as PartialEq>⟧.eq x y) ↔ (x ≡ y) }
     ensures copied { (x y : ViewFault) → ⟦<ViewFault as Clone>⟧.is_clone x y → y ≡ x }
     ensures refused { (e : AllocError) (x : ViewFault)
         → ⟦<ViewFault as From<AllocError>>⟧.from_gives e x
         → x ≡ ViewFault.Memory }
+    ensures of_input { (e : InputFault) (x : ViewFault)
+        → ⟦<ViewFault as From<InputFault>>⟧.from_gives e x
+        → x ≡ view_fault e }
 {}
 
 /// The names of the table are these fifteen, and no others.

@@ -20,8 +20,7 @@
 //! arguments are programs of the same text.
 //!
 //! - [`answer`]: [`answer`](answer::answer), the program over its words, any input and any sink.
-//! - [`run`]: [`run`](run::run), of one kind, and what types the kinds are.
-//! - [`input`]: reading the text, and the bytes that it stands for.
+//! - [`run`]: [`run`](run::run), of one kind, and what types the kinds are. `view_input` has how its input is read.
 //! - [`view`]: the lines that are printed of some bytes.
 //! - [`show`]: [`Show`](show::Show), the text of a value.
 //! - [`fault`]: [`ViewFault`](fault::ViewFault), why there is no view.
@@ -32,7 +31,6 @@ ghost use Rattle.tlsview_run.specs.Endings.{EndsBySomeWords};
 
 pub mod answer;
 pub mod fault;
-pub mod input;
 pub mod laws;
 pub mod run;
 pub mod show;

@@ -4,12 +4,12 @@ ghost use Rattle.tlsview_run.specs.Run.{Runs, RunsBy};
 ghost use Rattle.tlsview_run.specs.View.{IsView};
 
 use crate::fault::ViewFault;
-use crate::input::{decode, read_text};
 use crate::show::Show;
 use crate::view::view_of;
 use std::alloc::Global;
 use tls_codec::{Sink, Source, TlsByteVecU32, TlsVarInt, TlsVecU8, VLBytes, write_all};
 use tls_codec_vectors::{Leaf, Log, Step};
+use view_input::text::{decode, read_text};
 
 /// Reads the input, and prints the view of the bytes that it stands for, by the type of the kind of
 /// this name.

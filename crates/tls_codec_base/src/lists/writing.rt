@@ -1,11 +1,14 @@
 //! Elements in a row, written without a length.
-ghost use Rattle.std.specs.Prelude.{◌≡◌, ◌≤◌, ◌*◌, ◌^◌, IfErr, IfOk};
+ghost use Rattle.std.specs.Prelude.{◌≡◌, ◌≤◌, ◌^◌, IfErr, IfOk};
 ghost use Rattle.tls_codec_wire.specs.declared.error.Error.TheVariants.{InvalidVectorLength};
 ghost use Rattle.tls_codec_grammar.specs.Tree.{trees};
 ghost use Rattle.tls_codec_grammar.specs.Announced.{content_sum};
 ghost use Rattle.tls_codec_grammar.specs.Format.{content_format};
-ghost use Rattle.tls_codec_grammar.specs.Encoding.{AllAppended, AppendsForm, Writes};
+ghost use Rattle.tls_codec_grammar.specs.Encoding.{AppendsForm, Writes};
 
+use crate::context::{SerializeFor, SizeFor};
+use crate::lists::engines::coding::{Alone, In};
+use crate::lists::engines::{self, append_at_once};
 use crate::traits::{Serialize, SerializeBytes, Size};
 use std::alloc::Global;
 use tls_codec_wire::{Error, Sink};
@@ -24,39 +27,7 @@ pub fn content_len<T: Size>(elements: &[T]) -> Result<usize, Error>
         (λ e. (e ≡ InvalidVectorLength)
         × (2 ^ 64 ≤ content_sum T.format.announced (trees T.plain elements.now))) }
 {
-    match T::tls_fixed_len() {
-        Some(each) => product(elements.len(), each),
-        None => sum_of_lengths(elements),
-    }
-}
-
-// So many lengths together.
-fn product(count: usize, each: usize) -> Result<usize, Error>
-    ensures ok { IfOk result (λ n. n ≡ count * each) }
-    ensures err { IfErr result (λ e. (e ≡ InvalidVectorLength) × (2 ^ 64 ≤ count * each)) }
-{
-    match count.checked_mul(each) {
-        Some(length) => Ok(length),
-        None => Err(Error::InvalidVectorLength),
-    }
-}
-
-// The same, one element after another.
-fn sum_of_lengths<T: Size>(elements: &[T]) -> Result<usize, Error>
-    ensures ok { IfOk result
-        (λ n. n ≡ content_sum T.format.announced (trees T.plain elements.now)) }
-    ensures err { IfErr result
-        (λ e. (e ≡ InvalidVectorLength)
-        × (2 ^ 64 ≤ content_sum T.format.announced (trees T.plain elements.now))) }
-{
-    let mut sum: usize = 0;
-    for element in elements {
-        let Some(more) = sum.checked_add(element.tls_serialized_len()) else {
-            return Err(Error::InvalidVectorLength);
-        };
-        sum = more;
-    }
-    Ok(sum)
+    engines::content_len(&Alone, elements)
 }
 
 /// Sends the elements' shortest forms in a row, without a length, and returns how many bytes that
@@ -71,23 +42,7 @@ pub fn write<T: Serialize, W: Sink>(sink: &mut W, elements: &[T]) -> Result<usiz
     ensures { Writes (content_format T.format) (trees T.plain elements.now) W.Sink sink.old sink.new
         result }
 {
-    match T::tls_send_elements(elements, sink)? {
-        Some(sent) => Ok(sent),
-        None => write_each(sink, elements),
-    }
-}
-
-// The same, one element after another.
-fn write_each<T: Serialize, W: Sink>(sink: &mut W, elements: &[T]) -> Result<usize, Error>
-    ensures { Writes (content_format T.format) (trees T.plain elements.now) W.Sink sink.old sink.new
-        result }
-{
-    let mut sent: usize = 0;
-    for element in elements {
-        let length = element.tls_serialize(sink)?;
-        sent = sent.saturating_add(length);
-    }
-    Ok(sent)
+    engines::write(&Alone, sink, elements)
 }
 
 /// Appends the elements' shortest forms in a row, without a length, and returns how many bytes that
@@ -104,40 +59,7 @@ pub fn append<T: Serialize>(out: &mut Vec<u8>, elements: &[T]) -> Result<usize, 
     ensures { AppendsForm (content_format T.format) (trees T.plain elements.now) out.old.items
         out.new.items result }
 {
-    match append_at_once(out, elements)? {
-        Some(length) => Ok(length),
-        None => append_each(out, elements),
-    }
-}
-
-// The same at once. It is none, and nothing is appended, if such elements are appended one by one.
-fn append_at_once<T: Size>(out: &mut Vec<u8>, elements: &[T]) -> Result<Option<usize>, Error>
-    ensures { AllAppended T.format (trees T.plain elements.now) out.old.items out.new.items result }
-{
-    let at = out.len();
-    match T::tls_send_elements(elements, out) {
-        Ok(Some(_)) => Ok(Some(out.len() - at)),
-        Ok(None) => Ok(None),
-        Err(error) => {
-            out.truncate(at);
-            Err(error)
-        }
-    }
-}
-
-// The same, one element after another.
-fn append_each<T: Serialize>(out: &mut Vec<u8>, elements: &[T]) -> Result<usize, Error>
-    ensures { AppendsForm (content_format T.format) (trees T.plain elements.now) out.old.items
-        out.new.items result }
-{
-    let at = out.len();
-    for element in elements {
-        if let Err(error) = element.tls_serialize_into(out) {
-            out.truncate(at);
-            return Err(error);
-        }
-    }
-    Ok(out.len() - at)
+    engines::append(&Alone, out, elements)
 }
 
 /// Appends the elements' shortest forms in a row, each made by `tls_serialize_bytes`, and returns how
@@ -153,7 +75,7 @@ pub fn append_bytes<T: SerializeBytes>(
     ensures { AppendsForm (content_format T.format) (trees T.plain elements.now) out.old.items
         out.new.items result }
 {
-    match append_at_once(out, elements)? {
+    match append_at_once(&Alone, out, elements)? {
         Some(length) => Ok(length),
         None => append_each_form(alloc, out, elements),
     }
@@ -192,4 +114,43 @@ fn append_form<T: SerializeBytes>(
     }
     out.extend_from_slice(&form)?;
     Ok(form.len())
+}
+
+/// What [`content_len`] does, of elements in a context.
+pub fn content_len_for<C: Size, T: SizeFor<C>>(context: &C, elements: &[T]) -> Result<usize, Error>
+    ensures ok { IfOk result
+        (λ n. n ≡ content_sum (T.format_for (C.plain context.now)).announced
+        (trees T.plain elements.now)) }
+    ensures err { IfErr result
+        (λ e. (e ≡ InvalidVectorLength)
+        × (2 ^ 64 ≤ content_sum (T.format_for (C.plain context.now)).announced
+        (trees T.plain elements.now))) }
+{
+    engines::content_len(&In(context), elements)
+}
+
+/// What [`write`] does, of elements in a context.
+pub fn write_for<C: Size, T: SerializeFor<C>, W: Sink>(
+    context: &C,
+    sink: &mut W,
+    elements: &[T],
+) -> Result<usize, Error>
+    ensures { Writes (content_format (T.format_for (C.plain context.now)))
+        (trees T.plain elements.now) W.Sink sink.old sink.new
+        result }
+{
+    engines::write(&In(context), sink, elements)
+}
+
+/// What [`append`] does, of elements in a context.
+pub fn append_for<C: Size, T: SerializeFor<C>>(
+    context: &C,
+    out: &mut Vec<u8>,
+    elements: &[T],
+) -> Result<usize, Error>
+    ensures { AppendsForm (content_format (T.format_for (C.plain context.now)))
+        (trees T.plain elements.now) out.old.items
+        out.new.items result }
+{
+    engines::append(&In(context), out, elements)
 }

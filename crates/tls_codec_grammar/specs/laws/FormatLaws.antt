@@ -186,7 +186,7 @@ bounded_field_meets least most {field} m = record {
     named x e p = m.named x e p
 
 -- a length field and what it counts, if the field holds the sum of what is spelled
-counted_meets : (field : Field) {sum : Tree → ℕ} {inside : Format} → IsLengthField field.spells field.width → MeetsLawsInside inside
+pub counted_meets : (field : Field) {sum : Tree → ℕ} {inside : Format} → IsLengthField field.spells field.width → MeetsLawsInside inside
     → ((a c : List ℕ) (v : Tree) → field.spells a (length c) → inside.spells Writing c v → field.holds (sum v)) → MeetsLaws (counted_format field sum inside)
 counted_meets field {sum} {inside} m l held = record {
   spelled = counted_lawful field.spells field.width m inside.spells inside.announced l.spelled;

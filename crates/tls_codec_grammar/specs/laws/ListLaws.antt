@@ -4,7 +4,7 @@ use Rattle.std.proofs.lemmas.List.{append_cancel_left}
 use Rattle.std.proofs.lemmas.Bool.{cases_lt}
 use Rattle.tls_codec_wire.specs.Varint.{VectorLength, width_below}
 use Rattle.tls_codec_grammar.specs.Tree.{Tree, Number, Empty, Join}
-use Rattle.tls_codec_grammar.specs.Grammar.{Direction, Reading, Writing, Grammar, Row, Admits, number, content, counted, bytes, utf8}
+use Rattle.tls_codec_grammar.specs.Grammar.{Direction, Reading, Writing, Grammar, Concat, Admits, number, content, counted, bytes, utf8}
 use Rattle.tls_codec_grammar.specs.Shortest.{IsLeast, IsShortest}
 use Rattle.tls_codec_grammar.specs.Announced.{capped, content_length, counted_length}
 use Rattle.tls_codec_grammar.specs.Lawful.{IsLawful, IsLawfulInside, IsLengthField}
@@ -44,7 +44,7 @@ module _ (element : Grammar) (f : Tree → ℕ) (l : IsLawful element f) where
   content_alone s t (Number n) p q = absurd p
 
   -- the shortest content is the elements' shortest forms in a row
-  pub content_in_a_row : (s : List ℕ) (v vs : Tree) → IsShortest (content element) s (Join v vs) ↔ Row s (λ a. IsShortest element a v) (λ b. IsShortest (content element) b vs)
+  pub content_in_a_row : (s : List ℕ) (v vs : Tree) → IsShortest (content element) s (Join v vs) ↔ Concat s (λ a. IsShortest element a v) (λ b. IsShortest (content element) b vs)
   content_in_a_row s v vs = (
     λ p. record {
       front = p.spelled.front;

@@ -1,7 +1,7 @@
 -- What options, products and contents share: least byte lists, and two of them in a row.
 use Rattle.std.proofs.Common.{◌≡◌, ℕ, List, [], ◌∷◌, ◌++◌, length, refl, sym, ap, ◌∙◌, inl, inr, append_assoc, arith, length-append}
 use Rattle.std.proofs.lemmas.List.{append_cancel_left}
-use Rattle.tls_codec_grammar.specs.Grammar.{Row}
+use Rattle.tls_codec_grammar.specs.Grammar.{Concat}
 use Rattle.tls_codec_grammar.specs.Shortest.{IsLeast}
 
 -- if two byte lists agree, fronts of one length are equal, and what comes after them is too
@@ -30,7 +30,7 @@ abbrev pub Agree : (List ℕ → Type 0) → (List ℕ → Type 0) → Type 0 �
 Agree F G P = (a b x y : List ℕ) → F a → G b → a ++ x ≡ b ++ y → (a ≡ b) × P
 
 -- rows that begin one byte list agree if their parts do
-pub row_one : (F G F2 G2 : List ℕ → Type 0) (P Q : Type 0) → Agree F F2 P → Agree G G2 Q → Agree (λ b. Row b F G) (λ b. Row b F2 G2) (P × Q)
+pub row_one : (F G F2 G2 : List ℕ → Type 0) (P Q : Type 0) → Agree F F2 P → Agree G G2 Q → Agree (λ b. Concat b F G) (λ b. Concat b F2 G2) (P × Q)
 row_one F G F2 G2 P Q f g s t x y p q e =
     let long : p.front ++ (p.rest ++ x) ≡ q.front ++ (q.rest ++ y) = sym (append_assoc p.front p.rest x) ∙ ap (λ (u : List ℕ). u ++ x) (sym p.whole) ∙ e ∙ ap (λ (u : List ℕ). u ++ y) q.whole ∙ append_assoc q.front q.rest y in
     let h = f p.front q.front (p.rest ++ x) (q.rest ++ y) p.first q.first long in
@@ -38,7 +38,7 @@ row_one F G F2 G2 P Q f g s t x y p q e =
     (p.whole ∙ ap (λ (u : List ℕ). u ++ p.rest) h.0 ∙ ap (λ (u : List ℕ). q.front ++ u) k.0 ∙ sym q.whole, (h.1, k.1))
 
 -- the least parts make the least row
-pub row_least : (F G : List ℕ → Type 0) (s t : List ℕ) → IsLeast F s → IsLeast G t → IsLeast (λ b. Row b F G) (s ++ t)
+pub row_least : (F G : List ℕ → Type 0) (s t : List ℕ) → IsLeast F s → IsLeast G t → IsLeast (λ b. Concat b F G) (s ++ t)
 row_least F G s t p q = record {
   spelled = record { front = s; rest = t; whole = refl; first = p.spelled; second = q.spelled };
   least = λ u r. elim (p.least r.front r.first) [
@@ -54,10 +54,10 @@ row_least F G s t p q = record {
 }
 
 -- rows are equal if their parts have to be
-pub row_alone : (F G : List ℕ → Type 0) (s t : List ℕ) → ((a b : List ℕ) → F a → F b → a ≡ b) → ((a b : List ℕ) → G a → G b → a ≡ b) → Row s F G → Row t F G → s ≡ t
+pub row_alone : (F G : List ℕ → Type 0) (s t : List ℕ) → ((a b : List ℕ) → F a → F b → a ≡ b) → ((a b : List ℕ) → G a → G b → a ≡ b) → Concat s F G → Concat t F G → s ≡ t
 row_alone F G s t f g p q =
     p.whole ∙ ap (λ (u : List ℕ). u ++ p.rest) (f p.front q.front p.first q.first) ∙ ap (λ (u : List ℕ). q.front ++ u) (g p.rest q.rest p.second q.second) ∙ sym q.whole
 
 -- a row of one kind of parts is one of another if its parts are
-pub row_map : (F G F2 G2 : List ℕ → Type 0) (b : List ℕ) → ((s : List ℕ) → F s → F2 s) → ((s : List ℕ) → G s → G2 s) → Row b F G → Row b F2 G2
+pub row_map : (F G F2 G2 : List ℕ → Type 0) (b : List ℕ) → ((s : List ℕ) → F s → F2 s) → ((s : List ℕ) → G s → G2 s) → Concat b F G → Concat b F2 G2
 row_map F G F2 G2 b f g p = record { front = p.front; rest = p.rest; whole = p.whole; first = f p.front p.first; second = g p.rest p.second }

@@ -1,9 +1,5 @@
 //! Lengths with bounds, as of `opaque cookie<1..2^16-1>` (RFC 8446, section 3.4).
 ghost use Rattle.std.specs.Prelude.{◌<◌, ◌⊎◌, IsFalse, IsTrue};
-ghost use Rattle.tls_codec_wire.specs.Counts.{OnlyInterrupted};
-ghost use Rattle.tls_codec_wire.specs.Device.{Gave};
-ghost use Rattle.tls_codec_wire.specs.Refused.{RefusedFor};
-ghost use Rattle.tls_codec_wire.specs.Numbers.{BeginsNumber, GaveNumber, NumberNotRead};
 ghost use Rattle.tls_codec_grammar.specs.Field.{IsBetween, bounded_field};
 ghost use Rattle.tls_codec_grammar.specs.laws.FormatLaws.{bounded_field_meets};
 

@@ -51,7 +51,7 @@ pub fn open_gap(out: &mut Vec<u8>, width: usize, room: usize) -> Result<(), Allo
     ensures room { OnOk result (vec_len out.new + room ≤ vec_capacity out.new) }
     ensures kept { OnErr result (out.new.items ≡ out.old.items) }
 {
-    make_room(out, width.saturating_add(room))?;
+    reserve_more(out, width.saturating_add(room))?;
     let empty = [0u8; 8];
     append_few(out, &empty[..width])
 }
@@ -77,7 +77,7 @@ fn append_with_room(out: &mut Vec<u8>, few: &[u8], bytes: &[u8]) -> Result<(), A
     ensures { out.new.items
         ≡ (if is_ok result then out.old.items ++ (few.now ++ bytes.now) else out.old.items) }
 {
-    make_room(out, few.len().saturating_add(bytes.len()))?;
+    reserve_more(out, few.len().saturating_add(bytes.len()))?;
     append_few(out, few)?;
     if bytes.is_empty() {
         return Ok(());
@@ -87,7 +87,7 @@ fn append_with_room(out: &mut Vec<u8>, few: &[u8], bytes: &[u8]) -> Result<(), A
 
 // Requests room for `more` further bytes. A vector that has none yet gets exactly as much, without a call.
 #[inline(always)]
-fn make_room(out: &mut Vec<u8>, more: usize) -> Result<(), AllocError>
+fn reserve_more(out: &mut Vec<u8>, more: usize) -> Result<(), AllocError>
     ensures items { out.new.items ≡ out.old.items }
     ensures room { OnOk result (vec_len out.new + more ≤ vec_capacity out.new) }
     ensures most { vec_capacity out.new

@@ -1,8 +1,8 @@
-use Rattle.std.proofs.Common.{rules, subst}
+use Rattle.std.proofs.Common.{rules, subst, ap, ◌∙◌, Err}
 use Rattle.tls_codec_wire.specs.Refused.{RefusedFor}
 use Rattle.tls_codec_wire.specs.Transfer.{ReadRefused}
 use Rattle.tls_codec_wire.specs.declared.error.Error.{Error}
-use Rattle.tls_codec_wire.proofs.Refused.{at_end, not_at_end, seen_nothing}
+use Rattle.tls_codec_wire.proofs.Refused.{at_end, end_refused, not_at_end, refused_so, seen_nothing}
 use Rattle.tls_codec_wire.proofs.transfer.expect_end.Goals as goal
 
 pub returns-in-Ok-clause-refused : goal.returns-in-Ok-clause-refused
@@ -12,3 +12,15 @@ pub returns-in-Err-EndOfStream-clause-gave : goal.returns-in-Err-EndOfStream-cla
 returns-in-Err-EndOfStream-clause-gave g c =
     let source = g.met.R.Source in
     seen_nothing source.gives_in_order source.gives_from_front (at_end (subst (λ (u : Error). RefusedFor g.R.Source (ReadRefused 1) c.args.src.now c.read_exactly.new.src u) c.in-Err-EndOfStream.field-0-is c.in-Err-EndOfStream.ensures.refused))
+
+pub returns-in-Err-EndOfStream-clause-ok : goal.returns-in-Err-EndOfStream-clause-ok
+returns-in-Err-EndOfStream-clause-ok g c =
+    at_end (subst (λ (u : Error). RefusedFor g.R.Source (ReadRefused 1) c.args.src.now c.read_exactly.new.src u) c.in-Err-EndOfStream.field-0-is c.in-Err-EndOfStream.ensures.refused)
+
+pub returns-in-Err-EndOfStream-clause-calm : goal.returns-in-Err-EndOfStream-clause-calm
+returns-in-Err-EndOfStream-clause-calm g c =
+    c.read_exactly.ensures.ended (c.in-Err-EndOfStream.is ∙ ap Err c.in-Err-EndOfStream.field-0-is)
+
+pub returns-in-Err-clause-refused : goal.returns-in-Err-clause-refused
+returns-in-Err-clause-refused g c =
+    refused_so (λ x q. end_refused x _ _ _ (λ ended. search rules) q) c.in-Err.ensures.refused

@@ -1,4 +1,7 @@
-use Rattle.std.proofs.Common.{rules, arith, refl}
+use Rattle.std.proofs.Common.{rules, arith, refl, subst, append-nil, ℕ, List, [], Option}
+use Rattle.std.proofs.KnownBytes.{Appends-trans}
+use Rattle.std.specs.Io.KnownBytes.{Appends}
+use Rattle.tls_codec_wire.specs.Counts.{calm_stays}
 use Rattle.tls_codec_wire.proofs.Pieces.{received_more, appends_more}
 use Rattle.tls_codec_wire.proofs.transfer.write_all.Goals as goal
 
@@ -19,6 +22,34 @@ loop-at-preserved-in-Ok g c =
       moved = λ all. refl;
       untouched = λ none. absurd (omega arith);
     }
+
+pub loop-at-init : goal.loop-at-init
+loop-at-init g c = record {
+  within = omega arith;
+  row = omega arith;
+  took = search rules;
+  calm = calm_stays _;
+  counted = omega arith;
+  tried = omega arith;
+  moved = λ all. refl;
+  untouched = λ none. refl;
+}
+
+-- a call that moves nothing leaves what was received
+appends_none : (a b c : Option (List ℕ)) (bytes : List ℕ) → Appends a b bytes → Appends b c [] → Appends a c bytes
+appends_none a b c bytes p q = subst (Appends a c) (append-nil bytes) (Appends-trans a b c bytes [] p q)
+
+pub loop-at-preserved : goal.loop-at-preserved
+loop-at-preserved g c = record {
+  within = c.loop-at.invariant.within;
+  row = search rules;
+  took = appends_none _ _ _ _ c.loop-at.invariant.took c.in-Err.ensures.took;
+  calm = search rules;
+  counted = search rules;
+  tried = search rules;
+  moved = λ all. absurd (omega arith);
+  untouched = λ none. absurd (omega arith);
+}
 
 pub returns-in_err-row-in-Err-clause-beginning : goal.returns-in_err-row-in-Err-clause-beginning
 returns-in_err-row-in-Err-clause-beginning g c =

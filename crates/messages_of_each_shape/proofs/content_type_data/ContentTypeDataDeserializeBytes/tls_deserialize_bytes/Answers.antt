@@ -5,22 +5,31 @@ use Rattle.messages_of_each_shape.specs.ContentTypeData.{content_type_data_varia
 use Rattle.messages_of_each_shape.proofs.content_type_data.ContentTypeDataDeserializeBytes.tls_deserialize_bytes.Goals as goal
 
 pub returns-in_err-authenticated_data-in-1-clause-splits : goal.returns-in_err-authenticated_data-in-1-clause-splits
-returns-in_err-authenticated_data-in-1-clause-splits c = tagged_splits u8_meets content_type_data_variants_meet _ _ _ c.from_residual-in_err-authenticated_data-in-1.ensures.1 c.in_ok-tag.ensures.splits c.in-1.is c.in_err-authenticated_data-in-1.ensures.splits
+returns-in_err-authenticated_data-in-1-clause-splits c = tagged_splits u8_meets content_type_data_variants_meet _ _ _
+    c.from_residual-in_err-authenticated_data-in-1.ensures.1 c.in_ok-tag.ensures.splits c.in-1.is
+    c.in_err-authenticated_data-in-1.ensures.splits
 
 pub returns-in_err-authenticated_data-in-1-clause-named : goal.returns-in_err-authenticated_data-in-1-clause-named
-returns-in_err-authenticated_data-in-1-clause-named c = tagged_named _ _ c.from_residual-in_err-authenticated_data-in-1.ensures.1 c.in_ok-tag.ensures.splits c.in-1.is c.in_err-authenticated_data-in-1.ensures.named
+returns-in_err-authenticated_data-in-1-clause-named c = tagged_named _ _ c.from_residual-in_err-authenticated_data-in-1.ensures.1
+    c.in_ok-tag.ensures.splits c.in-1.is c.in_err-authenticated_data-in-1.ensures.named
 
 pub returns-in_ok-authenticated_data-in-1-clause-splits : goal.returns-in_ok-authenticated_data-in-1-clause-splits
-returns-in_ok-authenticated_data-in-1-clause-splits c = tagged_begins u8_meets content_type_data_variants_meet c.in_ok-tag.ensures.splits c.in-1.is c.in_ok-authenticated_data-in-1.ensures.splits
+returns-in_ok-authenticated_data-in-1-clause-splits c = tagged_begins u8_meets content_type_data_variants_meet c.in_ok-tag.ensures.splits
+    c.in-1.is c.in_ok-authenticated_data-in-1.ensures.splits
 
 pub returns-in_err-authenticated_data-in-2-clause-splits : goal.returns-in_err-authenticated_data-in-2-clause-splits
-returns-in_err-authenticated_data-in-2-clause-splits c = tagged_splits u8_meets content_type_data_variants_meet _ _ _ c.from_residual-in_err-authenticated_data-in-2.ensures.1 c.in_ok-tag.ensures.splits c.in-2.is c.in_err-authenticated_data-in-2.ensures.splits
+returns-in_err-authenticated_data-in-2-clause-splits c = tagged_splits u8_meets content_type_data_variants_meet _ _ _
+    c.from_residual-in_err-authenticated_data-in-2.ensures.1 c.in_ok-tag.ensures.splits c.in-2.is
+    c.in_err-authenticated_data-in-2.ensures.splits
 
 pub returns-in_err-authenticated_data-in-2-clause-named : goal.returns-in_err-authenticated_data-in-2-clause-named
-returns-in_err-authenticated_data-in-2-clause-named c = tagged_named _ _ c.from_residual-in_err-authenticated_data-in-2.ensures.1 c.in_ok-tag.ensures.splits c.in-2.is c.in_err-authenticated_data-in-2.ensures.named
+returns-in_err-authenticated_data-in-2-clause-named c = tagged_named _ _ c.from_residual-in_err-authenticated_data-in-2.ensures.1
+    c.in_ok-tag.ensures.splits c.in-2.is c.in_err-authenticated_data-in-2.ensures.named
 
 pub returns-in_ok-authenticated_data-in-2-clause-splits : goal.returns-in_ok-authenticated_data-in-2-clause-splits
-returns-in_ok-authenticated_data-in-2-clause-splits c = tagged_begins u8_meets content_type_data_variants_meet c.in_ok-tag.ensures.splits c.in-2.is c.in_ok-authenticated_data-in-2.ensures.splits
+returns-in_ok-authenticated_data-in-2-clause-splits c = tagged_begins u8_meets content_type_data_variants_meet c.in_ok-tag.ensures.splits
+    c.in-2.is c.in_ok-authenticated_data-in-2.ensures.splits
 
 pub returns-in_default-clause-splits : goal.returns-in_default-clause-splits
-returns-in_default-clause-splits c = let is = c.unknown_value.ensures in rw is (tagged_refuses_unknown u8_meets content_type_data_variants_meet c.in_ok-tag.ensures.splits (search rules))
+returns-in_default-clause-splits c = let is = c.unknown_value.ensures in rw is
+    (tagged_refuses_unknown u8_meets content_type_data_variants_meet c.in_ok-tag.ensures.splits (search rules))

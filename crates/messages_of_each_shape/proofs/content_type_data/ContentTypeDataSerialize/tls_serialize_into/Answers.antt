@@ -3,7 +3,9 @@ use Rattle.messages_of_each_shape.specs.ContentTypeData.{content_type_data_varia
 use Rattle.messages_of_each_shape.proofs.content_type_data.ContentTypeDataSerialize.tls_serialize_into.Goals as goal
 
 pub returns-in-Application-clause-appends : goal.returns-in-Application-clause-appends
-returns-in-Application-clause-appends c = let is = c.in-Application.is in rw is (tagged_appends _ _ content_type_data_variants_meet _ _ _ _ c.tls_serialize_into.ensures.appends)
+returns-in-Application-clause-appends c = let is = c.in-Application.is in rw is
+    (tagged_appends _ _ content_type_data_variants_meet _ _ _ _ c.tls_serialize_into.ensures.appends)
 
 pub returns-in-Proposal-clause-appends : goal.returns-in-Proposal-clause-appends
-returns-in-Proposal-clause-appends c = let is = c.in-Proposal.is in rw is (tagged_appends _ _ content_type_data_variants_meet _ _ _ _ c.tls_serialize_into-in-Proposal.ensures.appends)
+returns-in-Proposal-clause-appends c = let is = c.in-Proposal.is in rw is
+    (tagged_appends _ _ content_type_data_variants_meet _ _ _ _ c.tls_serialize_into-in-Proposal.ensures.appends)

@@ -1,4 +1,4 @@
-use Rattle.std.proofs.Common.{ap, arith, refl}
+use Rattle.std.proofs.Common.{ap, arith, length, length-append, refl}
 use Rattle.std.proofs.Math.ListN.{drop_of_length-le}
 use Rattle.tls_codec_grammar.specs.Tree.{trees}
 use Rattle.tls_codec_base.proofs.PartsAppending.{appended_all, appended_more, appended_none, next_not_appended}
@@ -19,3 +19,8 @@ loop-element-preserved g c =
 pub returns : goal.returns
 returns g c =
     appended_all c.loop-element.invariant (ap (trees g.T.Size.plain) (drop_of_length-le c.args.elements.now c.loop-element-test.false)) (omega (arith, c.len.ensures, c.len-at.ensures))
+
+pub overflow_sub-result : goal.overflow_sub-result
+overflow_sub-result g c =
+    let so_far = c.loop-element.invariant in
+    omega (arith, c.len.ensures, c.len-at.ensures, ap length so_far.held, length-append c.args.out.now.items so_far.form)

@@ -1,7 +1,7 @@
 use Rattle.std.proofs.Common.{rules, ◌≡◌, length, inl, inr, refl}
 use Rattle.std.proofs.lemmas.Result.{err_from_is_err_and}
 use Rattle.tls_codec_wire.proofs.Refused.{refused_later, refused_now, refused_so}
-use Rattle.tls_codec_base.proofs.Coming.{named_behind}
+use Rattle.tls_codec_base.proofs.Coming.{named_after}
 use Rattle.tls_codec_base.proofs.OptionDecoding.{no_tag_refused, one_byte_buffer, option_given, other_byte, other_tag_refused, payload_refused}
 use Rattle.tls_codec_base.proofs.options.OptionDeserialize.tls_deserialize.Goals as goal
 
@@ -30,7 +30,7 @@ returns-in_err-payload-in-1-clause-named g c =
     let tag = c.in_ok-read_exactly.ensures.filled in
     let fell = source.no_count_falls _ _ _ tag in
     let one : length c.read_exactly.new.into ≡ 1 = search rules in
-    rw (p.1, p.2) (record { refused = refused_later _ source.gives_in_order tag (λ x q. (payload_refused _ _ _ one c.in-1.is fell x q.0, inr (inr (named_behind _ fell (one_byte_buffer _ 1 one c.in-1.is) x q.1)))) c.in_err-payload-in-1.ensures.named.refused })
+    rw (p.1, p.2) (record { refused = refused_later _ source.gives_in_order tag (λ x q. (payload_refused _ _ _ one c.in-1.is fell x q.0, inr (inr (named_after _ fell (one_byte_buffer _ 1 one c.in-1.is) x q.1)))) c.in_err-payload-in-1.ensures.named.refused })
 
 pub returns-in_ok-payload-in-1-clause-reads : goal.returns-in_ok-payload-in-1-clause-reads
 returns-in_ok-payload-in-1-clause-reads g c =
@@ -46,6 +46,6 @@ returns-in_default-clause-named g c =
     record {
       refused = refused_now _ source.gives_nothing tag (λ x. (
         other_tag_refused _ _ _ (search rules) (search rules) (search rules) x,
-        inr (inl (named_behind _ (source.no_count_falls _ _ _ tag) (other_byte _ (search rules) (search rules) (search rules)) x refl)),
+        inr (inl (named_after _ (source.no_count_falls _ _ _ tag) (other_byte _ (search rules) (search rules) (search rules)) x refl)),
       ));
     }

@@ -1,0 +1,9 @@
+pub mod ContentType
+pub mod Sender
+pub mod WireFormat
+pub mod Body
+pub mod Framed
+pub mod Auth
+pub mod Messages
+pub mod Signed
+pub mod Private

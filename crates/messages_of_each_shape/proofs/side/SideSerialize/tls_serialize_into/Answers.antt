@@ -1,7 +1,0 @@
-use Rattle.tls_codec.specs.OwnMessages.{u8_meets}
-use Rattle.tls_codec.proofs.OwnMessages.{value_appends}
-use Rattle.messages_of_each_shape.specs.Side.{side_has, side_known}
-use Rattle.messages_of_each_shape.proofs.side.SideSerialize.tls_serialize_into.Goals as goal
-
-pub returns-clause-appends : goal.returns-clause-appends
-returns-clause-appends c = value_appends side_has u8_meets (side_known c.args.self.now) c.code.ensures _ _ _ c.tls_serialize_into.ensures.appends

@@ -1,0 +1,20 @@
+//! The names by which `{:?}` tells byte vectors apart.
+use crate::tests::same;
+use std::process::Abort;
+use std::test::Fail;
+use tls_codec_vl::names::{
+    SecretVLByteVecName, SecretVLBytesName, TypeName, VLByteVecName, VLBytesName,
+};
+
+fn is_named<N: TypeName>(rt: &impl Abort, name: &str) {
+    same(rt, N::name(), name);
+}
+
+#[test]
+fn names_of_byte_vectors(rt: HostRuntime) -> Result<(), Fail> {
+    is_named::<VLBytesName>(&rt, "VLBytes");
+    is_named::<VLByteVecName>(&rt, "VLByteVec");
+    is_named::<SecretVLBytesName>(&rt, "SecretVLBytes");
+    is_named::<SecretVLByteVecName>(&rt, "SecretVLByteVec");
+    Ok(())
+}

@@ -1,0 +1,134 @@
+//! Certificates and raw public keys, by the type that was agreed on (section 4.4.2).
+use crate::tests::captured::CERTIFICATE;
+use crate::tests::each_call::{is_misfit, is_refused_in, is_spelled, is_spelled_in};
+use crate::tests::holds;
+use handshake_by_hand::{
+    Certificate, CertificateData, CertificateEntry, CertificateType, Extension, Handshake,
+    UnknownHandshake,
+};
+use std::alloc::Global;
+use std::process::Abort;
+use std::test::Fail;
+use tls_codec::{
+    DeserializeBytesFor, Error, TlsByteVec, TlsByteVecU8, TlsByteVecU16, TlsByteVecU24, TlsVecU16,
+    TlsVecU24,
+};
+
+const X509: CertificateType = CertificateType::X509;
+
+const RAW: CertificateType = CertificateType::RawPublicKey;
+
+#[test]
+fn types(rt: HostRuntime) -> Result<(), Fail> {
+    let alloc = rt.alloc();
+    is_spelled(&rt, alloc, &X509, &[0])?;
+    is_spelled(&rt, alloc, &RAW, &[2])
+}
+
+fn captured(rt: &impl Abort, alloc: Global) -> Result<Vec<u8>, Fail> {
+    let mut bytes = Vec::new(alloc);
+    for digits in &CERTIFICATE {
+        let Ok(line) = hex::decode(alloc, *digits) else {
+            panic!(rt; "no hex digits");
+        };
+        bytes.extend_from_slice(&line)?;
+    }
+    Ok(bytes)
+}
+
+// The type of a message is 11 and its length 395; one entry has a certificate of 386 bytes and no extension.
+#[test]
+fn a_certificate_that_a_server_sent(rt: HostRuntime) -> Result<(), Fail> {
+    let alloc = rt.alloc();
+    let bytes = captured(&rt, alloc)?;
+    assert!(rt; bytes.len() == 399);
+    let body = &bytes[4..];
+    let other = UnknownHandshake::new(11, TlsByteVecU24::from_slice(alloc, body)?)?;
+    is_spelled(&rt, alloc, &Handshake::Unknown(other), &bytes)?;
+    let entry = CertificateEntry {
+        certificate: CertificateData::X509(TlsByteVec::from_slice(alloc, &bytes[11..397])?),
+        extensions: TlsVecU16::from_slice(alloc, &[])?,
+    };
+    let certificate = Certificate {
+        certificate_request_context: TlsByteVecU8::from_slice(alloc, &[])?,
+        certificate_list: TlsVecU24::new(Vec::from_array(alloc, [entry])?),
+    };
+    is_spelled_in(&rt, alloc, &X509, &certificate, body)?;
+    // The same bytes are another value where raw public keys were agreed on.
+    let read = Certificate::tls_deserialize_exact_bytes_for(&RAW, alloc, body)?;
+    holds(&rt, read != certificate);
+    is_spelled_in(&rt, alloc, &RAW, &read, body)?;
+    is_misfit(&rt, alloc, &RAW, &certificate)?;
+    is_misfit(&rt, alloc, &X509, &read)
+}
+
+// An Ed25519 key (RFC 8410), and an answer to `status_request`.
+#[test]
+fn a_raw_public_key(rt: HostRuntime) -> Result<(), Fail> {
+    let alloc = rt.alloc();
+    let mut key = [0x30, 0x2a, 0x30, 5, 6, 3, 0x2b, 0x65, 0x70, 3, 0x21, 0].to_vec(alloc)?;
+    key.extend_from_slice(&[7; 32])?;
+    let status = Extension {
+        extension_type: 5,
+        extension_data: TlsByteVecU16::from_slice(alloc, &[1, 0, 0, 1, 9])?,
+    };
+    let entry = CertificateEntry {
+        certificate: CertificateData::RawPublicKey(TlsByteVec::from_slice(alloc, &key)?),
+        extensions: TlsVecU16::new(Vec::from_array(alloc, [status])?),
+    };
+    let certificate = Certificate {
+        certificate_request_context: TlsByteVecU8::from_slice(alloc, &[8])?,
+        certificate_list: TlsVecU24::new(Vec::from_array(alloc, [entry])?),
+    };
+    let mut spelled = [1u8, 8, 0, 0, 58, 0, 0, 44].to_vec(alloc)?;
+    spelled.extend_from_slice(&key)?;
+    spelled.extend_from_slice(&[0, 9, 0, 5, 0, 5, 1, 0, 0, 1, 9])?;
+    is_spelled_in(&rt, alloc, &RAW, &certificate, &spelled)?;
+    is_misfit(&rt, alloc, &X509, &certificate)
+}
+
+fn entry(alloc: Global, byte: u8) -> Result<CertificateEntry, Error> {
+    let cert_data = TlsByteVec::from_slice(alloc, &[byte])?;
+    Ok(CertificateEntry {
+        certificate: CertificateData::X509(cert_data),
+        extensions: TlsVecU16::from_slice(alloc, &[])?,
+    })
+}
+
+#[test]
+fn each_entry_is_of_the_same_type(rt: HostRuntime) -> Result<(), Fail> {
+    let alloc = rt.alloc();
+    let entries = [entry(alloc, 6)?, entry(alloc, 7)?];
+    let certificate = Certificate {
+        certificate_request_context: TlsByteVecU8::from_slice(alloc, &[])?,
+        certificate_list: TlsVecU24::new(Vec::from_array(alloc, entries)?),
+    };
+    let spelled = [0, 0, 0, 12, 0, 0, 1, 6, 0, 0, 0, 0, 1, 7, 0, 0];
+    is_spelled_in(&rt, alloc, &X509, &certificate, &spelled)?;
+    is_misfit(&rt, alloc, &RAW, &certificate)?;
+    let key = CertificateData::RawPublicKey(TlsByteVec::from_slice(alloc, &[7])?);
+    let entries = [
+        entry(alloc, 6)?,
+        CertificateEntry {
+            certificate: key,
+            extensions: TlsVecU16::from_slice(alloc, &[])?,
+        },
+    ];
+    let mixed = Certificate {
+        certificate_request_context: TlsByteVecU8::from_slice(alloc, &[])?,
+        certificate_list: TlsVecU24::new(Vec::from_array(alloc, entries)?),
+    };
+    is_misfit(&rt, alloc, &X509, &mixed)?;
+    is_misfit(&rt, alloc, &RAW, &mixed)
+}
+
+// A list that ends within an entry, and a certificate of no bytes.
+#[test]
+fn rejected_lists(rt: HostRuntime) -> Result<(), Fail> {
+    let alloc = rt.alloc();
+    let cut = [0, 0, 0, 5, 0, 0, 1, 6, 0, 0];
+    is_refused_in::<_, Certificate>(&rt, alloc, &X509, &cut, Error::EndOfStream);
+    let none = [0, 0, 0, 5, 0, 0, 0, 0, 0];
+    is_refused_in::<_, Certificate>(&rt, alloc, &X509, &none, Error::InvalidVectorLength);
+    Ok(())
+}

@@ -1,0 +1,29 @@
+//! Worked values and rejected bytes.
+mod each_call;
+mod hellos;
+mod mls;
+mod parts;
+mod shapes;
+mod signed;
+
+use std::fmt::Debug;
+use std::process::Abort;
+
+// An assertion that is written out is proved at each place: this one is proved once.
+fn same<T: PartialEq + Debug + Drop>(rt: &impl Abort, found: T, expected: T) {
+    assert_eq!(rt; found, expected);
+}
+
+// The same at one of several rows, which a failure names.
+fn same_at<Row: Debug + Drop, T: PartialEq + Debug + Drop>(
+    rt: &impl Abort,
+    row: Row,
+    found: T,
+    expected: T,
+) {
+    assert_eq!(rt; found, expected, "at {row:?}");
+}
+
+fn holds(rt: &impl Abort, condition: bool) {
+    assert!(rt; condition);
+}

@@ -1,0 +1,132 @@
+//! Parts of messages of MLS (RFC 9420), each alone, spelled field by field.
+use crate::tests::each_call::{is_refused, is_spelled, is_written};
+use mls_framing::{
+    Certificate, CipherSuite, Commit, Credential, GroupContext, InterimTranscriptHashInput,
+    LeafNodeOrigin, LeafNodeTBSOrigin, Lifetime, PSKOrigin, PreSharedKeyID, ProtocolVersionMls10,
+    ResumptionPSKUsage, SenderData,
+};
+use std::alloc::Global;
+use std::test::Fail;
+use tls_codec::{Error, VLBytes};
+
+fn bytes(alloc: Global, byte: u8) -> Result<VLBytes, Error> {
+    VLBytes::from_array(alloc, &[byte])
+}
+
+fn certificate(alloc: Global, byte: u8) -> Result<Certificate, Error> {
+    let cert_data = bytes(alloc, byte)?;
+    Ok(Certificate { cert_data })
+}
+
+fn lifetime() -> Lifetime {
+    Lifetime {
+        not_before: 1,
+        not_after: 2,
+    }
+}
+
+// A registry (section 17.1): numbers without a name are kept.
+#[test]
+fn cipher_suites(rt: HostRuntime) -> Result<(), Fail> {
+    let alloc = rt.alloc();
+    let suite = CipherSuite::MLS_128_DHKEMX25519_CHACHA20POLY1305_SHA256_ED25519;
+    is_spelled(&rt, alloc, &suite, &[0, 3])?;
+    is_spelled(&rt, alloc, &CipherSuite(0x0a0a), &[0x0a, 0x0a])
+}
+
+// Section 8.1: a group's context has the one version.
+#[test]
+fn versions(rt: HostRuntime) -> Result<(), Fail> {
+    let alloc = rt.alloc();
+    is_spelled(&rt, alloc, &ProtocolVersionMls10::Mls10, &[0, 1])?;
+    is_refused::<ProtocolVersionMls10>(&rt, alloc, &[1, 0], Error::UnknownValue(256));
+    is_refused::<GroupContext>(&rt, alloc, &[0, 3, 0, 1], Error::UnknownValue(3));
+    Ok(())
+}
+
+// Section 5.3.
+#[test]
+fn credentials(rt: HostRuntime) -> Result<(), Fail> {
+    let alloc = rt.alloc();
+    let basic = Credential::Basic(bytes(alloc, 9)?);
+    is_spelled(&rt, alloc, &basic, &[0, 1, 1, 9])?;
+    let both = [certificate(alloc, 5)?, certificate(alloc, 6)?];
+    let x509 = Credential::X509(Vec::from_array(alloc, both)?);
+    is_spelled(&rt, alloc, &x509, &[0, 2, 4, 1, 5, 1, 6])?;
+    is_refused::<Credential>(&rt, alloc, &[0, 0], Error::UnknownValue(0));
+    is_refused::<Credential>(&rt, alloc, &[0, 6, 1, 9], Error::UnknownValue(6));
+    is_refused::<Credential>(&rt, alloc, &[0, 1, 0x40, 1, 9], Error::InvalidVectorLength);
+    Ok(())
+}
+
+// Section 7.2.
+#[test]
+fn sources_of_leaf_nodes(rt: HostRuntime) -> Result<(), Fail> {
+    let alloc = rt.alloc();
+    is_spelled(&rt, alloc, &LeafNodeOrigin::Update, &[2])?;
+    let commit = LeafNodeOrigin::Commit(bytes(alloc, 9)?);
+    is_spelled(&rt, alloc, &commit, &[3, 1, 9])?;
+    let package = LeafNodeOrigin::KeyPackage(lifetime());
+    let spelled = [1, 0, 0, 0, 0, 0, 0, 0, 1, 0, 0, 0, 0, 0, 0, 0, 2];
+    is_spelled(&rt, alloc, &package, &spelled)?;
+    is_refused::<LeafNodeOrigin>(&rt, alloc, &[4], Error::UnknownValue(4));
+    Ok(())
+}
+
+// Section 7.2: only a leaf that isn't of a key package has its group and its place.
+#[test]
+fn what_is_signed_of_leaf_nodes(rt: HostRuntime) -> Result<(), Fail> {
+    let alloc = rt.alloc();
+    let extensions = Vec::new(alloc);
+    let group_id = bytes(alloc, 0xfa)?;
+    let lifetime = lifetime();
+    let package = LeafNodeTBSOrigin::KeyPackage {
+        lifetime: &lifetime,
+        extensions: &extensions,
+    };
+    let spelled = [1, 0, 0, 0, 0, 0, 0, 0, 1, 0, 0, 0, 0, 0, 0, 0, 2, 0];
+    is_written(&rt, alloc, &package, &spelled)?;
+    let update = LeafNodeTBSOrigin::Update {
+        extensions: &extensions,
+        group_id: &group_id,
+        leaf_index: &5,
+    };
+    is_written(&rt, alloc, &update, &[2, 0, 1, 0xfa, 0, 0, 0, 5])
+}
+
+// Sections 8.4, 12.4, 6.3.2 and 8.2.
+#[test]
+fn structs(rt: HostRuntime) -> Result<(), Fail> {
+    let alloc = rt.alloc();
+    let psktype = PSKOrigin::Resumption {
+        usage: ResumptionPSKUsage::Reinit,
+        psk_group_id: bytes(alloc, 0xaa)?,
+        psk_epoch: 7,
+    };
+    let id = PreSharedKeyID {
+        psktype,
+        psk_nonce: bytes(alloc, 0xbb)?,
+    };
+    is_spelled(
+        &rt,
+        alloc,
+        &id,
+        &[2, 2, 1, 0xaa, 0, 0, 0, 0, 0, 0, 0, 7, 1, 0xbb],
+    )?;
+    let commit = Commit {
+        proposals: Vec::new(alloc),
+        path: None,
+    };
+    is_spelled(&rt, alloc, &commit, &[0, 0])?;
+    let sender = SenderData {
+        leaf_index: 1,
+        generation: 2,
+        reuse_guard: [3, 4, 5, 6],
+    };
+    is_spelled(&rt, alloc, &sender, &[0, 0, 0, 1, 0, 0, 0, 2, 3, 4, 5, 6])?;
+    let confirmation_tag = bytes(alloc, 0xe2)?;
+    let hashed = InterimTranscriptHashInput {
+        confirmation_tag: &confirmation_tag,
+    };
+    is_written(&rt, alloc, &hashed, &[1, 0xe2])
+}

@@ -1,0 +1,77 @@
+// What no clause says: what is read and planned of worked texts, and where and why texts are refused.
+mod bad;
+mod crates;
+mod inputs;
+mod large;
+mod layout;
+mod names;
+mod plans;
+mod presentation;
+mod selects;
+mod shown;
+
+use shown::show;
+use std::alloc::Global;
+use std::fmt::Debug;
+use std::process::Abort;
+use std::test::Fail;
+use tlsgen_model::plan::Plan;
+use tlsgen_resolve::planning::plan_of;
+use tlsgen_syntax::parser::parse;
+use tlsgen_syntax::refusal::{Refusal, Trouble};
+
+// An assertion that is written out is proved at each place: this one is proved once.
+fn same<T: PartialEq + Debug + Drop>(rt: &impl Abort, found: T, expected: T) {
+    assert_eq!(rt; found, expected);
+}
+
+// The same at one of several rows, which a failure names.
+fn same_at<Row: Debug + Drop, T: PartialEq + Debug + Drop>(
+    rt: &impl Abort,
+    row: Row,
+    found: T,
+    expected: T,
+) {
+    assert_eq!(rt; found, expected, "at {row:?}");
+}
+
+// A refusal that has this word in what it expects.
+fn expects(rt: &impl Abort, refusal: &Refusal, word: &str) {
+    assert!(rt; refusal.expected.contains(word), "{refusal}");
+}
+
+fn plan(alloc: Global, text: &str) -> Result<Plan, Trouble> {
+    let file = parse(alloc, text)?;
+    plan_of(alloc, &[file]).map_err(|fault| fault.trouble)
+}
+
+fn made(rt: &impl Abort, alloc: Global, text: &str) -> Plan {
+    match plan(alloc, text) {
+        Ok(plan) => plan,
+        Err(Trouble::Refused(refusal)) => panic!(rt; "{refusal}"),
+        Err(Trouble::Memory) => panic!(rt; "out of memory"),
+    }
+}
+
+fn refusal(rt: &impl Abort, alloc: Global, text: &str) -> Refusal {
+    match plan(alloc, text) {
+        Ok(_) => panic!(rt; "not refused: {text}"),
+        Err(Trouble::Refused(refusal)) => refusal,
+        Err(Trouble::Memory) => panic!(rt; "out of memory"),
+    }
+}
+
+#[test]
+fn worked_texts(rt: HostRuntime) -> Result<(), Fail> {
+    let mls = format!(in rt.alloc(); "{}{}", inputs::MLS, inputs::FRAMING_RFC)?;
+    for (text, wanted) in [
+        (inputs::SHAPES, plans::SHAPES),
+        (inputs::ALERT, plans::ALERT),
+        (mls.as_str(), plans::MLS),
+    ] {
+        let plan = made(&rt, rt.alloc(), text);
+        let shown = show(rt.alloc(), &plan)?;
+        same(&rt, shown.as_str(), wanted);
+    }
+    Ok(())
+}

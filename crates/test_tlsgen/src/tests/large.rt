@@ -1,0 +1,128 @@
+// Texts that are long, or that would become long.
+use super::{expects, refusal, same};
+use std::alloc::{AllocError, Global};
+use std::test::Fail;
+use tlsgen_resolve::planning::{Fault, plan_within};
+use tlsgen_syntax::parser::parse;
+use tlsgen_syntax::refusal::Trouble;
+
+// So many fields.
+fn fields(alloc: Global, count: usize) -> Result<String, AllocError> {
+    let mut out = String::new(alloc);
+    for k in 0..count {
+        write!(&mut out, "uint8 a{k}; ")?;
+    }
+    Ok(out)
+}
+
+#[test]
+fn many(rt: HostRuntime) -> Result<(), Fail> {
+    let alloc = rt.alloc();
+    let nineteen = fields(alloc, 19)?;
+    let parts = fields(alloc, 257)?;
+    let too_many = fields(alloc, 28)?;
+    for (text, found, word) in [
+        (
+            format!(in alloc; "struct {{ {too_many} }} S;")?,
+            "S",
+            "27 fields",
+        ),
+        (
+            format!(in alloc; "struct {{ {parts} }} S;")?,
+            "S",
+            "256 parts",
+        ),
+        (
+            format!(in alloc;
+                "struct {{ uint8 t; select (S.t) {{ case 1: {nineteen} case 2: struct{{}}; }} }} S;"
+            )?,
+            "case_1",
+            "18 fields",
+        ),
+        (
+            format!(in alloc;
+                "open enum {{ a(1), b(2), (255) }} T; struct {{ T t; select (S.t) {{ case a: {nineteen} case b: struct{{}}; }} }} S;"
+            )?,
+            "a",
+            "18 fields",
+        ),
+    ] {
+        let refusal = refusal(&rt, alloc, text.as_str());
+        same(&rt, refusal.found.as_str(), found);
+        expects(&rt, &refusal, word);
+    }
+    Ok(())
+}
+
+// Two cases with five fields each, once from a select and once from what stands before it.
+#[test]
+fn copies_are_counted(rt: HostRuntime) -> Result<(), Fail> {
+    let alloc = rt.alloc();
+    let five = fields(alloc, 5)?;
+    let text = format!(in alloc;
+        "struct {{ uint8 t; {five} select (S.t) {{ case 1: uint8 b; case 2: struct{{}}; }} }} S;"
+    )?;
+    let Ok(file) = parse(alloc, text.as_str()) else {
+        panic!(rt; "no file");
+    };
+    let files = [file];
+    same(&rt, plan_within(alloc, &files, 18).is_ok(), true);
+    match plan_within(alloc, &files, 17) {
+        Err(
+            Fault {
+                trouble: Trouble::Refused(refusal),
+                ..
+            },
+        ) => {
+            expects(&rt, &refusal, "a smaller text");
+            Ok(())
+        }
+        _ => panic!(rt; "not refused"),
+    }
+}
+
+// So many structs, each with 256 cases, and with 18 fields that stand in each of these.
+fn structs(alloc: Global, count: usize) -> Result<String, AllocError> {
+    let mut labels = String::new(alloc);
+    for k in 0..=255u8 {
+        write!(&mut labels, "case {k}: ")?;
+    }
+    let eighteen = fields(alloc, 18)?;
+    let mut out = String::new(alloc);
+    for k in 0..count {
+        write!(
+            &mut out,
+            "struct {{ uint8 t; {eighteen} select (S{k}.t) {{ {labels}struct{{}}; }} }} S{k};"
+        )?;
+    }
+    Ok(out)
+}
+
+// 21 times 256 cases of 18 fields.
+#[test]
+fn more_than_may_be_in_all(rt: HostRuntime) -> Result<(), Fail> {
+    let text = structs(rt.alloc(), 21)?;
+    let refusal = refusal(&rt, rt.alloc(), text.as_str());
+    expects(&rt, &refusal, "a smaller text");
+    Ok(())
+}
+
+// Each struct has the one before it twice.
+#[test]
+fn structs_in_structs(rt: HostRuntime) -> Result<(), Fail> {
+    let alloc = rt.alloc();
+    let mut text = String::from_str(
+        alloc,
+        "struct { select (X.t) { case 1: struct{}; } } Level0;",
+    )?;
+    for k in 0..9u8 {
+        let next = k + 1;
+        write!(
+            &mut text,
+            "struct {{ Level{k} a; Level{k} b; }} Level{next};"
+        )?;
+    }
+    let refusal = refusal(&rt, alloc, text.as_str());
+    expects(&rt, &refusal, "256 parts");
+    Ok(())
+}

@@ -1,0 +1,277 @@
+// What is read of a text, and what is printed of that.
+use super::{inputs, same, same_at};
+use std::alloc::Global;
+use std::process::Abort;
+use std::test::Fail;
+use tlsgen_syntax::lexer::lex;
+use tlsgen_syntax::parser::parse;
+use tlsgen_syntax::print::print;
+use tlsgen_syntax::refusal::{Refusal, Trouble};
+use tlsgen_syntax::syntax::File;
+
+fn file_of(rt: &impl Abort, alloc: Global, text: &str) -> File {
+    match parse(alloc, text) {
+        Ok(file) => file,
+        Err(Trouble::Refused(refusal)) => panic!(rt; "{refusal}"),
+        Err(Trouble::Memory) => panic!(rt; "out of memory"),
+    }
+}
+
+fn refusal_of(rt: &impl Abort, alloc: Global, text: &str) -> Refusal {
+    match parse(alloc, text) {
+        Ok(_) => panic!(rt; "it parses"),
+        Err(Trouble::Refused(refusal)) => refusal,
+        Err(Trouble::Memory) => panic!(rt; "out of memory"),
+    }
+}
+
+// The tokens of a text without their places, one a line.
+fn signs_of(rt: &impl Abort, alloc: Global, text: &str) -> Result<String, Fail> {
+    let mut signs = String::new(alloc);
+    let Ok(tokens) = lex(alloc, text) else {
+        panic!(rt; "no tokens");
+    };
+    for token in &tokens {
+        let kind = &token.kind;
+        writeln!(signs, "{kind}")?;
+    }
+    Ok(signs)
+}
+
+// The printed text has the signs of the text, and so says the same, as `parse_tokens` ensures.
+#[test]
+fn what_is_printed_says_the_same(rt: HostRuntime) -> Result<(), Fail> {
+    for text in [
+        inputs::SHAPES,
+        inputs::TLS13,
+        inputs::FRAMING_RFC,
+        inputs::FRAMING,
+        inputs::MLS,
+        inputs::ALERT,
+    ] {
+        let file = file_of(&rt, rt.alloc(), text);
+        let printed = print(rt.alloc(), &file)?;
+        let signs = signs_of(&rt, rt.alloc(), text)?;
+        let again = signs_of(&rt, rt.alloc(), &printed)?;
+        same(&rt, signs.as_str(), again.as_str());
+        let again = file_of(&rt, rt.alloc(), &printed);
+        let twice = print(rt.alloc(), &again)?;
+        same(&rt, printed.as_str(), twice.as_str());
+    }
+    Ok(())
+}
+
+#[test]
+fn one_layout(rt: HostRuntime) -> Result<(), Fail> {
+    let text =
+        "enum{a(0x10),(2^8-1)}A;open enum { b ( 1 ) } B ; lent struct{}E;opaque K<V>;uint8 C[2];// the end
+struct{A a=b;optional<C>c<0..2^16-1>;select(S.a.b){case a:case 7:uint8 x;K k[2];case z:struct{};}select(S.a){}N;}S;";
+    let want = "enum { a(16), (255) } A;
+open enum { b(1) } B;
+lent struct {
+} E;
+opaque K<V>;
+uint8 C[2];
+struct {
+    A a = b;
+    optional<C> c<0..65535>;
+    select (S.a.b) {
+        case a:
+        case 7:
+            uint8 x;
+            K k[2];
+        case z:
+            struct {};
+    }
+    select (S.a) {
+    } N;
+} S;
+";
+    let file = file_of(&rt, rt.alloc(), text);
+    let printed = print(rt.alloc(), &file)?;
+    same(&rt, printed.as_str(), want);
+    Ok(())
+}
+
+// Texts that are refused, each with the place, what stands there, and what would be right.
+static BAD: [(&str, usize, usize, &str, &str); 32] = [
+    ("enum", 1, 5, "", "{"),
+    (
+        "{",
+        1,
+        1,
+        "{",
+        "enum, open, struct, lent or the name of a type",
+    ),
+    ("\n  é", 2, 3, "é", "an ASCII character"),
+    ("/* é */", 1, 4, "é", "an ASCII character"),
+    ("uint8 a; /* uint8", 1, 10, "/*", "a comment that ends"),
+    (
+        "uint8 a[18446744073709551616];",
+        1,
+        9,
+        "18446744073709551616",
+        "a number of 64 bits, as 12, 0x0a or 2^16-1",
+    ),
+    (
+        "uint8 a<0..2^64>;",
+        1,
+        12,
+        "2^64",
+        "a number of 64 bits, as 12, 0x0a or 2^16-1",
+    ),
+    (
+        "uint8 a[1-2];",
+        1,
+        9,
+        "1-2",
+        "a number of 64 bits, as 12, 0x0a or 2^16-1",
+    ),
+    (
+        "uint8 a[12ab];",
+        1,
+        9,
+        "12ab",
+        "a number of 64 bits, as 12, 0x0a or 2^16-1",
+    ),
+    ("uint8 #;", 1, 7, "#", "a word, a number or a mark"),
+    (
+        "uint8 A;;",
+        1,
+        9,
+        ";",
+        "enum, open, struct, lent or the name of a type",
+    ),
+    (
+        ";uint8 A;",
+        1,
+        1,
+        ";",
+        "enum, open, struct, lent or the name of a type",
+    ),
+    ("uint8 struct;", 1, 7, "struct", "the new name of the type"),
+    (
+        "optional<A> b;",
+        1,
+        1,
+        "optional",
+        "enum, open, struct, lent or the name of a type",
+    ),
+    ("uint8 a = b;", 1, 9, "=", "[, < or ;"),
+    ("open struct {} A;", 1, 6, "struct", "enum"),
+    ("lent enum { a(1) } A;", 1, 6, "enum", "struct"),
+    ("enum {} A;", 1, 7, "}", "a value's name or ("),
+    ("enum { a(1) b(2) } A;", 1, 13, "b", ", or }"),
+    ("enum { a(b) } A;", 1, 10, "b", "the value's number"),
+    ("enum { a(0x0a };", 1, 15, "}", ")"),
+    ("struct {\n\tuint8 a<2^8>;\n} A;", 2, 13, ">", ".."),
+    ("struct { uint8 a<V; } A;", 1, 19, ";", ">"),
+    (
+        "struct { uint8 a[V]; } A;",
+        1,
+        18,
+        "V",
+        "the number of elements",
+    ),
+    ("struct { uint8 a } A;", 1, 18, "}", "[, <, = or ;"),
+    ("struct { uint8 a; }", 1, 20, "", "the struct's name"),
+    ("struct { optional A a; } A;", 1, 19, "A", "<"),
+    (
+        "struct { select (A.) {} } A;",
+        1,
+        20,
+        ")",
+        "the name of a field",
+    ),
+    (
+        "struct { select (A.a) { uint8 a; } } A;",
+        1,
+        25,
+        "uint8",
+        "case or }",
+    ),
+    (
+        "struct { select (A.a) { case: uint8 a; } } A;",
+        1,
+        29,
+        ":",
+        "the name or the number of a value",
+    ),
+    (
+        "struct { select (A.a) { case a: } } A;",
+        1,
+        33,
+        "}",
+        "the name of a type",
+    ),
+    (
+        "struct { select (A.a) { case a: struct { uint8 a; }; } } A;",
+        1,
+        42,
+        "uint8",
+        "}",
+    ),
+];
+
+#[test]
+fn refusals(rt: HostRuntime) -> Result<(), Fail> {
+    for (text, line, column, found, expected) in &BAD {
+        let refusal = refusal_of(&rt, rt.alloc(), text);
+        same_at(&rt, *text, refusal.place.line, *line);
+        same_at(&rt, *text, refusal.place.column, *column);
+        same_at(&rt, *text, refusal.found.as_str(), *found);
+        same_at(&rt, *text, refusal.expected, *expected);
+    }
+    Ok(())
+}
+
+// Each text, and what is printed of it. A comment goes on at a `*` or a `/` alone.
+static COMMENTS: [(&str, &str); 6] = [
+    ("/* a * b / c */ uint8 A;", "uint8 A;\n"),
+    ("/* a / b * c */ uint8 A;", "uint8 A;\n"),
+    ("/**/uint8 A;/***/uint8 B;", "uint8 A;\nuint8 B;\n"),
+    ("/*/ uint8 A; */uint8 B;", "uint8 B;\n"),
+    ("/* uint8 A; */uint8 B;/* uint8 C; */", "uint8 B;\n"),
+    ("// uint8 A; /*\nuint8 B;// */ uint8 C;", "uint8 B;\n"),
+];
+
+#[test]
+fn comments(rt: HostRuntime) -> Result<(), Fail> {
+    for (text, want) in &COMMENTS {
+        let file = file_of(&rt, rt.alloc(), text);
+        let printed = print(rt.alloc(), &file)?;
+        same_at(&rt, *text, printed.as_str(), *want);
+    }
+    Ok(())
+}
+
+#[test]
+fn numbers(rt: HostRuntime) -> Result<(), Fail> {
+    let file = file_of(
+        &rt,
+        rt.alloc(),
+        "uint8 a<0x0A..2^64-1>; uint8 b<00..18446744073709551615>; uint8 c<7^2..5-5>;",
+    );
+    let printed = print(rt.alloc(), &file)?;
+    same(
+        &rt,
+        printed.as_str(),
+        "uint8 a<10..18446744073709551615>;\nuint8 b<0..18446744073709551615>;\nuint8 c<49..0>;\n",
+    );
+    Ok(())
+}
+
+#[test]
+fn many_brackets_are_refused(rt: HostRuntime) -> Result<(), Fail> {
+    for (byte, found) in [('{', "{"), ('<', "<")] {
+        let mut text = String::new(rt.alloc());
+        for _ in 0..1 << 17 {
+            text.push(byte)?;
+        }
+        let refusal = refusal_of(&rt, rt.alloc(), &text);
+        same(&rt, refusal.place.line, 1);
+        same(&rt, refusal.place.column, 1);
+        same(&rt, refusal.found.as_str(), found);
+    }
+    Ok(())
+}

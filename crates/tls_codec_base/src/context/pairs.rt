@@ -1,0 +1,73 @@
+//! `(T, U)` in a context: the first part, then the second, each in the same one.
+ghost use Rattle.tls_codec_grammar.specs.Tree.{Empty, Join};
+ghost use Rattle.tls_codec_grammar.specs.Format.{pair_format};
+ghost use Rattle.tls_codec_grammar.specs.laws.FormatLaws.{pair_meets};
+ghost use Rattle.tls_codec_base.specs.Refusals.{fields_names, fields_source_names};
+
+use crate::context::traits::{DeserializeBytesFor, DeserializeFor, SerializeFor, SizeFor};
+use crate::traits::Size;
+use std::alloc::Global;
+use tls_codec_wire::{Error, Sink, Source};
+
+impl<C: Size, T: SizeFor<C>, U: SizeFor<C>> SizeFor<C> for (T, U) {
+    ghost plain = { λ p. Join (T.plain p.0) (Join (U.plain p.1) Empty) };
+
+    ghost format_for = { λ c. pair_format (T.format_for c) (U.format_for c) };
+
+    fn tls_serialized_len_for(&self, context: &C) -> usize {
+        self.0
+            .tls_serialized_len_for(context)
+            .saturating_add(self.1.tls_serialized_len_for(context))
+    }
+
+    ghost lawful = { λ c. pair_meets (T.lawful c) (U.lawful c) };
+}
+
+impl<C: Size, T: DeserializeFor<C>, U: DeserializeFor<C>> DeserializeFor<C> for (T, U) {
+    ghost names = { λ c. fields_source_names (T.format_for c) (T.names c) (U.names c) };
+
+    fn tls_deserialize_for<R: Source>(
+        context: &C,
+        alloc: Global,
+        bytes: &mut R,
+    ) -> Result<(T, U), Error> {
+        let first = T::tls_deserialize_for(context, alloc, bytes)?;
+        let second = U::tls_deserialize_for(context, alloc, bytes)?;
+        Ok((first, second))
+    }
+}
+
+impl<C: Size, T: DeserializeBytesFor<C>, U: DeserializeBytesFor<C>> DeserializeBytesFor<C>
+    for (T, U) {
+    ghost names = { λ c. fields_names (T.format_for c) (T.names c) (U.names c) };
+
+    fn tls_deserialize_bytes_for<'a>(
+        context: &C,
+        alloc: Global,
+        bytes: &'a [u8],
+    ) -> Result<((T, U), &'a [u8]), Error> {
+        let (first, rest) = T::tls_deserialize_bytes_for(context, alloc, bytes)?;
+        let (second, rest) = U::tls_deserialize_bytes_for(context, alloc, rest)?;
+        Ok(((first, second), rest))
+    }
+}
+
+impl<C: Size, T: SerializeFor<C>, U: SerializeFor<C>> SerializeFor<C> for (T, U) {
+    fn tls_serialize_for<W: Sink>(&self, context: &C, writer: &mut W) -> Result<usize, Error> {
+        let first = self.0.tls_serialize_for(context, writer)?;
+        let second = self.1.tls_serialize_for(context, writer)?;
+        Ok(first.saturating_add(second))
+    }
+
+    fn tls_serialize_into_for(&self, context: &C, out: &mut Vec<u8>) -> Result<usize, Error> {
+        let at = out.len();
+        let first = self.0.tls_serialize_into_for(context, out)?;
+        match self.1.tls_serialize_into_for(context, out) {
+            Ok(second) => Ok(first.saturating_add(second)),
+            Err(error) => {
+                out.truncate(at);
+                Err(error)
+            }
+        }
+    }
+}

@@ -1,0 +1,33 @@
+//! Numbers that look random, and are the same in each run.
+ghost use Rattle.std.specs.Prelude.{◌≡◌};
+ghost use Rattle.tls_codec_bench.specs.Noise.{state_of, shifted};
+
+/// Marsaglia's xorshift generator of 64 bits, with the shifts 13, 7 and 17.
+#[derive(Drop)]
+pub struct Noise {
+    state: u64,
+}
+
+impl Noise {
+    /// The generator at its start.
+    pub fn new() -> Noise
+        ensures { state_of result ≡ 88172645463325252 }
+    {
+        Noise {
+            state: 88_172_645_463_325_252,
+        }
+    }
+
+    /// The next number, which is the state that the generator is left in.
+    pub fn number(&mut self) -> u64
+        ensures number { result ≡ shifted (state_of self.old) }
+        ensures state { state_of self.new ≡ result }
+    {
+        let mut state = self.state;
+        state ^= state << 13;
+        state ^= state >> 7;
+        state ^= state << 17;
+        self.state = state;
+        state
+    }
+}

@@ -1,9 +1,0 @@
-//! What isn't a worked value of a type: devices and sources that fail or tell nothing, the engines under the
-//! traits, laws beside what they say of some bytes, and the calls of the types that neither read nor write.
-//!
-//! The crate has only tests, as `tls_codec_tests` has. It is a crate of its own since a large one takes longer to
-//! prove than two of half its size.
-#![tactic(auto)]
-
-#[cfg(test)]
-mod tests;

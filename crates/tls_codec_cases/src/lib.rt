@@ -1,0 +1,28 @@
+//! An enum's codec as a value of a generic sum, so that an enum of your own needs no answers.
+//!
+//! [`Tagged`] is a tag and after it what its case has; [`Case`] is one case, and [`Or`] joins two sums of them. An enum says
+//! which of the cases it is, borrowed ([`write_as`], [`append_as`]), and is made of one that was read (RFC 8446, section 3.8).
+//! [`Else`] adds a case for every other tag; [`Chosen`] is for a tag that a context says; [`Enclosed`] is a value in its length.
+#![tactic(auto)]
+
+pub mod case;
+pub mod cases;
+pub mod chosen;
+pub mod either;
+pub mod elses;
+pub mod enclosed;
+pub mod other;
+pub mod tag;
+pub mod tagged;
+pub mod written_as;
+
+pub use case::Case;
+pub use cases::{Cases, ReadCases, SplitCases, Tags, WriteCases};
+pub use chosen::{Chosen, Selector};
+pub use either::Or;
+pub use elses::Else;
+pub use enclosed::Enclosed;
+pub use other::Other;
+pub use tag::Tag;
+pub use tagged::Tagged;
+pub use written_as::{Raised, append_as, append_as_for, write_as, write_as_for};

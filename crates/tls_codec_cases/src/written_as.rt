@@ -1,0 +1,85 @@
+//! [`write_as`] and [`append_as`], by which a value is written as its borrowed cases.
+//!
+//! Their signatures don't name [`Error`], which has a text that is `'static`: the borrow checker covers no
+//! type argument of several lifetimes in a call whose signature does.
+ghost use Rattle.std.specs.Prelude.{◌≡◌, ℕ, Result};
+ghost use Rattle.tls_codec_wire.specs.declared.error.Error.{Error};
+ghost use Rattle.tls_codec_grammar.specs.Encoding.{AppendsForm, Writes};
+
+use tls_codec_base::{Serialize, SerializeFor, Size, SizeFor};
+use tls_codec_wire::{Error, Sink};
+
+/// What encoders return in place of an error: [`Error`] alone.
+pub trait Raised {
+    ghost told: { Result ℕ Self → Result ℕ Error };
+
+    /// The same result.
+    fn raise(found: Result<usize, Error>) -> Result<usize, Self>
+        ensures { told result ≡ found };
+}
+
+impl Raised for Error {
+    ghost told = { λ r. r };
+
+    #[inline(always)]
+    fn raise(found: Result<usize, Error>) -> Result<usize, Error> {
+        found
+    }
+}
+
+/// Sends a value as its borrowed cases, which stand for the same.
+#[inline(always)]
+pub fn write_as<S: Size, T: Serialize, W: Sink, E: Raised>(
+    _whole: &S,
+    cases: &T,
+    writer: &mut W,
+) -> Result<usize, E>
+    requires { T.plain cases.now ≡ S.plain _whole.now }
+    ensures { Writes T.format (S.plain _whole.now) W.Sink writer.old writer.new (E.told result) }
+{
+    E::raise(cases.tls_serialize(writer))
+}
+
+/// Appends a value as its borrowed cases, which stand for the same.
+#[inline(always)]
+pub fn append_as<S: Size, T: Serialize, E: Raised>(
+    _whole: &S,
+    cases: &T,
+    out: &mut Vec<u8>,
+) -> Result<usize, E>
+    requires { T.plain cases.now ≡ S.plain _whole.now }
+    ensures { AppendsForm T.format (S.plain _whole.now) out.old.items out.new.items
+        (E.told result) }
+{
+    E::raise(cases.tls_serialize_into(out))
+}
+
+/// Sends a value in a context as its borrowed cases, which stand for the same.
+#[inline(always)]
+pub fn write_as_for<K: Size, S: SizeFor<K>, T: SerializeFor<K>, W: Sink, E: Raised>(
+    _whole: &S,
+    cases: &T,
+    context: &K,
+    writer: &mut W,
+) -> Result<usize, E>
+    requires { T.plain cases.now ≡ S.plain _whole.now }
+    ensures { Writes (T.format_for (K.plain context.now)) (S.plain _whole.now) W.Sink writer.old
+        writer.new (E.told result) }
+{
+    E::raise(cases.tls_serialize_for(context, writer))
+}
+
+/// Appends a value in a context as its borrowed cases, which stand for the same.
+#[inline(always)]
+pub fn append_as_for<K: Size, S: SizeFor<K>, T: SerializeFor<K>, E: Raised>(
+    _whole: &S,
+    cases: &T,
+    context: &K,
+    out: &mut Vec<u8>,
+) -> Result<usize, E>
+    requires { T.plain cases.now ≡ S.plain _whole.now }
+    ensures { AppendsForm (T.format_for (K.plain context.now)) (S.plain _whole.now) out.old.items
+        out.new.items (E.told result) }
+{
+    E::raise(cases.tls_serialize_into_for(context, out))
+}

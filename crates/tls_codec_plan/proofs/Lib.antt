@@ -1,3 +1,0 @@
-pub mod Fits
-pub mod Keys
-pub mod Kept

@@ -1,8 +1,0 @@
-use Rattle.std.proofs.Common.{◌≤◌, length}
-use Rattle.tls_codec_presentation.proofs.lexer.skip_blanks.Given as goal
-
-abbrev pub invariant-more : goal.invariant-more
-invariant-more l = length l.cursor.left.now ≤ length l.fn.cursor.left.now
-
-abbrev pub decreases-more : goal.decreases-more
-decreases-more l = length l.cursor.left.now

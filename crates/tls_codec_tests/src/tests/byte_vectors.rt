@@ -1,4 +1,0 @@
-//! Byte vectors as messages spell them.
-mod lists;
-mod secrets;
-mod spellings;

@@ -1,5 +1,0 @@
-use Rattle.std.proofs.Common.{◌<◌}
-use Rattle.tls_codec_timing.proofs.timing.calls_a_round.Given as goal
-
-abbrev pub invariant-loop : goal.invariant-loop
-invariant-loop g l = 0 < l.calls

@@ -1,4 +1,0 @@
-pub mod Names
-pub mod Noise
-pub mod Median
-pub mod Calls

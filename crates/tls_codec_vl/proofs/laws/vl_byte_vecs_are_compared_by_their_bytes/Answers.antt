@@ -1,6 +1,0 @@
-use Rattle.std.proofs.Common.{refl}
-use Rattle.std.specs.Cmp.Lexicographic.{lists_agrees}
-use Rattle.tls_codec_vl.proofs.laws.vl_byte_vecs_are_compared_by_their_bytes.Goals as goal
-
-pub returns-clause-partly : goal.returns-clause-partly
-returns-clause-partly c = λ x y. lists_agrees (λ a b. refl) x.0.items y.0.items

@@ -1,0 +1,125 @@
+//! `tlsgen INPUT --crate NAME` writes the sources of a crate from messages in the presentation language of TLS
+//! (RFC 8446, section 3; RFC 9420, section 2.1): code, definitions and answers, which the prover then checks.
+//!
+//! It prints each file after a line with its path. With `--to FOLDER` it writes them there, and with `--compare FOLDER`
+//! it ends with status 0 if the files there are the same but for layout, and else with 1 and the first line that
+//! differs, or the first file that can't be read. `--show` is for one file in place of those: a module that shows the
+//! messages as a tree, for a crate that has `show::Show` and uses `message_tree`. `--with NAME=FILE` names another crate
+//! and its input: the text may name its types. A text that is rejected or can't be read, and a file that can't be written,
+//! end it with status 2; nothing is written before the whole text is read.
+//!
+//! - [`words`]: the command line.
+//! - [`texts`]: the texts of a crate and of those that it is over.
+//! - [`files`]: printing, writing and comparing files.
+#![tactic(auto)]
+
+mod files;
+mod texts;
+mod words;
+
+use std::process::ExitCode;
+use std::rt::Files;
+use std::{env, fs};
+use texts::Texts;
+use tlsgen_emit::file::files_of;
+use tlsgen_emit::shows::file_of;
+use tlsgen_model::plan::Plan;
+use tlsgen_syntax::refusal::Trouble;
+use words::command;
+
+// The status after a text that is rejected, and after words that aren't understood.
+const REFUSED: u8 = 2;
+
+fn main(rt: HostRuntime) -> anyhow::Result<ExitCode> {
+    let alloc = rt.alloc();
+    let words: Vec<String> = env::args(&rt)?.collect(alloc)?;
+    let matches = match command(alloc)?.try_get_matches_from(words.as_slice()) {
+        Ok(matches) => matches,
+        Err(error) => {
+            error.print(&rt)?;
+            return Ok(ExitCode::from(error.exit_code() as u8));
+        }
+    };
+    let input = matches.get_str("INPUT").unwrap_or("");
+    let name = matches.get_str("crate").unwrap_or("");
+    let mut texts = Texts::new(alloc);
+    if !add_others(&rt, &mut texts, matches.get_strs("with").unwrap_or(&[]))? {
+        return Ok(ExitCode::from(REFUSED));
+    }
+    if !add(&rt, &mut texts, input)? {
+        return Ok(ExitCode::from(REFUSED));
+    }
+    let Some(plan) = plan(&rt, &texts)? else {
+        return Ok(ExitCode::from(REFUSED));
+    };
+    let written = if matches.get_flag("show") {
+        vec![in alloc; file_of(alloc, name, texts.crates.as_slice(), &plan)?]?
+    } else {
+        files_of(alloc, name, texts.crates.as_slice(), &plan)?
+    };
+    if let Some(folder) = matches.get_str("to") {
+        return files::write_to(&rt, folder, written.as_slice());
+    }
+    if let Some(folder) = matches.get_str("compare") {
+        return files::compare_with(&rt, folder, written.as_slice());
+    }
+    files::print(&rt, written.as_slice())
+}
+
+/// Adds the texts of other crates, each given as `NAME=FILE`. Returns whether all were read.
+fn add_others<R: Eprint + AllocGlobal + Files>(
+    rt: &R,
+    texts: &mut Texts,
+    words: &[&str],
+) -> anyhow::Result<bool> {
+    for word in words {
+        let Some((name, path)) = word.split_once('=') else {
+            eprintln!(rt; "--with {word}: expected NAME=FILE")?;
+            return Ok(false);
+        };
+        if !add(rt, texts, path)? {
+            return Ok(false);
+        }
+        texts.end_crate(rt.alloc(), name)?;
+    }
+    Ok(true)
+}
+
+/// Adds a file's text, or prints why it can't be read.
+fn add<R: Eprint + AllocGlobal + Files>(
+    rt: &R,
+    texts: &mut Texts,
+    path: &str,
+) -> anyhow::Result<bool> {
+    let text = match fs::read_to_string(rt, path) {
+        Ok(text) => text,
+        Err(error) => {
+            eprintln!(rt; "{path}: {error}")?;
+            return Ok(false);
+        }
+    };
+    if let Err(trouble) = texts.add(rt.alloc(), path, text.as_str()) {
+        print_trouble(rt, path, trouble)?;
+        return Ok(false);
+    }
+    Ok(true)
+}
+
+/// The plan of the crate, or prints why a text is rejected.
+fn plan<R: Eprint + AllocGlobal>(rt: &R, texts: &Texts) -> anyhow::Result<Option<Plan>> {
+    match texts.plan(rt.alloc()) {
+        Ok(plan) => Ok(Some(plan)),
+        Err(fault) => {
+            print_trouble(rt, texts.path(fault.file), fault.trouble)?;
+            Ok(None)
+        }
+    }
+}
+
+fn print_trouble<R: Eprint>(rt: &R, path: &str, trouble: Trouble) -> anyhow::Result<()> {
+    match trouble {
+        Trouble::Refused(refusal) => eprintln!(rt; "{path}: {refusal}")?,
+        Trouble::Memory => eprintln!(rt; "{path}: out of memory")?,
+    }
+    Ok(())
+}

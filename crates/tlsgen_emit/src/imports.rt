@@ -1,0 +1,212 @@
+//! Which lines of imports a text needs.
+
+use crate::types::Names;
+use crate::vocabulary::{CLAUSES, CONTENTS, LAWS, LEMMAS, NAMES, PRELUDE, WORDS};
+use std::alloc::{AllocError, Global};
+
+/// The words of a text, other than those of its comments.
+#[derive(Drop)]
+struct Text<'a> {
+    text: &'a str,
+    words: Vec<&'a str>,
+}
+
+impl<'a> Text<'a> {
+    fn of(alloc: Global, text: &'a str) -> Result<Text<'a>, AllocError> {
+        let mut words = Vec::new(alloc);
+        for line in text.lines() {
+            if line.trim_start().starts_with("//") {
+                continue;
+            }
+            for word in line.split(is_between_words) {
+                words.push(word)?;
+            }
+        }
+        Ok(Text { text, words })
+    }
+
+    // Whether it has a word, or the sign of an operator, as `◌≡◌`.
+    fn has(&self, word: &str) -> bool {
+        if word.is_ascii() {
+            self.words.as_slice().contains(&word)
+        } else {
+            self.text.contains(word.trim_matches('◌'))
+        }
+    }
+
+    // Those of the words that it has.
+    fn used(&self, alloc: Global, words: &[&'static str]) -> Result<Vec<&'static str>, AllocError> {
+        let mut used = Vec::new(alloc);
+        for word in words {
+            if self.has(word) {
+                used.push(*word)?;
+            }
+        }
+        Ok(used)
+    }
+
+    // Adds `use path.{a, b}`, a line of definitions and answers. Nothing for no names.
+    fn push_use(
+        &self,
+        alloc: Global,
+        out: &mut String,
+        path: &str,
+        words: &[&'static str],
+    ) -> Result<(), AllocError> {
+        let names = self.used(alloc, words)?.as_slice().join(alloc, ", ")?;
+        if names.is_empty() {
+            return Ok(());
+        }
+        writeln!(out, "use {path}.{{{names}}}")
+    }
+}
+
+/// Whether a character ends a word of Rust or of the definitions.
+pub fn is_between_words(c: char) -> bool {
+    !c.is_ascii_alphanumeric() && c != '_'
+}
+
+/// Adds the lines of a file of definitions, but those of its own message.
+pub fn push_definitions(alloc: Global, out: &mut String, text: &str) -> Result<(), AllocError> {
+    let brought = [
+        ("Rattle.std.proofs.Common", ["arith"].as_slice()),
+        ("Rattle.std.specs.Prelude", PRELUDE.as_slice()),
+        ("Rattle.tls_codec.specs.OwnMessages", WORDS.as_slice()),
+        ("Rattle.tls_codec.specs.Contents", CONTENTS.as_slice()),
+    ];
+    push_uses(alloc, out, text, &brought)
+}
+
+/// Adds the lines of a file of answers, but those of the message's definitions.
+pub fn push_answers(alloc: Global, out: &mut String, text: &str) -> Result<(), AllocError> {
+    let brought = [
+        (
+            "Rattle.std.proofs.Common",
+            ["rules", "refl", "sym"].as_slice(),
+        ),
+        ("Rattle.tls_codec.specs.OwnMessages", LAWS.as_slice()),
+        ("Rattle.tls_codec.proofs.OwnMessages", LEMMAS.as_slice()),
+    ];
+    push_uses(alloc, out, text, &brought)
+}
+
+// Adds the lines for what a text takes of these, each words after their path.
+fn push_uses(
+    alloc: Global,
+    out: &mut String,
+    text: &str,
+    brought: &[(&str, &[&'static str])],
+) -> Result<(), AllocError> {
+    let text = Text::of(alloc, text)?;
+    for (path, words) in brought {
+        text.push_use(alloc, out, path, words)?;
+    }
+    Ok(())
+}
+
+/// Adds the line for what the clauses of a module take of std.
+pub fn push_clauses(alloc: Global, out: &mut String, text: &str) -> Result<(), AllocError> {
+    let text = Text::of(alloc, text)?;
+    let names = text.used(alloc, &CLAUSES)?.as_slice().join(alloc, ", ")?;
+    writeln!(out, "ghost use Rattle.std.specs.Prelude.{{{names}}};")
+}
+
+/// The lines of a module, which has these types of its crate and of others.
+pub fn code(
+    alloc: Global,
+    names: &Names<'_>,
+    text: &str,
+    types: &[&str],
+) -> Result<String, AllocError> {
+    let mut lines = UseLines::new(alloc);
+    lines.add_types(alloc, names, None, types)?;
+    for other in names.crates {
+        lines.add_types(alloc, names, Some(other.as_str()), types)?;
+    }
+    let text = Text::of(alloc, text)?;
+    lines.add(
+        alloc,
+        "std::alloc",
+        text.used(alloc, &["Global"])?.as_slice(),
+    )?;
+    lines.add(alloc, "tls_codec", text.used(alloc, &NAMES)?.as_slice())?;
+    lines.into_text(alloc)
+}
+
+/// Lines of imports in the order of `rt fmt`, each after what it is ordered by.
+#[derive(Drop)]
+pub struct UseLines {
+    lines: Vec<(String, String)>,
+}
+
+impl UseLines {
+    pub fn new(alloc: Global) -> UseLines {
+        UseLines {
+            lines: Vec::new(alloc),
+        }
+    }
+
+    /// Adds a line for these names, if there are any.
+    pub fn add(&mut self, alloc: Global, path: &str, names: &[&str]) -> Result<(), AllocError> {
+        if names.is_empty() {
+            return Ok(());
+        }
+        let mut line = String::new(alloc);
+        push_rust_use(alloc, &mut line, path, names)?;
+        self.lines.push((order_of(alloc, path)?, line))?;
+        Ok(())
+    }
+
+    // Adds the line for the types that are in this crate, or in another one.
+    fn add_types(
+        &mut self,
+        alloc: Global,
+        names: &Names<'_>,
+        home: Option<&str>,
+        types: &[&str],
+    ) -> Result<(), AllocError> {
+        let mut found = Vec::new(alloc);
+        for name in types {
+            if names.other_crate(name) == home {
+                found.push(*name)?;
+            }
+        }
+        self.add(alloc, home.unwrap_or("crate"), found.as_slice())
+    }
+
+    /// The lines.
+    pub fn into_text(self, alloc: Global) -> Result<String, AllocError> {
+        let mut lines = self.lines;
+        lines.sort()?;
+        let mut out = String::new(alloc);
+        for (_, line) in &lines {
+            out.push_str(line.as_str())?;
+        }
+        Ok(out)
+    }
+}
+
+// What a path is ordered by: this crate comes first, and an underscore before all other characters.
+fn order_of(alloc: Global, path: &str) -> Result<String, AllocError> {
+    if path == "crate" || path.starts_with("crate::") {
+        return Ok(String::new(alloc));
+    }
+    path.replace(alloc, '_', " ")
+}
+
+/// Adds `use path::{a, b};`, and `use path::a;` for one name. Nothing for none.
+pub fn push_rust_use(
+    alloc: Global,
+    out: &mut String,
+    path: &str,
+    names: &[&str],
+) -> Result<(), AllocError> {
+    match names {
+        [] => Ok(()),
+        [name] => writeln!(out, "use {path}::{name};"),
+        _ => {
+            let names = names.join(alloc, ", ")?;
+            writeln!(out, "use {path}::{{{names}}};")
+        }
+    }
+}

@@ -1,0 +1,26 @@
+//! The files that are written for a plan: code, definitions and answers.
+//!
+//! - [`file`]: [`files_of`](file::files_of), all files of a crate, each of them a [`Written`](tlsgen_model::emitted::Written).
+//! - [`shows`]: [`file_of`](shows::file_of), the module that shows messages as a tree.
+//! - `code`, `specs` and `proofs`: the texts of `src/`, `specs/` and the answers, by `templates`; `imports`: which
+//!   lines of imports a text needs, by the `vocabulary`; `breaks`: where long lines are broken.
+//! - `forms`: a message as what stands for the holes of its templates; `template` and `lines` fill these.
+//! - `types`: what stands for a type of the plan. `rows`, `nesting` and `joining`: fields in a row, as tuples that nest.
+#![tactic(auto)]
+
+mod breaks;
+mod code;
+pub mod file;
+mod forms;
+mod imports;
+mod joining;
+mod lines;
+mod nesting;
+mod proofs;
+mod rows;
+pub mod shows;
+mod specs;
+mod template;
+mod templates;
+mod types;
+mod vocabulary;

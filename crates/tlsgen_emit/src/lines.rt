@@ -1,0 +1,62 @@
+//! Texts with a line for each value or case of a message.
+
+use crate::forms::Part;
+use crate::template::Holes;
+use std::alloc::{AllocError, Global};
+
+/// Templates of such a text: what stands before all lines and behind them is of the message.
+pub struct Lines {
+    /// The hole that the text is for.
+    pub hole: &'static str,
+    pub before: &'static str,
+    /// The line of a value or of a case.
+    pub each: &'static str,
+    /// That of a case without fields, if it is another.
+    pub bare: Option<&'static str>,
+    /// That of a case of one field, if it is another.
+    pub one: Option<&'static str>,
+    pub behind: &'static str,
+    /// The whole text where only one value or case is there, without fields: nothing is told from another then.
+    pub alone: Option<&'static str>,
+}
+
+impl Lines {
+    /// The text for these values or cases of a message.
+    pub fn filled(
+        &self,
+        alloc: Global,
+        of_message: &Holes,
+        parts: &[Part],
+    ) -> Result<String, AllocError> {
+        if let (Some(alone), [only]) = (self.alone, parts)
+            && only.fields == 0
+        {
+            return only.holes.filled(alloc, alone);
+        }
+        let mut out = of_message.filled(alloc, self.before)?;
+        for part in parts {
+            let line = match part.fields {
+                0 => self.bare,
+                1 => self.one,
+                _ => None,
+            };
+            part.holes.push(alloc, &mut out, line.unwrap_or(self.each))?;
+        }
+        of_message.push(alloc, &mut out, self.behind)?;
+        Ok(out)
+    }
+}
+
+/// Sets the holes of these texts.
+pub fn set(
+    alloc: Global,
+    of_message: &mut Holes,
+    parts: &[Part],
+    texts: &[Lines],
+) -> Result<(), AllocError> {
+    for lines in texts {
+        let text = lines.filled(alloc, of_message, parts)?;
+        of_message.set(lines.hole, text)?;
+    }
+    Ok(())
+}

@@ -1,0 +1,27 @@
+//! The templates of each kind of message: its code, its definitions, and the answers of its impls; and those of types.
+
+pub mod choices;
+pub mod choices_answers;
+pub mod opens;
+pub mod shows;
+pub mod structs;
+pub mod types;
+pub mod values;
+
+use crate::lines::Lines;
+
+/// The templates of a kind of message.
+#[derive(Clone, Copy)]
+pub struct Templates {
+    /// What the clauses of the module bring in.
+    pub ghost_uses: &'static str,
+    /// The type and its encoders, and the decoders of all.
+    pub code: &'static str,
+    /// The decoders of one that isn't lent, where a lent one has none.
+    pub decoders: &'static str,
+    pub law: &'static str,
+    /// What it stands for, its format and its law.
+    pub specs: &'static str,
+    /// What has a line for each value or case.
+    pub texts: &'static [Lines],
+}

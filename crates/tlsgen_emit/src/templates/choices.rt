@@ -1,0 +1,289 @@
+//! A tag and what comes after each: an enum, which is written as its tag and the variant's lent groups, and read as
+//! the tag and then the tuple of the variant's fields. A lent one is only written.
+
+use super::Templates;
+use crate::lines::Lines;
+
+/// The templates.
+pub fn templates() -> Templates {
+    Templates {
+        ghost_uses: GHOST_USES,
+        code: CODE,
+        decoders: DECODERS,
+        law: LAW,
+        specs: SPECS,
+        texts: &TEXTS,
+    }
+}
+
+const GHOST_USES: &str =
+    "$names_use$ghost use Rattle.$crate$.specs.$name$.{$module$_format, $module$_meets, $module$_plain, $module$_tag};
+ghost use Rattle.$crate$.specs.declared.$module$.$name$.{$name$};
+";
+
+/// What the decoders of one that isn't lent take of the codec.
+pub static NAMES_USE: &str =
+    "ghost use Rattle.tls_codec.specs.OwnMessages.{no_variant_names, no_variant_source_names, $nothing$tagged_names, tagged_source_names, variant_names, variant_source_names};
+";
+
+/// What is brought in for a case without fields.
+pub static NOTHING: &str = "nothing_names, nothing_source_names, ";
+
+static TEXTS: [Lines; 16] = [
+    Lines {
+        hole: "constants",
+        before: "",
+        each: "const $constant$: u$bits$ = $number$;\n\n",
+        bare: None,
+        one: None,
+        behind: "",
+        alone: None,
+    },
+    Lines {
+        hole: "variants",
+        before: "",
+        each: "    /// `case $label$:`
+    $variant$ {
+$declared$    },
+",
+        bare: Some("    /// `case $label$:`\n    $variant$,\n"),
+        one: Some("    /// `case $label$: $stated$`\n    $variant$($types$),\n"),
+        behind: "",
+        alone: None,
+    },
+    Lines {
+        hole: "counts",
+        before: "        match $matched$ {\n",
+        each: "            $name$::$variant$ { $fields$ } => ($constant$, $lent$).tls_serialized_len(),\n",
+        bare: Some("            $name$::$variant$ => $width$,\n"),
+        one: Some(
+            "            $name$::$variant$($fields$) => ($constant$, $lent$).tls_serialized_len(),\n",
+        ),
+        behind: "        }\n",
+        alone: Some("        $width$\n"),
+    },
+    Lines {
+        hole: "writes",
+        before: "        match $matched$ {\n",
+        each: "            $name$::$variant$ { $fields$ } => ($constant$, $lent$).tls_serialize(writer),\n",
+        bare: Some("            $name$::$variant$ => $constant$.tls_serialize(writer),\n"),
+        one: Some(
+            "            $name$::$variant$($fields$) => ($constant$, $lent$).tls_serialize(writer),\n",
+        ),
+        behind: "        }\n",
+        alone: Some("        $constant$.tls_serialize(writer)\n"),
+    },
+    Lines {
+        hole: "appends",
+        before: "        match $matched$ {\n",
+        each: "            $name$::$variant$ { $fields$ } => ($constant$, $lent$).tls_serialize_into(out),\n",
+        bare: Some("            $name$::$variant$ => $constant$.tls_serialize_into(out),\n"),
+        one: Some(
+            "            $name$::$variant$($fields$) => ($constant$, $lent$).tls_serialize_into(out),\n",
+        ),
+        behind: "        }\n",
+        alone: Some("        $constant$.tls_serialize_into(out)\n"),
+    },
+    Lines {
+        hole: "source_names",
+        before: "",
+        each: "        (variant_source_names $number$ ⟦<$types$ as Deserialize>⟧.names\n",
+        bare: Some("        (variant_source_names $number$ nothing_source_names\n"),
+        one: None,
+        behind: "        no_variant_source_names",
+        alone: None,
+    },
+    Lines {
+        hole: "slice_names",
+        before: "",
+        each: "        (variant_names $number$ ⟦<$types$ as DeserializeBytes>⟧.names\n",
+        bare: Some("        (variant_names $number$ nothing_names\n"),
+        one: None,
+        behind: "        no_variant_names",
+        alone: None,
+    },
+    Lines {
+        hole: "reads",
+        before: "",
+        each: "            $constant$ => {
+                let $pattern$ = $path$::tls_deserialize(alloc, src)?;
+                Ok($name$::$variant$ { $fields$ })
+            }
+",
+        bare: Some("            $constant$ => Ok($name$::$variant$),\n"),
+        one: Some(
+            "            $constant$ => {
+                let $pattern$ = $path$::tls_deserialize(alloc, src)?;
+                Ok($name$::$variant$($fields$))
+            }
+",
+        ),
+        behind: "",
+        alone: None,
+    },
+    Lines {
+        hole: "splits",
+        before: "",
+        each: "            $constant$ => {
+                let ($pattern$, rest) = $path$::tls_deserialize_bytes(alloc, rest)?;
+                Ok(($name$::$variant$ { $fields$ }, rest))
+            }
+",
+        bare: Some("            $constant$ => Ok(($name$::$variant$, rest)),\n"),
+        one: Some(
+            "            $constant$ => {
+                let ($pattern$, rest) = $path$::tls_deserialize_bytes(alloc, rest)?;
+                Ok(($name$::$variant$($fields$), rest))
+            }
+",
+        ),
+        behind: "",
+        alone: None,
+    },
+    Lines {
+        hole: "plains",
+        before: "",
+        each: "$module$_plain $value$ = Join (Number $number$) $plain$\n",
+        bare: None,
+        one: None,
+        behind: "",
+        alone: Some("$module$_plain v = Join (Number $number$) Empty\n"),
+    },
+    Lines {
+        hole: "tags",
+        before: "",
+        each: "$module$_tag $value$ = $number$\n",
+        bare: None,
+        one: None,
+        behind: "",
+        alone: Some("$module$_tag v = $number$\n"),
+    },
+    Lines {
+        hole: "cases",
+        before: "",
+        each: "    ensures case_$number$ { ($lefts$ $rights$ : _) →
+        ⟦<$name$$static$ as PartialEq>⟧.eq ($name$.$variant$ $lefts$) ($name$.$variant$ $rights$)
+        ≡ $alike$ }
+",
+        bare: Some(
+            "    ensures case_$number$ { ⟦<$name$$static$ as PartialEq>⟧.eq $name$.$variant$ $name$.$variant$ ≡ true }\n",
+        ),
+        one: None,
+        behind: "",
+        alone: None,
+    },
+    Lines {
+        hole: "formats",
+        before: "",
+        each: "    $open$variant $number$ $format$\n",
+        bare: None,
+        one: None,
+        behind: "    no_variant",
+        alone: None,
+    },
+    Lines {
+        hole: "laws",
+        before: "",
+        each: "    $open$variant_meets $number$ $law$\n",
+        bare: None,
+        one: None,
+        behind: "    no_variant_meets",
+        alone: None,
+    },
+    Lines {
+        hole: "variants_use",
+        before: "use Rattle.$crate$.specs.declared.$module$.$name$.TheVariants.{",
+        each: "$comma$$variant$",
+        bare: None,
+        one: None,
+        behind: "}\n",
+        alone: Some(""),
+    },
+    Lines {
+        hole: "closing",
+        before: "",
+        each: "$close$",
+        bare: None,
+        one: None,
+        behind: "",
+        alone: None,
+    },
+];
+
+const CODE: &str = "$constants$$doc$$lent_doc$#[derive($derives$)]
+pub enum $name$$lifetime$ {
+$variants$}
+
+impl Size for $name$$any$ {
+    ghost plain = { $module$_plain };
+
+    ghost format = { $module$_format };
+
+    fn tls_serialized_len(&self) -> usize {
+$counts$    }
+
+    ghost lawful = { $module$_meets };
+}
+
+impl Serialize for $name$$any$ {
+    fn tls_serialize<W: Sink>(&self, writer: &mut W) -> Result<usize, Error> {
+$writes$    }
+
+    fn tls_serialize_into(&self, out: &mut Vec<u8>) -> Result<usize, Error> {
+$appends$    }
+}
+";
+
+const DECODERS: &str = "
+impl Deserialize for $name$ {
+    ghost names = { tagged_source_names $width$
+$source_names$$closing$) };
+
+    fn tls_deserialize<R: Source>(alloc: Global, src: &mut R) -> Result<$name$, Error> {
+        let tag = u$bits$::tls_deserialize(alloc, src)?;
+        match tag {
+$reads$            _ => Err(unknown_value($u64$)),
+        }
+    }
+}
+
+impl DeserializeBytes for $name$ {
+    ghost names = { tagged_names $width$
+$slice_names$$closing$) };
+
+    fn tls_deserialize_bytes(alloc: Global, whole: &[u8]) -> Result<($name$, &[u8]), Error> {
+        let (tag, rest) = u$bits$::tls_deserialize_bytes(alloc, whole)?;
+        match tag {
+$splits$            _ => Err(unknown_value($u64$)),
+        }
+    }
+}
+";
+
+const LAW: &str = "
+/// Two are equal exactly where they are of one case, and each field is.
+pub fn is_compared_by_its_case()
+    ensures tag { (x y : $name$) →
+        IsTrue (⟦<$name$$static$ as PartialEq>⟧.eq x y) → $module$_tag x ≡ $module$_tag y }
+$cases${}
+";
+
+const SPECS: &str = "-- the tag of each case
+abbrev pub $module$_tag : $name$ → ℕ
+$tags$
+abbrev pub $module$_plain : $name$ → Tree
+$plains$
+abbrev pub $module$_variants : Variants
+$module$_variants =
+$formats$$closing$
+
+pub $module$_variants_meet : MeetVariantLaws $module$_variants
+$module$_variants_meet =
+$laws$$closing$
+
+abbrev pub $module$_format : Format
+$module$_format = tagged_format $width$ $module$_variants
+
+pub $module$_meets : MeetsLaws $module$_format
+$module$_meets = tagged_meets $width$ (omega arith) $module$_variants_meet
+";

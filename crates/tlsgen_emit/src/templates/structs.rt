@@ -1,0 +1,99 @@
+//! A struct: it is written as the tuple of its lent groups, and read as the tuple of its fields. A lent one is only
+//! written.
+
+use super::Templates;
+use crate::lines::Lines;
+
+/// The templates.
+pub fn templates() -> Templates {
+    Templates {
+        ghost_uses: GHOST_USES,
+        code: CODE,
+        decoders: DECODERS,
+        law: LAW,
+        specs: SPECS,
+        texts: &TEXTS,
+    }
+}
+
+/// No variants are brought in.
+static TEXTS: [Lines; 1] = [Lines {
+    hole: "variants_use",
+    before: "",
+    each: "",
+    bare: None,
+    one: None,
+    behind: "",
+    alone: None,
+}];
+
+pub const GHOST_USES: &str =
+    "ghost use Rattle.$crate$.specs.$name$.{$module$_format, $module$_meets, $module$_plain};
+ghost use Rattle.$crate$.specs.declared.$module$.$name$.{$name$};
+";
+
+const CODE: &str = "$doc$$lent_doc$#[derive($derives$)]
+pub struct $name$$lifetime$ {
+$declared$}
+
+impl Size for $name$$any$ {
+    ghost plain = { $module$_plain };
+
+    ghost format = { $module$_format };
+
+    fn tls_serialized_len(&self) -> usize {
+        $lent$.tls_serialized_len()
+    }
+
+    ghost lawful = { $module$_meets };
+}
+
+impl Serialize for $name$$any$ {
+    fn tls_serialize<W: Sink>(&self, writer: &mut W) -> Result<usize, Error> {
+        $lent$.tls_serialize(writer)
+    }
+
+    fn tls_serialize_into(&self, out: &mut Vec<u8>) -> Result<usize, Error> {
+        $lent$.tls_serialize_into(out)
+    }
+}
+";
+
+const DECODERS: &str = "
+impl Deserialize for $name$ {
+    ghost names = { ⟦<$types$ as Deserialize>⟧.names };
+
+    fn tls_deserialize<R: Source>(alloc: Global, src: &mut R) -> Result<$name$, Error> {
+        let $pattern$ = $path$::tls_deserialize(alloc, src)?;
+        Ok($name$ { $fields$ })
+    }
+}
+
+impl DeserializeBytes for $name$ {
+    ghost names = { ⟦<$types$ as DeserializeBytes>⟧.names };
+
+    fn tls_deserialize_bytes(alloc: Global, whole: &[u8]) -> Result<($name$, &[u8]), Error> {
+        let ($pattern$, rest) = $path$::tls_deserialize_bytes(alloc, whole)?;
+        Ok(($name$ { $fields$ }, rest))
+    }
+}
+";
+
+const LAW: &str = "
+/// Two are equal exactly where each field is.
+pub fn is_compared_by_its_fields()
+    ensures { (x y : $name$) →
+        ⟦<$name$$static$ as PartialEq>⟧.eq x y
+        ≡ $alike$ }
+{}
+";
+
+const SPECS: &str = "abbrev pub $module$_plain : $name$ → Tree
+$module$_plain v =$gap$$plain$
+
+abbrev pub $module$_format : Format
+$module$_format =$gap$$format$
+
+pub $module$_meets : MeetsLaws $module$_format
+$module$_meets =$gap$$law$
+";

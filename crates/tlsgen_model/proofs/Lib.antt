@@ -1,0 +1,4 @@
+mod Layouts
+pub mod Fits
+pub mod Kept
+pub mod Keys

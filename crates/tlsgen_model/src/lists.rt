@@ -1,0 +1,240 @@
+//! Lists in which each name and each number comes once.
+ghost use Rattle.std.specs.Prelude.{◌≡◌, [], ◌≤◌, ◌<◌, ◌^◌, nat_eq, IfOk, IfSome, length};
+ghost use Rattle.std.specs.List.{All, list_any};
+ghost use Rattle.std.specs.String.{string_eq};
+ghost use Rattle.std.proofs.Props.{props};
+ghost use Rattle.tlsgen_model.specs.Taking.{AppendsUnless, RefusesCase, RefusesValue, Takes, has_name_of};
+ghost use Rattle.tlsgen_model.specs.Types.{IsType};
+ghost use Rattle.tlsgen_model.specs.Writable.{HaveNames, HaveNumbers, HaveTags, HaveTypes, HaveValueNames, HaveVariantNames, IsCase, IsWritable};
+ghost use Rattle.tlsgen_model.specs.declared.plan.Body.TheVariants as bodies;
+
+use crate::plan::{Body, Member, Value, Variant};
+use crate::width::Width;
+use std::alloc::{AllocError, Global};
+
+// The most fields of a struct.
+const MOST_FIELDS: usize = 27;
+
+// The most fields of a case.
+const MOST_OF_CASE: usize = 18;
+
+/// Why a value or a case isn't appended.
+#[derive(Clone, Copy, PartialEq)]
+pub enum Unfit {
+    /// Its number has more bytes than the others.
+    TooGreat,
+    /// Another has its number.
+    SameNumber,
+    /// Another has its name.
+    SameName,
+    /// A case has more than 18 fields.
+    ManyFields,
+}
+
+/// Fields in order, each with a type that it may have. No two have the same name.
+#[derive(Drop)]
+pub struct FieldList {
+    members: Vec<Member>,
+    ghost differ: { HaveNames members.items } by { Prim.hlevel props },
+    ghost typed: { HaveTypes members.items } by { Prim.hlevel props },
+}
+
+impl FieldList {
+    #[tactic(auto, using(crate::proofs::Keys::names_none))]
+    pub fn new(alloc: Global) -> FieldList
+        ensures { result.members.items ≡ [] }
+    {
+        FieldList {
+            members: Vec::new(alloc),
+        }
+    }
+
+    /// Whether a field has this name.
+    pub fn has_name(&self, name: &String) -> bool
+        ensures { result ≡ list_any (λ member. string_eq name.now member.name) self.now.members.items }
+    {
+        self.members.iter().any(|member| *name == member.name)
+    }
+
+    /// Appends a field, or gives it back if another has its name.
+    #[tactic(auto, using(crate::proofs::Keys::names_push, crate::proofs::Fits::types_push))]
+    pub fn push(&mut self, member: Member) -> Result<Option<Member>, AllocError>
+        requires { IsType member.of }
+        ensures { IfOk result (AppendsUnless (has_name_of self.old.members.items member)
+            self.old.members.items self.new.members.items member) }
+    {
+        if self.has_name(&member.name) {
+            return Ok(Some(member));
+        }
+        self.members.push(member)?;
+        Ok(None)
+    }
+
+    /// The fields of a case.
+    pub fn into_members(self) -> Vec<Member>
+        ensures members { result ≡ self.members }
+        ensures names { HaveNames result.items }
+        ensures types { HaveTypes result.items }
+    {
+        self.members
+    }
+
+    /// A struct of these fields, if they are 27 at most.
+    pub fn into_body(self) -> Option<Body>
+        ensures body { IfSome result (λ body. body ≡ bodies.Fields self.members) }
+        ensures none { result ≡ None → length self.members.items ≤ 27 → ⊥ }
+        ensures writable { IfSome result IsWritable }
+    {
+        if self.members.len() > MOST_FIELDS {
+            return None;
+        }
+        Some(Body::Fields(self.members))
+    }
+}
+
+/// Values of an enum. No two have the same name or number, and each number fits the width.
+#[derive(Drop)]
+pub struct ValueList {
+    pub width: Width,
+    values: Vec<Value>,
+    ghost named: { HaveValueNames values.items } by { Prim.hlevel props },
+    ghost differ: { HaveNumbers values.items } by { Prim.hlevel props },
+    ghost fit: { All (λ value. value.number < 256 ^ width.bytes) values.items } by { Prim.hlevel props },
+}
+
+impl ValueList {
+    #[tactic(auto, using(crate::proofs::Keys::numbers_none, crate::proofs::Keys::value_names_none))]
+    pub fn new(alloc: Global, width: Width) -> ValueList
+        ensures values { result.values.items ≡ [] }
+        ensures width { result.width.bytes ≡ width.bytes }
+    {
+        ValueList {
+            width,
+            values: Vec::new(alloc),
+        }
+    }
+
+    /// How many values there are so far.
+    pub fn len(&self) -> usize
+        ensures { result ≡ length self.now.values.items }
+    {
+        self.values.len()
+    }
+
+    /// Whether a value has this name.
+    pub fn has_name(&self, name: &String) -> bool
+        ensures { result ≡ list_any (λ value. string_eq name.now value.name) self.now.values.items }
+    {
+        self.values.iter().any(|value| *name == value.name)
+    }
+
+    /// Whether a value has this number.
+    pub fn has_number(&self, number: u64) -> bool
+        ensures { result ≡ list_any (λ value. nat_eq number value.number) self.now.values.items }
+    {
+        self.values.iter().any(|value| number == value.number)
+    }
+
+    /// Appends a value, or says why it isn't.
+    #[tactic(auto, using(crate::proofs::Keys::numbers_push, crate::proofs::Keys::value_names_push, crate::proofs::Fits::values_fit_push))]
+    pub fn push(&mut self, value: Value) -> Result<Option<Unfit>, AllocError>
+        ensures taken { IfOk result (Takes (RefusesValue self.old.width.bytes self.old.values.items value)
+            self.old.values.items self.new.values.items value) }
+        ensures width { self.new.width ≡ self.old.width }
+    {
+        if self.has_name(&value.name) {
+            return Ok(Some(Unfit::SameName));
+        }
+        if !self.width.holds(value.number) {
+            return Ok(Some(Unfit::TooGreat));
+        }
+        if self.has_number(value.number) {
+            return Ok(Some(Unfit::SameNumber));
+        }
+        self.values.push(value)?;
+        Ok(None)
+    }
+
+    pub fn into_body(self, is_open: bool) -> Body
+        ensures body { result ≡ bodies.Values self.width.bytes is_open self.values }
+        ensures writable { IsWritable result }
+    {
+        Body::Values {
+            width: self.width.bytes,
+            is_open,
+            values: self.values,
+        }
+    }
+}
+
+/// Cases of a tag, each with at most 18 fields. No two have the same name or number, and each number fits the width.
+#[derive(Drop)]
+pub struct CaseList {
+    pub width: Width,
+    variants: Vec<Variant>,
+    ghost named: { HaveVariantNames variants.items } by { Prim.hlevel props },
+    ghost differ: { HaveTags variants.items } by { Prim.hlevel props },
+    ghost fit: { All (IsCase width.bytes) variants.items } by { Prim.hlevel props },
+}
+
+impl CaseList {
+    #[tactic(auto, using(crate::proofs::Keys::tags_none, crate::proofs::Keys::variant_names_none))]
+    pub fn new(alloc: Global, width: Width) -> CaseList
+        ensures variants { result.variants.items ≡ [] }
+        ensures width { result.width.bytes ≡ width.bytes }
+    {
+        CaseList {
+            width,
+            variants: Vec::new(alloc),
+        }
+    }
+
+    /// Whether a case has this name.
+    pub fn has_name(&self, name: &String) -> bool
+        ensures { result ≡ list_any (λ variant. string_eq name.now variant.name) self.now.variants.items }
+    {
+        self.variants.iter().any(|variant| *name == variant.name)
+    }
+
+    /// Whether a case has this number.
+    pub fn has_tag(&self, tag: u64) -> bool
+        ensures { result ≡ list_any (λ variant. nat_eq tag variant.tag) self.now.variants.items }
+    {
+        self.variants.iter().any(|variant| tag == variant.tag)
+    }
+
+    /// Appends a case, or says why it isn't.
+    #[tactic(auto, using(crate::proofs::Keys::tags_push, crate::proofs::Keys::variant_names_push, crate::proofs::Fits::cases_fit_push))]
+    pub fn push(&mut self, variant: Variant) -> Result<Option<Unfit>, AllocError>
+        requires names { HaveNames variant.fields.items }
+        requires types { HaveTypes variant.fields.items }
+        ensures taken { IfOk result (Takes (RefusesCase self.old.width.bytes self.old.variants.items variant)
+            self.old.variants.items self.new.variants.items variant) }
+        ensures width { self.new.width ≡ self.old.width }
+    {
+        if variant.fields.len() > MOST_OF_CASE {
+            return Ok(Some(Unfit::ManyFields));
+        }
+        if !self.width.holds(variant.tag) {
+            return Ok(Some(Unfit::TooGreat));
+        }
+        if self.has_tag(variant.tag) {
+            return Ok(Some(Unfit::SameNumber));
+        }
+        if self.has_name(&variant.name) {
+            return Ok(Some(Unfit::SameName));
+        }
+        self.variants.push(variant)?;
+        Ok(None)
+    }
+
+    pub fn into_body(self) -> Body
+        ensures body { result ≡ bodies.Choice self.width.bytes self.variants }
+        ensures writable { IsWritable result }
+    {
+        Body::Choice {
+            width: self.width.bytes,
+            variants: self.variants,
+        }
+    }
+}

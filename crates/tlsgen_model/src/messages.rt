@@ -1,0 +1,68 @@
+//! Messages, each of which can be written.
+ghost use Rattle.std.specs.Prelude.{◌≡◌, [], IfOk};
+ghost use Rattle.std.specs.List.{filter, list_any};
+ghost use Rattle.std.specs.String.{string_eq};
+ghost use Rattle.std.proofs.Props.{props};
+ghost use Rattle.tlsgen_model.specs.Taking.{AppendsUnless, has_module_of, stays};
+ghost use Rattle.tlsgen_model.specs.Writable.{AreWritable, AreWritable-prop, HaveModules, IsWritable};
+
+use crate::plan::Message;
+use std::alloc::{AllocError, Global};
+
+/// Messages, each of which can be written, with a module that no other has.
+#[derive(Drop)]
+pub struct Messages {
+    messages: Vec<Message>,
+    ghost writable: { AreWritable messages.items } by { AreWritable-prop messages.items },
+    ghost differ: { HaveModules messages.items } by { Prim.hlevel props },
+}
+
+impl Messages {
+    #[tactic(auto, using(crate::proofs::Keys::modules_none))]
+    pub fn new(alloc: Global) -> Messages
+        ensures { result.messages.items ≡ [] }
+    {
+        Messages {
+            messages: Vec::new(alloc),
+        }
+    }
+
+    pub fn as_slice(&self) -> &[Message]
+        ensures { result.now ≡ self.now.messages.items }
+    {
+        &self.messages
+    }
+
+    /// Whether a message has this module.
+    pub fn has_module(&self, name: &String) -> bool
+        ensures { result ≡ list_any (λ other. string_eq name.now other.module) self.now.messages.items }
+    {
+        self.messages.iter().any(|other| *name == other.module)
+    }
+
+    /// Appends a message, or gives it back if another has its module.
+    #[tactic(auto, using(crate::proofs::Fits::writable_push, crate::proofs::Keys::modules_push))]
+    pub fn push(&mut self, message: Message) -> Result<Option<Message>, AllocError>
+        requires { IsWritable message.body }
+        ensures { IfOk result (AppendsUnless (has_module_of self.old.messages.items message)
+            self.old.messages.items self.new.messages.items message) }
+    {
+        if self.has_module(&message.module) {
+            return Ok(Some(message));
+        }
+        self.messages.push(message)?;
+        Ok(None)
+    }
+
+    /// The messages of a crate but those that have one of some names.
+    #[tactic(auto, using(crate::proofs::Kept::kept_all, crate::proofs::Kept::kept_modules))]
+    pub fn into_messages_but(self, home: usize, names: &[String]) -> Vec<Message>
+        ensures kept { result.items ≡ filter (stays home names.now) self.messages.items }
+        ensures writable { AreWritable result.items }
+        ensures differ { HaveModules result.items }
+    {
+        let mut messages = self.messages;
+        messages.retain(|message| message.home == home && !names.contains(&message.name));
+        messages
+    }
+}

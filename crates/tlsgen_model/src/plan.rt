@@ -1,0 +1,133 @@
+//! What is written: messages whose names, types and tags are settled.
+
+/// All that is written for a file, in its order, and what it names of other crates.
+#[derive(Drop)]
+pub struct Plan {
+    pub aliases: Vec<Alias>,
+    pub messages: Vec<Message>,
+    pub others: Vec<Other>,
+}
+
+/// A type that another crate has.
+#[derive(Drop)]
+pub struct Other {
+    pub name: String,
+    /// Its module's name there.
+    pub module: String,
+    /// Which crate has it, counted from 0 in the order in which they were named.
+    pub home: usize,
+    /// It has references to its fields.
+    pub is_lent: bool,
+    /// What it is another name of, if it is one.
+    pub of: Option<Type>,
+}
+
+/// Another name of a type: `pub type MAC = VLBytes;`. What it refers to is above it.
+#[derive(Drop)]
+pub struct Alias {
+    pub name: String,
+    pub of: Type,
+    /// Which crate has it: after the others the one that is written.
+    pub home: usize,
+    /// The line of the file, as `opaque MAC<V>;`.
+    pub declared: String,
+}
+
+#[derive(Drop)]
+pub struct Message {
+    /// The type's name, as `LeafNode`.
+    pub name: String,
+    /// Its module's name, as `leaf_node`.
+    pub module: String,
+    /// Which crate has it: after the others the one that is written.
+    pub home: usize,
+    /// It has references to its fields, and is only written.
+    pub is_lent: bool,
+    /// What its doc comment says.
+    pub doc: String,
+    pub body: Body,
+}
+
+#[derive(Drop)]
+pub enum Body {
+    /// An enum of numbers alone, each of `width` bytes.
+    Values {
+        width: usize,
+        is_open: bool,
+        values: Vec<Value>,
+    },
+    /// A struct.
+    Fields(Vec<Member>),
+    /// A tag of `width` bytes (1, 2, 4 or 8), and what comes after each of its numbers.
+    Choice {
+        width: usize,
+        variants: Vec<Variant>,
+    },
+}
+
+#[derive(Drop)]
+pub struct Value {
+    /// Its name in the file, as `mls10`.
+    pub label: String,
+    /// The variant's name, as `Mls10`.
+    pub name: String,
+    /// The name of its constant, as `MLS10`.
+    pub constant: String,
+    pub number: u64,
+}
+
+#[derive(Drop)]
+pub struct Variant {
+    /// Its label in the file, as `new_member_commit`, or `case_5` for a number that has no name.
+    pub label: String,
+    /// The variant's name, as `NewMemberCommit`.
+    pub name: String,
+    /// The name of its tag's constant, as `NEW_MEMBER_COMMIT`.
+    pub constant: String,
+    pub tag: u64,
+    pub fields: Vec<Member>,
+}
+
+/// A field of a struct or of a variant.
+#[derive(Drop)]
+pub struct Member {
+    /// Its name in Rust: that of the file, or another where that is a word of Rust or of the definitions.
+    pub name: String,
+    pub of: Type,
+    /// The line of the file, as `opaque group_id<V>;`.
+    pub declared: String,
+}
+
+/// How many of an element there are, and of which.
+#[derive(Drop)]
+pub struct Type {
+    pub shape: Shape,
+    /// Each of them may be missing: `optional<T>`. No array of bytes, and no opaque, is so.
+    pub is_optional: bool,
+    pub element: Element,
+}
+
+#[derive(Drop)]
+pub enum Element {
+    /// An unsigned integer, by its bytes: 1, 2, 3, 4 or 8.
+    Integer(usize),
+    /// Bytes, in a vector or an array.
+    Opaque,
+    /// UTF-8, after a length of variable width.
+    Text,
+    /// A message of the plan.
+    Message(String),
+    /// Another name of a type, which is above.
+    Alias(String),
+}
+
+#[derive(Clone, Copy)]
+pub enum Shape {
+    One,
+    /// An array, by its bytes.
+    Array(u64),
+    /// After a length of variable width.
+    Variable,
+    /// After a length of `width` bytes (1 to 4), which is neither below `least` nor above `most`.
+    Bounded { width: usize, least: u64, most: u64 },
+}

@@ -1,0 +1,253 @@
+//! The tags of selects, and their cases.
+ghost use Rattle.std.specs.Prelude.{◌≡◌, IfOk, IfSome, OnOk, nat_eq, string_bytes};
+ghost use Rattle.std.specs.List.{list_any};
+ghost use Rattle.tlsgen_syntax.specs.declared.syntax.Label.TheVariants as labels;
+ghost use Rattle.tlsgen_resolve.specs.Cases.{AppendsLabelled, HasAll, HasCase, HasValue, IsComplete, IsNamed, IsNumberOf};
+
+use crate::checks::{TOO_GREAT, enum_width, named, refused_number};
+use crate::items::{MOST_ITEMS, find, integer_width, is_single};
+use crate::refuse::{Budget, refused};
+use std::alloc::Global;
+use tlsgen_model::width::Width;
+use tlsgen_syntax::refusal::{Place, Trouble};
+use tlsgen_syntax::syntax::{Case, Enum, Field, File, Item, Label, Name, Number, Select, Value};
+
+/// The type of a tag: a number of 1, 2, 4 or 8 bytes, which may have names.
+#[derive(Clone, Copy)]
+pub struct Tag<'a> {
+    pub width: Width,
+    pub of: Option<&'a Enum>,
+}
+
+/// What comes after a number of a tag.
+#[derive(Drop)]
+pub struct Labelled<'a> {
+    /// The number's name, or `case_5` if it has none.
+    pub name: String,
+    pub number: u64,
+    pub place: Place,
+    pub fields: &'a [Field],
+}
+
+/// The type of a field that is a tag: an integer, an enum, or another name of one.
+pub fn tag_of<'a>(alloc: Global, files: &'a [File], field: &'a Field) -> Result<Tag<'a>, Trouble> {
+    let mut current = field;
+    for _ in 0..=MOST_ITEMS {
+        if !is_single(current) {
+            break;
+        }
+        let of = current.of.text.as_str();
+        match find(files, of) {
+            Some(Item::Alias(next)) => current = next,
+            Some(Item::Enum(one)) => {
+                let width = enum_width(alloc, one)?;
+                return Ok(Tag {
+                    width,
+                    of: Some(one),
+                });
+            }
+            Some(Item::Struct(_)) => break,
+            None => match integer_width(of).and_then(Width::new) {
+                Some(width) => return Ok(Tag { width, of: None }),
+                None => break,
+            },
+        }
+    }
+    Err(refused(
+        alloc,
+        field.of.place,
+        field.of.text.as_str(),
+        "a tag of 1, 2, 4 or 8 bytes: an enum, uint8, uint16, uint32, uint64, or another name of one",
+    ))
+}
+
+/// The cases of a select, one for each label. Rejects a label that the tag's type lacks, and a select that lacks a
+/// value of a closed enum.
+pub fn cases_of<'a>(
+    alloc: Global,
+    tag: Tag<'a>,
+    select: &'a Select,
+    budget: &mut Budget,
+) -> Result<Vec<Labelled<'a>>, Trouble>
+    ensures { IfOk result (λ cases. HasAll tag.entry cases.items) }
+{
+    let mut cases = Vec::new(alloc);
+    for case in &select.cases {
+        push_labels(alloc, tag, case, &mut cases, budget)?;
+    }
+    if cases.is_empty() {
+        return Err(refused(
+            alloc,
+            select.place,
+            "select",
+            "a select with at least one case",
+        ));
+    }
+    check_all(alloc, tag, &cases, select.place)?;
+    Ok(cases)
+}
+
+fn push_labels<'a>(
+    alloc: Global,
+    tag: Tag<'a>,
+    case: &'a Case,
+    cases: &mut Vec<Labelled<'a>>,
+    budget: &mut Budget,
+) -> Result<(), Trouble>
+    ensures { OnOk result (AppendsLabelled tag.entry case.now cases.old.items cases.new.items) }
+{
+    for label in &case.labels {
+        let one = label_case(alloc, tag, label, &case.fields)?;
+        budget.take(alloc, one.place, one.name.as_str())?;
+        cases.push(one)?;
+    }
+    Ok(())
+}
+
+/// The case of a number.
+pub fn find_case<'b, 'a>(cases: &'b [Labelled<'a>], number: u64) -> Option<&'b Labelled<'a>> {
+    cases.iter().find(|case| case.number == number)
+}
+
+fn label_case<'a>(
+    alloc: Global,
+    tag: Tag<'a>,
+    label: &Label,
+    fields: &'a [Field],
+) -> Result<Labelled<'a>, Trouble>
+    ensures fields { IfOk result (λ one. one.fields.now ≡ fields.now) }
+    ensures number { IfOk result (λ one. IsNumberOf tag.entry label.now one.number) }
+{
+    match label {
+        Label::Name(name) => Ok(Labelled {
+            number: number_of(alloc, tag, name)?,
+            name: name.text.clone()?,
+            place: name.place,
+            fields,
+        }),
+        Label::Number(number) => Ok(Labelled {
+            name: name_of(alloc, tag, *number)?,
+            number: number.value,
+            place: number.place,
+            fields,
+        }),
+    }
+}
+
+fn number_of(alloc: Global, tag: Tag<'_>, name: &Name) -> Result<u64, Trouble>
+    ensures { IfOk result (λ number. IsNumberOf tag.entry (labels.Name name.now) number) }
+{
+    let text = name.text.as_str();
+    let Some(one) = tag.of else {
+        return Err(refused(
+            alloc,
+            name.place,
+            text,
+            "a number: the tag's type gives its numbers no names",
+        ));
+    };
+    match find_number(one, text) {
+        Some(number) => Ok(number),
+        None => Err(refused(alloc, name.place, text, "a value of the tag's enum")),
+    }
+}
+
+fn find_number(one: &Enum, text: &str) -> Option<u64>
+    ensures { IfSome result (HasValue one.now text.now) }
+{
+    for value in &one.values {
+        if let Some(name) = named(&value.name) {
+            if name.text.as_str() == text {
+                return Some(value.number.value);
+            }
+        }
+    }
+    None
+}
+
+fn name_of(alloc: Global, tag: Tag<'_>, number: Number) -> Result<String, Trouble> {
+    if !tag.width.holds(number.value) {
+        return Err(refused_number(alloc, number, TOO_GREAT));
+    }
+    match tag.of {
+        Some(one) => match find_name(one, number.value) {
+            Some(name) => Ok(name.text.clone()?),
+            None if one.is_open => case_name(alloc, number),
+            None => Err(refused_number(alloc, number, "a value of the tag's enum")),
+        },
+        None => case_name(alloc, number),
+    }
+}
+
+fn find_name(one: &Enum, number: u64) -> Option<&Name>
+    ensures { IfSome result (λ name. HasValue one.now (string_bytes name.now.text) number) }
+{
+    for value in &one.values {
+        if value.number.value == number {
+            if let Some(name) = named(&value.name) {
+                return Some(name);
+            }
+        }
+    }
+    None
+}
+
+fn case_name(alloc: Global, number: Number) -> Result<String, Trouble> {
+    let value = number.value;
+    Ok(format!(in alloc; "case_{value}")?)
+}
+
+// Rejects a select that lacks a value of a closed enum.
+fn check_all(
+    alloc: Global,
+    tag: Tag<'_>,
+    cases: &[Labelled<'_>],
+    place: Place,
+) -> Result<(), Trouble>
+    ensures { OnOk result (HasAll tag.entry cases.now) }
+{
+    match tag.of {
+        Some(one) if !one.is_open => check_complete(alloc, one, cases, place),
+        _ => Ok(()),
+    }
+}
+
+fn check_complete(
+    alloc: Global,
+    one: &Enum,
+    cases: &[Labelled<'_>],
+    place: Place,
+) -> Result<(), Trouble>
+    ensures { OnOk result (IsComplete one.now cases.now) }
+{
+    for value in &one.values {
+        check_value(alloc, value, cases, place)?;
+    }
+    Ok(())
+}
+
+fn check_value(
+    alloc: Global,
+    value: &Value,
+    cases: &[Labelled<'_>],
+    place: Place,
+) -> Result<(), Trouble>
+    ensures { OnOk result (IsNamed value.now.name → HasCase cases.now value.now.number.value) }
+{
+    match named(&value.name) {
+        Some(name) if !has_case(cases, value.number.value) => Err(refused(
+            alloc,
+            place,
+            name.text.as_str(),
+            "a select with a case for this value of the tag's enum",
+        )),
+        _ => Ok(()),
+    }
+}
+
+/// Whether a number has a case.
+pub fn has_case(cases: &[Labelled<'_>], number: u64) -> bool
+    ensures { result ≡ list_any (λ case. nat_eq number case.number) cases.now }
+{
+    cases.iter().any(|case| number == case.number)
+}

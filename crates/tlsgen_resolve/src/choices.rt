@@ -1,0 +1,258 @@
+//! The message of a tag and its selects: one case for each number, with all fields after the tag.
+ghost use Rattle.std.specs.Prelude.{IfOk};
+ghost use Rattle.tlsgen_model.specs.Writable.{HaveNames, HaveTypes, IsWritable};
+
+use crate::cases::{Labelled, cases_of, find_case, tag_of};
+use crate::checks::{TOO_GREAT, check_letters};
+use crate::lent::lends;
+use crate::members::{ResolvedMember, copy, push_member};
+use crate::naming::choice_doc;
+use crate::refuse::refused;
+use crate::resolver::Resolver;
+use crate::segment::{ResolvedPiece, ResolvedSelect, check_segment, nearest_select, only_select};
+use crate::sequence::{IndexedField, Sequence, tag_of_select};
+use crate::types::declared;
+use tlsgen_model::lists::{CaseList, FieldList, Unfit};
+use tlsgen_model::names::{constant_name, field_name, module_name, variant_name};
+use tlsgen_model::plan::{Body, Element, Member, Message, Shape, Type, Variant};
+use tlsgen_syntax::refusal::{Place, Trouble};
+use tlsgen_syntax::syntax::{Field, Name, Select};
+
+impl<'a> Resolver<'a> {
+    /// A select at a position of a struct, with its tag. `owner` is the struct that it is written in.
+    pub fn resolve_select(
+        &mut self,
+        sequence: &Sequence<'a>,
+        select: &'a Select,
+        owner: &str,
+        index: usize,
+    ) -> Result<ResolvedSelect<'a>, Trouble> {
+        let tag = tag_of_select(self.alloc, sequence, select, index)?;
+        let of = tag_of(self.alloc, self.files, tag.field)?;
+        let cases = cases_of(self.alloc, of, select, &mut self.budget)?;
+        let is_own = owner == sequence.name;
+        let name = if is_own { select.name.as_ref() } else { None };
+        Ok(ResolvedSelect {
+            tag: tag.index,
+            cases,
+            is_own,
+            name,
+            place: select.place,
+        })
+    }
+
+    /// Makes the message of a struct that is a tag and its cases.
+    pub fn make_whole(
+        &mut self,
+        sequence: &Sequence<'a>,
+        tag: IndexedField<'a>,
+        segment: &[ResolvedPiece<'a>],
+    ) -> Result<(), Trouble> {
+        let name = String::from_str(self.alloc, sequence.name)?;
+        let body = self.choice_body(tag, segment, sequence.name)?;
+        self.push_choice(sequence, tag.field, name, body)
+    }
+
+    /// Makes the message of a tag and its cases, which are a part of a struct. Returns the member of it.
+    pub fn make_part(
+        &mut self,
+        sequence: &Sequence<'a>,
+        tag: IndexedField<'a>,
+        segment: &[ResolvedPiece<'a>],
+        given: Option<&Name>,
+    ) -> Result<ResolvedMember, Trouble> {
+        let only = only_select(segment);
+        if let Some(other) = self.same_choice(sequence, tag.field.name.place, only) {
+            let name = other.clone()?;
+            return self.choice_member(tag.field, name);
+        }
+        let name = self.choice_name(sequence.name, tag.field, given)?;
+        let body = self.choice_body(tag, segment, name.as_str())?;
+        let member = self.choice_member(tag.field, name.clone()?)?;
+        if let Some(select) = only {
+            self.out.keep_choice(
+                tag.field.name.place,
+                select.place,
+                sequence.is_lent,
+                name.clone()?,
+            )?;
+        }
+        self.push_choice(sequence, tag.field, name, body)?;
+        Ok(member)
+    }
+
+    // The name of the message that was made for a tag and a select which another struct has.
+    fn same_choice(
+        &self,
+        sequence: &Sequence<'_>,
+        tag: Place,
+        only: Option<&ResolvedSelect<'_>>,
+    ) -> Option<&String> {
+        let select = only?;
+        if select.is_own {
+            return None;
+        }
+        self.out.choice(tag, select.place, sequence.is_lent)
+    }
+
+    // A tag with all that is in its cases.
+    fn choice_body(
+        &mut self,
+        tag: IndexedField<'a>,
+        segment: &[ResolvedPiece<'a>],
+        name: &str,
+    ) -> Result<Body, Trouble>
+        ensures { IfOk result IsWritable }
+    {
+        let of = tag_of(self.alloc, self.files, tag.field)?;
+        let mut list = CaseList::new(self.alloc, of.width);
+        if let Some(nearest) = nearest_select(segment) {
+            let cases = &nearest.cases;
+            check_segment(self.alloc, segment, tag.index, cases)?;
+            for case in cases {
+                let fields = self.case_fields(segment, case)?;
+                self.check_alone(case, cases.len(), &fields)?;
+                self.push_case(case, fields, name, &mut list)?;
+            }
+        }
+        Ok(list.into_body())
+    }
+
+    // Rejects fields in a tag's only case.
+    fn check_alone(
+        &self,
+        case: &Labelled<'_>,
+        count: usize,
+        fields: &[Member],
+    ) -> Result<(), Trouble> {
+        if count == 1 && !fields.is_empty() {
+            return Err(refused(
+                self.alloc,
+                case.place,
+                case.name.as_str(),
+                "more than one case where a case has fields: write a struct of an enum of one value and these fields",
+            ));
+        }
+        Ok(())
+    }
+
+    fn push_case(
+        &self,
+        case: &Labelled<'_>,
+        fields: Vec<Member>,
+        name: &str,
+        list: &mut CaseList,
+    ) -> Result<(), Trouble>
+        requires names { HaveNames fields.items }
+        requires types { HaveTypes fields.items }
+    {
+        let label = case.name.as_str();
+        let variant = Variant {
+            label: case.name.clone()?,
+            name: variant_name(self.alloc, label, name)?,
+            constant: constant_name(self.alloc, label)?,
+            tag: case.number,
+            fields,
+        };
+        match list.push(variant)? {
+            None => Ok(()),
+            Some(unfit) => Err(refused(self.alloc, case.place, label, expected(unfit))),
+        }
+    }
+
+    fn push_choice(
+        &mut self,
+        sequence: &Sequence<'_>,
+        tag: &Field,
+        name: String,
+        body: Body,
+    ) -> Result<(), Trouble>
+        requires { IsWritable body }
+    {
+        self.check_runs(sequence, &body)?;
+        let message = Message {
+            module: module_name(self.alloc, name.as_str())?,
+            home: self.out.home,
+            is_lent: lends(sequence, &body),
+            doc: choice_doc(self.alloc, tag, sequence.name)?,
+            name,
+            body,
+        };
+        self.push(tag.name.place, message)
+    }
+
+    fn choice_member(&self, tag: &Field, name: String) -> Result<ResolvedMember, Trouble> {
+        check_letters(self.alloc, &tag.name)?;
+        Ok(ResolvedMember {
+            member: Member {
+                name: field_name(self.alloc, tag.name.text.as_str())?,
+                of: Type {
+                    shape: Shape::One,
+                    is_optional: false,
+                    element: Element::Message(name),
+                },
+                declared: declared(self.alloc, tag)?,
+            },
+            place: tag.name.place,
+        })
+    }
+
+    // What follows a tag in a case, from the first to the last.
+    fn case_fields(
+        &mut self,
+        segment: &[ResolvedPiece<'a>],
+        case: &Labelled<'a>,
+    ) -> Result<Vec<Member>, Trouble>
+        ensures names { IfOk result (λ fields. HaveNames fields.items) }
+        ensures types { IfOk result (λ fields. HaveTypes fields.items) }
+    {
+        let mut list = FieldList::new(self.alloc);
+        for piece in segment.iter().rev() {
+            match piece {
+                ResolvedPiece::Member(member) => self.push_copy(member, &mut list)?,
+                ResolvedPiece::Select(select) => self.push_own(select, case.number, &mut list)?,
+            }
+        }
+        Ok(list.into_members())
+    }
+
+    // Appends a member that other cases have too.
+    fn push_copy(&mut self, member: &ResolvedMember, list: &mut FieldList) -> Result<(), Trouble> {
+        let name = member.member.name.as_str();
+        self.budget.take(self.alloc, member.place, name)?;
+        push_member(self.alloc, list, copy(member)?)
+    }
+
+    // Appends the fields that a select has for a number.
+    fn push_own(
+        &mut self,
+        select: &ResolvedSelect<'a>,
+        number: u64,
+        list: &mut FieldList,
+    ) -> Result<(), Trouble> {
+        let Some(case) = find_case(&select.cases, number) else {
+            return Ok(());
+        };
+        self.push_fields(case.fields, list)
+    }
+
+    fn push_fields(&mut self, fields: &[Field], list: &mut FieldList) -> Result<(), Trouble> {
+        for field in fields {
+            let member = self.member_of(field)?;
+            push_member(self.alloc, list, member)?;
+        }
+        Ok(())
+    }
+}
+
+// What a case that isn't appended should be.
+fn expected(unfit: Unfit) -> &'static str {
+    match unfit {
+        Unfit::TooGreat => TOO_GREAT,
+        Unfit::SameNumber => "a label that no case above has",
+        Unfit::SameName => "a label whose words aren't those of one above",
+        Unfit::ManyFields => {
+            "at most 18 fields in a case, with those between a tag and its select: make a struct of some of them"
+        }
+    }
+}

@@ -1,0 +1,69 @@
+//! Lent structs: which messages have references, and how many runs of fields they may have.
+use crate::refuse::refused;
+use crate::resolver::Resolver;
+use crate::sequence::Sequence;
+use tlsgen_model::lent::runs_of;
+use tlsgen_model::plan::{Body, Element, Member};
+use tlsgen_syntax::refusal::Trouble;
+
+// The most runs of a struct.
+const MOST_RUNS: usize = 3;
+
+// The most runs of a case, which has its tag before them.
+const MOST_OF_CASE: usize = 2;
+
+/// Whether a message of a struct has references. One without fields has none.
+pub fn lends(sequence: &Sequence<'_>, body: &Body) -> bool {
+    sequence.is_lent
+        && match body {
+            Body::Values { .. } => false,
+            Body::Fields(fields) => !fields.is_empty(),
+            Body::Choice { variants, .. } => {
+                variants.iter().any(|variant| !variant.fields.is_empty())
+            }
+        }
+}
+
+impl<'a> Resolver<'a> {
+    /// Rejects a message of a lent struct whose fields make too many runs.
+    pub fn check_runs(&self, sequence: &Sequence<'_>, body: &Body) -> Result<(), Trouble> {
+        match body {
+            Body::Values { .. } => Ok(()),
+            Body::Fields(fields) => self.check_row(sequence, fields, MOST_RUNS),
+            Body::Choice { variants, .. } => {
+                for variant in variants {
+                    self.check_row(sequence, &variant.fields, MOST_OF_CASE)?;
+                }
+                Ok(())
+            }
+        }
+    }
+
+    fn check_row(
+        &self,
+        sequence: &Sequence<'_>,
+        fields: &[Member],
+        most: usize,
+    ) -> Result<(), Trouble> {
+        let mut are_lent = Vec::new(self.alloc);
+        for field in fields {
+            are_lent.push(self.is_lent(field))?;
+        }
+        if are_lent.contains(&true) && runs_of(self.alloc, &are_lent)?.len() > most {
+            return Err(refused(
+                self.alloc,
+                sequence.place,
+                sequence.name,
+                "at most 3 runs of fields in a lent struct, and 2 in a case: a lent field is a run of its own, and up to 9 others between are one",
+            ));
+        }
+        Ok(())
+    }
+
+    fn is_lent(&self, field: &Member) -> bool {
+        match &field.of.element {
+            Element::Message(name) => self.out.is_lent(name),
+            _ => false,
+        }
+    }
+}

@@ -1,0 +1,26 @@
+//! From what a file of the presentation language says to what is written for it.
+//!
+//! - [`planning`]: [`plan_of`](planning::plan_of), the plan of a file, or where and why it is rejected.
+#![tactic(auto)]
+
+mod cases;
+mod checks;
+mod choices;
+mod constants;
+mod items;
+mod lent;
+mod members;
+mod naming;
+mod order;
+mod others;
+mod output;
+pub mod planning;
+mod refuse;
+mod resolver;
+mod segment;
+mod sequence;
+mod structs;
+mod type_checks;
+mod types;
+
+pub use planning::plan_of;

@@ -1,0 +1,140 @@
+//! What a file has of other crates, and which enums are written.
+use crate::members::copy_type;
+use crate::output::Output;
+use crate::refuse::refused;
+use std::alloc::{AllocError, Global};
+use tlsgen_model::plan::{Body, Element, Member, Other};
+use tlsgen_syntax::refusal::Trouble;
+use tlsgen_syntax::syntax::{Field, File, Item, Name, Part};
+
+/// The enums of the crate that is resolved which are the types of tags, and of no members: those aren't written.
+pub fn tags_alone(alloc: Global, out: &Output) -> Result<Vec<String>, AllocError> {
+    let mut alone = Vec::new(alloc);
+    for tag in &out.tags {
+        if out.home_of(tag) == Some(out.home) && !is_member(out, tag) {
+            alone.push(tag.clone()?)?;
+        }
+    }
+    Ok(alone)
+}
+
+// Whether the crate that is resolved has an alias or a member of this type.
+fn is_member(out: &Output, name: &String) -> bool {
+    out.aliases.iter().any(|alias| alias.home == out.home && names(&alias.of.element, name))
+        || is_in_messages(out, name)
+}
+
+// Whether the crate that is resolved has a member of this type.
+fn is_in_messages(out: &Output, name: &String) -> bool {
+    out.messages().iter().any(|message| message.home == out.home && has(&message.body, name))
+}
+
+/// Rejects a member whose type is an enum of another crate that isn't written there.
+pub fn check_alone(alloc: Global, file: &File, out: &Output) -> Result<(), Trouble> {
+    for name in &out.unwritten {
+        if out.home_of(name) != Some(out.home) && is_in_messages(out, name) {
+            return Err(refused_alone(alloc, file, name));
+        }
+    }
+    Ok(())
+}
+
+fn refused_alone(alloc: Global, file: &File, name: &String) -> Trouble {
+    match file.items.iter().find_map(|item| naming(item, name)) {
+        Some(of) => refused(
+            alloc,
+            of.place,
+            of.text.as_str(),
+            "a type that is the field of a struct in its own crate too: there it is a tag alone, and isn't written",
+        ),
+        None => Trouble::Memory,
+    }
+}
+
+// Where an item names a type.
+fn naming<'a>(item: &'a Item, name: &String) -> Option<&'a Name> {
+    match item {
+        Item::Enum(_) => None,
+        Item::Alias(field) => named_by(field, name),
+        Item::Struct(one) => one.parts.iter().find_map(|part| naming_part(part, name)),
+    }
+}
+
+fn naming_part<'a>(part: &'a Part, name: &String) -> Option<&'a Name> {
+    match part {
+        Part::Field(field) => named_by(field, name),
+        Part::Select(select) => select.cases.iter().find_map(|case| case
+            .fields
+            .iter()
+            .find_map(|field| named_by(field, name))),
+    }
+}
+
+fn named_by<'a>(field: &'a Field, name: &String) -> Option<&'a Name> {
+    if field.of.text == *name {
+        Some(&field.of)
+    } else {
+        None
+    }
+}
+
+/// What the crates before the one that was resolved last have, but for enums that aren't written there.
+pub fn others_of(alloc: Global, out: &Output) -> Result<Vec<Other>, AllocError> {
+    let mut others = Vec::new(alloc);
+    push_aliases(alloc, out, &mut others)?;
+    push_messages(out, &mut others)?;
+    Ok(others)
+}
+
+fn push_aliases(alloc: Global, out: &Output, others: &mut Vec<Other>) -> Result<(), AllocError> {
+    for alias in &out.aliases {
+        if alias.home != out.home {
+            others.push(Other {
+                name: alias.name.clone()?,
+                module: String::from_str(alloc, "names")?,
+                home: alias.home,
+                is_lent: false,
+                of: Some(copy_type(&alias.of)?),
+            })?;
+        }
+    }
+    Ok(())
+}
+
+fn push_messages(out: &Output, others: &mut Vec<Other>) -> Result<(), AllocError> {
+    for message in out.messages() {
+        if message.home != out.home && !out.unwritten.contains(&message.name) {
+            others.push(Other {
+                name: message.name.clone()?,
+                module: message.module.clone()?,
+                home: message.home,
+                is_lent: message.is_lent,
+                of: None,
+            })?;
+        }
+    }
+    Ok(())
+}
+
+fn has(body: &Body, name: &String) -> bool {
+    match body {
+        Body::Values { .. } => false,
+        Body::Fields(fields) => any_names(fields, name),
+        Body::Choice { variants, .. } => {
+            variants
+                .iter()
+                .any(|variant| any_names(&variant.fields, name))
+        }
+    }
+}
+
+fn any_names(fields: &[Member], name: &String) -> bool {
+    fields.iter().any(|member| names(&member.of.element, name))
+}
+
+fn names(element: &Element, name: &String) -> bool {
+    match element {
+        Element::Message(own) => own == name,
+        _ => false,
+    }
+}

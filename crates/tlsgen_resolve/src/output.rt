@@ -1,0 +1,149 @@
+//! What is made of the files.
+ghost use Rattle.tlsgen_model.specs.Writable.{AreWritable, HaveModules, IsWritable};
+
+use crate::refuse::refused;
+use std::alloc::{AllocError, Global};
+use tlsgen_model::messages::Messages;
+use tlsgen_model::plan::{Alias, Message, Other, Plan};
+use tlsgen_syntax::refusal::{Place, Trouble};
+
+/// A message that was made for a tag with one select.
+#[derive(Drop)]
+struct Choice {
+    tag: Place,
+    select: Place,
+    is_lent: bool,
+    name: String,
+}
+
+/// The messages and aliases that are made, and what is kept while they are.
+#[derive(Drop)]
+pub struct Output {
+    messages: Messages,
+    pub aliases: Vec<Alias>,
+    choices: Vec<Choice>,
+    /// The types of tags, which are no members of their own.
+    pub tags: Vec<String>,
+    /// The types of constants.
+    pub constants: Vec<String>,
+    /// The enums that aren't written.
+    pub unwritten: Vec<String>,
+    /// The crate that is resolved now, by the position of its file.
+    pub home: usize,
+}
+
+impl Output {
+    pub fn new(alloc: Global) -> Output {
+        Output {
+            messages: Messages::new(alloc),
+            aliases: Vec::new(alloc),
+            choices: Vec::new(alloc),
+            tags: Vec::new(alloc),
+            constants: Vec::new(alloc),
+            unwritten: Vec::new(alloc),
+            home: 0,
+        }
+    }
+
+    /// The messages so far.
+    pub fn messages(&self) -> &[Message] {
+        self.messages.as_slice()
+    }
+
+    /// Which crate has the message of this name.
+    pub fn home_of(&self, name: &String) -> Option<usize> {
+        self.messages()
+            .iter()
+            .find(|message| message.name == *name)
+            .map(|message| message.home)
+    }
+
+    /// Whether a message has this module.
+    pub fn has_module(&self, name: &String) -> bool {
+        self.messages.has_module(name)
+    }
+
+    /// Whether the message of this name has references to its fields.
+    pub fn is_lent(&self, name: &String) -> bool {
+        self.messages()
+            .iter()
+            .any(|message| message.is_lent && message.name == *name)
+    }
+
+    /// Appends a message. Rejects it if another has its module.
+    pub fn push(&mut self, alloc: Global, place: Place, message: Message) -> Result<(), Trouble>
+        requires { IsWritable message.body }
+    {
+        match self.messages.push(message)? {
+            None => Ok(()),
+            Some(message) => Err(refused(
+                alloc,
+                place,
+                message.name.as_str(),
+                "a name that no type has",
+            )),
+        }
+    }
+
+    /// Keeps the name of a message that was made for a tag with one select.
+    pub fn keep_choice(
+        &mut self,
+        tag: Place,
+        select: Place,
+        is_lent: bool,
+        name: String,
+    ) -> Result<(), AllocError> {
+        self.choices.push(Choice {
+            tag,
+            select,
+            is_lent,
+            name,
+        })?;
+        Ok(())
+    }
+
+    /// The name that was kept for a tag and a select. A lent message may also take that of a lent one, if there is no other.
+    pub fn choice(&self, tag: Place, select: Place, is_lent: bool) -> Option<&String> {
+        match self.kept(tag, select, false) {
+            Some(name) => Some(name),
+            None if is_lent => self.kept(tag, select, true),
+            None => None,
+        }
+    }
+
+    fn kept(&self, tag: Place, select: Place, is_lent: bool) -> Option<&String> {
+        for one in &self.choices {
+            if is_same(one.tag, tag) && is_same(one.select, select) && one.is_lent == is_lent {
+                return Some(&one.name);
+            }
+        }
+        None
+    }
+
+    /// Leaves enums of these names out of what is written.
+    pub fn leave_out(&mut self, names: Vec<String>) -> Result<(), AllocError> {
+        for name in names {
+            self.unwritten.push(name)?;
+        }
+        Ok(())
+    }
+
+    /// The plan of the crate that was resolved last.
+    pub fn into_plan(self, others: Vec<Other>) -> Plan
+        ensures writable { AreWritable result.messages.items }
+        ensures differ { HaveModules result.messages.items }
+    {
+        let home = self.home;
+        let mut aliases = self.aliases;
+        aliases.retain(|alias| alias.home == home);
+        Plan {
+            aliases,
+            messages: self.messages.into_messages_but(home, &self.unwritten),
+            others,
+        }
+    }
+}
+
+fn is_same(one: Place, other: Place) -> bool {
+    one.line == other.line && one.column == other.column
+}

@@ -1,0 +1,41 @@
+//! How a text is rejected.
+use std::alloc::Global;
+use tlsgen_syntax::refusal::{Place, Refusal, Trouble};
+
+/// The refusal of what a text has at a place.
+pub fn refused(alloc: Global, place: Place, found: &str, expected: &'static str) -> Trouble {
+    match String::from_str(alloc, found) {
+        Ok(found) => Trouble::Refused(Refusal {
+            place,
+            found,
+            expected,
+        }),
+        Err(_) => Trouble::Memory,
+    }
+}
+
+/// How many fields and cases may still be made.
+#[derive(Drop)]
+pub struct Budget {
+    left: usize,
+}
+
+impl Budget {
+    pub fn new(left: usize) -> Budget {
+        Budget { left }
+    }
+
+    /// Takes one of what is left. Rejects what stands at a place if nothing is left.
+    pub fn take(&mut self, alloc: Global, place: Place, found: &str) -> Result<(), Trouble> {
+        if self.left == 0 {
+            return Err(refused(
+                alloc,
+                place,
+                found,
+                "a smaller text: at most 100000 fields and cases, with those that stand in several places",
+            ));
+        }
+        self.left -= 1;
+        Ok(())
+    }
+}

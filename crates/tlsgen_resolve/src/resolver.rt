@@ -1,0 +1,128 @@
+//! What is known while files are resolved, and what is made of them.
+ghost use Rattle.std.specs.Prelude.{IfOk};
+ghost use Rattle.tlsgen_model.specs.Writable.{IsWritable};
+
+use crate::checks::{check_letters, type_module};
+use crate::items::{MOST_ITEMS, item_name};
+use crate::members::ResolvedMember;
+use crate::output::Output;
+use crate::refuse::{Budget, refused};
+use crate::sequence::{Sequence, needs_outer_tag};
+use crate::types::{declared, type_of};
+use std::alloc::{AllocError, Global};
+use tlsgen_model::names::{field_name, module_name};
+use tlsgen_model::plan::{Body, Member, Message};
+use tlsgen_syntax::refusal::{Place, Trouble};
+use tlsgen_syntax::syntax::{Field, File, Name};
+
+/// Resolves files, one crate after another, and in each the items after those that they contain.
+#[derive(Drop)]
+pub struct Resolver<'a> {
+    pub alloc: Global,
+    /// The files so far: those of other crates, and the one that is resolved now.
+    pub files: &'a [File],
+    /// The modules of their items.
+    modules: Vec<String>,
+    /// The structs that are resolved.
+    pub known: Vec<Sequence<'a>>,
+    pub out: Output,
+    pub budget: Budget,
+}
+
+impl<'a> Resolver<'a> {
+    /// `most`: how many fields and cases may be made in all.
+    pub fn new(alloc: Global, most: usize) -> Resolver<'a> {
+        Resolver {
+            alloc,
+            files: &[],
+            modules: Vec::new(alloc),
+            known: Vec::new(alloc),
+            out: Output::new(alloc),
+            budget: Budget::new(most),
+        }
+    }
+
+    /// Goes on to the last of these files.
+    pub fn enter(&mut self, files: &'a [File], home: usize) {
+        self.files = files;
+        self.out.home = home;
+    }
+
+    /// Keeps the modules of a file's items. Rejects a name that can't be written, and one that is given twice.
+    pub fn add_modules(&mut self, file: &File) -> Result<(), Trouble> {
+        for item in &file.items {
+            self.add_module(item_name(item))?;
+        }
+        Ok(())
+    }
+
+    fn add_module(&mut self, name: &Name) -> Result<(), Trouble> {
+        if self.modules.len() >= MOST_ITEMS {
+            return Err(self.refused_name(name, "at most 1024 definitions"));
+        }
+        let module = type_module(self.alloc, name)?;
+        if self.is_taken(&module) {
+            return Err(self.refused_name(
+                name,
+                "a name that no definition above has, and whose words aren't those of one above",
+            ));
+        }
+        self.modules.push(module)?;
+        Ok(())
+    }
+
+    /// Whether an item of the files, or a message, has this module.
+    pub fn is_taken(&self, module: &String) -> bool {
+        self.modules.contains(module) || self.out.has_module(module)
+    }
+
+    /// The refusal of a name.
+    pub fn refused_name(&self, name: &Name, expected: &'static str) -> Trouble {
+        refused(self.alloc, name.place, name.text.as_str(), expected)
+    }
+
+    /// The member of a field.
+    pub fn member_of(&mut self, field: &Field) -> Result<ResolvedMember, Trouble> {
+        let name = &field.name;
+        self.budget
+            .take(self.alloc, name.place, name.text.as_str())?;
+        check_letters(self.alloc, name)?;
+        if needs_outer_tag(&self.known, field.of.text.as_str()) {
+            return Err(self.refused_name(
+                &field.of,
+                "a struct whose selects have their tags in it: this one's parts stand only in a struct's place",
+            ));
+        }
+        Ok(ResolvedMember {
+            member: Member {
+                name: field_name(self.alloc, name.text.as_str())?,
+                of: type_of(self.alloc, self.files, field)?,
+                declared: declared(self.alloc, field)?,
+            },
+            place: name.place,
+        })
+    }
+
+    /// A message of the crate that is resolved now, without references.
+    pub fn message(&self, name: &str, body: Body) -> Result<Message, AllocError>
+        requires { IsWritable body }
+        ensures { IfOk result (λ message. IsWritable message.body) }
+    {
+        let alloc = self.alloc;
+        Ok(Message {
+            name: String::from_str(alloc, name)?,
+            module: module_name(alloc, name)?,
+            home: self.out.home,
+            is_lent: false,
+            doc: format!(in alloc; "`{name}`.")?,
+            body,
+        })
+    }
+
+    /// Appends a message. Rejects it if another has its module.
+    pub fn push(&mut self, place: Place, message: Message) -> Result<(), Trouble>
+        requires { IsWritable message.body }
+    {
+        self.out.push(self.alloc, place, message)
+    }
+}

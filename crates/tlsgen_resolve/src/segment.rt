@@ -1,0 +1,125 @@
+//! The pieces of a struct that follow a field, resolved, from the last to the first.
+use crate::cases::{Labelled, has_case};
+use crate::members::ResolvedMember;
+use crate::refuse::refused;
+use std::alloc::Global;
+use tlsgen_syntax::refusal::{Place, Trouble};
+use tlsgen_syntax::syntax::Name;
+
+/// A piece of a struct: the member that a field becomes, or a select with its cases.
+#[derive(Drop)]
+pub enum ResolvedPiece<'a> {
+    Member(ResolvedMember),
+    Select(ResolvedSelect<'a>),
+}
+
+/// A select, with the position of its tag among the pieces.
+#[derive(Drop)]
+pub struct ResolvedSelect<'a> {
+    pub tag: usize,
+    pub cases: Vec<Labelled<'a>>,
+    /// It is written in this struct, and not in one of an inlined field.
+    pub is_own: bool,
+    /// The name that is given to its enum in this struct.
+    pub name: Option<&'a Name>,
+    pub place: Place,
+}
+
+/// Whether a piece is a select on the tag at a position.
+pub fn is_on(piece: &ResolvedPiece<'_>, tag: usize) -> bool {
+    select_of(piece).is_some_and(|select| select.tag == tag)
+}
+
+/// The select of a tag that nothing else follows.
+pub fn only_select<'b, 'a>(segment: &'b [ResolvedPiece<'a>]) -> Option<&'b ResolvedSelect<'a>> {
+    match segment {
+        [piece] => select_of(piece),
+        _ => None,
+    }
+}
+
+/// The select nearest to its tag.
+pub fn nearest_select<'b, 'a>(segment: &'b [ResolvedPiece<'a>]) -> Option<&'b ResolvedSelect<'a>> {
+    segment.iter().rev().find_map(|piece| select_of(piece))
+}
+
+fn select_of<'b, 'a>(piece: &'b ResolvedPiece<'a>) -> Option<&'b ResolvedSelect<'a>> {
+    match piece {
+        ResolvedPiece::Member(_) => None,
+        ResolvedPiece::Select(select) => Some(select),
+    }
+}
+
+/// Rejects a select on another tag, and one that has other cases.
+pub fn check_segment(
+    alloc: Global,
+    segment: &[ResolvedPiece<'_>],
+    tag: usize,
+    cases: &[Labelled<'_>],
+) -> Result<(), Trouble> {
+    for piece in segment {
+        if let ResolvedPiece::Select(select) = piece {
+            if select.tag != tag {
+                return Err(refused_crossing(alloc, select.place));
+            }
+            if !have_same(&select.cases, cases) {
+                return Err(refused(
+                    alloc,
+                    select.place,
+                    "select",
+                    "the same cases in each select on a tag",
+                ));
+            }
+        }
+    }
+    Ok(())
+}
+
+// Whether there are as many cases, for the same numbers.
+fn have_same(own: &[Labelled<'_>], cases: &[Labelled<'_>]) -> bool {
+    own.len() == cases.len() && cases.iter().all(|case| has_case(own, case.number))
+}
+
+/// The refusal of a select whose tag comes before another tag, while its own select comes after that one's.
+pub fn refused_crossing(alloc: Global, place: Place) -> Trouble {
+    refused(
+        alloc,
+        place,
+        "select",
+        "selects that nest: no select on an earlier tag between a tag and its select",
+    )
+}
+
+/// The name that the selects give to the enum of their tag. Rejects two that differ.
+pub fn given_name<'a>(
+    alloc: Global,
+    segment: &[ResolvedPiece<'a>],
+) -> Result<Option<&'a Name>, Trouble> {
+    let mut given = None;
+    for piece in segment {
+        if let ResolvedPiece::Select(select) = piece {
+            given = one_name(alloc, given, select.name)?;
+        }
+    }
+    Ok(given)
+}
+
+// The name that is given, or the next one. Rejects two that differ.
+fn one_name<'a>(
+    alloc: Global,
+    given: Option<&'a Name>,
+    next: Option<&'a Name>,
+) -> Result<Option<&'a Name>, Trouble> {
+    let Some(name) = next else {
+        return Ok(given);
+    };
+    match given {
+        Some(other) if other.text != name.text => Err(refused(
+            alloc,
+            name.place,
+            name.text.as_str(),
+            "one name for the selects on a tag",
+        )),
+        _ => Ok(Some(name)),
+    }
+}

@@ -1,0 +1,166 @@
+//! The messages of a struct: a tag and its selects become one member, a message of its own.
+ghost use Rattle.std.specs.Prelude.{IfOk};
+ghost use Rattle.tlsgen_model.specs.Writable.{IsWritable};
+
+use crate::checks::constant_body;
+use crate::constants::{constant_type, open_constant};
+use crate::lent::lends;
+use crate::members::push_member;
+use crate::refuse::refused;
+use crate::resolver::Resolver;
+use crate::segment::{ResolvedPiece, given_name, is_on, refused_crossing};
+use crate::sequence::{IndexedField, Piece, Sequence, sequence_of};
+use std::alloc::Global;
+use tlsgen_model::lists::FieldList;
+use tlsgen_model::names::module_name;
+use tlsgen_model::plan::Body;
+use tlsgen_syntax::refusal::Trouble;
+use tlsgen_syntax::syntax::{Field, Part, Select, Struct};
+
+impl<'a> Resolver<'a> {
+    /// Makes the messages of a struct, and keeps its pieces for structs that inline it.
+    pub fn resolve_struct(&mut self, one: &'a Struct) -> Result<(), Trouble> {
+        let sequence = sequence_of(self.alloc, &self.known, one)?;
+        self.check_lent(&sequence)?;
+        self.make_constants(one)?;
+        if sequence.is_whole {
+            self.make_messages(&sequence)?;
+        }
+        self.known.push(sequence)?;
+        Ok(())
+    }
+
+    // Makes the messages of a struct, each after those that it contains, from the last piece to the first.
+    fn make_messages(&mut self, sequence: &Sequence<'a>) -> Result<(), Trouble> {
+        let mut tail = Vec::new(self.alloc);
+        for (index, piece) in sequence.pieces.iter().enumerate().rev() {
+            if self.prepend(sequence, index, piece, &mut tail)? {
+                return Ok(());
+            }
+        }
+        let body = struct_body(self.alloc, sequence, tail)?;
+        self.check_runs(sequence, &body)?;
+        let mut message = self.message(sequence.name, body)?;
+        message.is_lent = lends(sequence, &message.body);
+        self.push(sequence.place, message)
+    }
+
+    // Resolves a piece, and puts it before those that follow it. Returns whether that completes the struct.
+    fn prepend(
+        &mut self,
+        sequence: &Sequence<'a>,
+        index: usize,
+        piece: &Piece<'a>,
+        tail: &mut Vec<ResolvedPiece<'a>>,
+    ) -> Result<bool, Trouble> {
+        match piece {
+            Piece::Select(select, owner) => {
+                let select = self.resolve_select(sequence, select, owner, index)?;
+                tail.push(ResolvedPiece::Select(select))?;
+                Ok(false)
+            }
+            Piece::Field(field) => self.prepend_field(
+                sequence,
+                IndexedField { index, field },
+                tail,
+            ),
+        }
+    }
+
+    // If the field is a tag, every piece between it and its last select moves into the select's cases. A struct that is
+    // a tag and its cases alone is complete then.
+    fn prepend_field(
+        &mut self,
+        sequence: &Sequence<'a>,
+        at: IndexedField<'a>,
+        tail: &mut Vec<ResolvedPiece<'a>>,
+    ) -> Result<bool, Trouble> {
+        let Some(last) = tail.iter().position(|piece| is_on(piece, at.index)) else {
+            let member = self.member_of(at.field)?;
+            tail.push(ResolvedPiece::Member(member))?;
+            return Ok(false);
+        };
+        let segment = tail.split_off(last)?;
+        let given = given_name(self.alloc, &segment)?;
+        self.out.tags.push(at.field.of.text.clone()?)?;
+        if at.index == 0 && last == 0 && given.is_none() {
+            self.make_whole(sequence, at, &segment)?;
+            return Ok(true);
+        }
+        let member = self.make_part(sequence, at, &segment, given)?;
+        tail.push(ResolvedPiece::Member(member))?;
+        Ok(false)
+    }
+
+    // Makes the types of a struct's constants, unless they are there.
+    fn make_constants(&mut self, one: &Struct) -> Result<(), Trouble> {
+        for part in &one.parts {
+            match part {
+                Part::Field(field) => self.make_constant(field)?,
+                Part::Select(select) => self.make_case_constants(select)?,
+            }
+        }
+        Ok(())
+    }
+
+    fn make_case_constants(&mut self, select: &Select) -> Result<(), Trouble> {
+        for case in &select.cases {
+            self.make_field_constants(&case.fields)?;
+        }
+        Ok(())
+    }
+
+    fn make_field_constants(&mut self, fields: &[Field]) -> Result<(), Trouble> {
+        for field in fields {
+            self.make_constant(field)?;
+        }
+        Ok(())
+    }
+
+    fn make_constant(&mut self, field: &Field) -> Result<(), Trouble> {
+        let Some((one, constant)) = open_constant(self.files, field) else {
+            return Ok(());
+        };
+        let name = constant_type(self.alloc, one, constant)?;
+        if self.out.constants.contains(&name) {
+            return Ok(());
+        }
+        if self.is_taken(&module_name(self.alloc, name.as_str())?) {
+            return Err(self.refused_name(
+                constant,
+                "a constant whose type's name, that of the enum and of the value, no type has",
+            ));
+        }
+        let body = constant_body(self.alloc, one, constant)?;
+        let message = self.message(name.as_str(), body)?;
+        self.out.constants.push(name)?;
+        self.push(constant.place, message)
+    }
+}
+
+// A struct of pieces that are given from the last to the first.
+fn struct_body(
+    alloc: Global,
+    sequence: &Sequence<'_>,
+    mut tail: Vec<ResolvedPiece<'_>>,
+) -> Result<Body, Trouble>
+    ensures { IfOk result IsWritable }
+{
+    let mut list = FieldList::new(alloc);
+    tail.reverse();
+    for piece in tail {
+        match piece {
+            ResolvedPiece::Member(member) => push_member(alloc, &mut list, member)?,
+            ResolvedPiece::Select(select) => return Err(refused_crossing(alloc, select.place)),
+        }
+    }
+    match list.into_body() {
+        Some(body) => Ok(body),
+        None => Err(refused(
+            alloc,
+            sequence.place,
+            sequence.name,
+            "at most 27 fields in a struct: make a struct of some of them",
+        )),
+    }
+}

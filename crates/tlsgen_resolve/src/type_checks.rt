@@ -1,0 +1,83 @@
+//! Which types fields may have, also those of structs that are no messages of their own.
+use crate::items::{find_struct, is_single};
+use crate::resolver::Resolver;
+use crate::sequence::{Piece, Sequence};
+use crate::types::type_of;
+use tlsgen_syntax::refusal::Trouble;
+use tlsgen_syntax::syntax::{Field, File, Item, Part, Select, Struct};
+
+impl<'a> Resolver<'a> {
+    /// Rejects a field whose type can't be written.
+    pub fn check_types(&self, file: &File) -> Result<(), Trouble> {
+        for item in &file.items {
+            match item {
+                Item::Enum(_) => {}
+                Item::Alias(field) => self.check_type(field, false)?,
+                Item::Struct(one) => self.check_parts(one)?,
+            }
+        }
+        Ok(())
+    }
+
+    fn check_parts(&self, one: &Struct) -> Result<(), Trouble> {
+        for part in &one.parts {
+            match part {
+                // `check_lent` rejects a lent struct that isn't inlined.
+                Part::Field(field) => self.check_type(field, true)?,
+                Part::Select(select) => self.check_cases(select, one.is_lent)?,
+            }
+        }
+        Ok(())
+    }
+
+    fn check_cases(&self, select: &Select, is_lent: bool) -> Result<(), Trouble> {
+        for case in &select.cases {
+            self.check_fields(&case.fields, is_lent)?;
+        }
+        Ok(())
+    }
+
+    fn check_fields(&self, fields: &[Field], is_lent: bool) -> Result<(), Trouble> {
+        for field in fields {
+            self.check_type(field, is_lent)?;
+        }
+        Ok(())
+    }
+
+    // Also rejects a lent struct, unless the field is a single one and stands where a lent struct may be.
+    fn check_type(&self, field: &Field, is_lent: bool) -> Result<(), Trouble> {
+        type_of(self.alloc, self.files, field)?;
+        if self.names_lent(field) && !(is_lent && is_single(field)) {
+            return Err(self.refused_lent(field));
+        }
+        Ok(())
+    }
+
+    /// Rejects a lent struct as a field of a struct that isn't lent, also as a field of an inlined one.
+    pub fn check_lent(&self, sequence: &Sequence<'_>) -> Result<(), Trouble> {
+        if sequence.is_lent {
+            return Ok(());
+        }
+        for piece in &sequence.pieces {
+            match piece {
+                Piece::Field(field) if self.names_lent(field) => {
+                    return Err(self.refused_lent(field));
+                }
+                Piece::Field(_) => {}
+                Piece::Select(select, _) => self.check_cases(select, false)?,
+            }
+        }
+        Ok(())
+    }
+
+    fn refused_lent(&self, field: &Field) -> Trouble {
+        self.refused_name(
+            &field.of,
+            "a type that has its parts: a lent struct is only written, and is a field of lent structs alone, in no vector and no option",
+        )
+    }
+
+    fn names_lent(&self, field: &Field) -> bool {
+        find_struct(self.files, field.of.text.as_str()).is_some_and(|one| one.is_lent)
+    }
+}

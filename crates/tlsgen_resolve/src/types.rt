@@ -1,0 +1,250 @@
+//! The types of fields.
+ghost use Rattle.std.specs.Prelude.{ℕ, Bool, IfOk, IsTrue};
+ghost use Rattle.tlsgen_model.specs.Types.{IsType, can_be, is_no_array, is_shape};
+ghost use Rattle.tlsgen_model.specs.declared.plan.Shape.{Shape as AShape};
+ghost use Rattle.tlsgen_model.specs.declared.plan.Shape.TheVariants as shapes;
+
+use crate::checks::{named, refused_number};
+use crate::constants::{constant_type, open_constant};
+use crate::items::{find, find_enum, integer_width, is_single};
+use crate::refuse::refused;
+use std::alloc::{AllocError, Global};
+use tlsgen_model::plan::{Element, Shape, Type};
+use tlsgen_model::width::bytes_for;
+use tlsgen_syntax::refusal::Trouble;
+use tlsgen_syntax::syntax::{Enum, Field, File, Item, Name, Number, Vector};
+
+const MOST_OF_ARRAY: u64 = 65535;
+
+/// The type of a field or of another name. Rejects a type that nothing defines, and a vector that it can't have.
+pub fn type_of(alloc: Global, files: &[File], field: &Field) -> Result<Type, Trouble>
+    ensures { IfOk result IsType }
+{
+    let shape = shape_of(alloc, &field.vector)?;
+    let element = element_of(alloc, files, field, shape)?;
+    check_constant(alloc, files, field)?;
+    Ok(Type {
+        shape,
+        is_optional: field.is_optional,
+        element,
+    })
+}
+
+fn shape_of(alloc: Global, vector: &Vector) -> Result<Shape, Trouble>
+    ensures { IfOk result (λ shape. IsTrue (is_shape shape)) }
+{
+    match vector {
+        Vector::One => Ok(Shape::One),
+        Vector::Array(number) => array_shape(alloc, *number),
+        Vector::Variable => Ok(Shape::Variable),
+        Vector::Bounded(least, most) => bounded_shape(alloc, *least, *most),
+    }
+}
+
+fn array_shape(alloc: Global, number: Number) -> Result<Shape, Trouble>
+    ensures { IfOk result (λ shape. IsTrue (is_shape shape)) }
+{
+    if number.value == 0 || number.value > MOST_OF_ARRAY {
+        return Err(refused_number(alloc, number, "an array of 1 to 65535 bytes"));
+    }
+    Ok(Shape::Array(number.value))
+}
+
+// The length has the bytes that the ceiling takes.
+fn bounded_shape(alloc: Global, least: Number, most: Number) -> Result<Shape, Trouble>
+    ensures { IfOk result (λ shape. IsTrue (is_shape shape)) }
+{
+    if least.value > most.value {
+        return Err(refused_number(alloc, least, "a floor that isn't above its ceiling"));
+    }
+    match bytes_for(most.value) {
+        Some(width) => Ok(Shape::Bounded {
+            width,
+            least: least.value,
+            most: most.value,
+        }),
+        None => Err(refused_number(alloc, most, "a ceiling of at most 2^32-1")),
+    }
+}
+
+// How the greatest number of 1 to 4 bytes is written.
+fn power_text(number: u64) -> Option<&'static str> {
+    match number {
+        0xff => Some("2^8-1"),
+        0xffff => Some("2^16-1"),
+        0xff_ffff => Some("2^24-1"),
+        0xffff_ffff => Some("2^32-1"),
+        _ => None,
+    }
+}
+
+fn element_of(
+    alloc: Global,
+    files: &[File],
+    field: &Field,
+    shape: Shape,
+) -> Result<Element, Trouble>
+    ensures { IfOk result (λ element. IsTrue (can_be element field.now.is_optional shape)) }
+{
+    match shape {
+        Shape::One => single_element(alloc, files, field),
+        Shape::Array(_) => byte_element(alloc, field),
+        Shape::Variable => listed_element(alloc, files, field),
+        Shape::Bounded { .. } => listed_element(alloc, files, field),
+    }
+}
+
+// Without a vector.
+fn single_element(alloc: Global, files: &[File], field: &Field) -> Result<Element, Trouble>
+    ensures { IfOk result (λ element. IsTrue (can_be element field.now.is_optional shapes.One)) }
+{
+    let of = &field.of;
+    match of.text.as_str() {
+        "opaque" => Err(refused(
+            alloc,
+            of.place,
+            "opaque",
+            "bytes in a vector, as `opaque NAME<V>` or `opaque NAME[16]`",
+        )),
+        "string" => Ok(Element::Text),
+        _ => match open_constant(files, field) {
+            Some((one, constant)) => Ok(Element::Message(constant_type(alloc, one, constant)?)),
+            None => named_element(alloc, files, of),
+        },
+    }
+}
+
+// In an array.
+fn byte_element(alloc: Global, field: &Field) -> Result<Element, Trouble>
+    ensures { IfOk result (λ element. (count : ℕ) →
+        IsTrue (can_be element field.now.is_optional (shapes.Array count))) }
+{
+    let of = &field.of;
+    match of.text.as_str() {
+        "opaque" | "uint8" if !field.is_optional => Ok(Element::Opaque),
+        text => Err(refused(
+            alloc,
+            of.place,
+            text,
+            "an array of bytes, `opaque NAME[16]`, or a vector, `<V>`",
+        )),
+    }
+}
+
+// After a length.
+fn listed_element(alloc: Global, files: &[File], field: &Field) -> Result<Element, Trouble>
+    ensures { IfOk result (λ element. IsTrue (can_be element field.now.is_optional shapes.Variable)) }
+{
+    let of = &field.of;
+    match of.text.as_str() {
+        "opaque" if field.is_optional => Err(refused(
+            alloc,
+            of.place,
+            "opaque",
+            "bytes in a vector, as `opaque NAME<V>` or `opaque NAME[16]`",
+        )),
+        "opaque" => Ok(Element::Opaque),
+        "string" => Err(refused(
+            alloc,
+            of.place,
+            "string",
+            "a text without a vector, `string NAME`",
+        )),
+        _ => named_element(alloc, files, of),
+    }
+}
+
+// An integer, or a type of the file.
+fn named_element(alloc: Global, files: &[File], of: &Name) -> Result<Element, Trouble>
+    ensures { IfOk result (λ element. (o : Bool) (s : AShape) → IsTrue (is_no_array s) →
+        IsTrue (can_be element o s)) }
+{
+    match integer_width(of.text.as_str()) {
+        Some(width) => Ok(Element::Integer(width)),
+        None => defined(alloc, files, of),
+    }
+}
+
+fn defined(alloc: Global, files: &[File], of: &Name) -> Result<Element, Trouble>
+    ensures { IfOk result (λ element. (o : Bool) (s : AShape) → IsTrue (is_no_array s) →
+        IsTrue (can_be element o s)) }
+{
+    let text = of.text.as_str();
+    match find(files, text) {
+        Some(Item::Alias(_)) => Ok(Element::Alias(String::from_str(alloc, text)?)),
+        Some(_) => Ok(Element::Message(String::from_str(alloc, text)?)),
+        None => Err(refused(
+            alloc,
+            of.place,
+            text,
+            "the name of a type of the language, of this text, or of one given by --with",
+        )),
+    }
+}
+
+// Rejects a constant, as `= mls10`, unless the field's type is an enum that has that value alone, or an open one
+// that has it.
+fn check_constant(alloc: Global, files: &[File], field: &Field) -> Result<(), Trouble> {
+    let Some(constant) = &field.constant else {
+        return Ok(());
+    };
+    if open_constant(files, field).is_some() {
+        return Ok(());
+    }
+    if is_single(field)
+        && find_enum(files, field.of.text.as_str()).is_some_and(|one| has_alone(one, constant))
+    {
+        return Ok(());
+    }
+    Err(refused(
+        alloc,
+        constant.place,
+        constant.text.as_str(),
+        "no constant, or the value of an enum that is open or has no other",
+    ))
+}
+
+fn has_alone(one: &Enum, constant: &Name) -> bool {
+    !one.is_open
+        && one.values.iter().all(|value| named(&value.name).is_none_or(|name| name.text
+            == constant.text))
+        && one.values.iter().any(|value| named(&value.name).is_some_and(|name| name.text
+            == constant.text))
+}
+
+/// The line that declares a field, as `opaque group_id<V>;`.
+pub fn declared(alloc: Global, field: &Field) -> Result<String, AllocError> {
+    let of = field.of.text.as_str();
+    let name = field.name.text.as_str();
+    let mut line = if field.is_optional {
+        format!(in alloc; "optional<{of}> {name}")?
+    } else {
+        format!(in alloc; "{of} {name}")?
+    };
+    push_vector(&mut line, &field.vector)?;
+    if let Some(constant) = &field.constant {
+        line.push_str(" = ")?;
+        line.push_str(constant.text.as_str())?;
+    }
+    line.push(';')?;
+    Ok(line)
+}
+
+fn push_vector(line: &mut String, vector: &Vector) -> Result<(), AllocError> {
+    match vector {
+        Vector::One => Ok(()),
+        Vector::Array(number) => {
+            let n = number.value;
+            write!(line, "[{n}]")
+        }
+        Vector::Variable => line.push_str("<V>"),
+        Vector::Bounded(least, most) => {
+            let a = least.value;
+            let b = most.value;
+            match power_text(b) {
+                Some(text) => write!(line, "<{a}..{text}>"),
+                None => write!(line, "<{a}..{b}>"),
+            }
+        }
+    }
+}

@@ -1,0 +1,191 @@
+-- The signs that tokens are, and the signs that what is read of them stands for.
+use Rattle.std.specs.Prelude.{ℕ, List, [], ◌∷◌, length, Bool, true, false, Option, Some, None, string_bytes, codes}
+use Rattle.tlsgen_syntax.specs.declared.token.Mark.{Mark}
+use Rattle.tlsgen_syntax.specs.declared.token.Mark.TheVariants as marks
+use Rattle.tlsgen_syntax.specs.declared.token.TokenKind.{TokenKind}
+use Rattle.tlsgen_syntax.specs.declared.token.TokenKind.TheVariants as kinds
+use Rattle.tlsgen_syntax.specs.declared.token.Token.{Token}
+use Rattle.tlsgen_syntax.specs.declared.tokens.Tokens.{Tokens}
+use Rattle.tlsgen_syntax.specs.declared.syntax.Name.{Name}
+use Rattle.tlsgen_syntax.specs.declared.syntax.Number.{Number}
+use Rattle.tlsgen_syntax.specs.declared.syntax.File.{File}
+use Rattle.tlsgen_syntax.specs.declared.syntax.Item.{Item}
+use Rattle.tlsgen_syntax.specs.declared.syntax.Item.TheVariants as items
+use Rattle.tlsgen_syntax.specs.declared.syntax.Enum.{Enum}
+use Rattle.tlsgen_syntax.specs.declared.syntax.Value.{Value}
+use Rattle.tlsgen_syntax.specs.declared.syntax.Struct.{Struct}
+use Rattle.tlsgen_syntax.specs.declared.syntax.Part.{Part}
+use Rattle.tlsgen_syntax.specs.declared.syntax.Part.TheVariants as parts
+use Rattle.tlsgen_syntax.specs.declared.syntax.Field.{Field}
+use Rattle.tlsgen_syntax.specs.declared.syntax.Vector.{Vector}
+use Rattle.tlsgen_syntax.specs.declared.syntax.Vector.TheVariants as vectors
+use Rattle.tlsgen_syntax.specs.declared.syntax.Select.{Select}
+use Rattle.tlsgen_syntax.specs.declared.syntax.Case.{Case}
+use Rattle.tlsgen_syntax.specs.declared.syntax.Label.{Label}
+use Rattle.tlsgen_syntax.specs.declared.syntax.Label.TheVariants as labels
+
+-- how a mark is written
+abbrev pub mark_text : Mark → List ℕ
+mark_text marks.Case = codes "case"
+mark_text marks.Enum = codes "enum"
+mark_text marks.Lent = codes "lent"
+mark_text marks.Open = codes "open"
+mark_text marks.Optional = codes "optional"
+mark_text marks.Select = codes "select"
+mark_text marks.Struct = codes "struct"
+mark_text marks.OpeningBrace = codes "{"
+mark_text marks.ClosingBrace = codes "}"
+mark_text marks.OpeningParenthesis = codes "("
+mark_text marks.ClosingParenthesis = codes ")"
+mark_text marks.OpeningBracket = codes "["
+mark_text marks.ClosingBracket = codes "]"
+mark_text marks.OpeningAngle = codes "<"
+mark_text marks.ClosingAngle = codes ">"
+mark_text marks.Comma = codes ","
+mark_text marks.Semicolon = codes ";"
+mark_text marks.Colon = codes ":"
+mark_text marks.Equals = codes "="
+mark_text marks.Dot = codes "."
+mark_text marks.Dots = codes ".."
+
+-- a token without its place: a word by its bytes, a number by its value, or a mark
+pub data Sign : Type 0 where
+  word : List ℕ → Sign
+  number : ℕ → Sign
+  mark : Mark → Sign
+
+abbrev pub sign_of : TokenKind → Sign
+sign_of (kinds.Word text) = word (string_bytes text)
+sign_of (kinds.Number value) = number value
+sign_of (kinds.Mark m) = mark m
+
+abbrev pub signs : List Token → List Sign
+signs [] = []
+signs (token ∷ tokens) = sign_of token.kind ∷ signs tokens
+
+-- the signs of the tokens that are left, and how many those are
+abbrev pub signs_left : Tokens → List Sign
+signs_left tokens = signs tokens.left.now
+
+abbrev pub count_left : Tokens → ℕ
+count_left tokens = length tokens.left.now
+
+-- ---- what is read, as signs before the rest
+
+-- each of a list, one after another
+abbrev pub each_then : {A : Type 0} → (A → List Sign → List Sign) → List A → List Sign → List Sign
+each_then one [] rest = rest
+each_then one (x ∷ xs) rest = one x (each_then one xs rest)
+
+-- each of a list, with a mark between two
+abbrev pub separated_then : {A : Type 0} → Mark → (A → List Sign → List Sign) → List A → List Sign → List Sign
+separated_then m one [] rest = rest
+separated_then m one (x ∷ xs) rest = one x (each_then (λ y others. mark m ∷ one y others) xs rest)
+
+-- the mark, if it is there
+abbrev pub flag_then : Mark → Bool → List Sign → List Sign
+flag_then m true rest = mark m ∷ rest
+flag_then m false rest = rest
+
+-- the word V, if it is there
+abbrev pub variable_then : Bool → List Sign → List Sign
+variable_then true rest = word (codes "V") ∷ rest
+variable_then false rest = rest
+
+abbrev pub name_then : Name → List Sign → List Sign
+name_then name rest = word (string_bytes name.text) ∷ rest
+
+abbrev pub optional_name_then : Option Name → List Sign → List Sign
+optional_name_then None rest = rest
+optional_name_then (Some name) rest = name_then name rest
+
+abbrev pub number_then : Number → List Sign → List Sign
+number_then n rest = number n.value ∷ rest
+
+-- [NAME] ( NUMBER )
+abbrev pub value_then : Value → List Sign → List Sign
+value_then value rest =
+    optional_name_then value.name
+    (mark marks.OpeningParenthesis ∷ number_then value.number (mark marks.ClosingParenthesis ∷ rest))
+
+-- [open] enum { values } NAME ;
+abbrev pub enum_then : Enum → List Sign → List Sign
+enum_then e rest =
+    flag_then marks.Open e.is_open
+    (mark marks.Enum ∷ mark marks.OpeningBrace ∷
+    separated_then marks.Comma value_then e.values.items
+    (mark marks.ClosingBrace ∷ name_then e.name (mark marks.Semicolon ∷ rest)))
+
+-- NAME, or < NAME > behind optional
+abbrev pub type_then : Bool → Name → List Sign → List Sign
+type_then true of rest = mark marks.OpeningAngle ∷ name_then of (mark marks.ClosingAngle ∷ rest)
+type_then false of rest = name_then of rest
+
+-- nothing, [ NUMBER ], < V > or < NUMBER .. NUMBER >
+abbrev pub vector_then : Vector → List Sign → List Sign
+vector_then vectors.One rest = rest
+vector_then (vectors.Array len) rest = mark marks.OpeningBracket ∷ number_then len (mark marks.ClosingBracket ∷ rest)
+vector_then vectors.Variable rest = mark marks.OpeningAngle ∷ word (codes "V") ∷ mark marks.ClosingAngle ∷ rest
+vector_then (vectors.Bounded floor ceiling) rest =
+    mark marks.OpeningAngle ∷ number_then floor (mark marks.Dots ∷ number_then ceiling (mark marks.ClosingAngle ∷ rest))
+
+-- [ = NAME ]
+abbrev pub constant_then : Option Name → List Sign → List Sign
+constant_then None rest = rest
+constant_then (Some name) rest = mark marks.Equals ∷ name_then name rest
+
+-- [optional] type NAME vector constant
+abbrev pub field_then : Field → List Sign → List Sign
+field_then f rest =
+    flag_then marks.Optional f.is_optional
+    (type_then f.is_optional f.of (name_then f.name (vector_then f.vector (constant_then f.constant rest))))
+
+abbrev pub ended_field_then : Field → List Sign → List Sign
+ended_field_then f rest = field_then f (mark marks.Semicolon ∷ rest)
+
+abbrev pub label_value_then : Label → List Sign → List Sign
+label_value_then (labels.Name name) rest = name_then name rest
+label_value_then (labels.Number n) rest = number_then n rest
+
+-- case label :
+abbrev pub label_then : Label → List Sign → List Sign
+label_then label rest = mark marks.Case ∷ label_value_then label (mark marks.Colon ∷ rest)
+
+-- struct { } ; or fields
+abbrev pub case_fields_then : List Field → List Sign → List Sign
+case_fields_then [] rest =
+    mark marks.Struct ∷ mark marks.OpeningBrace ∷ mark marks.ClosingBrace ∷ mark marks.Semicolon ∷ rest
+case_fields_then (f ∷ fs) rest = ended_field_then f (each_then ended_field_then fs rest)
+
+abbrev pub case_then : Case → List Sign → List Sign
+case_then c rest = each_then label_then c.labels.items (case_fields_then c.fields.items rest)
+
+-- select ( path ) { cases } [NAME] [;]
+abbrev pub select_then : Select → List Sign → List Sign
+select_then s rest =
+    mark marks.Select ∷ mark marks.OpeningParenthesis ∷
+    separated_then marks.Dot name_then s.path.items
+    (mark marks.ClosingParenthesis ∷ mark marks.OpeningBrace ∷
+    each_then case_then s.cases.items
+    (mark marks.ClosingBrace ∷ optional_name_then s.name (flag_then marks.Semicolon s.ends_in_semicolon rest)))
+
+abbrev pub part_then : Part → List Sign → List Sign
+part_then (parts.Field f) rest = ended_field_then f rest
+part_then (parts.Select s) rest = select_then s rest
+
+-- [lent] struct { parts } NAME ;
+abbrev pub struct_then : Struct → List Sign → List Sign
+struct_then s rest =
+    flag_then marks.Lent s.is_lent
+    (mark marks.Struct ∷ mark marks.OpeningBrace ∷
+    each_then part_then s.parts.items
+    (mark marks.ClosingBrace ∷ name_then s.name (mark marks.Semicolon ∷ rest)))
+
+abbrev pub item_then : Item → List Sign → List Sign
+item_then (items.Enum e) rest = enum_then e rest
+item_then (items.Struct s) rest = struct_then s rest
+item_then (items.Alias f) rest = ended_field_then f rest
+
+-- the signs of a whole file
+abbrev pub file_signs : File → List Sign
+file_signs file = each_then item_then file.items.items []

@@ -1,0 +1,68 @@
+//! Enums.
+ghost use Rattle.std.specs.Prelude.{◌≡◌, ◌<◌, ◌≤◌, IfOk, OnOk};
+ghost use Rattle.tlsgen_syntax.specs.Signs.{count_left, enum_then, optional_name_then, separated_then, signs_left, value_then};
+
+use crate::refusal::Trouble;
+use crate::syntax::{Enum, Name, Value};
+use crate::token::Mark;
+use crate::tokens::Tokens;
+use std::alloc::Global;
+
+/// `["open"] "enum" "{" values "}" NAME ";"`
+pub(crate) fn enumeration(alloc: Global, tokens: &mut Tokens<'_>) -> Result<Enum, Trouble>
+    ensures read { IfOk result (λ e. signs_left tokens.old ≡ enum_then e (signs_left tokens.new)) }
+    ensures fewer { OnOk result (count_left tokens.new < count_left tokens.old) }
+{
+    let is_open = tokens.take(Mark::Open);
+    tokens.expect(alloc, Mark::Enum, "enum")?;
+    tokens.expect(alloc, Mark::OpeningBrace, "{")?;
+    let values = values(alloc, tokens)?;
+    tokens.expect(alloc, Mark::ClosingBrace, ", or }")?;
+    let name = tokens.name(alloc, "the enum's name")?;
+    tokens.expect(alloc, Mark::Semicolon, ";")?;
+    Ok(Enum {
+        is_open,
+        values,
+        name,
+    })
+}
+
+// `value { "," value }`
+#[tactic(auto, using(crate::proofs::Gathered::gathered_separated))]
+fn values(alloc: Global, tokens: &mut Tokens<'_>) -> Result<Vec<Value>, Trouble>
+    ensures read { IfOk result (λ values. signs_left tokens.old ≡
+        separated_then Mark.Comma value_then values.items (signs_left tokens.new)) }
+    ensures fewer { OnOk result (count_left tokens.new < count_left tokens.old) }
+{
+    let mut values = Vec::new(alloc);
+    values.push(value(alloc, tokens)?)?;
+    'more: while tokens.take(Mark::Comma) {
+        values.push(value(alloc, tokens)?)?;
+    }
+    Ok(values)
+}
+
+// `[NAME] "(" NUMBER ")"`
+fn value(alloc: Global, tokens: &mut Tokens<'_>) -> Result<Value, Trouble>
+    ensures read { IfOk result (λ value. signs_left tokens.old ≡ value_then value (signs_left tokens.new)) }
+    ensures fewer { OnOk result (count_left tokens.new < count_left tokens.old) }
+{
+    let name = value_name(alloc, tokens)?;
+    tokens.expect(alloc, Mark::OpeningParenthesis, "(")?;
+    let number = tokens.number(alloc, "the value's number")?;
+    tokens.expect(alloc, Mark::ClosingParenthesis, ")")?;
+    Ok(Value { name, number })
+}
+
+// `[NAME]` before a parenthesis
+fn value_name(alloc: Global, tokens: &mut Tokens<'_>) -> Result<Option<Name>, Trouble>
+    ensures read { IfOk result (λ name. signs_left tokens.old ≡
+        optional_name_then name (signs_left tokens.new)) }
+    ensures fewer { OnOk result (count_left tokens.new ≤ count_left tokens.old) }
+{
+    if tokens.mark() == Some(Mark::OpeningParenthesis) {
+        return Ok(None);
+    }
+    let name = tokens.name(alloc, "a value's name or (")?;
+    Ok(Some(name))
+}

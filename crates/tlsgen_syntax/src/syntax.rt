@@ -1,0 +1,116 @@
+//! What a text of the presentation language says.
+
+use crate::refusal::Place;
+
+/// A name, and where it stands.
+#[derive(Drop)]
+pub struct Name {
+    pub text: String,
+    pub place: Place,
+}
+
+/// What a file defines, in its order.
+#[derive(Drop)]
+pub struct File {
+    pub items: Vec<Item>,
+}
+
+#[derive(Drop)]
+pub enum Item {
+    /// `enum { member(1), external(2), (255) } SenderType;`
+    Enum(Enum),
+    /// `struct { uint32 leaf_index; opaque key<V>; } Sender;`
+    Struct(Struct),
+    /// `opaque MAC<V>;` gives `MAC` as another name of a type.
+    Alias(Field),
+}
+
+/// Numbers with names. In an open one, `open enum { .. }`, numbers without a name are kept too.
+#[derive(Drop)]
+pub struct Enum {
+    pub is_open: bool,
+    /// At least one.
+    pub values: Vec<Value>,
+    pub name: Name,
+}
+
+/// `member(1)`, or `(255)` without a name, which gives the width of the number.
+#[derive(Drop)]
+pub struct Value {
+    pub name: Option<Name>,
+    pub number: Number,
+}
+
+/// A number, and where it stands.
+#[derive(Clone, Copy)]
+pub struct Number {
+    pub value: u64,
+    pub place: Place,
+}
+
+/// Fields and selects in a row. A lent one, `lent struct { .. }`, has references to its fields, and is only written.
+#[derive(Drop)]
+pub struct Struct {
+    pub is_lent: bool,
+    pub parts: Vec<Part>,
+    pub name: Name,
+}
+
+#[derive(Drop)]
+pub enum Part {
+    Field(Field),
+    Select(Select),
+}
+
+/// `uint16 suites<V>;`, without the semicolon.
+#[derive(Drop)]
+pub struct Field {
+    /// `optional<of>`.
+    pub is_optional: bool,
+    /// The type's name, as `uint16` or `opaque`.
+    pub of: Name,
+    pub name: Name,
+    pub vector: Vector,
+    /// `version = mls10`: the value's name.
+    pub constant: Option<Name>,
+}
+
+/// How many of a type there are.
+#[derive(Drop)]
+pub enum Vector {
+    /// `uint8 a`: one.
+    One,
+    /// `opaque a[16]`: 16 bytes.
+    Array(Number),
+    /// `opaque a<V>`: after a length of variable width (RFC 9420, section 2.1.2).
+    Variable,
+    /// `opaque a<2..2^16-2>`: after a length in bytes that is neither below the first number nor above the second.
+    Bounded(Number, Number),
+}
+
+/// `select (Sender.sender_type) { case member: uint32 leaf_index; .. } SenderData;`
+#[derive(Drop)]
+pub struct Select {
+    /// The words between the brackets, at least one.
+    pub path: Vec<Name>,
+    pub cases: Vec<Case>,
+    /// The name of the type that the tag and the select become, where it is given.
+    pub name: Option<Name>,
+    /// Without a name the semicolon may be left out.
+    pub ends_in_semicolon: bool,
+    pub place: Place,
+}
+
+/// Labels with what comes after each: `case member: case external: uint32 index;`. No fields: `struct {};`.
+#[derive(Drop)]
+pub struct Case {
+    /// At least one.
+    pub labels: Vec<Label>,
+    pub fields: Vec<Field>,
+}
+
+#[derive(Drop)]
+pub enum Label {
+    Name(Name),
+    Number(Number),
+}

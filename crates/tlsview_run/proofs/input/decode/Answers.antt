@@ -1,6 +1,0 @@
-use Rattle.std.proofs.Common.{sym}
-use Rattle.tlsview_run.proofs.Hex.{hex_again}
-use Rattle.tlsview_run.proofs.input.decode.Goals as goal
-
-pub returns-in-Ok-clause-hex : goal.returns-in-Ok-clause-hex
-returns-in-Ok-clause-hex c = rw (← c.in_ok-digits.ensures) (hex_again _ _ c.in-Ok.ensures.ok)
