@@ -126,7 +126,7 @@ fn each_entry_is_of_the_same_type(rt: HostRuntime) -> Result<(), Fail> {
 #[test]
 fn rejected_lists(rt: HostRuntime) -> Result<(), Fail> {
     let alloc = rt.alloc();
-    let cut = [0, 0, 0, 5, 0, 0, 1, 6, 0, 0];
+    let cut = [0, 0, 0, 5, 0, 0, 1, 6, 0];
     is_refused_in::<_, Certificate>(&rt, alloc, &X509, &cut, Error::EndOfStream);
     let none = [0, 0, 0, 5, 0, 0, 0, 0, 0];
     is_refused_in::<_, Certificate>(&rt, alloc, &X509, &none, Error::InvalidVectorLength);
