@@ -7,6 +7,7 @@ mod layout;
 mod names;
 mod plans;
 mod presentation;
+mod printed;
 mod selects;
 mod shown;
 

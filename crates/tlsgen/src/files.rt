@@ -17,8 +17,11 @@ pub fn print<R: Print>(rt: &R, written: &[Written]) -> anyhow::Result<ExitCode> 
     Ok(ExitCode::SUCCESS)
 }
 
-/// Writes each file into a folder, and makes the folders on its path.
-pub fn write_to<R: Print + AllocGlobal + Files>(
+// The status after a file that can't be written.
+const UNWRITTEN: u8 = 2;
+
+/// Writes each file into a folder, and makes the folders on its path. Prints which can't be written, and ends there.
+pub fn write_to<R: Eprint + AllocGlobal + Files>(
     rt: &R,
     folder: &str,
     written: &[Written],
@@ -26,12 +29,20 @@ pub fn write_to<R: Print + AllocGlobal + Files>(
     for file in written {
         let inner = file.path.as_str();
         let path = format!(in rt.alloc(); "{folder}/{inner}")?;
-        if let Some((parent, _name)) = path.as_str().rsplit_once('/') {
-            fs::create_dir_all(rt, parent)?;
+        if let Err(error) = write_file(rt, path.as_str(), file.text.as_str()) {
+            eprintln!(rt; "{path}: {error}")?;
+            return Ok(ExitCode::from(UNWRITTEN));
         }
-        fs::write(rt, path.as_str(), file.text.as_str())?;
     }
     Ok(ExitCode::SUCCESS)
+}
+
+fn write_file<R: Files>(rt: &R, path: &str, text: &str) -> anyhow::Result<()> {
+    if let Some((parent, _name)) = path.rsplit_once('/') {
+        fs::create_dir_all(rt, parent)?;
+    }
+    fs::write(rt, path, text)?;
+    Ok(())
 }
 
 /// Compares each file with that of its path in a folder, and prints the first line that differs.

@@ -17,6 +17,7 @@ mod files;
 mod texts;
 mod words;
 
+use clap::ArgMatches;
 use std::process::ExitCode;
 use std::rt::Files;
 use std::{env, fs};
@@ -25,7 +26,7 @@ use tlsgen_emit::file::files_of;
 use tlsgen_emit::shows::file_of;
 use tlsgen_model::plan::Plan;
 use tlsgen_syntax::refusal::Trouble;
-use words::command;
+use words::{command, is_crate_name};
 
 // The status after a text that is rejected, and after words that aren't understood.
 const REFUSED: u8 = 2;
@@ -43,6 +44,9 @@ fn main(rt: HostRuntime) -> anyhow::Result<ExitCode> {
     let input = matches.get_str("INPUT").unwrap_or("");
     let name = matches.get_str("crate").unwrap_or("");
     let mut texts = Texts::new(alloc);
+    if !is_named(&rt, "--crate", name)? || !are_folders(&rt, &matches)? {
+        return Ok(ExitCode::from(REFUSED));
+    }
     if !add_others(&rt, &mut texts, matches.get_strs("with").unwrap_or(&[]))? {
         return Ok(ExitCode::from(REFUSED));
     }
@@ -66,6 +70,28 @@ fn main(rt: HostRuntime) -> anyhow::Result<ExitCode> {
     files::print(&rt, written.as_slice())
 }
 
+/// Returns whether a crate can have a name, or prints that it can't.
+fn is_named<R: Eprint>(rt: &R, word: &str, name: &str) -> anyhow::Result<bool> {
+    if is_crate_name(name) {
+        return Ok(true);
+    }
+    eprintln!(rt;
+        "{word} {name}: expected a crate's name, of small letters, digits and _, and no word of Rust"
+    )?;
+    Ok(false)
+}
+
+/// Returns whether the folders that are given have names, or prints which hasn't.
+fn are_folders<R: Eprint>(rt: &R, matches: &ArgMatches<'_>) -> anyhow::Result<bool> {
+    for word in ["to", "compare"] {
+        if matches.get_str(word) == Some("") {
+            eprintln!(rt; "--{word}: expected a folder")?;
+            return Ok(false);
+        }
+    }
+    Ok(true)
+}
+
 /// Adds the texts of other crates, each given as `NAME=FILE`. Returns whether all were read.
 fn add_others<R: Eprint + AllocGlobal + Files>(
     rt: &R,
@@ -77,6 +103,9 @@ fn add_others<R: Eprint + AllocGlobal + Files>(
             eprintln!(rt; "--with {word}: expected NAME=FILE")?;
             return Ok(false);
         };
+        if !is_named(rt, "--with", name)? {
+            return Ok(false);
+        }
         if !add(rt, texts, path)? {
             return Ok(false);
         }
@@ -98,7 +127,10 @@ fn add<R: Eprint + AllocGlobal + Files>(
             return Ok(false);
         }
     };
-    if let Err(trouble) = texts.add(rt.alloc(), path, text.as_str()) {
+    // Editors may put a mark of the byte order first.
+    let text = text.as_str();
+    let text = text.strip_prefix('\u{feff}').unwrap_or(text);
+    if let Err(trouble) = texts.add(rt.alloc(), path, text) {
         print_trouble(rt, path, trouble)?;
         return Ok(false);
     }

@@ -5,7 +5,7 @@ abbrev pub is_blank : ℕ → Bool
 is_blank b = (b == 32) || (b == 10) || (b == 9) || (b == 13)
 
 abbrev pub is_closing : ℕ → Bool
-is_closing b = (b == 41) || (b == 93) || (b == 125)
+is_closing b = (b == 41) || (b == 93) || (b == 125) || (b == 62)
 
 -- whether a closing bracket comes next, after any blanks
 unfoldable pub closes : List ℕ → Bool

@@ -75,7 +75,7 @@ fn blank(byte: u8) -> bool
 fn closing(byte: u8) -> bool
     ensures { result ≡ is_closing byte }
 {
-    byte == b')' || byte == b']' || byte == b'}'
+    byte == b')' || byte == b']' || byte == b'}' || byte == b'>'
 }
 
 /// Whether a closing bracket comes next, after any blanks.

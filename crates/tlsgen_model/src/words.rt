@@ -146,7 +146,7 @@ static MODULES: [&str; 8] = [
     "tls_codec",
 ];
 
-static TYPES: [&str; 81] = [
+static TYPES: [&str; 84] = [
     "Abort",
     "AllocError",
     "AllocFailed",
@@ -213,12 +213,14 @@ static TYPES: [&str; 81] = [
     "TheConstants",
     "TheVariants",
     "TlsByteSliceU8",
+    "TlsByteVec",
     "TlsByteVecU16",
     "TlsByteVecU24",
     "TlsByteVecU32",
     "TlsByteVecU8",
     "TlsSliceU8",
     "TlsVarInt",
+    "TlsVec",
     "TlsVecU16",
     "TlsVecU24",
     "TlsVecU32",
@@ -228,6 +230,7 @@ static TYPES: [&str; 81] = [
     "VLByteSlice",
     "VLBytes",
     "Vec",
+    "Within",
 ];
 
 static CONSTRUCTORS: [&str; 21] = [

@@ -1,7 +1,7 @@
 -- The cases of a select, against the values of its tag's enum.
-use Rattle.std.specs.Prelude.{◌≡◌, ◌≢◌, ◌++◌, ℕ, List, Option, Some, None, IfSome, IsFalse, IsTrue, MatchOption, codes, map, nat_eq, string_bytes}
+use Rattle.std.specs.Prelude.{◌≡◌, ◌≢◌, ◌++◌, ℕ, List, Option, Some, None, IsNone, MatchOption, codes, map, string_bytes}
 use Rattle.std.specs.Option.{option_copied}
-use Rattle.std.specs.List.{All, AllZip, Any, list_any}
+use Rattle.std.specs.List.{AllZip, Any}
 use Rattle.tlsgen_model.specs.declared.lists.ValueList.{ValueList}
 use Rattle.tlsgen_syntax.specs.declared.syntax.Case.{Case}
 use Rattle.tlsgen_syntax.specs.declared.syntax.Enum.{Enum}
@@ -9,25 +9,18 @@ use Rattle.tlsgen_syntax.specs.declared.syntax.Field.{Field}
 use Rattle.tlsgen_syntax.specs.declared.syntax.Label.{Label}
 use Rattle.tlsgen_syntax.specs.declared.syntax.Label.TheVariants as labels
 use Rattle.tlsgen_syntax.specs.declared.syntax.Name.{Name}
+use Rattle.tlsgen_syntax.specs.declared.syntax.Value.{Value}
 use Rattle.tlsgen_resolve.specs.declared.cases.Labelled.{Labelled}
 use Rattle.tlsgen_resolve.specs.declared.cases.Tag.{Tag}
 
--- a case has this number
-abbrev pub HasCase : List Labelled → ℕ → Type 0
-HasCase cases number = IsTrue (list_any (λ case. nat_eq number case.number) cases)
-
 -- a name, and not the word `reserved`
-abbrev pub IsNamed : Option Name → Type 0
-IsNamed None = ⊥
-IsNamed (Some name) = string_bytes name.text ≢ codes "reserved"
+abbrev pub IsFree : Option Name → Type 0
+IsFree None = ⊥
+IsFree (Some name) = (string_bytes name.text ≢ codes "reserved") × (string_bytes name.text ≢ codes "RESERVED")
 
--- each value of the enum that has a name has a case
-abbrev pub IsComplete : Enum → List Labelled → Type 0
-IsComplete one cases = All (λ value. IsNamed value.name → HasCase cases value.number.value) one.values.items
-
--- a closed enum has a case for each of its values
-abbrev pub HasAll : Tag → List Labelled → Type 0
-HasAll tag cases = IfSome (option_copied tag.of) (λ one. IsFalse one.is_open → IsComplete one cases)
+-- one number with a name
+abbrev pub IsNamed : Value → Type 0
+IsNamed value = IsNone value.last × IsFree value.name
 
 abbrev pub IsCalled : Option Name → (text : List ℕ) → Type 0
 IsCalled None text = ⊥
@@ -35,7 +28,8 @@ IsCalled (Some name) text = string_bytes name.text ≡ text
 
 -- a value of the enum has this name and this number
 abbrev pub HasValue : Enum → (text : List ℕ) → (number : ℕ) → Type 0
-HasValue one text number = Any (λ value. IsCalled value.name text × (value.number.value ≡ number)) one.values.items
+HasValue one text number =
+    Any (λ value. IsNone value.last × IsCalled value.name text × (value.number.value ≡ number)) one.values.items
 
 -- a number stands for itself, a name for that of the enum's value
 abbrev pub IsNumberOf : Tag → Label → ℕ → Type 0

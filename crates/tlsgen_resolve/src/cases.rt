@@ -2,7 +2,7 @@
 ghost use Rattle.std.specs.Prelude.{◌≡◌, IfOk, IfSome, OnOk, nat_eq, string_bytes};
 ghost use Rattle.std.specs.List.{list_any};
 ghost use Rattle.tlsgen_syntax.specs.declared.syntax.Label.TheVariants as labels;
-ghost use Rattle.tlsgen_resolve.specs.Cases.{AppendsLabelled, HasAll, HasCase, HasValue, IsComplete, IsNamed, IsNumberOf};
+ghost use Rattle.tlsgen_resolve.specs.Cases.{AppendsLabelled, HasValue, IsNumberOf};
 
 use crate::checks::{TOO_GREAT, enum_width, named, refused_number};
 use crate::items::{MOST_ITEMS, find, integer_width, is_single};
@@ -10,7 +10,7 @@ use crate::refuse::{Budget, refused};
 use std::alloc::Global;
 use tlsgen_model::width::Width;
 use tlsgen_syntax::refusal::{Place, Trouble};
-use tlsgen_syntax::syntax::{Case, Enum, Field, File, Item, Label, Name, Number, Select, Value};
+use tlsgen_syntax::syntax::{Case, Enum, Field, File, Item, Label, Name, Number, Select};
 
 /// The type of a tag: a number of 1, 2, 4 or 8 bytes, which may have names.
 #[derive(Clone, Copy)]
@@ -31,6 +31,23 @@ pub struct Labelled<'a> {
 
 /// The type of a field that is a tag: an integer, an enum, or another name of one.
 pub fn tag_of<'a>(alloc: Global, files: &'a [File], field: &'a Field) -> Result<Tag<'a>, Trouble> {
+    match find_tag(alloc, files, field)? {
+        Some(tag) => Ok(tag),
+        None => Err(refused(
+            alloc,
+            field.of.place,
+            field.of.text.as_str(),
+            "a tag of 1, 2, 4 or 8 bytes: an enum, uint8, uint16, uint32, uint64, or another name of one",
+        )),
+    }
+}
+
+/// The type of a field, if it is an integer, an enum or another name of one, of 1, 2, 4 or 8 bytes.
+pub fn find_tag<'a>(
+    alloc: Global,
+    files: &'a [File],
+    field: &'a Field,
+) -> Result<Option<Tag<'a>>, Trouble> {
     let mut current = field;
     for _ in 0..=MOST_ITEMS {
         if !is_single(current) {
@@ -41,36 +58,28 @@ pub fn tag_of<'a>(alloc: Global, files: &'a [File], field: &'a Field) -> Result<
             Some(Item::Alias(next)) => current = next,
             Some(Item::Enum(one)) => {
                 let width = enum_width(alloc, one)?;
-                return Ok(Tag {
+                return Ok(Some(Tag {
                     width,
                     of: Some(one),
-                });
+                }));
             }
             Some(Item::Struct(_)) => break,
-            None => match integer_width(of).and_then(Width::new) {
-                Some(width) => return Ok(Tag { width, of: None }),
-                None => break,
-            },
+            None => {
+                let width = integer_width(of).and_then(Width::new);
+                return Ok(width.map(|width| Tag { width, of: None }));
+            }
         }
     }
-    Err(refused(
-        alloc,
-        field.of.place,
-        field.of.text.as_str(),
-        "a tag of 1, 2, 4 or 8 bytes: an enum, uint8, uint16, uint32, uint64, or another name of one",
-    ))
+    Ok(None)
 }
 
-/// The cases of a select, one for each label. Rejects a label that the tag's type lacks, and a select that lacks a
-/// value of a closed enum.
+/// The cases of a select, one for each label. Rejects a label that the tag's type lacks.
 pub fn cases_of<'a>(
     alloc: Global,
     tag: Tag<'a>,
     select: &'a Select,
     budget: &mut Budget,
-) -> Result<Vec<Labelled<'a>>, Trouble>
-    ensures { IfOk result (λ cases. HasAll tag.entry cases.items) }
-{
+) -> Result<Vec<Labelled<'a>>, Trouble> {
     let mut cases = Vec::new(alloc);
     for case in &select.cases {
         push_labels(alloc, tag, case, &mut cases, budget)?;
@@ -83,7 +92,6 @@ pub fn cases_of<'a>(
             "a select with at least one case",
         ));
     }
-    check_all(alloc, tag, &cases, select.place)?;
     Ok(cases)
 }
 
@@ -156,7 +164,7 @@ fn find_number(one: &Enum, text: &str) -> Option<u64>
     ensures { IfSome result (HasValue one.now text.now) }
 {
     for value in &one.values {
-        if let Some(name) = named(&value.name) {
+        if let Some(name) = named(value) {
             if name.text.as_str() == text {
                 return Some(value.number.value);
             }
@@ -179,12 +187,13 @@ fn name_of(alloc: Global, tag: Tag<'_>, number: Number) -> Result<String, Troubl
     }
 }
 
-fn find_name(one: &Enum, number: u64) -> Option<&Name>
+/// The name of a number of an enum.
+pub fn find_name(one: &Enum, number: u64) -> Option<&Name>
     ensures { IfSome result (λ name. HasValue one.now (string_bytes name.now.text) number) }
 {
     for value in &one.values {
         if value.number.value == number {
-            if let Some(name) = named(&value.name) {
+            if let Some(name) = named(value) {
                 return Some(name);
             }
         }
@@ -195,54 +204,6 @@ fn find_name(one: &Enum, number: u64) -> Option<&Name>
 fn case_name(alloc: Global, number: Number) -> Result<String, Trouble> {
     let value = number.value;
     Ok(format!(in alloc; "case_{value}")?)
-}
-
-// Rejects a select that lacks a value of a closed enum.
-fn check_all(
-    alloc: Global,
-    tag: Tag<'_>,
-    cases: &[Labelled<'_>],
-    place: Place,
-) -> Result<(), Trouble>
-    ensures { OnOk result (HasAll tag.entry cases.now) }
-{
-    match tag.of {
-        Some(one) if !one.is_open => check_complete(alloc, one, cases, place),
-        _ => Ok(()),
-    }
-}
-
-fn check_complete(
-    alloc: Global,
-    one: &Enum,
-    cases: &[Labelled<'_>],
-    place: Place,
-) -> Result<(), Trouble>
-    ensures { OnOk result (IsComplete one.now cases.now) }
-{
-    for value in &one.values {
-        check_value(alloc, value, cases, place)?;
-    }
-    Ok(())
-}
-
-fn check_value(
-    alloc: Global,
-    value: &Value,
-    cases: &[Labelled<'_>],
-    place: Place,
-) -> Result<(), Trouble>
-    ensures { OnOk result (IsNamed value.now.name → HasCase cases.now value.now.number.value) }
-{
-    match named(&value.name) {
-        Some(name) if !has_case(cases, value.number.value) => Err(refused(
-            alloc,
-            place,
-            name.text.as_str(),
-            "a select with a case for this value of the tag's enum",
-        )),
-        _ => Ok(()),
-    }
 }
 
 /// Whether a number has a case.

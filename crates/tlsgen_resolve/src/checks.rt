@@ -1,17 +1,18 @@
 //! Whether the names and the numbers that a file gives can be written.
-ghost use Rattle.std.specs.Prelude.{◌≡◌, ◌↔◌, ◌++◌, [], ◌∷◌, IfOk, IfSome, IsSome, OnOk, Some};
+ghost use Rattle.std.specs.Prelude.{◌≡◌, ◌≢◌, ◌↔◌, ◌++◌, [], ◌∷◌, IfOk, IfSome, IsFalse, IsSome, OnOk, Some, codes};
 ghost use Rattle.tlsgen_resolve.specs.Cases.{IsNamed, numbers_of};
 ghost use Rattle.tlsgen_model.specs.Writable.{IsWritable};
 
+use crate::naming::{type_name, underscored};
 use crate::refuse::refused;
 use std::alloc::Global;
 use tlsgen_model::lists::{Unfit, ValueList};
 use tlsgen_model::names::{constant_name, module_name, variant_name};
-use tlsgen_model::plan::{Body, Value};
+use tlsgen_model::plan;
+use tlsgen_model::plan::Body;
 use tlsgen_model::width::{Width, bytes_for};
-use tlsgen_model::words::{is_module_word, is_type_word};
 use tlsgen_syntax::refusal::Trouble;
-use tlsgen_syntax::syntax::{Enum, Name, Number};
+use tlsgen_syntax::syntax::{Enum, Name, Number, Value};
 
 // The most values of an enum: names are compared each with each.
 const MOST_VALUES: usize = 1024;
@@ -21,28 +22,12 @@ pub const TOO_GREAT: &str = "a number of at most the enum's bytes";
 
 /// The module of a type's name. Rejects a name that a type can't have.
 pub fn type_module(alloc: Global, name: &Name) -> Result<String, Trouble> {
-    let text = name.text.as_str();
     check_letters(alloc, name)?;
-    if !text
-        .as_bytes()
-        .first()
-        .is_some_and(|first| first.is_ascii_uppercase())
-    {
-        return Err(refused(alloc, name.place, text, "a name that begins with a capital"));
-    }
-    let module = module_name(alloc, text)?;
-    if is_type_word(text) || is_module_word(module.as_str()) {
-        return Err(refused(
-            alloc,
-            name.place,
-            text,
-            "another name: this is a word of Rust, of the library or of the definitions",
-        ));
-    }
-    Ok(module)
+    let own = type_name(alloc, name.text.as_str())?;
+    Ok(module_name(alloc, own.as_str())?)
 }
 
-/// Rejects a name that has other characters than letters, digits and `_`, or that begins with no letter.
+/// Rejects a name that has other characters than letters, digits, `_` and dots, or that begins with no letter.
 pub fn check_letters(alloc: Global, name: &Name) -> Result<(), Trouble> {
     let bytes = name.text.as_bytes();
     if !bytes
@@ -56,15 +41,12 @@ pub fn check_letters(alloc: Global, name: &Name) -> Result<(), Trouble> {
             "a name that begins with a letter",
         ));
     }
-    if !bytes
-        .iter()
-        .all(|byte| byte.is_ascii_alphanumeric() || *byte == b'_')
-    {
+    if !bytes.iter().all(|byte| byte.is_ascii_alphanumeric() || *byte == b'_' || *byte == b'.') {
         return Err(refused(
             alloc,
             name.place,
             name.text.as_str(),
-            "a name of letters, digits and _",
+            "a name of letters, digits, _ and dots",
         ));
     }
     Ok(())
@@ -96,51 +78,49 @@ fn greatest(one: &Enum) -> u64 {
     let mut stated = None;
     let mut greatest = 0;
     for value in &one.values {
+        let last = last_number(value).value;
         match value.name {
-            None => stated = Some(value.number.value),
-            Some(_) => greatest = greatest.max(value.number.value),
+            None => stated = Some(last),
+            Some(_) => greatest = greatest.max(last),
         }
     }
     stated.unwrap_or(greatest)
 }
 
-/// The values of an enum, without those that are called `reserved`. Rejects a name or a number that comes
-/// twice, a number of more bytes than the enum's, and an enum without values.
+// The number of a value, or the last one of a range.
+fn last_number(value: &Value) -> Number {
+    value.last.unwrap_or(value.number)
+}
+
+/// The values of an enum, without ranges and those that are called `reserved`. Rejects a name or a number that comes
+/// twice, and a number of more bytes than the enum's. One without values keeps each number.
 pub fn enum_body(alloc: Global, one: &Enum) -> Result<Body, Trouble>
     ensures { IfOk result IsWritable }
 {
     let width = enum_width(alloc, one)?;
     let mut values = ValueList::new(alloc, width);
     for value in &one.values {
-        if let Some(name) = named(&value.name) {
+        check_range(alloc, width, value)?;
+        if let Some(name) = named(value) {
             push_value(alloc, one, name, value.number, &mut values)?;
         }
     }
-    if values.len() == 0 {
-        return Err(refused(
-            alloc,
-            one.name.place,
-            one.name.text.as_str(),
-            "at least one value with a name",
-        ));
-    }
-    Ok(values.into_body(one.is_open))
+    let is_open = one.is_open || values.len() == 0;
+    Ok(values.into_body(is_open))
 }
 
-/// One value of an enum, as an enum of that value alone.
-pub fn constant_body(alloc: Global, one: &Enum, constant: &Name) -> Result<Body, Trouble>
-    ensures { IfOk result IsWritable }
-{
-    let width = enum_width(alloc, one)?;
-    let mut values = ValueList::new(alloc, width);
-    for value in &one.values {
-        if let Some(name) = named(&value.name) {
-            if name.text == constant.text {
-                push_value(alloc, one, name, value.number, &mut values)?;
-            }
-        }
+// Rejects a range that ends before it begins, and one of more bytes than the enum's.
+fn check_range(alloc: Global, width: Width, value: &Value) -> Result<(), Trouble> {
+    let Some(last) = value.last else {
+        return Ok(());
+    };
+    if last.value < value.number.value {
+        return Err(refused_number(alloc, last, "a range that doesn't end before it begins"));
     }
-    Ok(values.into_body(false))
+    if value.name.is_some() && !width.holds(last.value) {
+        return Err(refused_number(alloc, last, TOO_GREAT));
+    }
+    Ok(())
 }
 
 fn push_value(
@@ -157,10 +137,11 @@ fn push_value(
     if values.len() >= MOST_VALUES {
         return Err(refused(alloc, name.place, text, "at most 1024 values"));
     }
-    let value = Value {
+    let spelled = underscored(alloc, text)?;
+    let value = plan::Value {
         label: name.text.clone()?,
-        name: variant_name(alloc, text, one.name.text.as_str())?,
-        constant: constant_name(alloc, text)?,
+        name: variant_name(alloc, spelled.as_str(), one.name.text.as_str())?,
+        constant: constant_name(alloc, spelled.as_str())?,
         number: number.value,
     };
     match values.push(value)? {
@@ -180,15 +161,24 @@ fn push_value(
     }
 }
 
-/// The name of a value, if it has one and isn't reserved.
-pub fn named(name: &Option<Name>) -> Option<&Name>
-    ensures some { IsSome result ↔ IsNamed name.now }
-    ensures same { IfSome result (λ own. name.now ≡ Some own.now) }
+/// The name of a value, if it has one, isn't reserved and is no range.
+pub fn named(value: &Value) -> Option<&Name>
+    ensures some { IsSome result ↔ IsNamed value.now }
+    ensures same { IfSome result (λ own. value.now.name ≡ Some own.now) }
 {
-    match name {
-        Some(name) if name.text.as_str() != "reserved" => Some(name),
+    if value.last.is_some() {
+        return None;
+    }
+    match &value.name {
+        Some(name) if !is_reserved(name.text.as_str()) => Some(name),
         _ => None,
     }
+}
+
+fn is_reserved(text: &str) -> bool
+    ensures { IsFalse result ↔ ((text.now ≢ codes "reserved") × (text.now ≢ codes "RESERVED")) }
+{
+    text == "reserved" || text == "RESERVED"
 }
 
 /// The refusal of a number.

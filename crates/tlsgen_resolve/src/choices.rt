@@ -6,7 +6,7 @@ use crate::cases::{Labelled, cases_of, find_case, tag_of};
 use crate::checks::{TOO_GREAT, check_letters};
 use crate::lent::lends;
 use crate::members::{ResolvedMember, copy, push_member};
-use crate::naming::choice_doc;
+use crate::naming::{choice_doc, is_of_field, type_name, underscored};
 use crate::refuse::refused;
 use crate::resolver::Resolver;
 use crate::segment::{ResolvedPiece, ResolvedSelect, check_segment, nearest_select, only_select};
@@ -48,7 +48,7 @@ impl<'a> Resolver<'a> {
         tag: IndexedField<'a>,
         segment: &[ResolvedPiece<'a>],
     ) -> Result<(), Trouble> {
-        let name = String::from_str(self.alloc, sequence.name)?;
+        let name = type_name(self.alloc, sequence.name)?;
         let body = self.choice_body(tag, segment, sequence.name)?;
         self.push_choice(sequence, tag.field, name, body)
     }
@@ -64,11 +64,11 @@ impl<'a> Resolver<'a> {
         let only = only_select(segment);
         if let Some(other) = self.same_choice(sequence, tag.field.name.place, only) {
             let name = other.clone()?;
-            return self.choice_member(tag.field, name);
+            return self.choice_member(tag.field, given, name);
         }
         let name = self.choice_name(sequence.name, tag.field, given)?;
         let body = self.choice_body(tag, segment, name.as_str())?;
-        let member = self.choice_member(tag.field, name.clone()?)?;
+        let member = self.choice_member(tag.field, given, name.clone()?)?;
         if let Some(select) = only {
             self.out.keep_choice(
                 tag.field.name.place,
@@ -147,10 +147,11 @@ impl<'a> Resolver<'a> {
         requires types { HaveTypes fields.items }
     {
         let label = case.name.as_str();
+        let words = underscored(self.alloc, label)?;
         let variant = Variant {
             label: case.name.clone()?,
-            name: variant_name(self.alloc, label, name)?,
-            constant: constant_name(self.alloc, label)?,
+            name: variant_name(self.alloc, words.as_str(), name)?,
+            constant: constant_name(self.alloc, words.as_str())?,
             tag: case.number,
             fields,
         };
@@ -181,11 +182,19 @@ impl<'a> Resolver<'a> {
         self.push(tag.name.place, message)
     }
 
-    fn choice_member(&self, tag: &Field, name: String) -> Result<ResolvedMember, Trouble> {
-        check_letters(self.alloc, &tag.name)?;
+    // The member is called as its tag, or by a name with a small letter behind the select.
+    fn choice_member(
+        &self,
+        tag: &Field,
+        given: Option<&Name>,
+        name: String,
+    ) -> Result<ResolvedMember, Trouble> {
+        let own = given.filter(|name| is_of_field(*name)).unwrap_or(&tag.name);
+        check_letters(self.alloc, own)?;
+        let words = underscored(self.alloc, own.text.as_str())?;
         Ok(ResolvedMember {
             member: Member {
-                name: field_name(self.alloc, tag.name.text.as_str())?,
+                name: field_name(self.alloc, words.as_str())?,
                 of: Type {
                     shape: Shape::One,
                     is_optional: false,

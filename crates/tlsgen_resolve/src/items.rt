@@ -2,7 +2,7 @@
 ghost use Rattle.std.specs.Prelude.{IfSome, IsTrue};
 ghost use Rattle.tlsgen_model.specs.Types.{is_integer_width};
 
-use tlsgen_syntax::syntax::{Enum, Field, File, Item, Name, Struct, Vector};
+use tlsgen_syntax::syntax::{Field, File, Item, Name, Struct, Vector};
 
 /// The most items of all files: names are compared each with each.
 pub const MOST_ITEMS: usize = 1024;
@@ -34,14 +34,6 @@ pub fn position(file: &File, name: &str) -> Option<usize> {
         .position(|item| item_name(item).text.as_str() == name)
 }
 
-/// The enum of this name.
-pub fn find_enum<'a>(files: &'a [File], name: &str) -> Option<&'a Enum> {
-    match find(files, name) {
-        Some(Item::Enum(one)) => Some(one),
-        _ => None,
-    }
-}
-
 /// The struct of this name.
 pub fn find_struct<'a>(files: &'a [File], name: &str) -> Option<&'a Struct> {
     match find(files, name) {
@@ -60,11 +52,11 @@ pub fn integer_width(name: &str) -> Option<usize>
     ensures { IfSome result (λ width. IsTrue (is_integer_width width)) }
 {
     match name {
-        "uint8" => Some(1),
-        "uint16" => Some(2),
-        "uint24" => Some(3),
-        "uint32" => Some(4),
-        "uint64" => Some(8),
+        "uint8" | "uint8_t" => Some(1),
+        "uint16" | "uint16_t" => Some(2),
+        "uint24" | "uint24_t" => Some(3),
+        "uint32" | "uint32_t" => Some(4),
+        "uint64" | "uint64_t" => Some(8),
         _ => None,
     }
 }

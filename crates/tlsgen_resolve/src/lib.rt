@@ -7,6 +7,7 @@ mod cases;
 mod checks;
 mod choices;
 mod constants;
+mod counted;
 mod items;
 mod lent;
 mod members;

@@ -1,9 +1,10 @@
-//! The names of the messages that are made for tags.
+//! The names of types in Rust, and those of the messages that are made for tags.
 use crate::checks::type_module;
 use crate::items::integer_width;
 use crate::resolver::Resolver;
 use std::alloc::{AllocError, Global};
 use tlsgen_model::names::{module_name, variant_name};
+use tlsgen_model::words::{is_module_word, is_type_word};
 use tlsgen_syntax::refusal::Trouble;
 use tlsgen_syntax::syntax::{Field, Name};
 
@@ -17,8 +18,8 @@ impl<'a> Resolver<'a> {
         given: Option<&Name>,
     ) -> Result<String, Trouble> {
         match given {
-            Some(name) => self.free_name(name),
-            None => self.derived_name(of, tag),
+            Some(name) if !is_of_field(name) => self.free_name(name),
+            _ => self.derived_name(of, tag),
         }
     }
 
@@ -28,13 +29,15 @@ impl<'a> Resolver<'a> {
         if self.is_taken(&module) {
             return Err(self.refused_name(name, "a name that no type has"));
         }
-        Ok(name.text.clone()?)
+        Ok(type_name(self.alloc, name.text.as_str())?)
     }
 
     fn derived_name(&self, of: &str, tag: &Field) -> Result<String, Trouble> {
         let alloc = self.alloc;
         let base = base_name(alloc, tag)?;
         let base = base.as_str();
+        let of = type_name(alloc, of)?;
+        let of = of.as_str();
         let short = format!(in alloc; "{base}Data")?;
         if !self.is_taken(&module_name(alloc, short.as_str())?) {
             return Ok(short);
@@ -50,13 +53,53 @@ impl<'a> Resolver<'a> {
     }
 }
 
-// The name of a tag's type, or that of its field for an integer.
-fn base_name(alloc: Global, tag: &Field) -> Result<String, AllocError> {
-    if integer_width(tag.of.text.as_str()).is_some() {
-        variant_name(alloc, tag.name.text.as_str(), "")
-    } else {
-        tag.of.text.clone()
+/// The name of a field's type, or its own if that is an integer or bytes.
+pub fn base_name(alloc: Global, field: &Field) -> Result<String, AllocError> {
+    let of = field.of.text.as_str();
+    if of == "opaque" || integer_width(of).is_some() {
+        let words = underscored(alloc, field.name.text.as_str())?;
+        return variant_name(alloc, words.as_str(), "");
     }
+    type_name(alloc, of)
+}
+
+/// The name in Rust of a type: without dots, in capitals as a variant if it begins with a small letter, and with `Type`
+/// behind it if it is a word of Rust, of the library or of the definitions.
+pub fn type_name(alloc: Global, text: &str) -> Result<String, AllocError> {
+    let mut own = if begins_small(text) {
+        let words = underscored(alloc, text)?;
+        variant_name(alloc, words.as_str(), "")?
+    } else {
+        text.chars().filter(|c| *c != '.').collect(alloc)?
+    };
+    if is_taken_type(alloc, own.as_str())? {
+        own.push_str("Type")?;
+    }
+    Ok(own)
+}
+
+// Whether a type can't have this name: it, or its module, is a word of Rust, of the library or of the definitions.
+fn is_taken_type(alloc: Global, name: &str) -> Result<bool, AllocError> {
+    let module = module_name(alloc, name)?;
+    Ok(is_type_word(name) || is_module_word(module.as_str()))
+}
+
+/// Whether a name behind a select is the field's, and not the type's: it begins with a small letter.
+pub fn is_of_field(name: &Name) -> bool {
+    begins_small(name.text.as_str())
+}
+
+fn begins_small(text: &str) -> bool {
+    text.as_bytes()
+        .first()
+        .is_some_and(|first| first.is_ascii_lowercase())
+}
+
+/// A name with `_` for each dot.
+pub fn underscored(alloc: Global, text: &str) -> Result<String, AllocError> {
+    text.chars()
+        .map(|c| if c == '.' { '_' } else { c })
+        .collect(alloc)
 }
 
 /// What the doc comment says of a tag and its selects.

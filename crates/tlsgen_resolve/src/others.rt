@@ -1,5 +1,6 @@
 //! What a file has of other crates, and which enums are written.
 use crate::members::copy_type;
+use crate::naming::type_name;
 use crate::output::Output;
 use crate::refuse::refused;
 use std::alloc::{AllocError, Global};
@@ -40,42 +41,58 @@ pub fn check_alone(alloc: Global, file: &File, out: &Output) -> Result<(), Troub
 }
 
 fn refused_alone(alloc: Global, file: &File, name: &String) -> Trouble {
-    match file.items.iter().find_map(|item| naming(item, name)) {
-        Some(of) => refused(
+    match naming(alloc, file, name) {
+        Ok(Some(of)) => refused(
             alloc,
             of.place,
             of.text.as_str(),
             "a type that is the field of a struct in its own crate too: there it is a tag alone, and isn't written",
         ),
-        None => Trouble::Memory,
+        Ok(None) | Err(_) => Trouble::Memory,
     }
 }
 
-// Where an item names a type.
-fn naming<'a>(item: &'a Item, name: &String) -> Option<&'a Name> {
+// Where a file names a type.
+fn naming<'a>(
+    alloc: Global,
+    file: &'a File,
+    name: &String,
+) -> Result<Option<&'a Name>, AllocError> {
+    for item in &file.items {
+        for field in &fields_of(alloc, item)? {
+            if type_name(alloc, field.of.text.as_str())? == *name {
+                return Ok(Some(&field.of));
+            }
+        }
+    }
+    Ok(None)
+}
+
+// The fields of an item, also those of its cases.
+fn fields_of<'a>(alloc: Global, item: &'a Item) -> Result<Vec<&'a Field>, AllocError> {
+    let mut fields = Vec::new(alloc);
     match item {
-        Item::Enum(_) => None,
-        Item::Alias(field) => named_by(field, name),
-        Item::Struct(one) => one.parts.iter().find_map(|part| naming_part(part, name)),
+        Item::Enum(_) => {}
+        Item::Alias(field) => fields.push(field)?,
+        Item::Struct(one) => {
+            for part in &one.parts {
+                push_part(part, &mut fields)?;
+            }
+        }
     }
+    Ok(fields)
 }
 
-fn naming_part<'a>(part: &'a Part, name: &String) -> Option<&'a Name> {
+fn push_part<'a>(part: &'a Part, fields: &mut Vec<&'a Field>) -> Result<(), AllocError> {
     match part {
-        Part::Field(field) => named_by(field, name),
-        Part::Select(select) => select.cases.iter().find_map(|case| case
-            .fields
-            .iter()
-            .find_map(|field| named_by(field, name))),
+        Part::Field(field) => fields.push(field)?,
+        Part::Select(select) => {
+            for field in select.cases.iter().flat_map(|case| case.fields.iter()) {
+                fields.push(field)?;
+            }
+        }
     }
-}
-
-fn named_by<'a>(field: &'a Field, name: &String) -> Option<&'a Name> {
-    if field.of.text == *name {
-        Some(&field.of)
-    } else {
-        None
-    }
+    Ok(())
 }
 
 /// What the crates before the one that was resolved last have, but for enums that aren't written there.

@@ -3,6 +3,7 @@ ghost use Rattle.std.specs.Prelude.{IfOk};
 ghost use Rattle.tlsgen_model.specs.Writable.{AreWritable, HaveModules};
 
 use crate::checks::enum_body;
+use crate::naming::type_name;
 use crate::order::order_of;
 use crate::others::{check_alone, others_of, tags_alone};
 use crate::refuse::refused;
@@ -89,7 +90,7 @@ impl<'a> Resolver<'a> {
 
     fn resolve_enum(&mut self, one: &Enum) -> Result<(), Trouble> {
         let body = enum_body(self.alloc, one)?;
-        let message = self.message(one.name.text.as_str(), body)?;
+        let message = self.defined_message(one.name.text.as_str(), body)?;
         self.push(one.name.place, message)
     }
 
@@ -101,7 +102,7 @@ impl<'a> Resolver<'a> {
             ));
         }
         self.out.aliases.push(Alias {
-            name: field.name.text.clone()?,
+            name: type_name(self.alloc, field.name.text.as_str())?,
             of: type_of(self.alloc, self.files, field)?,
             home: self.out.home,
             declared: declared(self.alloc, field)?,

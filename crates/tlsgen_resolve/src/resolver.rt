@@ -1,17 +1,20 @@
 //! What is known while files are resolved, and what is made of them.
 ghost use Rattle.std.specs.Prelude.{IfOk};
+ghost use Rattle.tlsgen_model.specs.Types.{IsType};
 ghost use Rattle.tlsgen_model.specs.Writable.{IsWritable};
 
 use crate::checks::{check_letters, type_module};
+use crate::counted::counted_type;
 use crate::items::{MOST_ITEMS, item_name};
 use crate::members::ResolvedMember;
+use crate::naming::{type_name, underscored};
 use crate::output::Output;
 use crate::refuse::{Budget, refused};
 use crate::sequence::{Sequence, needs_outer_tag};
 use crate::types::{declared, type_of};
 use std::alloc::{AllocError, Global};
 use tlsgen_model::names::{field_name, module_name};
-use tlsgen_model::plan::{Body, Member, Message};
+use tlsgen_model::plan::{Body, Member, Message, Type};
 use tlsgen_syntax::refusal::{Place, Trouble};
 use tlsgen_syntax::syntax::{Field, File, Name};
 
@@ -83,6 +86,23 @@ impl<'a> Resolver<'a> {
 
     /// The member of a field.
     pub fn member_of(&mut self, field: &Field) -> Result<ResolvedMember, Trouble> {
+        self.check_member(field)?;
+        let of = type_of(self.alloc, self.files, field)?;
+        self.typed_member(field, of)
+    }
+
+    /// The member of a number and of the field that it counts.
+    pub fn counted_member_of(
+        &mut self,
+        length: &Field,
+        field: &Field,
+    ) -> Result<ResolvedMember, Trouble> {
+        self.check_member(field)?;
+        let of = counted_type(self.alloc, self.files, length, field)?;
+        self.typed_member(field, of)
+    }
+
+    fn check_member(&mut self, field: &Field) -> Result<(), Trouble> {
         let name = &field.name;
         self.budget
             .take(self.alloc, name.place, name.text.as_str())?;
@@ -93,28 +113,43 @@ impl<'a> Resolver<'a> {
                 "a struct whose selects have their tags in it: this one's parts stand only in a struct's place",
             ));
         }
+        Ok(())
+    }
+
+    fn typed_member(&self, field: &Field, of: Type) -> Result<ResolvedMember, Trouble>
+        requires { IsType of }
+    {
+        let words = underscored(self.alloc, field.name.text.as_str())?;
         Ok(ResolvedMember {
             member: Member {
-                name: field_name(self.alloc, name.text.as_str())?,
-                of: type_of(self.alloc, self.files, field)?,
+                name: field_name(self.alloc, words.as_str())?,
+                of,
                 declared: declared(self.alloc, field)?,
             },
-            place: name.place,
+            place: field.name.place,
         })
     }
 
-    /// A message of the crate that is resolved now, without references.
-    pub fn message(&self, name: &str, body: Body) -> Result<Message, AllocError>
+    /// The message of a definition, by its name in the text, without references.
+    pub fn defined_message(&self, name: &str, body: Body) -> Result<Message, AllocError>
         requires { IsWritable body }
         ensures { IfOk result (λ message. IsWritable message.body) }
     {
-        let alloc = self.alloc;
+        let doc = format!(in self.alloc; "`{name}`.")?;
+        self.message(type_name(self.alloc, name)?, doc, body)
+    }
+
+    /// A message of the crate that is resolved now, by its name in Rust, without references.
+    pub fn message(&self, name: String, doc: String, body: Body) -> Result<Message, AllocError>
+        requires { IsWritable body }
+        ensures { IfOk result (λ message. IsWritable message.body) }
+    {
         Ok(Message {
-            name: String::from_str(alloc, name)?,
-            module: module_name(alloc, name)?,
+            module: module_name(self.alloc, name.as_str())?,
             home: self.out.home,
             is_lent: false,
-            doc: format!(in alloc; "`{name}`.")?,
+            doc,
+            name,
             body,
         })
     }

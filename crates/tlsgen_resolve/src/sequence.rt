@@ -1,4 +1,5 @@
 //! The fields and selects of a struct, once some of its fields are inlined: the parts of their structs stand there.
+use crate::counted::length_before;
 use crate::items::is_single;
 use crate::refuse::refused;
 use std::alloc::{AllocError, Global};
@@ -15,6 +16,8 @@ const MOST_WORDS: usize = 16;
 #[derive(Clone, Copy)]
 pub enum Piece<'a> {
     Field(&'a Field),
+    /// A number, and the field of as many bytes that follows it.
+    Counted(&'a Field, &'a Field),
     /// A select, and the name of the struct that it is written in.
     Select(&'a Select, &'a str),
 }
@@ -95,12 +98,15 @@ fn own_pieces<'a>(alloc: Global, one: &'a Struct) -> Result<Sequence<'a>, Troubl
     if one.parts.len() > MOST_PIECES {
         return Err(refused_size(alloc, &one.name));
     }
-    for part in &one.parts {
-        let piece = match part {
-            Part::Field(field) => Piece::Field(field),
-            Part::Select(select) => Piece::Select(select, name),
-        };
-        pieces.push(piece)?;
+    for (at, part) in one.parts.iter().enumerate() {
+        match (part, length_before(one, at)) {
+            (Part::Field(field), Some(length)) => {
+                pieces.pop();
+                pieces.push(Piece::Counted(length, field))?;
+            }
+            (Part::Field(field), None) => pieces.push(Piece::Field(field))?,
+            (Part::Select(select), _) => pieces.push(Piece::Select(select, name))?,
+        }
     }
     Ok(Sequence {
         name,
@@ -128,6 +134,7 @@ fn next_to_inline<'a>(all: &[Sequence<'a>], sequence: &Sequence<'a>) -> Option<I
     for (index, piece) in sequence.pieces.iter().enumerate() {
         let found = match piece {
             Piece::Field(field) => field_to_inline(all, index, field),
+            Piece::Counted(..) => None,
             Piece::Select(select, owner) => next_on_path(sequence, select, owner),
         };
         if found.is_some() {
@@ -205,7 +212,7 @@ fn has_inlined(sequence: &Sequence<'_>, name: &str) -> bool {
 // Whether the tag of a piece is here: always, but for a select whose path begins with a struct that isn't inlined.
 fn is_here(sequence: &Sequence<'_>, piece: &Piece<'_>) -> bool {
     match piece {
-        Piece::Field(_) => true,
+        Piece::Field(_) | Piece::Counted(..) => true,
         Piece::Select(select, owner) => match select.path.split_first() {
             Some((first, others)) => {
                 let name = first.text.as_str();

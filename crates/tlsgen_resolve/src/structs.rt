@@ -2,10 +2,10 @@
 ghost use Rattle.std.specs.Prelude.{IfOk};
 ghost use Rattle.tlsgen_model.specs.Writable.{IsWritable};
 
-use crate::checks::constant_body;
-use crate::constants::{constant_type, open_constant};
+use crate::constants::{fixed_body, fixed_of};
 use crate::lent::lends;
 use crate::members::push_member;
+use crate::naming::{is_of_field, type_name};
 use crate::refuse::refused;
 use crate::resolver::Resolver;
 use crate::segment::{ResolvedPiece, given_name, is_on, refused_crossing};
@@ -40,7 +40,7 @@ impl<'a> Resolver<'a> {
         }
         let body = struct_body(self.alloc, sequence, tail)?;
         self.check_runs(sequence, &body)?;
-        let mut message = self.message(sequence.name, body)?;
+        let mut message = self.defined_message(sequence.name, body)?;
         message.is_lent = lends(sequence, &message.body);
         self.push(sequence.place, message)
     }
@@ -57,6 +57,11 @@ impl<'a> Resolver<'a> {
             Piece::Select(select, owner) => {
                 let select = self.resolve_select(sequence, select, owner, index)?;
                 tail.push(ResolvedPiece::Select(select))?;
+                Ok(false)
+            }
+            Piece::Counted(length, field) => {
+                let member = self.counted_member_of(length, field)?;
+                tail.push(ResolvedPiece::Member(member))?;
                 Ok(false)
             }
             Piece::Field(field) => self.prepend_field(
@@ -82,8 +87,10 @@ impl<'a> Resolver<'a> {
         };
         let segment = tail.split_off(last)?;
         let given = given_name(self.alloc, &segment)?;
-        self.out.tags.push(at.field.of.text.clone()?)?;
-        if at.index == 0 && last == 0 && given.is_none() {
+        self.out
+            .tags
+            .push(type_name(self.alloc, at.field.of.text.as_str())?)?;
+        if at.index == 0 && last == 0 && given.is_none_or(is_of_field) {
             self.make_whole(sequence, at, &segment)?;
             return Ok(true);
         }
@@ -118,23 +125,28 @@ impl<'a> Resolver<'a> {
     }
 
     fn make_constant(&mut self, field: &Field) -> Result<(), Trouble> {
-        let Some((one, constant)) = open_constant(self.files, field) else {
+        let Some(constant) = &field.constant else {
             return Ok(());
         };
-        let name = constant_type(self.alloc, one, constant)?;
-        if self.out.constants.contains(&name) {
+        let fixed = fixed_of(self.alloc, self.files, field, constant)?;
+        if fixed.is_own || self.out.constants.contains(&fixed.type_name) {
             return Ok(());
         }
-        if self.is_taken(&module_name(self.alloc, name.as_str())?) {
-            return Err(self.refused_name(
-                constant,
-                "a constant whose type's name, that of the enum and of the value, no type has",
+        let place = fixed.number.place;
+        if self.is_taken(&module_name(self.alloc, fixed.type_name.as_str())?) {
+            return Err(refused(
+                self.alloc,
+                place,
+                fixed.label.as_str(),
+                "a constant whose type's name, that of the field's type and of the value, no type has",
             ));
         }
-        let body = constant_body(self.alloc, one, constant)?;
-        let message = self.message(name.as_str(), body)?;
-        self.out.constants.push(name)?;
-        self.push(constant.place, message)
+        let body = fixed_body(self.alloc, &fixed)?;
+        self.out.constants.push(fixed.type_name.clone()?)?;
+        let name = fixed.type_name;
+        let doc = format!(in self.alloc; "`{name}`.")?;
+        let message = self.message(name, doc, body)?;
+        self.push(place, message)
     }
 }
 

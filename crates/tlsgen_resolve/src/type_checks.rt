@@ -1,4 +1,5 @@
 //! Which types fields may have, also those of structs that are no messages of their own.
+use crate::counted::{counted_type, length_before};
 use crate::items::{find_struct, is_single};
 use crate::resolver::Resolver;
 use crate::sequence::{Piece, Sequence};
@@ -20,12 +21,23 @@ impl<'a> Resolver<'a> {
     }
 
     fn check_parts(&self, one: &Struct) -> Result<(), Trouble> {
-        for part in &one.parts {
+        for (at, part) in one.parts.iter().enumerate() {
             match part {
-                // `check_lent` rejects a lent struct that isn't inlined.
-                Part::Field(field) => self.check_type(field, true)?,
+                Part::Field(field) => self.check_part(one, at, field)?,
                 Part::Select(select) => self.check_cases(select, one.is_lent)?,
             }
+        }
+        Ok(())
+    }
+
+    // `check_lent` rejects a lent struct that isn't inlined.
+    fn check_part(&self, one: &Struct, at: usize, field: &Field) -> Result<(), Trouble> {
+        let Some(length) = length_before(one, at) else {
+            return self.check_type(field, true);
+        };
+        counted_type(self.alloc, self.files, length, field)?;
+        if self.names_lent(field) {
+            return Err(self.refused_lent(field));
         }
         Ok(())
     }
@@ -60,10 +72,10 @@ impl<'a> Resolver<'a> {
         }
         for piece in &sequence.pieces {
             match piece {
-                Piece::Field(field) if self.names_lent(field) => {
+                Piece::Field(field) | Piece::Counted(_, field) if self.names_lent(field) => {
                     return Err(self.refused_lent(field));
                 }
-                Piece::Field(_) => {}
+                Piece::Field(_) | Piece::Counted(..) => {}
                 Piece::Select(select, _) => self.check_cases(select, false)?,
             }
         }

@@ -4,15 +4,16 @@ ghost use Rattle.tlsgen_model.specs.Types.{IsType, can_be, is_no_array, is_shape
 ghost use Rattle.tlsgen_model.specs.declared.plan.Shape.{Shape as AShape};
 ghost use Rattle.tlsgen_model.specs.declared.plan.Shape.TheVariants as shapes;
 
-use crate::checks::{named, refused_number};
-use crate::constants::{constant_type, open_constant};
-use crate::items::{find, find_enum, integer_width, is_single};
+use crate::checks::refused_number;
+use crate::constants::fixed_of;
+use crate::items::{find, integer_width};
+use crate::naming::type_name;
 use crate::refuse::refused;
 use std::alloc::{AllocError, Global};
 use tlsgen_model::plan::{Element, Shape, Type};
 use tlsgen_model::width::bytes_for;
 use tlsgen_syntax::refusal::Trouble;
-use tlsgen_syntax::syntax::{Enum, Field, File, Item, Name, Number, Vector};
+use tlsgen_syntax::syntax::{Constant, Field, File, Item, Name, Number, Vector};
 
 const MOST_OF_ARRAY: u64 = 65535;
 
@@ -20,13 +21,50 @@ const MOST_OF_ARRAY: u64 = 65535;
 pub fn type_of(alloc: Global, files: &[File], field: &Field) -> Result<Type, Trouble>
     ensures { IfOk result IsType }
 {
+    if let Some(constant) = &field.constant {
+        return constant_type(alloc, files, field, constant);
+    }
     let shape = shape_of(alloc, &field.vector)?;
     let element = element_of(alloc, files, field, shape)?;
-    check_constant(alloc, files, field)?;
     Ok(Type {
         shape,
         is_optional: field.is_optional,
         element,
+    })
+}
+
+/// The type of a field after a length that is neither below `least` nor above `most`.
+pub fn bounded_type(
+    alloc: Global,
+    files: &[File],
+    field: &Field,
+    least: Number,
+    most: Number,
+) -> Result<Type, Trouble>
+    ensures { IfOk result IsType }
+{
+    let shape = bounded_shape(alloc, least, most)?;
+    let element = element_of(alloc, files, field, shape)?;
+    Ok(Type {
+        shape,
+        is_optional: field.is_optional,
+        element,
+    })
+}
+
+fn constant_type(
+    alloc: Global,
+    files: &[File],
+    field: &Field,
+    constant: &Constant,
+) -> Result<Type, Trouble>
+    ensures { IfOk result IsType }
+{
+    let fixed = fixed_of(alloc, files, field, constant)?;
+    Ok(Type {
+        shape: Shape::One,
+        is_optional: false,
+        element: Element::Message(fixed.type_name),
     })
 }
 
@@ -36,8 +74,22 @@ fn shape_of(alloc: Global, vector: &Vector) -> Result<Shape, Trouble>
     match vector {
         Vector::One => Ok(Shape::One),
         Vector::Array(number) => array_shape(alloc, *number),
+        Vector::Counted(path) => Err(refused_length(alloc, path)),
         Vector::Variable => Ok(Shape::Variable),
         Vector::Bounded(least, most) => bounded_shape(alloc, *least, *most),
+    }
+}
+
+// Elsewhere `length_before` finds what counts a field.
+fn refused_length(alloc: Global, path: &[Name]) -> Trouble {
+    match path.first() {
+        Some(name) => refused(
+            alloc,
+            name.place,
+            name.text.as_str(),
+            "a number, or the name of the field just before this one: an integer of 1 to 4 bytes, which counts it",
+        ),
+        None => Trouble::Memory,
     }
 }
 
@@ -107,10 +159,7 @@ fn single_element(alloc: Global, files: &[File], field: &Field) -> Result<Elemen
             "bytes in a vector, as `opaque NAME<V>` or `opaque NAME[16]`",
         )),
         "string" => Ok(Element::Text),
-        _ => match open_constant(files, field) {
-            Some((one, constant)) => Ok(Element::Message(constant_type(alloc, one, constant)?)),
-            None => named_element(alloc, files, of),
-        },
+        _ => named_element(alloc, files, of),
     }
 }
 
@@ -121,7 +170,7 @@ fn byte_element(alloc: Global, field: &Field) -> Result<Element, Trouble>
 {
     let of = &field.of;
     match of.text.as_str() {
-        "opaque" | "uint8" if !field.is_optional => Ok(Element::Opaque),
+        "opaque" | "uint8" | "uint8_t" if !field.is_optional => Ok(Element::Opaque),
         text => Err(refused(
             alloc,
             of.place,
@@ -171,8 +220,8 @@ fn defined(alloc: Global, files: &[File], of: &Name) -> Result<Element, Trouble>
 {
     let text = of.text.as_str();
     match find(files, text) {
-        Some(Item::Alias(_)) => Ok(Element::Alias(String::from_str(alloc, text)?)),
-        Some(_) => Ok(Element::Message(String::from_str(alloc, text)?)),
+        Some(Item::Alias(_)) => Ok(Element::Alias(type_name(alloc, text)?)),
+        Some(_) => Ok(Element::Message(type_name(alloc, text)?)),
         None => Err(refused(
             alloc,
             of.place,
@@ -182,52 +231,53 @@ fn defined(alloc: Global, files: &[File], of: &Name) -> Result<Element, Trouble>
     }
 }
 
-// Rejects a constant, as `= mls10`, unless the field's type is an enum that has that value alone, or an open one
-// that has it.
-fn check_constant(alloc: Global, files: &[File], field: &Field) -> Result<(), Trouble> {
-    let Some(constant) = &field.constant else {
-        return Ok(());
-    };
-    if open_constant(files, field).is_some() {
-        return Ok(());
-    }
-    if is_single(field)
-        && find_enum(files, field.of.text.as_str()).is_some_and(|one| has_alone(one, constant))
-    {
-        return Ok(());
-    }
-    Err(refused(
-        alloc,
-        constant.place,
-        constant.text.as_str(),
-        "no constant, or the value of an enum that is open or has no other",
-    ))
-}
-
-fn has_alone(one: &Enum, constant: &Name) -> bool {
-    !one.is_open
-        && one.values.iter().all(|value| named(&value.name).is_none_or(|name| name.text
-            == constant.text))
-        && one.values.iter().any(|value| named(&value.name).is_some_and(|name| name.text
-            == constant.text))
-}
-
 /// The line that declares a field, as `opaque group_id<V>;`.
 pub fn declared(alloc: Global, field: &Field) -> Result<String, AllocError> {
     let of = field.of.text.as_str();
-    let name = field.name.text.as_str();
     let mut line = if field.is_optional {
-        format!(in alloc; "optional<{of}> {name}")?
+        format!(in alloc; "optional<{of}>")?
     } else {
-        format!(in alloc; "{of} {name}")?
+        String::from_str(alloc, of)?
     };
+    if field.is_named {
+        let name = field.name.text.as_str();
+        write!(line, " {name}")?;
+    }
     push_vector(&mut line, &field.vector)?;
     if let Some(constant) = &field.constant {
         line.push_str(" = ")?;
-        line.push_str(constant.text.as_str())?;
+        push_constant(&mut line, constant)?;
     }
     line.push(';')?;
     Ok(line)
+}
+
+fn push_constant(line: &mut String, constant: &Constant) -> Result<(), AllocError> {
+    match constant {
+        Constant::Named(name) => line.push_str(name.text.as_str()),
+        Constant::Number(number) => push_number(line, number.value),
+        Constant::Elements(elements) => push_elements(line, elements),
+    }
+}
+
+// A number past 9 in hexadecimal, as RFCs write constants.
+fn push_number(line: &mut String, number: u64) -> Result<(), AllocError> {
+    match number {
+        0..=9 => write!(line, "{number}"),
+        0..=0xff => write!(line, "0x{number:02x}"),
+        0..=0xffff => write!(line, "0x{number:04x}"),
+        _ => write!(line, "0x{number:08x}"),
+    }
+}
+
+fn push_elements(line: &mut String, elements: &[Number]) -> Result<(), AllocError> {
+    let mut separator = "{";
+    for element in elements {
+        let element = element.value;
+        write!(line, "{separator}{element}")?;
+        separator = ", ";
+    }
+    line.push('}')
 }
 
 fn push_vector(line: &mut String, vector: &Vector) -> Result<(), AllocError> {
@@ -236,6 +286,15 @@ fn push_vector(line: &mut String, vector: &Vector) -> Result<(), AllocError> {
         Vector::Array(number) => {
             let n = number.value;
             write!(line, "[{n}]")
+        }
+        Vector::Counted(path) => {
+            let mut separator = "[";
+            for name in path {
+                line.push_str(separator)?;
+                line.push_str(name.text.as_str())?;
+                separator = ".";
+            }
+            line.push(']')
         }
         Vector::Variable => line.push_str("<V>"),
         Vector::Bounded(least, most) => {

@@ -1,5 +1,5 @@
 -- The signs that tokens are, and the signs that what is read of them stands for.
-use Rattle.std.specs.Prelude.{ℕ, List, [], ◌∷◌, length, Bool, true, false, Option, Some, None, string_bytes, codes}
+use Rattle.std.specs.Prelude.{◌≡◌, ℕ, List, [], ◌∷◌, length, Bool, true, false, IsFalse, Option, Some, None, string_bytes, codes}
 use Rattle.tlsgen_syntax.specs.declared.token.Mark.{Mark}
 use Rattle.tlsgen_syntax.specs.declared.token.Mark.TheVariants as marks
 use Rattle.tlsgen_syntax.specs.declared.token.TokenKind.{TokenKind}
@@ -17,6 +17,8 @@ use Rattle.tlsgen_syntax.specs.declared.syntax.Struct.{Struct}
 use Rattle.tlsgen_syntax.specs.declared.syntax.Part.{Part}
 use Rattle.tlsgen_syntax.specs.declared.syntax.Part.TheVariants as parts
 use Rattle.tlsgen_syntax.specs.declared.syntax.Field.{Field}
+use Rattle.tlsgen_syntax.specs.declared.syntax.Constant.{Constant}
+use Rattle.tlsgen_syntax.specs.declared.syntax.Constant.TheVariants as constants
 use Rattle.tlsgen_syntax.specs.declared.syntax.Vector.{Vector}
 use Rattle.tlsgen_syntax.specs.declared.syntax.Vector.TheVariants as vectors
 use Rattle.tlsgen_syntax.specs.declared.syntax.Select.{Select}
@@ -102,11 +104,17 @@ optional_name_then (Some name) rest = name_then name rest
 abbrev pub number_then : Number → List Sign → List Sign
 number_then n rest = number n.value ∷ rest
 
--- [NAME] ( NUMBER )
+-- [ .. NUMBER ]
+abbrev pub range_end_then : Option Number → List Sign → List Sign
+range_end_then None rest = rest
+range_end_then (Some n) rest = mark marks.Dots ∷ number_then n rest
+
+-- [NAME] ( NUMBER [ .. NUMBER ] )
 abbrev pub value_then : Value → List Sign → List Sign
 value_then value rest =
     optional_name_then value.name
-    (mark marks.OpeningParenthesis ∷ number_then value.number (mark marks.ClosingParenthesis ∷ rest))
+    (mark marks.OpeningParenthesis ∷
+    number_then value.number (range_end_then value.last (mark marks.ClosingParenthesis ∷ rest)))
 
 -- [open] enum { values } NAME ;
 abbrev pub enum_then : Enum → List Sign → List Sign
@@ -121,24 +129,46 @@ abbrev pub type_then : Bool → Name → List Sign → List Sign
 type_then true of rest = mark marks.OpeningAngle ∷ name_then of (mark marks.ClosingAngle ∷ rest)
 type_then false of rest = name_then of rest
 
--- nothing, [ NUMBER ], < V > or < NUMBER .. NUMBER >
+-- nothing, [ NUMBER ], [ path ], < V > or < NUMBER .. NUMBER >
 abbrev pub vector_then : Vector → List Sign → List Sign
 vector_then vectors.One rest = rest
 vector_then (vectors.Array len) rest = mark marks.OpeningBracket ∷ number_then len (mark marks.ClosingBracket ∷ rest)
+vector_then (vectors.Counted path) rest =
+    mark marks.OpeningBracket ∷ separated_then marks.Dot name_then path.items (mark marks.ClosingBracket ∷ rest)
 vector_then vectors.Variable rest = mark marks.OpeningAngle ∷ word (codes "V") ∷ mark marks.ClosingAngle ∷ rest
 vector_then (vectors.Bounded floor ceiling) rest =
     mark marks.OpeningAngle ∷ number_then floor (mark marks.Dots ∷ number_then ceiling (mark marks.ClosingAngle ∷ rest))
 
--- [ = NAME ]
-abbrev pub constant_then : Option Name → List Sign → List Sign
-constant_then None rest = rest
-constant_then (Some name) rest = mark marks.Equals ∷ name_then name rest
+-- NAME, NUMBER or { numbers }
+abbrev pub constant_value_then : Constant → List Sign → List Sign
+constant_value_then (constants.Named name) rest = name_then name rest
+constant_value_then (constants.Number n) rest = number_then n rest
+constant_value_then (constants.Elements ns) rest =
+    mark marks.OpeningBrace ∷ separated_then marks.Comma number_then ns.items (mark marks.ClosingBrace ∷ rest)
 
--- [optional] type NAME vector constant
+-- [ = value ]
+abbrev pub constant_then : Option Constant → List Sign → List Sign
+constant_then None rest = rest
+constant_then (Some value) rest = mark marks.Equals ∷ constant_value_then value rest
+
+-- [optional] type
+abbrev pub typed_then : Bool → Name → List Sign → List Sign
+typed_then is_optional of rest = flag_then marks.Optional is_optional (type_then is_optional of rest)
+
+-- the field's own name, if it has one
+abbrev pub own_name_then : Bool → Name → List Sign → List Sign
+own_name_then true name rest = name_then name rest
+own_name_then false name rest = rest
+
+-- a field without a name of its own is called as its type
+abbrev pub IsCalled : Field → Type 0
+IsCalled f = IsFalse f.is_named → string_bytes f.name.text ≡ string_bytes f.of.text
+
+-- [optional] type [NAME] vector constant
 abbrev pub field_then : Field → List Sign → List Sign
 field_then f rest =
-    flag_then marks.Optional f.is_optional
-    (type_then f.is_optional f.of (name_then f.name (vector_then f.vector (constant_then f.constant rest))))
+    typed_then f.is_optional f.of
+    (own_name_then f.is_named f.name (vector_then f.vector (constant_then f.constant rest)))
 
 abbrev pub ended_field_then : Field → List Sign → List Sign
 ended_field_then f rest = field_then f (mark marks.Semicolon ∷ rest)

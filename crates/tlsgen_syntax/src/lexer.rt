@@ -98,7 +98,7 @@ fn token_len(left: &[u8]) -> usize
 {
     match left {
         [b'0'..=b'9', ..] => number_len(left),
-        [b'a'..=b'z' | b'A'..=b'Z' | b'_', rest @ ..] => 1 + word_len(rest),
+        [b'a'..=b'z' | b'A'..=b'Z' | b'_', rest @ ..] => 1 + name_len(rest),
         [b'.', b'.', ..] | [b'/', b'*', ..] => 2,
         _ => 1,
     }
@@ -121,6 +121,17 @@ fn part_len(left: &[u8], sign: u8) -> usize
     match left {
         [first, b'0'..=b'9', rest @ ..] if *first == sign => 2 + word_len(rest),
         _ => 0,
+    }
+}
+
+// How many bytes of a name are at the front: a dot before a digit is part of it, as in `ASN.1Cert`.
+fn name_len(bytes: &[u8]) -> usize
+    ensures { result ≤ length bytes.now }
+{
+    let first = word_len(bytes);
+    match &bytes[first..] {
+        [b'.', b'0'..=b'9', rest @ ..] => first + 2 + word_len(rest),
+        _ => first,
     }
 }
 

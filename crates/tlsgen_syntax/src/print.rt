@@ -1,7 +1,8 @@
 //! The text of a file in one layout.
 
 use crate::syntax::{
-    Case, Enum, Field, File, Item, Label, Name, Part, Select, Struct, Value, Vector,
+    Case, Constant, Enum, Field, File, Item, Label, Name, Number, Part, Select, Struct, Value,
+    Vector,
 };
 use std::alloc::{AllocError, Global};
 
@@ -49,7 +50,12 @@ fn print_value(out: &mut String, value: &Value) -> Result<(), AllocError> {
         out.push_str(name.text.as_str())?;
     }
     let number = value.number.value;
-    write!(out, "({number})")
+    write!(out, "({number}")?;
+    if let Some(last) = &value.last {
+        let last = last.value;
+        write!(out, "..{last}")?;
+    }
+    out.push_str(")")
 }
 
 fn print_struct(out: &mut String, item: &Struct) -> Result<(), AllocError> {
@@ -75,18 +81,42 @@ fn print_part(out: &mut String, part: &Part) -> Result<(), AllocError> {
 // A field with its semicolon, and the line's end.
 fn print_field(out: &mut String, field: &Field) -> Result<(), AllocError> {
     let of = field.of.text.as_str();
-    let name = field.name.text.as_str();
     if field.is_optional {
-        write!(out, "optional<{of}> {name}")?;
+        write!(out, "optional<{of}>")?;
     } else {
-        write!(out, "{of} {name}")?;
+        out.push_str(of)?;
+    }
+    if field.is_named {
+        let name = field.name.text.as_str();
+        write!(out, " {name}")?;
     }
     print_vector(out, &field.vector)?;
     if let Some(constant) = &field.constant {
-        let constant = constant.text.as_str();
-        write!(out, " = {constant}")?;
+        out.push_str(" = ")?;
+        print_constant(out, constant)?;
     }
     out.push_str(";\n")
+}
+
+fn print_constant(out: &mut String, constant: &Constant) -> Result<(), AllocError> {
+    match constant {
+        Constant::Named(name) => out.push_str(name.text.as_str()),
+        Constant::Number(number) => {
+            let number = number.value;
+            write!(out, "{number}")
+        }
+        Constant::Elements(elements) => print_elements(out, elements),
+    }
+}
+
+fn print_elements(out: &mut String, elements: &[Number]) -> Result<(), AllocError> {
+    let mut separator = "{";
+    for element in elements {
+        let element = element.value;
+        write!(out, "{separator}{element}")?;
+        separator = ", ";
+    }
+    out.push_str("}")
 }
 
 fn print_vector(out: &mut String, vector: &Vector) -> Result<(), AllocError> {
@@ -95,6 +125,11 @@ fn print_vector(out: &mut String, vector: &Vector) -> Result<(), AllocError> {
         Vector::Array(length) => {
             let length = length.value;
             write!(out, "[{length}]")
+        }
+        Vector::Counted(path) => {
+            out.push_str("[")?;
+            print_path(out, path)?;
+            out.push_str("]")
         }
         Vector::Variable => out.push_str("<V>"),
         Vector::Bounded(floor, ceiling) => {

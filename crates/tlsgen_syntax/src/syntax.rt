@@ -3,7 +3,7 @@
 use crate::refusal::Place;
 
 /// A name, and where it stands.
-#[derive(Drop)]
+#[derive(Clone, Drop)]
 pub struct Name {
     pub text: String,
     pub place: Place,
@@ -34,11 +34,14 @@ pub struct Enum {
     pub name: Name,
 }
 
-/// `member(1)`, or `(255)` without a name, which gives the width of the number.
+/// `member(1)`, or `(255)` without a name, which gives the width of the number. `private_use(0xFE00..0xFFFF)` keeps a
+/// range of numbers free.
 #[derive(Drop)]
 pub struct Value {
     pub name: Option<Name>,
     pub number: Number,
+    /// The last number of a range.
+    pub last: Option<Number>,
 }
 
 /// A number, and where it stands.
@@ -69,10 +72,24 @@ pub struct Field {
     pub is_optional: bool,
     /// The type's name, as `uint16` or `opaque`.
     pub of: Name,
+    /// Its own, or that of its type where it has none, as in `case client_hello: ClientHello;`.
     pub name: Name,
+    /// It has a name of its own.
+    pub is_named: bool,
     pub vector: Vector,
-    /// `version = mls10`: the value's name.
-    pub constant: Option<Name>,
+    /// `version = mls10`.
+    pub constant: Option<Constant>,
+}
+
+/// What a field always is.
+#[derive(Drop)]
+pub enum Constant {
+    /// A value of the field's enum.
+    Named(Name),
+    /// `= 0x0303`.
+    Number(Number),
+    /// `= {254, 253}`: each element of an array, at least one.
+    Elements(Vec<Number>),
 }
 
 /// How many of a type there are.
@@ -82,6 +99,8 @@ pub enum Vector {
     One,
     /// `opaque a[16]`: 16 bytes.
     Array(Number),
+    /// `opaque fragment[TLSPlaintext.length]`: as many bytes as a field says. The words between the brackets, at least one.
+    Counted(Vec<Name>),
     /// `opaque a<V>`: after a length of variable width (RFC 9420, section 2.1.2).
     Variable,
     /// `opaque a<2..2^16-2>`: after a length in bytes that is neither below the first number nor above the second.

@@ -9,6 +9,7 @@ fn lines_that_differ(rt: HostRuntime) -> Result<(), Fail> {
     for (ours, theirs, wanted) in [
         ("struct { a: u8 }", "struct {\n    a: u8,\n}", None),
         ("struct { a: u8 }", "struct {\n    b: u8,\n}", Some(2)),
+        ("F<A, B>", "F<\n    A,\n    B,\n>", None),
         ("a\nb\n", "a\n\nc", Some(3)),
         ("a b", "a\n", Some(2)),
         ("a", "a\nb", Some(2)),

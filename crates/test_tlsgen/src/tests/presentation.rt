@@ -64,22 +64,27 @@ fn what_is_printed_says_the_same(rt: HostRuntime) -> Result<(), Fail> {
 #[test]
 fn one_layout(rt: HostRuntime) -> Result<(), Fail> {
     let text =
-        "enum{a(0x10),(2^8-1)}A;open enum { b ( 1 ) } B ; lent struct{}E;opaque K<V>;uint8 C[2];// the end
-struct{A a=b;optional<C>c<0..2^16-1>;select(S.a.b){case a:case 7:uint8 x;K k[2];case z:struct{};}select(S.a){}N;}S;";
-    let want = "enum { a(16), (255) } A;
-open enum { b(1) } B;
+        "enum{a(0x10),r(17..0x1f),(2^8-1)}A;open enum { b.1 ( 1 ) } B.2 ; lent struct{}E;opaque K<V>;optional<K>C[2];K D[A.b.c];// the end
+struct{A a=b;uint8 n=0x0a;C b={1,2};optional<C>c<0..2^16-1>;select(S.a.b){case a:case 7:uint8 x;K k[2];case y:K;case z:struct{};}select(S.a){}N;}S;";
+    let want = "enum { a(16), r(17..31), (255) } A;
+open enum { b.1(1) } B.2;
 lent struct {
 } E;
 opaque K<V>;
-uint8 C[2];
+optional<K> C[2];
+K D[A.b.c];
 struct {
     A a = b;
+    uint8 n = 10;
+    C b = {1, 2};
     optional<C> c<0..65535>;
     select (S.a.b) {
         case a:
         case 7:
             uint8 x;
             K k[2];
+        case y:
+            K;
         case z:
             struct {};
     }
@@ -94,7 +99,7 @@ struct {
 }
 
 // Texts that are refused, each with the place, what stands there, and what would be right.
-static BAD: [(&str, usize, usize, &str, &str); 32] = [
+static BAD: [(&str, usize, usize, &str, &str); 37] = [
     ("enum", 1, 5, "", "{"),
     (
         "{",
@@ -150,29 +155,40 @@ static BAD: [(&str, usize, usize, &str, &str); 32] = [
         "enum, open, struct, lent or the name of a type",
     ),
     ("uint8 struct;", 1, 7, "struct", "the new name of the type"),
+    ("optional A b;", 1, 10, "A", "<"),
+    ("struct { uint8; } A;", 1, 15, ";", "the field's name"),
     (
-        "optional<A> b;",
+        "enum { a(1..b) } A;",
         1,
-        1,
-        "optional",
-        "enum, open, struct, lent or the name of a type",
+        13,
+        "b",
+        "the last number of the range",
     ),
+    (
+        "struct { uint8 a = ; } A;",
+        1,
+        20,
+        ";",
+        "the name of a value, a number or {",
+    ),
+    ("struct { uint8 a = {1 2}; } A;", 1, 23, "2", ", or }"),
     ("uint8 a = b;", 1, 9, "=", "[, < or ;"),
     ("open struct {} A;", 1, 6, "struct", "enum"),
     ("lent enum { a(1) } A;", 1, 6, "enum", "struct"),
     ("enum {} A;", 1, 7, "}", "a value's name or ("),
     ("enum { a(1) b(2) } A;", 1, 13, "b", ", or }"),
     ("enum { a(b) } A;", 1, 10, "b", "the value's number"),
-    ("enum { a(0x0a };", 1, 15, "}", ")"),
+    ("enum { a(0x0a };", 1, 15, "}", ".. or )"),
     ("struct {\n\tuint8 a<2^8>;\n} A;", 2, 13, ">", ".."),
     ("struct { uint8 a<V; } A;", 1, 19, ";", ">"),
     (
-        "struct { uint8 a[V]; } A;",
+        "struct { uint8 a[]; } A;",
         1,
         18,
-        "V",
-        "the number of elements",
+        "]",
+        "the number of elements, or the name of a field",
     ),
+    ("struct { uint8 a[b c]; } A;", 1, 20, "c", ". or ]"),
     ("struct { uint8 a } A;", 1, 18, "}", "[, <, = or ;"),
     ("struct { uint8 a; }", 1, 20, "", "the struct's name"),
     ("struct { optional A a; } A;", 1, 19, "A", "<"),

@@ -1,9 +1,9 @@
 //! Enums.
 ghost use Rattle.std.specs.Prelude.{◌≡◌, ◌<◌, ◌≤◌, IfOk, OnOk};
-ghost use Rattle.tlsgen_syntax.specs.Signs.{count_left, enum_then, optional_name_then, separated_then, signs_left, value_then};
+ghost use Rattle.tlsgen_syntax.specs.Signs.{count_left, enum_then, optional_name_then, range_end_then, separated_then, signs_left, value_then};
 
 use crate::refusal::Trouble;
-use crate::syntax::{Enum, Name, Value};
+use crate::syntax::{Enum, Name, Number, Value};
 use crate::token::Mark;
 use crate::tokens::Tokens;
 use std::alloc::Global;
@@ -42,7 +42,7 @@ fn values(alloc: Global, tokens: &mut Tokens<'_>) -> Result<Vec<Value>, Trouble>
     Ok(values)
 }
 
-// `[NAME] "(" NUMBER ")"`
+// `[NAME] "(" NUMBER [ ".." NUMBER ] ")"`
 fn value(alloc: Global, tokens: &mut Tokens<'_>) -> Result<Value, Trouble>
     ensures read { IfOk result (λ value. signs_left tokens.old ≡ value_then value (signs_left tokens.new)) }
     ensures fewer { OnOk result (count_left tokens.new < count_left tokens.old) }
@@ -50,8 +50,21 @@ fn value(alloc: Global, tokens: &mut Tokens<'_>) -> Result<Value, Trouble>
     let name = value_name(alloc, tokens)?;
     tokens.expect(alloc, Mark::OpeningParenthesis, "(")?;
     let number = tokens.number(alloc, "the value's number")?;
-    tokens.expect(alloc, Mark::ClosingParenthesis, ")")?;
-    Ok(Value { name, number })
+    let last = range_end(alloc, tokens)?;
+    tokens.expect(alloc, Mark::ClosingParenthesis, ".. or )")?;
+    Ok(Value { name, number, last })
+}
+
+// `[ ".." NUMBER ]`
+fn range_end(alloc: Global, tokens: &mut Tokens<'_>) -> Result<Option<Number>, Trouble>
+    ensures read { IfOk result (λ last. signs_left tokens.old ≡ range_end_then last (signs_left tokens.new)) }
+    ensures fewer { OnOk result (count_left tokens.new ≤ count_left tokens.old) }
+{
+    if !tokens.take(Mark::Dots) {
+        return Ok(None);
+    }
+    let last = tokens.number(alloc, "the last number of the range")?;
+    Ok(Some(last))
 }
 
 // `[NAME]` before a parenthesis

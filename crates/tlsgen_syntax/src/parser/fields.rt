@@ -1,9 +1,10 @@
 //! Fields and aliases.
-ghost use Rattle.std.specs.Prelude.{◌≡◌, ◌<◌, ◌≤◌, ◌∷◌, IfOk, OnOk};
-ghost use Rattle.tlsgen_syntax.specs.Signs.{constant_then, count_left, ended_field_then, field_then, mark, signs_left, type_then, vector_then};
+ghost use Rattle.std.specs.Prelude.{◌≡◌, ◌<◌, ◌≤◌, ◌∷◌, IfOk, OnOk, true};
+ghost use Rattle.tlsgen_syntax.specs.Signs.{IsCalled, constant_then, constant_value_then, count_left, ended_field_then, mark, number_then, separated_then, signs_left, type_then, typed_then, vector_then};
 
+use crate::parser::selects::path;
 use crate::refusal::Trouble;
-use crate::syntax::{Field, Name, Vector};
+use crate::syntax::{Constant, Field, Name, Number, Vector};
 use crate::token::Mark;
 use crate::tokens::Tokens;
 use std::alloc::Global;
@@ -12,58 +13,111 @@ use std::alloc::Global;
 pub(crate) fn ended_field(alloc: Global, tokens: &mut Tokens<'_>) -> Result<Field, Trouble>
     ensures read { IfOk result (λ field. signs_left tokens.old ≡
         ended_field_then field (signs_left tokens.new)) }
+    ensures named { IfOk result (λ field. field.is_named ≡ true) }
     ensures fewer { OnOk result (count_left tokens.new < count_left tokens.old) }
 {
-    let field = field(alloc, tokens)?;
-    tokens.expect(alloc, Mark::Semicolon, "[, <, = or ;")?;
-    Ok(field)
+    let (is_optional, of) = field_type(alloc, tokens)?;
+    named_field(alloc, tokens, is_optional, of)
 }
 
-// `type NAME vector constant`
-fn field(alloc: Global, tokens: &mut Tokens<'_>) -> Result<Field, Trouble>
-    ensures read { IfOk result (λ field. signs_left tokens.old ≡ field_then field (signs_left tokens.new)) }
+/// `field ";"` or, in a case, `type ";"`
+pub(crate) fn case_field(alloc: Global, tokens: &mut Tokens<'_>) -> Result<Field, Trouble>
+    ensures read { IfOk result (λ field. signs_left tokens.old ≡
+        ended_field_then field (signs_left tokens.new)) }
+    ensures named { IfOk result IsCalled }
     ensures fewer { OnOk result (count_left tokens.new < count_left tokens.old) }
 {
-    let is_optional = tokens.take(Mark::Optional);
-    let of = type_name(alloc, tokens, is_optional)?;
-    let name = tokens.name(alloc, "the field's name")?;
-    let vector = vector(alloc, tokens)?;
-    let constant = constant(alloc, tokens)?;
+    let (is_optional, of) = field_type(alloc, tokens)?;
+    if !tokens.take(Mark::Semicolon) {
+        return named_field(alloc, tokens, is_optional, of);
+    }
+    let name = of.clone()?;
     Ok(Field {
         is_optional,
         of,
         name,
+        is_named: false,
+        vector: Vector::One,
+        constant: None,
+    })
+}
+
+// `NAME vector constant ";"`
+fn named_field(
+    alloc: Global,
+    tokens: &mut Tokens<'_>,
+    is_optional: bool,
+    of: Name,
+) -> Result<Field, Trouble>
+    ensures read { IfOk result (λ field. typed_then is_optional of (signs_left tokens.old) ≡
+        ended_field_then field (signs_left tokens.new)) }
+    ensures named { IfOk result (λ field. field.is_named ≡ true) }
+    ensures fewer { OnOk result (count_left tokens.new < count_left tokens.old) }
+{
+    let name = tokens.name(alloc, "the field's name")?;
+    let vector = vector(alloc, tokens)?;
+    let constant = constant(alloc, tokens)?;
+    tokens.expect(alloc, Mark::Semicolon, "[, <, = or ;")?;
+    Ok(Field {
+        is_optional,
+        of,
+        name,
+        is_named: true,
         vector,
         constant,
     })
 }
 
-/// `NAME NAME vector ";"`
+/// `type NAME vector ";"`
 pub(crate) fn alias(alloc: Global, tokens: &mut Tokens<'_>) -> Result<Field, Trouble>
     ensures read { IfOk result (λ field. signs_left tokens.old ≡
         ended_field_then field (signs_left tokens.new)) }
+    ensures named { IfOk result (λ field. field.is_named ≡ true) }
     ensures fewer { OnOk result (count_left tokens.new < count_left tokens.old) }
 {
-    let of = tokens.name(alloc, "enum, open, struct, lent or the name of a type")?;
+    let is_optional = tokens.take(Mark::Optional);
+    let of = type_name(
+        alloc,
+        tokens,
+        is_optional,
+        "enum, open, struct, lent or the name of a type",
+    )?;
     let name = tokens.name(alloc, "the new name of the type")?;
     let vector = vector(alloc, tokens)?;
     tokens.expect(alloc, Mark::Semicolon, "[, < or ;")?;
     Ok(Field {
-        is_optional: false,
+        is_optional,
         of,
         name,
+        is_named: true,
         vector,
         constant: None,
     })
 }
 
+// `NAME`, or `"optional" "<" NAME ">"`; the first is whether it is optional
+fn field_type(alloc: Global, tokens: &mut Tokens<'_>) -> Result<(bool, Name), Trouble>
+    ensures read { IfOk result (λ found. signs_left tokens.old ≡
+        typed_then found.0 found.1 (signs_left tokens.new)) }
+    ensures fewer { OnOk result (count_left tokens.new < count_left tokens.old) }
+{
+    let is_optional = tokens.take(Mark::Optional);
+    let of = type_name(alloc, tokens, is_optional, "the name of a type")?;
+    Ok((is_optional, of))
+}
+
 // `NAME`, or `"<" NAME ">"` after `optional`
-fn type_name(alloc: Global, tokens: &mut Tokens<'_>, is_optional: bool) -> Result<Name, Trouble>
+fn type_name(
+    alloc: Global,
+    tokens: &mut Tokens<'_>,
+    is_optional: bool,
+    expected: &'static str,
+) -> Result<Name, Trouble>
     ensures read { IfOk result (λ of. signs_left tokens.old ≡ type_then is_optional of (signs_left tokens.new)) }
     ensures fewer { OnOk result (count_left tokens.new < count_left tokens.old) }
 {
     if !is_optional {
-        return tokens.name(alloc, "the name of a type");
+        return tokens.name(alloc, expected);
     }
     tokens.expect(alloc, Mark::OpeningAngle, "<")?;
     let of = tokens.name(alloc, "the name of a type")?;
@@ -71,7 +125,7 @@ fn type_name(alloc: Global, tokens: &mut Tokens<'_>, is_optional: bool) -> Resul
     Ok(of)
 }
 
-// `[ "[" NUMBER "]" | "<" bounds ">" ]`
+// `[ "[" length "]" | "<" bounds ">" ]`
 fn vector(alloc: Global, tokens: &mut Tokens<'_>) -> Result<Vector, Trouble>
     ensures read { IfOk result (λ vector. signs_left tokens.old ≡ vector_then vector (signs_left tokens.new)) }
     ensures fewer { OnOk result (count_left tokens.new ≤ count_left tokens.old) }
@@ -85,15 +139,23 @@ fn vector(alloc: Global, tokens: &mut Tokens<'_>) -> Result<Vector, Trouble>
     Ok(Vector::One)
 }
 
-// `NUMBER "]"`
+// `(NUMBER | path) "]"`
 fn array(alloc: Global, tokens: &mut Tokens<'_>) -> Result<Vector, Trouble>
     ensures read { IfOk result (λ vector. mark Mark.OpeningBracket ∷ signs_left tokens.old ≡
         vector_then vector (signs_left tokens.new)) }
     ensures fewer { OnOk result (count_left tokens.new ≤ count_left tokens.old) }
 {
-    let length = tokens.number(alloc, "the number of elements")?;
-    tokens.expect(alloc, Mark::ClosingBracket, "]")?;
-    Ok(Vector::Array(length))
+    if let Some(length) = tokens.take_number() {
+        tokens.expect(alloc, Mark::ClosingBracket, "]")?;
+        return Ok(Vector::Array(length));
+    }
+    let path = path(
+        alloc,
+        tokens,
+        "the number of elements, or the name of a field",
+    )?;
+    tokens.expect(alloc, Mark::ClosingBracket, ". or ]")?;
+    Ok(Vector::Counted(path))
 }
 
 // `"V" ">"` or `NUMBER ".." NUMBER ">"`
@@ -113,8 +175,8 @@ fn bounds(alloc: Global, tokens: &mut Tokens<'_>) -> Result<Vector, Trouble>
     Ok(Vector::Bounded(floor, ceiling))
 }
 
-// `[ "=" NAME ]`
-fn constant(alloc: Global, tokens: &mut Tokens<'_>) -> Result<Option<Name>, Trouble>
+// `[ "=" value ]`
+fn constant(alloc: Global, tokens: &mut Tokens<'_>) -> Result<Option<Constant>, Trouble>
     ensures read { IfOk result (λ constant. signs_left tokens.old ≡
         constant_then constant (signs_left tokens.new)) }
     ensures fewer { OnOk result (count_left tokens.new ≤ count_left tokens.old) }
@@ -122,6 +184,39 @@ fn constant(alloc: Global, tokens: &mut Tokens<'_>) -> Result<Option<Name>, Trou
     if !tokens.take(Mark::Equals) {
         return Ok(None);
     }
-    let name = tokens.name(alloc, "the name of a value")?;
-    Ok(Some(name))
+    let value = constant_value(alloc, tokens)?;
+    Ok(Some(value))
+}
+
+// `NAME | NUMBER | "{" elements "}"`
+fn constant_value(alloc: Global, tokens: &mut Tokens<'_>) -> Result<Constant, Trouble>
+    ensures read { IfOk result (λ value. signs_left tokens.old ≡
+        constant_value_then value (signs_left tokens.new)) }
+    ensures fewer { OnOk result (count_left tokens.new < count_left tokens.old) }
+{
+    if tokens.take(Mark::OpeningBrace) {
+        let elements = elements(alloc, tokens)?;
+        tokens.expect(alloc, Mark::ClosingBrace, ", or }")?;
+        return Ok(Constant::Elements(elements));
+    }
+    if let Some(number) = tokens.take_number() {
+        return Ok(Constant::Number(number));
+    }
+    let name = tokens.name(alloc, "the name of a value, a number or {")?;
+    Ok(Constant::Named(name))
+}
+
+// `NUMBER { "," NUMBER }`
+#[tactic(auto, using(crate::proofs::Gathered::gathered_separated))]
+fn elements(alloc: Global, tokens: &mut Tokens<'_>) -> Result<Vec<Number>, Trouble>
+    ensures read { IfOk result (λ elements. signs_left tokens.old ≡
+        separated_then Mark.Comma number_then elements.items (signs_left tokens.new)) }
+    ensures fewer { OnOk result (count_left tokens.new < count_left tokens.old) }
+{
+    let mut elements = Vec::new(alloc);
+    elements.push(tokens.number(alloc, "an element's number")?)?;
+    'more: while tokens.take(Mark::Comma) {
+        elements.push(tokens.number(alloc, "an element's number")?)?;
+    }
+    Ok(elements)
 }

@@ -2,7 +2,7 @@
 ghost use Rattle.std.specs.Prelude.{◌≡◌, ◌<◌, ◌≤◌, ◌∷◌, IfOk, OnOk};
 ghost use Rattle.tlsgen_syntax.specs.Signs.{case_fields_then, case_then, count_left, each_then, label_then, label_value_then, mark, name_then, optional_name_then, select_then, separated_then, signs_left};
 
-use crate::parser::fields::ended_field;
+use crate::parser::fields::case_field;
 use crate::refusal::Trouble;
 use crate::syntax::{Case, Field, Label, Name, Select};
 use crate::token::Mark;
@@ -17,7 +17,7 @@ pub(crate) fn select(alloc: Global, tokens: &mut Tokens<'_>) -> Result<Select, T
     let place = tokens.place();
     tokens.expect(alloc, Mark::Select, "select")?;
     tokens.expect(alloc, Mark::OpeningParenthesis, "(")?;
-    let path = path(alloc, tokens)?;
+    let path = path(alloc, tokens, "the name of a struct or a field")?;
     tokens.expect(alloc, Mark::ClosingParenthesis, ". or )")?;
     tokens.expect(alloc, Mark::OpeningBrace, "{")?;
     let cases = cases(alloc, tokens)?;
@@ -32,15 +32,19 @@ pub(crate) fn select(alloc: Global, tokens: &mut Tokens<'_>) -> Result<Select, T
     })
 }
 
-// `NAME { "." NAME }`
+/// `NAME { "." NAME }`
 #[tactic(auto, using(crate::proofs::Gathered::gathered_separated))]
-fn path(alloc: Global, tokens: &mut Tokens<'_>) -> Result<Vec<Name>, Trouble>
+pub(crate) fn path(
+    alloc: Global,
+    tokens: &mut Tokens<'_>,
+    expected: &'static str,
+) -> Result<Vec<Name>, Trouble>
     ensures read { IfOk result (λ path. signs_left tokens.old ≡
         separated_then Mark.Dot name_then path.items (signs_left tokens.new)) }
     ensures fewer { OnOk result (count_left tokens.new < count_left tokens.old) }
 {
     let mut path = Vec::new(alloc);
-    path.push(tokens.name(alloc, "the name of a struct or a field")?)?;
+    path.push(tokens.name(alloc, expected)?)?;
     'more: while tokens.take(Mark::Dot) {
         path.push(tokens.name(alloc, "the name of a field")?)?;
     }
@@ -154,9 +158,9 @@ fn fields(alloc: Global, tokens: &mut Tokens<'_>) -> Result<Vec<Field>, Trouble>
     ensures fewer { OnOk result (count_left tokens.new < count_left tokens.old) }
 {
     let mut fields = Vec::new(alloc);
-    fields.push(ended_field(alloc, tokens)?)?;
+    fields.push(case_field(alloc, tokens)?)?;
     'more: while !is_case_end(tokens.mark()) {
-        fields.push(ended_field(alloc, tokens)?)?;
+        fields.push(case_field(alloc, tokens)?)?;
     }
     Ok(fields)
 }
