@@ -3,6 +3,7 @@ mod each_call;
 mod hellos;
 mod mls;
 mod parts;
+mod records;
 mod shapes;
 mod signed;
 

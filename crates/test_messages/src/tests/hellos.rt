@@ -2,7 +2,10 @@
 use crate::tests::each_call::{is_refused, is_spelled};
 use std::test::Fail;
 use tls_codec::{Error, TlsByteVec, TlsByteVecU16, TlsVec};
-use tls13::{Alert, AlertDescription, AlertLevel, ClientHello, Extension, ExtensionType};
+use tls13::{
+    Alert, AlertDescription, AlertLevel, ClientHello, Extension, ExtensionType, NamedGroup,
+    NamedGroupList, SignatureScheme, SignatureSchemeList,
+};
 
 #[test]
 fn alerts(rt: HostRuntime) -> Result<(), Fail> {
@@ -57,5 +60,22 @@ fn client_hellos(rt: HostRuntime) -> Result<(), Fail> {
         spelled.extend_from_slice(refused)?;
         is_refused::<ClientHello>(&rt, alloc, &spelled, Error::InvalidVectorLength);
     }
+    Ok(())
+}
+
+// Numbers of a range, and those that no value has, are kept.
+#[test]
+fn groups_and_schemes(rt: HostRuntime) -> Result<(), Fail> {
+    let alloc = rt.alloc();
+    let groups = [NamedGroup::X25519, NamedGroup(0x0a0a)];
+    let groups = NamedGroupList {
+        named_group_list: TlsVec::new(Vec::from_array(alloc, groups)?),
+    };
+    is_spelled(&rt, alloc, &groups, &[0, 4, 0, 0x1d, 0x0a, 0x0a])?;
+    let schemes = [SignatureScheme::ED25519, SignatureScheme(0xfe00)];
+    let schemes = SignatureSchemeList {
+        supported_signature_algorithms: TlsVec::new(Vec::from_array(alloc, schemes)?),
+    };
+    is_spelled(&rt, alloc, &schemes, &[0, 4, 8, 7, 0xfe, 0])?;
     Ok(())
 }

@@ -1,0 +1,96 @@
+//! [`ContentTypeApplicationData`].
+ghost use Rattle.std.specs.Prelude.{◌≡◌, MatchOption, false, nat_eq};
+ghost use Rattle.tls_codec.specs.OwnMessages.{values_names, values_source_names};
+ghost use Rattle.tls13.specs.ContentTypeApplicationData.{content_type_application_data_code, content_type_application_data_format, content_type_application_data_has, content_type_application_data_meets, content_type_application_data_plain};
+ghost use Rattle.tls13.specs.declared.content_type_application_data.ContentTypeApplicationData.{ContentTypeApplicationData};
+
+use std::alloc::Global;
+use tls_codec::{
+    Deserialize, DeserializeBytes, Error, Serialize, Sink, Size, Source, unknown_value,
+};
+
+/// `ContentTypeApplicationData`.
+#[derive(PartialEq, Eq, Debug, Clone, Copy)]
+pub enum ContentTypeApplicationData {
+    /// `application_data(23)`
+    ApplicationData,
+}
+
+impl ContentTypeApplicationData {
+    /// Its number.
+    pub fn code(&self) -> u8
+        ensures { result ≡ content_type_application_data_code self.now }
+    {
+        23
+    }
+
+    /// The value that has this number.
+    pub fn of_code(code: u8) -> Option<ContentTypeApplicationData>
+        ensures { MatchOption result (content_type_application_data_has code ≡ false)
+            (λ v. content_type_application_data_code v ≡ code) }
+    {
+        match code {
+            23 => Some(ContentTypeApplicationData::ApplicationData),
+            _ => None,
+        }
+    }
+}
+
+impl Size for ContentTypeApplicationData {
+    ghost plain = { content_type_application_data_plain };
+
+    ghost format = { content_type_application_data_format };
+
+    fn tls_serialized_len(&self) -> usize {
+        1
+    }
+
+    ghost lawful = { content_type_application_data_meets };
+}
+
+impl Serialize for ContentTypeApplicationData {
+    fn tls_serialize<W: Sink>(&self, writer: &mut W) -> Result<usize, Error> {
+        self.code().tls_serialize(writer)
+    }
+
+    fn tls_serialize_into(&self, out: &mut Vec<u8>) -> Result<usize, Error> {
+        self.code().tls_serialize_into(out)
+    }
+}
+
+impl Deserialize for ContentTypeApplicationData {
+    ghost names = { values_source_names 1 content_type_application_data_has };
+
+    fn tls_deserialize<R: Source>(
+        alloc: Global,
+        src: &mut R,
+    ) -> Result<ContentTypeApplicationData, Error> {
+        let tag = u8::tls_deserialize(alloc, src)?;
+        match ContentTypeApplicationData::of_code(tag) {
+            Some(value) => Ok(value),
+            None => Err(unknown_value(u64::from(tag))),
+        }
+    }
+}
+
+impl DeserializeBytes for ContentTypeApplicationData {
+    ghost names = { values_names 1 content_type_application_data_has };
+
+    fn tls_deserialize_bytes(
+        alloc: Global,
+        whole: &[u8],
+    ) -> Result<(ContentTypeApplicationData, &[u8]), Error> {
+        let (tag, rest) = u8::tls_deserialize_bytes(alloc, whole)?;
+        match ContentTypeApplicationData::of_code(tag) {
+            Some(value) => Ok((value, rest)),
+            None => Err(unknown_value(u64::from(tag))),
+        }
+    }
+}
+
+/// Two are equal exactly where their numbers are.
+pub fn is_compared_by_its_number()
+    ensures { (x y : ContentTypeApplicationData) →
+        ⟦<ContentTypeApplicationData as PartialEq>⟧.eq x y
+        ≡ nat_eq (content_type_application_data_code x) (content_type_application_data_code y) }
+{}

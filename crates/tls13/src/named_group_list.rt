@@ -1,0 +1,73 @@
+//! [`NamedGroupList`].
+ghost use Rattle.std.specs.Prelude.{◌≡◌};
+ghost use Rattle.tls13.specs.NamedGroupList.{named_group_list_format, named_group_list_meets, named_group_list_plain};
+ghost use Rattle.tls13.specs.declared.named_group_list.NamedGroupList.{NamedGroupList};
+
+use crate::NamedGroup;
+use std::alloc::Global;
+use tls_codec::{
+    Deserialize, DeserializeBytes, Error, Serialize, Sink, Size, Source, TlsVec, Within,
+};
+
+/// `NamedGroupList`.
+#[derive(PartialEq, Eq, Debug, Clone, Drop)]
+pub struct NamedGroupList {
+    /// `NamedGroup named_group_list<2..2^16-1>;`
+    pub named_group_list: TlsVec<Within<u16, 2, 65535>, NamedGroup>,
+}
+
+impl Size for NamedGroupList {
+    ghost plain = { named_group_list_plain };
+
+    ghost format = { named_group_list_format };
+
+    fn tls_serialized_len(&self) -> usize {
+        self.named_group_list.tls_serialized_len()
+    }
+
+    ghost lawful = { named_group_list_meets };
+}
+
+impl Serialize for NamedGroupList {
+    fn tls_serialize<W: Sink>(&self, writer: &mut W) -> Result<usize, Error> {
+        self.named_group_list.tls_serialize(writer)
+    }
+
+    fn tls_serialize_into(&self, out: &mut Vec<u8>) -> Result<usize, Error> {
+        self.named_group_list.tls_serialize_into(out)
+    }
+}
+
+impl Deserialize for NamedGroupList {
+    ghost names = { ⟦<TlsVec<Within<u16, 2, 65535>, NamedGroup> as Deserialize>⟧.names };
+
+    fn tls_deserialize<R: Source>(alloc: Global, src: &mut R) -> Result<NamedGroupList, Error> {
+        let named_group_list = <TlsVec<Within<u16, 2, 65535>, NamedGroup>>::tls_deserialize(
+            alloc, src,
+        )?;
+        Ok(NamedGroupList { named_group_list })
+    }
+}
+
+impl DeserializeBytes for NamedGroupList {
+    ghost names = { ⟦<TlsVec<Within<u16, 2, 65535>, NamedGroup> as DeserializeBytes>⟧.names };
+
+    fn tls_deserialize_bytes(
+        alloc: Global,
+        whole: &[u8],
+    ) -> Result<(NamedGroupList, &[u8]), Error> {
+        let (named_group_list, rest) = <TlsVec<
+            Within<u16, 2, 65535>,
+            NamedGroup,
+        >>::tls_deserialize_bytes(alloc, whole)?;
+        Ok((NamedGroupList { named_group_list }, rest))
+    }
+}
+
+/// Two are equal exactly where each field is.
+pub fn is_compared_by_its_fields()
+    ensures { (x y : NamedGroupList) →
+        ⟦<NamedGroupList as PartialEq>⟧.eq x y
+        ≡ ⟦<TlsVec<Within<u16, 2, 65535>, NamedGroup> as PartialEq>⟧.eq x.named_group_list
+        y.named_group_list }
+{}

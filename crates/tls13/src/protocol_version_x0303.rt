@@ -1,0 +1,96 @@
+//! [`ProtocolVersionX0303`].
+ghost use Rattle.std.specs.Prelude.{◌≡◌, MatchOption, false, nat_eq};
+ghost use Rattle.tls_codec.specs.OwnMessages.{values_names, values_source_names};
+ghost use Rattle.tls13.specs.ProtocolVersionX0303.{protocol_version_x0303_code, protocol_version_x0303_format, protocol_version_x0303_has, protocol_version_x0303_meets, protocol_version_x0303_plain};
+ghost use Rattle.tls13.specs.declared.protocol_version_x0303.ProtocolVersionX0303.{ProtocolVersionX0303};
+
+use std::alloc::Global;
+use tls_codec::{
+    Deserialize, DeserializeBytes, Error, Serialize, Sink, Size, Source, unknown_value,
+};
+
+/// `ProtocolVersionX0303`.
+#[derive(PartialEq, Eq, Debug, Clone, Copy)]
+pub enum ProtocolVersionX0303 {
+    /// `0x0303(771)`
+    X0303,
+}
+
+impl ProtocolVersionX0303 {
+    /// Its number.
+    pub fn code(&self) -> u16
+        ensures { result ≡ protocol_version_x0303_code self.now }
+    {
+        771
+    }
+
+    /// The value that has this number.
+    pub fn of_code(code: u16) -> Option<ProtocolVersionX0303>
+        ensures { MatchOption result (protocol_version_x0303_has code ≡ false)
+            (λ v. protocol_version_x0303_code v ≡ code) }
+    {
+        match code {
+            771 => Some(ProtocolVersionX0303::X0303),
+            _ => None,
+        }
+    }
+}
+
+impl Size for ProtocolVersionX0303 {
+    ghost plain = { protocol_version_x0303_plain };
+
+    ghost format = { protocol_version_x0303_format };
+
+    fn tls_serialized_len(&self) -> usize {
+        2
+    }
+
+    ghost lawful = { protocol_version_x0303_meets };
+}
+
+impl Serialize for ProtocolVersionX0303 {
+    fn tls_serialize<W: Sink>(&self, writer: &mut W) -> Result<usize, Error> {
+        self.code().tls_serialize(writer)
+    }
+
+    fn tls_serialize_into(&self, out: &mut Vec<u8>) -> Result<usize, Error> {
+        self.code().tls_serialize_into(out)
+    }
+}
+
+impl Deserialize for ProtocolVersionX0303 {
+    ghost names = { values_source_names 2 protocol_version_x0303_has };
+
+    fn tls_deserialize<R: Source>(
+        alloc: Global,
+        src: &mut R,
+    ) -> Result<ProtocolVersionX0303, Error> {
+        let tag = u16::tls_deserialize(alloc, src)?;
+        match ProtocolVersionX0303::of_code(tag) {
+            Some(value) => Ok(value),
+            None => Err(unknown_value(u64::from(tag))),
+        }
+    }
+}
+
+impl DeserializeBytes for ProtocolVersionX0303 {
+    ghost names = { values_names 2 protocol_version_x0303_has };
+
+    fn tls_deserialize_bytes(
+        alloc: Global,
+        whole: &[u8],
+    ) -> Result<(ProtocolVersionX0303, &[u8]), Error> {
+        let (tag, rest) = u16::tls_deserialize_bytes(alloc, whole)?;
+        match ProtocolVersionX0303::of_code(tag) {
+            Some(value) => Ok((value, rest)),
+            None => Err(unknown_value(u64::from(tag))),
+        }
+    }
+}
+
+/// Two are equal exactly where their numbers are.
+pub fn is_compared_by_its_number()
+    ensures { (x y : ProtocolVersionX0303) →
+        ⟦<ProtocolVersionX0303 as PartialEq>⟧.eq x y
+        ≡ nat_eq (protocol_version_x0303_code x) (protocol_version_x0303_code y) }
+{}

@@ -1,0 +1,126 @@
+//! [`SignatureScheme`].
+ghost use Rattle.std.specs.Prelude.{◌≡◌, nat_eq};
+ghost use Rattle.tls13.specs.SignatureScheme.{signature_scheme_format, signature_scheme_meets, signature_scheme_plain};
+ghost use Rattle.tls13.specs.declared.signature_scheme.SignatureScheme.{SignatureScheme};
+
+use std::alloc::Global;
+use tls_codec::{Deserialize, DeserializeBytes, Error, Serialize, Sink, Size, Source};
+
+/// `SignatureScheme`.
+#[derive(PartialEq, Eq, Debug, Clone, Copy)]
+pub struct SignatureScheme(pub u16);
+
+impl SignatureScheme {
+    /// `rsa_pkcs1_sha256`
+    pub const RSA_PKCS1_SHA256: SignatureScheme = SignatureScheme(1025);
+
+    /// `rsa_pkcs1_sha384`
+    pub const RSA_PKCS1_SHA384: SignatureScheme = SignatureScheme(1281);
+
+    /// `rsa_pkcs1_sha512`
+    pub const RSA_PKCS1_SHA512: SignatureScheme = SignatureScheme(1537);
+
+    /// `ecdsa_secp256r1_sha256`
+    pub const ECDSA_SECP256R1_SHA256: SignatureScheme = SignatureScheme(1027);
+
+    /// `ecdsa_secp384r1_sha384`
+    pub const ECDSA_SECP384R1_SHA384: SignatureScheme = SignatureScheme(1283);
+
+    /// `ecdsa_secp521r1_sha512`
+    pub const ECDSA_SECP521R1_SHA512: SignatureScheme = SignatureScheme(1539);
+
+    /// `rsa_pss_rsae_sha256`
+    pub const RSA_PSS_RSAE_SHA256: SignatureScheme = SignatureScheme(2052);
+
+    /// `rsa_pss_rsae_sha384`
+    pub const RSA_PSS_RSAE_SHA384: SignatureScheme = SignatureScheme(2053);
+
+    /// `rsa_pss_rsae_sha512`
+    pub const RSA_PSS_RSAE_SHA512: SignatureScheme = SignatureScheme(2054);
+
+    /// `ed25519`
+    pub const ED25519: SignatureScheme = SignatureScheme(2055);
+
+    /// `ed448`
+    pub const ED448: SignatureScheme = SignatureScheme(2056);
+
+    /// `rsa_pss_pss_sha256`
+    pub const RSA_PSS_PSS_SHA256: SignatureScheme = SignatureScheme(2057);
+
+    /// `rsa_pss_pss_sha384`
+    pub const RSA_PSS_PSS_SHA384: SignatureScheme = SignatureScheme(2058);
+
+    /// `rsa_pss_pss_sha512`
+    pub const RSA_PSS_PSS_SHA512: SignatureScheme = SignatureScheme(2059);
+
+    /// `rsa_pkcs1_sha1`
+    pub const RSA_PKCS1_SHA1: SignatureScheme = SignatureScheme(513);
+
+    /// `ecdsa_sha1`
+    pub const ECDSA_SHA1: SignatureScheme = SignatureScheme(515);
+
+    /// `dsa_sha1_RESERVED`
+    pub const DSA_SHA1_RESERVED: SignatureScheme = SignatureScheme(514);
+
+    /// `dsa_sha256_RESERVED`
+    pub const DSA_SHA256_RESERVED: SignatureScheme = SignatureScheme(1026);
+
+    /// `dsa_sha384_RESERVED`
+    pub const DSA_SHA384_RESERVED: SignatureScheme = SignatureScheme(1282);
+
+    /// `dsa_sha512_RESERVED`
+    pub const DSA_SHA512_RESERVED: SignatureScheme = SignatureScheme(1538);
+}
+
+impl Size for SignatureScheme {
+    ghost plain = { signature_scheme_plain };
+
+    ghost format = { signature_scheme_format };
+
+    fn tls_serialized_len(&self) -> usize {
+        2
+    }
+
+    fn tls_fixed_len() -> Option<usize> {
+        Some(2)
+    }
+
+    ghost lawful = { signature_scheme_meets };
+}
+
+impl Serialize for SignatureScheme {
+    fn tls_serialize<W: Sink>(&self, writer: &mut W) -> Result<usize, Error> {
+        self.0.tls_serialize(writer)
+    }
+
+    fn tls_serialize_into(&self, out: &mut Vec<u8>) -> Result<usize, Error> {
+        self.0.tls_serialize_into(out)
+    }
+}
+
+impl Deserialize for SignatureScheme {
+    ghost names = { ⟦<u16 as Deserialize>⟧.names };
+
+    fn tls_deserialize<R: Source>(alloc: Global, src: &mut R) -> Result<SignatureScheme, Error> {
+        let number = u16::tls_deserialize(alloc, src)?;
+        Ok(SignatureScheme(number))
+    }
+}
+
+impl DeserializeBytes for SignatureScheme {
+    ghost names = { ⟦<u16 as DeserializeBytes>⟧.names };
+
+    fn tls_deserialize_bytes(
+        alloc: Global,
+        whole: &[u8],
+    ) -> Result<(SignatureScheme, &[u8]), Error> {
+        let (number, rest) = u16::tls_deserialize_bytes(alloc, whole)?;
+        Ok((SignatureScheme(number), rest))
+    }
+}
+
+/// Two are equal exactly where their numbers are.
+pub fn is_compared_by_its_number()
+    ensures { (x y : SignatureScheme) →
+        ⟦<SignatureScheme as PartialEq>⟧.eq x y ≡ nat_eq x.0 y.0 }
+{}

@@ -1,0 +1,84 @@
+//! [`SignatureSchemeList`].
+ghost use Rattle.std.specs.Prelude.{◌≡◌};
+ghost use Rattle.tls13.specs.SignatureSchemeList.{signature_scheme_list_format, signature_scheme_list_meets, signature_scheme_list_plain};
+ghost use Rattle.tls13.specs.declared.signature_scheme_list.SignatureSchemeList.{SignatureSchemeList};
+
+use crate::SignatureScheme;
+use std::alloc::Global;
+use tls_codec::{
+    Deserialize, DeserializeBytes, Error, Serialize, Sink, Size, Source, TlsVec, Within,
+};
+
+/// `SignatureSchemeList`.
+#[derive(PartialEq, Eq, Debug, Clone, Drop)]
+pub struct SignatureSchemeList {
+    /// `SignatureScheme supported_signature_algorithms<2..65534>;`
+    pub supported_signature_algorithms: TlsVec<Within<u16, 2, 65534>, SignatureScheme>,
+}
+
+impl Size for SignatureSchemeList {
+    ghost plain = { signature_scheme_list_plain };
+
+    ghost format = { signature_scheme_list_format };
+
+    fn tls_serialized_len(&self) -> usize {
+        self.supported_signature_algorithms.tls_serialized_len()
+    }
+
+    ghost lawful = { signature_scheme_list_meets };
+}
+
+impl Serialize for SignatureSchemeList {
+    fn tls_serialize<W: Sink>(&self, writer: &mut W) -> Result<usize, Error> {
+        self.supported_signature_algorithms.tls_serialize(writer)
+    }
+
+    fn tls_serialize_into(&self, out: &mut Vec<u8>) -> Result<usize, Error> {
+        self.supported_signature_algorithms.tls_serialize_into(out)
+    }
+}
+
+impl Deserialize for SignatureSchemeList {
+    ghost names = { ⟦<TlsVec<Within<u16, 2, 65534>, SignatureScheme> as Deserialize>⟧.names };
+
+    fn tls_deserialize<R: Source>(
+        alloc: Global,
+        src: &mut R,
+    ) -> Result<SignatureSchemeList, Error> {
+        let supported_signature_algorithms = <TlsVec<
+            Within<u16, 2, 65534>,
+            SignatureScheme,
+        >>::tls_deserialize(alloc, src)?;
+        Ok(SignatureSchemeList {
+            supported_signature_algorithms,
+        })
+    }
+}
+
+impl DeserializeBytes for SignatureSchemeList {
+    ghost names = { ⟦<TlsVec<Within<u16, 2, 65534>, SignatureScheme> as DeserializeBytes>⟧.names };
+
+    fn tls_deserialize_bytes(
+        alloc: Global,
+        whole: &[u8],
+    ) -> Result<(SignatureSchemeList, &[u8]), Error> {
+        let (supported_signature_algorithms, rest) = <TlsVec<
+            Within<u16, 2, 65534>,
+            SignatureScheme,
+        >>::tls_deserialize_bytes(alloc, whole)?;
+        Ok((
+            SignatureSchemeList {
+                supported_signature_algorithms,
+            },
+            rest,
+        ))
+    }
+}
+
+/// Two are equal exactly where each field is.
+pub fn is_compared_by_its_fields()
+    ensures { (x y : SignatureSchemeList) →
+        ⟦<SignatureSchemeList as PartialEq>⟧.eq x y
+        ≡ ⟦<TlsVec<Within<u16, 2, 65534>, SignatureScheme> as PartialEq>⟧.eq
+        x.supported_signature_algorithms y.supported_signature_algorithms }
+{}

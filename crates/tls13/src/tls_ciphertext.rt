@@ -1,0 +1,106 @@
+//! [`TLSCiphertext`].
+ghost use Rattle.std.specs.Prelude.{◌≡◌, ◌&&◌};
+ghost use Rattle.tls13.specs.TLSCiphertext.{tls_ciphertext_format, tls_ciphertext_meets, tls_ciphertext_plain};
+ghost use Rattle.tls13.specs.declared.tls_ciphertext.TLSCiphertext.{TLSCiphertext};
+
+use crate::{ContentTypeApplicationData, ProtocolVersionX0303};
+use std::alloc::Global;
+use tls_codec::{
+    Deserialize, DeserializeBytes, Error, Lent, Serialize, Sink, Size, Source, TlsByteVecU16,
+};
+
+/// `TLSCiphertext`.
+#[derive(PartialEq, Eq, Debug, Clone, Drop)]
+pub struct TLSCiphertext {
+    /// `ContentType opaque_type = application_data;`
+    pub opaque_type: ContentTypeApplicationData,
+    /// `ProtocolVersion legacy_record_version = 0x0303;`
+    pub legacy_record_version: ProtocolVersionX0303,
+    /// `opaque encrypted_record[TLSCiphertext.length];`
+    pub encrypted_record: TlsByteVecU16,
+}
+
+impl Size for TLSCiphertext {
+    ghost plain = { tls_ciphertext_plain };
+
+    ghost format = { tls_ciphertext_format };
+
+    fn tls_serialized_len(&self) -> usize {
+        (
+            Lent(&self.opaque_type),
+            Lent(&self.legacy_record_version),
+            Lent(&self.encrypted_record),
+        )
+            .tls_serialized_len()
+    }
+
+    ghost lawful = { tls_ciphertext_meets };
+}
+
+impl Serialize for TLSCiphertext {
+    fn tls_serialize<W: Sink>(&self, writer: &mut W) -> Result<usize, Error> {
+        (
+            Lent(&self.opaque_type),
+            Lent(&self.legacy_record_version),
+            Lent(&self.encrypted_record),
+        )
+            .tls_serialize(writer)
+    }
+
+    fn tls_serialize_into(&self, out: &mut Vec<u8>) -> Result<usize, Error> {
+        (
+            Lent(&self.opaque_type),
+            Lent(&self.legacy_record_version),
+            Lent(&self.encrypted_record),
+        )
+            .tls_serialize_into(out)
+    }
+}
+
+impl Deserialize for TLSCiphertext {
+    ghost names = { ⟦<(ContentTypeApplicationData, ProtocolVersionX0303,
+        TlsByteVecU16) as Deserialize>⟧.names };
+
+    fn tls_deserialize<R: Source>(alloc: Global, src: &mut R) -> Result<TLSCiphertext, Error> {
+        let (opaque_type, legacy_record_version, encrypted_record) = <(
+            ContentTypeApplicationData,
+            ProtocolVersionX0303,
+            TlsByteVecU16,
+        )>::tls_deserialize(alloc, src)?;
+        Ok(TLSCiphertext {
+            opaque_type,
+            legacy_record_version,
+            encrypted_record,
+        })
+    }
+}
+
+impl DeserializeBytes for TLSCiphertext {
+    ghost names = { ⟦<(ContentTypeApplicationData, ProtocolVersionX0303,
+        TlsByteVecU16) as DeserializeBytes>⟧.names };
+
+    fn tls_deserialize_bytes(alloc: Global, whole: &[u8]) -> Result<(TLSCiphertext, &[u8]), Error> {
+        let ((opaque_type, legacy_record_version, encrypted_record), rest) = <(
+            ContentTypeApplicationData,
+            ProtocolVersionX0303,
+            TlsByteVecU16,
+        )>::tls_deserialize_bytes(alloc, whole)?;
+        Ok((
+            TLSCiphertext {
+                opaque_type,
+                legacy_record_version,
+                encrypted_record,
+            },
+            rest,
+        ))
+    }
+}
+
+/// Two are equal exactly where each field is.
+pub fn is_compared_by_its_fields()
+    ensures { (x y : TLSCiphertext) →
+        ⟦<TLSCiphertext as PartialEq>⟧.eq x y
+        ≡ (⟦<ContentTypeApplicationData as PartialEq>⟧.eq x.opaque_type y.opaque_type
+        && (⟦<ProtocolVersionX0303 as PartialEq>⟧.eq x.legacy_record_version y.legacy_record_version
+        && ⟦<TlsByteVecU16 as PartialEq>⟧.eq x.encrypted_record y.encrypted_record)) }
+{}

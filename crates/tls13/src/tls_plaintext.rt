@@ -1,0 +1,104 @@
+//! [`TLSPlaintext`].
+ghost use Rattle.std.specs.Prelude.{◌≡◌, ◌&&◌};
+ghost use Rattle.tls13.specs.TLSPlaintext.{tls_plaintext_format, tls_plaintext_meets, tls_plaintext_plain};
+ghost use Rattle.tls13.specs.declared.tls_plaintext.TLSPlaintext.{TLSPlaintext};
+
+use crate::{ContentType, ProtocolVersion};
+use std::alloc::Global;
+use tls_codec::{
+    Deserialize, DeserializeBytes, Error, Lent, Serialize, Sink, Size, Source, TlsByteVecU16,
+};
+
+/// `TLSPlaintext`.
+#[derive(PartialEq, Eq, Debug, Clone, Drop)]
+pub struct TLSPlaintext {
+    /// `ContentType type;`
+    pub kind: ContentType,
+    /// `ProtocolVersion legacy_record_version;`
+    pub legacy_record_version: ProtocolVersion,
+    /// `opaque fragment[TLSPlaintext.length];`
+    pub fragment: TlsByteVecU16,
+}
+
+impl Size for TLSPlaintext {
+    ghost plain = { tls_plaintext_plain };
+
+    ghost format = { tls_plaintext_format };
+
+    fn tls_serialized_len(&self) -> usize {
+        (
+            Lent(&self.kind),
+            Lent(&self.legacy_record_version),
+            Lent(&self.fragment),
+        )
+            .tls_serialized_len()
+    }
+
+    ghost lawful = { tls_plaintext_meets };
+}
+
+impl Serialize for TLSPlaintext {
+    fn tls_serialize<W: Sink>(&self, writer: &mut W) -> Result<usize, Error> {
+        (
+            Lent(&self.kind),
+            Lent(&self.legacy_record_version),
+            Lent(&self.fragment),
+        )
+            .tls_serialize(writer)
+    }
+
+    fn tls_serialize_into(&self, out: &mut Vec<u8>) -> Result<usize, Error> {
+        (
+            Lent(&self.kind),
+            Lent(&self.legacy_record_version),
+            Lent(&self.fragment),
+        )
+            .tls_serialize_into(out)
+    }
+}
+
+impl Deserialize for TLSPlaintext {
+    ghost names = { ⟦<(ContentType, ProtocolVersion, TlsByteVecU16) as Deserialize>⟧.names };
+
+    fn tls_deserialize<R: Source>(alloc: Global, src: &mut R) -> Result<TLSPlaintext, Error> {
+        let (kind, legacy_record_version, fragment) = <(
+            ContentType,
+            ProtocolVersion,
+            TlsByteVecU16,
+        )>::tls_deserialize(alloc, src)?;
+        Ok(TLSPlaintext {
+            kind,
+            legacy_record_version,
+            fragment,
+        })
+    }
+}
+
+impl DeserializeBytes for TLSPlaintext {
+    ghost names = { ⟦<(ContentType, ProtocolVersion, TlsByteVecU16) as DeserializeBytes>⟧.names };
+
+    fn tls_deserialize_bytes(alloc: Global, whole: &[u8]) -> Result<(TLSPlaintext, &[u8]), Error> {
+        let ((kind, legacy_record_version, fragment), rest) = <(
+            ContentType,
+            ProtocolVersion,
+            TlsByteVecU16,
+        )>::tls_deserialize_bytes(alloc, whole)?;
+        Ok((
+            TLSPlaintext {
+                kind,
+                legacy_record_version,
+                fragment,
+            },
+            rest,
+        ))
+    }
+}
+
+/// Two are equal exactly where each field is.
+pub fn is_compared_by_its_fields()
+    ensures { (x y : TLSPlaintext) →
+        ⟦<TLSPlaintext as PartialEq>⟧.eq x y
+        ≡ (⟦<ContentType as PartialEq>⟧.eq x.kind y.kind
+        && (⟦<ProtocolVersion as PartialEq>⟧.eq x.legacy_record_version y.legacy_record_version
+        && ⟦<TlsByteVecU16 as PartialEq>⟧.eq x.fragment y.fragment)) }
+{}
