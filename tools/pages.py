@@ -7,6 +7,7 @@
 - A link that isn't of another site has to lead to a file of the repository, and to a heading of it.
 - A name in `code` that is a path under crates/, docs/, tools/ or .ci/, or has an underscore in it, has to occur in the repository;
   names of what was before, in CHANGELOG.md, and a few of elsewhere don't.
+- No line is one that a merge left.
 - The pictures are what tools/pictures.py draws.
 
 Prints a line for each place that doesn't match, and last 'N passed, N failed', which counts pages and pictures; the exit status is 1 if
@@ -135,6 +136,12 @@ def check_names(lines, words):
                 yield number, f"no such name: {name}"
 
 
+def check_merged(lines):
+    for number, line in enumerate(lines, 1):
+        if re.match(r"(<{7}|={7}|>{7})( |$)", line):
+            yield number, "left by a merge"
+
+
 def main():
     files = sources()
     words = {word for lines in files.values() for line in lines for word in re.findall(r"\w+", line)}
@@ -142,7 +149,7 @@ def main():
     failed = set()
     for page in PAGES:
         lines = page.read_text().split("\n")
-        found = [*check_quotes(lines, files), *check_links(page, lines)]
+        found = [*check_quotes(lines, files), *check_links(page, lines), *check_merged(lines)]
         if page.name != "CHANGELOG.md":
             found += check_names(lines, words)
         for number, text in sorted(found):
