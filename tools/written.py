@@ -14,8 +14,8 @@ MLS = ["mls_leaf", "mls_proposals", "mls_framing"]
 
 # For each run: the crate whose files are compared, the text, and the words.
 RUNS = {
-    "messages_of_each_shape": ("messages_of_each_shape", "each_shape", []),
-    "tls13": ("tls13", "tls13", []),
+    "messages_of_each_shape": ("messages_of_each_shape", "each_shape", ["--notes", "each_shape.notes"]),
+    "tls13": ("tls13", "tls13", ["--notes", "tls13.notes"]),
 }
 for at, name in enumerate(MLS):
     others = [word for other in MLS[:at] for word in ("--with", f"{other}={other}.tls")]
@@ -33,8 +33,8 @@ def files_of(run, crate):
 
 def main():
     words = []
-    for text in sorted({text for _, text, _ in RUNS.values()}):
-        words += ["--data", f"{text}.tls=data/{text}.tls"]
+    for path in sorted((CRATES / "tlsgen" / "data").iterdir()):
+        words += ["--data", f"{path.name}=data/{path.name}"]
     with tempfile.TemporaryDirectory() as cases:
         for run, (crate, text, more) in RUNS.items():
             pathlib.Path(cases, run).touch()

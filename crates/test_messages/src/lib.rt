@@ -1,4 +1,4 @@
-//! Worked values of written messages, by each call: one message of each shape, TLS 1.3 and MLS.
+//! Worked values of written messages, by each call: one message of each shape, and those of MLS.
 //!
 //! The crate has only tests. It is above the messages so that none of those is proved twice.
 #![tactic(auto)]

@@ -1,9 +1,10 @@
 //! Worked values and rejected bytes.
 mod each_call;
-mod hellos;
+mod elsewhere;
+mod in_context;
 mod mls;
 mod parts;
-mod records;
+mod selected;
 mod shapes;
 mod signed;
 

@@ -1,10 +1,12 @@
 // What no clause says: what is read and planned of worked texts, and where and why texts are refused.
 mod bad;
 mod crates;
+mod elsewhere;
 mod inputs;
 mod large;
 mod layout;
 mod names;
+mod notes;
 mod plans;
 mod presentation;
 mod printed;

@@ -3,7 +3,7 @@ ghost use Rattle.std.specs.Prelude.{◌≡◌, ◌&&◌};
 ghost use Rattle.tls13.specs.ClientHello.{client_hello_format, client_hello_meets, client_hello_plain};
 ghost use Rattle.tls13.specs.declared.client_hello.ClientHello.{ClientHello};
 
-use crate::{CipherSuite, Extension, ProtocolVersion, Random};
+use crate::{CipherSuite, Extension, ProtocolVersionX0303, Random};
 use std::alloc::Global;
 use tls_codec::{
     Deserialize, DeserializeBytes, Error, Lent3, Serialize, Sink, Size, Source, TlsByteVec, TlsVec,
@@ -13,8 +13,8 @@ use tls_codec::{
 /// `ClientHello`.
 #[derive(PartialEq, Eq, Debug, Clone, Drop)]
 pub struct ClientHello {
-    /// `ProtocolVersion legacy_version;`
-    pub legacy_version: ProtocolVersion,
+    /// `ProtocolVersion legacy_version = 0x0303;`
+    pub legacy_version: ProtocolVersionX0303,
     /// `Random random;`
     pub random: Random,
     /// `opaque legacy_session_id<0..32>;`
@@ -74,7 +74,7 @@ impl Serialize for ClientHello {
 }
 
 impl Deserialize for ClientHello {
-    ghost names = { ⟦<((ProtocolVersion, Random, TlsByteVec<Within<u8, 0, 32>>),
+    ghost names = { ⟦<((ProtocolVersionX0303, Random, TlsByteVec<Within<u8, 0, 32>>),
         (TlsVec<Within<u16, 2, 65534>, CipherSuite>, TlsByteVec<Within<u8, 1, 255>>,
         TlsVec<Within<u16, 8, 65535>, Extension>)) as Deserialize>⟧.names };
 
@@ -83,7 +83,7 @@ impl Deserialize for ClientHello {
             (legacy_version, random, legacy_session_id),
             (cipher_suites, legacy_compression_methods, extensions),
         ) = <(
-            (ProtocolVersion, Random, TlsByteVec<Within<u8, 0, 32>>),
+            (ProtocolVersionX0303, Random, TlsByteVec<Within<u8, 0, 32>>),
             (
                 TlsVec<Within<u16, 2, 65534>, CipherSuite>,
                 TlsByteVec<Within<u8, 1, 255>>,
@@ -102,7 +102,7 @@ impl Deserialize for ClientHello {
 }
 
 impl DeserializeBytes for ClientHello {
-    ghost names = { ⟦<((ProtocolVersion, Random, TlsByteVec<Within<u8, 0, 32>>),
+    ghost names = { ⟦<((ProtocolVersionX0303, Random, TlsByteVec<Within<u8, 0, 32>>),
         (TlsVec<Within<u16, 2, 65534>, CipherSuite>, TlsByteVec<Within<u8, 1, 255>>,
         TlsVec<Within<u16, 8, 65535>, Extension>)) as DeserializeBytes>⟧.names };
 
@@ -114,7 +114,7 @@ impl DeserializeBytes for ClientHello {
             ),
             rest,
         ) = <(
-            (ProtocolVersion, Random, TlsByteVec<Within<u8, 0, 32>>),
+            (ProtocolVersionX0303, Random, TlsByteVec<Within<u8, 0, 32>>),
             (
                 TlsVec<Within<u16, 2, 65534>, CipherSuite>,
                 TlsByteVec<Within<u8, 1, 255>>,
@@ -139,7 +139,7 @@ impl DeserializeBytes for ClientHello {
 pub fn is_compared_by_its_fields()
     ensures { (x y : ClientHello) →
         ⟦<ClientHello as PartialEq>⟧.eq x y
-        ≡ (⟦<ProtocolVersion as PartialEq>⟧.eq x.legacy_version y.legacy_version
+        ≡ (⟦<ProtocolVersionX0303 as PartialEq>⟧.eq x.legacy_version y.legacy_version
         && (⟦<Random as PartialEq>⟧.eq x.random y.random
         && (⟦<TlsByteVec<Within<u8, 0, 32>> as PartialEq>⟧.eq x.legacy_session_id
         y.legacy_session_id

@@ -22,6 +22,8 @@ pub enum ContentType {
     Handshake,
     /// `application_data(23)`
     ApplicationData,
+    /// `heartbeat(24)`
+    Heartbeat,
 }
 
 impl ContentType {
@@ -35,6 +37,7 @@ impl ContentType {
             ContentType::Alert => 21,
             ContentType::Handshake => 22,
             ContentType::ApplicationData => 23,
+            ContentType::Heartbeat => 24,
         }
     }
 
@@ -49,6 +52,7 @@ impl ContentType {
             21 => Some(ContentType::Alert),
             22 => Some(ContentType::Handshake),
             23 => Some(ContentType::ApplicationData),
+            24 => Some(ContentType::Heartbeat),
             _ => None,
         }
     }

@@ -4,8 +4,8 @@
 //! It prints each file after a line with its path. With `--to FOLDER` it writes them there, and with `--compare FOLDER`
 //! it ends with status 0 if the files there are the same but for layout, and else with 1 and the first line that
 //! differs, or the first file that can't be read. `--show` is for one file in place of those: a module that shows the
-//! messages as a tree, for a crate that has `show::Show` and uses `message_tree`. `--with NAME=FILE` names another crate
-//! and its input: the text may name its types. A text that is rejected or can't be read, and a file that can't be written,
+//! messages as a tree, for a crate that has `show::Show` and uses `message_tree`. `--notes FILE` has what the RFC says of the
+//! text in prose. `--with NAME=FILE`, or `NAME=FILE,NOTES`, names another crate and its input: the text may name its types. A text that is rejected or can't be read, and a file that can't be written,
 //! end it with status 2; nothing is written before the whole text is read.
 //!
 //! - [`words`]: the command line.
@@ -50,7 +50,7 @@ fn main(rt: HostRuntime) -> anyhow::Result<ExitCode> {
     if !add_others(&rt, &mut texts, matches.get_strs("with").unwrap_or(&[]))? {
         return Ok(ExitCode::from(REFUSED));
     }
-    if !add(&rt, &mut texts, input)? {
+    if !add(&rt, &mut texts, input, matches.get_str("notes"))? {
         return Ok(ExitCode::from(REFUSED));
     }
     let Some(plan) = plan(&rt, &texts)? else {
@@ -92,7 +92,7 @@ fn are_folders<R: Eprint>(rt: &R, matches: &ArgMatches<'_>) -> anyhow::Result<bo
     Ok(true)
 }
 
-/// Adds the texts of other crates, each given as `NAME=FILE`. Returns whether all were read.
+/// Adds the texts of other crates, each given as `NAME=FILE` or `NAME=FILE,NOTES`. Returns whether all were read.
 fn add_others<R: Eprint + AllocGlobal + Files>(
     rt: &R,
     texts: &mut Texts,
@@ -100,13 +100,17 @@ fn add_others<R: Eprint + AllocGlobal + Files>(
 ) -> anyhow::Result<bool> {
     for word in words {
         let Some((name, path)) = word.split_once('=') else {
-            eprintln!(rt; "--with {word}: expected NAME=FILE")?;
+            eprintln!(rt; "--with {word}: expected NAME=FILE or NAME=FILE,NOTES")?;
             return Ok(false);
         };
         if !is_named(rt, "--with", name)? {
             return Ok(false);
         }
-        if !add(rt, texts, path)? {
+        let (path, notes) = match path.split_once(',') {
+            Some((path, notes)) => (path, Some(notes)),
+            None => (path, None),
+        };
+        if !add(rt, texts, path, notes)? {
             return Ok(false);
         }
         texts.end_crate(rt.alloc(), name)?;
@@ -114,27 +118,56 @@ fn add_others<R: Eprint + AllocGlobal + Files>(
     Ok(true)
 }
 
-/// Adds a file's text, or prints why it can't be read.
+/// Adds a file's text and its notes, if there are any, or prints why one can't be read.
 fn add<R: Eprint + AllocGlobal + Files>(
     rt: &R,
     texts: &mut Texts,
     path: &str,
+    notes: Option<&str>,
 ) -> anyhow::Result<bool> {
-    let text = match fs::read_to_string(rt, path) {
-        Ok(text) => text,
-        Err(error) => {
-            eprintln!(rt; "{path}: {error}")?;
-            return Ok(false);
-        }
+    let Some(text) = read(rt, path)? else {
+        return Ok(false);
     };
-    // Editors may put a mark of the byte order first.
-    let text = text.as_str();
-    let text = text.strip_prefix('\u{feff}').unwrap_or(text);
-    if let Err(trouble) = texts.add(rt.alloc(), path, text) {
+    if let Err(trouble) = texts.add(rt.alloc(), path, without_mark(text.as_str())) {
+        print_trouble(rt, path, trouble)?;
+        return Ok(false);
+    }
+    match notes {
+        Some(path) => add_notes(rt, texts, path),
+        None => Ok(true),
+    }
+}
+
+/// Adds the notes of the text that was added last, or prints why they can't be read.
+fn add_notes<R: Eprint + AllocGlobal + Files>(
+    rt: &R,
+    texts: &mut Texts,
+    path: &str,
+) -> anyhow::Result<bool> {
+    let Some(text) = read(rt, path)? else {
+        return Ok(false);
+    };
+    if let Err(trouble) = texts.add_notes(rt.alloc(), path, without_mark(text.as_str())) {
         print_trouble(rt, path, trouble)?;
         return Ok(false);
     }
     Ok(true)
+}
+
+/// The text of a file, or prints why it can't be read.
+fn read<R: Eprint + AllocGlobal + Files>(rt: &R, path: &str) -> anyhow::Result<Option<String>> {
+    match fs::read_to_string(rt, path) {
+        Ok(text) => Ok(Some(text)),
+        Err(error) => {
+            eprintln!(rt; "{path}: {error}")?;
+            Ok(None)
+        }
+    }
+}
+
+/// A text without a mark of the byte order, which editors may put first.
+fn without_mark(text: &str) -> &str {
+    text.strip_prefix('\u{feff}').unwrap_or(text)
 }
 
 /// The plan of the crate, or prints why a text is rejected.
@@ -142,7 +175,7 @@ fn plan<R: Eprint + AllocGlobal>(rt: &R, texts: &Texts) -> anyhow::Result<Option
     match texts.plan(rt.alloc()) {
         Ok(plan) => Ok(Some(plan)),
         Err(fault) => {
-            print_trouble(rt, texts.path(fault.file), fault.trouble)?;
+            print_trouble(rt, texts.path(&fault), fault.trouble)?;
             Ok(None)
         }
     }

@@ -4,7 +4,8 @@ use std::alloc::{AllocError, Global};
 use tlsgen_model::plan::Plan;
 use tlsgen_resolve::plan_of;
 use tlsgen_resolve::planning::Fault;
-use tlsgen_syntax::parser::parse;
+use tlsgen_syntax::noted::apply;
+use tlsgen_syntax::parser::{parse, parse_notes};
 use tlsgen_syntax::refusal::Trouble;
 use tlsgen_syntax::syntax::File;
 
@@ -13,6 +14,8 @@ use tlsgen_syntax::syntax::File;
 pub struct Texts {
     files: Vec<File>,
     paths: Vec<String>,
+    /// Those of the notes beside the texts, and nothing where there are none.
+    notes: Vec<String>,
     /// The other crates.
     pub crates: Vec<String>,
 }
@@ -22,6 +25,7 @@ impl Texts {
         Texts {
             files: Vec::new(alloc),
             paths: Vec::new(alloc),
+            notes: Vec::new(alloc),
             crates: Vec::new(alloc),
         }
     }
@@ -31,6 +35,19 @@ impl Texts {
         let file = parse(alloc, text)?;
         self.files.push(file)?;
         self.paths.push(String::from_str(alloc, path)?)?;
+        self.notes.push(String::new(alloc))?;
+        Ok(())
+    }
+
+    /// Adds notes, which were read from a path, to the text that was added last.
+    pub fn add_notes(&mut self, alloc: Global, path: &str, text: &str) -> Result<(), Trouble> {
+        let notes = parse_notes(alloc, text)?;
+        if let Some(file) = self.files.last_mut() {
+            apply(alloc, file, notes)?;
+        }
+        if let Some(last) = self.notes.last_mut() {
+            last.push_str(path)?;
+        }
         Ok(())
     }
 
@@ -45,9 +62,14 @@ impl Texts {
         plan_of(alloc, &self.files)
     }
 
-    /// The path of a text, by its position.
-    pub fn path(&self, at: usize) -> &str {
-        match self.paths.get(at) {
+    /// The path of the text at fault, or of its notes.
+    pub fn path(&self, fault: &Fault) -> &str {
+        let paths = if fault.is_note {
+            &self.notes
+        } else {
+            &self.paths
+        };
+        match paths.get(fault.file) {
             Some(path) => path.as_str(),
             None => "",
         }

@@ -18,7 +18,7 @@ fn is_of_name(byte: u8) -> bool {
     byte.is_ascii_lowercase() || byte.is_ascii_digit() || byte == b'_'
 }
 
-/// The command line of the program: `INPUT --crate NAME [--with NAME=FILE].. [--show] [--to FOLDER | --compare FOLDER]`.
+/// The command line of the program: `INPUT --crate NAME [--notes FILE] [--with NAME=FILE].. [--show] [--to FOLDER | --compare FOLDER]`.
 pub fn command<'a>(alloc: Global) -> Result<Command<'a>, AllocError> {
     let input = Arg::new(alloc, "INPUT")
         .required(true)
@@ -30,9 +30,14 @@ pub fn command<'a>(alloc: Global) -> Result<Command<'a>, AllocError> {
         .required(true)
         .action(ArgAction::Set)
         .help("The name of the crate whose sources are written");
+    let notes = Arg::new(alloc, "notes")
+        .long("notes")
+        .value_name("FILE")
+        .action(ArgAction::Set)
+        .help("What the RFC says of INPUT in prose, as `Handshake.length counts rest;`");
     let with = Arg::new(alloc, "with")
         .long("with")
-        .value_name("NAME=FILE")
+        .value_name("NAME=FILE[,NOTES]")
         .action(ArgAction::Append)
         .help("Another crate, and the file that it was written for: its types may be named");
     let to = Arg::new(alloc, "to")
@@ -56,6 +61,7 @@ pub fn command<'a>(alloc: Global) -> Result<Command<'a>, AllocError> {
         )
         .arg(input)?
         .arg(name)?
+        .arg(notes)?
         .arg(with)?
         .arg(show)?
         .arg(to)?

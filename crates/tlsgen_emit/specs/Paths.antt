@@ -5,7 +5,7 @@ use Rattle.tlsgen_model.specs.Paths.{Path, answers_path, code_path, path_of, spe
 use Rattle.tlsgen_model.specs.declared.emitted.Written.{Written}
 use Rattle.tlsgen_model.specs.declared.plan.Alias.{Alias}
 use Rattle.tlsgen_model.specs.declared.plan.Body.{Body}
-use Rattle.tlsgen_model.specs.declared.plan.Body.TheVariants.{Values, Fields, Choice}
+use Rattle.tlsgen_model.specs.declared.plan.Body.TheVariants.{Values, Fields, Choice, Sum}
 use Rattle.tlsgen_model.specs.declared.plan.Message.{Message}
 use Rattle.tlsgen_model.specs.declared.plan.Plan.{Plan}
 
@@ -38,6 +38,7 @@ needs_answers (Values width true values) = false
 needs_answers (Values width false values) = true
 needs_answers (Fields members) = false
 needs_answers (Choice width variants) = true
+needs_answers (Sum width length variants) = false
 
 abbrev pub paths_of_message : Message → List Path
 paths_of_message m = code_path m ∷ specs_path m ∷ answers_if (needs_answers m.body) m

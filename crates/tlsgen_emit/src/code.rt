@@ -105,7 +105,7 @@ pub fn aliases<'a>(alloc: Global, names: &Names<'a>, plan: &'a Plan) -> Result<S
         push_alias(alloc, &mut body, alias, words.texts)?;
     }
     messages.sort()?;
-    let uses = imports::code(alloc, names, body.as_str(), messages.as_slice())?;
+    let uses = imports::code(alloc, names, body.as_str(), messages.as_slice(), &[])?;
     format!(in alloc; "//! Other names of types.\n{uses}{body}")
 }
 
@@ -147,7 +147,8 @@ pub fn module(alloc: Global, names: &Names<'_>, form: &Form<'_>) -> Result<Strin
     imports::push_clauses(alloc, &mut out, body.as_str())?;
     form.holes
         .push(alloc, &mut out, form.kind.templates().ghost_uses)?;
-    let uses = imports::code(alloc, names, body.as_str(), form.uses.types.as_slice())?;
+    let types = form.uses.types.as_slice();
+    let uses = imports::code(alloc, names, body.as_str(), types, form.cases)?;
     write!(out, "\n{uses}\n")?;
     breaks::push_code(alloc, &mut out, body.as_str())?;
     Ok(out)

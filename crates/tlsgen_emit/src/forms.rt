@@ -3,24 +3,36 @@ ghost use Rattle.std.specs.Prelude.{◌≡◌, IfOk};
 ghost use Rattle.tlsgen_emit.specs.Forms.{has_answers};
 ghost use Rattle.tlsgen_emit.specs.Paths.{needs_answers};
 
-use crate::lines;
-use crate::rows::{Owner, Row, Uses};
+use crate::owners::Owner;
+use crate::parts::{Part, cases_of, has, has_bare, values_of};
+use crate::rows::Row;
 use crate::template::Holes;
-use crate::templates::{Templates, choices, opens, structs, values};
-use crate::types::{Names, set_width};
+use crate::templates::{
+    Templates, choices, opens, selectors, structs, structs_in_context, sums as templates, values,
+};
+use crate::types::{Names, length_field, set_width};
+use crate::uses::Uses;
+use crate::vocabulary::{CASES_OF_SELECT, CASES_OF_STRUCT, CASES_OF_SUM, SELECTOR};
+use crate::{contexts, lines, sums};
 use std::alloc::{AllocError, Global};
-use tlsgen_model::plan::{Body, Message, Value, Variant};
+use tlsgen_model::plan::{Body, Member, Message, Variant};
 
 /// Which templates a message is written by.
 #[derive(Clone, Copy)]
 pub enum Kind {
     Struct,
+    /// A struct, of which a context decides some fields.
+    StructInContext,
     /// An enum of numbers alone.
     Values,
     /// A number, of which some values have names.
     Open,
     /// A tag, and what comes after each.
     Choice,
+    /// A tag and a length, which what comes after each fills.
+    Sum,
+    /// What comes after each tag, which is the context.
+    Select,
 }
 
 /// A message, as what stands for the holes of its templates.
@@ -33,25 +45,22 @@ pub struct Form<'a> {
     /// Its values, or its cases.
     pub parts: Vec<Part>,
     pub uses: Uses<'a>,
-}
-
-/// A value or a case.
-#[derive(Drop)]
-pub struct Part {
-    /// How many fields it has.
-    pub fields: usize,
-    pub holes: Holes,
+    /// What it takes of the cases by name.
+    pub cases: &'static [&'static str],
 }
 
 impl Kind {
-    fn of(body: &Body) -> Kind
-        ensures { has_answers result ≡ needs_answers body.now }
+    fn of(message: &Message) -> Kind
+        ensures { has_answers result ≡ needs_answers message.now.body }
     {
-        match body {
+        match &message.body {
+            Body::Fields(_) if message.context.is_some() => Kind::StructInContext,
             Body::Fields(_) => Kind::Struct,
             Body::Values { is_open: true, .. } => Kind::Open,
             Body::Values { .. } => Kind::Values,
             Body::Choice { .. } => Kind::Choice,
+            Body::Sum { .. } if message.context.is_some() => Kind::Select,
+            Body::Sum { .. } => Kind::Sum,
         }
     }
 
@@ -59,9 +68,12 @@ impl Kind {
     pub fn templates(self) -> Templates {
         match self {
             Kind::Struct => structs::templates(),
+            Kind::StructInContext => structs_in_context::templates(),
             Kind::Values => values::templates(),
             Kind::Open => opens::templates(),
             Kind::Choice => choices::templates(),
+            Kind::Sum => templates::tagged(),
+            Kind::Select => templates::chosen(),
         }
     }
 
@@ -71,7 +83,7 @@ impl Kind {
     {
         match self {
             Kind::Values | Kind::Choice => true,
-            Kind::Struct | Kind::Open => false,
+            Kind::Struct | Kind::StructInContext | Kind::Open | Kind::Sum | Kind::Select => false,
         }
     }
 }
@@ -85,15 +97,12 @@ impl<'a> Form<'a> {
         ensures { IfOk result (λ form. has_answers form.kind ≡ needs_answers message.now.body) }
     {
         let mut form = Form {
-            kind: Kind::of(&message.body),
+            kind: Kind::of(message),
             is_lent: message.is_lent,
             holes: Holes::new(alloc),
             parts: Vec::new(alloc),
-            uses: Uses {
-                own: message.name.as_str(),
-                types: Vec::new(alloc),
-                cited: Vec::new(alloc),
-            },
+            uses: Uses::new(alloc, message.name.as_str()),
+            cases: &[],
         };
         form.set_message(alloc, names, message)?;
         form.set_body(alloc, names, message)?;
@@ -131,23 +140,106 @@ impl<'a> Form<'a> {
     ) -> Result<(), AllocError>
         ensures { self.new.kind ≡ self.old.kind }
     {
+        if let Some(context) = &message.context {
+            contexts::set(alloc, names, &mut self.holes, &mut self.uses, context)?;
+        }
         match &message.body {
             Body::Fields(members) => {
-                let (of, uses) = (Owner::Struct, &mut self.uses);
-                let row = Row::of(alloc, names, of, self.is_lent, members, uses)?;
-                row.set(alloc, &mut self.holes)?;
+                let is_in_context = message.context.is_some();
+                self.set_fields(alloc, names, is_in_context, members)?;
             }
             Body::Values { width, values, .. } => {
                 set_tag(alloc, &mut self.holes, *width)?;
                 self.parts = values_of(alloc, &self.holes, values)?;
+                self.set_selector(alloc, names, message)?;
             }
             Body::Choice { width, variants } => {
                 set_tag(alloc, &mut self.holes, *width)?;
-                let (is_lent, uses) = (self.is_lent, &mut self.uses);
-                self.parts = cases_of(alloc, names, &self.holes, is_lent, variants, uses)?;
+                let (of, uses) = ((Owner::Variant, self.is_lent), &mut self.uses);
+                self.parts = cases_of(alloc, names, &self.holes, of, variants, uses)?;
+            }
+            Body::Sum {
+                width,
+                length,
+                variants,
+            } => {
+                set_tag(alloc, &mut self.holes, *width)?;
+                self.set_sum(alloc, names, *length, variants)?;
             }
         }
         Ok(())
+    }
+
+    // Sets the holes of a struct's fields.
+    fn set_fields(
+        &mut self,
+        alloc: Global,
+        names: &Names<'a>,
+        is_in_context: bool,
+        members: &'a [Member],
+    ) -> Result<(), AllocError>
+        ensures { self.new.kind ≡ self.old.kind }
+    {
+        let (of, uses) = (Owner::of_struct(is_in_context), &mut self.uses);
+        let row = Row::of(alloc, names, of, self.is_lent, members, uses)?;
+        row.set(alloc, &mut self.holes)?;
+        if !is_in_context {
+            return Ok(());
+        }
+        if members.len() <= 3 {
+            return self.holes.set_each(alloc, &structs_in_context::FEW);
+        }
+        self.cases = &CASES_OF_STRUCT;
+        self.holes.set_each(alloc, &structs_in_context::MANY)
+    }
+
+    // Sets the holes of what an enum of numbers has if it is a context.
+    fn set_selector(
+        &mut self,
+        alloc: Global,
+        names: &Names<'a>,
+        message: &Message,
+    ) -> Result<(), AllocError>
+        ensures { self.new.kind ≡ self.old.kind }
+    {
+        if !names.is_context(message.name.as_str()) {
+            return self.holes.set_each(alloc, &selectors::NONE);
+        }
+        self.cases = &SELECTOR;
+        let texts = match self.kind {
+            Kind::Open => &selectors::OPEN,
+            _ => &selectors::CLOSED,
+        };
+        self.holes.set_each(alloc, texts)
+    }
+
+    // Sets the holes of a sum's cases, in a length of so many bytes if there is one.
+    fn set_sum(
+        &mut self,
+        alloc: Global,
+        names: &Names<'a>,
+        length: Option<usize>,
+        variants: &'a [Variant],
+    ) -> Result<(), AllocError>
+        ensures { self.new.kind ≡ self.old.kind }
+    {
+        if let Some(length) = length {
+            self.holes.set_number(alloc, "length", length as u64)?;
+            self.holes
+                .set_all(alloc, &[("field", length_field(length))])?;
+        }
+        let (of, uses) = ((Owner::Case, self.is_lent), &mut self.uses);
+        self.parts = cases_of(alloc, names, &self.holes, of, variants, uses)?;
+        sums::set_cases(alloc, &mut self.parts, length.is_some(), variants)?;
+        let wrapping = match length {
+            Some(_) => &templates::TAGGED,
+            None => &templates::CHOSEN,
+        };
+        self.cases = match length {
+            Some(_) => &CASES_OF_SUM,
+            None => &CASES_OF_SELECT,
+        };
+        sums::set(alloc, &mut self.holes, &self.parts, wrapping)
     }
 
     // Sets the holes for texts with a line for each value or case.
@@ -157,7 +249,7 @@ impl<'a> Form<'a> {
         match self.kind {
             Kind::Values => self.holes.set("has", has(alloc, &self.parts)?)?,
             Kind::Choice => self.set_names(alloc)?,
-            Kind::Struct | Kind::Open => {}
+            _ => {}
         }
         lines::set(
             alloc,
@@ -180,85 +272,6 @@ impl<'a> Form<'a> {
         self.holes
             .set_each(alloc, &[("nothing", nothing), ("names_use", names_use)])
     }
-}
-
-fn values_of(alloc: Global, holes: &Holes, values: &[Value]) -> Result<Vec<Part>, AllocError> {
-    let mut parts = Vec::new(alloc);
-    for value in values {
-        let texts = [
-            ("variant", value.name.as_str()),
-            ("label", value.label.as_str()),
-            ("constant", value.constant.as_str()),
-        ];
-        let at = parts.len();
-        parts.push(Part::of(alloc, holes, 0, at, &texts, value.number)?)?;
-    }
-    Ok(parts)
-}
-
-fn cases_of<'a>(
-    alloc: Global,
-    names: &Names<'a>,
-    holes: &Holes,
-    is_lent: bool,
-    variants: &'a [Variant],
-    uses: &mut Uses<'a>,
-) -> Result<Vec<Part>, AllocError> {
-    let mut parts = Vec::new(alloc);
-    for variant in variants {
-        let at = parts.len();
-        let members = variant.fields.as_slice();
-        let row = Row::of(alloc, names, Owner::Variant, is_lent, members, uses)?;
-        parts.push(case(alloc, holes, at, variant, &row)?)?;
-    }
-    Ok(parts)
-}
-
-fn case(
-    alloc: Global,
-    holes: &Holes,
-    at: usize,
-    variant: &Variant,
-    row: &Row,
-) -> Result<Part, AllocError> {
-    let texts = [
-        ("variant", variant.name.as_str()),
-        ("label", variant.label.as_str()),
-        ("constant", variant.constant.as_str()),
-    ];
-    let mut part = Part::of(alloc, holes, variant.fields.len(), at, &texts, variant.tag)?;
-    row.set(alloc, &mut part.holes)?;
-    part.set_fields(alloc)?;
-    Ok(part)
-}
-
-// Whether a case has no fields.
-fn has_bare(parts: &[Part]) -> bool {
-    for part in parts {
-        if part.fields == 0 {
-            return true;
-        }
-    }
-    false
-}
-
-// Which numbers there are: `(n == 1) || ((n == 2) || (n == 3))`.
-fn has(alloc: Global, parts: &[Part]) -> Result<String, AllocError> {
-    let mut out = String::new(alloc);
-    let last = parts.len().saturating_sub(1);
-    for (i, part) in parts.iter().enumerate() {
-        let template = match last.saturating_sub(i) {
-            0 if last == 0 => "n == $number$",
-            0 => "(n == $number$)",
-            1 => "(n == $number$) || ",
-            _ => "(n == $number$) || (",
-        };
-        part.holes.push(alloc, &mut out, template)?;
-    }
-    for _ in 1..last {
-        out.push_str(")")?;
-    }
-    Ok(out)
 }
 
 fn doc(alloc: Global, text: &str) -> Result<String, AllocError> {
@@ -305,105 +318,3 @@ fn set_tag(alloc: Global, holes: &mut Holes, width: usize) -> Result<(), AllocEr
     set_width(alloc, holes, width)?;
     holes.set_all(alloc, if width == 8 { &OF_U64 } else { &OF_TAG })
 }
-
-// What the first part of all doesn't have.
-static LATER: [(&str, &str); 5] = [
-    ("later", "-in-$variant$"),
-    ("open", "("),
-    ("close", ")"),
-    ("comma", ", "),
-    ("line", "\n"),
-];
-
-static FIRST: [(&str, &str); 5] = [
-    ("later", ""),
-    ("open", ""),
-    ("close", ""),
-    ("comma", ""),
-    ("line", ""),
-];
-
-impl Part {
-    // A part of so many fields. It has the holes of the message and of its tag, these texts, `number`, and those of
-    // its position.
-    fn of(
-        alloc: Global,
-        of_message: &Holes,
-        fields: usize,
-        at: usize,
-        texts: &[(&'static str, &str)],
-        number: u64,
-    ) -> Result<Part, AllocError> {
-        let mut holes = Holes::new(alloc);
-        holes.set_as(of_message)?;
-        holes.set_all(alloc, texts)?;
-        holes.set_number(alloc, "number", number)?;
-        holes.set_each(alloc, if at == 0 { &FIRST } else { &LATER })?;
-        Ok(Part { fields, holes })
-    }
-
-    // Sets the holes `lefts`, `rights` and `value`: variables for the fields of two, as `a0 a1` and `b0 b1`, and the
-    // variant with the first, as `(Both a0 a1)`; and those of `SAID`.
-    fn set_fields(&mut self, alloc: Global) -> Result<(), AllocError> {
-        self.holes.set("lefts", numbered(alloc, "a", self.fields)?)?;
-        self.holes
-            .set("rights", numbered(alloc, "b", self.fields)?)?;
-        let value = match self.fields {
-            0 => "$variant$",
-            _ => "($variant$ $lefts$)",
-        };
-        self.holes.set_each(alloc, &[("value", value)])?;
-        self.holes.set_each(
-            alloc,
-            if self.fields == 1 {
-                &SAID_OF_ONE
-            } else {
-                &SAID
-            },
-        )
-    }
-}
-
-// So many variables, as `a0 a1`.
-fn numbered(alloc: Global, letter: &str, count: usize) -> Result<String, AllocError> {
-    let mut out = String::new(alloc);
-    for i in 0..count {
-        if i > 0 {
-            out.push_str(" ")?;
-        }
-        write!(out, "{letter}{i}")?;
-    }
-    Ok(out)
-}
-
-// What the call for a case's fields ensures. A field that is alone is a part of the case, by a lemma.
-static SAID: [(&str, &str); 5] = [
-    ("leaves", "c.in_err-$first$-in-$number$.ensures.reads"),
-    ("named", "c.in_err-$first$-in-$number$.ensures.named"),
-    ("given", "c.in_ok-$first$-in-$number$.ensures.reads"),
-    ("refuses", "c.in_err-$first$-in-$number$.ensures.splits"),
-    ("begins", "c.in_ok-$first$-in-$number$.ensures.splits"),
-];
-
-static SAID_OF_ONE: [(&str, &str); 5] = [
-    (
-        "leaves",
-        "(part_leaves c.in_err-$first$-in-$number$.ensures.reads)",
-    ),
-    (
-        "named",
-        "(part_named _ c.in_err-$first$-in-$number$.ensures.named)",
-    ),
-    (
-        "given",
-        "(part_given source.gives_in_order source.gives_nothing c.in_ok-$first$-in-$number$.ensures.reads)",
-    ),
-    (
-        "refuses",
-        "(part_refuses c.in_err-$first$-in-$number$.ensures.splits)",
-    ),
-    (
-        "begins",
-        "(part_begins c.in_ok-$first$-in-$number$.ensures.splits)",
-    ),
-];

@@ -1,7 +1,9 @@
 //! Which lines of imports a text needs.
 
 use crate::types::Names;
-use crate::vocabulary::{CLAUSES, CONTENTS, LAWS, LEMMAS, NAMES, PRELUDE, WORDS};
+use crate::vocabulary::{
+    CHOSEN, CLAUSES, CONTENTS, ENCLOSED, LAWS, LEMMAS, NAMES, PRELUDE, SUMS, WORDS,
+};
 use std::alloc::{AllocError, Global};
 
 /// The words of a text, other than those of its comments.
@@ -73,6 +75,9 @@ pub fn push_definitions(alloc: Global, out: &mut String, text: &str) -> Result<(
         ("Rattle.std.specs.Prelude", PRELUDE.as_slice()),
         ("Rattle.tls_codec.specs.OwnMessages", WORDS.as_slice()),
         ("Rattle.tls_codec.specs.Contents", CONTENTS.as_slice()),
+        ("Rattle.tls_codec_cases.specs.Sums", SUMS.as_slice()),
+        ("Rattle.tls_codec_cases.specs.Enclosed", ENCLOSED.as_slice()),
+        ("Rattle.tls_codec_cases.specs.Chosen", CHOSEN.as_slice()),
     ];
     push_uses(alloc, out, text, &brought)
 }
@@ -111,12 +116,13 @@ pub fn push_clauses(alloc: Global, out: &mut String, text: &str) -> Result<(), A
     writeln!(out, "ghost use Rattle.std.specs.Prelude.{{{names}}};")
 }
 
-/// The lines of a module, which has these types of its crate and of others.
+/// The lines of a module, which has these types of its crate and of others, and may have these names of the cases.
 pub fn code(
     alloc: Global,
     names: &Names<'_>,
     text: &str,
     types: &[&str],
+    cases: &[&'static str],
 ) -> Result<String, AllocError> {
     let mut lines = UseLines::new(alloc);
     lines.add_types(alloc, names, None, types)?;
@@ -129,7 +135,17 @@ pub fn code(
         "std::alloc",
         text.used(alloc, &["Global"])?.as_slice(),
     )?;
+    lines.add(
+        alloc,
+        "std::marker",
+        text.used(alloc, &["PhantomData"])?.as_slice(),
+    )?;
     lines.add(alloc, "tls_codec", text.used(alloc, &NAMES)?.as_slice())?;
+    lines.add(
+        alloc,
+        "tls_codec_cases",
+        text.used(alloc, cases)?.as_slice(),
+    )?;
     lines.into_text(alloc)
 }
 

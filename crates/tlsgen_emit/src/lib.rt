@@ -4,23 +4,31 @@
 //! - [`shows`]: [`file_of`](shows::file_of), the module that shows messages as a tree.
 //! - `code`, `specs` and `proofs`: the texts of `src/`, `specs/` and the answers, by `templates`; `imports`: which
 //!   lines of imports a text needs, by the `vocabulary`; `breaks`: where long lines are broken.
-//! - `forms`: a message as what stands for the holes of its templates; `template` and `lines` fill these.
-//! - `types`: what stands for a type of the plan. `rows`, `nesting` and `joining`: fields in a row, as tuples that nest.
+//! - `forms`: a message as what stands for the holes of its templates; `template` and `lines` fill these. `parts`: its values
+//!   or cases; `sums`: cases that nest; `contexts`: what decides its parts. `uses`: the names that it brings in.
+//! - `types`: what stands for a type of the plan. `rows`, `fields`, `owners`, `nesting` and `joining`: fields in a row, as
+//!   tuples that nest.
 #![tactic(auto)]
 
 mod breaks;
 mod code;
+mod contexts;
+mod fields;
 pub mod file;
 mod forms;
 mod imports;
 mod joining;
 mod lines;
 mod nesting;
+mod owners;
+mod parts;
 mod proofs;
 mod rows;
 pub mod shows;
 mod specs;
+mod sums;
 mod template;
 mod templates;
 mod types;
+mod uses;
 mod vocabulary;

@@ -1,6 +1,6 @@
 //! Texts with a line for each value or case of a message.
 
-use crate::forms::Part;
+use crate::parts::Part;
 use crate::template::Holes;
 use std::alloc::{AllocError, Global};
 

@@ -1,20 +1,16 @@
 //! Fields in a row, as tuples that nest.
 
+use crate::fields::{Field, listed};
 use crate::imports::is_between_words;
 use crate::joining::{FORMATS, Join, LAWS, Rows, TREES, grouped};
 use crate::nesting::Nesting;
+use crate::owners::Owner;
 use crate::template::Holes;
-use crate::types::{Names, Words, par};
+use crate::types::{Names, par};
+use crate::uses::Uses;
 use std::alloc::{AllocError, Global};
 use tlsgen_model::lent::runs_of;
 use tlsgen_model::plan::Member;
-
-/// What has the fields: there is a tag before those of a variant.
-#[derive(Clone, Copy)]
-pub enum Owner {
-    Struct,
-    Variant,
-}
 
 /// The fields of a struct or of a variant.
 #[derive(Drop)]
@@ -25,43 +21,13 @@ pub struct Row {
     nesting: Nesting,
 }
 
-// A field, as the holes of its type and `name`, `declared`, `type`, `tree_of` and `alike`.
-#[derive(Drop)]
-struct Field {
-    /// It is lent itself, and so has references and is none.
-    is_lent: bool,
-    holes: Holes,
-}
+// What a slice decoder binds beside the bytes that are left, and how that is taken apart: at once, or in steps of its own.
+static AT_ONCE: [(&str, &str); 2] = [("split", "$pattern$"), ("apart", "")];
 
-static DECLARED_IN_STRUCT: &str = "    /// `$declared$`
-    pub $name$: $type$,
-";
-
-static DECLARED_IN_VARIANT: &str = "        /// `$declared$`
-        $name$: $type$,
-";
-
-static SHOWN_IN_STRUCT: &str = "        self.$name$.show(tree, \"$name$\")?;
-";
-
-static SHOWN_IN_VARIANT: &str = "                $name$.show(tree, \"$name$\")?;
-";
-
-// A field of a value, and of two that are compared.
-static IN_STRUCT: [(&str, &str); 3] = [
-    ("v", "v.$name$$now$"),
-    ("left", "x.$name$$now$"),
-    ("right", "y.$name$$now$"),
-];
-
-static IN_VARIANT: [(&str, &str); 3] = [
-    ("v", "a$at$$now$"),
-    ("left", "a$at$$now$"),
-    ("right", "b$at$$now$"),
-];
+static IN_STEPS: [(&str, &str); 2] = [("split", "parts"), ("apart", "$lets$")];
 
 impl Row {
-    /// The fields of a struct in three groups at most, or those of a variant in two.
+    /// The fields of a struct or of a case in three groups at most, or those of a variant in two.
     pub fn of<'a>(
         alloc: Global,
         names: &Names<'a>,
@@ -75,7 +41,8 @@ impl Row {
             let words = names.words(alloc, &member.of)?;
             uses.add(&words)?;
             let at = fields.len();
-            fields.push(Field::of(alloc, owner, is_lent, at, member, words)?)?;
+            let is_copied = names.is_copied(&member.of);
+            fields.push(Field::of(alloc, owner, is_lent, at, member, words, is_copied)?)?;
         }
         let nesting = nesting_of(alloc, owner, fields.as_slice())?;
         Ok(Row {
@@ -86,23 +53,25 @@ impl Row {
         })
     }
 
-    /// Sets the holes `fields`, `first`, `stated`, `declared`, `lent`, `shown`, `pattern`, `types`, `path`, `alike`,
-    /// `gap`, `plain`, `format` and `law`.
+    /// Sets the holes `fields`, `first`, `stated`, `declared`, `lent`, `lent_types`, `shown`, `pattern`, `lets`, `types`,
+    /// `path`, `split`, `apart`, `alike`, `gap`, `plain`, `format` and `law`.
     pub fn set(&self, alloc: Global, holes: &mut Holes) -> Result<(), AllocError> {
         self.set_lists(alloc, holes)?;
         self.set_first(alloc, holes)?;
         self.set_tuples(alloc, holes)?;
         self.set_definitions(alloc, holes)?;
         holes.set("alike", self.alike(alloc)?)?;
-        holes.set("lent", self.lent(alloc)?)
+        holes.set("lent", self.lent(alloc)?)?;
+        let groups = self.lent_groups(alloc, &TYPES)?;
+        holes.set(
+            "lent_types",
+            Join::Tuple.joined(alloc, groups.as_slice(), " ")?,
+        )
     }
 
     // The fields one after another.
     fn set_lists(&self, alloc: Global, holes: &mut Holes) -> Result<(), AllocError> {
-        let (declared, shown) = match self.owner {
-            Owner::Struct => (DECLARED_IN_STRUCT, SHOWN_IN_STRUCT),
-            Owner::Variant => (DECLARED_IN_VARIANT, SHOWN_IN_VARIANT),
-        };
+        let (declared, shown) = self.owner.lines();
         let lists = [
             ("fields", "$name$", ", "),
             ("declared", declared, ""),
@@ -128,20 +97,57 @@ impl Row {
 
     // The type of the tuple, also as a path, as `VLBytes` or `<(u8, u16)>`, and its pattern.
     fn set_tuples(&self, alloc: Global, holes: &mut Holes) -> Result<(), AllocError> {
-        for (word, template) in [("pattern", "$name$"), ("types", "$type$")] {
+        for (word, template) in [("pattern", "$bound$"), ("types", "$part$")] {
             holes.set(word, self.nested(alloc, template, Join::Tuple, " ")?)?;
         }
+        holes.set("lets", self.lets(alloc)?)?;
         let types = holes.filled(alloc, "$types$")?;
-        holes.set("path", path(alloc, types)?)
+        holes.set("path", path(alloc, types)?)?;
+        let split = if self.has_late_array() {
+            &IN_STEPS
+        } else {
+            &AT_ONCE
+        };
+        holes.set_each(alloc, split)
+    }
+
+    // Whether an array is behind a field that is moved: the borrow checker doesn't cover that within a pattern.
+    fn has_late_array(&self) -> bool {
+        let mut is_moved = false;
+        for field in &self.fields {
+            if field.is_array && is_moved {
+                return true;
+            }
+            is_moved = is_moved || field.is_moved;
+        }
+        false
+    }
+
+    // The lines that take the fields of the tuple `parts`: each group after the other where some are tuples, since the borrow
+    // checker takes no array out of a tuple in a tuple, another part of which is moved.
+    fn lets(&self, alloc: Global) -> Result<String, AllocError> {
+        let parts = self.parts(alloc, "$bound$", Join::Tuple)?;
+        let counts = self.nesting.counts.as_slice();
+        let groups = grouped(alloc, parts.as_slice(), counts, Join::Tuple)?;
+        let mut names = Vec::new(alloc);
+        let mut lines = String::new(alloc);
+        for (at, (group, size)) in groups.iter().zip(&self.nesting.groups).enumerate() {
+            if *size > 1 {
+                names.push(format!(in alloc; "parts_{at}")?)?;
+                writeln!(lines, "        let {group} = parts_{at};")?;
+            } else {
+                names.push(group.clone()?)?;
+            }
+        }
+        let all = Join::Tuple.joined(alloc, names.as_slice(), " ")?;
+        format!(in alloc; "        let {all} = parts;\n{lines}")
     }
 
     // What the fields stand for, their format and its law. Each part has its own line in a struct of more
     // than three fields.
     fn set_definitions(&self, alloc: Global, holes: &mut Holes) -> Result<(), AllocError> {
-        let gap = match self.owner {
-            Owner::Struct if self.fields.len() > 3 => "\n    ",
-            _ => " ",
-        };
+        let has_lines = self.owner.is_struct() && self.fields.len() > 3;
+        let gap = if has_lines { "\n    " } else { " " };
         holes.set_all(alloc, &[("gap", gap)])?;
         let texts = [
             ("plain", "$tree_of$", &TREES),
@@ -154,7 +160,7 @@ impl Row {
         Ok(())
     }
 
-    // A struct of one field is that field, and what a variant has is a part of more.
+    // A struct or a case of one field is that field, and what a variant has is a part of more.
     fn defined(
         &self,
         alloc: Global,
@@ -163,10 +169,15 @@ impl Row {
         gap: &str,
     ) -> Result<String, AllocError> {
         let join = Join::Words(rows);
-        match (self.owner, self.fields.as_slice()) {
-            (Owner::Struct, [only]) => only.holes.filled(alloc, template),
-            (Owner::Struct, _) => self.nested(alloc, template, join, gap),
-            (Owner::Variant, _) => par(alloc, self.nested(alloc, template, join, gap)?),
+        let text = match (self.owner, self.fields.as_slice()) {
+            (Owner::Variant, _) => self.nested(alloc, template, join, gap)?,
+            (_, [only]) => only.holes.filled(alloc, template)?,
+            _ => self.nested(alloc, template, join, gap)?,
+        };
+        if self.owner.is_struct() {
+            Ok(text)
+        } else {
+            par(alloc, text)
         }
     }
 
@@ -216,70 +227,89 @@ impl Row {
     // itself.
     fn lent(&self, alloc: Global) -> Result<String, AllocError> {
         match (self.owner, self.fields.as_slice()) {
-            (Owner::Struct, [only]) => only.holes.filled(alloc, "self.$name$"),
+            (Owner::Struct | Owner::StructInContext, [only]) => {
+                only.holes.filled(alloc, "self.$name$")
+            }
+            (Owner::StructInContext, _) => self.nested(alloc, "$lend$", Join::Tuple, " "),
             (Owner::Struct, _) => {
-                let template = if self.is_lent {
-                    "self.$name$"
-                } else {
-                    "&self.$name$"
-                };
-                let lent = self.lent_groups(alloc, template)?;
+                let lending = if self.is_lent { &OF_LENT } else { &OF_SELF };
+                let lent = self.listed_groups(alloc, lending)?;
                 format!(in alloc; "({lent})")
             }
-            (Owner::Variant, _) => self.lent_groups(alloc, "$name$"),
+            (Owner::Variant, _) => self.listed_groups(alloc, &MATCHED),
+            (Owner::Case, _) => {
+                let groups = self.lent_groups(alloc, &MATCHED)?;
+                Join::Tuple.joined(alloc, groups.as_slice(), " ")
+            }
         }
     }
 
-    fn lent_groups(&self, alloc: Global, template: &str) -> Result<String, AllocError> {
-        let mut out = String::new(alloc);
+    fn listed_groups(&self, alloc: Global, lending: &Lending) -> Result<String, AllocError> {
+        self.lent_groups(alloc, lending)?
+            .as_slice()
+            .join(alloc, ", ")
+    }
+
+    fn lent_groups(&self, alloc: Global, lending: &Lending) -> Result<Vec<String>, AllocError> {
+        let mut groups = Vec::new(alloc);
         let mut left = self.fields.as_slice();
         for size in &self.nesting.groups {
             let Some((group, others)) = left.split_at_checked(*size) else {
                 break;
             };
             left = others;
-            push_lent(alloc, &mut out, group, template)?;
-            if !left.is_empty() {
-                out.push_str(", ")?;
+            groups.push(lending.lent(alloc, group)?)?;
+        }
+        Ok(groups)
+    }
+}
+
+// How fields are lent: each by this template, in brackets.
+struct Lending {
+    template: &'static str,
+    open: &'static str,
+    close: &'static str,
+}
+
+static OF_SELF: Lending = Lending {
+    template: "&self.$name$",
+    open: "(",
+    close: ")",
+};
+
+static OF_LENT: Lending = Lending {
+    template: "self.$name$",
+    open: "(",
+    close: ")",
+};
+
+static MATCHED: Lending = Lending {
+    template: "$name$",
+    open: "(",
+    close: ")",
+};
+
+// The type of what is lent.
+static TYPES: Lending = Lending {
+    template: "$type$",
+    open: "<'a, ",
+    close: ">",
+};
+
+impl Lending {
+    // A group as it is lent. One field is lent by `Lent`, unless it is lent itself.
+    fn lent(&self, alloc: Global, group: &[Field]) -> Result<String, AllocError> {
+        let (open, close) = (self.open, self.close);
+        let texts = listed(alloc, group, self.template, ", ")?;
+        match group {
+            [only] if only.is_lent => Ok(texts),
+            [_] => format!(in alloc; "Lent{open}{texts}{close}"),
+            _ => {
+                let size = group.len();
+                format!(in alloc; "Lent{size}{open}{texts}{close}")
             }
         }
-        Ok(out)
     }
-}
-
-// Adds a group as it is lent. One field is lent by `Lent`, unless it is lent itself.
-fn push_lent(
-    alloc: Global,
-    out: &mut String,
-    group: &[Field],
-    template: &str,
-) -> Result<(), AllocError> {
-    let texts = listed(alloc, group, template, ", ")?;
-    match group {
-        [only] if only.is_lent => out.push_str(texts.as_str()),
-        [_] => write!(out, "Lent({texts})"),
-        _ => {
-            let size = group.len();
-            write!(out, "Lent{size}({texts})")
-        }
-    }
-}
-
-// A text for each field, with another between each two.
-fn listed(
-    alloc: Global,
-    fields: &[Field],
-    template: &str,
-    between: &str,
-) -> Result<String, AllocError> {
-    let mut out = String::new(alloc);
-    for (i, field) in fields.iter().enumerate() {
-        if i > 0 {
-            out.push_str(between)?;
-        }
-        field.holes.push(alloc, &mut out, template)?;
-    }
-    Ok(out)
 }
 
 // How the fields nest: by what is lent, or in as few groups as there may be.
@@ -291,65 +321,7 @@ fn nesting_of(alloc: Global, owner: Owner, fields: &[Field]) -> Result<Nesting, 
     if are_lent.contains(&true) {
         return Nesting::of_groups(alloc, runs_of(alloc, &are_lent)?);
     }
-    let most = match owner {
-        Owner::Struct => 3,
-        Owner::Variant => 2,
-    };
-    Nesting::of(alloc, fields.len(), most)
-}
-
-impl Field {
-    fn of<'a>(
-        alloc: Global,
-        owner: Owner,
-        is_lent: bool,
-        at: usize,
-        member: &'a Member,
-        words: Words<'a>,
-    ) -> Result<Field, AllocError> {
-        let mut field = Field {
-            is_lent: words.is_lent,
-            holes: words.texts,
-        };
-        let (now, reference) = if is_lent && !field.is_lent {
-            (".now", "&'a ")
-        } else {
-            ("", "")
-        };
-        let texts = [
-            ("name", member.name.as_str()),
-            ("declared", member.declared.as_str()),
-            ("named", words.named.unwrap_or("")),
-            ("now", now),
-            ("reference", reference),
-        ];
-        field.holes.set_all(alloc, &texts)?;
-        field.holes.set_number(alloc, "at", at as u64)?;
-        field.set_values(alloc, owner)?;
-        Ok(field)
-    }
-
-    // Sets what is said of values. In a clause no lifetime is declared.
-    fn set_values(&mut self, alloc: Global, owner: Owner) -> Result<(), AllocError> {
-        let values = match owner {
-            Owner::Struct => &IN_STRUCT,
-            Owner::Variant => &IN_VARIANT,
-        };
-        self.holes.set_each(alloc, values)?;
-        let compared = if self.is_lent {
-            "$named$<'static>"
-        } else {
-            "$rust$"
-        };
-        let tree = self.holes.filled(alloc, "$tree$")?;
-        let texts = [
-            ("compared", compared),
-            ("alike", "⟦<$compared$ as PartialEq>⟧.eq $left$ $right$"),
-            ("type", "$reference$$rust$"),
-            ("tree_of", tree.as_str()),
-        ];
-        self.holes.set_each(alloc, &texts)
-    }
+    Nesting::of(alloc, fields.len(), owner.most())
 }
 
 // A type in front of `::`.
@@ -359,36 +331,4 @@ fn path(alloc: Global, of: String) -> Result<String, AllocError> {
     } else {
         Ok(of)
     }
-}
-
-/// The names that the types of a message's fields bring in, each once.
-#[derive(Drop)]
-pub struct Uses<'a> {
-    /// The message itself, which brings in nothing.
-    pub own: &'a str,
-    /// Types of the crate.
-    pub types: Vec<&'a str>,
-    /// Messages whose definitions are cited.
-    pub cited: Vec<&'a str>,
-}
-
-impl<'a> Uses<'a> {
-    fn add(&mut self, words: &Words<'a>) -> Result<(), AllocError> {
-        push_once(&mut self.types, self.own, words.named)?;
-        push_once(&mut self.cited, self.own, words.cited)
-    }
-}
-
-// Adds a name that isn't there, and isn't the message's own.
-fn push_once<'a>(
-    names: &mut Vec<&'a str>,
-    own: &str,
-    name: Option<&'a str>,
-) -> Result<(), AllocError> {
-    if let Some(name) = name {
-        if name != own && !names.as_slice().contains(&name) {
-            names.push(name)?;
-        }
-    }
-    Ok(())
 }

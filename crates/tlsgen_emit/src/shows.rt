@@ -47,10 +47,10 @@ pub fn file_of(
 // Adds how a message is shown.
 fn push(alloc: Global, out: &mut String, form: &Form<'_>) -> Result<(), AllocError> {
     let lines = match form.kind {
-        Kind::Struct => return form.holes.push(alloc, out, shows::STRUCT),
+        Kind::Struct | Kind::StructInContext => return form.holes.push(alloc, out, shows::STRUCT),
         Kind::Values => &shows::VALUE_LINES,
         Kind::Open => &shows::NUMBER_LINES,
-        Kind::Choice => &shows::CASE_LINES,
+        Kind::Choice | Kind::Sum | Kind::Select => &shows::CASE_LINES,
     };
     push_lines(alloc, out, form, lines)
 }

@@ -33,6 +33,7 @@ pub fn file(alloc: Global, names: &Names<'_>, form: &Form<'_>) -> Result<String,
     let mut out = form.holes.filled(alloc, HEAD)?;
     imports::push_definitions(alloc, &mut out, body.as_str())?;
     push_cited(&mut out, names, form.uses.cited.as_slice())?;
+    push_selected(&mut out, names, form.uses.selected)?;
     form.holes.push(alloc, &mut out, DECLARED)?;
     breaks::push_definitions(alloc, &mut out, body.as_str())?;
     Ok(out)
@@ -43,11 +44,31 @@ fn push_cited(out: &mut String, names: &Names<'_>, cited: &[&str]) -> Result<(),
     for name in cited {
         if let Some(of) = names.module(name) {
             let home = names.other_crate(name).unwrap_or(names.own);
+            let end = if names.is_in_context(name) {
+                "_for"
+            } else {
+                ""
+            };
             writeln!(
                 out,
-                "use Rattle.{home}.specs.{name}.{{{of}_plain, {of}_format, {of}_meets}}"
+                "use Rattle.{home}.specs.{name}.{{{of}_plain, {of}_format{end}, {of}_meets{end}}}"
             )?;
         }
+    }
+    Ok(())
+}
+
+// Adds the line for the enum whose number decides the message's parts.
+fn push_selected(
+    out: &mut String,
+    names: &Names<'_>,
+    selected: Option<&str>,
+) -> Result<(), AllocError> {
+    if let Some(name) = selected
+        && let Some(of) = names.module(name)
+    {
+        let home = names.other_crate(name).unwrap_or(names.own);
+        writeln!(out, "use Rattle.{home}.specs.{name}.{{{of}_selected}}")?;
     }
     Ok(())
 }

@@ -3,8 +3,11 @@
 pub mod choices;
 pub mod choices_answers;
 pub mod opens;
+pub mod selectors;
 pub mod shows;
 pub mod structs;
+pub mod structs_in_context;
+pub mod sums;
 pub mod types;
 pub mod values;
 

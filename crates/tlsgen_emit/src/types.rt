@@ -5,10 +5,10 @@ ghost use Rattle.tlsgen_emit.specs.Texts.{bracketed};
 use crate::template::Holes;
 use crate::templates::types::{
     ARRAY, BOUNDED_BYTES, BOUNDED_LIST, BYTES, FIXED_BYTES, FIXED_LIST, Kind, LIST, MESSAGE,
-    NUMBER, NUMBER_OF_THREE_BYTES, OPTION, TEXT,
+    MESSAGE_IN_CONTEXT, NUMBER, NUMBER_OF_THREE_BYTES, OPTION, TEXT,
 };
 use std::alloc::{AllocError, Global};
-use tlsgen_model::plan::{Element, Message, Other, Plan, Shape, Type};
+use tlsgen_model::plan::{Body, Context, Element, Message, Other, Plan, Shape, Type};
 
 /// A type in texts.
 #[derive(Drop)]
@@ -185,8 +185,8 @@ impl<'a> Names<'a> {
         self.alone(alloc, kind, of_width(alloc, width)?)
     }
 
-    // The words for an element alone.
-    fn element(&self, alloc: Global, of: &'a Element) -> Result<Words<'a>, AllocError> {
+    /// The words for an element alone.
+    pub fn element(&self, alloc: Global, of: &'a Element) -> Result<Words<'a>, AllocError> {
         match of {
             Element::Integer(width) => self.number(alloc, *width),
             Element::Opaque => self.number(alloc, 1),
@@ -205,8 +205,13 @@ impl<'a> Names<'a> {
             alloc,
             &[("name", name), ("module", module), ("lifetime", lifetime)],
         )?;
+        let kind = if self.is_in_context(name) {
+            &MESSAGE_IN_CONTEXT
+        } else {
+            &MESSAGE
+        };
         Ok(Words {
-            texts: MESSAGE.texts(alloc, &holes)?,
+            texts: kind.texts(alloc, &holes)?,
             named: Some(name),
             cited: Some(name),
             is_lent,
@@ -233,6 +238,20 @@ impl<'a> Names<'a> {
         }
     }
 
+    /// Whether a type is one enum of numbers of the plan, which is copied.
+    pub fn is_copied(&self, of: &Type) -> bool {
+        if of.is_optional || !matches!(of.shape, Shape::One) {
+            return false;
+        }
+        let Element::Message(name) = &of.element else {
+            return false;
+        };
+        match self.own(name.as_str()) {
+            Some(message) => matches!(message.body, Body::Values { .. }),
+            None => false,
+        }
+    }
+
     // Whether the message with this name has references to its fields.
     fn is_lent(&self, name: &str) -> bool {
         match self.own(name) {
@@ -242,6 +261,27 @@ impl<'a> Names<'a> {
                 None => false,
             },
         }
+    }
+
+    /// Whether the message with this name is in a context.
+    pub fn is_in_context(&self, name: &str) -> bool {
+        match self.own(name) {
+            Some(message) => message.context.is_some(),
+            None => false,
+        }
+    }
+
+    /// Whether the message with this name is the context of one.
+    pub fn is_context(&self, name: &str) -> bool {
+        self.messages.iter().any(|message| match &message.context {
+            Some(
+                Context {
+                    of: Element::Message(of),
+                    ..
+                },
+            ) => of.as_str() == name,
+            _ => false,
+        })
     }
 
     /// The other crate that has this name.
@@ -292,15 +332,21 @@ fn of_len(alloc: Global, len: u64) -> Result<Holes, AllocError> {
 
 // A length of so many bytes, with bounds.
 fn of_length(alloc: Global, width: usize, least: u64, most: u64) -> Result<Holes, AllocError> {
-    let field = match width {
-        3 => "U24",
-        _ => "u$bits$",
-    };
     let mut holes = of_width(alloc, width)?;
-    holes.set_each(alloc, &[("field", field)])?;
+    holes.set_all(alloc, &[("field", length_field(width))])?;
     holes.set_number(alloc, "least", least)?;
     holes.set_number(alloc, "most", most)?;
     Ok(holes)
+}
+
+/// The type of a length of so many bytes.
+pub fn length_field(width: usize) -> &'static str {
+    match width {
+        1 => "u8",
+        2 => "u16",
+        3 => "U24",
+        _ => "u32",
+    }
 }
 
 // The greatest length of so many bytes.

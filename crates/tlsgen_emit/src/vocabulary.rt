@@ -24,7 +24,7 @@ pub static CLAUSES: [&str; 7] = [
 ];
 
 /// What definitions take of the codec.
-pub static WORDS: [&str; 53] = [
+pub static WORDS: [&str; 56] = [
     "Tree",
     "Number",
     "Empty",
@@ -54,7 +54,9 @@ pub static WORDS: [&str; 53] = [
     "pair_format",
     "triple_format",
     "values_format",
+    "chosen_format",
     "MeetsLaws",
+    "EachMeetsLaws",
     "MeetVariantLaws",
     "u8_meets",
     "u16_meets",
@@ -78,6 +80,7 @@ pub static WORDS: [&str; 53] = [
     "pair_meets",
     "triple_meets",
     "values_meet",
+    "chosen_meets",
 ];
 
 /// What definitions take of its types.
@@ -121,9 +124,12 @@ pub static LEMMAS: [&str; 24] = [
 ];
 
 /// What code takes of the codec.
-pub static NAMES: [&str; 30] = [
+pub static NAMES: [&str; 36] = [
+    "Always",
     "Deserialize",
     "DeserializeBytes",
+    "DeserializeBytesFor",
+    "DeserializeFor",
     "Error",
     "Lent",
     "Lent2",
@@ -134,9 +140,12 @@ pub static NAMES: [&str; 30] = [
     "Lent7",
     "Lent8",
     "Lent9",
+    "LentIn",
     "Serialize",
+    "SerializeFor",
     "Sink",
     "Size",
+    "SizeFor",
     "Source",
     "TlsByteVec",
     "TlsByteVecU8",
@@ -153,3 +162,19 @@ pub static NAMES: [&str; 30] = [
     "Within",
     "unknown_value",
 ];
+
+/// What definitions take of the cases.
+pub static SUMS: [&str; 2] = ["either_variants", "either_variants_meet"];
+
+pub static ENCLOSED: [&str; 2] = ["fixed_enclosed_format", "fixed_enclosed_meets"];
+
+pub static CHOSEN: [&str; 1] = ["number_of"];
+
+/// What code takes of them: a sum behind a tag, one in a context, a struct in a context, and a context.
+pub static CASES_OF_SUM: [&str; 6] = ["Case", "Enclosed", "Or", "Tagged", "append_as", "write_as"];
+
+pub static CASES_OF_SELECT: [&str; 5] = ["Case", "Chosen", "Or", "append_as_for", "write_as_for"];
+
+pub static CASES_OF_STRUCT: [&str; 2] = ["append_as_for", "write_as_for"];
+
+pub static SELECTOR: [&str; 1] = ["Selector"];

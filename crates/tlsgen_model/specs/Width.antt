@@ -1,8 +1,13 @@
--- How many bytes a tag may have, and how many a number needs.
-use Rattle.std.specs.Prelude.{ℕ, zero, suc, Bool, ◌==◌, ◌||◌, ◌<◌, ◌≤◌, ◌^◌}
+-- How many bytes a tag and a length may have, and how many a number needs.
+use Rattle.std.specs.Prelude.{ℕ, zero, suc, Bool, true, ◌==◌, ◌&&◌, ◌||◌, ◌<◌, ◌≤◌, ◌^◌, nat_le, nat_lt, Option, None, Some}
 
 abbrev pub is_tag_width : ℕ → Bool
 is_tag_width width = (width == 1) || (width == 2) || (width == 4) || (width == 8)
+
+-- no length, or one of 1 to 4 bytes
+abbrev pub is_length : Option ℕ → Bool
+is_length None = true
+is_length (Some width) = nat_lt 0 width && nat_le width 4
 
 -- so many bytes hold the number, and one byte fewer doesn't, or would be none
 abbrev pub IsLeastWidth : (number bytes : ℕ) → Type 0

@@ -5,9 +5,9 @@ use Rattle.std.specs.String.{string_eq}
 use Rattle.std.specs.Coded.{Π_prop}
 use Rattle.std.proofs.Props.{props}
 use Rattle.tlsgen_model.specs.Types.{IsType}
-use Rattle.tlsgen_model.specs.Width.{is_tag_width}
+use Rattle.tlsgen_model.specs.Width.{is_length, is_tag_width}
 use Rattle.tlsgen_model.specs.declared.plan.Body.{Body}
-use Rattle.tlsgen_model.specs.declared.plan.Body.TheVariants.{Values, Fields, Choice}
+use Rattle.tlsgen_model.specs.declared.plan.Body.TheVariants.{Values, Fields, Choice, Sum}
 use Rattle.tlsgen_model.specs.declared.plan.Member.{Member}
 use Rattle.tlsgen_model.specs.declared.plan.Message.{Message}
 use Rattle.tlsgen_model.specs.declared.plan.Value.{Value}
@@ -51,6 +51,9 @@ IsWritable (Fields fields) = (length fields.items ≤ 27) × HaveNames fields.it
 IsWritable (Choice width variants) =
     IsTrue (is_tag_width width) × HaveVariantNames variants.items × HaveTags variants.items ×
     All (IsCase width) variants.items
+IsWritable (Sum width length variants) =
+    IsTrue (is_tag_width width) × IsTrue (is_length length) × HaveVariantNames variants.items ×
+    HaveTags variants.items × All (IsCase width) variants.items
 
 -- each message has a module that no other has
 abbrev pub HaveModules : List Message → Type 0
@@ -63,6 +66,7 @@ IsWritable-prop : (body : Body) → IsProp (IsWritable body)
 IsWritable-prop (Values width is_open values) = Prim.hlevel props
 IsWritable-prop (Fields fields) = Prim.hlevel props
 IsWritable-prop (Choice width variants) = Prim.hlevel props
+IsWritable-prop (Sum width length variants) = Prim.hlevel props
 
 -- there is one proof of it at most
 pub AreWritable-prop : (messages : List Message) → IsProp (AreWritable messages)

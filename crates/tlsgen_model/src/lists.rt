@@ -1,10 +1,11 @@
 //! Lists in which each name and each number comes once.
-ghost use Rattle.std.specs.Prelude.{◌≡◌, [], ◌≤◌, ◌<◌, ◌^◌, nat_eq, IfOk, IfSome, length};
+ghost use Rattle.std.specs.Prelude.{◌≡◌, [], ◌≤◌, ◌<◌, ◌^◌, nat_eq, ◌↔◌, IfOk, IfSome, IsSome, IsTrue, length};
 ghost use Rattle.std.specs.List.{All, list_any};
 ghost use Rattle.std.specs.String.{string_eq};
 ghost use Rattle.std.proofs.Props.{props};
 ghost use Rattle.tlsgen_model.specs.Taking.{AppendsUnless, RefusesCase, RefusesValue, Takes, has_name_of};
 ghost use Rattle.tlsgen_model.specs.Types.{IsType};
+ghost use Rattle.tlsgen_model.specs.Width.{is_length};
 ghost use Rattle.tlsgen_model.specs.Writable.{HaveNames, HaveNumbers, HaveTags, HaveTypes, HaveValueNames, HaveVariantNames, IsCase, IsWritable};
 ghost use Rattle.tlsgen_model.specs.declared.plan.Body.TheVariants as bodies;
 
@@ -17,6 +18,15 @@ const MOST_FIELDS: usize = 27;
 
 // The most fields of a case.
 const MOST_OF_CASE: usize = 18;
+
+fn may_be_length(length: Option<usize>) -> bool
+    ensures { IsTrue result ↔ IsTrue (is_length length) }
+{
+    match length {
+        None => true,
+        Some(width) => 0 < width && width <= 4,
+    }
+}
 
 /// Why a value or a case isn't appended.
 #[derive(Clone, Copy, PartialEq)]
@@ -236,5 +246,22 @@ impl CaseList {
             width: self.width.bytes,
             variants: self.variants,
         }
+    }
+
+    /// What comes after the tag and a length, or, without a length, where the tag is the message's context. `None`: a length
+    /// has 1 to 4 bytes.
+    pub fn into_sum(self, length: Option<usize>) -> Option<Body>
+        ensures some { IsSome result ↔ IsTrue (is_length length) }
+        ensures body { IfSome result (λ body. body ≡ bodies.Sum self.width.bytes length self.variants) }
+        ensures writable { IfSome result IsWritable }
+    {
+        if !may_be_length(length) {
+            return None;
+        }
+        Some(Body::Sum {
+            width: self.width.bytes,
+            length,
+            variants: self.variants,
+        })
     }
 }

@@ -94,18 +94,25 @@ fn is_end_of_word(before: char, is_before_small: bool) -> bool {
         || (before.is_ascii_uppercase() && is_before_small)
 }
 
+// Each word between underscores with a capital first. One of capitals alone has small letters then.
 fn camel(alloc: Global, name: &str) -> Result<String, AllocError> {
     let mut out = String::new(alloc);
-    let mut before = '_';
-    for c in name.chars() {
-        if c != '_' {
-            out.push(if before == '_' {
-                c.to_ascii_uppercase()
-            } else {
-                c.to_ascii_lowercase()
-            })?;
-        }
-        before = c;
+    for word in name.split('_') {
+        push_capital(&mut out, word)?;
     }
     Ok(out)
+}
+
+fn push_capital(out: &mut String, word: &str) -> Result<(), AllocError> {
+    let is_mixed = word.chars().any(|c| c.is_ascii_lowercase());
+    let mut is_first = true;
+    for c in word.chars() {
+        out.push(match (is_first, is_mixed) {
+            (true, _) => c.to_ascii_uppercase(),
+            (false, true) => c,
+            (false, false) => c.to_ascii_lowercase(),
+        })?;
+        is_first = false;
+    }
+    Ok(())
 }

@@ -45,7 +45,18 @@ pub struct Message {
     pub is_lent: bool,
     /// What its doc comment says.
     pub doc: String,
+    /// What decides its parts, if that is in another struct.
+    pub context: Option<Context>,
     pub body: Body,
+}
+
+/// A tag in another struct, on which a message's selects are: the message is read and written in its context.
+#[derive(Drop)]
+pub struct Context {
+    /// The tag's name in Rust, as `content_type`.
+    pub name: String,
+    /// An integer of 1 or 2 bytes, or an enum of numbers.
+    pub of: Element,
 }
 
 #[derive(Drop)]
@@ -61,6 +72,13 @@ pub enum Body {
     /// A tag of `width` bytes (1, 2, 4 or 8), and what comes after each of its numbers.
     Choice {
         width: usize,
+        variants: Vec<Variant>,
+    },
+    /// What comes after each number of a tag of `width` bytes: behind the tag and a length of so many bytes (1 to 4),
+    /// which it fills, or alone, if the tag is the message's context.
+    Sum {
+        width: usize,
+        length: Option<usize>,
         variants: Vec<Variant>,
     },
 }
@@ -85,6 +103,8 @@ pub struct Variant {
     /// The name of its tag's constant, as `NEW_MEMBER_COMMIT`.
     pub constant: String,
     pub tag: u64,
+    /// Its one field is bytes in a vector, whose length is that of the sum.
+    pub fills: bool,
     pub fields: Vec<Member>,
 }
 
@@ -94,6 +114,8 @@ pub struct Member {
     /// Its name in Rust: that of the file, or another where that is a word of Rust or of the definitions.
     pub name: String,
     pub of: Type,
+    /// Its type is a message in the context of the message that has it.
+    pub is_in_context: bool,
     /// The line of the file, as `opaque group_id<V>;`.
     pub declared: String,
 }

@@ -33,8 +33,8 @@ static RUST: [&str; 57] = [
     "ensures", "result", "str",
 ];
 
-// What antt reserves, its tactics, and the words of `OwnMessages` and of `Contents`.
-static DEFINITIONS: [&str; 93] = [
+// What antt reserves, its tactics, and the words of `OwnMessages`, of `Contents` and of the cases.
+static DEFINITIONS: [&str; 100] = [
     "abbrev",
     "alone_appends",
     "alone_writes",
@@ -47,10 +47,14 @@ static DEFINITIONS: [&str; 93] = [
     "bytes_meets",
     "bytes_of",
     "cc",
+    "chosen_format",
+    "chosen_meets",
     "coe",
     "com",
     "data",
     "deriving",
+    "either_variants",
+    "either_variants_meet",
     "elements_of",
     "elim",
     "fcoe",
@@ -59,6 +63,8 @@ static DEFINITIONS: [&str; 93] = [
     "fixed_bytes_format",
     "fixed_bytes_meets",
     "fixed_bytes_of",
+    "fixed_enclosed_format",
+    "fixed_enclosed_meets",
     "fixed_list_format",
     "fixed_list_meets",
     "goal",
@@ -77,6 +83,7 @@ static DEFINITIONS: [&str; 93] = [
     "nothing_format",
     "nothing_meets",
     "number_format",
+    "number_of",
     "number_trees",
     "omega",
     "open",
@@ -131,11 +138,12 @@ static DEFINITIONS: [&str; 93] = [
 ];
 
 // What the decoders and the encoders call their own.
-static VARIABLES: [&str; 12] = [
-    "alloc", "code", "now", "old", "new", "out", "rest", "src", "tag", "unknown", "whole", "writer",
+static VARIABLES: [&str; 16] = [
+    "alloc", "code", "now", "old", "new", "out", "parts", "parts_0", "parts_1", "parts_2", "rest",
+    "src", "tag", "unknown", "whole", "writer",
 ];
 
-static MODULES: [&str; 8] = [
+static MODULES: [&str; 9] = [
     "core",
     "lib",
     "main",
@@ -144,21 +152,29 @@ static MODULES: [&str; 8] = [
     "specs",
     "std",
     "tls_codec",
+    "tls_codec_cases",
 ];
 
-static TYPES: [&str; 84] = [
+static TYPES: [&str; 99] = [
     "Abort",
     "AllocError",
     "AllocFailed",
+    "Always",
     "Box",
+    "Case",
+    "Cases",
+    "Chosen",
     "Clone",
     "Copy",
     "Debug",
     "Default",
     "Deserialize",
     "DeserializeBytes",
+    "DeserializeBytesFor",
+    "DeserializeFor",
     "Display",
     "Drop",
+    "Enclosed",
     "Eq",
     "Err",
     "Error",
@@ -184,13 +200,17 @@ static TYPES: [&str; 84] = [
     "Lent7",
     "Lent8",
     "Lent9",
+    "LentCases",
+    "LentIn",
     "MatchOption",
     "None",
     "Ok",
     "Option",
+    "Or",
     "Ord",
     "PartialEq",
     "PartialOrd",
+    "PhantomData",
     "Print",
     "Range",
     "Rattle",
@@ -200,16 +220,20 @@ static TYPES: [&str; 84] = [
     "SecretTlsByteVecU24",
     "SecretTlsByteVecU32",
     "SecretVLBytes",
+    "Selector",
     "Self",
     "Send",
     "Serialize",
+    "SerializeFor",
     "Sink",
     "Size",
+    "SizeFor",
     "Sized",
     "Some",
     "Source",
     "String",
     "Sync",
+    "Tagged",
     "TheConstants",
     "TheVariants",
     "TlsByteSliceU8",
@@ -233,9 +257,10 @@ static TYPES: [&str; 84] = [
     "Within",
 ];
 
-static CONSTRUCTORS: [&str; 21] = [
+static CONSTRUCTORS: [&str; 22] = [
     "Bool",
     "Contents",
+    "EachMeetsLaws",
     "Empty",
     "Err",
     "Format",

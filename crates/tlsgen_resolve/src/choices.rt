@@ -9,7 +9,10 @@ use crate::members::{ResolvedMember, copy, push_member};
 use crate::naming::{choice_doc, is_of_field, type_name, underscored};
 use crate::refuse::refused;
 use crate::resolver::Resolver;
-use crate::segment::{ResolvedPiece, ResolvedSelect, check_segment, nearest_select, only_select};
+use crate::segment::{
+    ResolvedPiece, ResolvedSelect, check_segment, counted_select, nearest_select, only_select,
+    refused_counting,
+};
 use crate::sequence::{IndexedField, Sequence, tag_of_select};
 use crate::types::declared;
 use tlsgen_model::lists::{CaseList, FieldList, Unfit};
@@ -49,7 +52,7 @@ impl<'a> Resolver<'a> {
         segment: &[ResolvedPiece<'a>],
     ) -> Result<(), Trouble> {
         let name = type_name(self.alloc, sequence.name)?;
-        let body = self.choice_body(tag, segment, sequence.name)?;
+        let body = self.choice_body(sequence, tag, segment, sequence.name)?;
         self.push_choice(sequence, tag.field, name, body)
     }
 
@@ -67,7 +70,7 @@ impl<'a> Resolver<'a> {
             return self.choice_member(tag.field, given, name);
         }
         let name = self.choice_name(sequence.name, tag.field, given)?;
-        let body = self.choice_body(tag, segment, name.as_str())?;
+        let body = self.choice_body(sequence, tag, segment, name.as_str())?;
         let member = self.choice_member(tag.field, given, name.clone()?)?;
         if let Some(select) = only {
             self.out.keep_choice(
@@ -98,12 +101,16 @@ impl<'a> Resolver<'a> {
     // A tag with all that is in its cases.
     fn choice_body(
         &mut self,
+        sequence: &Sequence<'a>,
         tag: IndexedField<'a>,
         segment: &[ResolvedPiece<'a>],
         name: &str,
     ) -> Result<Body, Trouble>
         ensures { IfOk result IsWritable }
     {
+        if let Some((select, length)) = counted_select(segment) {
+            return self.counted_body(sequence, tag, select, length, name);
+        }
         let of = tag_of(self.alloc, self.files, tag.field)?;
         let mut list = CaseList::new(self.alloc, of.width);
         if let Some(nearest) = nearest_select(segment) {
@@ -111,35 +118,18 @@ impl<'a> Resolver<'a> {
             check_segment(self.alloc, segment, tag.index, cases)?;
             for case in cases {
                 let fields = self.case_fields(segment, case)?;
-                self.check_alone(case, cases.len(), &fields)?;
-                self.push_case(case, fields, name, &mut list)?;
+                self.push_case(case, fields, false, name, &mut list)?;
             }
         }
         Ok(list.into_body())
     }
 
-    // Rejects fields in a tag's only case.
-    fn check_alone(
-        &self,
-        case: &Labelled<'_>,
-        count: usize,
-        fields: &[Member],
-    ) -> Result<(), Trouble> {
-        if count == 1 && !fields.is_empty() {
-            return Err(refused(
-                self.alloc,
-                case.place,
-                case.name.as_str(),
-                "more than one case where a case has fields: write a struct of an enum of one value and these fields",
-            ));
-        }
-        Ok(())
-    }
-
-    fn push_case(
+    /// Appends a case of these fields. `fills`: they are bytes that fill what a length counts.
+    pub fn push_case(
         &self,
         case: &Labelled<'_>,
         fields: Vec<Member>,
+        fills: bool,
         name: &str,
         list: &mut CaseList,
     ) -> Result<(), Trouble>
@@ -153,6 +143,7 @@ impl<'a> Resolver<'a> {
             name: variant_name(self.alloc, words.as_str(), name)?,
             constant: constant_name(self.alloc, words.as_str())?,
             tag: case.number,
+            fills,
             fields,
         };
         match list.push(variant)? {
@@ -176,6 +167,7 @@ impl<'a> Resolver<'a> {
             home: self.out.home,
             is_lent: lends(sequence, &body),
             doc: choice_doc(self.alloc, tag, sequence.name)?,
+            context: None,
             name,
             body,
         };
@@ -200,6 +192,7 @@ impl<'a> Resolver<'a> {
                     is_optional: false,
                     element: Element::Message(name),
                 },
+                is_in_context: false,
                 declared: declared(self.alloc, tag)?,
             },
             place: tag.name.place,
@@ -220,6 +213,7 @@ impl<'a> Resolver<'a> {
             match piece {
                 ResolvedPiece::Member(member) => self.push_copy(member, &mut list)?,
                 ResolvedPiece::Select(select) => self.push_own(select, case.number, &mut list)?,
+                ResolvedPiece::Length(length) => return Err(refused_counting(self.alloc, length)),
             }
         }
         Ok(list.into_members())
@@ -229,7 +223,20 @@ impl<'a> Resolver<'a> {
     fn push_copy(&mut self, member: &ResolvedMember, list: &mut FieldList) -> Result<(), Trouble> {
         let name = member.member.name.as_str();
         self.budget.take(self.alloc, member.place, name)?;
-        push_member(self.alloc, list, copy(member)?)
+        self.push_of_case(copy(member)?, list)
+    }
+
+    // Appends a member of a case. Rejects one in the context of a tag elsewhere.
+    fn push_of_case(&self, member: ResolvedMember, list: &mut FieldList) -> Result<(), Trouble> {
+        if member.member.is_in_context {
+            return Err(refused(
+                self.alloc,
+                member.place,
+                member.member.name.as_str(),
+                "no field of a case, or between a tag and its select, in the context of a tag elsewhere",
+            ));
+        }
+        push_member(self.alloc, list, member)
     }
 
     // Appends the fields that a select has for a number.
@@ -245,10 +252,11 @@ impl<'a> Resolver<'a> {
         self.push_fields(case.fields, list)
     }
 
-    fn push_fields(&mut self, fields: &[Field], list: &mut FieldList) -> Result<(), Trouble> {
+    /// Appends the fields of a case.
+    pub fn push_fields(&mut self, fields: &[Field], list: &mut FieldList) -> Result<(), Trouble> {
         for field in fields {
             let member = self.member_of(field)?;
-            push_member(self.alloc, list, member)?;
+            self.push_of_case(member, list)?;
         }
         Ok(())
     }

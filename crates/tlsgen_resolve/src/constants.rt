@@ -82,6 +82,21 @@ fn find_value(one: &Enum, name: &Name) -> Option<u64> {
         .map(|value| value.number.value)
 }
 
+/// The one value of a tag that has a single case.
+pub fn fixed_tag(
+    alloc: Global,
+    field: &Field,
+    tag: Tag<'_>,
+    number: Number,
+) -> Result<Fixed, Trouble> {
+    if let Some(one) = tag.of {
+        if let Some(name) = find_name(one, number.value) {
+            return of_value(alloc, one, tag.width, name, number);
+        }
+    }
+    of_number(alloc, field, tag.width, number)
+}
+
 fn of_value(
     alloc: Global,
     one: &Enum,

@@ -9,7 +9,7 @@ use crate::types::bounded_type;
 use std::alloc::Global;
 use tlsgen_model::plan::Type;
 use tlsgen_syntax::refusal::Trouble;
-use tlsgen_syntax::syntax::{Field, File, Number, Part, Struct, Vector};
+use tlsgen_syntax::syntax::{Field, File, Name, Number, Part, Struct, Vector};
 
 /// The number just before a part of a struct, if the part is a field of as many bytes.
 pub fn length_before<'a>(one: &'a Struct, at: usize) -> Option<&'a Field> {
@@ -26,8 +26,8 @@ pub fn length_before<'a>(one: &'a Struct, at: usize) -> Option<&'a Field> {
     }
 }
 
-// Whether a field is an integer of 1 to 4 bytes.
-fn is_length(field: &Field) -> bool {
+/// Whether a field is an integer of 1 to 4 bytes.
+pub fn is_length(field: &Field) -> bool {
     is_single(field) && field.constant.is_none() && greatest_of(field).is_some()
 }
 
@@ -44,16 +44,24 @@ fn greatest_of(length: &Field) -> Option<u64> {
 
 // Whether a field names another one between its brackets, alone or behind the struct's own name.
 fn is_counted_by(one: &Struct, field: &Field, length: &Field) -> bool {
-    let Vector::Counted(path) = &field.vector else {
-        return false;
-    };
     if field.is_optional || field.constant.is_some() {
         return false;
     }
-    match path.as_slice() {
+    let Some(path) = path_of_array(field) else {
+        return false;
+    };
+    match path {
         [name] => name.text == length.name.text,
         [of, name] => of.text == one.name.text && name.text == length.name.text,
         _ => false,
+    }
+}
+
+/// The name between the brackets of a field, if it is an array of a length with a name.
+pub fn path_of_array(field: &Field) -> Option<&[Name]> {
+    match &field.vector {
+        Vector::Counted(path) => Some(path.as_slice()),
+        _ => None,
     }
 }
 

@@ -18,7 +18,7 @@ pub fn lends(sequence: &Sequence<'_>, body: &Body) -> bool {
         && match body {
             Body::Values { .. } => false,
             Body::Fields(fields) => !fields.is_empty(),
-            Body::Choice { variants, .. } => {
+            Body::Choice { variants, .. } | Body::Sum { variants, .. } => {
                 variants.iter().any(|variant| !variant.fields.is_empty())
             }
         }
@@ -30,7 +30,7 @@ impl<'a> Resolver<'a> {
         match body {
             Body::Values { .. } => Ok(()),
             Body::Fields(fields) => self.check_row(sequence, fields, MOST_RUNS),
-            Body::Choice { variants, .. } => {
+            Body::Choice { variants, .. } | Body::Sum { variants, .. } => {
                 for variant in variants {
                     self.check_row(sequence, &variant.fields, MOST_OF_CASE)?;
                 }

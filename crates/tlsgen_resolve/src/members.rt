@@ -42,6 +42,7 @@ pub fn copy(resolved: &ResolvedMember) -> Result<ResolvedMember, AllocError> {
         member: Member {
             name: resolved.member.name.clone()?,
             of: copy_type(&resolved.member.of)?,
+            is_in_context: resolved.member.is_in_context,
             declared: resolved.member.declared.clone()?,
         },
         place: resolved.place,

@@ -19,12 +19,15 @@ impl<'a> Resolver<'a> {
     ) -> Result<String, Trouble> {
         match given {
             Some(name) if !is_of_field(name) => self.free_name(name),
-            _ => self.derived_name(of, tag),
+            _ => {
+                let base = base_name(self.alloc, tag)?;
+                self.derived_name(of, base.as_str(), &tag.name)
+            }
         }
     }
 
-    // A name that is given, unless a type has it.
-    fn free_name(&self, name: &Name) -> Result<String, Trouble> {
+    /// A name that is given, unless a type has it.
+    pub fn free_name(&self, name: &Name) -> Result<String, Trouble> {
         let module = type_module(self.alloc, name)?;
         if self.is_taken(&module) {
             return Err(self.refused_name(name, "a name that no type has"));
@@ -32,10 +35,9 @@ impl<'a> Resolver<'a> {
         Ok(type_name(self.alloc, name.text.as_str())?)
     }
 
-    fn derived_name(&self, of: &str, tag: &Field) -> Result<String, Trouble> {
+    /// The name of a tag's type with `Data`, after the name of the struct if that is taken.
+    pub fn derived_name(&self, of: &str, base: &str, tag: &Name) -> Result<String, Trouble> {
         let alloc = self.alloc;
-        let base = base_name(alloc, tag)?;
-        let base = base.as_str();
         let of = type_name(alloc, of)?;
         let of = of.as_str();
         let short = format!(in alloc; "{base}Data")?;
@@ -47,7 +49,7 @@ impl<'a> Resolver<'a> {
             return Ok(long);
         }
         Err(self.refused_name(
-            &tag.name,
+            tag,
             "a name for what the tag and its selects become, behind the select: `} NAME;`",
         ))
     }

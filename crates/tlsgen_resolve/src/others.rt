@@ -4,7 +4,7 @@ use crate::naming::type_name;
 use crate::output::Output;
 use crate::refuse::refused;
 use std::alloc::{AllocError, Global};
-use tlsgen_model::plan::{Body, Element, Member, Other};
+use tlsgen_model::plan::{Body, Element, Member, Message, Other};
 use tlsgen_syntax::refusal::Trouble;
 use tlsgen_syntax::syntax::{Field, File, Item, Name, Part};
 
@@ -27,7 +27,9 @@ fn is_member(out: &Output, name: &String) -> bool {
 
 // Whether the crate that is resolved has a member of this type.
 fn is_in_messages(out: &Output, name: &String) -> bool {
-    out.messages().iter().any(|message| message.home == out.home && has(&message.body, name))
+    out.messages().iter().any(|message| {
+        message.home == out.home && (has(&message.body, name) || has_context(message, name))
+    })
 }
 
 /// Rejects a member whose type is an enum of another crate that isn't written there.
@@ -137,11 +139,19 @@ fn has(body: &Body, name: &String) -> bool {
     match body {
         Body::Values { .. } => false,
         Body::Fields(fields) => any_names(fields, name),
-        Body::Choice { variants, .. } => {
+        Body::Choice { variants, .. } | Body::Sum { variants, .. } => {
             variants
                 .iter()
                 .any(|variant| any_names(&variant.fields, name))
         }
+    }
+}
+
+// Whether a message is in the context of this type.
+fn has_context(message: &Message, name: &String) -> bool {
+    match &message.context {
+        Some(context) => names(&context.of, name),
+        None => false,
     }
 }
 

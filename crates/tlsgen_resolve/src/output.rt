@@ -4,7 +4,7 @@ ghost use Rattle.tlsgen_model.specs.Writable.{AreWritable, HaveModules, IsWritab
 use crate::refuse::refused;
 use std::alloc::{AllocError, Global};
 use tlsgen_model::messages::Messages;
-use tlsgen_model::plan::{Alias, Message, Other, Plan};
+use tlsgen_model::plan::{Alias, Element, Message, Other, Plan};
 use tlsgen_syntax::refusal::{Place, Trouble};
 
 /// A message that was made for a tag with one select.
@@ -56,6 +56,11 @@ impl Output {
             .iter()
             .find(|message| message.name == *name)
             .map(|message| message.home)
+    }
+
+    /// Whether a message of a crate is in the context of the enum of this name.
+    pub fn is_context(&self, home: Option<usize>, name: &String) -> bool {
+        self.messages().iter().any(|message| Some(message.home) == home && is_on(message, name))
     }
 
     /// Whether a message has this module.
@@ -141,6 +146,13 @@ impl Output {
             messages: self.messages.into_messages_but(home, &self.unwritten),
             others,
         }
+    }
+}
+
+fn is_on(message: &Message, name: &String) -> bool {
+    match &message.context {
+        Some(context) => matches!(&context.of, Element::Message(own) if own == name),
+        None => false,
     }
 }
 

@@ -23,6 +23,8 @@ const MOST: usize = 100_000;
 pub struct Fault {
     /// The file at fault, by its position among the files.
     pub file: usize,
+    /// It is the file's notes.
+    pub is_note: bool,
     pub trouble: Trouble,
 }
 
@@ -32,7 +34,7 @@ pub struct Fault {
 /// A file is rejected, with the place, for each of these: a type that nothing defines or that contains itself; a name
 /// or a number twice; a word of Rust or of the definitions as a type's name; a number of more bytes than its enum's;
 /// a vector, bounds or a constant that aren't kept; a select on a tag that isn't in the same bytes, a case that its
-/// enum lacks or that is missing; more fields than can be written in a row; an enum of another crate that isn't
+/// enum lacks; more fields than can be written in a row; an enum of another crate that isn't
 /// written there, since it is a tag alone; a lent struct in one that isn't, unless it is inlined.
 ///
 /// In what is made, each struct has at most 27 fields and each case at most 18, with names that differ; the numbers of
@@ -52,14 +54,26 @@ pub fn plan_within(alloc: Global, files: &[File], most: usize) -> Result<Plan, F
     let mut resolver = Resolver::new(alloc, most);
     for (at, file) in files.iter().enumerate() {
         resolver.enter(&files[..=at], at);
+        if let Err(trouble) = resolver.check_notes(file) {
+            return Err(Fault {
+                file: at,
+                is_note: true,
+                trouble,
+            });
+        }
         if let Err(trouble) = resolver.resolve_file(file) {
-            return Err(Fault { file: at, trouble });
+            return Err(Fault {
+                file: at,
+                is_note: false,
+                trouble,
+            });
         }
     }
     match others_of(alloc, &resolver.out) {
         Ok(others) => Ok(resolver.out.into_plan(others)),
         Err(error) => Err(Fault {
             file: resolver.out.home,
+            is_note: false,
             trouble: Trouble::from(error),
         }),
     }
@@ -113,11 +127,41 @@ impl<'a> Resolver<'a> {
     // Rejects a struct that has a select whose tag is in another struct, and that is a field of none that has the tag.
     fn check_inlined(&self) -> Result<(), Trouble> {
         for one in &self.known {
-            if !one.is_whole && !self.known.iter().any(|other| inlines(other, one.name)) {
+            if one.is_filling && !self.known.iter().any(|other| is_filled(other, one.name)) {
+                return Err(refused(
+                    self.alloc,
+                    one.place,
+                    one.name,
+                    "a struct that is all of a case whose length counts the rest: a note says that it fills what is left",
+                ));
+            }
+            if !one.is_written
+                && !one.is_filling
+                && !self.known.iter().any(|other| inlines(other, one.name))
+            {
                 return Err(refused_tag(self.alloc, one));
             }
         }
         Ok(())
+    }
+}
+
+// Whether a struct has a length, and a case of this type behind it.
+fn is_filled(sequence: &Sequence<'_>, name: &str) -> bool {
+    sequence
+        .pieces
+        .iter()
+        .any(|piece| matches!(piece, Piece::Length(_)))
+        && sequence.pieces.iter().any(|piece| has_case_of(piece, name))
+}
+
+fn has_case_of(piece: &Piece<'_>, name: &str) -> bool {
+    match piece {
+        Piece::Select(select, _) => select.cases.iter().any(|case| case
+            .fields
+            .iter()
+            .any(|field| field.of.text.as_str() == name)),
+        _ => false,
     }
 }
 

@@ -10,7 +10,7 @@ use crate::members::ResolvedMember;
 use crate::naming::{type_name, underscored};
 use crate::output::Output;
 use crate::refuse::{Budget, refused};
-use crate::sequence::{Sequence, needs_outer_tag};
+use crate::sequence::{Sequence, known, needs_outer_tag};
 use crate::types::{declared, type_of};
 use std::alloc::{AllocError, Global};
 use tlsgen_model::names::{field_name, module_name};
@@ -91,6 +91,16 @@ impl<'a> Resolver<'a> {
         self.typed_member(field, of)
     }
 
+    /// The member of bytes that fill what a length counts.
+    pub fn filling_member(
+        &mut self,
+        length: &Field,
+        field: &Field,
+    ) -> Result<ResolvedMember, Trouble> {
+        let of = counted_type(self.alloc, self.files, length, field)?;
+        self.typed_member(field, of)
+    }
+
     /// The member of a number and of the field that it counts.
     pub fn counted_member_of(
         &mut self,
@@ -107,13 +117,52 @@ impl<'a> Resolver<'a> {
         self.budget
             .take(self.alloc, name.place, name.text.as_str())?;
         check_letters(self.alloc, name)?;
-        if needs_outer_tag(&self.known, field.of.text.as_str()) {
-            return Err(self.refused_name(
-                &field.of,
+        self.check_context(field)
+    }
+
+    // Rejects a type that fills a length, or that is in a context, where it can't be.
+    fn check_context(&self, field: &Field) -> Result<(), Trouble> {
+        let Some(one) = known(&self.known, field.of.text.as_str()) else {
+            return Ok(());
+        };
+        match self.misplaced(one, field)? {
+            Some(expected) => Err(self.refused_name(&field.of, expected)),
+            None => Ok(()),
+        }
+    }
+
+    // What should be in place of a field of a struct's type.
+    fn misplaced(
+        &self,
+        one: &Sequence<'a>,
+        field: &Field,
+    ) -> Result<Option<&'static str>, AllocError> {
+        if one.is_filling {
+            return Ok(Some(
+                "no struct that fills what is left, but as all of a case whose length counts the rest",
+            ));
+        }
+        if one.context.is_none() {
+            return Ok(None);
+        }
+        if !one.is_written {
+            return Ok(Some(
                 "a struct whose selects have their tags in it: this one's parts stand only in a struct's place",
             ));
         }
-        Ok(())
+        if self.is_elsewhere(one.name)? {
+            return Ok(Some("no type of another crate that is in the context of a tag elsewhere"));
+        }
+        if field.is_optional {
+            return Ok(Some("no option of what is in the context of a tag elsewhere"));
+        }
+        Ok(None)
+    }
+
+    // Whether another crate has the message of this struct.
+    fn is_elsewhere(&self, name: &str) -> Result<bool, AllocError> {
+        let home = self.out.home_of(&type_name(self.alloc, name)?);
+        Ok(home != Some(self.out.home))
     }
 
     fn typed_member(&self, field: &Field, of: Type) -> Result<ResolvedMember, Trouble>
@@ -124,6 +173,7 @@ impl<'a> Resolver<'a> {
             member: Member {
                 name: field_name(self.alloc, words.as_str())?,
                 of,
+                is_in_context: needs_outer_tag(&self.known, field.of.text.as_str()),
                 declared: declared(self.alloc, field)?,
             },
             place: field.name.place,
@@ -149,6 +199,7 @@ impl<'a> Resolver<'a> {
             home: self.out.home,
             is_lent: false,
             doc,
+            context: None,
             name,
             body,
         })

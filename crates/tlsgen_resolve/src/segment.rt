@@ -4,13 +4,15 @@ use crate::members::ResolvedMember;
 use crate::refuse::refused;
 use std::alloc::Global;
 use tlsgen_syntax::refusal::{Place, Trouble};
-use tlsgen_syntax::syntax::Name;
+use tlsgen_syntax::syntax::{Field, Name};
 
 /// A piece of a struct: the member that a field becomes, or a select with its cases.
 #[derive(Drop)]
 pub enum ResolvedPiece<'a> {
     Member(ResolvedMember),
     Select(ResolvedSelect<'a>),
+    /// A number that counts the bytes of the select behind it.
+    Length(&'a Field),
 }
 
 /// A select, with the position of its tag among the pieces.
@@ -43,9 +45,36 @@ pub fn nearest_select<'b, 'a>(segment: &'b [ResolvedPiece<'a>]) -> Option<&'b Re
     segment.iter().rev().find_map(|piece| select_of(piece))
 }
 
+/// The select of a tag and the length right before it, if nothing else follows the tag.
+pub fn counted_select<'b, 'a>(
+    segment: &'b [ResolvedPiece<'a>],
+) -> Option<(&'b ResolvedSelect<'a>, &'a Field)> {
+    let [last, first] = segment else {
+        return None;
+    };
+    match first {
+        ResolvedPiece::Length(length) => Some((select_of(last)?, *length)),
+        _ => None,
+    }
+}
+
+/// The case of a tag that has no other, where it has fields and no length counts them.
+pub fn only_case<'b, 'a>(segment: &'b [ResolvedPiece<'a>]) -> Option<&'b Labelled<'a>> {
+    if segment
+        .iter()
+        .any(|piece| matches!(piece, ResolvedPiece::Length(_)))
+    {
+        return None;
+    }
+    match nearest_select(segment)?.cases.as_slice() {
+        [case] if !case.fields.is_empty() => Some(case),
+        _ => None,
+    }
+}
+
 fn select_of<'b, 'a>(piece: &'b ResolvedPiece<'a>) -> Option<&'b ResolvedSelect<'a>> {
     match piece {
-        ResolvedPiece::Member(_) => None,
+        ResolvedPiece::Member(_) | ResolvedPiece::Length(_) => None,
         ResolvedPiece::Select(select) => Some(select),
     }
 }
@@ -78,6 +107,17 @@ pub fn check_segment(
 // Whether there are as many cases, for the same numbers.
 fn have_same(own: &[Labelled<'_>], cases: &[Labelled<'_>]) -> bool {
     own.len() == cases.len() && cases.iter().all(|case| has_case(own, case.number))
+}
+
+/// The refusal of a length that isn't right between a tag and its select.
+pub fn refused_counting(alloc: Global, length: &Field) -> Trouble {
+    let name = &length.name;
+    refused(
+        alloc,
+        name.place,
+        name.text.as_str(),
+        "a length right between a tag and its select, since a note says that it counts the rest",
+    )
 }
 
 /// The refusal of a select whose tag comes before another tag, while its own select comes after that one's.

@@ -1,10 +1,12 @@
 //! The fields and selects of a struct, once some of its fields are inlined: the parts of their structs stand there.
+use crate::contexts::{OuterTag, context_of, has_tag_of};
 use crate::counted::length_before;
 use crate::items::is_single;
+use crate::notes::{counts_select, filling_field, settled_case};
 use crate::refuse::refused;
 use std::alloc::{AllocError, Global};
 use tlsgen_syntax::refusal::{Place, Trouble};
-use tlsgen_syntax::syntax::{Field, Name, Part, Select, Struct};
+use tlsgen_syntax::syntax::{Field, File, Name, Part, Select, Struct};
 
 // The most pieces of a struct, with those of the fields that are inlined.
 const MOST_PIECES: usize = 256;
@@ -18,6 +20,8 @@ pub enum Piece<'a> {
     Field(&'a Field),
     /// A number, and the field of as many bytes that follows it.
     Counted(&'a Field, &'a Field),
+    /// A number that counts the bytes of the select behind it.
+    Length(&'a Field),
     /// A select, and the name of the struct that it is written in.
     Select(&'a Select, &'a str),
 }
@@ -29,9 +33,9 @@ pub struct IndexedField<'a> {
     pub field: &'a Field,
 }
 
-// What a field is found by: its name, or that of its type.
+/// What a field is found by: its name, or that of its type.
 #[derive(Clone, Copy)]
-enum Key<'a> {
+pub enum Key<'a> {
     Name(&'a str),
     Type(&'a str),
 }
@@ -47,6 +51,26 @@ pub struct Sequence<'a> {
     pub inlined: Vec<&'a Field>,
     /// Each select has its tag among the pieces.
     pub is_whole: bool,
+    /// The tag that decides its parts, where that is no piece of it.
+    pub context: Option<OuterTag<'a>>,
+    /// It is a message of its own, and doesn't only stand in other structs' place.
+    pub is_written: bool,
+    /// It is bytes that fill what is left of a length.
+    pub is_filling: bool,
+}
+
+impl<'a> Sequence<'a> {
+    /// Whether a field of this type is inlined.
+    pub fn has_inlined(&self, name: &str) -> bool {
+        self.inlined
+            .iter()
+            .any(|field| field.of.text.as_str() == name)
+    }
+
+    /// Whether a piece is a field of this type.
+    pub fn has_field_of_type(&self, name: &str) -> bool {
+        find_field(self, Key::Type(name)).is_some()
+    }
 }
 
 /// The sequence of the struct of this name.
@@ -54,19 +78,20 @@ pub fn known<'b, 'a>(all: &'b [Sequence<'a>], name: &str) -> Option<&'b Sequence
     all.iter().find(|one| one.name == name)
 }
 
-/// Whether the struct of this name has a select whose tag is in another struct.
+/// Whether the struct of this name is in the context of a tag.
 pub fn needs_outer_tag(all: &[Sequence<'_>], name: &str) -> bool {
-    known(all, name).is_some_and(|one| !one.is_whole)
+    known(all, name).is_some_and(|one| one.context.is_some())
 }
 
 /// The pieces of a struct; all structs that it contains are known. A field is inlined if a select's path goes through
-/// it, or if its struct has a select whose tag is in another struct.
+/// it, or if its struct has a select whose tag is here.
 pub fn sequence_of<'a>(
     alloc: Global,
+    files: &'a [File],
     all: &[Sequence<'a>],
     one: &'a Struct,
 ) -> Result<Sequence<'a>, Trouble> {
-    let mut sequence = own_pieces(alloc, one)?;
+    let mut sequence = own_pieces(alloc, files, one)?;
     check_paths(alloc, &sequence)?;
     for _ in 0..MOST_PIECES {
         match next_to_inline(all, &sequence) {
@@ -76,6 +101,7 @@ pub fn sequence_of<'a>(
                     .pieces
                     .iter()
                     .all(|piece| is_here(&sequence, piece));
+                sequence.context = context_of(alloc, files, all, &sequence)?;
                 return Ok(sequence);
             }
         }
@@ -92,20 +118,20 @@ fn refused_size(alloc: Global, name: &Name) -> Trouble {
     )
 }
 
-fn own_pieces<'a>(alloc: Global, one: &'a Struct) -> Result<Sequence<'a>, Trouble> {
+fn own_pieces<'a>(
+    alloc: Global,
+    files: &'a [File],
+    one: &'a Struct,
+) -> Result<Sequence<'a>, Trouble> {
     let name = one.name.text.as_str();
     let mut pieces = Vec::new(alloc);
     if one.parts.len() > MOST_PIECES {
         return Err(refused_size(alloc, &one.name));
     }
     for (at, part) in one.parts.iter().enumerate() {
-        match (part, length_before(one, at)) {
-            (Part::Field(field), Some(length)) => {
-                pieces.pop();
-                pieces.push(Piece::Counted(length, field))?;
-            }
-            (Part::Field(field), None) => pieces.push(Piece::Field(field))?,
-            (Part::Select(select), _) => pieces.push(Piece::Select(select, name))?,
+        match part {
+            Part::Field(field) => push_field(files, one, at, field, &mut pieces)?,
+            Part::Select(select) => push_select(files, one, select, &mut pieces)?,
         }
     }
     Ok(Sequence {
@@ -115,7 +141,46 @@ fn own_pieces<'a>(alloc: Global, one: &'a Struct) -> Result<Sequence<'a>, Troubl
         pieces,
         inlined: Vec::new(alloc),
         is_whole: false,
+        context: None,
+        is_written: false,
+        is_filling: filling_field(files, one).is_some(),
     })
+}
+
+// A number that counts the field right behind it becomes a piece with that field.
+fn push_field<'a>(
+    files: &[File],
+    one: &'a Struct,
+    at: usize,
+    field: &'a Field,
+    pieces: &mut Vec<Piece<'a>>,
+) -> Result<(), AllocError> {
+    match length_before(one, at) {
+        Some(length) => {
+            pieces.pop();
+            pieces.push(Piece::Counted(length, field))?;
+        }
+        None if counts_select(files, one, at) => pieces.push(Piece::Length(field))?,
+        None => pieces.push(Piece::Field(field))?,
+    }
+    Ok(())
+}
+
+// A select that always has one case is the fields of that case.
+fn push_select<'a>(
+    files: &[File],
+    one: &'a Struct,
+    select: &'a Select,
+    pieces: &mut Vec<Piece<'a>>,
+) -> Result<(), AllocError> {
+    let Some(case) = settled_case(files, one, select) else {
+        pieces.push(Piece::Select(select, one.name.text.as_str()))?;
+        return Ok(());
+    };
+    for field in &case.fields {
+        pieces.push(Piece::Field(field))?;
+    }
+    Ok(())
 }
 
 fn check_paths(alloc: Global, sequence: &Sequence<'_>) -> Result<(), Trouble> {
@@ -133,8 +198,8 @@ fn check_paths(alloc: Global, sequence: &Sequence<'_>) -> Result<(), Trouble> {
 fn next_to_inline<'a>(all: &[Sequence<'a>], sequence: &Sequence<'a>) -> Option<IndexedField<'a>> {
     for (index, piece) in sequence.pieces.iter().enumerate() {
         let found = match piece {
-            Piece::Field(field) => field_to_inline(all, index, field),
-            Piece::Counted(..) => None,
+            Piece::Field(field) => field_to_inline(all, sequence, index, field),
+            Piece::Counted(..) | Piece::Length(_) => None,
             Piece::Select(select, owner) => next_on_path(sequence, select, owner),
         };
         if found.is_some() {
@@ -144,15 +209,30 @@ fn next_to_inline<'a>(all: &[Sequence<'a>], sequence: &Sequence<'a>) -> Option<I
     None
 }
 
+// A field whose struct has a select on a tag that is here.
 fn field_to_inline<'a>(
     all: &[Sequence<'a>],
+    sequence: &Sequence<'a>,
     index: usize,
     field: &'a Field,
 ) -> Option<IndexedField<'a>> {
-    if needs_outer_tag(all, field.of.text.as_str()) {
+    let inner = known(all, field.of.text.as_str())?;
+    if inner
+        .pieces
+        .iter()
+        .any(|piece| is_on_tag_of(sequence, inner, piece))
+    {
         Some(IndexedField { index, field })
     } else {
         None
+    }
+}
+
+// Whether a piece of an inner struct is a select whose tag is in the outer one alone.
+fn is_on_tag_of(outer: &Sequence<'_>, inner: &Sequence<'_>, piece: &Piece<'_>) -> bool {
+    match piece {
+        Piece::Select(select, _) => !is_here(inner, piece) && has_tag_of(outer, select),
+        _ => false,
     }
 }
 
@@ -169,7 +249,7 @@ fn next_on_path<'a>(
         if found.is_some() {
             return found;
         }
-        if !has_inlined(sequence, type_name) {
+        if !sequence.has_inlined(type_name) {
             return None;
         }
     }
@@ -194,29 +274,29 @@ fn find_field<'a>(sequence: &Sequence<'a>, key: Key<'_>) -> Option<IndexedField<
     None
 }
 
-fn has_key(field: &Field, key: Key<'_>) -> bool {
+/// Whether a field is found by a key.
+pub fn has_key(field: &Field, key: Key<'_>) -> bool {
     match key {
         Key::Name(name) => field.name.text.as_str() == name,
         Key::Type(name) => field.of.text.as_str() == name,
     }
 }
 
-// Whether a field of this type is inlined.
-fn has_inlined(sequence: &Sequence<'_>, name: &str) -> bool {
-    sequence
-        .inlined
-        .iter()
-        .any(|field| field.of.text.as_str() == name)
+/// The field of this name.
+pub fn find_field_of_name<'a>(sequence: &Sequence<'a>, name: &str) -> Option<IndexedField<'a>> {
+    find_field(sequence, Key::Name(name))
 }
 
-// Whether the tag of a piece is here: always, but for a select whose path begins with a struct that isn't inlined.
-fn is_here(sequence: &Sequence<'_>, piece: &Piece<'_>) -> bool {
+/// Whether the tag of a piece is here: always, but for a select whose path begins with a struct that isn't inlined, or is a
+/// name that no field has.
+pub fn is_here(sequence: &Sequence<'_>, piece: &Piece<'_>) -> bool {
     match piece {
-        Piece::Field(_) | Piece::Counted(..) => true,
+        Piece::Field(_) | Piece::Counted(..) | Piece::Length(_) => true,
         Piece::Select(select, owner) => match select.path.split_first() {
-            Some((first, others)) => {
+            Some((first, [])) => find_field_of_name(sequence, first.text.as_str()).is_some(),
+            Some((first, _)) => {
                 let name = first.text.as_str();
-                others.is_empty() || is_own(sequence, owner, name) || has_inlined(sequence, name)
+                is_own(sequence, owner, name) || sequence.has_inlined(name)
             }
             None => true,
         },

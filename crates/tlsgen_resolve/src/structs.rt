@@ -2,14 +2,16 @@
 ghost use Rattle.std.specs.Prelude.{IfOk};
 ghost use Rattle.tlsgen_model.specs.Writable.{IsWritable};
 
-use crate::constants::{fixed_body, fixed_of};
+use crate::constants::{Fixed, fixed_body, fixed_of};
 use crate::lent::lends;
 use crate::members::push_member;
 use crate::naming::{is_of_field, type_name};
 use crate::refuse::refused;
 use crate::resolver::Resolver;
-use crate::segment::{ResolvedPiece, given_name, is_on, refused_crossing};
-use crate::sequence::{IndexedField, Piece, Sequence, sequence_of};
+use crate::segment::{
+    ResolvedPiece, given_name, is_on, only_case, refused_counting, refused_crossing,
+};
+use crate::sequence::{IndexedField, Piece, Sequence, is_here, sequence_of};
 use std::alloc::Global;
 use tlsgen_model::lists::FieldList;
 use tlsgen_model::names::module_name;
@@ -20,10 +22,11 @@ use tlsgen_syntax::syntax::{Field, Part, Select, Struct};
 impl<'a> Resolver<'a> {
     /// Makes the messages of a struct, and keeps its pieces for structs that inline it.
     pub fn resolve_struct(&mut self, one: &'a Struct) -> Result<(), Trouble> {
-        let sequence = sequence_of(self.alloc, &self.known, one)?;
+        let mut sequence = sequence_of(self.alloc, self.files, &self.known, one)?;
         self.check_lent(&sequence)?;
         self.make_constants(one)?;
-        if sequence.is_whole {
+        sequence.is_written = self.is_written(&sequence)?;
+        if sequence.is_written {
             self.make_messages(&sequence)?;
         }
         self.known.push(sequence)?;
@@ -42,6 +45,9 @@ impl<'a> Resolver<'a> {
         self.check_runs(sequence, &body)?;
         let mut message = self.defined_message(sequence.name, body)?;
         message.is_lent = lends(sequence, &message.body);
+        if let Some(tag) = &sequence.context {
+            message.context = Some(tag.context(self.alloc)?);
+        }
         self.push(sequence.place, message)
     }
 
@@ -54,9 +60,16 @@ impl<'a> Resolver<'a> {
         tail: &mut Vec<ResolvedPiece<'a>>,
     ) -> Result<bool, Trouble> {
         match piece {
+            Piece::Select(select, owner) if !is_here(sequence, piece) => {
+                self.prepend_sum(sequence, select, owner, tail)
+            }
             Piece::Select(select, owner) => {
                 let select = self.resolve_select(sequence, select, owner, index)?;
                 tail.push(ResolvedPiece::Select(select))?;
+                Ok(false)
+            }
+            Piece::Length(length) => {
+                tail.push(ResolvedPiece::Length(length))?;
                 Ok(false)
             }
             Piece::Counted(length, field) => {
@@ -86,10 +99,14 @@ impl<'a> Resolver<'a> {
             return Ok(false);
         };
         let segment = tail.split_off(last)?;
-        let given = given_name(self.alloc, &segment)?;
         self.out
             .tags
             .push(type_name(self.alloc, at.field.of.text.as_str())?)?;
+        if let Some(case) = only_case(&segment) {
+            self.prepend_fixed(at, case, &segment, tail)?;
+            return Ok(false);
+        }
+        let given = given_name(self.alloc, &segment)?;
         if at.index == 0 && last == 0 && given.is_none_or(is_of_field) {
             self.make_whole(sequence, at, &segment)?;
             return Ok(true);
@@ -129,6 +146,11 @@ impl<'a> Resolver<'a> {
             return Ok(());
         };
         let fixed = fixed_of(self.alloc, self.files, field, constant)?;
+        self.make_fixed(fixed)
+    }
+
+    /// Makes the type of a constant, unless it is there.
+    pub fn make_fixed(&mut self, fixed: Fixed) -> Result<(), Trouble> {
         if fixed.is_own || self.out.constants.contains(&fixed.type_name) {
             return Ok(());
         }
@@ -164,6 +186,7 @@ fn struct_body(
         match piece {
             ResolvedPiece::Member(member) => push_member(alloc, &mut list, member)?,
             ResolvedPiece::Select(select) => return Err(refused_crossing(alloc, select.place)),
+            ResolvedPiece::Length(length) => return Err(refused_counting(alloc, length)),
         }
     }
     match list.into_body() {

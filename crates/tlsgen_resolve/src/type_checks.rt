@@ -1,6 +1,7 @@
 //! Which types fields may have, also those of structs that are no messages of their own.
 use crate::counted::{counted_type, length_before};
 use crate::items::{find_struct, is_single};
+use crate::notes::filling_field;
 use crate::resolver::Resolver;
 use crate::sequence::{Piece, Sequence};
 use crate::types::type_of;
@@ -20,7 +21,11 @@ impl<'a> Resolver<'a> {
         Ok(())
     }
 
+    // A field that fills what is left has the type of the length that counts it.
     fn check_parts(&self, one: &Struct) -> Result<(), Trouble> {
+        if filling_field(self.files, one).is_some() && !one.is_lent {
+            return Ok(());
+        }
         for (at, part) in one.parts.iter().enumerate() {
             match part {
                 Part::Field(field) => self.check_part(one, at, field)?,
@@ -75,7 +80,7 @@ impl<'a> Resolver<'a> {
                 Piece::Field(field) | Piece::Counted(_, field) if self.names_lent(field) => {
                     return Err(self.refused_lent(field));
                 }
-                Piece::Field(_) | Piece::Counted(..) => {}
+                Piece::Field(_) | Piece::Counted(..) | Piece::Length(_) => {}
                 Piece::Select(select, _) => self.check_cases(select, false)?,
             }
         }

@@ -8,6 +8,7 @@ use crate::checks::refused_number;
 use crate::constants::fixed_of;
 use crate::items::{find, integer_width};
 use crate::naming::type_name;
+use crate::notes::number_of_path;
 use crate::refuse::refused;
 use std::alloc::{AllocError, Global};
 use tlsgen_model::plan::{Element, Shape, Type};
@@ -24,7 +25,7 @@ pub fn type_of(alloc: Global, files: &[File], field: &Field) -> Result<Type, Tro
     if let Some(constant) = &field.constant {
         return constant_type(alloc, files, field, constant);
     }
-    let shape = shape_of(alloc, &field.vector)?;
+    let shape = shape_of(alloc, files, &field.vector)?;
     let element = element_of(alloc, files, field, shape)?;
     Ok(Type {
         shape,
@@ -68,13 +69,16 @@ fn constant_type(
     })
 }
 
-fn shape_of(alloc: Global, vector: &Vector) -> Result<Shape, Trouble>
+fn shape_of(alloc: Global, files: &[File], vector: &Vector) -> Result<Shape, Trouble>
     ensures { IfOk result (λ shape. IsTrue (is_shape shape)) }
 {
     match vector {
         Vector::One => Ok(Shape::One),
         Vector::Array(number) => array_shape(alloc, *number),
-        Vector::Counted(path) => Err(refused_length(alloc, path)),
+        Vector::Counted(path) => match number_of_path(files, path) {
+            Some(number) => array_shape(alloc, number),
+            None => Err(refused_length(alloc, path)),
+        },
         Vector::Variable => Ok(Shape::Variable),
         Vector::Bounded(least, most) => bounded_shape(alloc, *least, *most),
     }
@@ -87,7 +91,7 @@ fn refused_length(alloc: Global, path: &[Name]) -> Trouble {
             alloc,
             name.place,
             name.text.as_str(),
-            "a number, or the name of the field just before this one: an integer of 1 to 4 bytes, which counts it",
+            "a number, or the name of the field just before this one: an integer of 1 to 4 bytes, which counts it; or a note of the number",
         ),
         None => Trouble::Memory,
     }

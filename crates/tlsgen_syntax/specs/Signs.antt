@@ -25,6 +25,9 @@ use Rattle.tlsgen_syntax.specs.declared.syntax.Select.{Select}
 use Rattle.tlsgen_syntax.specs.declared.syntax.Case.{Case}
 use Rattle.tlsgen_syntax.specs.declared.syntax.Label.{Label}
 use Rattle.tlsgen_syntax.specs.declared.syntax.Label.TheVariants as labels
+use Rattle.tlsgen_syntax.specs.declared.syntax.Note.{Note}
+use Rattle.tlsgen_syntax.specs.declared.syntax.Said.{Said}
+use Rattle.tlsgen_syntax.specs.declared.syntax.Said.TheVariants as saids
 
 -- how a mark is written
 abbrev pub mark_text : Mark → List ℕ
@@ -89,10 +92,10 @@ abbrev pub flag_then : Mark → Bool → List Sign → List Sign
 flag_then m true rest = mark m ∷ rest
 flag_then m false rest = rest
 
--- the word V, if it is there
-abbrev pub variable_then : Bool → List Sign → List Sign
-variable_then true rest = word (codes "V") ∷ rest
-variable_then false rest = rest
+-- a word, if it is there
+abbrev pub word_then : List ℕ → Bool → List Sign → List Sign
+word_then text true rest = word text ∷ rest
+word_then text false rest = rest
 
 abbrev pub name_then : Name → List Sign → List Sign
 name_then name rest = word (string_bytes name.text) ∷ rest
@@ -155,23 +158,23 @@ constant_then (Some value) rest = mark marks.Equals ∷ constant_value_then valu
 abbrev pub typed_then : Bool → Name → List Sign → List Sign
 typed_then is_optional of rest = flag_then marks.Optional is_optional (type_then is_optional of rest)
 
--- the field's own name, if it has one
-abbrev pub own_name_then : Bool → Name → List Sign → List Sign
-own_name_then true name rest = name_then name rest
-own_name_then false name rest = rest
-
 -- a field without a name of its own is called as its type
 abbrev pub IsCalled : Field → Type 0
 IsCalled f = IsFalse f.is_named → string_bytes f.name.text ≡ string_bytes f.of.text
 
--- [optional] type [NAME] vector constant
+-- [optional] type NAME vector constant ;
 abbrev pub field_then : Field → List Sign → List Sign
 field_then f rest =
     typed_then f.is_optional f.of
-    (own_name_then f.is_named f.name (vector_then f.vector (constant_then f.constant rest)))
+    (name_then f.name (vector_then f.vector (constant_then f.constant (mark marks.Semicolon ∷ rest))))
 
-abbrev pub ended_field_then : Field → List Sign → List Sign
-ended_field_then f rest = field_then f (mark marks.Semicolon ∷ rest)
+-- a field of a case, whose name may be that of its type: [optional] type ;
+abbrev pub field_if_named_then : Bool → Field → List Sign → List Sign
+field_if_named_then true f rest = field_then f rest
+field_if_named_then false f rest = typed_then f.is_optional f.of (mark marks.Semicolon ∷ rest)
+
+abbrev pub case_field_then : Field → List Sign → List Sign
+case_field_then f rest = field_if_named_then f.is_named f rest
 
 abbrev pub label_value_then : Label → List Sign → List Sign
 label_value_then (labels.Name name) rest = name_then name rest
@@ -185,7 +188,7 @@ label_then label rest = mark marks.Case ∷ label_value_then label (mark marks.C
 abbrev pub case_fields_then : List Field → List Sign → List Sign
 case_fields_then [] rest =
     mark marks.Struct ∷ mark marks.OpeningBrace ∷ mark marks.ClosingBrace ∷ mark marks.Semicolon ∷ rest
-case_fields_then (f ∷ fs) rest = ended_field_then f (each_then ended_field_then fs rest)
+case_fields_then (f ∷ fs) rest = case_field_then f (each_then case_field_then fs rest)
 
 abbrev pub case_then : Case → List Sign → List Sign
 case_then c rest = each_then label_then c.labels.items (case_fields_then c.fields.items rest)
@@ -200,7 +203,7 @@ select_then s rest =
     (mark marks.ClosingBrace ∷ optional_name_then s.name (flag_then marks.Semicolon s.ends_in_semicolon rest)))
 
 abbrev pub part_then : Part → List Sign → List Sign
-part_then (parts.Field f) rest = ended_field_then f rest
+part_then (parts.Field f) rest = field_then f rest
 part_then (parts.Select s) rest = select_then s rest
 
 -- [lent] struct { parts } NAME ;
@@ -214,8 +217,26 @@ struct_then s rest =
 abbrev pub item_then : Item → List Sign → List Sign
 item_then (items.Enum e) rest = enum_then e rest
 item_then (items.Struct s) rest = struct_then s rest
-item_then (items.Alias f) rest = ended_field_then f rest
+item_then (items.Alias f) rest = field_then f rest
 
 -- the signs of a whole file
 abbrev pub file_signs : File → List Sign
 file_signs file = each_then item_then file.items.items []
+
+-- = NUMBER, = NAME, counts rest, fills rest, is open or left out
+abbrev pub said_then : Said → List Sign → List Sign
+said_then (saids.Number n) rest = mark marks.Equals ∷ number_then n rest
+said_then (saids.Named name) rest = mark marks.Equals ∷ name_then name rest
+said_then saids.Counts rest = word (codes "counts") ∷ word (codes "rest") ∷ rest
+said_then saids.Fills rest = word (codes "fills") ∷ word (codes "rest") ∷ rest
+said_then saids.Open rest = word (codes "is") ∷ mark marks.Open ∷ rest
+said_then saids.LeftOut rest = word (codes "left") ∷ word (codes "out") ∷ rest
+
+-- path said ;
+abbrev pub note_then : Note → List Sign → List Sign
+note_then note rest =
+    separated_then marks.Dot name_then note.path.items (said_then note.said (mark marks.Semicolon ∷ rest))
+
+-- the signs of all notes
+abbrev pub notes_signs : List Note → List Sign
+notes_signs notes = each_then note_then notes []

@@ -6,11 +6,13 @@
 //! - [`token`]: [`Token`](token::Token), a word, a number or a mark of a text.
 //! - [`lexer`]: [`lex`](lexer::lex), the tokens of a text.
 //! - [`parser`]: [`parse`](parser::parse), what a text says.
+//! - [`noted`]: [`apply`](noted::apply), a text with its notes.
 //! - [`print`]: [`print`](print::print), the text of a file in one layout.
 #![tactic(auto)]
 
 mod cursor;
 pub mod lexer;
+pub mod noted;
 pub mod parser;
 pub mod print;
 pub mod refusal;

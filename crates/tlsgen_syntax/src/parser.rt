@@ -7,12 +7,13 @@ ghost use Rattle.tlsgen_syntax.specs.Signs.{count_left, file_signs, item_then, s
 
 mod enums;
 mod fields;
+mod notes;
 mod selects;
 mod structs;
 
 use crate::lexer::lex;
 use crate::refusal::{Place, Trouble};
-use crate::syntax::{File, Item};
+use crate::syntax::{File, Item, Note};
 use crate::token::{Mark, Token};
 use crate::tokens::Tokens;
 use std::alloc::Global;
@@ -25,6 +26,14 @@ pub fn parse(alloc: Global, text: &str) -> Result<File, Trouble> {
     parse_tokens(alloc, &tokens, Place::end_of(text))
 }
 
+/// The notes of a text, `Handshake.length counts rest;` and others.
+///
+/// Rejects the first token that can't come next among notes, and what the [lexer](crate::lexer::lex) rejects.
+pub fn parse_notes(alloc: Global, text: &str) -> Result<Vec<Note>, Trouble> {
+    let tokens = lex(alloc, text)?;
+    notes::notes(alloc, &tokens, Place::end_of(text))
+}
+
 /// What the tokens of a text say. `end` is where the text ends.
 #[tactic(auto, using(crate::proofs::Gathered::gathered_each))]
 pub fn parse_tokens(alloc: Global, tokens: &[Token], end: Place) -> Result<File, Trouble>
@@ -35,7 +44,10 @@ pub fn parse_tokens(alloc: Global, tokens: &[Token], end: Place) -> Result<File,
     'more: while !left.is_empty() {
         items.push(item(alloc, &mut left)?)?;
     }
-    Ok(File { items })
+    Ok(File {
+        items,
+        notes: Vec::new(alloc),
+    })
 }
 
 fn item(alloc: Global, tokens: &mut Tokens<'_>) -> Result<Item, Trouble>

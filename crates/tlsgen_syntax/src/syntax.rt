@@ -9,10 +9,35 @@ pub struct Name {
     pub place: Place,
 }
 
-/// What a file defines, in its order.
+/// What a file defines, in its order, and what an RFC says of it in prose.
 #[derive(Drop)]
 pub struct File {
     pub items: Vec<Item>,
+    pub notes: Vec<Note>,
+}
+
+/// What the RFC's prose says of a field or of a number: `Handshake.length counts rest;`
+#[derive(Drop)]
+pub struct Note {
+    /// The words before it, at least one.
+    pub path: Vec<Name>,
+    pub said: Said,
+}
+
+#[derive(Drop)]
+pub enum Said {
+    /// `Hash.length = 48`: so many bytes where an array has this name.
+    Number(Number),
+    /// `CertificateEntry.certificate_type = X509`: the only value of a tag that is elsewhere.
+    Named(Name),
+    /// `Handshake.length counts rest`: the bytes of the select behind it.
+    Counts,
+    /// `Finished.verify_data fills rest`: as many bytes as are left.
+    Fills,
+    /// `ExtensionType is open`: an enum keeps numbers without a name.
+    Open,
+    /// `TLSInnerPlaintext left out`: nothing is made of a definition.
+    LeftOut,
 }
 
 #[derive(Drop)]

@@ -1,6 +1,6 @@
 //! The tokens of a text, taken from their front.
 ghost use Rattle.std.specs.Prelude.{◌≡◌, ◌==◌, ◌+◌, ◌<◌, ◌≤◌, ◌∷◌, length, codes, IfOk, IfSome, IfNone, MatchOption, OnOk, if◌then◌else◌};
-ghost use Rattle.tlsgen_syntax.specs.Signs.{count_left, flag_then, name_then, number_then, signs, signs_left, variable_then};
+ghost use Rattle.tlsgen_syntax.specs.Signs.{count_left, flag_then, name_then, number_then, signs, signs_left, word_then};
 ghost use Rattle.tlsgen_syntax.specs.Signs as sign;
 
 use crate::refusal::{Place, Trouble};
@@ -70,16 +70,16 @@ impl<'a> Tokens<'a> {
         }
     }
 
-    /// Takes the next token if it is the word `V`.
-    pub(crate) fn take_variable(&mut self) -> bool
-        ensures read { signs_left self.old ≡ variable_then result (signs_left self.new) }
+    /// Takes the next token if it is this word.
+    pub(crate) fn take_word(&mut self, text: &str) -> bool
+        ensures read { signs_left self.old ≡ word_then text.now result (signs_left self.new) }
         ensures count { count_left self.old ≡ count_left self.new + (if result then 1 else 0) }
     {
         let Some((token, left)) = self.left.split_first() else {
             return false;
         };
         match token.kind.word() {
-            Some(word) if word == "V" => {
+            Some(word) if word == text => {
                 self.left = left;
                 true
             }

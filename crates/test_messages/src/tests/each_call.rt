@@ -4,7 +4,7 @@ use std::alloc::Global;
 use std::fmt::Debug;
 use std::process::Abort;
 use std::test::Fail;
-use tls_codec::{Deserialize, DeserializeBytes, Error, Serialize};
+use tls_codec::{Deserialize, DeserializeBytes, Error, Serialize, deserialize_to_end};
 use tls_codec_vectors::Drip;
 
 // The round trip: the value is written as these bytes by each encoder, and each decoder reads it from them.
@@ -85,19 +85,21 @@ pub(super) fn is_refused<T: Deserialize + DeserializeBytes>(
     bytes: &[u8],
     error: Error,
 ) {
-    same_at(
-        rt,
-        bytes,
-        T::tls_deserialize_bytes(alloc, bytes).err(),
-        Some(error),
-    );
-    let mut source = bytes;
-    same_at(
-        rt,
-        bytes,
-        T::tls_deserialize(alloc, &mut source).err(),
-        Some(error),
-    );
-    let dripped = T::tls_deserialize(alloc, &mut Drip::new(bytes)).err();
-    same_at(rt, bytes, dripped, Some(error));
+    is_refused_by::<T>(rt, alloc, bytes, error, error);
+}
+
+// To the end of the bytes, a slice's decoder refuses them with one error and a source's with another.
+pub(super) fn is_refused_by<T: Deserialize + DeserializeBytes>(
+    rt: &impl Abort,
+    alloc: Global,
+    bytes: &[u8],
+    of_slice: Error,
+    of_source: Error,
+) {
+    let split = T::tls_deserialize_exact_bytes(alloc, bytes).err();
+    same_at(rt, bytes, split, Some(of_slice));
+    let read = T::tls_deserialize_exact(alloc, bytes).err();
+    same_at(rt, bytes, read, Some(of_source));
+    let dripped = deserialize_to_end::<T, _>(alloc, &mut Drip::new(bytes)).err();
+    same_at(rt, bytes, dripped, Some(of_source));
 }

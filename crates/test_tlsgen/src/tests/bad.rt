@@ -2,7 +2,7 @@
 use super::{refusal, same_at};
 use std::test::Fail;
 
-static BAD: [(&str, usize, usize, &str, &str); 78] = [
+static BAD: [(&str, usize, usize, &str, &str); 83] = [
     // types
     ("Foo A;", 1, 1, "Foo", "given by --with"),
     ("struct { Foo a; } A;", 1, 10, "Foo", "given by --with"),
@@ -61,8 +61,8 @@ static BAD: [(&str, usize, usize, &str, &str); 78] = [
     (
         "enum { new_a(1), newA(2), new_A(3), (255) } A;",
         1,
-        27,
-        "new_A",
+        18,
+        "newA",
         "no value above",
     ),
     (
@@ -239,11 +239,54 @@ static BAD: [(&str, usize, usize, &str, &str); 78] = [
         "above its select",
     ),
     (
-        "struct { uint8 t; } B; struct { select (B.t) { case 1: uint8 a; case 2: struct{}; } } A;",
+        "struct { uint32 t; } B; struct { select (B.t) { case 1: uint8 a; case 2: struct{}; } } A;",
         1,
-        41,
-        "B",
-        "in the same bytes",
+        44,
+        "t",
+        "a tag elsewhere",
+    ),
+    (
+        "struct { select (sender) { case 1: uint8 a; case 2: struct{}; } } A;",
+        1,
+        18,
+        "sender",
+        "a tag elsewhere",
+    ),
+    // two tags elsewhere, an option, a case and a struct with the tag that have what is in a context
+    (
+        "struct { uint8 t; uint8 u; } B; struct { select (B.t) { case 1: uint8 a; } select (B.u) { case 1: uint8 a; } } A;",
+        1,
+        86,
+        "u",
+        "one tag elsewhere",
+    ),
+    (
+        "struct { uint8 t; } B; struct { select (B.t) { case 1: uint8 a; } } A; struct { optional<A> a; } C;",
+        1,
+        90,
+        "A",
+        "no option",
+    ),
+    (
+        "struct { uint8 t; } B; struct { select (B.t) { case 1: uint8 a; } } A; struct { uint8 u; select (C.u) { case 1: A a; case 2: struct {}; } } C;",
+        1,
+        115,
+        "a",
+        "no field of a case",
+    ),
+    (
+        "struct { uint8 t; W w; } B; struct { A a<V>; } W; struct { select (B.t) { case 1: uint8 a; } } A;",
+        1,
+        19,
+        "W",
+        "the tag itself",
+    ),
+    (
+        "struct { uint8 t; } B; struct { select (B.t) { case 1: uint8 a; } } A; lent struct { A a; } C;",
+        1,
+        93,
+        "C",
+        "no lent struct",
     ),
     (
         "struct { uint8 t; select (A.b.t) { case 1: uint8 a; case 2: struct{}; } } A;",
@@ -309,13 +352,6 @@ static BAD: [(&str, usize, usize, &str, &str); 78] = [
         "bytes",
     ),
     (
-        "enum { a(1) } T; struct { T t; select (A.t) { case a: uint8 a; } } A;",
-        1,
-        52,
-        "a",
-        "more than one case",
-    ),
-    (
         "struct { uint8 t; uint8 a; select (A.t) { case 1: uint8 a; case 2: struct{}; } } A;",
         1,
         57,
@@ -345,7 +381,7 @@ static BAD: [(&str, usize, usize, &str, &str); 78] = [
         1,
         51,
         "A",
-        "have their tags in it",
+        "the tag itself",
     ),
     (
         "A C; struct { uint8 t; A a; } B; struct { select (B.t) { case 1: uint8 a; case 2: struct{}; } } A;",

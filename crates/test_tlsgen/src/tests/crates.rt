@@ -39,6 +39,7 @@ fn rejected(
             Fault {
                 file,
                 trouble: Trouble::Refused(refusal),
+                ..
             },
         ) => Ok((file, refusal)),
         _ => panic!(rt; "not rejected: {texts:?}"),
@@ -117,6 +118,27 @@ fn names_that_a_tag_has(rt: HostRuntime) -> Result<(), Fail> {
         let (file, refusal) = rejected(&rt, rt.alloc(), &[first, own])?;
         same(&rt, file, 1);
         same(&rt, refusal.found.as_str(), "TData");
+    }
+    Ok(())
+}
+
+// What another crate has in a context, and a tag there on which nothing is from elsewhere.
+#[test]
+fn contexts_of_other_crates(rt: HostRuntime) -> Result<(), Fail> {
+    let header = "enum { a(1), (255) } T; struct { T t; uint8 x; } H;";
+    let first =
+        "enum { a(1), (255) } T; struct { T t; uint8 x; } H; struct { select (H.t) { case a: uint8 y; } } S;";
+    for (other, own, found) in [
+        (first, "struct { S s; } R;", "S"),
+        (
+            header,
+            "struct { select (H.t) { case a: uint8 y; } } Q;",
+            "t",
+        ),
+    ] {
+        let (file, refusal) = rejected(&rt, rt.alloc(), &[other, own])?;
+        same(&rt, file, 1);
+        same(&rt, refusal.found.as_str(), found);
     }
     Ok(())
 }

@@ -107,21 +107,15 @@ fn more_than_may_be_in_all(rt: HostRuntime) -> Result<(), Fail> {
     Ok(())
 }
 
-// Each struct has the one before it twice.
+// The parts of a field that has the tag stand in its place.
 #[test]
 fn structs_in_structs(rt: HostRuntime) -> Result<(), Fail> {
     let alloc = rt.alloc();
-    let mut text = String::from_str(
-        alloc,
-        "struct { select (X.t) { case 1: struct{}; } } Level0;",
+    let few = fields(alloc, 20)?;
+    let many = fields(alloc, 240)?;
+    let text = format!(in alloc;
+        "struct {{ uint8 t; {few} }} A; struct {{ A a; {many} select (B.a.t) {{ case 1: struct {{}}; }} }} B;"
     )?;
-    for k in 0..9u8 {
-        let next = k + 1;
-        write!(
-            &mut text,
-            "struct {{ Level{k} a; Level{k} b; }} Level{next};"
-        )?;
-    }
     let refusal = refusal(&rt, alloc, text.as_str());
     expects(&rt, &refusal, "256 parts");
     Ok(())

@@ -47,6 +47,8 @@ fn variants(rt: HostRuntime) -> Result<(), Fail> {
     for (name, variant, constant) in [
         ("new_member_commit", "NewMemberCommit", "NEW_MEMBER_COMMIT"),
         ("mls10", "Mls10", "MLS10"),
+        ("RawPublicKey", "RawPublicKey", "RAWPUBLICKEY"),
+        ("OpenPGP_RESERVED", "OpenPGPReserved", "OPENPGP_RESERVED"),
         ("none", "NoneCase", "NONE"),
         ("number", "NumberCase", "NUMBER"),
         ("color", "ColorCase", "COLOR"),

@@ -1,6 +1,6 @@
 // A plan as a text that one reads: an alias, a message or a variant a line.
 use std::alloc::{AllocError, Global};
-use tlsgen_model::plan::{Body, Element, Member, Plan, Shape, Type, Variant};
+use tlsgen_model::plan::{Body, Context, Element, Member, Plan, Shape, Type, Variant};
 
 pub fn show(alloc: Global, plan: &Plan) -> Result<String, AllocError> {
     let mut out = String::new(alloc);
@@ -15,9 +15,18 @@ pub fn show(alloc: Global, plan: &Plan) -> Result<String, AllocError> {
         let module = message.module.as_str();
         let lent = if message.is_lent { "lent " } else { "" };
         write!(&mut out, "{lent}{module}.{name}")?;
+        if let Some(context) = &message.context {
+            show_context(&mut out, context)?;
+        }
         show_body(&mut out, &message.body)?;
     }
     Ok(out)
+}
+
+fn show_context(out: &mut String, context: &Context) -> Result<(), AllocError> {
+    let name = context.name.as_str();
+    write!(out, " for {name} ")?;
+    show_element(out, &context.of)
 }
 
 fn show_body(out: &mut String, body: &Body) -> Result<(), AllocError> {
@@ -42,19 +51,36 @@ fn show_body(out: &mut String, body: &Body) -> Result<(), AllocError> {
         }
         Body::Choice { width, variants } => {
             write!(out, " by {width}:\n")?;
-            for variant in variants {
-                show_variant(out, variant)?;
+            show_variants(out, variants)
+        }
+        Body::Sum {
+            width,
+            length,
+            variants,
+        } => {
+            write!(out, " sum by {width}")?;
+            if let Some(length) = length {
+                write!(out, ", length of {length}")?;
             }
-            Ok(())
+            out.push_str(":\n")?;
+            show_variants(out, variants)
         }
     }
+}
+
+fn show_variants(out: &mut String, variants: &[Variant]) -> Result<(), AllocError> {
+    for variant in variants {
+        show_variant(out, variant)?;
+    }
+    Ok(())
 }
 
 fn show_variant(out: &mut String, variant: &Variant) -> Result<(), AllocError> {
     let name = variant.name.as_str();
     let constant = variant.constant.as_str();
     let tag = variant.tag;
-    write!(out, "  {name} {constant} {tag}:")?;
+    let fills = if variant.fills { " fills" } else { "" };
+    write!(out, "  {name} {constant} {tag}{fills}:")?;
     show_members(out, &variant.fields)
 }
 
@@ -63,22 +89,16 @@ fn show_members(out: &mut String, members: &[Member]) -> Result<(), AllocError> 
         let name = member.name.as_str();
         write!(out, " {name} ")?;
         show_type(out, &member.of)?;
+        if member.is_in_context {
+            out.push('*')?;
+        }
         out.push(',')?;
     }
     out.push('\n')
 }
 
 fn show_type(out: &mut String, of: &Type) -> Result<(), AllocError> {
-    match &of.element {
-        Element::Integer(width) => write!(out, "u{width}")?,
-        Element::Opaque => out.push_str("opaque")?,
-        Element::Text => out.push_str("text")?,
-        Element::Message(name) => out.push_str(name.as_str())?,
-        Element::Alias(name) => {
-            let name = name.as_str();
-            write!(out, "={name}")?;
-        }
-    }
+    show_element(out, &of.element)?;
     if of.is_optional {
         out.push('?')?;
     }
@@ -87,5 +107,18 @@ fn show_type(out: &mut String, of: &Type) -> Result<(), AllocError> {
         Shape::Array(count) => write!(out, "[{count}]"),
         Shape::Variable => out.push_str("<V>"),
         Shape::Bounded { width, least, most } => write!(out, "<{width}: {least}..{most}>"),
+    }
+}
+
+fn show_element(out: &mut String, element: &Element) -> Result<(), AllocError> {
+    match element {
+        Element::Integer(width) => write!(out, "u{width}"),
+        Element::Opaque => out.push_str("opaque"),
+        Element::Text => out.push_str("text"),
+        Element::Message(name) => out.push_str(name.as_str()),
+        Element::Alias(name) => {
+            let name = name.as_str();
+            write!(out, "={name}")
+        }
     }
 }

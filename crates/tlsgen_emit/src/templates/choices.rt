@@ -29,7 +29,7 @@ pub static NAMES_USE: &str =
 /// What is brought in for a case without fields.
 pub static NOTHING: &str = "nothing_names, nothing_source_names, ";
 
-static TEXTS: [Lines; 16] = [
+static TEXTS: [Lines; 17] = [
     Lines {
         hole: "constants",
         before: "",
@@ -39,18 +39,7 @@ static TEXTS: [Lines; 16] = [
         behind: "",
         alone: None,
     },
-    Lines {
-        hole: "variants",
-        before: "",
-        each: "    /// `case $label$:`
-    $variant$ {
-$declared$    },
-",
-        bare: Some("    /// `case $label$:`\n    $variant$,\n"),
-        one: Some("    /// `case $label$: $stated$`\n    $variant$($types$),\n"),
-        behind: "",
-        alone: None,
-    },
+    VARIANTS,
     Lines {
         hole: "counts",
         before: "        match $matched$ {\n",
@@ -140,38 +129,9 @@ $declared$    },
         behind: "",
         alone: None,
     },
-    Lines {
-        hole: "plains",
-        before: "",
-        each: "$module$_plain $value$ = Join (Number $number$) $plain$\n",
-        bare: None,
-        one: None,
-        behind: "",
-        alone: Some("$module$_plain v = Join (Number $number$) Empty\n"),
-    },
-    Lines {
-        hole: "tags",
-        before: "",
-        each: "$module$_tag $value$ = $number$\n",
-        bare: None,
-        one: None,
-        behind: "",
-        alone: Some("$module$_tag v = $number$\n"),
-    },
-    Lines {
-        hole: "cases",
-        before: "",
-        each: "    ensures case_$number$ { ($lefts$ $rights$ : _) →
-        ⟦<$name$$static$ as PartialEq>⟧.eq ($name$.$variant$ $lefts$) ($name$.$variant$ $rights$)
-        ≡ $alike$ }
-",
-        bare: Some(
-            "    ensures case_$number$ { ⟦<$name$$static$ as PartialEq>⟧.eq $name$.$variant$ $name$.$variant$ ≡ true }\n",
-        ),
-        one: None,
-        behind: "",
-        alone: None,
-    },
+    PLAINS,
+    TAGS,
+    CASES,
     Lines {
         hole: "formats",
         before: "",
@@ -190,15 +150,7 @@ $declared$    },
         behind: "    no_variant_meets",
         alone: None,
     },
-    Lines {
-        hole: "variants_use",
-        before: "use Rattle.$crate$.specs.declared.$module$.$name$.TheVariants.{",
-        each: "$comma$$variant$",
-        bare: None,
-        one: None,
-        behind: "}\n",
-        alone: Some(""),
-    },
+    VARIANTS_USE,
     Lines {
         hole: "closing",
         before: "",
@@ -208,7 +160,82 @@ $declared$    },
         behind: "",
         alone: None,
     },
+    DEFINED,
 ];
+
+/// The cases of the enum.
+pub const VARIANTS: Lines = Lines {
+    hole: "variants",
+    before: "",
+    each: "    /// `case $label$:`
+    $variant$ {
+$declared$    },
+",
+    bare: Some("    /// `case $label$:`\n    $variant$,\n"),
+    one: Some("    /// `case $label$: $stated$`\n    $variant$($types$),\n"),
+    behind: "",
+    alone: None,
+};
+
+/// What each stands for.
+pub const PLAINS: Lines = Lines {
+    hole: "plains",
+    before: "",
+    each: "$module$_plain $value$ = Join (Number $number$) $plain$\n",
+    bare: None,
+    one: None,
+    behind: "",
+    alone: Some("$module$_plain v = Join (Number $number$) Empty\n"),
+};
+
+/// The tag of each.
+pub const TAGS: Lines = Lines {
+    hole: "tags",
+    before: "",
+    each: "$module$_tag $value$ = $number$\n",
+    bare: None,
+    one: None,
+    behind: "",
+    alone: Some("$module$_tag v = $number$\n"),
+};
+
+/// Where two of one case are equal.
+pub const CASES: Lines = Lines {
+    hole: "cases",
+    before: "",
+    each: "    ensures case_$number$ { ($lefts$ $rights$ : _) →
+        ⟦<$name$$static$ as PartialEq>⟧.eq ($name$.$variant$ $lefts$) ($name$.$variant$ $rights$)
+        ≡ $alike$ }
+",
+    bare: Some(
+        "    ensures case_$number$ { ⟦<$name$$static$ as PartialEq>⟧.eq $name$.$variant$ $name$.$variant$ ≡ true }\n",
+    ),
+    one: None,
+    behind: "",
+    alone: None,
+};
+
+/// The cases that the definitions bring in.
+pub const VARIANTS_USE: Lines = Lines {
+    hole: "variants_use",
+    before: "use Rattle.$crate$.specs.declared.$module$.$name$.TheVariants.{",
+    each: "$comma$$variant$",
+    bare: None,
+    one: None,
+    behind: "}\n",
+    alone: Some(""),
+};
+
+/// The definitions of all but the format and its law.
+pub const DEFINED: Lines = Lines {
+    hole: "defined",
+    before: PARTS,
+    each: "",
+    bare: None,
+    one: None,
+    behind: "",
+    alone: None,
+};
 
 const CODE: &str = "$constants$$doc$$lent_doc$#[derive($derives$)]
 pub enum $name$$lifetime$ {
@@ -260,7 +287,7 @@ $splits$            _ => Err(unknown_value($u64$)),
 }
 ";
 
-const LAW: &str = "
+pub const LAW: &str = "
 /// Two are equal exactly where they are of one case, and each field is.
 pub fn is_compared_by_its_case()
     ensures tag { (x y : $name$) →
@@ -268,7 +295,7 @@ pub fn is_compared_by_its_case()
 $cases${}
 ";
 
-const SPECS: &str = "-- the tag of each case
+const PARTS: &str = "-- the tag of each case
 abbrev pub $module$_tag : $name$ → ℕ
 $tags$
 abbrev pub $module$_plain : $name$ → Tree
@@ -280,7 +307,9 @@ $formats$$closing$
 pub $module$_variants_meet : MeetVariantLaws $module$_variants
 $module$_variants_meet =
 $laws$$closing$
+";
 
+pub const SPECS: &str = "$defined$
 abbrev pub $module$_format : Format
 $module$_format = tagged_format $width$ $module$_variants
 

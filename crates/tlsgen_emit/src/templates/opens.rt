@@ -1,12 +1,12 @@
 //! An open enum: a struct over its number.
 
-use super::{Templates, structs};
+use super::Templates;
 use crate::lines::Lines;
 
 /// The templates.
 pub fn templates() -> Templates {
     Templates {
-        ghost_uses: structs::GHOST_USES,
+        ghost_uses: GHOST_USES,
         code: CODE,
         decoders: "",
         law: LAW,
@@ -14,6 +14,11 @@ pub fn templates() -> Templates {
         texts: &TEXTS,
     }
 }
+
+const GHOST_USES: &str =
+    "ghost use Rattle.$crate$.specs.$name$.{$module$_format, $module$_meets, $module$_plain$selected_use$};
+ghost use Rattle.$crate$.specs.declared.$module$.$name$.{$name$};
+";
 
 static TEXTS: [Lines; 2] = [
     Lines {
@@ -85,7 +90,7 @@ impl DeserializeBytes for $name$ {
         Ok(($name$(number), rest))
     }
 }
-";
+$selector$";
 
 const LAW: &str = "
 /// Two are equal exactly where their numbers are.
@@ -103,4 +108,4 @@ $module$_format = number_format $width$
 
 pub $module$_meets : MeetsLaws $module$_format
 $module$_meets = u$bits$_meets
-";
+$selection$";

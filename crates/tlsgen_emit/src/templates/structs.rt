@@ -17,7 +17,7 @@ pub fn templates() -> Templates {
 }
 
 /// No variants are brought in.
-static TEXTS: [Lines; 1] = [Lines {
+pub static TEXTS: [Lines; 1] = [Lines {
     hole: "variants_use",
     before: "",
     each: "",
@@ -73,13 +73,13 @@ impl DeserializeBytes for $name$ {
     ghost names = { ⟦<$types$ as DeserializeBytes>⟧.names };
 
     fn tls_deserialize_bytes(alloc: Global, whole: &[u8]) -> Result<($name$, &[u8]), Error> {
-        let ($pattern$, rest) = $path$::tls_deserialize_bytes(alloc, whole)?;
-        Ok(($name$ { $fields$ }, rest))
+        let ($split$, rest) = $path$::tls_deserialize_bytes(alloc, whole)?;
+$apart$        Ok(($name$ { $fields$ }, rest))
     }
 }
 ";
 
-const LAW: &str = "
+pub const LAW: &str = "
 /// Two are equal exactly where each field is.
 pub fn is_compared_by_its_fields()
     ensures { (x y : $name$) →

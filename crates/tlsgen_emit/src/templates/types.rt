@@ -73,6 +73,15 @@ pub static MESSAGE: Kind = Kind {
     law: "$module$_meets",
 };
 
+/// One that a context decides, which the definitions call `c`.
+pub static MESSAGE_IN_CONTEXT: Kind = Kind {
+    rust: "$name$",
+    plain: "$module$_plain",
+    tree: "$module$_plain $v$",
+    format: "$module$_format_for c",
+    law: "$module$_meets_for c",
+};
+
 // Those of other types have holes for the texts of these.
 
 pub static OPTION: Kind = Kind {

@@ -17,7 +17,7 @@ pub fn templates() -> Templates {
 
 const GHOST_USES: &str =
     "ghost use Rattle.tls_codec.specs.OwnMessages.{values_names, values_source_names};
-ghost use Rattle.$crate$.specs.$name$.{$module$_code, $module$_format, $module$_has, $module$_meets, $module$_plain};
+ghost use Rattle.$crate$.specs.$name$.{$module$_code, $module$_format, $module$_has, $module$_meets, $module$_plain$selected_use$};
 ghost use Rattle.$crate$.specs.declared.$module$.$name$.{$name$};
 ";
 
@@ -144,7 +144,7 @@ impl DeserializeBytes for $name$ {
         }
     }
 }
-";
+$selector$";
 
 const LAW: &str = "
 /// Two are equal exactly where their numbers are.
@@ -172,7 +172,7 @@ $module$_format = values_format $width$ $module$_has
 
 pub $module$_meets : MeetsLaws $module$_format
 $module$_meets = tagged_meets $width$ (omega arith) (values_meet $module$_has)
-";
+$selection$";
 
 /// What the answers cite of the definitions.
 pub static CITED: &str = "use Rattle.$crate$.specs.$name$.{$module$_has, $module$_known}

@@ -1,6 +1,6 @@
 //! Fields and aliases.
 ghost use Rattle.std.specs.Prelude.{◌≡◌, ◌<◌, ◌≤◌, ◌∷◌, IfOk, OnOk, true};
-ghost use Rattle.tlsgen_syntax.specs.Signs.{IsCalled, constant_then, constant_value_then, count_left, ended_field_then, mark, number_then, separated_then, signs_left, type_then, typed_then, vector_then};
+ghost use Rattle.tlsgen_syntax.specs.Signs.{IsCalled, case_field_then, constant_then, constant_value_then, count_left, field_then, mark, number_then, separated_then, signs_left, type_then, typed_then, vector_then};
 
 use crate::parser::selects::path;
 use crate::refusal::Trouble;
@@ -10,9 +10,9 @@ use crate::tokens::Tokens;
 use std::alloc::Global;
 
 /// `field ";"`
-pub(crate) fn ended_field(alloc: Global, tokens: &mut Tokens<'_>) -> Result<Field, Trouble>
+pub(crate) fn field(alloc: Global, tokens: &mut Tokens<'_>) -> Result<Field, Trouble>
     ensures read { IfOk result (λ field. signs_left tokens.old ≡
-        ended_field_then field (signs_left tokens.new)) }
+        field_then field (signs_left tokens.new)) }
     ensures named { IfOk result (λ field. field.is_named ≡ true) }
     ensures fewer { OnOk result (count_left tokens.new < count_left tokens.old) }
 {
@@ -23,7 +23,7 @@ pub(crate) fn ended_field(alloc: Global, tokens: &mut Tokens<'_>) -> Result<Fiel
 /// `field ";"` or, in a case, `type ";"`
 pub(crate) fn case_field(alloc: Global, tokens: &mut Tokens<'_>) -> Result<Field, Trouble>
     ensures read { IfOk result (λ field. signs_left tokens.old ≡
-        ended_field_then field (signs_left tokens.new)) }
+        case_field_then field (signs_left tokens.new)) }
     ensures named { IfOk result IsCalled }
     ensures fewer { OnOk result (count_left tokens.new < count_left tokens.old) }
 {
@@ -50,7 +50,7 @@ fn named_field(
     of: Name,
 ) -> Result<Field, Trouble>
     ensures read { IfOk result (λ field. typed_then is_optional of (signs_left tokens.old) ≡
-        ended_field_then field (signs_left tokens.new)) }
+        field_then field (signs_left tokens.new)) }
     ensures named { IfOk result (λ field. field.is_named ≡ true) }
     ensures fewer { OnOk result (count_left tokens.new < count_left tokens.old) }
 {
@@ -71,7 +71,7 @@ fn named_field(
 /// `type NAME vector ";"`
 pub(crate) fn alias(alloc: Global, tokens: &mut Tokens<'_>) -> Result<Field, Trouble>
     ensures read { IfOk result (λ field. signs_left tokens.old ≡
-        ended_field_then field (signs_left tokens.new)) }
+        field_then field (signs_left tokens.new)) }
     ensures named { IfOk result (λ field. field.is_named ≡ true) }
     ensures fewer { OnOk result (count_left tokens.new < count_left tokens.old) }
 {
@@ -164,7 +164,7 @@ fn bounds(alloc: Global, tokens: &mut Tokens<'_>) -> Result<Vector, Trouble>
         vector_then vector (signs_left tokens.new)) }
     ensures fewer { OnOk result (count_left tokens.new ≤ count_left tokens.old) }
 {
-    if tokens.take_variable() {
+    if tokens.take_word("V") {
         tokens.expect(alloc, Mark::ClosingAngle, ">")?;
         return Ok(Vector::Variable);
     }

@@ -2,7 +2,7 @@
 ghost use Rattle.std.specs.Prelude.{◌≡◌, ◌<◌, ◌∷◌, IfOk, OnOk};
 ghost use Rattle.tlsgen_syntax.specs.Signs.{count_left, each_then, mark, part_then, signs_left, struct_then};
 
-use crate::parser::fields::ended_field;
+use crate::parser::fields::field;
 use crate::parser::selects::select;
 use crate::refusal::Trouble;
 use crate::syntax::{Part, Struct};
@@ -50,5 +50,5 @@ fn part(alloc: Global, tokens: &mut Tokens<'_>) -> Result<Part, Trouble>
     if tokens.mark() == Some(Mark::Select) {
         return Ok(Part::Select(select(alloc, tokens)?));
     }
-    Ok(Part::Field(ended_field(alloc, tokens)?))
+    Ok(Part::Field(field(alloc, tokens)?))
 }

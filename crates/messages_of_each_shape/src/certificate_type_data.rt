@@ -1,0 +1,126 @@
+//! [`CertificateTypeData`].
+ghost use Rattle.std.specs.Prelude.{◌≡◌, IsTrue};
+ghost use Rattle.messages_of_each_shape.specs.CertificateTypeData.{certificate_type_data_format_for, certificate_type_data_meets_for, certificate_type_data_plain, certificate_type_data_tag};
+ghost use Rattle.messages_of_each_shape.specs.declared.certificate_type_data.CertificateTypeData.{CertificateTypeData};
+
+use crate::CertificateType;
+use std::alloc::Global;
+use tls_codec::{
+    DeserializeBytesFor, DeserializeFor, Error, Lent, SerializeFor, Sink, SizeFor, Source,
+    TlsByteVec, U24, VLBytes, Within,
+};
+use tls_codec_cases::{Case, Chosen, Or, append_as_for, write_as_for};
+
+/// `select (certificate_type)` of `Entry`: no byte of it tells the tag.
+#[derive(PartialEq, Eq, Debug, Clone, Drop)]
+pub enum CertificateTypeData {
+    /// `case X509: opaque cert_data<1..2^24-1>;`
+    X509(TlsByteVec<Within<U24, 1, 16777215>>),
+    /// `case RawPublicKey: opaque ASN1_subjectPublicKeyInfo<V>;`
+    RawPublicKey(VLBytes),
+}
+
+type Cases = Chosen<Or<Case<0, TlsByteVec<Within<U24, 1, 16777215>>>, Case<2, VLBytes>>>;
+
+type LentCases<'a> = Chosen<
+    Or<Case<0, Lent<'a, TlsByteVec<Within<U24, 1, 16777215>>>>, Case<2, Lent<'a, VLBytes>>>,
+>;
+
+impl CertificateTypeData {
+    fn cases(&self) -> LentCases<'_>
+        ensures { ⟦<LentCases<'static> as SizeFor<CertificateType>>⟧.plain result
+            ≡ certificate_type_data_plain self.now }
+    {
+        let cases = match self {
+            CertificateTypeData::X509(cert_data) => Or::First(Case(Lent(cert_data))),
+            CertificateTypeData::RawPublicKey(asn1_subject_public_key_info) => Or::Second(Case(Lent(
+                asn1_subject_public_key_info,
+            ))),
+        };
+        Chosen(cases)
+    }
+
+    fn of(cases: Cases) -> CertificateTypeData
+        ensures { certificate_type_data_plain result ≡ ⟦<Cases as SizeFor<CertificateType>>⟧.plain
+            cases }
+    {
+        match cases.0 {
+            Or::First(case) => CertificateTypeData::X509(case.0),
+            Or::Second(case) => CertificateTypeData::RawPublicKey(case.0),
+        }
+    }
+}
+
+impl SizeFor<CertificateType> for CertificateTypeData {
+    ghost plain = { certificate_type_data_plain };
+
+    ghost format_for = { certificate_type_data_format_for };
+
+    fn tls_serialized_len_for(&self, certificate_type: &CertificateType) -> usize {
+        self.cases().tls_serialized_len_for(certificate_type)
+    }
+
+    ghost lawful = { certificate_type_data_meets_for };
+}
+
+/// `EncodingError("value does not fit its context")`: the value is of another case.
+impl SerializeFor<CertificateType> for CertificateTypeData {
+    fn tls_serialize_for<W: Sink>(
+        &self,
+        certificate_type: &CertificateType,
+        writer: &mut W,
+    ) -> Result<usize, Error> {
+        write_as_for(self, &self.cases(), certificate_type, writer)
+    }
+
+    fn tls_serialize_into_for(
+        &self,
+        certificate_type: &CertificateType,
+        out: &mut Vec<u8>,
+    ) -> Result<usize, Error> {
+        append_as_for(self, &self.cases(), certificate_type, out)
+    }
+}
+
+impl DeserializeFor<CertificateType> for CertificateTypeData {
+    ghost names = { ⟦<Cases as DeserializeFor<CertificateType>>⟧.names };
+
+    /// `UnknownValue`: no case has the context's tag.
+    fn tls_deserialize_for<R: Source>(
+        certificate_type: &CertificateType,
+        alloc: Global,
+        src: &mut R,
+    ) -> Result<CertificateTypeData, Error> {
+        let cases = <Cases>::tls_deserialize_for(certificate_type, alloc, src)?;
+        Ok(CertificateTypeData::of(cases))
+    }
+}
+
+impl DeserializeBytesFor<CertificateType> for CertificateTypeData {
+    ghost names = { ⟦<Cases as DeserializeBytesFor<CertificateType>>⟧.names };
+
+    /// `UnknownValue`: no case has the context's tag.
+    fn tls_deserialize_bytes_for<'a>(
+        certificate_type: &CertificateType,
+        alloc: Global,
+        whole: &'a [u8],
+    ) -> Result<(CertificateTypeData, &'a [u8]), Error> {
+        let (cases, rest) = <Cases>::tls_deserialize_bytes_for(certificate_type, alloc, whole)?;
+        Ok((CertificateTypeData::of(cases), rest))
+    }
+}
+
+/// Two are equal exactly where they are of one case, and each field is.
+pub fn is_compared_by_its_case()
+    ensures tag { (x y : CertificateTypeData) →
+        IsTrue (⟦<CertificateTypeData as PartialEq>⟧.eq x y)
+        → certificate_type_data_tag x ≡ certificate_type_data_tag y }
+    ensures case_0 { (a0 b0 : _) →
+        ⟦<CertificateTypeData as PartialEq>⟧.eq (CertificateTypeData.X509 a0)
+        (CertificateTypeData.X509 b0)
+        ≡ ⟦<TlsByteVec<Within<U24, 1, 16777215>> as PartialEq>⟧.eq a0 b0 }
+    ensures case_2 { (a0 b0 : _) →
+        ⟦<CertificateTypeData as PartialEq>⟧.eq (CertificateTypeData.RawPublicKey a0)
+        (CertificateTypeData.RawPublicKey b0)
+        ≡ ⟦<VLBytes as PartialEq>⟧.eq a0 b0 }
+{}

@@ -1,0 +1,95 @@
+//! [`Entries`].
+ghost use Rattle.std.specs.Prelude.{◌≡◌, ◌&&◌};
+ghost use Rattle.messages_of_each_shape.specs.Entries.{entries_format_for, entries_meets_for, entries_plain};
+ghost use Rattle.messages_of_each_shape.specs.declared.entries.Entries.{Entries};
+
+use crate::{CertificateType, Entry};
+use std::alloc::Global;
+use tls_codec::{
+    Always, DeserializeBytesFor, DeserializeFor, Error, Lent, LentIn, SerializeFor, Sink, SizeFor,
+    Source, TlsVecU24,
+};
+
+/// `Entries`.
+#[derive(PartialEq, Eq, Debug, Clone, Drop)]
+pub struct Entries {
+    /// `uint8 count;`
+    pub count: u8,
+    /// `Entry entries<0..2^24-1>;`
+    pub entries: TlsVecU24<Entry>,
+}
+
+impl SizeFor<CertificateType> for Entries {
+    ghost plain = { entries_plain };
+
+    ghost format_for = { entries_format_for };
+
+    fn tls_serialized_len_for(&self, certificate_type: &CertificateType) -> usize {
+        (Lent(&self.count), LentIn(&self.entries)).tls_serialized_len_for(certificate_type)
+    }
+
+    ghost lawful = { entries_meets_for };
+}
+
+/// `EncodingError("value does not fit its context")`: a field is of another case.
+impl SerializeFor<CertificateType> for Entries {
+    fn tls_serialize_for<W: Sink>(
+        &self,
+        certificate_type: &CertificateType,
+        writer: &mut W,
+    ) -> Result<usize, Error> {
+        (Lent(&self.count), LentIn(&self.entries)).tls_serialize_for(certificate_type, writer)
+    }
+
+    fn tls_serialize_into_for(
+        &self,
+        certificate_type: &CertificateType,
+        out: &mut Vec<u8>,
+    ) -> Result<usize, Error> {
+        (Lent(&self.count), LentIn(&self.entries)).tls_serialize_into_for(certificate_type, out)
+    }
+}
+
+impl DeserializeFor<CertificateType> for Entries {
+    ghost names = { ⟦<(Always<u8>, TlsVecU24<Entry>) as DeserializeFor<CertificateType>>⟧.names };
+
+    fn tls_deserialize_for<R: Source>(
+        certificate_type: &CertificateType,
+        alloc: Global,
+        src: &mut R,
+    ) -> Result<Entries, Error> {
+        let parts = <(Always<u8>, TlsVecU24<Entry>)>::tls_deserialize_for(
+            certificate_type,
+            alloc,
+            src,
+        )?;
+        let (Always(count), entries) = parts;
+        Ok(Entries { count, entries })
+    }
+}
+
+impl DeserializeBytesFor<CertificateType> for Entries {
+    ghost names = { ⟦<(Always<u8>, TlsVecU24<Entry>) as DeserializeBytesFor<CertificateType>>⟧.names };
+
+    fn tls_deserialize_bytes_for<'a>(
+        certificate_type: &CertificateType,
+        alloc: Global,
+        whole: &'a [u8],
+    ) -> Result<(Entries, &'a [u8]), Error> {
+        let (parts, rest) = <(Always<u8>, TlsVecU24<Entry>)>::tls_deserialize_bytes_for(
+            certificate_type,
+            alloc,
+            whole,
+        )?;
+        let (Always(count), entries) = parts;
+        Ok((Entries { count, entries }, rest))
+    }
+}
+
+/// Two are equal exactly where each field is.
+pub fn is_compared_by_its_fields()
+    ensures { (x y : Entries) →
+        ⟦<Entries as PartialEq>⟧.eq x y
+        ≡ (⟦<u8 as PartialEq>⟧.eq x.count y.count
+        && ⟦<TlsVecU24<Entry> as PartialEq>⟧.eq x.entries y.entries) }
+{}

@@ -1,0 +1,89 @@
+//! [`FormX04`].
+ghost use Rattle.std.specs.Prelude.{◌≡◌, MatchOption, false, nat_eq};
+ghost use Rattle.tls_codec.specs.OwnMessages.{values_names, values_source_names};
+ghost use Rattle.messages_of_each_shape.specs.FormX04.{form_x04_code, form_x04_format, form_x04_has, form_x04_meets, form_x04_plain};
+ghost use Rattle.messages_of_each_shape.specs.declared.form_x04.FormX04.{FormX04};
+
+use std::alloc::Global;
+use tls_codec::{
+    Deserialize, DeserializeBytes, Error, Serialize, Sink, Size, Source, unknown_value,
+};
+
+/// `FormX04`.
+#[derive(PartialEq, Eq, Debug, Clone, Copy)]
+pub enum FormX04 {
+    /// `0x04(4)`
+    X04,
+}
+
+impl FormX04 {
+    /// Its number.
+    pub fn code(&self) -> u8
+        ensures { result ≡ form_x04_code self.now }
+    {
+        4
+    }
+
+    /// The value that has this number.
+    pub fn of_code(code: u8) -> Option<FormX04>
+        ensures { MatchOption result (form_x04_has code ≡ false) (λ v. form_x04_code v ≡ code) }
+    {
+        match code {
+            4 => Some(FormX04::X04),
+            _ => None,
+        }
+    }
+}
+
+impl Size for FormX04 {
+    ghost plain = { form_x04_plain };
+
+    ghost format = { form_x04_format };
+
+    fn tls_serialized_len(&self) -> usize {
+        1
+    }
+
+    ghost lawful = { form_x04_meets };
+}
+
+impl Serialize for FormX04 {
+    fn tls_serialize<W: Sink>(&self, writer: &mut W) -> Result<usize, Error> {
+        self.code().tls_serialize(writer)
+    }
+
+    fn tls_serialize_into(&self, out: &mut Vec<u8>) -> Result<usize, Error> {
+        self.code().tls_serialize_into(out)
+    }
+}
+
+impl Deserialize for FormX04 {
+    ghost names = { values_source_names 1 form_x04_has };
+
+    fn tls_deserialize<R: Source>(alloc: Global, src: &mut R) -> Result<FormX04, Error> {
+        let tag = u8::tls_deserialize(alloc, src)?;
+        match FormX04::of_code(tag) {
+            Some(value) => Ok(value),
+            None => Err(unknown_value(u64::from(tag))),
+        }
+    }
+}
+
+impl DeserializeBytes for FormX04 {
+    ghost names = { values_names 1 form_x04_has };
+
+    fn tls_deserialize_bytes(alloc: Global, whole: &[u8]) -> Result<(FormX04, &[u8]), Error> {
+        let (tag, rest) = u8::tls_deserialize_bytes(alloc, whole)?;
+        match FormX04::of_code(tag) {
+            Some(value) => Ok((value, rest)),
+            None => Err(unknown_value(u64::from(tag))),
+        }
+    }
+}
+
+/// Two are equal exactly where their numbers are.
+pub fn is_compared_by_its_number()
+    ensures { (x y : FormX04) →
+        ⟦<FormX04 as PartialEq>⟧.eq x y
+        ≡ nat_eq (form_x04_code x) (form_x04_code y) }
+{}

@@ -1,0 +1,90 @@
+//! [`MagicX0102`].
+ghost use Rattle.std.specs.Prelude.{◌≡◌, MatchOption, false, nat_eq};
+ghost use Rattle.tls_codec.specs.OwnMessages.{values_names, values_source_names};
+ghost use Rattle.messages_of_each_shape.specs.MagicX0102.{magic_x0102_code, magic_x0102_format, magic_x0102_has, magic_x0102_meets, magic_x0102_plain};
+ghost use Rattle.messages_of_each_shape.specs.declared.magic_x0102.MagicX0102.{MagicX0102};
+
+use std::alloc::Global;
+use tls_codec::{
+    Deserialize, DeserializeBytes, Error, Serialize, Sink, Size, Source, unknown_value,
+};
+
+/// `MagicX0102`.
+#[derive(PartialEq, Eq, Debug, Clone, Copy)]
+pub enum MagicX0102 {
+    /// `0x0102(258)`
+    X0102,
+}
+
+impl MagicX0102 {
+    /// Its number.
+    pub fn code(&self) -> u16
+        ensures { result ≡ magic_x0102_code self.now }
+    {
+        258
+    }
+
+    /// The value that has this number.
+    pub fn of_code(code: u16) -> Option<MagicX0102>
+        ensures { MatchOption result (magic_x0102_has code ≡ false)
+            (λ v. magic_x0102_code v ≡ code) }
+    {
+        match code {
+            258 => Some(MagicX0102::X0102),
+            _ => None,
+        }
+    }
+}
+
+impl Size for MagicX0102 {
+    ghost plain = { magic_x0102_plain };
+
+    ghost format = { magic_x0102_format };
+
+    fn tls_serialized_len(&self) -> usize {
+        2
+    }
+
+    ghost lawful = { magic_x0102_meets };
+}
+
+impl Serialize for MagicX0102 {
+    fn tls_serialize<W: Sink>(&self, writer: &mut W) -> Result<usize, Error> {
+        self.code().tls_serialize(writer)
+    }
+
+    fn tls_serialize_into(&self, out: &mut Vec<u8>) -> Result<usize, Error> {
+        self.code().tls_serialize_into(out)
+    }
+}
+
+impl Deserialize for MagicX0102 {
+    ghost names = { values_source_names 2 magic_x0102_has };
+
+    fn tls_deserialize<R: Source>(alloc: Global, src: &mut R) -> Result<MagicX0102, Error> {
+        let tag = u16::tls_deserialize(alloc, src)?;
+        match MagicX0102::of_code(tag) {
+            Some(value) => Ok(value),
+            None => Err(unknown_value(u64::from(tag))),
+        }
+    }
+}
+
+impl DeserializeBytes for MagicX0102 {
+    ghost names = { values_names 2 magic_x0102_has };
+
+    fn tls_deserialize_bytes(alloc: Global, whole: &[u8]) -> Result<(MagicX0102, &[u8]), Error> {
+        let (tag, rest) = u16::tls_deserialize_bytes(alloc, whole)?;
+        match MagicX0102::of_code(tag) {
+            Some(value) => Ok((value, rest)),
+            None => Err(unknown_value(u64::from(tag))),
+        }
+    }
+}
+
+/// Two are equal exactly where their numbers are.
+pub fn is_compared_by_its_number()
+    ensures { (x y : MagicX0102) →
+        ⟦<MagicX0102 as PartialEq>⟧.eq x y
+        ≡ nat_eq (magic_x0102_code x) (magic_x0102_code y) }
+{}

@@ -1,0 +1,93 @@
+//! [`NameTypeHostName`].
+ghost use Rattle.std.specs.Prelude.{◌≡◌, MatchOption, false, nat_eq};
+ghost use Rattle.tls_codec.specs.OwnMessages.{values_names, values_source_names};
+ghost use Rattle.messages_of_each_shape.specs.NameTypeHostName.{name_type_host_name_code, name_type_host_name_format, name_type_host_name_has, name_type_host_name_meets, name_type_host_name_plain};
+ghost use Rattle.messages_of_each_shape.specs.declared.name_type_host_name.NameTypeHostName.{NameTypeHostName};
+
+use std::alloc::Global;
+use tls_codec::{
+    Deserialize, DeserializeBytes, Error, Serialize, Sink, Size, Source, unknown_value,
+};
+
+/// `NameTypeHostName`.
+#[derive(PartialEq, Eq, Debug, Clone, Copy)]
+pub enum NameTypeHostName {
+    /// `host_name(0)`
+    HostName,
+}
+
+impl NameTypeHostName {
+    /// Its number.
+    pub fn code(&self) -> u8
+        ensures { result ≡ name_type_host_name_code self.now }
+    {
+        0
+    }
+
+    /// The value that has this number.
+    pub fn of_code(code: u8) -> Option<NameTypeHostName>
+        ensures { MatchOption result (name_type_host_name_has code ≡ false)
+            (λ v. name_type_host_name_code v ≡ code) }
+    {
+        match code {
+            0 => Some(NameTypeHostName::HostName),
+            _ => None,
+        }
+    }
+}
+
+impl Size for NameTypeHostName {
+    ghost plain = { name_type_host_name_plain };
+
+    ghost format = { name_type_host_name_format };
+
+    fn tls_serialized_len(&self) -> usize {
+        1
+    }
+
+    ghost lawful = { name_type_host_name_meets };
+}
+
+impl Serialize for NameTypeHostName {
+    fn tls_serialize<W: Sink>(&self, writer: &mut W) -> Result<usize, Error> {
+        self.code().tls_serialize(writer)
+    }
+
+    fn tls_serialize_into(&self, out: &mut Vec<u8>) -> Result<usize, Error> {
+        self.code().tls_serialize_into(out)
+    }
+}
+
+impl Deserialize for NameTypeHostName {
+    ghost names = { values_source_names 1 name_type_host_name_has };
+
+    fn tls_deserialize<R: Source>(alloc: Global, src: &mut R) -> Result<NameTypeHostName, Error> {
+        let tag = u8::tls_deserialize(alloc, src)?;
+        match NameTypeHostName::of_code(tag) {
+            Some(value) => Ok(value),
+            None => Err(unknown_value(u64::from(tag))),
+        }
+    }
+}
+
+impl DeserializeBytes for NameTypeHostName {
+    ghost names = { values_names 1 name_type_host_name_has };
+
+    fn tls_deserialize_bytes(
+        alloc: Global,
+        whole: &[u8],
+    ) -> Result<(NameTypeHostName, &[u8]), Error> {
+        let (tag, rest) = u8::tls_deserialize_bytes(alloc, whole)?;
+        match NameTypeHostName::of_code(tag) {
+            Some(value) => Ok((value, rest)),
+            None => Err(unknown_value(u64::from(tag))),
+        }
+    }
+}
+
+/// Two are equal exactly where their numbers are.
+pub fn is_compared_by_its_number()
+    ensures { (x y : NameTypeHostName) →
+        ⟦<NameTypeHostName as PartialEq>⟧.eq x y
+        ≡ nat_eq (name_type_host_name_code x) (name_type_host_name_code y) }
+{}

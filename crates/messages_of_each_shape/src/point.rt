@@ -1,0 +1,72 @@
+//! [`Point`].
+ghost use Rattle.std.specs.Prelude.{◌≡◌, ◌&&◌};
+ghost use Rattle.messages_of_each_shape.specs.Point.{point_format, point_meets, point_plain};
+ghost use Rattle.messages_of_each_shape.specs.declared.point.Point.{Point};
+
+use crate::FormX04;
+use std::alloc::Global;
+use tls_codec::{
+    Deserialize, DeserializeBytes, Error, Lent, Serialize, Sink, Size, Source, VLBytes,
+};
+
+/// `Point`.
+#[derive(PartialEq, Eq, Debug, Clone, Drop)]
+pub struct Point {
+    /// `uint8 form;`
+    pub form: FormX04,
+    /// `opaque x<V>;`
+    pub x: VLBytes,
+    /// `opaque y<V>;`
+    pub y: VLBytes,
+}
+
+impl Size for Point {
+    ghost plain = { point_plain };
+
+    ghost format = { point_format };
+
+    fn tls_serialized_len(&self) -> usize {
+        (Lent(&self.form), Lent(&self.x), Lent(&self.y)).tls_serialized_len()
+    }
+
+    ghost lawful = { point_meets };
+}
+
+impl Serialize for Point {
+    fn tls_serialize<W: Sink>(&self, writer: &mut W) -> Result<usize, Error> {
+        (Lent(&self.form), Lent(&self.x), Lent(&self.y)).tls_serialize(writer)
+    }
+
+    fn tls_serialize_into(&self, out: &mut Vec<u8>) -> Result<usize, Error> {
+        (Lent(&self.form), Lent(&self.x), Lent(&self.y)).tls_serialize_into(out)
+    }
+}
+
+impl Deserialize for Point {
+    ghost names = { ⟦<(FormX04, VLBytes, VLBytes) as Deserialize>⟧.names };
+
+    fn tls_deserialize<R: Source>(alloc: Global, src: &mut R) -> Result<Point, Error> {
+        let (form, x, y) = <(FormX04, VLBytes, VLBytes)>::tls_deserialize(alloc, src)?;
+        Ok(Point { form, x, y })
+    }
+}
+
+impl DeserializeBytes for Point {
+    ghost names = { ⟦<(FormX04, VLBytes, VLBytes) as DeserializeBytes>⟧.names };
+
+    fn tls_deserialize_bytes(alloc: Global, whole: &[u8]) -> Result<(Point, &[u8]), Error> {
+        let ((form, x, y), rest) = <(FormX04, VLBytes, VLBytes)>::tls_deserialize_bytes(
+            alloc, whole,
+        )?;
+        Ok((Point { form, x, y }, rest))
+    }
+}
+
+/// Two are equal exactly where each field is.
+pub fn is_compared_by_its_fields()
+    ensures { (x y : Point) →
+        ⟦<Point as PartialEq>⟧.eq x y
+        ≡ (⟦<FormX04 as PartialEq>⟧.eq x.form y.form
+        && (⟦<VLBytes as PartialEq>⟧.eq x.x y.x
+        && ⟦<VLBytes as PartialEq>⟧.eq x.y y.y)) }
+{}

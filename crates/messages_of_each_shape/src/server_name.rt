@@ -1,0 +1,67 @@
+//! [`ServerName`].
+ghost use Rattle.std.specs.Prelude.{◌≡◌, ◌&&◌};
+ghost use Rattle.messages_of_each_shape.specs.ServerName.{server_name_format, server_name_meets, server_name_plain};
+ghost use Rattle.messages_of_each_shape.specs.declared.server_name.ServerName.{ServerName};
+
+use crate::{HostName, NameTypeHostName};
+use std::alloc::Global;
+use tls_codec::{Deserialize, DeserializeBytes, Error, Lent, Serialize, Sink, Size, Source};
+
+/// `ServerName`.
+#[derive(PartialEq, Eq, Debug, Clone, Drop)]
+pub struct ServerName {
+    /// `NameType name_type;`
+    pub name_type: NameTypeHostName,
+    /// `HostName;`
+    pub name: HostName,
+}
+
+impl Size for ServerName {
+    ghost plain = { server_name_plain };
+
+    ghost format = { server_name_format };
+
+    fn tls_serialized_len(&self) -> usize {
+        (Lent(&self.name_type), Lent(&self.name)).tls_serialized_len()
+    }
+
+    ghost lawful = { server_name_meets };
+}
+
+impl Serialize for ServerName {
+    fn tls_serialize<W: Sink>(&self, writer: &mut W) -> Result<usize, Error> {
+        (Lent(&self.name_type), Lent(&self.name)).tls_serialize(writer)
+    }
+
+    fn tls_serialize_into(&self, out: &mut Vec<u8>) -> Result<usize, Error> {
+        (Lent(&self.name_type), Lent(&self.name)).tls_serialize_into(out)
+    }
+}
+
+impl Deserialize for ServerName {
+    ghost names = { ⟦<(NameTypeHostName, HostName) as Deserialize>⟧.names };
+
+    fn tls_deserialize<R: Source>(alloc: Global, src: &mut R) -> Result<ServerName, Error> {
+        let (name_type, name) = <(NameTypeHostName, HostName)>::tls_deserialize(alloc, src)?;
+        Ok(ServerName { name_type, name })
+    }
+}
+
+impl DeserializeBytes for ServerName {
+    ghost names = { ⟦<(NameTypeHostName, HostName) as DeserializeBytes>⟧.names };
+
+    fn tls_deserialize_bytes(alloc: Global, whole: &[u8]) -> Result<(ServerName, &[u8]), Error> {
+        let ((name_type, name), rest) = <(NameTypeHostName, HostName)>::tls_deserialize_bytes(
+            alloc, whole,
+        )?;
+        Ok((ServerName { name_type, name }, rest))
+    }
+}
+
+/// Two are equal exactly where each field is.
+pub fn is_compared_by_its_fields()
+    ensures { (x y : ServerName) →
+        ⟦<ServerName as PartialEq>⟧.eq x y
+        ≡ (⟦<NameTypeHostName as PartialEq>⟧.eq x.name_type y.name_type
+        && ⟦<HostName as PartialEq>⟧.eq x.name y.name) }
+{}

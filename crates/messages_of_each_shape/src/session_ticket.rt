@@ -1,0 +1,109 @@
+//! [`SessionTicket`].
+ghost use Rattle.std.specs.Prelude.{◌≡◌, ◌&&◌};
+ghost use Rattle.messages_of_each_shape.specs.SessionTicket.{session_ticket_format, session_ticket_meets, session_ticket_plain};
+ghost use Rattle.messages_of_each_shape.specs.declared.session_ticket.SessionTicket.{SessionTicket};
+
+use crate::{ASN1Cert, EmptyType, MagicX0102, VersionXfefd};
+use std::alloc::Global;
+use tls_codec::{
+    Deserialize, DeserializeBytes, Error, Lent2, Lent3, Serialize, Sink, Size, Source,
+};
+
+/// `session_ticket`.
+#[derive(PartialEq, Eq, Debug, Clone, Drop)]
+pub struct SessionTicket {
+    /// `ASN.1Cert a.1;`
+    pub a_1: ASN1Cert,
+    /// `Empty type;`
+    pub kind: EmptyType,
+    /// `uint16 version = {254, 253};`
+    pub version: VersionXfefd,
+    /// `opaque magic[2] = {1, 2};`
+    pub magic: MagicX0102,
+    /// `uint16_t wide;`
+    pub wide: u16,
+}
+
+impl Size for SessionTicket {
+    ghost plain = { session_ticket_plain };
+
+    ghost format = { session_ticket_format };
+
+    fn tls_serialized_len(&self) -> usize {
+        (
+            Lent3(&self.a_1, &self.kind, &self.version),
+            Lent2(&self.magic, &self.wide),
+        )
+            .tls_serialized_len()
+    }
+
+    ghost lawful = { session_ticket_meets };
+}
+
+impl Serialize for SessionTicket {
+    fn tls_serialize<W: Sink>(&self, writer: &mut W) -> Result<usize, Error> {
+        (
+            Lent3(&self.a_1, &self.kind, &self.version),
+            Lent2(&self.magic, &self.wide),
+        )
+            .tls_serialize(writer)
+    }
+
+    fn tls_serialize_into(&self, out: &mut Vec<u8>) -> Result<usize, Error> {
+        (
+            Lent3(&self.a_1, &self.kind, &self.version),
+            Lent2(&self.magic, &self.wide),
+        )
+            .tls_serialize_into(out)
+    }
+}
+
+impl Deserialize for SessionTicket {
+    ghost names = { ⟦<((ASN1Cert, EmptyType, VersionXfefd), (MagicX0102, u16)) as Deserialize>⟧.names };
+
+    fn tls_deserialize<R: Source>(alloc: Global, src: &mut R) -> Result<SessionTicket, Error> {
+        let ((a_1, kind, version), (magic, wide)) = <(
+            (ASN1Cert, EmptyType, VersionXfefd),
+            (MagicX0102, u16),
+        )>::tls_deserialize(alloc, src)?;
+        Ok(SessionTicket {
+            a_1,
+            kind,
+            version,
+            magic,
+            wide,
+        })
+    }
+}
+
+impl DeserializeBytes for SessionTicket {
+    ghost names = { ⟦<((ASN1Cert, EmptyType, VersionXfefd), (MagicX0102, u16)) as DeserializeBytes>⟧.names };
+
+    fn tls_deserialize_bytes(alloc: Global, whole: &[u8]) -> Result<(SessionTicket, &[u8]), Error> {
+        let (((a_1, kind, version), (magic, wide)), rest) = <(
+            (ASN1Cert, EmptyType, VersionXfefd),
+            (MagicX0102, u16),
+        )>::tls_deserialize_bytes(alloc, whole)?;
+        Ok((
+            SessionTicket {
+                a_1,
+                kind,
+                version,
+                magic,
+                wide,
+            },
+            rest,
+        ))
+    }
+}
+
+/// Two are equal exactly where each field is.
+pub fn is_compared_by_its_fields()
+    ensures { (x y : SessionTicket) →
+        ⟦<SessionTicket as PartialEq>⟧.eq x y
+        ≡ (⟦<ASN1Cert as PartialEq>⟧.eq x.a_1 y.a_1
+        && (⟦<EmptyType as PartialEq>⟧.eq x.kind y.kind
+        && (⟦<VersionXfefd as PartialEq>⟧.eq x.version y.version
+        && (⟦<MagicX0102 as PartialEq>⟧.eq x.magic y.magic
+        && ⟦<u16 as PartialEq>⟧.eq x.wide y.wide)))) }
+{}

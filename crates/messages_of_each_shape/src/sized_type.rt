@@ -1,0 +1,81 @@
+//! [`SizedType`].
+ghost use Rattle.std.specs.Prelude.{◌≡◌, ◌&&◌};
+ghost use Rattle.messages_of_each_shape.specs.SizedType.{sized_type_format, sized_type_meets, sized_type_plain};
+ghost use Rattle.messages_of_each_shape.specs.declared.sized_type.SizedType.{SizedType};
+
+use crate::VersionData;
+use std::alloc::Global;
+use tls_codec::{Deserialize, DeserializeBytes, Error, Lent, Serialize, Sink, Size, Source};
+
+/// `Sized`.
+#[derive(PartialEq, Eq, Debug, Clone, Drop)]
+pub struct SizedType {
+    /// `uint8 before;`
+    pub before: u8,
+    /// `uint16 version;`
+    pub contents: VersionData,
+    /// `uint8 after;`
+    pub after: u8,
+}
+
+impl Size for SizedType {
+    ghost plain = { sized_type_plain };
+
+    ghost format = { sized_type_format };
+
+    fn tls_serialized_len(&self) -> usize {
+        (Lent(&self.before), Lent(&self.contents), Lent(&self.after)).tls_serialized_len()
+    }
+
+    ghost lawful = { sized_type_meets };
+}
+
+impl Serialize for SizedType {
+    fn tls_serialize<W: Sink>(&self, writer: &mut W) -> Result<usize, Error> {
+        (Lent(&self.before), Lent(&self.contents), Lent(&self.after)).tls_serialize(writer)
+    }
+
+    fn tls_serialize_into(&self, out: &mut Vec<u8>) -> Result<usize, Error> {
+        (Lent(&self.before), Lent(&self.contents), Lent(&self.after)).tls_serialize_into(out)
+    }
+}
+
+impl Deserialize for SizedType {
+    ghost names = { ⟦<(u8, VersionData, u8) as Deserialize>⟧.names };
+
+    fn tls_deserialize<R: Source>(alloc: Global, src: &mut R) -> Result<SizedType, Error> {
+        let (before, contents, after) = <(u8, VersionData, u8)>::tls_deserialize(alloc, src)?;
+        Ok(SizedType {
+            before,
+            contents,
+            after,
+        })
+    }
+}
+
+impl DeserializeBytes for SizedType {
+    ghost names = { ⟦<(u8, VersionData, u8) as DeserializeBytes>⟧.names };
+
+    fn tls_deserialize_bytes(alloc: Global, whole: &[u8]) -> Result<(SizedType, &[u8]), Error> {
+        let ((before, contents, after), rest) = <(u8, VersionData, u8)>::tls_deserialize_bytes(
+            alloc, whole,
+        )?;
+        Ok((
+            SizedType {
+                before,
+                contents,
+                after,
+            },
+            rest,
+        ))
+    }
+}
+
+/// Two are equal exactly where each field is.
+pub fn is_compared_by_its_fields()
+    ensures { (x y : SizedType) →
+        ⟦<SizedType as PartialEq>⟧.eq x y
+        ≡ (⟦<u8 as PartialEq>⟧.eq x.before y.before
+        && (⟦<VersionData as PartialEq>⟧.eq x.contents y.contents
+        && ⟦<u8 as PartialEq>⟧.eq x.after y.after)) }
+{}

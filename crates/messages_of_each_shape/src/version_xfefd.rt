@@ -1,0 +1,90 @@
+//! [`VersionXfefd`].
+ghost use Rattle.std.specs.Prelude.{◌≡◌, MatchOption, false, nat_eq};
+ghost use Rattle.tls_codec.specs.OwnMessages.{values_names, values_source_names};
+ghost use Rattle.messages_of_each_shape.specs.VersionXfefd.{version_xfefd_code, version_xfefd_format, version_xfefd_has, version_xfefd_meets, version_xfefd_plain};
+ghost use Rattle.messages_of_each_shape.specs.declared.version_xfefd.VersionXfefd.{VersionXfefd};
+
+use std::alloc::Global;
+use tls_codec::{
+    Deserialize, DeserializeBytes, Error, Serialize, Sink, Size, Source, unknown_value,
+};
+
+/// `VersionXfefd`.
+#[derive(PartialEq, Eq, Debug, Clone, Copy)]
+pub enum VersionXfefd {
+    /// `0xfefd(65277)`
+    Xfefd,
+}
+
+impl VersionXfefd {
+    /// Its number.
+    pub fn code(&self) -> u16
+        ensures { result ≡ version_xfefd_code self.now }
+    {
+        65277
+    }
+
+    /// The value that has this number.
+    pub fn of_code(code: u16) -> Option<VersionXfefd>
+        ensures { MatchOption result (version_xfefd_has code ≡ false)
+            (λ v. version_xfefd_code v ≡ code) }
+    {
+        match code {
+            65277 => Some(VersionXfefd::Xfefd),
+            _ => None,
+        }
+    }
+}
+
+impl Size for VersionXfefd {
+    ghost plain = { version_xfefd_plain };
+
+    ghost format = { version_xfefd_format };
+
+    fn tls_serialized_len(&self) -> usize {
+        2
+    }
+
+    ghost lawful = { version_xfefd_meets };
+}
+
+impl Serialize for VersionXfefd {
+    fn tls_serialize<W: Sink>(&self, writer: &mut W) -> Result<usize, Error> {
+        self.code().tls_serialize(writer)
+    }
+
+    fn tls_serialize_into(&self, out: &mut Vec<u8>) -> Result<usize, Error> {
+        self.code().tls_serialize_into(out)
+    }
+}
+
+impl Deserialize for VersionXfefd {
+    ghost names = { values_source_names 2 version_xfefd_has };
+
+    fn tls_deserialize<R: Source>(alloc: Global, src: &mut R) -> Result<VersionXfefd, Error> {
+        let tag = u16::tls_deserialize(alloc, src)?;
+        match VersionXfefd::of_code(tag) {
+            Some(value) => Ok(value),
+            None => Err(unknown_value(u64::from(tag))),
+        }
+    }
+}
+
+impl DeserializeBytes for VersionXfefd {
+    ghost names = { values_names 2 version_xfefd_has };
+
+    fn tls_deserialize_bytes(alloc: Global, whole: &[u8]) -> Result<(VersionXfefd, &[u8]), Error> {
+        let (tag, rest) = u16::tls_deserialize_bytes(alloc, whole)?;
+        match VersionXfefd::of_code(tag) {
+            Some(value) => Ok((value, rest)),
+            None => Err(unknown_value(u64::from(tag))),
+        }
+    }
+}
+
+/// Two are equal exactly where their numbers are.
+pub fn is_compared_by_its_number()
+    ensures { (x y : VersionXfefd) →
+        ⟦<VersionXfefd as PartialEq>⟧.eq x y
+        ≡ nat_eq (version_xfefd_code x) (version_xfefd_code y) }
+{}

@@ -1,0 +1,235 @@
+//! Extensions, each opened as what RFC 8446 has for its type in its message (section 4.2).
+use crate::tests::each_call::opens;
+use crate::tests::in_context::{is_misfit, is_refused_in, opens_in};
+use crate::tests::same_at;
+use std::alloc::Global;
+use std::process::Abort;
+use std::test::Fail;
+use tls_codec::{Error, TlsByteVecU16};
+use tls13::{
+    CertificateAuthoritiesExtension, Cookie, EarlyDataIndication, EmptyType, Extension,
+    ExtensionType, Handshake, HandshakeType, KeyShareClientHello, KeyShareHelloRetryRequest,
+    KeyShareServerHello, NamedGroupList, OIDFilterExtension, PostHandshakeAuth,
+    PreSharedKeyExtension, PskKeyExchangeModes, Random, SignatureSchemeList, SupportedVersions,
+};
+
+// The random of a HelloRetryRequest, which is a ServerHello otherwise (section 4.1.3).
+static RETRY: Random = [
+    0xcf, 0x21, 0xad, 0x74, 0xe5, 0x9a, 0x61, 0x11, 0xbe, 0x1d, 0x8c, 0x02, 0x1e, 0x65, 0xb8, 0x91,
+    0xc2, 0xa2, 0x11, 0x16, 0x7a, 0xbb, 0x8c, 0x5e, 0x07, 0x9e, 0x09, 0xe2, 0xc8, 0xa8, 0x33, 0x9c,
+];
+
+// A message: where it stands, its type, and whether it asks its client to try again.
+#[derive(Drop)]
+pub(super) struct Place<'a> {
+    pub row: &'a str,
+    pub kind: HandshakeType,
+    pub retries: bool,
+}
+
+// The types of extensions, in order, and those of them that were opened.
+#[derive(Drop)]
+pub(super) struct Found {
+    pub types: Vec<u16>,
+    pub opened: Vec<u16>,
+}
+
+impl Found {
+    pub fn new(alloc: Global) -> Found {
+        Found {
+            types: Vec::new(alloc),
+            opened: Vec::new(alloc),
+        }
+    }
+}
+
+pub(super) fn is_retry(message: &Handshake) -> bool {
+    match message {
+        Handshake::ServerHello(hello) => hello.random == RETRY,
+        _ => false,
+    }
+}
+
+// Opens each extension of a message.
+pub(super) fn open_all(
+    rt: &impl Abort,
+    alloc: Global,
+    place: &Place,
+    message: &Handshake,
+) -> Result<Found, Fail> {
+    let mut found = Found::new(alloc);
+    let extensions = match message {
+        Handshake::ClientHello(hello) => hello.extensions.as_slice(),
+        Handshake::ServerHello(hello) => hello.extensions.as_slice(),
+        Handshake::EncryptedExtensions(body) => body.extensions.as_slice(),
+        Handshake::CertificateRequest(request) => request.extensions.as_slice(),
+        Handshake::NewSessionTicket(ticket) => ticket.extensions.as_slice(),
+        _ => &[],
+    };
+    open_each(rt, alloc, place, extensions, &mut found)?;
+    if let Handshake::Certificate(certificate) = message {
+        for entry in certificate.certificate_list.as_slice() {
+            open_each(rt, alloc, place, entry.extensions.as_slice(), &mut found)?;
+        }
+    }
+    Ok(found)
+}
+
+fn open_each(
+    rt: &impl Abort,
+    alloc: Global,
+    place: &Place,
+    extensions: &[Extension],
+    found: &mut Found,
+) -> Result<(), Fail> {
+    for extension in extensions {
+        found.types.push(extension.extension_type.0)?;
+        if opens_as_its_type(rt, alloc, place, extension)? {
+            found.opened.push(extension.extension_type.0)?;
+        }
+    }
+    Ok(())
+}
+
+// Whether RFC 8446 has a structure for the extension. It's opened then.
+fn opens_as_its_type(
+    rt: &impl Abort,
+    alloc: Global,
+    place: &Place,
+    extension: &Extension,
+) -> Result<bool, Fail> {
+    let row = place.row;
+    let bytes = extension.extension_data.as_slice();
+    match extension.extension_type {
+        ExtensionType::SUPPORTED_GROUPS => opens::<NamedGroupList>(rt, alloc, row, bytes)?,
+        ExtensionType::SIGNATURE_ALGORITHMS | ExtensionType::SIGNATURE_ALGORITHMS_CERT => {
+            opens::<SignatureSchemeList>(rt, alloc, row, bytes)?
+        }
+        ExtensionType::PRE_SHARED_KEY => {
+            opens_in::<PreSharedKeyExtension>(rt, alloc, row, &place.kind, bytes)?
+        }
+        ExtensionType::EARLY_DATA => {
+            opens_in::<EarlyDataIndication>(rt, alloc, row, &place.kind, bytes)?
+        }
+        ExtensionType::SUPPORTED_VERSIONS => {
+            opens_in::<SupportedVersions>(rt, alloc, row, &place.kind, bytes)?
+        }
+        ExtensionType::COOKIE => opens::<Cookie>(rt, alloc, row, bytes)?,
+        ExtensionType::PSK_KEY_EXCHANGE_MODES => {
+            opens::<PskKeyExchangeModes>(rt, alloc, row, bytes)?
+        }
+        ExtensionType::CERTIFICATE_AUTHORITIES => {
+            opens::<CertificateAuthoritiesExtension>(rt, alloc, row, bytes)?
+        }
+        ExtensionType::OID_FILTERS => opens::<OIDFilterExtension>(rt, alloc, row, bytes)?,
+        ExtensionType::POST_HANDSHAKE_AUTH => opens::<PostHandshakeAuth>(rt, alloc, row, bytes)?,
+        ExtensionType::KEY_SHARE => opens_key_share(rt, alloc, place, bytes)?,
+        _ => return Ok(false),
+    }
+    Ok(true)
+}
+
+// Three structures by message (section 4.2.8).
+fn opens_key_share(
+    rt: &impl Abort,
+    alloc: Global,
+    place: &Place,
+    bytes: &[u8],
+) -> Result<(), Fail> {
+    let row = place.row;
+    if place.retries {
+        opens::<KeyShareHelloRetryRequest>(rt, alloc, row, bytes)
+    } else if place.kind == HandshakeType::ServerHello {
+        opens::<KeyShareServerHello>(rt, alloc, row, bytes)
+    } else {
+        opens::<KeyShareClientHello>(rt, alloc, row, bytes)
+    }
+}
+
+// Those that no capture has.
+#[test]
+fn other_extensions(rt: HostRuntime) -> Result<(), Fail> {
+    let alloc = rt.alloc();
+    for (row, kind, extension_type, body) in [
+        (
+            "a cookie",
+            HandshakeType::ClientHello,
+            ExtensionType::COOKIE,
+            [0, 2, 8, 9].as_slice(),
+        ),
+        (
+            "schemes of certificates",
+            HandshakeType::ClientHello,
+            ExtensionType::SIGNATURE_ALGORITHMS_CERT,
+            &[0, 2, 4, 3],
+        ),
+        (
+            "a filter by an object identifier",
+            HandshakeType::CertificateRequest,
+            ExtensionType::OID_FILTERS,
+            &[0, 8, 3, 0x55, 0x1d, 0x25, 0, 2, 8, 9],
+        ),
+        (
+            "no filter",
+            HandshakeType::CertificateRequest,
+            ExtensionType::OID_FILTERS,
+            &[0, 0],
+        ),
+        (
+            "authentication after the handshake",
+            HandshakeType::ClientHello,
+            ExtensionType::POST_HANDSHAKE_AUTH,
+            &[],
+        ),
+        (
+            "no key share",
+            HandshakeType::ClientHello,
+            ExtensionType::KEY_SHARE,
+            &[0, 0],
+        ),
+    ] {
+        let extension = Extension {
+            extension_type,
+            extension_data: TlsByteVecU16::from_slice(alloc, body)?,
+        };
+        let place = Place {
+            row,
+            kind,
+            retries: false,
+        };
+        let opened = opens_as_its_type(&rt, alloc, &place, &extension)?;
+        same_at(&rt, row, opened, true);
+    }
+    Ok(())
+}
+
+// An empty body of one message is none of another's.
+#[test]
+fn values_of_other_messages(rt: HostRuntime) {
+    let alloc = rt.alloc();
+    let version = SupportedVersions::ServerHello(0x0304);
+    let identity = PreSharedKeyExtension::ServerHello(0);
+    let early = EarlyDataIndication::ClientHello(EmptyType {});
+    let client = HandshakeType::ClientHello;
+    is_misfit(&rt, alloc, "a version", &client, &version);
+    is_misfit(&rt, alloc, "an identity", &client, &identity);
+    for (row, kind) in [
+        ("a server's", HandshakeType::EncryptedExtensions),
+        ("a ticket's", HandshakeType::NewSessionTicket),
+    ] {
+        is_misfit(&rt, alloc, row, &kind, &early);
+    }
+}
+
+// The context's number is named.
+#[test]
+fn messages_without_the_extension(rt: HostRuntime) {
+    let alloc = rt.alloc();
+    let server = HandshakeType::ServerHello;
+    let finished = HandshakeType::Finished;
+    let two = Error::UnknownValue(2);
+    is_refused_in::<EarlyDataIndication>(&rt, alloc, "early data", &server, &[], two);
+    let twenty = Error::UnknownValue(20);
+    is_refused_in::<SupportedVersions>(&rt, alloc, "versions", &finished, &[3, 4], twenty);
+    is_refused_in::<PreSharedKeyExtension>(&rt, alloc, "keys", &finished, &[0, 0], twenty);
+}

@@ -1,0 +1,61 @@
+//! Records of TLS 1.3 (RFC 8446, section 5).
+use crate::tests::each_call::{is_refused, is_spelled};
+use std::test::Fail;
+use tls_codec::{Error, TlsByteVecU16};
+use tls13::{
+    ContentType, ContentTypeApplicationData, ProtocolVersionX0303, TLSCiphertext, TLSPlaintext,
+};
+
+#[test]
+fn plaintexts(rt: HostRuntime) -> Result<(), Fail> {
+    let alloc = rt.alloc();
+    let record = TLSPlaintext {
+        kind: ContentType::Alert,
+        legacy_record_version: 0x0303,
+        fragment: TlsByteVecU16::from_slice(alloc, &[2, 50])?,
+    };
+    is_spelled(&rt, alloc, "an alert", &record, &[21, 3, 3, 0, 2, 2, 50])?;
+    let record = TLSPlaintext {
+        kind: ContentType::Heartbeat,
+        legacy_record_version: 0x0301,
+        fragment: TlsByteVecU16::from_slice(alloc, &[])?,
+    };
+    is_spelled(&rt, alloc, "a heartbeat", &record, &[24, 3, 1, 0, 0])?;
+    for (row, bytes, error) in [
+        (
+            "one byte of two",
+            [21, 3, 3, 0, 2, 2].as_slice(),
+            Error::EndOfStream,
+        ),
+        ("no such type", &[25, 3, 3, 0, 0], Error::UnknownValue(25)),
+    ] {
+        is_refused::<TLSPlaintext>(&rt, alloc, row, bytes, error);
+    }
+    Ok(())
+}
+
+#[test]
+fn ciphertexts(rt: HostRuntime) -> Result<(), Fail> {
+    let alloc = rt.alloc();
+    let record = TLSCiphertext {
+        opaque_type: ContentTypeApplicationData::ApplicationData,
+        legacy_record_version: ProtocolVersionX0303::X0303,
+        encrypted_record: TlsByteVecU16::from_slice(alloc, &[7, 8, 9])?,
+    };
+    is_spelled(&rt, alloc, "a record", &record, &[23, 3, 3, 0, 3, 7, 8, 9])?;
+    for (row, bytes, error) in [
+        (
+            "another type",
+            [22, 3, 3, 0, 0].as_slice(),
+            Error::UnknownValue(22),
+        ),
+        (
+            "another version",
+            &[23, 3, 1, 0, 0],
+            Error::UnknownValue(0x0301),
+        ),
+    ] {
+        is_refused::<TLSCiphertext>(&rt, alloc, row, bytes, error);
+    }
+    Ok(())
+}

@@ -1,0 +1,96 @@
+//! [`Certificate`].
+ghost use Rattle.std.specs.Prelude.{◌≡◌, ◌&&◌};
+ghost use Rattle.tls13.specs.Certificate.{certificate_format, certificate_meets, certificate_plain};
+ghost use Rattle.tls13.specs.declared.certificate.Certificate.{Certificate};
+
+use crate::CertificateEntry;
+use std::alloc::Global;
+use tls_codec::{
+    Deserialize, DeserializeBytes, Error, Lent, Serialize, Sink, Size, Source, TlsByteVecU8,
+    TlsVecU24,
+};
+
+/// `Certificate`.
+#[derive(PartialEq, Eq, Debug, Clone, Drop)]
+pub struct Certificate {
+    /// `opaque certificate_request_context<0..2^8-1>;`
+    pub certificate_request_context: TlsByteVecU8,
+    /// `CertificateEntry certificate_list<0..2^24-1>;`
+    pub certificate_list: TlsVecU24<CertificateEntry>,
+}
+
+impl Size for Certificate {
+    ghost plain = { certificate_plain };
+
+    ghost format = { certificate_format };
+
+    fn tls_serialized_len(&self) -> usize {
+        (
+            Lent(&self.certificate_request_context),
+            Lent(&self.certificate_list),
+        )
+            .tls_serialized_len()
+    }
+
+    ghost lawful = { certificate_meets };
+}
+
+impl Serialize for Certificate {
+    fn tls_serialize<W: Sink>(&self, writer: &mut W) -> Result<usize, Error> {
+        (
+            Lent(&self.certificate_request_context),
+            Lent(&self.certificate_list),
+        )
+            .tls_serialize(writer)
+    }
+
+    fn tls_serialize_into(&self, out: &mut Vec<u8>) -> Result<usize, Error> {
+        (
+            Lent(&self.certificate_request_context),
+            Lent(&self.certificate_list),
+        )
+            .tls_serialize_into(out)
+    }
+}
+
+impl Deserialize for Certificate {
+    ghost names = { ⟦<(TlsByteVecU8, TlsVecU24<CertificateEntry>) as Deserialize>⟧.names };
+
+    fn tls_deserialize<R: Source>(alloc: Global, src: &mut R) -> Result<Certificate, Error> {
+        let (certificate_request_context, certificate_list) = <(
+            TlsByteVecU8,
+            TlsVecU24<CertificateEntry>,
+        )>::tls_deserialize(alloc, src)?;
+        Ok(Certificate {
+            certificate_request_context,
+            certificate_list,
+        })
+    }
+}
+
+impl DeserializeBytes for Certificate {
+    ghost names = { ⟦<(TlsByteVecU8, TlsVecU24<CertificateEntry>) as DeserializeBytes>⟧.names };
+
+    fn tls_deserialize_bytes(alloc: Global, whole: &[u8]) -> Result<(Certificate, &[u8]), Error> {
+        let ((certificate_request_context, certificate_list), rest) = <(
+            TlsByteVecU8,
+            TlsVecU24<CertificateEntry>,
+        )>::tls_deserialize_bytes(alloc, whole)?;
+        Ok((
+            Certificate {
+                certificate_request_context,
+                certificate_list,
+            },
+            rest,
+        ))
+    }
+}
+
+/// Two are equal exactly where each field is.
+pub fn is_compared_by_its_fields()
+    ensures { (x y : Certificate) →
+        ⟦<Certificate as PartialEq>⟧.eq x y
+        ≡ (⟦<TlsByteVecU8 as PartialEq>⟧.eq x.certificate_request_context
+        y.certificate_request_context
+        && ⟦<TlsVecU24<CertificateEntry> as PartialEq>⟧.eq x.certificate_list y.certificate_list) }
+{}

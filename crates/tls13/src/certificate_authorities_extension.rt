@@ -1,0 +1,76 @@
+//! [`CertificateAuthoritiesExtension`].
+ghost use Rattle.std.specs.Prelude.{◌≡◌};
+ghost use Rattle.tls13.specs.CertificateAuthoritiesExtension.{certificate_authorities_extension_format, certificate_authorities_extension_meets, certificate_authorities_extension_plain};
+ghost use Rattle.tls13.specs.declared.certificate_authorities_extension.CertificateAuthoritiesExtension.{CertificateAuthoritiesExtension};
+
+use crate::DistinguishedName;
+use std::alloc::Global;
+use tls_codec::{
+    Deserialize, DeserializeBytes, Error, Serialize, Sink, Size, Source, TlsVec, Within,
+};
+
+/// `CertificateAuthoritiesExtension`.
+#[derive(PartialEq, Eq, Debug, Clone, Drop)]
+pub struct CertificateAuthoritiesExtension {
+    /// `DistinguishedName authorities<3..2^16-1>;`
+    pub authorities: TlsVec<Within<u16, 3, 65535>, DistinguishedName>,
+}
+
+impl Size for CertificateAuthoritiesExtension {
+    ghost plain = { certificate_authorities_extension_plain };
+
+    ghost format = { certificate_authorities_extension_format };
+
+    fn tls_serialized_len(&self) -> usize {
+        self.authorities.tls_serialized_len()
+    }
+
+    ghost lawful = { certificate_authorities_extension_meets };
+}
+
+impl Serialize for CertificateAuthoritiesExtension {
+    fn tls_serialize<W: Sink>(&self, writer: &mut W) -> Result<usize, Error> {
+        self.authorities.tls_serialize(writer)
+    }
+
+    fn tls_serialize_into(&self, out: &mut Vec<u8>) -> Result<usize, Error> {
+        self.authorities.tls_serialize_into(out)
+    }
+}
+
+impl Deserialize for CertificateAuthoritiesExtension {
+    ghost names = { ⟦<TlsVec<Within<u16, 3, 65535>, DistinguishedName> as Deserialize>⟧.names };
+
+    fn tls_deserialize<R: Source>(
+        alloc: Global,
+        src: &mut R,
+    ) -> Result<CertificateAuthoritiesExtension, Error> {
+        let authorities = <TlsVec<Within<u16, 3, 65535>, DistinguishedName>>::tls_deserialize(
+            alloc, src,
+        )?;
+        Ok(CertificateAuthoritiesExtension { authorities })
+    }
+}
+
+impl DeserializeBytes for CertificateAuthoritiesExtension {
+    ghost names = { ⟦<TlsVec<Within<u16, 3, 65535>, DistinguishedName> as DeserializeBytes>⟧.names };
+
+    fn tls_deserialize_bytes(
+        alloc: Global,
+        whole: &[u8],
+    ) -> Result<(CertificateAuthoritiesExtension, &[u8]), Error> {
+        let (authorities, rest) = <TlsVec<
+            Within<u16, 3, 65535>,
+            DistinguishedName,
+        >>::tls_deserialize_bytes(alloc, whole)?;
+        Ok((CertificateAuthoritiesExtension { authorities }, rest))
+    }
+}
+
+/// Two are equal exactly where each field is.
+pub fn is_compared_by_its_fields()
+    ensures { (x y : CertificateAuthoritiesExtension) →
+        ⟦<CertificateAuthoritiesExtension as PartialEq>⟧.eq x y
+        ≡ ⟦<TlsVec<Within<u16, 3, 65535>, DistinguishedName> as PartialEq>⟧.eq x.authorities
+        y.authorities }
+{}

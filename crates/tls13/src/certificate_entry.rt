@@ -1,0 +1,86 @@
+//! [`CertificateEntry`].
+ghost use Rattle.std.specs.Prelude.{◌≡◌, ◌&&◌};
+ghost use Rattle.tls13.specs.CertificateEntry.{certificate_entry_format, certificate_entry_meets, certificate_entry_plain};
+ghost use Rattle.tls13.specs.declared.certificate_entry.CertificateEntry.{CertificateEntry};
+
+use crate::Extension;
+use std::alloc::Global;
+use tls_codec::{
+    Deserialize, DeserializeBytes, Error, Lent, Serialize, Sink, Size, Source, TlsByteVec,
+    TlsVecU16, U24, Within,
+};
+
+/// `CertificateEntry`.
+#[derive(PartialEq, Eq, Debug, Clone, Drop)]
+pub struct CertificateEntry {
+    /// `opaque cert_data<1..2^24-1>;`
+    pub cert_data: TlsByteVec<Within<U24, 1, 16777215>>,
+    /// `Extension extensions<0..2^16-1>;`
+    pub extensions: TlsVecU16<Extension>,
+}
+
+impl Size for CertificateEntry {
+    ghost plain = { certificate_entry_plain };
+
+    ghost format = { certificate_entry_format };
+
+    fn tls_serialized_len(&self) -> usize {
+        (Lent(&self.cert_data), Lent(&self.extensions)).tls_serialized_len()
+    }
+
+    ghost lawful = { certificate_entry_meets };
+}
+
+impl Serialize for CertificateEntry {
+    fn tls_serialize<W: Sink>(&self, writer: &mut W) -> Result<usize, Error> {
+        (Lent(&self.cert_data), Lent(&self.extensions)).tls_serialize(writer)
+    }
+
+    fn tls_serialize_into(&self, out: &mut Vec<u8>) -> Result<usize, Error> {
+        (Lent(&self.cert_data), Lent(&self.extensions)).tls_serialize_into(out)
+    }
+}
+
+impl Deserialize for CertificateEntry {
+    ghost names = { ⟦<(TlsByteVec<Within<U24, 1, 16777215>>, TlsVecU16<Extension>) as Deserialize>⟧.names };
+
+    fn tls_deserialize<R: Source>(alloc: Global, src: &mut R) -> Result<CertificateEntry, Error> {
+        let (cert_data, extensions) = <(
+            TlsByteVec<Within<U24, 1, 16777215>>,
+            TlsVecU16<Extension>,
+        )>::tls_deserialize(alloc, src)?;
+        Ok(CertificateEntry {
+            cert_data,
+            extensions,
+        })
+    }
+}
+
+impl DeserializeBytes for CertificateEntry {
+    ghost names = { ⟦<(TlsByteVec<Within<U24, 1, 16777215>>, TlsVecU16<Extension>) as DeserializeBytes>⟧.names };
+
+    fn tls_deserialize_bytes(
+        alloc: Global,
+        whole: &[u8],
+    ) -> Result<(CertificateEntry, &[u8]), Error> {
+        let ((cert_data, extensions), rest) = <(
+            TlsByteVec<Within<U24, 1, 16777215>>,
+            TlsVecU16<Extension>,
+        )>::tls_deserialize_bytes(alloc, whole)?;
+        Ok((
+            CertificateEntry {
+                cert_data,
+                extensions,
+            },
+            rest,
+        ))
+    }
+}
+
+/// Two are equal exactly where each field is.
+pub fn is_compared_by_its_fields()
+    ensures { (x y : CertificateEntry) →
+        ⟦<CertificateEntry as PartialEq>⟧.eq x y
+        ≡ (⟦<TlsByteVec<Within<U24, 1, 16777215>> as PartialEq>⟧.eq x.cert_data y.cert_data
+        && ⟦<TlsVecU16<Extension> as PartialEq>⟧.eq x.extensions y.extensions) }
+{}

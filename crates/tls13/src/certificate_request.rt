@@ -1,0 +1,99 @@
+//! [`CertificateRequest`].
+ghost use Rattle.std.specs.Prelude.{◌≡◌, ◌&&◌};
+ghost use Rattle.tls13.specs.CertificateRequest.{certificate_request_format, certificate_request_meets, certificate_request_plain};
+ghost use Rattle.tls13.specs.declared.certificate_request.CertificateRequest.{CertificateRequest};
+
+use crate::Extension;
+use std::alloc::Global;
+use tls_codec::{
+    Deserialize, DeserializeBytes, Error, Lent, Serialize, Sink, Size, Source, TlsByteVecU8,
+    TlsVec, Within,
+};
+
+/// `CertificateRequest`.
+#[derive(PartialEq, Eq, Debug, Clone, Drop)]
+pub struct CertificateRequest {
+    /// `opaque certificate_request_context<0..2^8-1>;`
+    pub certificate_request_context: TlsByteVecU8,
+    /// `Extension extensions<2..2^16-1>;`
+    pub extensions: TlsVec<Within<u16, 2, 65535>, Extension>,
+}
+
+impl Size for CertificateRequest {
+    ghost plain = { certificate_request_plain };
+
+    ghost format = { certificate_request_format };
+
+    fn tls_serialized_len(&self) -> usize {
+        (
+            Lent(&self.certificate_request_context),
+            Lent(&self.extensions),
+        )
+            .tls_serialized_len()
+    }
+
+    ghost lawful = { certificate_request_meets };
+}
+
+impl Serialize for CertificateRequest {
+    fn tls_serialize<W: Sink>(&self, writer: &mut W) -> Result<usize, Error> {
+        (
+            Lent(&self.certificate_request_context),
+            Lent(&self.extensions),
+        )
+            .tls_serialize(writer)
+    }
+
+    fn tls_serialize_into(&self, out: &mut Vec<u8>) -> Result<usize, Error> {
+        (
+            Lent(&self.certificate_request_context),
+            Lent(&self.extensions),
+        )
+            .tls_serialize_into(out)
+    }
+}
+
+impl Deserialize for CertificateRequest {
+    ghost names = { ⟦<(TlsByteVecU8, TlsVec<Within<u16, 2, 65535>, Extension>) as Deserialize>⟧.names };
+
+    fn tls_deserialize<R: Source>(alloc: Global, src: &mut R) -> Result<CertificateRequest, Error> {
+        let (certificate_request_context, extensions) = <(
+            TlsByteVecU8,
+            TlsVec<Within<u16, 2, 65535>, Extension>,
+        )>::tls_deserialize(alloc, src)?;
+        Ok(CertificateRequest {
+            certificate_request_context,
+            extensions,
+        })
+    }
+}
+
+impl DeserializeBytes for CertificateRequest {
+    ghost names = { ⟦<(TlsByteVecU8, TlsVec<Within<u16, 2, 65535>, Extension>) as DeserializeBytes>⟧.names };
+
+    fn tls_deserialize_bytes(
+        alloc: Global,
+        whole: &[u8],
+    ) -> Result<(CertificateRequest, &[u8]), Error> {
+        let ((certificate_request_context, extensions), rest) = <(
+            TlsByteVecU8,
+            TlsVec<Within<u16, 2, 65535>, Extension>,
+        )>::tls_deserialize_bytes(alloc, whole)?;
+        Ok((
+            CertificateRequest {
+                certificate_request_context,
+                extensions,
+            },
+            rest,
+        ))
+    }
+}
+
+/// Two are equal exactly where each field is.
+pub fn is_compared_by_its_fields()
+    ensures { (x y : CertificateRequest) →
+        ⟦<CertificateRequest as PartialEq>⟧.eq x y
+        ≡ (⟦<TlsByteVecU8 as PartialEq>⟧.eq x.certificate_request_context
+        y.certificate_request_context
+        && ⟦<TlsVec<Within<u16, 2, 65535>, Extension> as PartialEq>⟧.eq x.extensions y.extensions) }
+{}

@@ -1,0 +1,103 @@
+//! [`CertificateType`].
+ghost use Rattle.std.specs.Prelude.{◌≡◌, MatchOption, false, nat_eq};
+ghost use Rattle.tls_codec.specs.OwnMessages.{values_names, values_source_names};
+ghost use Rattle.tls13.specs.CertificateType.{certificate_type_code, certificate_type_format, certificate_type_has, certificate_type_meets, certificate_type_plain};
+ghost use Rattle.tls13.specs.declared.certificate_type.CertificateType.{CertificateType};
+
+use std::alloc::Global;
+use tls_codec::{
+    Deserialize, DeserializeBytes, Error, Serialize, Sink, Size, Source, unknown_value,
+};
+
+/// `CertificateType`.
+#[derive(PartialEq, Eq, Debug, Clone, Copy)]
+pub enum CertificateType {
+    /// `X509(0)`
+    X509,
+    /// `OpenPGP_RESERVED(1)`
+    OpenPGPReserved,
+    /// `RawPublicKey(2)`
+    RawPublicKey,
+}
+
+impl CertificateType {
+    /// Its number.
+    pub fn code(&self) -> u8
+        ensures { result ≡ certificate_type_code self.now }
+    {
+        match self {
+            CertificateType::X509 => 0,
+            CertificateType::OpenPGPReserved => 1,
+            CertificateType::RawPublicKey => 2,
+        }
+    }
+
+    /// The value that has this number.
+    pub fn of_code(code: u8) -> Option<CertificateType>
+        ensures { MatchOption result (certificate_type_has code ≡ false)
+            (λ v. certificate_type_code v ≡ code) }
+    {
+        match code {
+            0 => Some(CertificateType::X509),
+            1 => Some(CertificateType::OpenPGPReserved),
+            2 => Some(CertificateType::RawPublicKey),
+            _ => None,
+        }
+    }
+}
+
+impl Size for CertificateType {
+    ghost plain = { certificate_type_plain };
+
+    ghost format = { certificate_type_format };
+
+    fn tls_serialized_len(&self) -> usize {
+        1
+    }
+
+    ghost lawful = { certificate_type_meets };
+}
+
+impl Serialize for CertificateType {
+    fn tls_serialize<W: Sink>(&self, writer: &mut W) -> Result<usize, Error> {
+        self.code().tls_serialize(writer)
+    }
+
+    fn tls_serialize_into(&self, out: &mut Vec<u8>) -> Result<usize, Error> {
+        self.code().tls_serialize_into(out)
+    }
+}
+
+impl Deserialize for CertificateType {
+    ghost names = { values_source_names 1 certificate_type_has };
+
+    fn tls_deserialize<R: Source>(alloc: Global, src: &mut R) -> Result<CertificateType, Error> {
+        let tag = u8::tls_deserialize(alloc, src)?;
+        match CertificateType::of_code(tag) {
+            Some(value) => Ok(value),
+            None => Err(unknown_value(u64::from(tag))),
+        }
+    }
+}
+
+impl DeserializeBytes for CertificateType {
+    ghost names = { values_names 1 certificate_type_has };
+
+    fn tls_deserialize_bytes(
+        alloc: Global,
+        whole: &[u8],
+    ) -> Result<(CertificateType, &[u8]), Error> {
+        let (tag, rest) = u8::tls_deserialize_bytes(alloc, whole)?;
+        match CertificateType::of_code(tag) {
+            Some(value) => Ok((value, rest)),
+            None => Err(unknown_value(u64::from(tag))),
+        }
+    }
+}
+
+/// Two are equal exactly where their numbers are.
+pub fn is_compared_by_its_number()
+    ensures { (x y : CertificateType) →
+        ⟦<CertificateType as PartialEq>⟧.eq x y
+        ≡ nat_eq (certificate_type_code x) (certificate_type_code y) }
+{}

@@ -1,0 +1,84 @@
+//! [`CertificateVerify`].
+ghost use Rattle.std.specs.Prelude.{◌≡◌, ◌&&◌};
+ghost use Rattle.tls13.specs.CertificateVerify.{certificate_verify_format, certificate_verify_meets, certificate_verify_plain};
+ghost use Rattle.tls13.specs.declared.certificate_verify.CertificateVerify.{CertificateVerify};
+
+use crate::SignatureScheme;
+use std::alloc::Global;
+use tls_codec::{
+    Deserialize, DeserializeBytes, Error, Lent, Serialize, Sink, Size, Source, TlsByteVecU16,
+};
+
+/// `CertificateVerify`.
+#[derive(PartialEq, Eq, Debug, Clone, Drop)]
+pub struct CertificateVerify {
+    /// `SignatureScheme algorithm;`
+    pub algorithm: SignatureScheme,
+    /// `opaque signature<0..2^16-1>;`
+    pub signature: TlsByteVecU16,
+}
+
+impl Size for CertificateVerify {
+    ghost plain = { certificate_verify_plain };
+
+    ghost format = { certificate_verify_format };
+
+    fn tls_serialized_len(&self) -> usize {
+        (Lent(&self.algorithm), Lent(&self.signature)).tls_serialized_len()
+    }
+
+    ghost lawful = { certificate_verify_meets };
+}
+
+impl Serialize for CertificateVerify {
+    fn tls_serialize<W: Sink>(&self, writer: &mut W) -> Result<usize, Error> {
+        (Lent(&self.algorithm), Lent(&self.signature)).tls_serialize(writer)
+    }
+
+    fn tls_serialize_into(&self, out: &mut Vec<u8>) -> Result<usize, Error> {
+        (Lent(&self.algorithm), Lent(&self.signature)).tls_serialize_into(out)
+    }
+}
+
+impl Deserialize for CertificateVerify {
+    ghost names = { ⟦<(SignatureScheme, TlsByteVecU16) as Deserialize>⟧.names };
+
+    fn tls_deserialize<R: Source>(alloc: Global, src: &mut R) -> Result<CertificateVerify, Error> {
+        let (algorithm, signature) = <(SignatureScheme, TlsByteVecU16)>::tls_deserialize(
+            alloc, src,
+        )?;
+        Ok(CertificateVerify {
+            algorithm,
+            signature,
+        })
+    }
+}
+
+impl DeserializeBytes for CertificateVerify {
+    ghost names = { ⟦<(SignatureScheme, TlsByteVecU16) as DeserializeBytes>⟧.names };
+
+    fn tls_deserialize_bytes(
+        alloc: Global,
+        whole: &[u8],
+    ) -> Result<(CertificateVerify, &[u8]), Error> {
+        let ((algorithm, signature), rest) = <(
+            SignatureScheme,
+            TlsByteVecU16,
+        )>::tls_deserialize_bytes(alloc, whole)?;
+        Ok((
+            CertificateVerify {
+                algorithm,
+                signature,
+            },
+            rest,
+        ))
+    }
+}
+
+/// Two are equal exactly where each field is.
+pub fn is_compared_by_its_fields()
+    ensures { (x y : CertificateVerify) →
+        ⟦<CertificateVerify as PartialEq>⟧.eq x y
+        ≡ (⟦<SignatureScheme as PartialEq>⟧.eq x.algorithm y.algorithm
+        && ⟦<TlsByteVecU16 as PartialEq>⟧.eq x.signature y.signature) }
+{}

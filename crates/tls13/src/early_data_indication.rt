@@ -1,0 +1,133 @@
+//! [`EarlyDataIndication`].
+ghost use Rattle.std.specs.Prelude.{◌≡◌, IsTrue};
+ghost use Rattle.tls13.specs.EarlyDataIndication.{early_data_indication_format_for, early_data_indication_meets_for, early_data_indication_plain, early_data_indication_tag};
+ghost use Rattle.tls13.specs.declared.early_data_indication.EarlyDataIndication.{EarlyDataIndication};
+
+use crate::{EmptyType, HandshakeType};
+use std::alloc::Global;
+use tls_codec::{
+    DeserializeBytesFor, DeserializeFor, Error, Lent, SerializeFor, Sink, SizeFor, Source,
+};
+use tls_codec_cases::{Case, Chosen, Or, append_as_for, write_as_for};
+
+/// `select (msg_type)` of `EarlyDataIndication`: no byte of it tells the tag.
+#[derive(PartialEq, Eq, Debug, Clone, Drop)]
+pub enum EarlyDataIndication {
+    /// `case new_session_ticket: uint32 max_early_data_size;`
+    NewSessionTicket(u32),
+    /// `case client_hello: Empty;`
+    ClientHello(EmptyType),
+    /// `case encrypted_extensions: Empty;`
+    EncryptedExtensions(EmptyType),
+}
+
+type Cases = Chosen<Or<Or<Case<4, u32>, Case<1, EmptyType>>, Case<8, EmptyType>>>;
+
+type LentCases<'a> = Chosen<
+    Or<Or<Case<4, Lent<'a, u32>>, Case<1, Lent<'a, EmptyType>>>, Case<8, Lent<'a, EmptyType>>>,
+>;
+
+impl EarlyDataIndication {
+    fn cases(&self) -> LentCases<'_>
+        ensures { ⟦<LentCases<'static> as SizeFor<HandshakeType>>⟧.plain result
+            ≡ early_data_indication_plain self.now }
+    {
+        let cases = match self {
+            EarlyDataIndication::NewSessionTicket(max_early_data_size) => Or::First(Or::First(Case(
+                Lent(max_early_data_size),
+            ))),
+            EarlyDataIndication::ClientHello(empty) => Or::First(Or::Second(Case(Lent(empty)))),
+            EarlyDataIndication::EncryptedExtensions(empty) => Or::Second(Case(Lent(empty))),
+        };
+        Chosen(cases)
+    }
+
+    fn of(cases: Cases) -> EarlyDataIndication
+        ensures { early_data_indication_plain result ≡ ⟦<Cases as SizeFor<HandshakeType>>⟧.plain
+            cases }
+    {
+        match cases.0 {
+            Or::First(Or::First(case)) => EarlyDataIndication::NewSessionTicket(case.0),
+            Or::First(Or::Second(case)) => EarlyDataIndication::ClientHello(case.0),
+            Or::Second(case) => EarlyDataIndication::EncryptedExtensions(case.0),
+        }
+    }
+}
+
+impl SizeFor<HandshakeType> for EarlyDataIndication {
+    ghost plain = { early_data_indication_plain };
+
+    ghost format_for = { early_data_indication_format_for };
+
+    fn tls_serialized_len_for(&self, msg_type: &HandshakeType) -> usize {
+        self.cases().tls_serialized_len_for(msg_type)
+    }
+
+    ghost lawful = { early_data_indication_meets_for };
+}
+
+/// `EncodingError("value does not fit its context")`: the value is of another case.
+impl SerializeFor<HandshakeType> for EarlyDataIndication {
+    fn tls_serialize_for<W: Sink>(
+        &self,
+        msg_type: &HandshakeType,
+        writer: &mut W,
+    ) -> Result<usize, Error> {
+        write_as_for(self, &self.cases(), msg_type, writer)
+    }
+
+    fn tls_serialize_into_for(
+        &self,
+        msg_type: &HandshakeType,
+        out: &mut Vec<u8>,
+    ) -> Result<usize, Error> {
+        append_as_for(self, &self.cases(), msg_type, out)
+    }
+}
+
+impl DeserializeFor<HandshakeType> for EarlyDataIndication {
+    ghost names = { ⟦<Cases as DeserializeFor<HandshakeType>>⟧.names };
+
+    /// `UnknownValue`: no case has the context's tag.
+    fn tls_deserialize_for<R: Source>(
+        msg_type: &HandshakeType,
+        alloc: Global,
+        src: &mut R,
+    ) -> Result<EarlyDataIndication, Error> {
+        let cases = <Cases>::tls_deserialize_for(msg_type, alloc, src)?;
+        Ok(EarlyDataIndication::of(cases))
+    }
+}
+
+impl DeserializeBytesFor<HandshakeType> for EarlyDataIndication {
+    ghost names = { ⟦<Cases as DeserializeBytesFor<HandshakeType>>⟧.names };
+
+    /// `UnknownValue`: no case has the context's tag.
+    fn tls_deserialize_bytes_for<'a>(
+        msg_type: &HandshakeType,
+        alloc: Global,
+        whole: &'a [u8],
+    ) -> Result<(EarlyDataIndication, &'a [u8]), Error> {
+        let (cases, rest) = <Cases>::tls_deserialize_bytes_for(msg_type, alloc, whole)?;
+        Ok((EarlyDataIndication::of(cases), rest))
+    }
+}
+
+/// Two are equal exactly where they are of one case, and each field is.
+pub fn is_compared_by_its_case()
+    ensures tag { (x y : EarlyDataIndication) →
+        IsTrue (⟦<EarlyDataIndication as PartialEq>⟧.eq x y)
+        → early_data_indication_tag x ≡ early_data_indication_tag y }
+    ensures case_4 { (a0 b0 : _) →
+        ⟦<EarlyDataIndication as PartialEq>⟧.eq (EarlyDataIndication.NewSessionTicket a0)
+        (EarlyDataIndication.NewSessionTicket b0)
+        ≡ ⟦<u32 as PartialEq>⟧.eq a0 b0 }
+    ensures case_1 { (a0 b0 : _) →
+        ⟦<EarlyDataIndication as PartialEq>⟧.eq (EarlyDataIndication.ClientHello a0)
+        (EarlyDataIndication.ClientHello b0)
+        ≡ ⟦<EmptyType as PartialEq>⟧.eq a0 b0 }
+    ensures case_8 { (a0 b0 : _) →
+        ⟦<EarlyDataIndication as PartialEq>⟧.eq (EarlyDataIndication.EncryptedExtensions a0)
+        (EarlyDataIndication.EncryptedExtensions b0)
+        ≡ ⟦<EmptyType as PartialEq>⟧.eq a0 b0 }
+{}

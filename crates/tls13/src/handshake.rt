@@ -1,0 +1,244 @@
+//! [`Handshake`].
+ghost use Rattle.std.specs.Prelude.{◌≡◌, IsTrue};
+ghost use Rattle.tls13.specs.Handshake.{handshake_format, handshake_meets, handshake_plain, handshake_tag};
+ghost use Rattle.tls13.specs.declared.handshake.Handshake.{Handshake};
+
+use crate::{
+    Certificate, CertificateRequest, CertificateVerify, ClientHello, EncryptedExtensions,
+    EndOfEarlyData, KeyUpdate, NewSessionTicket, ServerHello,
+};
+use std::alloc::Global;
+use std::marker::PhantomData;
+use tls_codec::{
+    Deserialize, DeserializeBytes, Error, Lent, Serialize, Sink, Size, Source, TlsByteVecU24, U24,
+};
+use tls_codec_cases::{Case, Enclosed, Or, Tagged, append_as, write_as};
+
+/// `HandshakeType msg_type` of `Handshake`, and what comes after each.
+#[derive(PartialEq, Eq, Debug, Clone, Drop)]
+pub enum Handshake {
+    /// `case client_hello: ClientHello;`
+    ClientHello(ClientHello),
+    /// `case server_hello: ServerHello;`
+    ServerHello(ServerHello),
+    /// `case end_of_early_data: EndOfEarlyData;`
+    EndOfEarlyData(EndOfEarlyData),
+    /// `case encrypted_extensions: EncryptedExtensions;`
+    EncryptedExtensions(EncryptedExtensions),
+    /// `case certificate_request: CertificateRequest;`
+    CertificateRequest(CertificateRequest),
+    /// `case certificate: Certificate;`
+    Certificate(Certificate),
+    /// `case certificate_verify: CertificateVerify;`
+    CertificateVerify(CertificateVerify),
+    /// `case finished: opaque verify_data[Hash.length];`
+    Finished(TlsByteVecU24),
+    /// `case new_session_ticket: NewSessionTicket;`
+    NewSessionTicket(NewSessionTicket),
+    /// `case key_update: KeyUpdate;`
+    KeyUpdate(KeyUpdate),
+}
+
+type Cases = Tagged<
+    u8,
+    Or<
+        Or<
+            Or<
+                Or<Case<1, Enclosed<U24, ClientHello>>, Case<2, Enclosed<U24, ServerHello>>>,
+                Or<
+                    Case<5, Enclosed<U24, EndOfEarlyData>>,
+                    Case<8, Enclosed<U24, EncryptedExtensions>>,
+                >,
+            >,
+            Or<
+                Or<
+                    Case<13, Enclosed<U24, CertificateRequest>>,
+                    Case<11, Enclosed<U24, Certificate>>,
+                >,
+                Or<Case<15, Enclosed<U24, CertificateVerify>>, Case<20, TlsByteVecU24>>,
+            >,
+        >,
+        Or<Case<4, Enclosed<U24, NewSessionTicket>>, Case<24, Enclosed<U24, KeyUpdate>>>,
+    >,
+>;
+
+type LentCases<'a> = Tagged<
+    u8,
+    Or<
+        Or<
+            Or<
+                Or<
+                    Case<1, Enclosed<U24, Lent<'a, ClientHello>>>,
+                    Case<2, Enclosed<U24, Lent<'a, ServerHello>>>,
+                >,
+                Or<
+                    Case<5, Enclosed<U24, Lent<'a, EndOfEarlyData>>>,
+                    Case<8, Enclosed<U24, Lent<'a, EncryptedExtensions>>>,
+                >,
+            >,
+            Or<
+                Or<
+                    Case<13, Enclosed<U24, Lent<'a, CertificateRequest>>>,
+                    Case<11, Enclosed<U24, Lent<'a, Certificate>>>,
+                >,
+                Or<
+                    Case<15, Enclosed<U24, Lent<'a, CertificateVerify>>>,
+                    Case<20, Lent<'a, TlsByteVecU24>>,
+                >,
+            >,
+        >,
+        Or<
+            Case<4, Enclosed<U24, Lent<'a, NewSessionTicket>>>,
+            Case<24, Enclosed<U24, Lent<'a, KeyUpdate>>>,
+        >,
+    >,
+>;
+
+impl Handshake {
+    fn cases(&self) -> LentCases<'_>
+        ensures { ⟦<LentCases<'static> as Size>⟧.plain result ≡ handshake_plain self.now }
+    {
+        let cases = match self {
+            Handshake::ClientHello(client_hello) => Or::First(Or::First(Or::First(Or::First(Case(
+                Enclosed(Lent(client_hello), PhantomData),
+            ))))),
+            Handshake::ServerHello(server_hello) => Or::First(Or::First(Or::First(Or::Second(Case(
+                Enclosed(Lent(server_hello), PhantomData),
+            ))))),
+            Handshake::EndOfEarlyData(end_of_early_data) => Or::First(Or::First(Or::Second(
+                Or::First(Case(Enclosed(Lent(end_of_early_data), PhantomData))),
+            ))),
+            Handshake::EncryptedExtensions(encrypted_extensions) => Or::First(Or::First(Or::Second(
+                Or::Second(Case(Enclosed(Lent(encrypted_extensions), PhantomData))),
+            ))),
+            Handshake::CertificateRequest(certificate_request) => Or::First(Or::Second(Or::First(
+                Or::First(Case(Enclosed(Lent(certificate_request), PhantomData))),
+            ))),
+            Handshake::Certificate(certificate) => Or::First(Or::Second(Or::First(Or::Second(Case(
+                Enclosed(Lent(certificate), PhantomData),
+            ))))),
+            Handshake::CertificateVerify(certificate_verify) => Or::First(Or::Second(Or::Second(
+                Or::First(Case(Enclosed(Lent(certificate_verify), PhantomData))),
+            ))),
+            Handshake::Finished(verify_data) => Or::First(Or::Second(Or::Second(Or::Second(Case(
+                Lent(verify_data),
+            ))))),
+            Handshake::NewSessionTicket(new_session_ticket) => Or::Second(Or::First(Case(Enclosed(
+                Lent(new_session_ticket),
+                PhantomData,
+            )))),
+            Handshake::KeyUpdate(key_update) => Or::Second(Or::Second(Case(Enclosed(
+                Lent(key_update),
+                PhantomData,
+            )))),
+        };
+        Tagged(cases, PhantomData)
+    }
+
+    fn of(cases: Cases) -> Handshake
+        ensures { handshake_plain result ≡ ⟦<Cases as Size>⟧.plain cases }
+    {
+        match cases.0 {
+            Or::First(Or::First(Or::First(Or::First(case)))) => Handshake::ClientHello(case.0.0),
+            Or::First(Or::First(Or::First(Or::Second(case)))) => Handshake::ServerHello(case.0.0),
+            Or::First(Or::First(Or::Second(Or::First(case)))) => Handshake::EndOfEarlyData(
+                case.0.0,
+            ),
+            Or::First(Or::First(Or::Second(Or::Second(case)))) => Handshake::EncryptedExtensions(
+                case.0.0,
+            ),
+            Or::First(Or::Second(Or::First(Or::First(case)))) => Handshake::CertificateRequest(
+                case.0.0,
+            ),
+            Or::First(Or::Second(Or::First(Or::Second(case)))) => Handshake::Certificate(case.0.0),
+            Or::First(Or::Second(Or::Second(Or::First(case)))) => Handshake::CertificateVerify(
+                case.0.0,
+            ),
+            Or::First(Or::Second(Or::Second(Or::Second(case)))) => Handshake::Finished(case.0),
+            Or::Second(Or::First(case)) => Handshake::NewSessionTicket(case.0.0),
+            Or::Second(Or::Second(case)) => Handshake::KeyUpdate(case.0.0),
+        }
+    }
+}
+
+impl Size for Handshake {
+    ghost plain = { handshake_plain };
+
+    ghost format = { handshake_format };
+
+    fn tls_serialized_len(&self) -> usize {
+        self.cases().tls_serialized_len()
+    }
+
+    ghost lawful = { handshake_meets };
+}
+
+impl Serialize for Handshake {
+    fn tls_serialize<W: Sink>(&self, writer: &mut W) -> Result<usize, Error> {
+        write_as(self, &self.cases(), writer)
+    }
+
+    fn tls_serialize_into(&self, out: &mut Vec<u8>) -> Result<usize, Error> {
+        append_as(self, &self.cases(), out)
+    }
+}
+
+impl Deserialize for Handshake {
+    ghost names = { ⟦<Cases as Deserialize>⟧.names };
+
+    /// `TrailingData`: the case's fields end before their length does. `UnknownValue`: no case has the tag.
+    fn tls_deserialize<R: Source>(alloc: Global, src: &mut R) -> Result<Handshake, Error> {
+        let cases = <Cases>::tls_deserialize(alloc, src)?;
+        Ok(Handshake::of(cases))
+    }
+}
+
+impl DeserializeBytes for Handshake {
+    ghost names = { ⟦<Cases as DeserializeBytes>⟧.names };
+
+    /// `TrailingData`: the case's fields end before their length does. `UnknownValue`: no case has the tag.
+    fn tls_deserialize_bytes(alloc: Global, whole: &[u8]) -> Result<(Handshake, &[u8]), Error> {
+        let (cases, rest) = <Cases>::tls_deserialize_bytes(alloc, whole)?;
+        Ok((Handshake::of(cases), rest))
+    }
+}
+
+/// Two are equal exactly where they are of one case, and each field is.
+pub fn is_compared_by_its_case()
+    ensures tag { (x y : Handshake) →
+        IsTrue (⟦<Handshake as PartialEq>⟧.eq x y) → handshake_tag x ≡ handshake_tag y }
+    ensures case_1 { (a0 b0 : _) →
+        ⟦<Handshake as PartialEq>⟧.eq (Handshake.ClientHello a0) (Handshake.ClientHello b0)
+        ≡ ⟦<ClientHello as PartialEq>⟧.eq a0 b0 }
+    ensures case_2 { (a0 b0 : _) →
+        ⟦<Handshake as PartialEq>⟧.eq (Handshake.ServerHello a0) (Handshake.ServerHello b0)
+        ≡ ⟦<ServerHello as PartialEq>⟧.eq a0 b0 }
+    ensures case_5 { (a0 b0 : _) →
+        ⟦<Handshake as PartialEq>⟧.eq (Handshake.EndOfEarlyData a0) (Handshake.EndOfEarlyData b0)
+        ≡ ⟦<EndOfEarlyData as PartialEq>⟧.eq a0 b0 }
+    ensures case_8 { (a0 b0 : _) →
+        ⟦<Handshake as PartialEq>⟧.eq (Handshake.EncryptedExtensions a0)
+        (Handshake.EncryptedExtensions b0)
+        ≡ ⟦<EncryptedExtensions as PartialEq>⟧.eq a0 b0 }
+    ensures case_13 { (a0 b0 : _) →
+        ⟦<Handshake as PartialEq>⟧.eq (Handshake.CertificateRequest a0)
+        (Handshake.CertificateRequest b0)
+        ≡ ⟦<CertificateRequest as PartialEq>⟧.eq a0 b0 }
+    ensures case_11 { (a0 b0 : _) →
+        ⟦<Handshake as PartialEq>⟧.eq (Handshake.Certificate a0) (Handshake.Certificate b0)
+        ≡ ⟦<Certificate as PartialEq>⟧.eq a0 b0 }
+    ensures case_15 { (a0 b0 : _) →
+        ⟦<Handshake as PartialEq>⟧.eq (Handshake.CertificateVerify a0)
+        (Handshake.CertificateVerify b0)
+        ≡ ⟦<CertificateVerify as PartialEq>⟧.eq a0 b0 }
+    ensures case_20 { (a0 b0 : _) →
+        ⟦<Handshake as PartialEq>⟧.eq (Handshake.Finished a0) (Handshake.Finished b0)
+        ≡ ⟦<TlsByteVecU24 as PartialEq>⟧.eq a0 b0 }
+    ensures case_4 { (a0 b0 : _) →
+        ⟦<Handshake as PartialEq>⟧.eq (Handshake.NewSessionTicket a0)
+        (Handshake.NewSessionTicket b0)
+        ≡ ⟦<NewSessionTicket as PartialEq>⟧.eq a0 b0 }
+    ensures case_24 { (a0 b0 : _) →
+        ⟦<Handshake as PartialEq>⟧.eq (Handshake.KeyUpdate a0) (Handshake.KeyUpdate b0)
+        ≡ ⟦<KeyUpdate as PartialEq>⟧.eq a0 b0 }
+{}

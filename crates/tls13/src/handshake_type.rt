@@ -1,0 +1,178 @@
+//! [`HandshakeType`].
+ghost use Rattle.std.specs.Prelude.{◌≡◌, MatchOption, false, nat_eq};
+ghost use Rattle.tls_codec.specs.OwnMessages.{values_names, values_source_names};
+ghost use Rattle.tls13.specs.HandshakeType.{handshake_type_code, handshake_type_format, handshake_type_has, handshake_type_meets, handshake_type_plain, handshake_type_selected};
+ghost use Rattle.tls13.specs.declared.handshake_type.HandshakeType.{HandshakeType};
+
+use std::alloc::Global;
+use tls_codec::{
+    Deserialize, DeserializeBytes, Error, Serialize, Sink, Size, Source, unknown_value,
+};
+use tls_codec_cases::Selector;
+
+/// `HandshakeType`.
+#[derive(PartialEq, Eq, Debug, Clone, Copy)]
+pub enum HandshakeType {
+    /// `hello_request_RESERVED(0)`
+    HelloRequestReserved,
+    /// `client_hello(1)`
+    ClientHello,
+    /// `server_hello(2)`
+    ServerHello,
+    /// `hello_verify_request_RESERVED(3)`
+    HelloVerifyRequestReserved,
+    /// `new_session_ticket(4)`
+    NewSessionTicket,
+    /// `end_of_early_data(5)`
+    EndOfEarlyData,
+    /// `hello_retry_request_RESERVED(6)`
+    HelloRetryRequestReserved,
+    /// `encrypted_extensions(8)`
+    EncryptedExtensions,
+    /// `certificate(11)`
+    Certificate,
+    /// `server_key_exchange_RESERVED(12)`
+    ServerKeyExchangeReserved,
+    /// `certificate_request(13)`
+    CertificateRequest,
+    /// `server_hello_done_RESERVED(14)`
+    ServerHelloDoneReserved,
+    /// `certificate_verify(15)`
+    CertificateVerify,
+    /// `client_key_exchange_RESERVED(16)`
+    ClientKeyExchangeReserved,
+    /// `finished(20)`
+    Finished,
+    /// `certificate_url_RESERVED(21)`
+    CertificateUrlReserved,
+    /// `certificate_status_RESERVED(22)`
+    CertificateStatusReserved,
+    /// `supplemental_data_RESERVED(23)`
+    SupplementalDataReserved,
+    /// `key_update(24)`
+    KeyUpdate,
+    /// `message_hash(254)`
+    MessageHash,
+}
+
+impl HandshakeType {
+    /// Its number.
+    pub fn code(&self) -> u8
+        ensures { result ≡ handshake_type_code self.now }
+    {
+        match self {
+            HandshakeType::HelloRequestReserved => 0,
+            HandshakeType::ClientHello => 1,
+            HandshakeType::ServerHello => 2,
+            HandshakeType::HelloVerifyRequestReserved => 3,
+            HandshakeType::NewSessionTicket => 4,
+            HandshakeType::EndOfEarlyData => 5,
+            HandshakeType::HelloRetryRequestReserved => 6,
+            HandshakeType::EncryptedExtensions => 8,
+            HandshakeType::Certificate => 11,
+            HandshakeType::ServerKeyExchangeReserved => 12,
+            HandshakeType::CertificateRequest => 13,
+            HandshakeType::ServerHelloDoneReserved => 14,
+            HandshakeType::CertificateVerify => 15,
+            HandshakeType::ClientKeyExchangeReserved => 16,
+            HandshakeType::Finished => 20,
+            HandshakeType::CertificateUrlReserved => 21,
+            HandshakeType::CertificateStatusReserved => 22,
+            HandshakeType::SupplementalDataReserved => 23,
+            HandshakeType::KeyUpdate => 24,
+            HandshakeType::MessageHash => 254,
+        }
+    }
+
+    /// The value that has this number.
+    pub fn of_code(code: u8) -> Option<HandshakeType>
+        ensures { MatchOption result (handshake_type_has code ≡ false)
+            (λ v. handshake_type_code v ≡ code) }
+    {
+        match code {
+            0 => Some(HandshakeType::HelloRequestReserved),
+            1 => Some(HandshakeType::ClientHello),
+            2 => Some(HandshakeType::ServerHello),
+            3 => Some(HandshakeType::HelloVerifyRequestReserved),
+            4 => Some(HandshakeType::NewSessionTicket),
+            5 => Some(HandshakeType::EndOfEarlyData),
+            6 => Some(HandshakeType::HelloRetryRequestReserved),
+            8 => Some(HandshakeType::EncryptedExtensions),
+            11 => Some(HandshakeType::Certificate),
+            12 => Some(HandshakeType::ServerKeyExchangeReserved),
+            13 => Some(HandshakeType::CertificateRequest),
+            14 => Some(HandshakeType::ServerHelloDoneReserved),
+            15 => Some(HandshakeType::CertificateVerify),
+            16 => Some(HandshakeType::ClientKeyExchangeReserved),
+            20 => Some(HandshakeType::Finished),
+            21 => Some(HandshakeType::CertificateUrlReserved),
+            22 => Some(HandshakeType::CertificateStatusReserved),
+            23 => Some(HandshakeType::SupplementalDataReserved),
+            24 => Some(HandshakeType::KeyUpdate),
+            254 => Some(HandshakeType::MessageHash),
+            _ => None,
+        }
+    }
+}
+
+impl Size for HandshakeType {
+    ghost plain = { handshake_type_plain };
+
+    ghost format = { handshake_type_format };
+
+    fn tls_serialized_len(&self) -> usize {
+        1
+    }
+
+    ghost lawful = { handshake_type_meets };
+}
+
+impl Serialize for HandshakeType {
+    fn tls_serialize<W: Sink>(&self, writer: &mut W) -> Result<usize, Error> {
+        self.code().tls_serialize(writer)
+    }
+
+    fn tls_serialize_into(&self, out: &mut Vec<u8>) -> Result<usize, Error> {
+        self.code().tls_serialize_into(out)
+    }
+}
+
+impl Deserialize for HandshakeType {
+    ghost names = { values_source_names 1 handshake_type_has };
+
+    fn tls_deserialize<R: Source>(alloc: Global, src: &mut R) -> Result<HandshakeType, Error> {
+        let tag = u8::tls_deserialize(alloc, src)?;
+        match HandshakeType::of_code(tag) {
+            Some(value) => Ok(value),
+            None => Err(unknown_value(u64::from(tag))),
+        }
+    }
+}
+
+impl DeserializeBytes for HandshakeType {
+    ghost names = { values_names 1 handshake_type_has };
+
+    fn tls_deserialize_bytes(alloc: Global, whole: &[u8]) -> Result<(HandshakeType, &[u8]), Error> {
+        let (tag, rest) = u8::tls_deserialize_bytes(alloc, whole)?;
+        match HandshakeType::of_code(tag) {
+            Some(value) => Ok((value, rest)),
+            None => Err(unknown_value(u64::from(tag))),
+        }
+    }
+}
+
+impl Selector for HandshakeType {
+    ghost selected = { handshake_type_selected };
+
+    fn selects(&self) -> u64 {
+        let tag = self.code();
+        u64::from(tag)
+    }
+}
+
+/// Two are equal exactly where their numbers are.
+pub fn is_compared_by_its_number()
+    ensures { (x y : HandshakeType) →
+        ⟦<HandshakeType as PartialEq>⟧.eq x y
+        ≡ nat_eq (handshake_type_code x) (handshake_type_code y) }
+{}

@@ -1,0 +1,70 @@
+//! [`KeyShareClientHello`].
+ghost use Rattle.std.specs.Prelude.{◌≡◌};
+ghost use Rattle.tls13.specs.KeyShareClientHello.{key_share_client_hello_format, key_share_client_hello_meets, key_share_client_hello_plain};
+ghost use Rattle.tls13.specs.declared.key_share_client_hello.KeyShareClientHello.{KeyShareClientHello};
+
+use crate::KeyShareEntry;
+use std::alloc::Global;
+use tls_codec::{Deserialize, DeserializeBytes, Error, Serialize, Sink, Size, Source, TlsVecU16};
+
+/// `KeyShareClientHello`.
+#[derive(PartialEq, Eq, Debug, Clone, Drop)]
+pub struct KeyShareClientHello {
+    /// `KeyShareEntry client_shares<0..2^16-1>;`
+    pub client_shares: TlsVecU16<KeyShareEntry>,
+}
+
+impl Size for KeyShareClientHello {
+    ghost plain = { key_share_client_hello_plain };
+
+    ghost format = { key_share_client_hello_format };
+
+    fn tls_serialized_len(&self) -> usize {
+        self.client_shares.tls_serialized_len()
+    }
+
+    ghost lawful = { key_share_client_hello_meets };
+}
+
+impl Serialize for KeyShareClientHello {
+    fn tls_serialize<W: Sink>(&self, writer: &mut W) -> Result<usize, Error> {
+        self.client_shares.tls_serialize(writer)
+    }
+
+    fn tls_serialize_into(&self, out: &mut Vec<u8>) -> Result<usize, Error> {
+        self.client_shares.tls_serialize_into(out)
+    }
+}
+
+impl Deserialize for KeyShareClientHello {
+    ghost names = { ⟦<TlsVecU16<KeyShareEntry> as Deserialize>⟧.names };
+
+    fn tls_deserialize<R: Source>(
+        alloc: Global,
+        src: &mut R,
+    ) -> Result<KeyShareClientHello, Error> {
+        let client_shares = <TlsVecU16<KeyShareEntry>>::tls_deserialize(alloc, src)?;
+        Ok(KeyShareClientHello { client_shares })
+    }
+}
+
+impl DeserializeBytes for KeyShareClientHello {
+    ghost names = { ⟦<TlsVecU16<KeyShareEntry> as DeserializeBytes>⟧.names };
+
+    fn tls_deserialize_bytes(
+        alloc: Global,
+        whole: &[u8],
+    ) -> Result<(KeyShareClientHello, &[u8]), Error> {
+        let (client_shares, rest) = <TlsVecU16<KeyShareEntry>>::tls_deserialize_bytes(
+            alloc, whole,
+        )?;
+        Ok((KeyShareClientHello { client_shares }, rest))
+    }
+}
+
+/// Two are equal exactly where each field is.
+pub fn is_compared_by_its_fields()
+    ensures { (x y : KeyShareClientHello) →
+        ⟦<KeyShareClientHello as PartialEq>⟧.eq x y
+        ≡ ⟦<TlsVecU16<KeyShareEntry> as PartialEq>⟧.eq x.client_shares y.client_shares }
+{}

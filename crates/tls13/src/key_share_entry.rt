@@ -1,0 +1,82 @@
+//! [`KeyShareEntry`].
+ghost use Rattle.std.specs.Prelude.{◌≡◌, ◌&&◌};
+ghost use Rattle.tls13.specs.KeyShareEntry.{key_share_entry_format, key_share_entry_meets, key_share_entry_plain};
+ghost use Rattle.tls13.specs.declared.key_share_entry.KeyShareEntry.{KeyShareEntry};
+
+use crate::NamedGroup;
+use std::alloc::Global;
+use tls_codec::{
+    Deserialize, DeserializeBytes, Error, Lent, Serialize, Sink, Size, Source, TlsByteVec, Within,
+};
+
+/// `KeyShareEntry`.
+#[derive(PartialEq, Eq, Debug, Clone, Drop)]
+pub struct KeyShareEntry {
+    /// `NamedGroup group;`
+    pub group: NamedGroup,
+    /// `opaque key_exchange<1..2^16-1>;`
+    pub key_exchange: TlsByteVec<Within<u16, 1, 65535>>,
+}
+
+impl Size for KeyShareEntry {
+    ghost plain = { key_share_entry_plain };
+
+    ghost format = { key_share_entry_format };
+
+    fn tls_serialized_len(&self) -> usize {
+        (Lent(&self.group), Lent(&self.key_exchange)).tls_serialized_len()
+    }
+
+    ghost lawful = { key_share_entry_meets };
+}
+
+impl Serialize for KeyShareEntry {
+    fn tls_serialize<W: Sink>(&self, writer: &mut W) -> Result<usize, Error> {
+        (Lent(&self.group), Lent(&self.key_exchange)).tls_serialize(writer)
+    }
+
+    fn tls_serialize_into(&self, out: &mut Vec<u8>) -> Result<usize, Error> {
+        (Lent(&self.group), Lent(&self.key_exchange)).tls_serialize_into(out)
+    }
+}
+
+impl Deserialize for KeyShareEntry {
+    ghost names = { ⟦<(NamedGroup, TlsByteVec<Within<u16, 1, 65535>>) as Deserialize>⟧.names };
+
+    fn tls_deserialize<R: Source>(alloc: Global, src: &mut R) -> Result<KeyShareEntry, Error> {
+        let (group, key_exchange) = <(
+            NamedGroup,
+            TlsByteVec<Within<u16, 1, 65535>>,
+        )>::tls_deserialize(alloc, src)?;
+        Ok(KeyShareEntry {
+            group,
+            key_exchange,
+        })
+    }
+}
+
+impl DeserializeBytes for KeyShareEntry {
+    ghost names = { ⟦<(NamedGroup, TlsByteVec<Within<u16, 1, 65535>>) as DeserializeBytes>⟧.names };
+
+    fn tls_deserialize_bytes(alloc: Global, whole: &[u8]) -> Result<(KeyShareEntry, &[u8]), Error> {
+        let ((group, key_exchange), rest) = <(
+            NamedGroup,
+            TlsByteVec<Within<u16, 1, 65535>>,
+        )>::tls_deserialize_bytes(alloc, whole)?;
+        Ok((
+            KeyShareEntry {
+                group,
+                key_exchange,
+            },
+            rest,
+        ))
+    }
+}
+
+/// Two are equal exactly where each field is.
+pub fn is_compared_by_its_fields()
+    ensures { (x y : KeyShareEntry) →
+        ⟦<KeyShareEntry as PartialEq>⟧.eq x y
+        ≡ (⟦<NamedGroup as PartialEq>⟧.eq x.group y.group
+        && ⟦<TlsByteVec<Within<u16, 1, 65535>> as PartialEq>⟧.eq x.key_exchange y.key_exchange) }
+{}

@@ -1,0 +1,99 @@
+//! [`KeyUpdateRequest`].
+ghost use Rattle.std.specs.Prelude.{◌≡◌, MatchOption, false, nat_eq};
+ghost use Rattle.tls_codec.specs.OwnMessages.{values_names, values_source_names};
+ghost use Rattle.tls13.specs.KeyUpdateRequest.{key_update_request_code, key_update_request_format, key_update_request_has, key_update_request_meets, key_update_request_plain};
+ghost use Rattle.tls13.specs.declared.key_update_request.KeyUpdateRequest.{KeyUpdateRequest};
+
+use std::alloc::Global;
+use tls_codec::{
+    Deserialize, DeserializeBytes, Error, Serialize, Sink, Size, Source, unknown_value,
+};
+
+/// `KeyUpdateRequest`.
+#[derive(PartialEq, Eq, Debug, Clone, Copy)]
+pub enum KeyUpdateRequest {
+    /// `update_not_requested(0)`
+    UpdateNotRequested,
+    /// `update_requested(1)`
+    UpdateRequested,
+}
+
+impl KeyUpdateRequest {
+    /// Its number.
+    pub fn code(&self) -> u8
+        ensures { result ≡ key_update_request_code self.now }
+    {
+        match self {
+            KeyUpdateRequest::UpdateNotRequested => 0,
+            KeyUpdateRequest::UpdateRequested => 1,
+        }
+    }
+
+    /// The value that has this number.
+    pub fn of_code(code: u8) -> Option<KeyUpdateRequest>
+        ensures { MatchOption result (key_update_request_has code ≡ false)
+            (λ v. key_update_request_code v ≡ code) }
+    {
+        match code {
+            0 => Some(KeyUpdateRequest::UpdateNotRequested),
+            1 => Some(KeyUpdateRequest::UpdateRequested),
+            _ => None,
+        }
+    }
+}
+
+impl Size for KeyUpdateRequest {
+    ghost plain = { key_update_request_plain };
+
+    ghost format = { key_update_request_format };
+
+    fn tls_serialized_len(&self) -> usize {
+        1
+    }
+
+    ghost lawful = { key_update_request_meets };
+}
+
+impl Serialize for KeyUpdateRequest {
+    fn tls_serialize<W: Sink>(&self, writer: &mut W) -> Result<usize, Error> {
+        self.code().tls_serialize(writer)
+    }
+
+    fn tls_serialize_into(&self, out: &mut Vec<u8>) -> Result<usize, Error> {
+        self.code().tls_serialize_into(out)
+    }
+}
+
+impl Deserialize for KeyUpdateRequest {
+    ghost names = { values_source_names 1 key_update_request_has };
+
+    fn tls_deserialize<R: Source>(alloc: Global, src: &mut R) -> Result<KeyUpdateRequest, Error> {
+        let tag = u8::tls_deserialize(alloc, src)?;
+        match KeyUpdateRequest::of_code(tag) {
+            Some(value) => Ok(value),
+            None => Err(unknown_value(u64::from(tag))),
+        }
+    }
+}
+
+impl DeserializeBytes for KeyUpdateRequest {
+    ghost names = { values_names 1 key_update_request_has };
+
+    fn tls_deserialize_bytes(
+        alloc: Global,
+        whole: &[u8],
+    ) -> Result<(KeyUpdateRequest, &[u8]), Error> {
+        let (tag, rest) = u8::tls_deserialize_bytes(alloc, whole)?;
+        match KeyUpdateRequest::of_code(tag) {
+            Some(value) => Ok((value, rest)),
+            None => Err(unknown_value(u64::from(tag))),
+        }
+    }
+}
+
+/// Two are equal exactly where their numbers are.
+pub fn is_compared_by_its_number()
+    ensures { (x y : KeyUpdateRequest) →
+        ⟦<KeyUpdateRequest as PartialEq>⟧.eq x y
+        ≡ nat_eq (key_update_request_code x) (key_update_request_code y) }
+{}

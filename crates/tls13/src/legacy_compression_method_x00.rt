@@ -1,0 +1,96 @@
+//! [`LegacyCompressionMethodX00`].
+ghost use Rattle.std.specs.Prelude.{◌≡◌, MatchOption, false, nat_eq};
+ghost use Rattle.tls_codec.specs.OwnMessages.{values_names, values_source_names};
+ghost use Rattle.tls13.specs.LegacyCompressionMethodX00.{legacy_compression_method_x00_code, legacy_compression_method_x00_format, legacy_compression_method_x00_has, legacy_compression_method_x00_meets, legacy_compression_method_x00_plain};
+ghost use Rattle.tls13.specs.declared.legacy_compression_method_x00.LegacyCompressionMethodX00.{LegacyCompressionMethodX00};
+
+use std::alloc::Global;
+use tls_codec::{
+    Deserialize, DeserializeBytes, Error, Serialize, Sink, Size, Source, unknown_value,
+};
+
+/// `LegacyCompressionMethodX00`.
+#[derive(PartialEq, Eq, Debug, Clone, Copy)]
+pub enum LegacyCompressionMethodX00 {
+    /// `0x00(0)`
+    X00,
+}
+
+impl LegacyCompressionMethodX00 {
+    /// Its number.
+    pub fn code(&self) -> u8
+        ensures { result ≡ legacy_compression_method_x00_code self.now }
+    {
+        0
+    }
+
+    /// The value that has this number.
+    pub fn of_code(code: u8) -> Option<LegacyCompressionMethodX00>
+        ensures { MatchOption result (legacy_compression_method_x00_has code ≡ false)
+            (λ v. legacy_compression_method_x00_code v ≡ code) }
+    {
+        match code {
+            0 => Some(LegacyCompressionMethodX00::X00),
+            _ => None,
+        }
+    }
+}
+
+impl Size for LegacyCompressionMethodX00 {
+    ghost plain = { legacy_compression_method_x00_plain };
+
+    ghost format = { legacy_compression_method_x00_format };
+
+    fn tls_serialized_len(&self) -> usize {
+        1
+    }
+
+    ghost lawful = { legacy_compression_method_x00_meets };
+}
+
+impl Serialize for LegacyCompressionMethodX00 {
+    fn tls_serialize<W: Sink>(&self, writer: &mut W) -> Result<usize, Error> {
+        self.code().tls_serialize(writer)
+    }
+
+    fn tls_serialize_into(&self, out: &mut Vec<u8>) -> Result<usize, Error> {
+        self.code().tls_serialize_into(out)
+    }
+}
+
+impl Deserialize for LegacyCompressionMethodX00 {
+    ghost names = { values_source_names 1 legacy_compression_method_x00_has };
+
+    fn tls_deserialize<R: Source>(
+        alloc: Global,
+        src: &mut R,
+    ) -> Result<LegacyCompressionMethodX00, Error> {
+        let tag = u8::tls_deserialize(alloc, src)?;
+        match LegacyCompressionMethodX00::of_code(tag) {
+            Some(value) => Ok(value),
+            None => Err(unknown_value(u64::from(tag))),
+        }
+    }
+}
+
+impl DeserializeBytes for LegacyCompressionMethodX00 {
+    ghost names = { values_names 1 legacy_compression_method_x00_has };
+
+    fn tls_deserialize_bytes(
+        alloc: Global,
+        whole: &[u8],
+    ) -> Result<(LegacyCompressionMethodX00, &[u8]), Error> {
+        let (tag, rest) = u8::tls_deserialize_bytes(alloc, whole)?;
+        match LegacyCompressionMethodX00::of_code(tag) {
+            Some(value) => Ok((value, rest)),
+            None => Err(unknown_value(u64::from(tag))),
+        }
+    }
+}
+
+/// Two are equal exactly where their numbers are.
+pub fn is_compared_by_its_number()
+    ensures { (x y : LegacyCompressionMethodX00) →
+        ⟦<LegacyCompressionMethodX00 as PartialEq>⟧.eq x y
+        ≡ nat_eq (legacy_compression_method_x00_code x) (legacy_compression_method_x00_code y) }
+{}

@@ -1,0 +1,134 @@
+//! [`NewSessionTicket`].
+ghost use Rattle.std.specs.Prelude.{◌≡◌, ◌&&◌};
+ghost use Rattle.tls13.specs.NewSessionTicket.{new_session_ticket_format, new_session_ticket_meets, new_session_ticket_plain};
+ghost use Rattle.tls13.specs.declared.new_session_ticket.NewSessionTicket.{NewSessionTicket};
+
+use crate::Extension;
+use std::alloc::Global;
+use tls_codec::{
+    Deserialize, DeserializeBytes, Error, Lent2, Lent3, Serialize, Sink, Size, Source, TlsByteVec,
+    TlsByteVecU8, TlsVec, Within,
+};
+
+/// `NewSessionTicket`.
+#[derive(PartialEq, Eq, Debug, Clone, Drop)]
+pub struct NewSessionTicket {
+    /// `uint32 ticket_lifetime;`
+    pub ticket_lifetime: u32,
+    /// `uint32 ticket_age_add;`
+    pub ticket_age_add: u32,
+    /// `opaque ticket_nonce<0..2^8-1>;`
+    pub ticket_nonce: TlsByteVecU8,
+    /// `opaque ticket<1..2^16-1>;`
+    pub ticket: TlsByteVec<Within<u16, 1, 65535>>,
+    /// `Extension extensions<0..65534>;`
+    pub extensions: TlsVec<Within<u16, 0, 65534>, Extension>,
+}
+
+impl Size for NewSessionTicket {
+    ghost plain = { new_session_ticket_plain };
+
+    ghost format = { new_session_ticket_format };
+
+    fn tls_serialized_len(&self) -> usize {
+        (
+            Lent3(
+                &self.ticket_lifetime,
+                &self.ticket_age_add,
+                &self.ticket_nonce,
+            ),
+            Lent2(&self.ticket, &self.extensions),
+        )
+            .tls_serialized_len()
+    }
+
+    ghost lawful = { new_session_ticket_meets };
+}
+
+impl Serialize for NewSessionTicket {
+    fn tls_serialize<W: Sink>(&self, writer: &mut W) -> Result<usize, Error> {
+        (
+            Lent3(
+                &self.ticket_lifetime,
+                &self.ticket_age_add,
+                &self.ticket_nonce,
+            ),
+            Lent2(&self.ticket, &self.extensions),
+        )
+            .tls_serialize(writer)
+    }
+
+    fn tls_serialize_into(&self, out: &mut Vec<u8>) -> Result<usize, Error> {
+        (
+            Lent3(
+                &self.ticket_lifetime,
+                &self.ticket_age_add,
+                &self.ticket_nonce,
+            ),
+            Lent2(&self.ticket, &self.extensions),
+        )
+            .tls_serialize_into(out)
+    }
+}
+
+impl Deserialize for NewSessionTicket {
+    ghost names = { ⟦<((u32, u32, TlsByteVecU8), (TlsByteVec<Within<u16, 1, 65535>>,
+        TlsVec<Within<u16, 0, 65534>, Extension>)) as Deserialize>⟧.names };
+
+    fn tls_deserialize<R: Source>(alloc: Global, src: &mut R) -> Result<NewSessionTicket, Error> {
+        let ((ticket_lifetime, ticket_age_add, ticket_nonce), (ticket, extensions)) = <(
+            (u32, u32, TlsByteVecU8),
+            (
+                TlsByteVec<Within<u16, 1, 65535>>,
+                TlsVec<Within<u16, 0, 65534>, Extension>,
+            ),
+        )>::tls_deserialize(alloc, src)?;
+        Ok(NewSessionTicket {
+            ticket_lifetime,
+            ticket_age_add,
+            ticket_nonce,
+            ticket,
+            extensions,
+        })
+    }
+}
+
+impl DeserializeBytes for NewSessionTicket {
+    ghost names = { ⟦<((u32, u32, TlsByteVecU8), (TlsByteVec<Within<u16, 1, 65535>>,
+        TlsVec<Within<u16, 0, 65534>, Extension>)) as DeserializeBytes>⟧.names };
+
+    fn tls_deserialize_bytes(
+        alloc: Global,
+        whole: &[u8],
+    ) -> Result<(NewSessionTicket, &[u8]), Error> {
+        let (((ticket_lifetime, ticket_age_add, ticket_nonce), (ticket, extensions)), rest) = <(
+            (u32, u32, TlsByteVecU8),
+            (
+                TlsByteVec<Within<u16, 1, 65535>>,
+                TlsVec<Within<u16, 0, 65534>, Extension>,
+            ),
+        )>::tls_deserialize_bytes(alloc, whole)?;
+        Ok((
+            NewSessionTicket {
+                ticket_lifetime,
+                ticket_age_add,
+                ticket_nonce,
+                ticket,
+                extensions,
+            },
+            rest,
+        ))
+    }
+}
+
+/// Two are equal exactly where each field is.
+pub fn is_compared_by_its_fields()
+    ensures { (x y : NewSessionTicket) →
+        ⟦<NewSessionTicket as PartialEq>⟧.eq x y
+        ≡ (⟦<u32 as PartialEq>⟧.eq x.ticket_lifetime y.ticket_lifetime
+        && (⟦<u32 as PartialEq>⟧.eq x.ticket_age_add y.ticket_age_add
+        && (⟦<TlsByteVecU8 as PartialEq>⟧.eq x.ticket_nonce y.ticket_nonce
+        && (⟦<TlsByteVec<Within<u16, 1, 65535>> as PartialEq>⟧.eq x.ticket y.ticket
+        && ⟦<TlsVec<Within<u16, 0, 65534>, Extension> as PartialEq>⟧.eq x.extensions
+        y.extensions)))) }
+{}

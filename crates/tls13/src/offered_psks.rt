@@ -1,0 +1,84 @@
+//! [`OfferedPsks`].
+ghost use Rattle.std.specs.Prelude.{◌≡◌, ◌&&◌};
+ghost use Rattle.tls13.specs.OfferedPsks.{offered_psks_format, offered_psks_meets, offered_psks_plain};
+ghost use Rattle.tls13.specs.declared.offered_psks.OfferedPsks.{OfferedPsks};
+
+use crate::{PskBinderEntry, PskIdentity};
+use std::alloc::Global;
+use tls_codec::{
+    Deserialize, DeserializeBytes, Error, Lent, Serialize, Sink, Size, Source, TlsVec, Within,
+};
+
+/// `OfferedPsks`.
+#[derive(PartialEq, Eq, Debug, Clone, Drop)]
+pub struct OfferedPsks {
+    /// `PskIdentity identities<7..2^16-1>;`
+    pub identities: TlsVec<Within<u16, 7, 65535>, PskIdentity>,
+    /// `PskBinderEntry binders<33..2^16-1>;`
+    pub binders: TlsVec<Within<u16, 33, 65535>, PskBinderEntry>,
+}
+
+impl Size for OfferedPsks {
+    ghost plain = { offered_psks_plain };
+
+    ghost format = { offered_psks_format };
+
+    fn tls_serialized_len(&self) -> usize {
+        (Lent(&self.identities), Lent(&self.binders)).tls_serialized_len()
+    }
+
+    ghost lawful = { offered_psks_meets };
+}
+
+impl Serialize for OfferedPsks {
+    fn tls_serialize<W: Sink>(&self, writer: &mut W) -> Result<usize, Error> {
+        (Lent(&self.identities), Lent(&self.binders)).tls_serialize(writer)
+    }
+
+    fn tls_serialize_into(&self, out: &mut Vec<u8>) -> Result<usize, Error> {
+        (Lent(&self.identities), Lent(&self.binders)).tls_serialize_into(out)
+    }
+}
+
+impl Deserialize for OfferedPsks {
+    ghost names = { ⟦<(TlsVec<Within<u16, 7, 65535>, PskIdentity>,
+        TlsVec<Within<u16, 33, 65535>, PskBinderEntry>) as Deserialize>⟧.names };
+
+    fn tls_deserialize<R: Source>(alloc: Global, src: &mut R) -> Result<OfferedPsks, Error> {
+        let (identities, binders) = <(
+            TlsVec<Within<u16, 7, 65535>, PskIdentity>,
+            TlsVec<Within<u16, 33, 65535>, PskBinderEntry>,
+        )>::tls_deserialize(alloc, src)?;
+        Ok(OfferedPsks {
+            identities,
+            binders,
+        })
+    }
+}
+
+impl DeserializeBytes for OfferedPsks {
+    ghost names = { ⟦<(TlsVec<Within<u16, 7, 65535>, PskIdentity>,
+        TlsVec<Within<u16, 33, 65535>, PskBinderEntry>) as DeserializeBytes>⟧.names };
+
+    fn tls_deserialize_bytes(alloc: Global, whole: &[u8]) -> Result<(OfferedPsks, &[u8]), Error> {
+        let ((identities, binders), rest) = <(
+            TlsVec<Within<u16, 7, 65535>, PskIdentity>,
+            TlsVec<Within<u16, 33, 65535>, PskBinderEntry>,
+        )>::tls_deserialize_bytes(alloc, whole)?;
+        Ok((
+            OfferedPsks {
+                identities,
+                binders,
+            },
+            rest,
+        ))
+    }
+}
+
+/// Two are equal exactly where each field is.
+pub fn is_compared_by_its_fields()
+    ensures { (x y : OfferedPsks) →
+        ⟦<OfferedPsks as PartialEq>⟧.eq x y
+        ≡ (⟦<TlsVec<Within<u16, 7, 65535>, PskIdentity> as PartialEq>⟧.eq x.identities y.identities
+        && ⟦<TlsVec<Within<u16, 33, 65535>, PskBinderEntry> as PartialEq>⟧.eq x.binders y.binders) }
+{}

@@ -1,0 +1,96 @@
+//! [`OIDFilter`].
+ghost use Rattle.std.specs.Prelude.{◌≡◌, ◌&&◌};
+ghost use Rattle.tls13.specs.OIDFilter.{oid_filter_format, oid_filter_meets, oid_filter_plain};
+ghost use Rattle.tls13.specs.declared.oid_filter.OIDFilter.{OIDFilter};
+
+use std::alloc::Global;
+use tls_codec::{
+    Deserialize, DeserializeBytes, Error, Lent, Serialize, Sink, Size, Source, TlsByteVec,
+    TlsByteVecU16, Within,
+};
+
+/// `OIDFilter`.
+#[derive(PartialEq, Eq, Debug, Clone, Drop)]
+pub struct OIDFilter {
+    /// `opaque certificate_extension_oid<1..2^8-1>;`
+    pub certificate_extension_oid: TlsByteVec<Within<u8, 1, 255>>,
+    /// `opaque certificate_extension_values<0..2^16-1>;`
+    pub certificate_extension_values: TlsByteVecU16,
+}
+
+impl Size for OIDFilter {
+    ghost plain = { oid_filter_plain };
+
+    ghost format = { oid_filter_format };
+
+    fn tls_serialized_len(&self) -> usize {
+        (
+            Lent(&self.certificate_extension_oid),
+            Lent(&self.certificate_extension_values),
+        )
+            .tls_serialized_len()
+    }
+
+    ghost lawful = { oid_filter_meets };
+}
+
+impl Serialize for OIDFilter {
+    fn tls_serialize<W: Sink>(&self, writer: &mut W) -> Result<usize, Error> {
+        (
+            Lent(&self.certificate_extension_oid),
+            Lent(&self.certificate_extension_values),
+        )
+            .tls_serialize(writer)
+    }
+
+    fn tls_serialize_into(&self, out: &mut Vec<u8>) -> Result<usize, Error> {
+        (
+            Lent(&self.certificate_extension_oid),
+            Lent(&self.certificate_extension_values),
+        )
+            .tls_serialize_into(out)
+    }
+}
+
+impl Deserialize for OIDFilter {
+    ghost names = { ⟦<(TlsByteVec<Within<u8, 1, 255>>, TlsByteVecU16) as Deserialize>⟧.names };
+
+    fn tls_deserialize<R: Source>(alloc: Global, src: &mut R) -> Result<OIDFilter, Error> {
+        let (certificate_extension_oid, certificate_extension_values) = <(
+            TlsByteVec<Within<u8, 1, 255>>,
+            TlsByteVecU16,
+        )>::tls_deserialize(alloc, src)?;
+        Ok(OIDFilter {
+            certificate_extension_oid,
+            certificate_extension_values,
+        })
+    }
+}
+
+impl DeserializeBytes for OIDFilter {
+    ghost names = { ⟦<(TlsByteVec<Within<u8, 1, 255>>, TlsByteVecU16) as DeserializeBytes>⟧.names };
+
+    fn tls_deserialize_bytes(alloc: Global, whole: &[u8]) -> Result<(OIDFilter, &[u8]), Error> {
+        let ((certificate_extension_oid, certificate_extension_values), rest) = <(
+            TlsByteVec<Within<u8, 1, 255>>,
+            TlsByteVecU16,
+        )>::tls_deserialize_bytes(alloc, whole)?;
+        Ok((
+            OIDFilter {
+                certificate_extension_oid,
+                certificate_extension_values,
+            },
+            rest,
+        ))
+    }
+}
+
+/// Two are equal exactly where each field is.
+pub fn is_compared_by_its_fields()
+    ensures { (x y : OIDFilter) →
+        ⟦<OIDFilter as PartialEq>⟧.eq x y
+        ≡ (⟦<TlsByteVec<Within<u8, 1, 255>> as PartialEq>⟧.eq x.certificate_extension_oid
+        y.certificate_extension_oid
+        && ⟦<TlsByteVecU16 as PartialEq>⟧.eq x.certificate_extension_values
+        y.certificate_extension_values) }
+{}

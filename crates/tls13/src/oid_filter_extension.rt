@@ -1,0 +1,65 @@
+//! [`OIDFilterExtension`].
+ghost use Rattle.std.specs.Prelude.{◌≡◌};
+ghost use Rattle.tls13.specs.OIDFilterExtension.{oid_filter_extension_format, oid_filter_extension_meets, oid_filter_extension_plain};
+ghost use Rattle.tls13.specs.declared.oid_filter_extension.OIDFilterExtension.{OIDFilterExtension};
+
+use crate::OIDFilter;
+use std::alloc::Global;
+use tls_codec::{Deserialize, DeserializeBytes, Error, Serialize, Sink, Size, Source, TlsVecU16};
+
+/// `OIDFilterExtension`.
+#[derive(PartialEq, Eq, Debug, Clone, Drop)]
+pub struct OIDFilterExtension {
+    /// `OIDFilter filters<0..2^16-1>;`
+    pub filters: TlsVecU16<OIDFilter>,
+}
+
+impl Size for OIDFilterExtension {
+    ghost plain = { oid_filter_extension_plain };
+
+    ghost format = { oid_filter_extension_format };
+
+    fn tls_serialized_len(&self) -> usize {
+        self.filters.tls_serialized_len()
+    }
+
+    ghost lawful = { oid_filter_extension_meets };
+}
+
+impl Serialize for OIDFilterExtension {
+    fn tls_serialize<W: Sink>(&self, writer: &mut W) -> Result<usize, Error> {
+        self.filters.tls_serialize(writer)
+    }
+
+    fn tls_serialize_into(&self, out: &mut Vec<u8>) -> Result<usize, Error> {
+        self.filters.tls_serialize_into(out)
+    }
+}
+
+impl Deserialize for OIDFilterExtension {
+    ghost names = { ⟦<TlsVecU16<OIDFilter> as Deserialize>⟧.names };
+
+    fn tls_deserialize<R: Source>(alloc: Global, src: &mut R) -> Result<OIDFilterExtension, Error> {
+        let filters = <TlsVecU16<OIDFilter>>::tls_deserialize(alloc, src)?;
+        Ok(OIDFilterExtension { filters })
+    }
+}
+
+impl DeserializeBytes for OIDFilterExtension {
+    ghost names = { ⟦<TlsVecU16<OIDFilter> as DeserializeBytes>⟧.names };
+
+    fn tls_deserialize_bytes(
+        alloc: Global,
+        whole: &[u8],
+    ) -> Result<(OIDFilterExtension, &[u8]), Error> {
+        let (filters, rest) = <TlsVecU16<OIDFilter>>::tls_deserialize_bytes(alloc, whole)?;
+        Ok((OIDFilterExtension { filters }, rest))
+    }
+}
+
+/// Two are equal exactly where each field is.
+pub fn is_compared_by_its_fields()
+    ensures { (x y : OIDFilterExtension) →
+        ⟦<OIDFilterExtension as PartialEq>⟧.eq x y
+        ≡ ⟦<TlsVecU16<OIDFilter> as PartialEq>⟧.eq x.filters y.filters }
+{}

@@ -1,0 +1,123 @@
+//! [`PreSharedKeyExtension`].
+ghost use Rattle.std.specs.Prelude.{◌≡◌, IsTrue};
+ghost use Rattle.tls13.specs.PreSharedKeyExtension.{pre_shared_key_extension_format_for, pre_shared_key_extension_meets_for, pre_shared_key_extension_plain, pre_shared_key_extension_tag};
+ghost use Rattle.tls13.specs.declared.pre_shared_key_extension.PreSharedKeyExtension.{PreSharedKeyExtension};
+
+use crate::{HandshakeType, OfferedPsks};
+use std::alloc::Global;
+use tls_codec::{
+    DeserializeBytesFor, DeserializeFor, Error, Lent, SerializeFor, Sink, SizeFor, Source,
+};
+use tls_codec_cases::{Case, Chosen, Or, append_as_for, write_as_for};
+
+/// `select (msg_type)` of `PreSharedKeyExtension`: no byte of it tells the tag.
+#[derive(PartialEq, Eq, Debug, Clone, Drop)]
+pub enum PreSharedKeyExtension {
+    /// `case client_hello: OfferedPsks;`
+    ClientHello(OfferedPsks),
+    /// `case server_hello: uint16 selected_identity;`
+    ServerHello(u16),
+}
+
+type Cases = Chosen<Or<Case<1, OfferedPsks>, Case<2, u16>>>;
+
+type LentCases<'a> = Chosen<Or<Case<1, Lent<'a, OfferedPsks>>, Case<2, Lent<'a, u16>>>>;
+
+impl PreSharedKeyExtension {
+    fn cases(&self) -> LentCases<'_>
+        ensures { ⟦<LentCases<'static> as SizeFor<HandshakeType>>⟧.plain result
+            ≡ pre_shared_key_extension_plain self.now }
+    {
+        let cases = match self {
+            PreSharedKeyExtension::ClientHello(offered_psks) => Or::First(Case(Lent(offered_psks))),
+            PreSharedKeyExtension::ServerHello(selected_identity) => Or::Second(Case(Lent(
+                selected_identity,
+            ))),
+        };
+        Chosen(cases)
+    }
+
+    fn of(cases: Cases) -> PreSharedKeyExtension
+        ensures { pre_shared_key_extension_plain result
+            ≡ ⟦<Cases as SizeFor<HandshakeType>>⟧.plain cases }
+    {
+        match cases.0 {
+            Or::First(case) => PreSharedKeyExtension::ClientHello(case.0),
+            Or::Second(case) => PreSharedKeyExtension::ServerHello(case.0),
+        }
+    }
+}
+
+impl SizeFor<HandshakeType> for PreSharedKeyExtension {
+    ghost plain = { pre_shared_key_extension_plain };
+
+    ghost format_for = { pre_shared_key_extension_format_for };
+
+    fn tls_serialized_len_for(&self, msg_type: &HandshakeType) -> usize {
+        self.cases().tls_serialized_len_for(msg_type)
+    }
+
+    ghost lawful = { pre_shared_key_extension_meets_for };
+}
+
+/// `EncodingError("value does not fit its context")`: the value is of another case.
+impl SerializeFor<HandshakeType> for PreSharedKeyExtension {
+    fn tls_serialize_for<W: Sink>(
+        &self,
+        msg_type: &HandshakeType,
+        writer: &mut W,
+    ) -> Result<usize, Error> {
+        write_as_for(self, &self.cases(), msg_type, writer)
+    }
+
+    fn tls_serialize_into_for(
+        &self,
+        msg_type: &HandshakeType,
+        out: &mut Vec<u8>,
+    ) -> Result<usize, Error> {
+        append_as_for(self, &self.cases(), msg_type, out)
+    }
+}
+
+impl DeserializeFor<HandshakeType> for PreSharedKeyExtension {
+    ghost names = { ⟦<Cases as DeserializeFor<HandshakeType>>⟧.names };
+
+    /// `UnknownValue`: no case has the context's tag.
+    fn tls_deserialize_for<R: Source>(
+        msg_type: &HandshakeType,
+        alloc: Global,
+        src: &mut R,
+    ) -> Result<PreSharedKeyExtension, Error> {
+        let cases = <Cases>::tls_deserialize_for(msg_type, alloc, src)?;
+        Ok(PreSharedKeyExtension::of(cases))
+    }
+}
+
+impl DeserializeBytesFor<HandshakeType> for PreSharedKeyExtension {
+    ghost names = { ⟦<Cases as DeserializeBytesFor<HandshakeType>>⟧.names };
+
+    /// `UnknownValue`: no case has the context's tag.
+    fn tls_deserialize_bytes_for<'a>(
+        msg_type: &HandshakeType,
+        alloc: Global,
+        whole: &'a [u8],
+    ) -> Result<(PreSharedKeyExtension, &'a [u8]), Error> {
+        let (cases, rest) = <Cases>::tls_deserialize_bytes_for(msg_type, alloc, whole)?;
+        Ok((PreSharedKeyExtension::of(cases), rest))
+    }
+}
+
+/// Two are equal exactly where they are of one case, and each field is.
+pub fn is_compared_by_its_case()
+    ensures tag { (x y : PreSharedKeyExtension) →
+        IsTrue (⟦<PreSharedKeyExtension as PartialEq>⟧.eq x y)
+        → pre_shared_key_extension_tag x ≡ pre_shared_key_extension_tag y }
+    ensures case_1 { (a0 b0 : _) →
+        ⟦<PreSharedKeyExtension as PartialEq>⟧.eq (PreSharedKeyExtension.ClientHello a0)
+        (PreSharedKeyExtension.ClientHello b0)
+        ≡ ⟦<OfferedPsks as PartialEq>⟧.eq a0 b0 }
+    ensures case_2 { (a0 b0 : _) →
+        ⟦<PreSharedKeyExtension as PartialEq>⟧.eq (PreSharedKeyExtension.ServerHello a0)
+        (PreSharedKeyExtension.ServerHello b0)
+        ≡ ⟦<u16 as PartialEq>⟧.eq a0 b0 }
+{}

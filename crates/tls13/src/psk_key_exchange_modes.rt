@@ -1,0 +1,75 @@
+//! [`PskKeyExchangeModes`].
+ghost use Rattle.std.specs.Prelude.{◌≡◌};
+ghost use Rattle.tls13.specs.PskKeyExchangeModes.{psk_key_exchange_modes_format, psk_key_exchange_modes_meets, psk_key_exchange_modes_plain};
+ghost use Rattle.tls13.specs.declared.psk_key_exchange_modes.PskKeyExchangeModes.{PskKeyExchangeModes};
+
+use crate::PskKeyExchangeMode;
+use std::alloc::Global;
+use tls_codec::{
+    Deserialize, DeserializeBytes, Error, Serialize, Sink, Size, Source, TlsVec, Within,
+};
+
+/// `PskKeyExchangeModes`.
+#[derive(PartialEq, Eq, Debug, Clone, Drop)]
+pub struct PskKeyExchangeModes {
+    /// `PskKeyExchangeMode ke_modes<1..2^8-1>;`
+    pub ke_modes: TlsVec<Within<u8, 1, 255>, PskKeyExchangeMode>,
+}
+
+impl Size for PskKeyExchangeModes {
+    ghost plain = { psk_key_exchange_modes_plain };
+
+    ghost format = { psk_key_exchange_modes_format };
+
+    fn tls_serialized_len(&self) -> usize {
+        self.ke_modes.tls_serialized_len()
+    }
+
+    ghost lawful = { psk_key_exchange_modes_meets };
+}
+
+impl Serialize for PskKeyExchangeModes {
+    fn tls_serialize<W: Sink>(&self, writer: &mut W) -> Result<usize, Error> {
+        self.ke_modes.tls_serialize(writer)
+    }
+
+    fn tls_serialize_into(&self, out: &mut Vec<u8>) -> Result<usize, Error> {
+        self.ke_modes.tls_serialize_into(out)
+    }
+}
+
+impl Deserialize for PskKeyExchangeModes {
+    ghost names = { ⟦<TlsVec<Within<u8, 1, 255>, PskKeyExchangeMode> as Deserialize>⟧.names };
+
+    fn tls_deserialize<R: Source>(
+        alloc: Global,
+        src: &mut R,
+    ) -> Result<PskKeyExchangeModes, Error> {
+        let ke_modes = <TlsVec<Within<u8, 1, 255>, PskKeyExchangeMode>>::tls_deserialize(
+            alloc, src,
+        )?;
+        Ok(PskKeyExchangeModes { ke_modes })
+    }
+}
+
+impl DeserializeBytes for PskKeyExchangeModes {
+    ghost names = { ⟦<TlsVec<Within<u8, 1, 255>, PskKeyExchangeMode> as DeserializeBytes>⟧.names };
+
+    fn tls_deserialize_bytes(
+        alloc: Global,
+        whole: &[u8],
+    ) -> Result<(PskKeyExchangeModes, &[u8]), Error> {
+        let (ke_modes, rest) = <TlsVec<
+            Within<u8, 1, 255>,
+            PskKeyExchangeMode,
+        >>::tls_deserialize_bytes(alloc, whole)?;
+        Ok((PskKeyExchangeModes { ke_modes }, rest))
+    }
+}
+
+/// Two are equal exactly where each field is.
+pub fn is_compared_by_its_fields()
+    ensures { (x y : PskKeyExchangeModes) →
+        ⟦<PskKeyExchangeModes as PartialEq>⟧.eq x y
+        ≡ ⟦<TlsVec<Within<u8, 1, 255>, PskKeyExchangeMode> as PartialEq>⟧.eq x.ke_modes y.ke_modes }
+{}

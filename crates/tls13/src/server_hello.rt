@@ -1,0 +1,160 @@
+//! [`ServerHello`].
+ghost use Rattle.std.specs.Prelude.{◌≡◌, ◌&&◌};
+ghost use Rattle.tls13.specs.ServerHello.{server_hello_format, server_hello_meets, server_hello_plain};
+ghost use Rattle.tls13.specs.declared.server_hello.ServerHello.{ServerHello};
+
+use crate::{CipherSuite, Extension, LegacyCompressionMethodX00, ProtocolVersionX0303, Random};
+use std::alloc::Global;
+use tls_codec::{
+    Deserialize, DeserializeBytes, Error, Lent3, Serialize, Sink, Size, Source, TlsByteVec, TlsVec,
+    Within,
+};
+
+/// `ServerHello`.
+#[derive(PartialEq, Eq, Debug, Clone, Drop)]
+pub struct ServerHello {
+    /// `ProtocolVersion legacy_version = 0x0303;`
+    pub legacy_version: ProtocolVersionX0303,
+    /// `Random random;`
+    pub random: Random,
+    /// `opaque legacy_session_id_echo<0..32>;`
+    pub legacy_session_id_echo: TlsByteVec<Within<u8, 0, 32>>,
+    /// `CipherSuite cipher_suite;`
+    pub cipher_suite: CipherSuite,
+    /// `uint8 legacy_compression_method = 0;`
+    pub legacy_compression_method: LegacyCompressionMethodX00,
+    /// `Extension extensions<6..2^16-1>;`
+    pub extensions: TlsVec<Within<u16, 6, 65535>, Extension>,
+}
+
+impl Size for ServerHello {
+    ghost plain = { server_hello_plain };
+
+    ghost format = { server_hello_format };
+
+    fn tls_serialized_len(&self) -> usize {
+        (
+            Lent3(
+                &self.legacy_version,
+                &self.random,
+                &self.legacy_session_id_echo,
+            ),
+            Lent3(
+                &self.cipher_suite,
+                &self.legacy_compression_method,
+                &self.extensions,
+            ),
+        )
+            .tls_serialized_len()
+    }
+
+    ghost lawful = { server_hello_meets };
+}
+
+impl Serialize for ServerHello {
+    fn tls_serialize<W: Sink>(&self, writer: &mut W) -> Result<usize, Error> {
+        (
+            Lent3(
+                &self.legacy_version,
+                &self.random,
+                &self.legacy_session_id_echo,
+            ),
+            Lent3(
+                &self.cipher_suite,
+                &self.legacy_compression_method,
+                &self.extensions,
+            ),
+        )
+            .tls_serialize(writer)
+    }
+
+    fn tls_serialize_into(&self, out: &mut Vec<u8>) -> Result<usize, Error> {
+        (
+            Lent3(
+                &self.legacy_version,
+                &self.random,
+                &self.legacy_session_id_echo,
+            ),
+            Lent3(
+                &self.cipher_suite,
+                &self.legacy_compression_method,
+                &self.extensions,
+            ),
+        )
+            .tls_serialize_into(out)
+    }
+}
+
+impl Deserialize for ServerHello {
+    ghost names = { ⟦<((ProtocolVersionX0303, Random, TlsByteVec<Within<u8, 0, 32>>),
+        (CipherSuite, LegacyCompressionMethodX00, TlsVec<Within<u16, 6, 65535>,
+        Extension>)) as Deserialize>⟧.names };
+
+    fn tls_deserialize<R: Source>(alloc: Global, src: &mut R) -> Result<ServerHello, Error> {
+        let (
+            (legacy_version, random, legacy_session_id_echo),
+            (cipher_suite, legacy_compression_method, extensions),
+        ) = <(
+            (ProtocolVersionX0303, Random, TlsByteVec<Within<u8, 0, 32>>),
+            (
+                CipherSuite,
+                LegacyCompressionMethodX00,
+                TlsVec<Within<u16, 6, 65535>, Extension>,
+            ),
+        )>::tls_deserialize(alloc, src)?;
+        Ok(ServerHello {
+            legacy_version,
+            random,
+            legacy_session_id_echo,
+            cipher_suite,
+            legacy_compression_method,
+            extensions,
+        })
+    }
+}
+
+impl DeserializeBytes for ServerHello {
+    ghost names = { ⟦<((ProtocolVersionX0303, Random, TlsByteVec<Within<u8, 0, 32>>),
+        (CipherSuite, LegacyCompressionMethodX00, TlsVec<Within<u16, 6, 65535>,
+        Extension>)) as DeserializeBytes>⟧.names };
+
+    fn tls_deserialize_bytes(alloc: Global, whole: &[u8]) -> Result<(ServerHello, &[u8]), Error> {
+        let (parts, rest) = <(
+            (ProtocolVersionX0303, Random, TlsByteVec<Within<u8, 0, 32>>),
+            (
+                CipherSuite,
+                LegacyCompressionMethodX00,
+                TlsVec<Within<u16, 6, 65535>, Extension>,
+            ),
+        )>::tls_deserialize_bytes(alloc, whole)?;
+        let (parts_0, parts_1) = parts;
+        let (legacy_version, random, legacy_session_id_echo) = parts_0;
+        let (cipher_suite, legacy_compression_method, extensions) = parts_1;
+        Ok((
+            ServerHello {
+                legacy_version,
+                random,
+                legacy_session_id_echo,
+                cipher_suite,
+                legacy_compression_method,
+                extensions,
+            },
+            rest,
+        ))
+    }
+}
+
+/// Two are equal exactly where each field is.
+pub fn is_compared_by_its_fields()
+    ensures { (x y : ServerHello) →
+        ⟦<ServerHello as PartialEq>⟧.eq x y
+        ≡ (⟦<ProtocolVersionX0303 as PartialEq>⟧.eq x.legacy_version y.legacy_version
+        && (⟦<Random as PartialEq>⟧.eq x.random y.random
+        && (⟦<TlsByteVec<Within<u8, 0, 32>> as PartialEq>⟧.eq x.legacy_session_id_echo
+        y.legacy_session_id_echo
+        && (⟦<CipherSuite as PartialEq>⟧.eq x.cipher_suite y.cipher_suite
+        && (⟦<LegacyCompressionMethodX00 as PartialEq>⟧.eq x.legacy_compression_method
+        y.legacy_compression_method
+        && ⟦<TlsVec<Within<u16, 6, 65535>, Extension> as PartialEq>⟧.eq x.extensions
+        y.extensions))))) }
+{}

@@ -1,0 +1,198 @@
+//! The values or the cases of a message.
+
+use crate::owners::Owner;
+use crate::rows::Row;
+use crate::template::Holes;
+use crate::types::Names;
+use crate::uses::Uses;
+use std::alloc::{AllocError, Global};
+use tlsgen_model::plan::{Value, Variant};
+
+/// A value or a case.
+#[derive(Drop)]
+pub struct Part {
+    /// How many fields it has.
+    pub fields: usize,
+    pub holes: Holes,
+}
+
+pub fn values_of(alloc: Global, holes: &Holes, values: &[Value]) -> Result<Vec<Part>, AllocError> {
+    let mut parts = Vec::new(alloc);
+    for value in values {
+        let texts = [
+            ("variant", value.name.as_str()),
+            ("label", value.label.as_str()),
+            ("constant", value.constant.as_str()),
+        ];
+        let at = parts.len();
+        parts.push(Part::of(alloc, holes, 0, at, &texts, value.number)?)?;
+    }
+    Ok(parts)
+}
+
+pub fn cases_of<'a>(
+    alloc: Global,
+    names: &Names<'a>,
+    holes: &Holes,
+    (owner, is_lent): (Owner, bool),
+    variants: &'a [Variant],
+    uses: &mut Uses<'a>,
+) -> Result<Vec<Part>, AllocError> {
+    let mut parts = Vec::new(alloc);
+    for variant in variants {
+        let at = parts.len();
+        let members = variant.fields.as_slice();
+        let row = Row::of(alloc, names, owner, is_lent, members, uses)?;
+        parts.push(case(alloc, holes, at, variant, &row)?)?;
+    }
+    Ok(parts)
+}
+
+fn case(
+    alloc: Global,
+    holes: &Holes,
+    at: usize,
+    variant: &Variant,
+    row: &Row,
+) -> Result<Part, AllocError> {
+    let texts = [
+        ("variant", variant.name.as_str()),
+        ("label", variant.label.as_str()),
+        ("constant", variant.constant.as_str()),
+    ];
+    let mut part = Part::of(alloc, holes, variant.fields.len(), at, &texts, variant.tag)?;
+    row.set(alloc, &mut part.holes)?;
+    part.set_fields(alloc)?;
+    Ok(part)
+}
+
+/// Whether a case has no fields.
+pub fn has_bare(parts: &[Part]) -> bool {
+    for part in parts {
+        if part.fields == 0 {
+            return true;
+        }
+    }
+    false
+}
+
+/// Which numbers there are: `(n == 1) || ((n == 2) || (n == 3))`.
+pub fn has(alloc: Global, parts: &[Part]) -> Result<String, AllocError> {
+    let mut out = String::new(alloc);
+    let last = parts.len().saturating_sub(1);
+    for (i, part) in parts.iter().enumerate() {
+        let template = match last.saturating_sub(i) {
+            0 if last == 0 => "n == $number$",
+            0 => "(n == $number$)",
+            1 => "(n == $number$) || ",
+            _ => "(n == $number$) || (",
+        };
+        part.holes.push(alloc, &mut out, template)?;
+    }
+    for _ in 1..last {
+        out.push_str(")")?;
+    }
+    Ok(out)
+}
+
+// What the first part of all doesn't have.
+static LATER: [(&str, &str); 5] = [
+    ("later", "-in-$variant$"),
+    ("open", "("),
+    ("close", ")"),
+    ("comma", ", "),
+    ("line", "\n"),
+];
+
+static FIRST: [(&str, &str); 5] = [
+    ("later", ""),
+    ("open", ""),
+    ("close", ""),
+    ("comma", ""),
+    ("line", ""),
+];
+
+impl Part {
+    // A part of so many fields. It has the holes of the message and of its tag, these texts, `number`, and those of
+    // its position.
+    fn of(
+        alloc: Global,
+        of_message: &Holes,
+        fields: usize,
+        at: usize,
+        texts: &[(&'static str, &str)],
+        number: u64,
+    ) -> Result<Part, AllocError> {
+        let mut holes = Holes::new(alloc);
+        holes.set_as(of_message)?;
+        holes.set_all(alloc, texts)?;
+        holes.set_number(alloc, "number", number)?;
+        holes.set_each(alloc, if at == 0 { &FIRST } else { &LATER })?;
+        Ok(Part { fields, holes })
+    }
+
+    // Sets the holes `lefts`, `rights` and `value`: variables for the fields of two, as `a0 a1` and `b0 b1`, and the
+    // variant with the first, as `(Both a0 a1)`; and those of `SAID`.
+    fn set_fields(&mut self, alloc: Global) -> Result<(), AllocError> {
+        self.holes.set("lefts", numbered(alloc, "a", self.fields)?)?;
+        self.holes
+            .set("rights", numbered(alloc, "b", self.fields)?)?;
+        let value = match self.fields {
+            0 => "$variant$",
+            _ => "($variant$ $lefts$)",
+        };
+        self.holes.set_each(alloc, &[("value", value)])?;
+        self.holes.set_each(
+            alloc,
+            if self.fields == 1 {
+                &SAID_OF_ONE
+            } else {
+                &SAID
+            },
+        )
+    }
+}
+
+// So many variables, as `a0 a1`.
+fn numbered(alloc: Global, letter: &str, count: usize) -> Result<String, AllocError> {
+    let mut out = String::new(alloc);
+    for i in 0..count {
+        if i > 0 {
+            out.push_str(" ")?;
+        }
+        write!(out, "{letter}{i}")?;
+    }
+    Ok(out)
+}
+
+// What the call for a case's fields ensures. A field that is alone is a part of the case, by a lemma.
+static SAID: [(&str, &str); 5] = [
+    ("leaves", "c.in_err-$first$-in-$number$.ensures.reads"),
+    ("named", "c.in_err-$first$-in-$number$.ensures.named"),
+    ("given", "c.in_ok-$first$-in-$number$.ensures.reads"),
+    ("refuses", "c.in_err-$first$-in-$number$.ensures.splits"),
+    ("begins", "c.in_ok-$first$-in-$number$.ensures.splits"),
+];
+
+static SAID_OF_ONE: [(&str, &str); 5] = [
+    (
+        "leaves",
+        "(part_leaves c.in_err-$first$-in-$number$.ensures.reads)",
+    ),
+    (
+        "named",
+        "(part_named _ c.in_err-$first$-in-$number$.ensures.named)",
+    ),
+    (
+        "given",
+        "(part_given source.gives_in_order source.gives_nothing c.in_ok-$first$-in-$number$.ensures.reads)",
+    ),
+    (
+        "refuses",
+        "(part_refuses c.in_err-$first$-in-$number$.ensures.splits)",
+    ),
+    (
+        "begins",
+        "(part_begins c.in_ok-$first$-in-$number$.ensures.splits)",
+    ),
+];

@@ -1,0 +1,233 @@
+//! Tags that no field of a struct is: in another struct, or said by the protocol alone.
+//!
+//! What has a select on one is read and written in its context, as is each struct that has such a field.
+use crate::cases::{Tag, find_tag};
+use crate::items::{find_struct, item_name};
+use crate::naming::{type_name, underscored};
+use crate::refuse::refused;
+use crate::sequence::{Piece, Sequence, find_field_of_name, is_here, known};
+use std::alloc::{AllocError, Global};
+use tlsgen_model::names::{field_name, module_name};
+use tlsgen_model::plan::{Context, Element};
+use tlsgen_syntax::refusal::Trouble;
+use tlsgen_syntax::syntax::{Field, File, Item, Name, Part, Select, Struct};
+
+/// A tag that isn't in the struct: its name, and its type.
+#[derive(Clone, Copy)]
+pub struct OuterTag<'a> {
+    pub name: &'a Name,
+    pub tag: Tag<'a>,
+    /// The struct that has it, at the head of the select's path.
+    head: Option<&'a Name>,
+}
+
+impl<'a> OuterTag<'a> {
+    // Whether both are on one tag: by the enum, or by the name if that is a number.
+    fn is_same(&self, other: &OuterTag<'_>) -> bool {
+        match (self.tag.of, other.tag.of) {
+            (Some(own), Some(one)) => own.name.text == one.name.text,
+            (None, None) => {
+                self.name.text == other.name.text && self.tag.width.bytes == other.tag.width.bytes
+            }
+            _ => false,
+        }
+    }
+
+    /// The type of the tag.
+    pub fn element(&self, alloc: Global) -> Result<Element, AllocError> {
+        match self.tag.of {
+            Some(one) => Ok(Element::Message(type_name(alloc, one.name.text.as_str())?)),
+            None => Ok(Element::Integer(self.tag.width.bytes)),
+        }
+    }
+
+    /// What a message in its context has.
+    pub fn context(&self, alloc: Global) -> Result<Context, AllocError> {
+        let words = underscored(alloc, self.name.text.as_str())?;
+        Ok(Context {
+            name: field_name(alloc, words.as_str())?,
+            of: self.element(alloc)?,
+        })
+    }
+}
+
+/// The tag of a select that has none in its struct: a field of the struct at the head of its path, or, if the path is one
+/// name, an enum of that name, also in small letters: `certificate_type` for `CertificateType`.
+pub fn outer_tag<'a>(
+    alloc: Global,
+    files: &'a [File],
+    select: &'a Select,
+) -> Result<OuterTag<'a>, Trouble> {
+    let Some((name, words)) = select.path.split_last() else {
+        return Err(refused(alloc, select.place, "select", "the name of a tag"));
+    };
+    let found = match words.split_first() {
+        None => enum_tag(alloc, files, name)?,
+        Some((head, others)) => match field_on_path(files, head, others, name) {
+            Some(field) => find_tag(alloc, files, field)?,
+            None => None,
+        },
+    };
+    match found {
+        Some(tag) if tag.of.is_some() || tag.width.bytes <= 2 => Ok(OuterTag {
+            name,
+            tag,
+            head: words.first(),
+        }),
+        _ => Err(refused(
+            alloc,
+            name.place,
+            name.text.as_str(),
+            "a tag above the select, or a tag elsewhere: a field of the struct at the head of the path, or an enum of that name, and no number of more than 2 bytes",
+        )),
+    }
+}
+
+// The field at the end of a path that begins with a struct's name.
+fn field_on_path<'a>(
+    files: &'a [File],
+    head: &Name,
+    words: &[Name],
+    last: &Name,
+) -> Option<&'a Field> {
+    let mut one = find_struct(files, head.text.as_str())?;
+    for word in words {
+        let field = field_of(one, word)?;
+        one = find_struct(files, field.of.text.as_str())?;
+    }
+    field_of(one, last)
+}
+
+fn field_of<'a>(one: &'a Struct, name: &Name) -> Option<&'a Field> {
+    one.parts.iter().find_map(|part| match part {
+        Part::Field(field) if field.name.text == name.text => Some(field),
+        _ => None,
+    })
+}
+
+fn enum_tag<'a>(alloc: Global, files: &'a [File], name: &Name) -> Result<Option<Tag<'a>>, Trouble> {
+    for file in files {
+        for item in &file.items {
+            if let Item::Enum(one) = item {
+                if is_called(alloc, item_name(item), name)? {
+                    let width = crate::checks::enum_width(alloc, one)?;
+                    return Ok(Some(Tag {
+                        width,
+                        of: Some(one),
+                    }));
+                }
+            }
+        }
+    }
+    Ok(None)
+}
+
+// Whether a name is an enum's, or that in small letters.
+fn is_called(alloc: Global, own: &Name, name: &Name) -> Result<bool, AllocError> {
+    if own.text == name.text {
+        return Ok(true);
+    }
+    let small = module_name(alloc, own.text.as_str())?;
+    Ok(small == name.text)
+}
+
+/// The tag of the context that a struct is in, if it is in one: that of its selects, and of the types of its fields.
+/// Rejects two.
+pub fn context_of<'a>(
+    alloc: Global,
+    files: &'a [File],
+    all: &[Sequence<'a>],
+    sequence: &Sequence<'a>,
+) -> Result<Option<OuterTag<'a>>, Trouble> {
+    let mut context = None;
+    for piece in &sequence.pieces {
+        context = with_piece(alloc, files, all, sequence, piece, context)?;
+    }
+    Ok(context)
+}
+
+fn with_piece<'a>(
+    alloc: Global,
+    files: &'a [File],
+    all: &[Sequence<'a>],
+    sequence: &Sequence<'a>,
+    piece: &Piece<'a>,
+    context: Option<OuterTag<'a>>,
+) -> Result<Option<OuterTag<'a>>, Trouble> {
+    match piece {
+        Piece::Field(field) | Piece::Counted(_, field) => {
+            with_type(alloc, all, sequence, &field.of, context)
+        }
+        Piece::Length(_) => Ok(context),
+        Piece::Select(select, _) => {
+            let mut context = context;
+            if !is_here(sequence, piece) {
+                let tag = outer_tag(alloc, files, select)?;
+                context = with_tag(alloc, tag, tag.name, context)?;
+            }
+            for field in select.cases.iter().flat_map(|case| case.fields.iter()) {
+                context = with_type(alloc, all, sequence, &field.of, context)?;
+            }
+            Ok(context)
+        }
+    }
+}
+
+fn with_type<'a>(
+    alloc: Global,
+    all: &[Sequence<'a>],
+    sequence: &Sequence<'a>,
+    of: &Name,
+    context: Option<OuterTag<'a>>,
+) -> Result<Option<OuterTag<'a>>, Trouble> {
+    match context_of_type(all, of.text.as_str()) {
+        Some(tag)
+            if tag
+                .head
+                .is_some_and(|head| head.text.as_str() == sequence.name) => {
+            Err(refused(
+                alloc,
+                of.place,
+                of.text.as_str(),
+                "no type in the context of a tag of this struct, which has the tag itself",
+            ))
+        }
+        Some(tag) => with_tag(alloc, tag, of, context),
+        None => Ok(context),
+    }
+}
+
+// The tag, or the one before it if that is the same.
+fn with_tag<'a>(
+    alloc: Global,
+    tag: OuterTag<'a>,
+    at: &Name,
+    context: Option<OuterTag<'a>>,
+) -> Result<Option<OuterTag<'a>>, Trouble> {
+    match context {
+        Some(other) if !other.is_same(&tag) => Err(refused(
+            alloc,
+            at.place,
+            at.text.as_str(),
+            "one tag elsewhere for all of a struct's parts",
+        )),
+        _ => Ok(Some(tag)),
+    }
+}
+
+/// The tag of the context that the struct of this name is in.
+pub fn context_of_type<'a>(all: &[Sequence<'a>], name: &str) -> Option<OuterTag<'a>> {
+    known(all, name)?.context
+}
+
+/// Whether a select's tag is in a struct with these pieces: where its path begins, or by its one name.
+pub fn has_tag_of(sequence: &Sequence<'_>, select: &Select) -> bool {
+    let Some((head, others)) = select.path.split_first() else {
+        return false;
+    };
+    let name = head.text.as_str();
+    if others.is_empty() {
+        return find_field_of_name(sequence, name).is_some();
+    }
+    name == sequence.name || sequence.has_inlined(name) || sequence.has_field_of_type(name)
+}

@@ -1,0 +1,193 @@
+//! What the notes beside a text say: a length, a size or a tag that the RFC's prose gives.
+use crate::counted::{is_length, path_of_array};
+use crate::refuse::refused;
+use crate::resolver::Resolver;
+use std::alloc::Global;
+use tlsgen_syntax::refusal::Trouble;
+use tlsgen_syntax::syntax::{
+    Case, Field, File, Item, Label, Name, Note, Number, Part, Said, Select, Struct,
+};
+
+// The notes of the file that is resolved.
+fn notes_of(files: &[File]) -> &[Note] {
+    match files.last() {
+        Some(file) => &file.notes,
+        None => &[],
+    }
+}
+
+/// The number that a note gives for a name between an array's brackets.
+pub fn number_of_path(files: &[File], path: &[Name]) -> Option<Number> {
+    notes_of(files).iter().find_map(|note| match note.said {
+        Said::Number(number) if are_same(&note.path, path) => Some(number),
+        _ => None,
+    })
+}
+
+fn are_same(own: &[Name], path: &[Name]) -> bool {
+    own.len() == path.len()
+        && own
+            .iter()
+            .zip(path.iter())
+            .all(|(one, other)| one.text == other.text)
+}
+
+// What a note says of a name in a struct.
+fn said_of<'a>(files: &'a [File], of: &Name, name: &Name) -> Option<&'a Said> {
+    notes_of(files)
+        .iter()
+        .find(|note| is_of(&note.path, of, name))
+        .map(|note| &note.said)
+}
+
+fn is_of(path: &[Name], of: &Name, name: &Name) -> bool {
+    match path {
+        [first, second] => first.text == of.text && second.text == name.text,
+        _ => false,
+    }
+}
+
+/// Whether a part of a struct is a number that counts the bytes of the select right behind it.
+pub fn counts_select(files: &[File], one: &Struct, at: usize) -> bool {
+    let (Some(Part::Field(length)), Some(Part::Select(_))) = (
+        one.parts.get(at),
+        one.parts.get(at.saturating_add(1)),
+    ) else {
+        return false;
+    };
+    is_length(length) && matches!(said_of(files, &one.name, &length.name), Some(Said::Counts))
+}
+
+/// The one field of a struct, if it is bytes that fill what is left.
+pub fn filling_field<'a>(files: &[File], one: &'a Struct) -> Option<&'a Field> {
+    let [part] = one.parts.as_slice() else {
+        return None;
+    };
+    let Part::Field(field) = part else {
+        return None;
+    };
+    let fills = matches!(said_of(files, &one.name, &field.name), Some(Said::Fills));
+    if fills && field.of.text.as_str() == "opaque" && path_of_array(field).is_some() {
+        Some(field)
+    } else {
+        None
+    }
+}
+
+/// The only case of a select whose tag is elsewhere and always has one value.
+pub fn settled_case<'a>(files: &[File], one: &Struct, select: &'a Select) -> Option<&'a Case> {
+    let [tag] = select.path.as_slice() else {
+        return None;
+    };
+    let Some(Said::Named(value)) = said_of(files, &one.name, tag) else {
+        return None;
+    };
+    select.cases.iter().find(|case| has_label(case, value))
+}
+
+fn has_label(case: &Case, value: &Name) -> bool {
+    case.labels.iter().any(|label| match label {
+        Label::Name(name) => name.text == value.text,
+        Label::Number(_) => false,
+    })
+}
+
+impl<'a> Resolver<'a> {
+    /// Rejects a note of the file that says nothing of it.
+    pub fn check_notes(&self, file: &File) -> Result<(), Trouble> {
+        for note in &file.notes {
+            if let Some(expected) = self.unused(file, note) {
+                return Err(refused_note(self.alloc, note, expected));
+            }
+        }
+        Ok(())
+    }
+
+    // What a note should have been, if it says nothing of the file.
+    fn unused(&self, file: &File, note: &Note) -> Option<&'static str> {
+        let is_used = match &note.said {
+            Said::Number(_) => has_array(file, &note.path),
+            Said::Open | Said::LeftOut => true,
+            said => file.items.iter().any(|item| match item {
+                Item::Struct(one) => self.is_said_of(one, note, said),
+                _ => false,
+            }),
+        };
+        if is_used { None } else { expected(&note.said) }
+    }
+
+    // Whether a note is of a part of a struct that takes it.
+    fn is_said_of(&self, one: &Struct, note: &Note, said: &Said) -> bool {
+        one.parts.iter().enumerate().any(|(at, part)| match (part, said) {
+            (Part::Field(field), Said::Counts) => {
+                is_of(&note.path, &one.name, &field.name) && counts_select(self.files, one, at)
+            }
+            (Part::Field(field), Said::Fills) => {
+                is_of(&note.path, &one.name, &field.name)
+                    && filling_field(self.files, one).is_some()
+            }
+            (Part::Select(select), Said::Named(_)) => {
+                is_of_select(&note.path, &one.name, select)
+                    && settled_case(self.files, one, select).is_some()
+            }
+            _ => false,
+        })
+    }
+}
+
+// What a note is on. `apply` rejects one on an enum or a definition that isn't there.
+fn expected(said: &Said) -> Option<&'static str> {
+    match said {
+        Said::Number(_) => Some("the name between an array's brackets, as `Hash.length`"),
+        Said::Named(_) => Some(
+            "a struct of this text and the tag of a select in it, which no field is, and a case of the select",
+        ),
+        Said::Counts => Some(
+            "a struct of this text and a field of it, an integer of 1 to 4 bytes right before a select",
+        ),
+        Said::Fills => Some(
+            "a struct of this text and its only field, as `opaque verify_data[Hash.length]`",
+        ),
+        Said::Open | Said::LeftOut => None,
+    }
+}
+
+fn is_of_select(path: &[Name], of: &Name, select: &Select) -> bool {
+    match select.path.as_slice() {
+        [tag] => is_of(path, of, tag),
+        _ => false,
+    }
+}
+
+// Whether a field of the file is an array of this name.
+fn has_array(file: &File, path: &[Name]) -> bool {
+    file.items.iter().any(|item| match item {
+        Item::Enum(_) => false,
+        Item::Alias(field) => is_array(field, path),
+        Item::Struct(one) => one.parts.iter().any(|part| is_array_in(part, path)),
+    })
+}
+
+fn is_array_in(part: &Part, path: &[Name]) -> bool {
+    match part {
+        Part::Field(field) => is_array(field, path),
+        Part::Select(select) => select.cases.iter().any(|case| case
+            .fields
+            .iter()
+            .any(|field| is_array(field, path))),
+    }
+}
+
+fn is_array(field: &Field, path: &[Name]) -> bool {
+    match path_of_array(field) {
+        Some(own) => are_same(own, path),
+        None => false,
+    }
+}
+
+fn refused_note(alloc: Global, note: &Note, expected: &'static str) -> Trouble {
+    match note.path.first() {
+        Some(name) => refused(alloc, name.place, name.text.as_str(), expected),
+        None => Trouble::Memory,
+    }
+}

@@ -1,0 +1,273 @@
+//! Selects whose tag is elsewhere: a message in the context of the tag.
+ghost use Rattle.std.specs.Prelude.{IfOk};
+ghost use Rattle.tlsgen_model.specs.Writable.{IsWritable};
+
+use crate::cases::{Labelled, cases_of, tag_of};
+use crate::checks::check_letters;
+use crate::contexts::{OuterTag, outer_tag};
+use crate::items::{integer_width, is_single};
+use crate::members::{ResolvedMember, push_member};
+use crate::naming::{is_of_field, type_name, underscored};
+use crate::refuse::refused;
+use crate::resolver::Resolver;
+use crate::segment::{ResolvedPiece, ResolvedSelect, refused_counting, refused_crossing};
+use crate::sequence::{IndexedField, Key, Piece, Sequence, has_key, is_here, known};
+use tlsgen_model::lists::{CaseList, FieldList};
+use tlsgen_model::names::field_name;
+use tlsgen_model::plan::{Body, Element, Member, Shape, Type};
+use tlsgen_syntax::refusal::Trouble;
+use tlsgen_syntax::syntax::{Field, File, Item, Part, Select, Struct};
+
+impl<'a> Resolver<'a> {
+    /// Whether a struct is a message of its own: all its tags are in it, or it is in a context, and doesn't stand in a
+    /// struct's place that has the tag.
+    pub fn is_written(&self, sequence: &Sequence<'_>) -> Result<bool, Trouble> {
+        if sequence.is_lent && sequence.is_whole && sequence.context.is_some() {
+            return Err(refused(
+                self.alloc,
+                sequence.place,
+                sequence.name,
+                "no lent struct in the context of a tag elsewhere",
+            ));
+        }
+        let Some(file) = self.files.last() else {
+            return Ok(sequence.is_whole);
+        };
+        if sequence.is_filling {
+            return Ok(false);
+        }
+        Ok(sequence.is_whole || !sequence.is_lent && !is_inlined_in(file, sequence))
+    }
+
+    /// Makes the message of a select whose tag is elsewhere, and puts the member of it before those that follow. Returns
+    /// whether that is all of the struct.
+    pub fn prepend_sum(
+        &mut self,
+        sequence: &Sequence<'a>,
+        select: &'a Select,
+        owner: &str,
+        tail: &mut Vec<ResolvedPiece<'a>>,
+    ) -> Result<bool, Trouble> {
+        let tag = outer_tag(self.alloc, self.files, select)?;
+        self.check_home(&tag)?;
+        let is_all = sequence.pieces.len() == 1;
+        let name = if is_all {
+            type_name(self.alloc, sequence.name)?
+        } else {
+            self.sum_name(sequence, select, owner, &tag)?
+        };
+        let body = self.sum_body(&tag, select, name.as_str())?;
+        self.push_sum(sequence, &tag, name.clone()?, body)?;
+        if !is_all {
+            let member = self.sum_member(select, &tag, name)?;
+            tail.push(ResolvedPiece::Member(member))?;
+        }
+        Ok(is_all)
+    }
+
+    // Rejects an enum of another crate as a context, unless it is one there.
+    fn check_home(&self, tag: &OuterTag<'a>) -> Result<(), Trouble> {
+        let Element::Message(name) = tag.element(self.alloc)? else {
+            return Ok(());
+        };
+        let home = self.out.home_of(&name);
+        if home == Some(self.out.home) || self.out.is_context(home, &name) {
+            return Ok(());
+        }
+        Err(self.refused_name(
+            tag.name,
+            "a tag whose enum this text defines, or has selects on from elsewhere in its own",
+        ))
+    }
+
+    // The name behind the select, or that of the tag's type with `Data`.
+    fn sum_name(
+        &self,
+        sequence: &Sequence<'a>,
+        select: &Select,
+        owner: &str,
+        tag: &OuterTag<'a>,
+    ) -> Result<String, Trouble> {
+        let base = match tag.element(self.alloc)? {
+            Element::Message(name) => name,
+            _ => type_name(self.alloc, tag.name.text.as_str())?,
+        };
+        match &select.name {
+            Some(name) if owner == sequence.name && !is_of_field(name) => self.free_name(name),
+            _ => self.derived_name(sequence.name, base.as_str(), tag.name),
+        }
+    }
+
+    fn sum_body(
+        &mut self,
+        tag: &OuterTag<'a>,
+        select: &'a Select,
+        name: &str,
+    ) -> Result<Body, Trouble>
+        ensures { IfOk result IsWritable }
+    {
+        let cases = cases_of(self.alloc, tag.tag, select, &mut self.budget)?;
+        let mut list = CaseList::new(self.alloc, tag.tag.width);
+        for case in &cases {
+            let mut fields = FieldList::new(self.alloc);
+            self.push_fields(case.fields, &mut fields)?;
+            self.push_case(case, fields.into_members(), false, name, &mut list)?;
+        }
+        list.into_sum(None).ok_or(Trouble::Memory)
+    }
+
+    /// What comes after each number of a tag and a length, which it fills.
+    pub fn counted_body(
+        &mut self,
+        sequence: &Sequence<'a>,
+        tag: IndexedField<'a>,
+        select: &ResolvedSelect<'a>,
+        length: &'a Field,
+        name: &str,
+    ) -> Result<Body, Trouble>
+        ensures { IfOk result IsWritable }
+    {
+        if select.tag != tag.index {
+            return Err(refused_crossing(self.alloc, select.place));
+        }
+        if sequence.is_lent {
+            return Err(refused_counting(self.alloc, length));
+        }
+        let of = tag_of(self.alloc, self.files, tag.field)?;
+        if of.width.bytes > 2 {
+            return Err(self.refused_name(
+                &tag.field.of,
+                "a tag of 1 or 2 bytes before a length that counts the rest",
+            ));
+        }
+        let mut list = CaseList::new(self.alloc, of.width);
+        for case in &select.cases {
+            let mut fields = FieldList::new(self.alloc);
+            let fills = self.push_counted(length, case, &mut fields)?;
+            self.push_case(case, fields.into_members(), fills, name, &mut list)?;
+        }
+        let width = integer_width(length.of.text.as_str());
+        list.into_sum(width)
+            .ok_or_else(|| refused_counting(self.alloc, length))
+    }
+
+    // Appends the fields of a case that fill a length. Returns whether they are bytes that do so alone.
+    fn push_counted(
+        &mut self,
+        length: &'a Field,
+        case: &Labelled<'a>,
+        fields: &mut FieldList,
+    ) -> Result<bool, Trouble> {
+        let Some(filling) = self.filling_of(case.fields) else {
+            self.push_fields(case.fields, fields)?;
+            return Ok(false);
+        };
+        let member = self.filling_member(length, filling)?;
+        push_member(self.alloc, fields, member)?;
+        Ok(true)
+    }
+
+    // The bytes that a case is, if it is one field of a struct of these alone.
+    fn filling_of(&self, fields: &[Field]) -> Option<&'a Field> {
+        let [field] = fields else {
+            return None;
+        };
+        if !is_single(field) {
+            return None;
+        }
+        let one = known(&self.known, field.of.text.as_str())?;
+        match one.pieces.first() {
+            Some(Piece::Field(inner)) if one.is_filling => Some(*inner),
+            _ => None,
+        }
+    }
+
+    fn push_sum(
+        &mut self,
+        sequence: &Sequence<'a>,
+        tag: &OuterTag<'a>,
+        name: String,
+        body: Body,
+    ) -> Result<(), Trouble>
+        requires { IsWritable body }
+    {
+        let of = sequence.name;
+        let by = tag.name.text.as_str();
+        let doc = format!(in self.alloc;
+            "`select ({by})` of `{of}`: no byte of it tells the tag."
+        )?;
+        let mut message = self.message(name, doc, body)?;
+        message.context = Some(tag.context(self.alloc)?);
+        self.push(tag.name.place, message)
+    }
+
+    // The member is called as the tag, or by a name with a small letter behind the select.
+    fn sum_member(
+        &self,
+        select: &Select,
+        tag: &OuterTag<'a>,
+        name: String,
+    ) -> Result<ResolvedMember, Trouble> {
+        let own = match &select.name {
+            Some(given) if is_of_field(given) => given,
+            _ => tag.name,
+        };
+        check_letters(self.alloc, own)?;
+        let words = underscored(self.alloc, own.text.as_str())?;
+        let by = tag.name.text.as_str();
+        Ok(ResolvedMember {
+            member: Member {
+                name: field_name(self.alloc, words.as_str())?,
+                of: Type {
+                    shape: Shape::One,
+                    is_optional: false,
+                    element: Element::Message(name),
+                },
+                is_in_context: true,
+                declared: format!(in self.alloc; "select ({by});")?,
+            },
+            place: select.place,
+        })
+    }
+}
+
+// Whether a struct of the file has the parts of this one in its place: it has a field of its type, and its tag.
+fn is_inlined_in(file: &File, sequence: &Sequence<'_>) -> bool {
+    file.items.iter().any(|item| match item {
+        Item::Struct(one) => has_single(one, sequence.name) && has_tags_of(one, sequence),
+        _ => false,
+    })
+}
+
+fn has_single(one: &Struct, name: &str) -> bool {
+    one.parts.iter().any(|part| match part {
+        Part::Field(field) => is_single(field) && field.of.text.as_str() == name,
+        Part::Select(_) => false,
+    })
+}
+
+fn has_field(one: &Struct, key: Key<'_>) -> bool {
+    one.parts.iter().any(|part| match part {
+        Part::Field(field) => has_key(field, key),
+        Part::Select(_) => false,
+    })
+}
+
+// Whether a struct has the tag of a select of this one that is in another struct.
+fn has_tags_of(one: &Struct, sequence: &Sequence<'_>) -> bool {
+    sequence.pieces.iter().any(|piece| match piece {
+        Piece::Select(select, _) if !is_here(sequence, piece) => has_tag(one, select),
+        _ => false,
+    })
+}
+
+fn has_tag(one: &Struct, select: &Select) -> bool {
+    let Some((head, others)) = select.path.split_first() else {
+        return false;
+    };
+    let name = head.text.as_str();
+    if others.is_empty() {
+        return has_field(one, Key::Name(name));
+    }
+    one.name.text.as_str() == name || has_field(one, Key::Type(name))
+}
