@@ -16,11 +16,12 @@ MLS = ["mls_leaf", "mls_proposals", "mls_framing"]
 RUNS = {
     "messages_of_each_shape": ("messages_of_each_shape", "each_shape", ["--notes", "each_shape.notes"]),
     "tls13": ("tls13", "tls13", ["--notes", "tls13.notes"]),
+    "ct": ("ct", "ct", ["--notes", "ct.notes"]),
 }
 for at, name in enumerate(MLS):
-    others = [word for other in MLS[:at] for word in ("--with", f"{other}={other}.tls")]
-    RUNS[name] = (name, name, others)
-    RUNS[f"{name}_shown"] = ("mls_shown", name, [*others, "--show"])
+    more = ["--notes", f"{name}.notes"] + [word for other in MLS[:at] for word in ("--with", f"{other}={other}.tls,{other}.notes")]
+    RUNS[name] = (name, name, more)
+    RUNS[f"{name}_shown"] = ("mls_shown", name, [*more, "--show"])
 
 
 def files_of(run, crate):

@@ -1,5 +1,9 @@
+pub mod Bearer
+pub mod BodyKind
+pub mod BodyKindData
 pub mod Bounded
 pub mod ByVersion
+pub mod Carrier
 pub mod CertificateType
 pub mod CertificateTypeData
 pub mod ContentTypeData
@@ -10,11 +14,14 @@ pub mod FormX04
 pub mod Framed
 pub mod Header
 pub mod Identity
+pub mod KindBody
 pub mod Level
 pub mod Lists
 pub mod MagicX0102
 pub mod NameType
+pub mod NameTypeData
 pub mod NameTypeHostName
+pub mod Named
 pub mod NodeTBS
 pub mod NodeTBSOrigin
 pub mod Point
@@ -24,4 +31,5 @@ pub mod SizedType
 pub mod Trees
 pub mod VersionData
 pub mod VersionXfefd
+pub mod Versioned
 pub mod Wide

@@ -1,4 +1,5 @@
 -- NameType: what it stands for, its format and its law.
+use Rattle.std.specs.Prelude.{ℕ}
 use Rattle.tls_codec.specs.OwnMessages.{Tree, Number, Format, number_format, MeetsLaws, u8_meets}
 use Rattle.messages_of_each_shape.specs.declared.name_type.NameType.{NameType}
 
@@ -10,3 +11,8 @@ name_type_format = number_format 1
 
 pub name_type_meets : MeetsLaws name_type_format
 name_type_meets = u8_meets
+
+-- the number of a value, by what it stands for
+abbrev pub name_type_selected : Tree → ℕ
+name_type_selected (Number tag) = tag
+name_type_selected _ = 0

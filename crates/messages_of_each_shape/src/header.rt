@@ -2,11 +2,13 @@
 ghost use Rattle.std.specs.Prelude.{◌≡◌, ◌&&◌};
 ghost use Rattle.messages_of_each_shape.specs.Header.{header_format, header_meets, header_plain};
 ghost use Rattle.messages_of_each_shape.specs.declared.header.Header.{Header};
+ghost use Rattle.messages_of_each_shape.specs.Header.{header_u16};
 
 use std::alloc::Global;
 use tls_codec::{
     Deserialize, DeserializeBytes, Error, Lent, Serialize, Sink, Size, Source, VLBytes,
 };
+use tls_codec_cases::Holds;
 
 /// `Header`.
 #[derive(PartialEq, Eq, Debug, Clone, Drop)]
@@ -54,6 +56,14 @@ impl DeserializeBytes for Header {
     fn tls_deserialize_bytes(alloc: Global, whole: &[u8]) -> Result<(Header, &[u8]), Error> {
         let ((version, rest_), rest) = <(u16, VLBytes)>::tls_deserialize_bytes(alloc, whole)?;
         Ok((Header { version, rest_ }, rest))
+    }
+}
+
+impl Holds<u16> for Header {
+    ghost held = { header_u16 };
+
+    fn held(&self) -> u16 {
+        self.version
     }
 }
 

@@ -1,10 +1,11 @@
 //! [`NameType`].
 ghost use Rattle.std.specs.Prelude.{◌≡◌, nat_eq};
-ghost use Rattle.messages_of_each_shape.specs.NameType.{name_type_format, name_type_meets, name_type_plain};
+ghost use Rattle.messages_of_each_shape.specs.NameType.{name_type_format, name_type_meets, name_type_plain, name_type_selected};
 ghost use Rattle.messages_of_each_shape.specs.declared.name_type.NameType.{NameType};
 
 use std::alloc::Global;
 use tls_codec::{Deserialize, DeserializeBytes, Error, Serialize, Sink, Size, Source};
+use tls_codec_cases::Selector;
 
 /// `NameType`.
 #[derive(PartialEq, Eq, Debug, Clone, Copy)]
@@ -56,6 +57,15 @@ impl DeserializeBytes for NameType {
     fn tls_deserialize_bytes(alloc: Global, whole: &[u8]) -> Result<(NameType, &[u8]), Error> {
         let (number, rest) = u8::tls_deserialize_bytes(alloc, whole)?;
         Ok((NameType(number), rest))
+    }
+}
+
+impl Selector for NameType {
+    ghost selected = { name_type_selected };
+
+    fn selects(&self) -> u64 {
+        let tag = self.0;
+        u64::from(tag)
     }
 }
 

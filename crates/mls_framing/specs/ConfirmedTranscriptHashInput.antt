@@ -6,7 +6,7 @@ use Rattle.mls_framing.specs.FramedContent.{framed_content_plain, framed_content
 use Rattle.mls_framing.specs.declared.confirmed_transcript_hash_input.ConfirmedTranscriptHashInput.{ConfirmedTranscriptHashInput}
 
 abbrev pub confirmed_transcript_hash_input_plain : ConfirmedTranscriptHashInput → Tree
-confirmed_transcript_hash_input_plain v = triple_tree (wire_format_plain v.wire_format.now) (framed_content_plain v.content)
+confirmed_transcript_hash_input_plain v = triple_tree (wire_format_plain v.wire_format.now) (framed_content_plain v.content.now)
     (number_trees (bytes_of v.signature.now))
 
 abbrev pub confirmed_transcript_hash_input_format : Format

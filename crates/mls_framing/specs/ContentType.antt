@@ -28,3 +28,8 @@ content_type_format = values_format 1 content_type_has
 
 pub content_type_meets : MeetsLaws content_type_format
 content_type_meets = tagged_meets 1 (omega arith) (values_meet content_type_has)
+
+-- the number of a value, by what it stands for
+abbrev pub content_type_selected : Tree → ℕ
+content_type_selected (Join (Number tag) vs) = tag
+content_type_selected _ = 0

@@ -15,9 +15,9 @@ content_type_data_tag (Proposal a0) = 2
 content_type_data_tag (Commit a0) = 3
 
 abbrev pub content_type_data_plain : ContentTypeData → Tree
-content_type_data_plain (Application a0) = Join (Number 1) (Join (number_trees (bytes_of a0.now)) Empty)
-content_type_data_plain (Proposal a0) = Join (Number 2) (Join (proposal_plain a0.now) Empty)
-content_type_data_plain (Commit a0) = Join (Number 3) (Join (commit_plain a0.now) Empty)
+content_type_data_plain (Application a0) = Join (Number 1) (Join (number_trees (bytes_of a0)) Empty)
+content_type_data_plain (Proposal a0) = Join (Number 2) (Join (proposal_plain a0) Empty)
+content_type_data_plain (Commit a0) = Join (Number 3) (Join (commit_plain a0) Empty)
 
 abbrev pub content_type_data_variants : Variants
 content_type_data_variants =
@@ -38,3 +38,8 @@ content_type_data_format = tagged_format 1 content_type_data_variants
 
 pub content_type_data_meets : MeetsLaws content_type_data_format
 content_type_data_meets = tagged_meets 1 (omega arith) content_type_data_variants_meet
+
+-- the ContentType in what a value stands for
+abbrev pub content_type_data_content_type : Tree → Tree
+content_type_data_content_type (Join number _) = Join number Empty
+content_type_data_content_type _ = Empty

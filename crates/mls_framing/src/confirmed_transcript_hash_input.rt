@@ -14,7 +14,7 @@ pub struct ConfirmedTranscriptHashInput<'a> {
     /// `WireFormat wire_format;`
     pub wire_format: &'a WireFormat,
     /// `FramedContent content;`
-    pub content: FramedContent<'a>,
+    pub content: &'a FramedContent,
     /// `opaque signature<V>;`
     pub signature: &'a VLBytes,
 }
@@ -25,7 +25,12 @@ impl Size for ConfirmedTranscriptHashInput<'_> {
     ghost format = { confirmed_transcript_hash_input_format };
 
     fn tls_serialized_len(&self) -> usize {
-        (Lent(self.wire_format), self.content, Lent(self.signature)).tls_serialized_len()
+        (
+            Lent(self.wire_format),
+            Lent(self.content),
+            Lent(self.signature),
+        )
+            .tls_serialized_len()
     }
 
     ghost lawful = { confirmed_transcript_hash_input_meets };
@@ -33,11 +38,21 @@ impl Size for ConfirmedTranscriptHashInput<'_> {
 
 impl Serialize for ConfirmedTranscriptHashInput<'_> {
     fn tls_serialize<W: Sink>(&self, writer: &mut W) -> Result<usize, Error> {
-        (Lent(self.wire_format), self.content, Lent(self.signature)).tls_serialize(writer)
+        (
+            Lent(self.wire_format),
+            Lent(self.content),
+            Lent(self.signature),
+        )
+            .tls_serialize(writer)
     }
 
     fn tls_serialize_into(&self, out: &mut Vec<u8>) -> Result<usize, Error> {
-        (Lent(self.wire_format), self.content, Lent(self.signature)).tls_serialize_into(out)
+        (
+            Lent(self.wire_format),
+            Lent(self.content),
+            Lent(self.signature),
+        )
+            .tls_serialize_into(out)
     }
 }
 
@@ -46,6 +61,6 @@ pub fn is_compared_by_its_fields()
     ensures { (x y : ConfirmedTranscriptHashInput) →
         ⟦<ConfirmedTranscriptHashInput<'static> as PartialEq>⟧.eq x y
         ≡ (⟦<WireFormat as PartialEq>⟧.eq x.wire_format.now y.wire_format.now
-        && (⟦<FramedContent<'static> as PartialEq>⟧.eq x.content y.content
+        && (⟦<FramedContent as PartialEq>⟧.eq x.content.now y.content.now
         && ⟦<VLBytes as PartialEq>⟧.eq x.signature.now y.signature.now)) }
 {}

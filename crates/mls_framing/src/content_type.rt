@@ -1,13 +1,14 @@
 //! [`ContentType`].
 ghost use Rattle.std.specs.Prelude.{◌≡◌, MatchOption, false, nat_eq};
 ghost use Rattle.tls_codec.specs.OwnMessages.{values_names, values_source_names};
-ghost use Rattle.mls_framing.specs.ContentType.{content_type_code, content_type_format, content_type_has, content_type_meets, content_type_plain};
+ghost use Rattle.mls_framing.specs.ContentType.{content_type_code, content_type_format, content_type_has, content_type_meets, content_type_plain, content_type_selected};
 ghost use Rattle.mls_framing.specs.declared.content_type.ContentType.{ContentType};
 
 use std::alloc::Global;
 use tls_codec::{
     Deserialize, DeserializeBytes, Error, Serialize, Sink, Size, Source, unknown_value,
 };
+use tls_codec_cases::Selector;
 
 /// `ContentType`.
 #[derive(PartialEq, Eq, Debug, Clone, Copy)]
@@ -89,6 +90,15 @@ impl DeserializeBytes for ContentType {
             Some(value) => Ok((value, rest)),
             None => Err(unknown_value(u64::from(tag))),
         }
+    }
+}
+
+impl Selector for ContentType {
+    ghost selected = { content_type_selected };
+
+    fn selects(&self) -> u64 {
+        let tag = self.code();
+        u64::from(tag)
     }
 }
 

@@ -2,10 +2,13 @@
 ghost use Rattle.std.specs.Prelude.{◌≡◌, ◌&&◌};
 ghost use Rattle.mls_framing.specs.FramedContentTBS.{framed_content_tbs_format, framed_content_tbs_meets, framed_content_tbs_plain};
 ghost use Rattle.mls_framing.specs.declared.framed_content_tbs.FramedContentTBS.{FramedContentTBS};
+ghost use Rattle.mls_framing.specs.FramedContentTBS.{framed_content_tbs_content_type};
 
-use crate::{FramedContentSender, WireFormat};
-use mls_proposals::ProtocolVersionMls10;
-use tls_codec::{Error, Lent4, Serialize, Sink, Size, VLBytes};
+use crate::{ContentType, FramedContent, SenderType, WireFormat};
+use mls_proposals::{GroupContext, ProtocolVersionMls10};
+use std::marker::PhantomData;
+use tls_codec::{Error, Lent, LentThen, LentWhen, Serialize, Sink, Size};
+use tls_codec_cases::{AnyOf, By, Holds, Is, append_as, write_as};
 
 /// `FramedContentTBS`.
 ///
@@ -16,12 +19,34 @@ pub struct FramedContentTBS<'a> {
     pub version: &'a ProtocolVersionMls10,
     /// `WireFormat wire_format;`
     pub wire_format: &'a WireFormat,
-    /// `opaque group_id<V>;`
-    pub group_id: &'a VLBytes,
-    /// `uint64 epoch;`
-    pub epoch: &'a u64,
-    /// `SenderType sender_type;`
-    pub sender_type: FramedContentSender<'a>,
+    /// `FramedContent content;`
+    pub content: &'a FramedContent,
+    /// `case member: case new_member_commit: GroupContext context;`
+    pub context: &'a Option<GroupContext>,
+}
+
+type LentParts<'a> = (
+    (Lent<'a, ProtocolVersionMls10>, Lent<'a, WireFormat>),
+    LentThen<'a, FramedContent, By<SenderType, LentWhen<'a, AnyOf<Is<1>, Is<4>>, GroupContext>>>,
+);
+
+impl FramedContentTBS<'_> {
+    fn parts(&self) -> LentParts<'_>
+        ensures { ⟦<LentParts<'static> as Size>⟧.plain result ≡ framed_content_tbs_plain self.now }
+    {
+        let first = self.content;
+        let rest = By(
+            LentWhen {
+                value: self.context,
+                condition: PhantomData::<AnyOf<Is<1>, Is<4>>>,
+            },
+            PhantomData,
+        );
+        (
+            (Lent(self.version), Lent(self.wire_format)),
+            LentThen { first, rest },
+        )
+    }
 }
 
 impl Size for FramedContentTBS<'_> {
@@ -30,31 +55,28 @@ impl Size for FramedContentTBS<'_> {
     ghost format = { framed_content_tbs_format };
 
     fn tls_serialized_len(&self) -> usize {
-        (
-            Lent4(self.version, self.wire_format, self.group_id, self.epoch),
-            self.sender_type,
-        )
-            .tls_serialized_len()
+        self.parts().tls_serialized_len()
     }
 
     ghost lawful = { framed_content_tbs_meets };
 }
 
+/// `EncodingError("value does not fit its context")`: a field is of another case.
 impl Serialize for FramedContentTBS<'_> {
     fn tls_serialize<W: Sink>(&self, writer: &mut W) -> Result<usize, Error> {
-        (
-            Lent4(self.version, self.wire_format, self.group_id, self.epoch),
-            self.sender_type,
-        )
-            .tls_serialize(writer)
+        write_as(self, &self.parts(), writer)
     }
 
     fn tls_serialize_into(&self, out: &mut Vec<u8>) -> Result<usize, Error> {
-        (
-            Lent4(self.version, self.wire_format, self.group_id, self.epoch),
-            self.sender_type,
-        )
-            .tls_serialize_into(out)
+        append_as(self, &self.parts(), out)
+    }
+}
+
+impl Holds<ContentType> for FramedContentTBS<'_> {
+    ghost held = { framed_content_tbs_content_type };
+
+    fn held(&self) -> ContentType {
+        self.content.held()
     }
 }
 
@@ -64,7 +86,6 @@ pub fn is_compared_by_its_fields()
         ⟦<FramedContentTBS<'static> as PartialEq>⟧.eq x y
         ≡ (⟦<ProtocolVersionMls10 as PartialEq>⟧.eq x.version.now y.version.now
         && (⟦<WireFormat as PartialEq>⟧.eq x.wire_format.now y.wire_format.now
-        && (⟦<VLBytes as PartialEq>⟧.eq x.group_id.now y.group_id.now
-        && (⟦<u64 as PartialEq>⟧.eq x.epoch.now y.epoch.now
-        && ⟦<FramedContentSender<'static> as PartialEq>⟧.eq x.sender_type y.sender_type)))) }
+        && (⟦<FramedContent as PartialEq>⟧.eq x.content.now y.content.now
+        && ⟦<Option<GroupContext> as PartialEq>⟧.eq x.context.now y.context.now))) }
 {}

@@ -2,37 +2,32 @@
 #![tactic(auto)]
 
 pub mod authenticated_content;
-pub mod authenticated_content_content_type_data;
+pub mod authenticated_content_tbm;
 pub mod confirmed_transcript_hash_input;
 pub mod content_type;
 pub mod content_type_data;
 pub mod framed_content;
-pub mod framed_content_body;
-pub mod framed_content_in_group;
-pub mod framed_content_sender;
+pub mod framed_content_auth_data;
 pub mod framed_content_tbs;
 pub mod interim_transcript_hash_input;
 pub mod mls_message;
 pub mod private_content_aad;
 pub mod private_message;
 pub mod public_message;
-pub mod public_message_content_type_data;
 pub mod sender;
 pub mod sender_data;
 pub mod sender_data_aad;
-pub mod sender_type_data;
+pub mod sender_type;
 pub mod wire_format;
 pub mod wire_format_data;
 
 pub use authenticated_content::AuthenticatedContent;
-pub use authenticated_content_content_type_data::AuthenticatedContentContentTypeData;
+pub use authenticated_content_tbm::AuthenticatedContentTBM;
 pub use confirmed_transcript_hash_input::ConfirmedTranscriptHashInput;
 pub use content_type::ContentType;
 pub use content_type_data::ContentTypeData;
 pub use framed_content::FramedContent;
-pub use framed_content_body::FramedContentBody;
-pub use framed_content_in_group::FramedContentInGroup;
-pub use framed_content_sender::FramedContentSender;
+pub use framed_content_auth_data::FramedContentAuthData;
 pub use framed_content_tbs::FramedContentTBS;
 pub use interim_transcript_hash_input::InterimTranscriptHashInput;
 pub use mls_leaf::{
@@ -54,10 +49,9 @@ pub use mls_proposals::{
 pub use private_content_aad::PrivateContentAAD;
 pub use private_message::PrivateMessage;
 pub use public_message::PublicMessage;
-pub use public_message_content_type_data::PublicMessageContentTypeData;
 pub use sender::Sender;
 pub use sender_data::SenderData;
 pub use sender_data_aad::SenderDataAAD;
-pub use sender_type_data::SenderTypeData;
+pub use sender_type::SenderType;
 pub use wire_format::WireFormat;
 pub use wire_format_data::WireFormatData;

@@ -3,21 +3,61 @@ ghost use Rattle.std.specs.Prelude.{◌≡◌, ◌&&◌};
 ghost use Rattle.mls_framing.specs.PublicMessage.{public_message_format, public_message_meets, public_message_plain};
 ghost use Rattle.mls_framing.specs.declared.public_message.PublicMessage.{PublicMessage};
 
-use crate::SenderTypeData;
+use crate::{ContentType, FramedContent, FramedContentAuthData, SenderType};
+use mls_proposals::MAC;
 use std::alloc::Global;
+use std::marker::PhantomData;
 use tls_codec::{
-    Deserialize, DeserializeBytes, Error, Lent, Serialize, Sink, Size, Source, VLBytes,
+    Deserialize, DeserializeBytes, Error, LentIn, LentThen, LentWhen, Serialize, Sink, Size,
+    Source, Then, When,
 };
+use tls_codec_cases::{By, Is, append_as, write_as};
 
 /// `PublicMessage`.
 #[derive(PartialEq, Eq, Debug, Clone, Drop)]
 pub struct PublicMessage {
-    /// `opaque group_id<V>;`
-    pub group_id: VLBytes,
-    /// `uint64 epoch;`
-    pub epoch: u64,
-    /// `SenderType sender_type;`
-    pub sender_type: SenderTypeData,
+    /// `FramedContent content;`
+    pub content: FramedContent,
+    /// `FramedContentAuthData auth;`
+    pub auth: FramedContentAuthData,
+    /// `case member: MAC membership_tag;`
+    pub membership_tag: Option<MAC>,
+}
+
+type Parts = Then<
+    FramedContent,
+    (
+        By<ContentType, FramedContentAuthData>,
+        By<SenderType, When<Is<1>, MAC>>,
+    ),
+>;
+
+type LentParts<'a> = LentThen<
+    'a,
+    FramedContent,
+    (
+        By<ContentType, LentIn<'a, FramedContentAuthData>>,
+        By<SenderType, LentWhen<'a, Is<1>, MAC>>,
+    ),
+>;
+
+impl PublicMessage {
+    fn parts(&self) -> LentParts<'_>
+        ensures { ⟦<LentParts<'static> as Size>⟧.plain result ≡ public_message_plain self.now }
+    {
+        let first = &self.content;
+        let rest = (
+            By(LentIn(&self.auth), PhantomData),
+            By(
+                LentWhen {
+                    value: &self.membership_tag,
+                    condition: PhantomData::<Is<1>>,
+                },
+                PhantomData,
+            ),
+        );
+        LentThen { first, rest }
+    }
 }
 
 impl Size for PublicMessage {
@@ -26,68 +66,76 @@ impl Size for PublicMessage {
     ghost format = { public_message_format };
 
     fn tls_serialized_len(&self) -> usize {
-        (
-            Lent(&self.group_id),
-            Lent(&self.epoch),
-            Lent(&self.sender_type),
-        )
-            .tls_serialized_len()
+        self.parts().tls_serialized_len()
     }
 
     ghost lawful = { public_message_meets };
 }
 
+/// `EncodingError("value does not fit its context")`: a field is of another case.
 impl Serialize for PublicMessage {
     fn tls_serialize<W: Sink>(&self, writer: &mut W) -> Result<usize, Error> {
-        (
-            Lent(&self.group_id),
-            Lent(&self.epoch),
-            Lent(&self.sender_type),
-        )
-            .tls_serialize(writer)
+        write_as(self, &self.parts(), writer)
     }
 
     fn tls_serialize_into(&self, out: &mut Vec<u8>) -> Result<usize, Error> {
-        (
-            Lent(&self.group_id),
-            Lent(&self.epoch),
-            Lent(&self.sender_type),
-        )
-            .tls_serialize_into(out)
+        append_as(self, &self.parts(), out)
     }
 }
 
 impl Deserialize for PublicMessage {
-    ghost names = { ⟦<(VLBytes, u64, SenderTypeData) as Deserialize>⟧.names };
+    ghost names = { ⟦<Parts as Deserialize>⟧.names };
 
     fn tls_deserialize<R: Source>(alloc: Global, src: &mut R) -> Result<PublicMessage, Error> {
-        let (group_id, epoch, sender_type) = <(VLBytes, u64, SenderTypeData)>::tls_deserialize(
-            alloc, src,
-        )?;
+        let parts = <Parts>::tls_deserialize(alloc, src)?;
+        let Then {
+            first: content,
+            rest,
+        } = parts;
+        let (
+            By(auth, _),
+            By(
+                When {
+                    value: membership_tag,
+                    ..
+                },
+                _,
+            ),
+        ) = rest;
         Ok(PublicMessage {
-            group_id,
-            epoch,
-            sender_type,
+            content,
+            auth,
+            membership_tag,
         })
     }
 }
 
 impl DeserializeBytes for PublicMessage {
-    ghost names = { ⟦<(VLBytes, u64, SenderTypeData) as DeserializeBytes>⟧.names };
+    ghost names = { ⟦<Parts as DeserializeBytes>⟧.names };
 
     fn tls_deserialize_bytes(alloc: Global, whole: &[u8]) -> Result<(PublicMessage, &[u8]), Error> {
-        let ((group_id, epoch, sender_type), rest) = <(
-            VLBytes,
-            u64,
-            SenderTypeData,
-        )>::tls_deserialize_bytes(alloc, whole)?;
+        let (parts, left) = <Parts>::tls_deserialize_bytes(alloc, whole)?;
+        let Then {
+            first: content,
+            rest,
+        } = parts;
+        let (
+            By(auth, _),
+            By(
+                When {
+                    value: membership_tag,
+                    ..
+                },
+                _,
+            ),
+        ) = rest;
         Ok((
             PublicMessage {
-                group_id,
-                epoch,
-                sender_type,
+                content,
+                auth,
+                membership_tag,
             },
-            rest,
+            left,
         ))
     }
 }
@@ -96,7 +144,7 @@ impl DeserializeBytes for PublicMessage {
 pub fn is_compared_by_its_fields()
     ensures { (x y : PublicMessage) →
         ⟦<PublicMessage as PartialEq>⟧.eq x y
-        ≡ (⟦<VLBytes as PartialEq>⟧.eq x.group_id y.group_id
-        && (⟦<u64 as PartialEq>⟧.eq x.epoch y.epoch
-        && ⟦<SenderTypeData as PartialEq>⟧.eq x.sender_type y.sender_type)) }
+        ≡ (⟦<FramedContent as PartialEq>⟧.eq x.content y.content
+        && (⟦<FramedContentAuthData as PartialEq>⟧.eq x.auth y.auth
+        && ⟦<Option<MAC> as PartialEq>⟧.eq x.membership_tag y.membership_tag)) }
 {}

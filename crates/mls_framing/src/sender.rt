@@ -3,11 +3,14 @@ ghost use Rattle.std.specs.Prelude.{◌≡◌, IsTrue, true};
 ghost use Rattle.tls_codec.specs.OwnMessages.{no_variant_names, no_variant_source_names, nothing_names, nothing_source_names, tagged_names, tagged_source_names, variant_names, variant_source_names};
 ghost use Rattle.mls_framing.specs.Sender.{sender_format, sender_meets, sender_plain, sender_tag};
 ghost use Rattle.mls_framing.specs.declared.sender.Sender.{Sender};
+ghost use Rattle.mls_framing.specs.Sender.{sender_sender_type};
 
+use crate::SenderType;
 use std::alloc::Global;
 use tls_codec::{
     Deserialize, DeserializeBytes, Error, Lent, Serialize, Sink, Size, Source, unknown_value,
 };
+use tls_codec_cases::Holds;
 
 const MEMBER: u8 = 1;
 
@@ -117,6 +120,19 @@ impl DeserializeBytes for Sender {
             NEW_MEMBER_COMMIT => Ok((Sender::NewMemberCommit, rest)),
             NEW_MEMBER_PROPOSAL => Ok((Sender::NewMemberProposal, rest)),
             _ => Err(unknown_value(u64::from(tag))),
+        }
+    }
+}
+
+impl Holds<SenderType> for Sender {
+    ghost held = { sender_sender_type };
+
+    fn held(&self) -> SenderType {
+        match self {
+            Sender::Member(_) => SenderType::Member,
+            Sender::External(_) => SenderType::External,
+            Sender::NewMemberCommit => SenderType::NewMemberCommit,
+            Sender::NewMemberProposal => SenderType::NewMemberProposal,
         }
     }
 }

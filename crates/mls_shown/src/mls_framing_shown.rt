@@ -3,9 +3,9 @@
 use crate::show::Show;
 use message_tree::Tree;
 use mls_framing::{
-    AuthenticatedContent, AuthenticatedContentContentTypeData, ContentType, MLSMessage,
-    PrivateMessage, PublicMessage, PublicMessageContentTypeData, Sender, SenderData,
-    SenderTypeData, WireFormat, WireFormatData,
+    AuthenticatedContent, ContentType, ContentTypeData, FramedContent, FramedContentAuthData,
+    MLSMessage, PrivateMessage, PublicMessage, Sender, SenderData, SenderType, WireFormat,
+    WireFormatData,
 };
 use std::alloc::AllocError;
 
@@ -15,6 +15,17 @@ impl Show for ContentType {
             ContentType::Application => tree.value(name, "application (1)"),
             ContentType::Proposal => tree.value(name, "proposal (2)"),
             ContentType::Commit => tree.value(name, "commit (3)"),
+        }
+    }
+}
+
+impl Show for SenderType {
+    fn show(&self, tree: &mut Tree, name: &str) -> Result<(), AllocError> {
+        match self {
+            SenderType::Member => tree.value(name, "member (1)"),
+            SenderType::External => tree.value(name, "external (2)"),
+            SenderType::NewMemberProposal => tree.value(name, "new_member_proposal (3)"),
+            SenderType::NewMemberCommit => tree.value(name, "new_member_commit (4)"),
         }
     }
 }
@@ -51,46 +62,31 @@ impl Show for WireFormat {
     }
 }
 
-impl Show for AuthenticatedContentContentTypeData {
+impl Show for ContentTypeData {
     fn show(&self, tree: &mut Tree, name: &str) -> Result<(), AllocError> {
         match self {
-            AuthenticatedContentContentTypeData::Application {
-                application_data,
-                signature,
-            } => {
+            ContentTypeData::Application(application_data) => {
                 tree.open(name, "application (1)")?;
                 application_data.show(tree, "application_data")?;
-                signature.show(tree, "signature")?;
                 tree.close()
             }
-            AuthenticatedContentContentTypeData::Proposal {
-                proposal,
-                signature,
-            } => {
+            ContentTypeData::Proposal(proposal) => {
                 tree.open(name, "proposal (2)")?;
                 proposal.show(tree, "proposal")?;
-                signature.show(tree, "signature")?;
                 tree.close()
             }
-            AuthenticatedContentContentTypeData::Commit {
-                commit,
-                signature,
-                confirmation_tag,
-            } => {
+            ContentTypeData::Commit(commit) => {
                 tree.open(name, "commit (3)")?;
                 commit.show(tree, "commit")?;
-                signature.show(tree, "signature")?;
-                confirmation_tag.show(tree, "confirmation_tag")?;
                 tree.close()
             }
         }
     }
 }
 
-impl Show for AuthenticatedContent {
+impl Show for FramedContent {
     fn show(&self, tree: &mut Tree, name: &str) -> Result<(), AllocError> {
-        tree.open(name, "AuthenticatedContent")?;
-        self.wire_format.show(tree, "wire_format")?;
+        tree.open(name, "FramedContent")?;
         self.group_id.show(tree, "group_id")?;
         self.epoch.show(tree, "epoch")?;
         self.sender.show(tree, "sender")?;
@@ -100,97 +96,21 @@ impl Show for AuthenticatedContent {
     }
 }
 
-impl Show for PublicMessageContentTypeData {
+impl Show for FramedContentAuthData {
     fn show(&self, tree: &mut Tree, name: &str) -> Result<(), AllocError> {
-        match self {
-            PublicMessageContentTypeData::Application {
-                application_data,
-                signature,
-            } => {
-                tree.open(name, "application (1)")?;
-                application_data.show(tree, "application_data")?;
-                signature.show(tree, "signature")?;
-                tree.close()
-            }
-            PublicMessageContentTypeData::Proposal {
-                proposal,
-                signature,
-            } => {
-                tree.open(name, "proposal (2)")?;
-                proposal.show(tree, "proposal")?;
-                signature.show(tree, "signature")?;
-                tree.close()
-            }
-            PublicMessageContentTypeData::Commit {
-                commit,
-                signature,
-                confirmation_tag,
-            } => {
-                tree.open(name, "commit (3)")?;
-                commit.show(tree, "commit")?;
-                signature.show(tree, "signature")?;
-                confirmation_tag.show(tree, "confirmation_tag")?;
-                tree.close()
-            }
-        }
-    }
-}
-
-impl Show for SenderTypeData {
-    fn show(&self, tree: &mut Tree, name: &str) -> Result<(), AllocError> {
-        match self {
-            SenderTypeData::Member {
-                leaf_index,
-                authenticated_data,
-                content_type,
-                membership_tag,
-            } => {
-                tree.open(name, "member (1)")?;
-                leaf_index.show(tree, "leaf_index")?;
-                authenticated_data.show(tree, "authenticated_data")?;
-                content_type.show(tree, "content_type")?;
-                membership_tag.show(tree, "membership_tag")?;
-                tree.close()
-            }
-            SenderTypeData::External {
-                sender_index,
-                authenticated_data,
-                content_type,
-            } => {
-                tree.open(name, "external (2)")?;
-                sender_index.show(tree, "sender_index")?;
-                authenticated_data.show(tree, "authenticated_data")?;
-                content_type.show(tree, "content_type")?;
-                tree.close()
-            }
-            SenderTypeData::NewMemberCommit {
-                authenticated_data,
-                content_type,
-            } => {
-                tree.open(name, "new_member_commit (4)")?;
-                authenticated_data.show(tree, "authenticated_data")?;
-                content_type.show(tree, "content_type")?;
-                tree.close()
-            }
-            SenderTypeData::NewMemberProposal {
-                authenticated_data,
-                content_type,
-            } => {
-                tree.open(name, "new_member_proposal (3)")?;
-                authenticated_data.show(tree, "authenticated_data")?;
-                content_type.show(tree, "content_type")?;
-                tree.close()
-            }
-        }
+        tree.open(name, "FramedContentAuthData")?;
+        self.signature.show(tree, "signature")?;
+        self.confirmation_tag.show(tree, "confirmation_tag")?;
+        tree.close()
     }
 }
 
 impl Show for PublicMessage {
     fn show(&self, tree: &mut Tree, name: &str) -> Result<(), AllocError> {
         tree.open(name, "PublicMessage")?;
-        self.group_id.show(tree, "group_id")?;
-        self.epoch.show(tree, "epoch")?;
-        self.sender_type.show(tree, "sender_type")?;
+        self.content.show(tree, "content")?;
+        self.auth.show(tree, "auth")?;
+        self.membership_tag.show(tree, "membership_tag")?;
         tree.close()
     }
 }
@@ -256,6 +176,16 @@ impl Show for MLSMessage {
         tree.open(name, "MLSMessage")?;
         self.version.show(tree, "version")?;
         self.wire_format.show(tree, "wire_format")?;
+        tree.close()
+    }
+}
+
+impl Show for AuthenticatedContent {
+    fn show(&self, tree: &mut Tree, name: &str) -> Result<(), AllocError> {
+        tree.open(name, "AuthenticatedContent")?;
+        self.wire_format.show(tree, "wire_format")?;
+        self.content.show(tree, "content")?;
+        self.auth.show(tree, "auth")?;
         tree.close()
     }
 }

@@ -1,6 +1,7 @@
 //! Worked values and rejected bytes.
 mod each_call;
 mod elsewhere;
+mod held;
 mod in_context;
 mod mls;
 mod parts;

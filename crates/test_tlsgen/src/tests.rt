@@ -2,6 +2,7 @@
 mod bad;
 mod crates;
 mod elsewhere;
+mod held;
 mod inputs;
 mod large;
 mod layout;
@@ -12,6 +13,7 @@ mod presentation;
 mod printed;
 mod selects;
 mod shown;
+mod signed;
 
 use shown::show;
 use std::alloc::Global;

@@ -5,3 +5,4 @@ pub mod Others
 pub mod Elses
 pub mod Chosen
 pub mod Enclosed
+pub mod Held

@@ -2,15 +2,18 @@
 //!
 //! [`Tagged`] is a tag and after it what its case has; [`Case`] is one case, and [`Or`] joins two sums of them. An enum says
 //! which of the cases it is, borrowed ([`write_as`], [`append_as`]), and is made of one that was read (RFC 8446, section 3.8).
-//! [`Else`] adds a case for every other tag; [`Chosen`] is for a tag that a context says; [`Enclosed`] is a value in its length.
+//! [`Else`] adds a case for every other tag; [`Chosen`] is for a tag that a context says, and [`By`] for one that
+//! a part before [holds](Holds); [`Enclosed`] is a value in its length.
 #![tactic(auto)]
 
 pub mod case;
 pub mod cases;
 pub mod chosen;
+pub mod condition;
 pub mod either;
 pub mod elses;
 pub mod enclosed;
+pub mod held;
 pub mod other;
 pub mod tag;
 pub mod tagged;
@@ -19,9 +22,11 @@ pub mod written_as;
 pub use case::Case;
 pub use cases::{Cases, ReadCases, SplitCases, Tags, WriteCases};
 pub use chosen::{Chosen, Selector};
+pub use condition::{AnyOf, Is};
 pub use either::Or;
 pub use elses::Else;
 pub use enclosed::Enclosed;
+pub use held::{By, Holds};
 pub use other::Other;
 pub use tag::Tag;
 pub use tagged::Tagged;

@@ -1,11 +1,12 @@
 -- Which kinds of messages have answers.
 use Rattle.std.specs.Prelude.{Bool, true, false}
 use Rattle.tlsgen_emit.specs.declared.forms.Kind.{Kind}
-use Rattle.tlsgen_emit.specs.declared.forms.Kind.TheVariants.{Struct, StructInContext, Values, Open, Choice, Sum, Select}
+use Rattle.tlsgen_emit.specs.declared.forms.Kind.TheVariants.{Struct, StructInContext, Then, Values, Open, Choice, Sum, Select}
 
 abbrev pub has_answers : Kind → Bool
 has_answers Struct = false
 has_answers StructInContext = false
+has_answers Then = false
 has_answers Values = true
 has_answers Open = false
 has_answers Choice = true

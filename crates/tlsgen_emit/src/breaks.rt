@@ -13,7 +13,7 @@ const NEVER: usize = 1000;
 const EARLY: usize = 100;
 
 // What is on the line of the next word, and of the word before.
-static BEFORE_ITS_OPERAND: [&str; 6] = ["→", "≡", "&&", "||", "as", "{"];
+static BEFORE_ITS_OPERAND: [&str; 7] = ["→", "≡", "&&", "||", "as", "{", "ghost"];
 
 static NOT_FIRST: [&str; 6] = ["as", "=", ":", "in", "}", "};"];
 

@@ -147,20 +147,23 @@ pub fn module(alloc: Global, names: &Names<'_>, form: &Form<'_>) -> Result<Strin
     imports::push_clauses(alloc, &mut out, body.as_str())?;
     form.holes
         .push(alloc, &mut out, form.kind.templates().ghost_uses)?;
+    out.push_str(form.held.uses.as_str())?;
     let types = form.uses.types.as_slice();
-    let uses = imports::code(alloc, names, body.as_str(), types, form.cases)?;
+    let uses = imports::code(alloc, names, body.as_str(), types, form.cases.as_slice())?;
     write!(out, "\n{uses}\n")?;
     breaks::push_code(alloc, &mut out, body.as_str())?;
     Ok(out)
 }
 
-// The code, its decoders if it has any, and the law.
+// The code, its decoders if it has any, what it holds, and the law.
 fn body(alloc: Global, form: &Form<'_>) -> Result<String, AllocError> {
     let templates = form.kind.templates();
     let decoders = if form.is_lent { "" } else { templates.decoders };
     let mut body = String::new(alloc);
-    for template in [templates.code, decoders, templates.law] {
+    for template in [templates.code, decoders] {
         form.holes.push(alloc, &mut body, template)?;
     }
+    body.push_str(form.held.code.as_str())?;
+    form.holes.push(alloc, &mut body, templates.law)?;
     Ok(body)
 }

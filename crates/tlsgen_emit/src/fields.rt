@@ -51,10 +51,21 @@ impl Field {
         field.holes.set_all(alloc, &texts)?;
         field.holes.set_number(alloc, "at", at as u64)?;
         field.set_values(alloc, owner)?;
-        field
-            .holes
-            .set_each(alloc, owner.parts(member.is_in_context))?;
+        let own = if is_lent {
+            "self.$name$"
+        } else {
+            "&self.$name$"
+        };
+        field.holes.set_each(alloc, &[("own", own)])?;
+        let parts = owner.parts(member, field.is_lent);
+        field.holes.set_each(alloc, parts)?;
         Ok(field)
+    }
+
+    /// The text of a template, and of the holes in what stands for its own.
+    pub fn text(&self, alloc: Global, template: &str) -> Result<String, AllocError> {
+        let text = self.holes.filled(alloc, template)?;
+        self.holes.filled(alloc, text.as_str())
     }
 
     // Sets what is said of values. In a clause no lifetime is declared.

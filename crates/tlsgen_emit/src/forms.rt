@@ -3,17 +3,21 @@ ghost use Rattle.std.specs.Prelude.{◌≡◌, IfOk};
 ghost use Rattle.tlsgen_emit.specs.Forms.{has_answers};
 ghost use Rattle.tlsgen_emit.specs.Paths.{needs_answers};
 
+use crate::holds::Held;
 use crate::owners::Owner;
 use crate::parts::{Part, cases_of, has, has_bare, values_of};
 use crate::rows::Row;
 use crate::template::Holes;
 use crate::templates::{
-    Templates, choices, opens, selectors, structs, structs_in_context, sums as templates, values,
+    Templates, choices, opens, selectors, structs, structs_in_context, structs_on_tags,
+    sums as templates, values,
 };
 use crate::types::{Names, length_field, set_width};
 use crate::uses::Uses;
-use crate::vocabulary::{CASES_OF_SELECT, CASES_OF_STRUCT, CASES_OF_SUM, SELECTOR};
-use crate::{contexts, lines, sums};
+use crate::vocabulary::{
+    CASES_OF_SELECT, CASES_OF_STRUCT, CASES_OF_SUM, CASES_OF_THEN, HOLDS, SELECTOR,
+};
+use crate::{contexts, lines, sums, thens};
 use std::alloc::{AllocError, Global};
 use tlsgen_model::plan::{Body, Member, Message, Variant};
 
@@ -23,6 +27,8 @@ pub enum Kind {
     Struct,
     /// A struct, of which a context decides some fields.
     StructInContext,
+    /// A struct with fields on tags that one before them is or holds.
+    Then,
     /// An enum of numbers alone.
     Values,
     /// A number, of which some values have names.
@@ -46,7 +52,9 @@ pub struct Form<'a> {
     pub parts: Vec<Part>,
     pub uses: Uses<'a>,
     /// What it takes of the cases by name.
-    pub cases: &'static [&'static str],
+    pub cases: Vec<&'static str>,
+    /// What it holds of others.
+    pub held: Held,
 }
 
 impl Kind {
@@ -55,6 +63,7 @@ impl Kind {
     {
         match &message.body {
             Body::Fields(_) if message.context.is_some() => Kind::StructInContext,
+            Body::Fields(members) if thens::giver_of(members).is_some() => Kind::Then,
             Body::Fields(_) => Kind::Struct,
             Body::Values { is_open: true, .. } => Kind::Open,
             Body::Values { .. } => Kind::Values,
@@ -69,6 +78,7 @@ impl Kind {
         match self {
             Kind::Struct => structs::templates(),
             Kind::StructInContext => structs_in_context::templates(),
+            Kind::Then => structs_on_tags::templates(),
             Kind::Values => values::templates(),
             Kind::Open => opens::templates(),
             Kind::Choice => choices::templates(),
@@ -83,7 +93,8 @@ impl Kind {
     {
         match self {
             Kind::Values | Kind::Choice => true,
-            Kind::Struct | Kind::StructInContext | Kind::Open | Kind::Sum | Kind::Select => false,
+            Kind::Struct | Kind::StructInContext | Kind::Then => false,
+            Kind::Open | Kind::Sum | Kind::Select => false,
         }
     }
 }
@@ -102,10 +113,13 @@ impl<'a> Form<'a> {
             holes: Holes::new(alloc),
             parts: Vec::new(alloc),
             uses: Uses::new(alloc, message.name.as_str()),
-            cases: &[],
+            cases: Vec::new(alloc),
+            held: Held::none(alloc),
         };
         form.set_message(alloc, names, message)?;
         form.set_body(alloc, names, message)?;
+        form.set_held(alloc, names, message)?;
+        form.cases.sort()?;
         form.uses.types.sort()?;
         form.set_texts(alloc)?;
         Ok(form)
@@ -180,17 +194,37 @@ impl<'a> Form<'a> {
     ) -> Result<(), AllocError>
         ensures { self.new.kind ≡ self.old.kind }
     {
+        if let Kind::Then = self.kind {
+            add_names(&mut self.cases, &CASES_OF_THEN)?;
+            let (is_lent, uses) = (self.is_lent, &mut self.uses);
+            return thens::set(alloc, names, &mut self.holes, uses, is_lent, members);
+        }
         let (of, uses) = (Owner::of_struct(is_in_context), &mut self.uses);
         let row = Row::of(alloc, names, of, self.is_lent, members, uses)?;
         row.set(alloc, &mut self.holes)?;
         if !is_in_context {
             return Ok(());
         }
+        add_names(&mut self.cases, &CASES_OF_STRUCT)?;
         if members.len() <= 3 {
             return self.holes.set_each(alloc, &structs_in_context::FEW);
         }
-        self.cases = &CASES_OF_STRUCT;
         self.holes.set_each(alloc, &structs_in_context::MANY)
+    }
+
+    // Sets what it holds of others.
+    fn set_held(
+        &mut self,
+        alloc: Global,
+        names: &Names<'a>,
+        message: &'a Message,
+    ) -> Result<(), AllocError>
+        ensures { self.new.kind ≡ self.old.kind }
+    {
+        add_names(&mut self.cases, &HOLDS)?;
+        let (parts, uses) = (self.parts.as_mut_slice(), &mut self.uses);
+        self.held = Held::of(alloc, names, message, parts, uses)?;
+        Ok(())
     }
 
     // Sets the holes of what an enum of numbers has if it is a context.
@@ -205,7 +239,7 @@ impl<'a> Form<'a> {
         if !names.is_context(message.name.as_str()) {
             return self.holes.set_each(alloc, &selectors::NONE);
         }
-        self.cases = &SELECTOR;
+        add_names(&mut self.cases, &SELECTOR)?;
         let texts = match self.kind {
             Kind::Open => &selectors::OPEN,
             _ => &selectors::CLOSED,
@@ -235,10 +269,10 @@ impl<'a> Form<'a> {
             Some(_) => &templates::TAGGED,
             None => &templates::CHOSEN,
         };
-        self.cases = match length {
-            Some(_) => &CASES_OF_SUM,
-            None => &CASES_OF_SELECT,
-        };
+        match length {
+            Some(_) => add_names(&mut self.cases, &CASES_OF_SUM)?,
+            None => add_names(&mut self.cases, &CASES_OF_SELECT)?,
+        }
         sums::set(alloc, &mut self.holes, &self.parts, wrapping)
     }
 
@@ -272,6 +306,14 @@ impl<'a> Form<'a> {
         self.holes
             .set_each(alloc, &[("nothing", nothing), ("names_use", names_use)])
     }
+}
+
+// Adds these names of the cases.
+fn add_names(cases: &mut Vec<&'static str>, names: &[&'static str]) -> Result<(), AllocError> {
+    for name in names {
+        cases.push(*name)?;
+    }
+    Ok(())
 }
 
 fn doc(alloc: Global, text: &str) -> Result<String, AllocError> {

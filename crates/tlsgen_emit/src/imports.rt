@@ -2,7 +2,7 @@
 
 use crate::types::Names;
 use crate::vocabulary::{
-    CHOSEN, CLAUSES, CONTENTS, ENCLOSED, LAWS, LEMMAS, NAMES, PRELUDE, SUMS, WORDS,
+    CHOSEN, CLAUSES, CONTENTS, ENCLOSED, HELD, LAWS, LEMMAS, NAMES, PRELUDE, SUMS, WORDS,
 };
 use std::alloc::{AllocError, Global};
 
@@ -78,6 +78,7 @@ pub fn push_definitions(alloc: Global, out: &mut String, text: &str) -> Result<(
         ("Rattle.tls_codec_cases.specs.Sums", SUMS.as_slice()),
         ("Rattle.tls_codec_cases.specs.Enclosed", ENCLOSED.as_slice()),
         ("Rattle.tls_codec_cases.specs.Chosen", CHOSEN.as_slice()),
+        ("Rattle.tls_codec_cases.specs.Held", HELD.as_slice()),
     ];
     push_uses(alloc, out, text, &brought)
 }

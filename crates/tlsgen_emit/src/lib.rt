@@ -5,7 +5,8 @@
 //! - `code`, `specs` and `proofs`: the texts of `src/`, `specs/` and the answers, by `templates`; `imports`: which
 //!   lines of imports a text needs, by the `vocabulary`; `breaks`: where long lines are broken.
 //! - `forms`: a message as what stands for the holes of its templates; `template` and `lines` fill these. `parts`: its values
-//!   or cases; `sums`: cases that nest; `contexts`: what decides its parts. `uses`: the names that it brings in.
+//!   or cases; `sums`: cases that nest; `contexts`: what decides its parts; `thens`: fields on tags before them; `holds`: tags of others in it.
+//!   `uses`: the names that it brings in.
 //! - `types`: what stands for a type of the plan. `rows`, `fields`, `owners`, `nesting` and `joining`: fields in a row, as
 //!   tuples that nest.
 #![tactic(auto)]
@@ -16,12 +17,14 @@ mod contexts;
 mod fields;
 pub mod file;
 mod forms;
+mod holds;
 mod imports;
 mod joining;
 mod lines;
 mod nesting;
 mod owners;
 mod parts;
+mod present;
 mod proofs;
 mod rows;
 pub mod shows;
@@ -29,6 +32,7 @@ mod specs;
 mod sums;
 mod template;
 mod templates;
+mod thens;
 mod types;
 mod uses;
 mod vocabulary;

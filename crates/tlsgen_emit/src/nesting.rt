@@ -41,6 +41,29 @@ impl Nesting {
     }
 }
 
+impl Nesting {
+    /// Where a field is: which of the groups, which of the parts of its group, and which of the fields of its part, each
+    /// with how many there are.
+    pub fn places(&self, at: usize) -> [(usize, usize); 3] {
+        let (part, in_part) = place(self.parts.as_slice(), at);
+        let (group, in_group) = place(self.counts.as_slice(), part);
+        [(group, self.groups.len()), in_group, in_part]
+    }
+}
+
+// Which of the shares has the one at `at`, and which of how many it is there.
+fn place(shares: &[usize], at: usize) -> (usize, (usize, usize)) {
+    let mut first = 0usize;
+    for (i, share) in shares.iter().enumerate() {
+        let next = first.saturating_add(*share);
+        if at < next {
+            return (i, (at.saturating_sub(first), *share));
+        }
+        first = next;
+    }
+    (0, (0, 1))
+}
+
 // How many fields each of at most so many parts has. The first have one more where they can't be alike.
 fn shares(alloc: Global, fields: usize, most: usize) -> Result<Vec<usize>, AllocError> {
     let count = count_of_parts(fields, most);

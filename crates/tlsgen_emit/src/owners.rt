@@ -1,11 +1,15 @@
 //! What has fields in a row, and how each stands there.
 
+use tlsgen_model::plan::{Decided, Member};
+
 /// What has the fields.
 #[derive(Clone, Copy)]
 pub enum Owner {
     Struct,
     /// A struct, of which a context decides some fields.
     StructInContext,
+    /// A struct's fields behind one that holds tags on which some of them are.
+    Behind,
     /// A variant, whose tag is in a row with its fields.
     Variant,
     /// A case of a sum, whose fields are one value.
@@ -39,24 +43,65 @@ static IN_VARIANT: [(&str, &str); 3] = [
     ("right", "b$at$$now$"),
 ];
 
-// A field's type as it is read, its pattern, and how it is lent: where a context decides others, those are marked that it
-// doesn't decide.
-static ALONE: [(&str, &str); 3] = [
+// A field's type as it is read and as it is lent, its pattern, and how it is lent: where a context decides others, those are
+// marked that it doesn't decide, those on a tag that it holds, and those that are there for some of its values alone.
+static ALONE: [(&str, &str); 4] = [
     ("part", "$type$"),
+    ("lent_part", "Lent<'a, $rust$>"),
     ("bound", "$name$"),
-    ("lend", "Lent(&self.$name$)"),
+    ("lend", "Lent($own$)"),
 ];
 
-static IN_CONTEXT: [(&str, &str); 3] = [
+static IN_CONTEXT: [(&str, &str); 4] = [
     ("part", "$type$"),
+    ("lent_part", "LentIn<'a, $rust$>"),
     ("bound", "$name$"),
-    ("lend", "LentIn(&self.$name$)"),
+    ("lend", "LentIn($own$)"),
 ];
 
-static BESIDE: [(&str, &str); 3] = [
+static PRESENT: [(&str, &str); 4] = [
+    ("part", "When<$condition$, $payload$>"),
+    ("lent_part", "LentWhen<'a, $condition$, $payload$>"),
+    ("bound", "When { value: $name$, .. }"),
+    (
+        "lend",
+        "LentWhen { value: $own$, condition: PhantomData::<$condition$> }",
+    ),
+];
+
+static BESIDE: [(&str, &str); 4] = [
     ("part", "Always<$type$>"),
+    ("lent_part", "Lent<'a, $rust$>"),
     ("bound", "Always($name$)"),
-    ("lend", "Lent(&self.$name$)"),
+    ("lend", "Lent($own$)"),
+];
+
+static ON_TAG: [(&str, &str); 4] = [
+    ("part", "By<$key$, $type$>"),
+    ("lent_part", "By<$key$, LentIn<'a, $rust$>>"),
+    ("bound", "By($name$, _)"),
+    ("lend", "By(LentIn($own$), PhantomData)"),
+];
+
+static PRESENT_ON_TAG: [(&str, &str); 4] = [
+    ("part", "By<$key$, When<$condition$, $payload$>>"),
+    (
+        "lent_part",
+        "By<$key$, LentWhen<'a, $condition$, $payload$>>",
+    ),
+    ("bound", "By(When { value: $name$, .. }, _)"),
+    (
+        "lend",
+        "By(LentWhen { value: $own$, condition: PhantomData::<$condition$> }, PhantomData)",
+    ),
+];
+
+// A field that is lent itself stands for itself, where nothing decides it.
+static LENT: [(&str, &str); 4] = [
+    ("part", "$type$"),
+    ("lent_part", "$rust$"),
+    ("bound", "$name$"),
+    ("lend", "self.$name$"),
 ];
 
 impl Owner {
@@ -72,7 +117,7 @@ impl Owner {
     /// Whether the fields are those of a struct.
     pub fn is_struct(self) -> bool {
         match self {
-            Owner::Struct | Owner::StructInContext => true,
+            Owner::Struct | Owner::StructInContext | Owner::Behind => true,
             Owner::Variant | Owner::Case => false,
         }
     }
@@ -103,11 +148,16 @@ impl Owner {
         }
     }
 
-    /// How a field is read and lent.
-    pub fn parts(self, is_in_context: bool) -> &'static [(&'static str, &'static str)] {
-        match self {
-            Owner::StructInContext if is_in_context => &IN_CONTEXT,
-            Owner::StructInContext => &BESIDE,
+    /// How a member is read and lent, which `is_lent` itself or not.
+    pub fn parts(self, member: &Member, is_lent: bool) -> &'static [(&'static str, &'static str)] {
+        let is_present = member.present_for.is_some();
+        match (self, &member.decided) {
+            (Owner::StructInContext | Owner::Behind, Decided::Alone) => &BESIDE,
+            (Owner::StructInContext, _) if is_present => &PRESENT,
+            (Owner::StructInContext, _) => &IN_CONTEXT,
+            (Owner::Behind, _) if is_present => &PRESENT_ON_TAG,
+            (Owner::Behind, _) => &ON_TAG,
+            _ if is_lent => &LENT,
             _ => &ALONE,
         }
     }

@@ -8,6 +8,7 @@ use crate::owners::Owner;
 use crate::template::Holes;
 use crate::types::{Names, par};
 use crate::uses::Uses;
+use crate::{contexts, present};
 use std::alloc::{AllocError, Global};
 use tlsgen_model::lent::runs_of;
 use tlsgen_model::plan::Member;
@@ -38,8 +39,12 @@ impl Row {
     ) -> Result<Row, AllocError> {
         let mut fields = Vec::new(alloc);
         for member in members {
-            let words = names.words(alloc, &member.of)?;
+            let mut words = names.words(alloc, &member.of)?;
             uses.add(&words)?;
+            if let Some(numbers) = &member.present_for {
+                words = present::words_of(alloc, names, uses, words, &member.decided, numbers)?;
+            }
+            contexts::set_of_field(alloc, names, &mut words.texts, uses, &member.decided)?;
             let at = fields.len();
             let is_copied = names.is_copied(&member.of);
             fields.push(Field::of(alloc, owner, is_lent, at, member, words, is_copied)?)?;
@@ -67,6 +72,20 @@ impl Row {
             "lent_types",
             Join::Tuple.joined(alloc, groups.as_slice(), " ")?,
         )
+    }
+
+    /// Sets the holes `giver_own` and `giver_rust`: a reference to the first field, and what that refers to.
+    pub fn set_giver(&self, alloc: Global, holes: &mut Holes) -> Result<(), AllocError> {
+        let Some(giver) = self.fields.first() else {
+            return Ok(());
+        };
+        let own = if giver.is_lent {
+            "&self.$name$"
+        } else {
+            "$own$"
+        };
+        holes.set("giver_own", giver.holes.filled(alloc, own)?)?;
+        holes.set("giver_rust", giver.holes.filled(alloc, "$rust$")?)
     }
 
     // The fields one after another.
@@ -100,7 +119,7 @@ impl Row {
         for (word, template) in [("pattern", "$bound$"), ("types", "$part$")] {
             holes.set(word, self.nested(alloc, template, Join::Tuple, " ")?)?;
         }
-        holes.set("lets", self.lets(alloc)?)?;
+        holes.set("lets", self.lets(alloc, "parts")?)?;
         let types = holes.filled(alloc, "$types$")?;
         holes.set("path", path(alloc, types)?)?;
         let split = if self.has_late_array() {
@@ -123,9 +142,9 @@ impl Row {
         false
     }
 
-    // The lines that take the fields of the tuple `parts`: each group after the other where some are tuples, since the borrow
-    // checker takes no array out of a tuple in a tuple, another part of which is moved.
-    fn lets(&self, alloc: Global) -> Result<String, AllocError> {
+    /// The lines that take the fields of a tuple: each group after the other where some are tuples, since the borrow
+    /// checker takes no array out of a tuple in a tuple, another part of which is moved.
+    pub fn lets(&self, alloc: Global, tuple: &str) -> Result<String, AllocError> {
         let parts = self.parts(alloc, "$bound$", Join::Tuple)?;
         let counts = self.nesting.counts.as_slice();
         let groups = grouped(alloc, parts.as_slice(), counts, Join::Tuple)?;
@@ -140,7 +159,7 @@ impl Row {
             }
         }
         let all = Join::Tuple.joined(alloc, names.as_slice(), " ")?;
-        format!(in alloc; "        let {all} = parts;\n{lines}")
+        format!(in alloc; "        let {all} = {tuple};\n{lines}")
     }
 
     // What the fields stand for, their format and its law. Each part has its own line in a struct of more
@@ -160,8 +179,8 @@ impl Row {
         Ok(())
     }
 
-    // A struct or a case of one field is that field, and what a variant has is a part of more.
-    fn defined(
+    /// One definition for all fields. A struct or a case of one field is that field, and what a variant has is a part of more.
+    pub fn defined(
         &self,
         alloc: Global,
         template: &str,
@@ -171,7 +190,7 @@ impl Row {
         let join = Join::Words(rows);
         let text = match (self.owner, self.fields.as_slice()) {
             (Owner::Variant, _) => self.nested(alloc, template, join, gap)?,
-            (_, [only]) => only.holes.filled(alloc, template)?,
+            (_, [only]) => only.text(alloc, template)?,
             _ => self.nested(alloc, template, join, gap)?,
         };
         if self.owner.is_struct() {
@@ -181,8 +200,8 @@ impl Row {
         }
     }
 
-    // One text for all fields, by a text for each.
-    fn nested(
+    /// One text for all fields, by a text for each.
+    pub fn nested(
         &self,
         alloc: Global,
         template: &str,
@@ -205,7 +224,7 @@ impl Row {
     fn each(&self, alloc: Global, template: &str) -> Result<Vec<String>, AllocError> {
         let mut texts = Vec::new(alloc);
         for field in &self.fields {
-            texts.push(field.holes.filled(alloc, template)?)?;
+            texts.push(field.text(alloc, template)?)?;
         }
         Ok(texts)
     }
@@ -227,10 +246,12 @@ impl Row {
     // itself.
     fn lent(&self, alloc: Global) -> Result<String, AllocError> {
         match (self.owner, self.fields.as_slice()) {
-            (Owner::Struct | Owner::StructInContext, [only]) => {
+            (Owner::Struct | Owner::StructInContext | Owner::Behind, [only]) => {
                 only.holes.filled(alloc, "self.$name$")
             }
-            (Owner::StructInContext, _) => self.nested(alloc, "$lend$", Join::Tuple, " "),
+            (Owner::StructInContext | Owner::Behind, _) => {
+                self.nested(alloc, "$lend$", Join::Tuple, " ")
+            }
             (Owner::Struct, _) => {
                 let lending = if self.is_lent { &OF_LENT } else { &OF_SELF };
                 let lent = self.listed_groups(alloc, lending)?;

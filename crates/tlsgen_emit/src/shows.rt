@@ -47,7 +47,9 @@ pub fn file_of(
 // Adds how a message is shown.
 fn push(alloc: Global, out: &mut String, form: &Form<'_>) -> Result<(), AllocError> {
     let lines = match form.kind {
-        Kind::Struct | Kind::StructInContext => return form.holes.push(alloc, out, shows::STRUCT),
+        Kind::Struct | Kind::StructInContext | Kind::Then => return form
+            .holes
+            .push(alloc, out, shows::STRUCT),
         Kind::Values => &shows::VALUE_LINES,
         Kind::Open => &shows::NUMBER_LINES,
         Kind::Choice | Kind::Sum | Kind::Select => &shows::CASE_LINES,

@@ -2,7 +2,7 @@
 
 use crate::forms::Form;
 use crate::types::Names;
-use crate::{breaks, imports};
+use crate::{breaks, contexts, imports};
 use std::alloc::{AllocError, Global};
 use tlsgen_model::plan::Plan;
 
@@ -29,11 +29,13 @@ $variants_use$
 
 /// What a message stands for, its format and its law.
 pub fn file(alloc: Global, names: &Names<'_>, form: &Form<'_>) -> Result<String, AllocError> {
-    let body = form.holes.filled(alloc, form.kind.templates().specs)?;
+    let mut body = form.holes.filled(alloc, form.kind.templates().specs)?;
+    body.push_str(form.held.specs.as_str())?;
     let mut out = form.holes.filled(alloc, HEAD)?;
     imports::push_definitions(alloc, &mut out, body.as_str())?;
     push_cited(&mut out, names, form.uses.cited.as_slice())?;
-    push_selected(&mut out, names, form.uses.selected)?;
+    push_selected(&mut out, names, form.uses.selected.as_slice())?;
+    push_held(alloc, &mut out, names, form.uses.held.as_slice())?;
     form.holes.push(alloc, &mut out, DECLARED)?;
     breaks::push_definitions(alloc, &mut out, body.as_str())?;
     Ok(out)
@@ -58,17 +60,28 @@ fn push_cited(out: &mut String, names: &Names<'_>, cited: &[&str]) -> Result<(),
     Ok(())
 }
 
-// Adds the line for the enum whose number decides the message's parts.
-fn push_selected(
+// Adds the lines for the enums whose numbers decide the message's parts.
+fn push_selected(out: &mut String, names: &Names<'_>, selected: &[&str]) -> Result<(), AllocError> {
+    for name in selected {
+        if let Some(of) = names.module(name) {
+            let home = names.other_crate(name).unwrap_or(names.own);
+            writeln!(out, "use Rattle.{home}.specs.{name}.{{{of}_selected}}")?;
+        }
+    }
+    Ok(())
+}
+
+// Adds the lines for the tags in the messages that hold them.
+fn push_held(
+    alloc: Global,
     out: &mut String,
     names: &Names<'_>,
-    selected: Option<&str>,
+    held: &[(&str, &str)],
 ) -> Result<(), AllocError> {
-    if let Some(name) = selected
-        && let Some(of) = names.module(name)
-    {
-        let home = names.other_crate(name).unwrap_or(names.own);
-        writeln!(out, "use Rattle.{home}.specs.{name}.{{{of}_selected}}")?;
+    for (holder, tag) in held {
+        let home = names.other_crate(holder).unwrap_or(names.own);
+        let definition = contexts::held(alloc, names, holder, tag)?;
+        writeln!(out, "use Rattle.{home}.specs.{holder}.{{{definition}}}")?;
     }
     Ok(())
 }

@@ -2,11 +2,13 @@
 
 pub mod choices;
 pub mod choices_answers;
+pub mod holds;
 pub mod opens;
 pub mod selectors;
 pub mod shows;
 pub mod structs;
 pub mod structs_in_context;
+pub mod structs_on_tags;
 pub mod sums;
 pub mod types;
 pub mod values;

@@ -5,10 +5,12 @@ ghost use Rattle.tlsgen_emit.specs.Texts.{bracketed};
 use crate::template::Holes;
 use crate::templates::types::{
     ARRAY, BOUNDED_BYTES, BOUNDED_LIST, BYTES, FIXED_BYTES, FIXED_LIST, Kind, LIST, MESSAGE,
-    MESSAGE_IN_CONTEXT, NUMBER, NUMBER_OF_THREE_BYTES, OPTION, TEXT,
+    MESSAGE_IN_CONTEXT, NUMBER, NUMBER_OF_THREE_BYTES, OPTION, PRESENT, TEXT,
 };
 use std::alloc::{AllocError, Global};
-use tlsgen_model::plan::{Body, Context, Element, Message, Other, Plan, Shape, Type};
+use tlsgen_model::plan::{
+    Body, Context, Decided, Element, Holder, Member, Message, Other, Plan, Shape, Type,
+};
 
 /// A type in texts.
 #[derive(Drop)]
@@ -77,6 +79,8 @@ pub struct Names<'a> {
     /// The other crates, in their order.
     pub crates: &'a [String],
     messages: &'a [Message],
+    /// The messages that hold a tag of others.
+    pub holders: &'a [Holder],
     aliases: Vec<Named<'a>>,
 }
 
@@ -100,6 +104,7 @@ impl<'a> Names<'a> {
             others: plan.others.as_slice(),
             crates,
             messages: plan.messages.as_slice(),
+            holders: plan.holders.as_slice(),
             aliases: Vec::new(alloc),
         };
         names.add_aliases(alloc, plan)?;
@@ -167,6 +172,16 @@ impl<'a> Names<'a> {
         }
     }
 
+    /// The words for an option of a type that some numbers of a tag decide, by the hole `test`.
+    pub fn present(
+        &self,
+        alloc: Global,
+        holes: Holes,
+        of: Words<'a>,
+    ) -> Result<Words<'a>, AllocError> {
+        PRESENT.words_of(alloc, holes, of)
+    }
+
     // The words for a type that no message is in.
     fn alone(&self, alloc: Global, kind: &Kind, holes: Holes) -> Result<Words<'a>, AllocError> {
         Ok(Words {
@@ -227,6 +242,16 @@ impl<'a> Names<'a> {
         self.message(alloc, name)
     }
 
+    /// The message that another name of a type stands for.
+    pub fn cited(&self, name: &str) -> Option<&'a str> {
+        for alias in &self.aliases {
+            if alias.name == name {
+                return alias.words.cited;
+            }
+        }
+        None
+    }
+
     /// The module of the message with this name.
     pub fn module(&self, name: &str) -> Option<&str> {
         match self.own(name) {
@@ -271,17 +296,12 @@ impl<'a> Names<'a> {
         }
     }
 
-    /// Whether the message with this name is the context of one.
+    /// Whether the message with this name decides parts of others: it is the context of one, or a field before them is it
+    /// or holds it.
     pub fn is_context(&self, name: &str) -> bool {
-        self.messages.iter().any(|message| match &message.context {
-            Some(
-                Context {
-                    of: Element::Message(of),
-                    ..
-                },
-            ) => of.as_str() == name,
-            _ => false,
-        })
+        self.messages
+            .iter()
+            .any(|message| is_decided_by(message, name))
     }
 
     /// The other crate that has this name.
@@ -291,8 +311,8 @@ impl<'a> Names<'a> {
         Some(home.as_str())
     }
 
-    // The message of the plan with this name.
-    fn own(&self, name: &str) -> Option<&Message> {
+    /// The message of the plan with this name.
+    pub fn own(&self, name: &str) -> Option<&'a Message> {
         for message in self.messages {
             if message.name.as_str() == name {
                 return Some(message);
@@ -308,6 +328,30 @@ impl<'a> Names<'a> {
             }
         }
         None
+    }
+}
+
+// Whether a message, or a field of it, is decided by this.
+fn is_decided_by(message: &Message, name: &str) -> bool {
+    match (&message.context, &message.body) {
+        (
+            Some(
+                Context {
+                    of: Element::Message(of),
+                    ..
+                },
+            ),
+            _,
+        ) => of.as_str() == name,
+        (_, Body::Fields(members)) => members.iter().any(|member| is_on(member, name)),
+        _ => false,
+    }
+}
+
+fn is_on(member: &Member, name: &str) -> bool {
+    match &member.decided {
+        Decided::Before(before) => before.tag.as_str() == name,
+        _ => false,
     }
 }
 

@@ -12,8 +12,12 @@ pub struct Uses<'a> {
     pub types: Vec<&'a str>,
     /// Messages whose definitions are cited.
     pub cited: Vec<&'a str>,
-    /// The enum whose number decides the message's parts.
-    pub selected: Option<&'a str>,
+    /// The enums whose numbers decide the message's parts.
+    pub selected: Vec<&'a str>,
+    /// The message that holds the tags of fields behind it.
+    pub giver: Option<&'a str>,
+    /// Messages, and the tags that they hold, whose definitions are cited.
+    pub held: Vec<(&'a str, &'a str)>,
 }
 
 impl<'a> Uses<'a> {
@@ -23,7 +27,9 @@ impl<'a> Uses<'a> {
             own,
             types: Vec::new(alloc),
             cited: Vec::new(alloc),
-            selected: None,
+            selected: Vec::new(alloc),
+            giver: None,
+            held: Vec::new(alloc),
         }
     }
 
@@ -36,6 +42,19 @@ impl<'a> Uses<'a> {
     /// Adds a type of the crate.
     pub fn add_type(&mut self, name: Option<&'a str>) -> Result<(), AllocError> {
         push_once(&mut self.types, self.own, name)
+    }
+
+    /// Adds an enum whose number decides parts.
+    pub fn add_selected(&mut self, name: &'a str) -> Result<(), AllocError> {
+        push_once(&mut self.selected, self.own, Some(name))
+    }
+
+    /// Adds the definition of a tag in a message that holds it.
+    pub fn add_held(&mut self, holder: &'a str, tag: &'a str) -> Result<(), AllocError> {
+        if !self.held.as_slice().contains(&(holder, tag)) {
+            self.held.push((holder, tag))?;
+        }
+        Ok(())
     }
 }
 

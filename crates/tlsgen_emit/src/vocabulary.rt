@@ -24,7 +24,7 @@ pub static CLAUSES: [&str; 7] = [
 ];
 
 /// What definitions take of the codec.
-pub static WORDS: [&str; 56] = [
+pub static WORDS: [&str; 60] = [
     "Tree",
     "Number",
     "Empty",
@@ -55,6 +55,8 @@ pub static WORDS: [&str; 56] = [
     "triple_format",
     "values_format",
     "chosen_format",
+    "then_format",
+    "present_format",
     "MeetsLaws",
     "EachMeetsLaws",
     "MeetVariantLaws",
@@ -81,6 +83,8 @@ pub static WORDS: [&str; 56] = [
     "triple_meets",
     "values_meet",
     "chosen_meets",
+    "then_meets",
+    "present_meets",
 ];
 
 /// What definitions take of its types.
@@ -124,7 +128,7 @@ pub static LEMMAS: [&str; 24] = [
 ];
 
 /// What code takes of the codec.
-pub static NAMES: [&str; 36] = [
+pub static NAMES: [&str; 40] = [
     "Always",
     "Deserialize",
     "DeserializeBytes",
@@ -141,12 +145,15 @@ pub static NAMES: [&str; 36] = [
     "Lent8",
     "Lent9",
     "LentIn",
+    "LentThen",
+    "LentWhen",
     "Serialize",
     "SerializeFor",
     "Sink",
     "Size",
     "SizeFor",
     "Source",
+    "Then",
     "TlsByteVec",
     "TlsByteVecU8",
     "TlsByteVecU16",
@@ -159,6 +166,7 @@ pub static NAMES: [&str; 36] = [
     "TlsVecU32",
     "U24",
     "VLBytes",
+    "When",
     "Within",
     "unknown_value",
 ];
@@ -170,11 +178,18 @@ pub static ENCLOSED: [&str; 2] = ["fixed_enclosed_format", "fixed_enclosed_meets
 
 pub static CHOSEN: [&str; 1] = ["number_of"];
 
-/// What code takes of them: a sum behind a tag, one in a context, a struct in a context, and a context.
+pub static HELD: [&str; 4] = ["first_of", "second_of", "third_of", "rest_of"];
+
+/// What code takes of them: a sum behind a tag, one in a context, a struct in a context, a context, a struct
+/// with fields on a tag before them, and what holds a tag.
 pub static CASES_OF_SUM: [&str; 6] = ["Case", "Enclosed", "Or", "Tagged", "append_as", "write_as"];
 
 pub static CASES_OF_SELECT: [&str; 5] = ["Case", "Chosen", "Or", "append_as_for", "write_as_for"];
 
-pub static CASES_OF_STRUCT: [&str; 2] = ["append_as_for", "write_as_for"];
+pub static CASES_OF_STRUCT: [&str; 4] = ["AnyOf", "Is", "append_as_for", "write_as_for"];
 
 pub static SELECTOR: [&str; 1] = ["Selector"];
+
+pub static CASES_OF_THEN: [&str; 5] = ["AnyOf", "By", "Is", "append_as", "write_as"];
+
+pub static HOLDS: [&str; 1] = ["Holds"];

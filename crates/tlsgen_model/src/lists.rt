@@ -252,7 +252,8 @@ impl CaseList {
     /// has 1 to 4 bytes.
     pub fn into_sum(self, length: Option<usize>) -> Option<Body>
         ensures some { IsSome result ↔ IsTrue (is_length length) }
-        ensures body { IfSome result (λ body. body ≡ bodies.Sum self.width.bytes length self.variants) }
+        ensures body { IfSome result (λ body. body
+            ≡ bodies.Sum self.width.bytes length self.variants) }
         ensures writable { IfSome result IsWritable }
     {
         if !may_be_length(length) {

@@ -6,6 +6,8 @@ pub struct Plan {
     pub aliases: Vec<Alias>,
     pub messages: Vec<Message>,
     pub others: Vec<Other>,
+    /// The messages that hold a tag of others.
+    pub holders: Vec<Holder>,
 }
 
 /// A type that another crate has.
@@ -57,6 +59,17 @@ pub struct Context {
     pub name: String,
     /// An integer of 1 or 2 bytes, or an enum of numbers.
     pub of: Element,
+}
+
+/// A message that holds a tag on which the selects of others are: those may be in its context.
+#[derive(Drop)]
+pub struct Holder {
+    /// The message's name.
+    pub name: String,
+    /// The tag's type in Rust: an enum of numbers, `u8` or `u16`.
+    pub tag: String,
+    /// The member that is the tag or holds it; none if it is the tag of the message's own cases.
+    pub member: Option<String>,
 }
 
 #[derive(Drop)]
@@ -114,10 +127,31 @@ pub struct Member {
     /// Its name in Rust: that of the file, or another where that is a word of Rust or of the definitions.
     pub name: String,
     pub of: Type,
-    /// Its type is a message in the context of the message that has it.
-    pub is_in_context: bool,
+    pub decided: Decided,
+    /// Where a tag decides alone whether it is there: for which numbers it is. No byte tells it.
+    pub present_for: Option<Vec<u64>>,
     /// The line of the file, as `opaque group_id<V>;`.
     pub declared: String,
+}
+
+/// What decides a member's parts.
+#[derive(Drop)]
+pub enum Decided {
+    /// Its own bytes alone.
+    Alone,
+    /// The context of the message that has it, in which its type is too.
+    Outside,
+    /// A tag that a member before it is, or holds: its type is in the context of that.
+    Before(Before),
+}
+
+/// A member before another, and the tag of it that decides that one's parts.
+#[derive(Drop)]
+pub struct Before {
+    /// The member's name.
+    pub member: String,
+    /// The tag's type in Rust: an enum of numbers, `u8` or `u16`. The member is of that type, or holds one.
+    pub tag: String,
 }
 
 /// How many of an element there are, and of which.

@@ -34,7 +34,7 @@ static RUST: [&str; 57] = [
 ];
 
 // What antt reserves, its tactics, and the words of `OwnMessages`, of `Contents` and of the cases.
-static DEFINITIONS: [&str; 100] = [
+static DEFINITIONS: [&str; 106] = [
     "abbrev",
     "alone_appends",
     "alone_writes",
@@ -60,6 +60,7 @@ static DEFINITIONS: [&str; 100] = [
     "fcoe",
     "fields_format",
     "fields_meets",
+    "first_of",
     "fixed_bytes_format",
     "fixed_bytes_meets",
     "fixed_bytes_of",
@@ -97,9 +98,11 @@ static DEFINITIONS: [&str; 100] = [
     "part_refuses",
     "record",
     "refl",
+    "rest_of",
     "ruleset",
     "rw",
     "search",
+    "second_of",
     "simp",
     "string_bytes",
     "subst",
@@ -118,6 +121,9 @@ static DEFINITIONS: [&str; 100] = [
     "tagged_writes",
     "text_format",
     "text_meets",
+    "then_format",
+    "then_meets",
+    "third_of",
     "trees",
     "u16_meets",
     "u24_meets",
@@ -155,12 +161,13 @@ static MODULES: [&str; 9] = [
     "tls_codec_cases",
 ];
 
-static TYPES: [&str; 99] = [
+static TYPES: [&str; 105] = [
     "Abort",
     "AllocError",
     "AllocFailed",
     "Always",
     "Box",
+    "By",
     "Case",
     "Cases",
     "Chosen",
@@ -185,6 +192,7 @@ static TYPES: [&str; 99] = [
     "From",
     "Global",
     "Hash",
+    "Holds",
     "HostRuntime",
     "Into",
     "IntoIterator",
@@ -202,6 +210,8 @@ static TYPES: [&str; 99] = [
     "Lent9",
     "LentCases",
     "LentIn",
+    "LentParts",
+    "LentThen",
     "MatchOption",
     "None",
     "Ok",
@@ -210,6 +220,7 @@ static TYPES: [&str; 99] = [
     "Ord",
     "PartialEq",
     "PartialOrd",
+    "Parts",
     "PhantomData",
     "Print",
     "Range",
@@ -236,6 +247,7 @@ static TYPES: [&str; 99] = [
     "Tagged",
     "TheConstants",
     "TheVariants",
+    "Then",
     "TlsByteSliceU8",
     "TlsByteVec",
     "TlsByteVecU16",

@@ -17,7 +17,7 @@ use crate::sequence::{IndexedField, Sequence, tag_of_select};
 use crate::types::declared;
 use tlsgen_model::lists::{CaseList, FieldList, Unfit};
 use tlsgen_model::names::{constant_name, field_name, module_name, variant_name};
-use tlsgen_model::plan::{Body, Element, Member, Message, Shape, Type, Variant};
+use tlsgen_model::plan::{Body, Decided, Element, Member, Message, Shape, Type, Variant};
 use tlsgen_syntax::refusal::{Place, Trouble};
 use tlsgen_syntax::syntax::{Field, Name, Select};
 
@@ -192,7 +192,8 @@ impl<'a> Resolver<'a> {
                     is_optional: false,
                     element: Element::Message(name),
                 },
-                is_in_context: false,
+                decided: Decided::Alone,
+                present_for: None,
                 declared: declared(self.alloc, tag)?,
             },
             place: tag.name.place,
@@ -228,7 +229,7 @@ impl<'a> Resolver<'a> {
 
     // Appends a member of a case. Rejects one in the context of a tag elsewhere.
     fn push_of_case(&self, member: ResolvedMember, list: &mut FieldList) -> Result<(), Trouble> {
-        if member.member.is_in_context {
+        if !matches!(member.member.decided, Decided::Alone) {
             return Err(refused(
                 self.alloc,
                 member.place,

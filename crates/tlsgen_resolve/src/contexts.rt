@@ -2,10 +2,12 @@
 //!
 //! What has a select on one is read and written in its context, as is each struct that has such a field.
 use crate::cases::{Tag, find_tag};
+use crate::checks::enum_width;
+use crate::holders::{Site, giver_of, site_of};
 use crate::items::{find_struct, item_name};
 use crate::naming::{type_name, underscored};
 use crate::refuse::refused;
-use crate::sequence::{Piece, Sequence, find_field_of_name, is_here, known};
+use crate::sequence::{IndexedField, Piece, Sequence, find_field_of_name, known};
 use std::alloc::{AllocError, Global};
 use tlsgen_model::names::{field_name, module_name};
 use tlsgen_model::plan::{Context, Element};
@@ -17,11 +19,35 @@ use tlsgen_syntax::syntax::{Field, File, Item, Name, Part, Select, Struct};
 pub struct OuterTag<'a> {
     pub name: &'a Name,
     pub tag: Tag<'a>,
-    /// The struct that has it, at the head of the select's path.
-    head: Option<&'a Name>,
+    /// The struct that has it, at the end of the select's path.
+    owner: Option<&'a Name>,
 }
 
 impl<'a> OuterTag<'a> {
+    /// Whether a field of a struct is the tag: of its type, and, if the path ends in a struct, that one's field of this name.
+    pub fn is_field(&self, of: &str, field: &Field) -> bool {
+        match self.owner {
+            None => self.is_of(field),
+            Some(owner) => owner.text.as_str() == of && field.name.text == self.name.text,
+        }
+    }
+
+    // Whether a field is of the tag's enum.
+    fn is_of(&self, field: &Field) -> bool {
+        self.tag
+            .of
+            .is_some_and(|one| one.name.text == field.of.text)
+    }
+
+    /// The type of the tag in Rust.
+    pub fn key(&self, alloc: Global) -> Result<String, AllocError> {
+        let bits = self.tag.width.bytes.saturating_mul(8);
+        match self.tag.of {
+            Some(one) => type_name(alloc, one.name.text.as_str()),
+            None => format!(in alloc; "u{bits}"),
+        }
+    }
+
     // Whether both are on one tag: by the enum, or by the name if that is a number.
     fn is_same(&self, other: &OuterTag<'_>) -> bool {
         match (self.tag.of, other.tag.of) {
@@ -61,18 +87,17 @@ pub fn outer_tag<'a>(
     let Some((name, words)) = select.path.split_last() else {
         return Err(refused(alloc, select.place, "select", "the name of a tag"));
     };
-    let found = match words.split_first() {
-        None => enum_tag(alloc, files, name)?,
-        Some((head, others)) => match field_on_path(files, head, others, name) {
-            Some(field) => find_tag(alloc, files, field)?,
-            None => None,
-        },
+    let owner = struct_on_path(files, words);
+    let found = match owner {
+        Some(owner) => tag_in(alloc, files, owner, name)?,
+        None if words.is_empty() => enum_tag(alloc, files, name)?,
+        None => None,
     };
     match found {
         Some(tag) if tag.of.is_some() || tag.width.bytes <= 2 => Ok(OuterTag {
             name,
             tag,
-            head: words.first(),
+            owner: owner.map(|one| &one.name),
         }),
         _ => Err(refused(
             alloc,
@@ -83,19 +108,27 @@ pub fn outer_tag<'a>(
     }
 }
 
-// The field at the end of a path that begins with a struct's name.
-fn field_on_path<'a>(
-    files: &'a [File],
-    head: &Name,
-    words: &[Name],
-    last: &Name,
-) -> Option<&'a Field> {
+// The struct at the end of a path that begins with a struct's name, through fields.
+fn struct_on_path<'a>(files: &'a [File], words: &[Name]) -> Option<&'a Struct> {
+    let (head, fields) = words.split_first()?;
     let mut one = find_struct(files, head.text.as_str())?;
-    for word in words {
+    for word in fields {
         let field = field_of(one, word)?;
         one = find_struct(files, field.of.text.as_str())?;
     }
-    field_of(one, last)
+    Some(one)
+}
+
+fn tag_in<'a>(
+    alloc: Global,
+    files: &'a [File],
+    one: &'a Struct,
+    name: &Name,
+) -> Result<Option<Tag<'a>>, Trouble> {
+    match field_of(one, name) {
+        Some(field) => find_tag(alloc, files, field),
+        None => Ok(None),
+    }
 }
 
 fn field_of<'a>(one: &'a Struct, name: &Name) -> Option<&'a Field> {
@@ -110,7 +143,7 @@ fn enum_tag<'a>(alloc: Global, files: &'a [File], name: &Name) -> Result<Option<
         for item in &file.items {
             if let Item::Enum(one) = item {
                 if is_called(alloc, item_name(item), name)? {
-                    let width = crate::checks::enum_width(alloc, one)?;
+                    let width = enum_width(alloc, one)?;
                     return Ok(Some(Tag {
                         width,
                         of: Some(one),
@@ -131,8 +164,8 @@ fn is_called(alloc: Global, own: &Name, name: &Name) -> Result<bool, AllocError>
     Ok(small == name.text)
 }
 
-/// The tag of the context that a struct is in, if it is in one: that of its selects, and of the types of its fields.
-/// Rejects two.
+/// The tag of the context that a struct is in, if it is in one: that of its selects, and of the types of its fields, but
+/// for those that a field before them has. Rejects two.
 pub fn context_of<'a>(
     alloc: Global,
     files: &'a [File],
@@ -140,36 +173,87 @@ pub fn context_of<'a>(
     sequence: &Sequence<'a>,
 ) -> Result<Option<OuterTag<'a>>, Trouble> {
     let mut context = None;
-    for piece in &sequence.pieces {
-        context = with_piece(alloc, files, all, sequence, piece, context)?;
+    for (at, piece) in sequence.pieces.iter().enumerate() {
+        context = match piece {
+            Piece::Field(field) | Piece::Counted(_, field) => {
+                with_field(alloc, all, sequence, at, field, context)?
+            }
+            Piece::Length(_) => context,
+            Piece::Select(select, _) => {
+                let tag = tag_elsewhere(alloc, files, all, sequence, at, select)?;
+                let context = with_select(alloc, tag, context)?;
+                with_cases(alloc, all, sequence, select, context)?
+            }
+        };
     }
     Ok(context)
 }
 
-fn with_piece<'a>(
+// The tag of a select at a position, if it is in another struct or said by the protocol alone.
+fn tag_elsewhere<'a>(
     alloc: Global,
     files: &'a [File],
     all: &[Sequence<'a>],
     sequence: &Sequence<'a>,
-    piece: &Piece<'a>,
+    at: usize,
+    select: &'a Select,
+) -> Result<Option<OuterTag<'a>>, Trouble> {
+    match site_of(alloc, files, all, sequence, at)? {
+        Site::Here | Site::Before(_) => Ok(None),
+        Site::Elsewhere => Ok(Some(outer_tag(alloc, files, select)?)),
+    }
+}
+
+fn with_select<'a>(
+    alloc: Global,
+    tag: Option<OuterTag<'a>>,
     context: Option<OuterTag<'a>>,
 ) -> Result<Option<OuterTag<'a>>, Trouble> {
-    match piece {
-        Piece::Field(field) | Piece::Counted(_, field) => {
-            with_type(alloc, all, sequence, &field.of, context)
-        }
-        Piece::Length(_) => Ok(context),
-        Piece::Select(select, _) => {
-            let mut context = context;
-            if !is_here(sequence, piece) {
-                let tag = outer_tag(alloc, files, select)?;
-                context = with_tag(alloc, tag, tag.name, context)?;
-            }
-            for field in select.cases.iter().flat_map(|case| case.fields.iter()) {
-                context = with_type(alloc, all, sequence, &field.of, context)?;
-            }
-            Ok(context)
-        }
+    match tag {
+        Some(tag) => with_tag(alloc, tag, tag.name, context),
+        None => Ok(context),
+    }
+}
+
+fn with_cases<'a>(
+    alloc: Global,
+    all: &[Sequence<'a>],
+    sequence: &Sequence<'a>,
+    select: &Select,
+    context: Option<OuterTag<'a>>,
+) -> Result<Option<OuterTag<'a>>, Trouble> {
+    let mut context = context;
+    for field in select.cases.iter().flat_map(|case| case.fields.iter()) {
+        context = with_type(alloc, all, sequence, &field.of, context)?;
+    }
+    Ok(context)
+}
+
+fn with_field<'a>(
+    alloc: Global,
+    all: &[Sequence<'a>],
+    sequence: &Sequence<'a>,
+    at: usize,
+    field: &Field,
+    context: Option<OuterTag<'a>>,
+) -> Result<Option<OuterTag<'a>>, Trouble> {
+    if giver_of_field(alloc, all, sequence, at, field)?.is_some() {
+        return Ok(context);
+    }
+    with_type(alloc, all, sequence, &field.of, context)
+}
+
+/// The field that has the tag which decides the parts of a field at a position.
+pub fn giver_of_field<'a>(
+    alloc: Global,
+    all: &[Sequence<'a>],
+    sequence: &Sequence<'a>,
+    at: usize,
+    field: &Field,
+) -> Result<Option<IndexedField<'a>>, Trouble> {
+    match context_of_type(all, field.of.text.as_str()) {
+        Some(tag) => giver_of(alloc, all, sequence, at, &tag),
+        None => Ok(None),
     }
 }
 
@@ -183,13 +267,13 @@ fn with_type<'a>(
     match context_of_type(all, of.text.as_str()) {
         Some(tag)
             if tag
-                .head
-                .is_some_and(|head| head.text.as_str() == sequence.name) => {
+                .owner
+                .is_some_and(|owner| owner.text.as_str() == sequence.name) => {
             Err(refused(
                 alloc,
                 of.place,
                 of.text.as_str(),
-                "no type in the context of a tag of this struct, which has the tag itself",
+                "no type in the context of a tag of this struct, unless the tag is above it",
             ))
         }
         Some(tag) => with_tag(alloc, tag, of, context),

@@ -7,7 +7,7 @@ ghost use Rattle.tlsgen_model.specs.declared.plan.Shape.{Shape as AShape};
 use crate::refuse::refused;
 use std::alloc::{AllocError, Global};
 use tlsgen_model::lists::FieldList;
-use tlsgen_model::plan::{Element, Member, Type};
+use tlsgen_model::plan::{Before, Decided, Element, Member, Type};
 use tlsgen_syntax::refusal::{Place, Trouble};
 
 /// A member, and the place of its field in the file.
@@ -42,11 +42,31 @@ pub fn copy(resolved: &ResolvedMember) -> Result<ResolvedMember, AllocError> {
         member: Member {
             name: resolved.member.name.clone()?,
             of: copy_type(&resolved.member.of)?,
-            is_in_context: resolved.member.is_in_context,
+            decided: copy_decided(&resolved.member.decided)?,
+            present_for: copy_numbers(&resolved.member.present_for)?,
             declared: resolved.member.declared.clone()?,
         },
         place: resolved.place,
     })
+}
+
+/// Another that says the same.
+pub fn copy_decided(decided: &Decided) -> Result<Decided, AllocError> {
+    match decided {
+        Decided::Alone => Ok(Decided::Alone),
+        Decided::Outside => Ok(Decided::Outside),
+        Decided::Before(before) => Ok(Decided::Before(Before {
+            member: before.member.clone()?,
+            tag: before.tag.clone()?,
+        })),
+    }
+}
+
+fn copy_numbers(numbers: &Option<Vec<u64>>) -> Result<Option<Vec<u64>>, AllocError> {
+    match numbers {
+        Some(numbers) => Ok(Some(numbers.clone()?)),
+        None => Ok(None),
+    }
 }
 
 /// Another type that is the same.

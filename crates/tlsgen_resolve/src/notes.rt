@@ -5,7 +5,7 @@ use crate::resolver::Resolver;
 use std::alloc::Global;
 use tlsgen_syntax::refusal::Trouble;
 use tlsgen_syntax::syntax::{
-    Case, Field, File, Item, Label, Name, Note, Number, Part, Said, Select, Struct,
+    Case, Field, File, Item, Label, Name, Note, Number, Part, Said, Select, Struct, Value,
 };
 
 // The notes of the file that is resolved.
@@ -106,8 +106,8 @@ impl<'a> Resolver<'a> {
     // What a note should have been, if it says nothing of the file.
     fn unused(&self, file: &File, note: &Note) -> Option<&'static str> {
         let is_used = match &note.said {
-            Said::Number(_) => has_array(file, &note.path),
-            Said::Open | Said::LeftOut => true,
+            Said::Number(_) => has_array(file, &note.path) || has_value(file, &note.path),
+            Said::Open | Said::Flat | Said::Lent | Said::LeftOut => true,
             said => file.items.iter().any(|item| match item {
                 Item::Struct(one) => self.is_said_of(one, note, said),
                 _ => false,
@@ -135,10 +135,12 @@ impl<'a> Resolver<'a> {
     }
 }
 
-// What a note is on. `apply` rejects one on an enum or a definition that isn't there.
+// What a note is on. `apply` rejects one on an enum, a struct or a definition that isn't there.
 fn expected(said: &Said) -> Option<&'static str> {
     match said {
-        Said::Number(_) => Some("the name between an array's brackets, as `Hash.length`"),
+        Said::Number(_) => Some(
+            "the name between an array's brackets, as `Hash.length`, or an integer type of this text and a value's name",
+        ),
         Said::Named(_) => Some(
             "a struct of this text and the tag of a select in it, which no field is, and a case of the select",
         ),
@@ -148,7 +150,7 @@ fn expected(said: &Said) -> Option<&'static str> {
         Said::Fills => Some(
             "a struct of this text and its only field, as `opaque verify_data[Hash.length]`",
         ),
-        Said::Open | Said::LeftOut => None,
+        Said::Open | Said::Flat | Said::Lent | Said::LeftOut => None,
     }
 }
 
@@ -166,6 +168,22 @@ fn has_array(file: &File, path: &[Name]) -> bool {
         Item::Alias(field) => is_array(field, path),
         Item::Struct(one) => one.parts.iter().any(|part| is_array_in(part, path)),
     })
+}
+
+// Whether an enum of the file has a value of this name: notes gave it that.
+fn has_value(file: &File, path: &[Name]) -> bool {
+    let [of, name] = path else {
+        return false;
+    };
+    file.items.iter().any(|item| match item {
+        Item::Enum(one) => one.name.text == of.text
+            && one.values.iter().any(|value| is_named(value, name)),
+        _ => false,
+    })
+}
+
+fn is_named(value: &Value, name: &Name) -> bool {
+    value.name.as_ref().is_some_and(|own| own.text == name.text)
 }
 
 fn is_array_in(part: &Part, path: &[Name]) -> bool {

@@ -19,9 +19,10 @@ pub fn tags_alone(alloc: Global, out: &Output) -> Result<Vec<String>, AllocError
     Ok(alone)
 }
 
-// Whether the crate that is resolved has an alias or a member of this type.
+// Whether the crate that is resolved has an alias or a member of this type, or a message that holds one.
 fn is_member(out: &Output, name: &String) -> bool {
     out.aliases.iter().any(|alias| alias.home == out.home && names(&alias.of.element, name))
+        || out.holders.iter().any(|holder| holder.tag == *name)
         || is_in_messages(out, name)
 }
 

@@ -4,7 +4,7 @@ ghost use Rattle.tlsgen_model.specs.Writable.{AreWritable, HaveModules, IsWritab
 use crate::refuse::refused;
 use std::alloc::{AllocError, Global};
 use tlsgen_model::messages::Messages;
-use tlsgen_model::plan::{Alias, Element, Message, Other, Plan};
+use tlsgen_model::plan::{Alias, Element, Holder, Message, Other, Plan};
 use tlsgen_syntax::refusal::{Place, Trouble};
 
 /// A message that was made for a tag with one select.
@@ -22,6 +22,8 @@ pub struct Output {
     messages: Messages,
     pub aliases: Vec<Alias>,
     choices: Vec<Choice>,
+    /// The messages that hold a tag, of all crates.
+    pub holders: Vec<Holder>,
     /// The types of tags, which are no members of their own.
     pub tags: Vec<String>,
     /// The types of constants.
@@ -38,6 +40,7 @@ impl Output {
             messages: Messages::new(alloc),
             aliases: Vec::new(alloc),
             choices: Vec::new(alloc),
+            holders: Vec::new(alloc),
             tags: Vec::new(alloc),
             constants: Vec::new(alloc),
             unwritten: Vec::new(alloc),
@@ -61,6 +64,13 @@ impl Output {
     /// Whether a message of a crate is in the context of the enum of this name.
     pub fn is_context(&self, home: Option<usize>, name: &String) -> bool {
         self.messages().iter().any(|message| Some(message.home) == home && is_on(message, name))
+    }
+
+    /// How the message of this name holds a tag of this type.
+    pub fn holder(&self, name: &String, tag: &String) -> Option<&Holder> {
+        self.holders
+            .iter()
+            .find(|holder| holder.name == *name && holder.tag == *tag)
     }
 
     /// Whether a message has this module.
@@ -141,12 +151,20 @@ impl Output {
         let home = self.home;
         let mut aliases = self.aliases;
         aliases.retain(|alias| alias.home == home);
+        let messages = self.messages.into_messages_but(home, &self.unwritten);
+        let mut holders = self.holders;
+        holders.retain(|holder| has_name(&messages, &holder.name));
         Plan {
             aliases,
-            messages: self.messages.into_messages_but(home, &self.unwritten),
+            messages,
             others,
+            holders,
         }
     }
+}
+
+fn has_name(messages: &[Message], name: &String) -> bool {
+    messages.iter().any(|message| message.name == *name)
 }
 
 fn is_on(message: &Message, name: &String) -> bool {
@@ -156,6 +174,7 @@ fn is_on(message: &Message, name: &String) -> bool {
     }
 }
 
-fn is_same(one: Place, other: Place) -> bool {
+/// Whether both are one place of a text.
+pub fn is_same(one: Place, other: Place) -> bool {
     one.line == other.line && one.column == other.column
 }

@@ -5,16 +5,17 @@ ghost use Rattle.tlsgen_model.specs.Writable.{IsWritable};
 
 use crate::checks::{check_letters, type_module};
 use crate::counted::counted_type;
+use crate::held::{PlacedTag, member_name};
 use crate::items::{MOST_ITEMS, item_name};
 use crate::members::ResolvedMember;
-use crate::naming::{type_name, underscored};
+use crate::naming::type_name;
 use crate::output::Output;
 use crate::refuse::{Budget, refused};
 use crate::sequence::{Sequence, known, needs_outer_tag};
 use crate::types::{declared, type_of};
 use std::alloc::{AllocError, Global};
-use tlsgen_model::names::{field_name, module_name};
-use tlsgen_model::plan::{Body, Member, Message, Type};
+use tlsgen_model::names::module_name;
+use tlsgen_model::plan::{Body, Decided, Member, Message, Type};
 use tlsgen_syntax::refusal::{Place, Trouble};
 use tlsgen_syntax::syntax::{Field, File, Name};
 
@@ -28,6 +29,8 @@ pub struct Resolver<'a> {
     modules: Vec<String>,
     /// The structs that are resolved.
     pub known: Vec<Sequence<'a>>,
+    /// Where the tags of selects are in the messages.
+    pub placed: Vec<PlacedTag>,
     pub out: Output,
     pub budget: Budget,
 }
@@ -40,6 +43,7 @@ impl<'a> Resolver<'a> {
             files: &[],
             modules: Vec::new(alloc),
             known: Vec::new(alloc),
+            placed: Vec::new(alloc),
             out: Output::new(alloc),
             budget: Budget::new(most),
         }
@@ -168,12 +172,17 @@ impl<'a> Resolver<'a> {
     fn typed_member(&self, field: &Field, of: Type) -> Result<ResolvedMember, Trouble>
         requires { IsType of }
     {
-        let words = underscored(self.alloc, field.name.text.as_str())?;
+        let decided = if needs_outer_tag(&self.known, field.of.text.as_str()) {
+            Decided::Outside
+        } else {
+            Decided::Alone
+        };
         Ok(ResolvedMember {
             member: Member {
-                name: field_name(self.alloc, words.as_str())?,
+                name: member_name(self.alloc, field)?,
                 of,
-                is_in_context: needs_outer_tag(&self.known, field.of.text.as_str()),
+                decided,
+                present_for: None,
                 declared: declared(self.alloc, field)?,
             },
             place: field.name.place,

@@ -1,15 +1,14 @@
 //! The fields and selects of a struct, once some of its fields are inlined: the parts of their structs stand there.
 use crate::contexts::{OuterTag, context_of, has_tag_of};
-use crate::counted::length_before;
 use crate::items::is_single;
-use crate::notes::{counts_select, filling_field, settled_case};
+use crate::pieces::own_pieces;
 use crate::refuse::refused;
 use std::alloc::{AllocError, Global};
 use tlsgen_syntax::refusal::{Place, Trouble};
-use tlsgen_syntax::syntax::{Field, File, Name, Part, Select, Struct};
+use tlsgen_syntax::syntax::{Field, File, Name, Select, Struct};
 
-// The most pieces of a struct, with those of the fields that are inlined.
-const MOST_PIECES: usize = 256;
+/// The most pieces of a struct, with those of the fields that are inlined.
+pub const MOST_PIECES: usize = 256;
 
 // The most words of a select's path.
 const MOST_WORDS: usize = 16;
@@ -46,6 +45,8 @@ pub struct Sequence<'a> {
     pub name: &'a str,
     pub place: Place,
     pub is_lent: bool,
+    /// A note says that its parts stand in the place of a field of its type, where a tag of a select is.
+    pub is_flat: bool,
     pub pieces: Vec<Piece<'a>>,
     /// The fields that are inlined: the parts of their structs stand in their place.
     pub inlined: Vec<&'a Field>,
@@ -83,8 +84,8 @@ pub fn needs_outer_tag(all: &[Sequence<'_>], name: &str) -> bool {
     known(all, name).is_some_and(|one| one.context.is_some())
 }
 
-/// The pieces of a struct; all structs that it contains are known. A field is inlined if a select's path goes through
-/// it, or if its struct has a select whose tag is here.
+/// The pieces of a struct; all structs that it contains are known. A field whose struct is flat is inlined if a select's
+/// path goes through it, or if its struct has a select whose tag is here.
 pub fn sequence_of<'a>(
     alloc: Global,
     files: &'a [File],
@@ -109,78 +110,14 @@ pub fn sequence_of<'a>(
     Err(refused_size(alloc, &one.name))
 }
 
-fn refused_size(alloc: Global, name: &Name) -> Trouble {
+/// The refusal of a struct of more parts.
+pub fn refused_size(alloc: Global, name: &Name) -> Trouble {
     refused(
         alloc,
         name.place,
         name.text.as_str(),
         "a struct of at most 256 parts",
     )
-}
-
-fn own_pieces<'a>(
-    alloc: Global,
-    files: &'a [File],
-    one: &'a Struct,
-) -> Result<Sequence<'a>, Trouble> {
-    let name = one.name.text.as_str();
-    let mut pieces = Vec::new(alloc);
-    if one.parts.len() > MOST_PIECES {
-        return Err(refused_size(alloc, &one.name));
-    }
-    for (at, part) in one.parts.iter().enumerate() {
-        match part {
-            Part::Field(field) => push_field(files, one, at, field, &mut pieces)?,
-            Part::Select(select) => push_select(files, one, select, &mut pieces)?,
-        }
-    }
-    Ok(Sequence {
-        name,
-        place: one.name.place,
-        is_lent: one.is_lent,
-        pieces,
-        inlined: Vec::new(alloc),
-        is_whole: false,
-        context: None,
-        is_written: false,
-        is_filling: filling_field(files, one).is_some(),
-    })
-}
-
-// A number that counts the field right behind it becomes a piece with that field.
-fn push_field<'a>(
-    files: &[File],
-    one: &'a Struct,
-    at: usize,
-    field: &'a Field,
-    pieces: &mut Vec<Piece<'a>>,
-) -> Result<(), AllocError> {
-    match length_before(one, at) {
-        Some(length) => {
-            pieces.pop();
-            pieces.push(Piece::Counted(length, field))?;
-        }
-        None if counts_select(files, one, at) => pieces.push(Piece::Length(field))?,
-        None => pieces.push(Piece::Field(field))?,
-    }
-    Ok(())
-}
-
-// A select that always has one case is the fields of that case.
-fn push_select<'a>(
-    files: &[File],
-    one: &'a Struct,
-    select: &'a Select,
-    pieces: &mut Vec<Piece<'a>>,
-) -> Result<(), AllocError> {
-    let Some(case) = settled_case(files, one, select) else {
-        pieces.push(Piece::Select(select, one.name.text.as_str()))?;
-        return Ok(());
-    };
-    for field in &case.fields {
-        pieces.push(Piece::Field(field))?;
-    }
-    Ok(())
 }
 
 fn check_paths(alloc: Global, sequence: &Sequence<'_>) -> Result<(), Trouble> {
@@ -200,7 +137,7 @@ fn next_to_inline<'a>(all: &[Sequence<'a>], sequence: &Sequence<'a>) -> Option<I
         let found = match piece {
             Piece::Field(field) => field_to_inline(all, sequence, index, field),
             Piece::Counted(..) | Piece::Length(_) => None,
-            Piece::Select(select, owner) => next_on_path(sequence, select, owner),
+            Piece::Select(select, owner) => next_on_path(all, sequence, select, owner),
         };
         if found.is_some() {
             return found;
@@ -217,10 +154,11 @@ fn field_to_inline<'a>(
     field: &'a Field,
 ) -> Option<IndexedField<'a>> {
     let inner = known(all, field.of.text.as_str())?;
-    if inner
-        .pieces
-        .iter()
-        .any(|piece| is_on_tag_of(sequence, inner, piece))
+    if inner.is_flat
+        && inner
+            .pieces
+            .iter()
+            .any(|piece| is_on_tag_of(sequence, inner, piece))
     {
         Some(IndexedField { index, field })
     } else {
@@ -236,7 +174,9 @@ fn is_on_tag_of(outer: &Sequence<'_>, inner: &Sequence<'_>, piece: &Piece<'_>) -
     }
 }
 
+// The first field on a select's path, if its struct is flat.
 fn next_on_path<'a>(
+    all: &[Sequence<'a>],
     sequence: &Sequence<'a>,
     select: &Select,
     owner: &str,
@@ -245,25 +185,34 @@ fn next_on_path<'a>(
     let (first, others) = words.split_first()?;
     let type_name = first.text.as_str();
     if !is_own(sequence, owner, type_name) {
-        let found = find_field(sequence, Key::Type(type_name));
-        if found.is_some() {
-            return found;
+        if let Some(found) = find_field(sequence, Key::Type(type_name)) {
+            return if_flat(all, found);
         }
         if !sequence.has_inlined(type_name) {
             return None;
         }
     }
-    others
+    let found = others
         .iter()
-        .find_map(|word| find_field(sequence, Key::Name(word.text.as_str())))
+        .find_map(|word| find_field(sequence, Key::Name(word.text.as_str())))?;
+    if_flat(all, found)
 }
 
-// Whether a path's first word is the struct itself, or the one that the select is written in.
-fn is_own(sequence: &Sequence<'_>, owner: &str, first: &str) -> bool {
+// A field whose struct is flat. One of no struct's type is refused where it is inlined.
+fn if_flat<'a>(all: &[Sequence<'a>], found: IndexedField<'a>) -> Option<IndexedField<'a>> {
+    match known(all, found.field.of.text.as_str()) {
+        Some(one) if !one.is_flat => None,
+        _ => Some(found),
+    }
+}
+
+/// Whether a path's first word is the struct itself, or the one that the select is written in.
+pub fn is_own(sequence: &Sequence<'_>, owner: &str, first: &str) -> bool {
     first == owner || first == sequence.name
 }
 
-fn find_field<'a>(sequence: &Sequence<'a>, key: Key<'_>) -> Option<IndexedField<'a>> {
+/// The first field that is found by a key.
+pub fn find_field<'a>(sequence: &Sequence<'a>, key: Key<'_>) -> Option<IndexedField<'a>> {
     for (index, piece) in sequence.pieces.iter().enumerate() {
         if let Piece::Field(field) = piece {
             if has_key(field, key) {

@@ -11,7 +11,7 @@ use crate::sequence::IndexedField;
 use crate::types::declared;
 use std::alloc::Global;
 use tlsgen_model::names::field_name;
-use tlsgen_model::plan::{Element, Member, Shape, Type};
+use tlsgen_model::plan::{Decided, Element, Member, Shape, Type};
 use tlsgen_syntax::refusal::Trouble;
 use tlsgen_syntax::syntax::{Field, Name, Number};
 
@@ -85,7 +85,8 @@ fn fixed_member(alloc: Global, tag: &Field, of: String) -> Result<ResolvedMember
                 is_optional: false,
                 element: Element::Message(of),
             },
-            is_in_context: false,
+            decided: Decided::Alone,
+            present_for: None,
             declared: declared(alloc, tag)?,
         },
         place: tag.name.place,

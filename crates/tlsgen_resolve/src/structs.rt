@@ -3,6 +3,8 @@ ghost use Rattle.std.specs.Prelude.{IfOk};
 ghost use Rattle.tlsgen_model.specs.Writable.{IsWritable};
 
 use crate::constants::{Fixed, fixed_body, fixed_of};
+use crate::held::{TagPart, part_of};
+use crate::holders::{Site, site_of};
 use crate::lent::lends;
 use crate::members::push_member;
 use crate::naming::{is_of_field, type_name};
@@ -11,7 +13,7 @@ use crate::resolver::Resolver;
 use crate::segment::{
     ResolvedPiece, given_name, is_on, only_case, refused_counting, refused_crossing,
 };
-use crate::sequence::{IndexedField, Piece, Sequence, is_here, sequence_of};
+use crate::sequence::{IndexedField, Piece, Sequence, sequence_of};
 use std::alloc::Global;
 use tlsgen_model::lists::FieldList;
 use tlsgen_model::names::module_name;
@@ -41,6 +43,7 @@ impl<'a> Resolver<'a> {
                 return Ok(());
             }
         }
+        self.check_givers(sequence, &tail)?;
         let body = struct_body(self.alloc, sequence, tail)?;
         self.check_runs(sequence, &body)?;
         let mut message = self.defined_message(sequence.name, body)?;
@@ -60,13 +63,8 @@ impl<'a> Resolver<'a> {
         tail: &mut Vec<ResolvedPiece<'a>>,
     ) -> Result<bool, Trouble> {
         match piece {
-            Piece::Select(select, owner) if !is_here(sequence, piece) => {
-                self.prepend_sum(sequence, select, owner, tail)
-            }
             Piece::Select(select, owner) => {
-                let select = self.resolve_select(sequence, select, owner, index)?;
-                tail.push(ResolvedPiece::Select(select))?;
-                Ok(false)
+                self.prepend_select(sequence, index, (*select, *owner), tail)
             }
             Piece::Length(length) => {
                 tail.push(ResolvedPiece::Length(length))?;
@@ -85,6 +83,26 @@ impl<'a> Resolver<'a> {
         }
     }
 
+    fn prepend_select(
+        &mut self,
+        sequence: &Sequence<'a>,
+        index: usize,
+        (select, owner): (&'a Select, &'a str),
+        tail: &mut Vec<ResolvedPiece<'a>>,
+    ) -> Result<bool, Trouble> {
+        match site_of(self.alloc, self.files, &self.known, sequence, index)? {
+            Site::Here => {
+                let select = self.resolve_select(sequence, select, owner, index)?;
+                tail.push(ResolvedPiece::Select(select))?;
+                Ok(false)
+            }
+            Site::Before(giver) => {
+                self.prepend_sum(sequence, (select, owner), Some(giver.field), tail)
+            }
+            Site::Elsewhere => self.prepend_sum(sequence, (select, owner), None, tail),
+        }
+    }
+
     // If the field is a tag, every piece between it and its last select moves into the select's cases. A struct that is
     // a tag and its cases alone is complete then.
     fn prepend_field(
@@ -94,7 +112,10 @@ impl<'a> Resolver<'a> {
         tail: &mut Vec<ResolvedPiece<'a>>,
     ) -> Result<bool, Trouble> {
         let Some(last) = tail.iter().position(|piece| is_on(piece, at.index)) else {
-            let member = self.member_of(at.field)?;
+            let mut member = self.member_of(at.field)?;
+            if let Some(decided) = self.decided_before(sequence, at)? {
+                member.member.decided = decided;
+            }
             tail.push(ResolvedPiece::Member(member))?;
             return Ok(false);
         };
@@ -104,14 +125,18 @@ impl<'a> Resolver<'a> {
             .push(type_name(self.alloc, at.field.of.text.as_str())?)?;
         if let Some(case) = only_case(&segment) {
             self.prepend_fixed(at, case, &segment, tail)?;
+            self.place_tag(sequence, at.field, TagPart::Fixed)?;
             return Ok(false);
         }
         let given = given_name(self.alloc, &segment)?;
         if at.index == 0 && last == 0 && given.is_none_or(is_of_field) {
             self.make_whole(sequence, at, &segment)?;
+            self.place_tag(sequence, at.field, TagPart::Whole)?;
             return Ok(true);
         }
         let member = self.make_part(sequence, at, &segment, given)?;
+        let part = part_of(&member)?;
+        self.place_tag(sequence, at.field, part)?;
         tail.push(ResolvedPiece::Member(member))?;
         Ok(false)
     }

@@ -14,13 +14,13 @@ use crate::segment::{ResolvedPiece, ResolvedSelect, refused_counting, refused_cr
 use crate::sequence::{IndexedField, Key, Piece, Sequence, has_key, is_here, known};
 use tlsgen_model::lists::{CaseList, FieldList};
 use tlsgen_model::names::field_name;
-use tlsgen_model::plan::{Body, Element, Member, Shape, Type};
+use tlsgen_model::plan::{Body, Decided, Element, Member, Shape, Type};
 use tlsgen_syntax::refusal::Trouble;
 use tlsgen_syntax::syntax::{Field, File, Item, Part, Select, Struct};
 
 impl<'a> Resolver<'a> {
-    /// Whether a struct is a message of its own: all its tags are in it, or it is in a context, and doesn't stand in a
-    /// struct's place that has the tag.
+    /// Whether a struct is a message of its own: all its tags are in it, or it is in a context, and isn't flat in a struct
+    /// that has the tag.
     pub fn is_written(&self, sequence: &Sequence<'_>) -> Result<bool, Trouble> {
         if sequence.is_lent && sequence.is_whole && sequence.context.is_some() {
             return Err(refused(
@@ -36,21 +36,32 @@ impl<'a> Resolver<'a> {
         if sequence.is_filling {
             return Ok(false);
         }
-        Ok(sequence.is_whole || !sequence.is_lent && !is_inlined_in(file, sequence))
+        let is_inlined = sequence.is_flat && is_inlined_in(file, sequence);
+        Ok(sequence.is_whole || !sequence.is_lent && !is_inlined)
     }
 
-    /// Makes the message of a select whose tag is elsewhere, and puts the member of it before those that follow. Returns
-    /// whether that is all of the struct.
+    /// Makes the message of a select whose tag is elsewhere, or in the field `giver` before it, and puts the member of it
+    /// before those that follow. Returns whether that is all of the struct.
     pub fn prepend_sum(
         &mut self,
         sequence: &Sequence<'a>,
-        select: &'a Select,
-        owner: &str,
+        (select, owner): (&'a Select, &str),
+        giver: Option<&'a Field>,
         tail: &mut Vec<ResolvedPiece<'a>>,
     ) -> Result<bool, Trouble> {
         let tag = outer_tag(self.alloc, self.files, select)?;
         self.check_home(&tag)?;
-        let is_all = sequence.pieces.len() == 1;
+        let decided = match giver {
+            Some(giver) => self.decided_by(sequence, giver, &tag)?,
+            None => Decided::Outside,
+        };
+        let is_all = giver.is_none() && sequence.pieces.len() == 1;
+        if !is_all {
+            if let Some(member) = self.present_member(&tag, select, &decided)? {
+                tail.push(ResolvedPiece::Member(member))?;
+                return Ok(false);
+            }
+        }
         let name = if is_all {
             type_name(self.alloc, sequence.name)?
         } else {
@@ -59,7 +70,7 @@ impl<'a> Resolver<'a> {
         let body = self.sum_body(&tag, select, name.as_str())?;
         self.push_sum(sequence, &tag, name.clone()?, body)?;
         if !is_all {
-            let member = self.sum_member(select, &tag, name)?;
+            let member = self.sum_member(select, &tag, name, decided)?;
             tail.push(ResolvedPiece::Member(member))?;
         }
         Ok(is_all)
@@ -207,6 +218,7 @@ impl<'a> Resolver<'a> {
         select: &Select,
         tag: &OuterTag<'a>,
         name: String,
+        decided: Decided,
     ) -> Result<ResolvedMember, Trouble> {
         let own = match &select.name {
             Some(given) if is_of_field(given) => given,
@@ -223,7 +235,8 @@ impl<'a> Resolver<'a> {
                     is_optional: false,
                     element: Element::Message(name),
                 },
-                is_in_context: true,
+                decided,
+                present_for: None,
                 declared: format!(in self.alloc; "select ({by});")?,
             },
             place: select.place,

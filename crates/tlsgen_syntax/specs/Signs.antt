@@ -1,5 +1,5 @@
 -- The signs that tokens are, and the signs that what is read of them stands for.
-use Rattle.std.specs.Prelude.{◌≡◌, ℕ, List, [], ◌∷◌, length, Bool, true, false, IsFalse, Option, Some, None, string_bytes, codes}
+use Rattle.std.specs.Prelude.{◌≡◌, ℕ, List, [], ◌∷◌, length, Bool, true, false, IsFalse, Option, Some, None, Result, IfOk, string_bytes, codes}
 use Rattle.tlsgen_syntax.specs.declared.token.Mark.{Mark}
 use Rattle.tlsgen_syntax.specs.declared.token.Mark.TheVariants as marks
 use Rattle.tlsgen_syntax.specs.declared.token.TokenKind.{TokenKind}
@@ -28,10 +28,20 @@ use Rattle.tlsgen_syntax.specs.declared.syntax.Label.TheVariants as labels
 use Rattle.tlsgen_syntax.specs.declared.syntax.Note.{Note}
 use Rattle.tlsgen_syntax.specs.declared.syntax.Said.{Said}
 use Rattle.tlsgen_syntax.specs.declared.syntax.Said.TheVariants as saids
+use Rattle.tlsgen_syntax.specs.declared.source.Source.{Source}
+use Rattle.tlsgen_syntax.specs.declared.source.Definition.{Definition}
+use Rattle.tlsgen_syntax.specs.declared.source.Definition.TheVariants as definitions
+use Rattle.tlsgen_syntax.specs.declared.source.SourceStruct.{SourceStruct}
+use Rattle.tlsgen_syntax.specs.declared.source.StructKind.{StructKind}
+use Rattle.tlsgen_syntax.specs.declared.source.StructKind.TheVariants as struct_kinds
+use Rattle.tlsgen_syntax.specs.declared.source.SourcePart.{SourcePart}
+use Rattle.tlsgen_syntax.specs.declared.source.SourcePart.TheVariants as source_parts
+use Rattle.tlsgen_syntax.specs.declared.source.Signed.{Signed}
 
 -- how a mark is written
 abbrev pub mark_text : Mark → List ℕ
 mark_text marks.Case = codes "case"
+mark_text marks.DigitallySigned = codes "digitally-signed"
 mark_text marks.Enum = codes "enum"
 mark_text marks.Lent = codes "lent"
 mark_text marks.Open = codes "open"
@@ -74,6 +84,10 @@ signs_left tokens = signs tokens.left.now
 
 abbrev pub count_left : Tokens → ℕ
 count_left tokens = length tokens.left.now
+
+-- what was read, if it was, is what the tokens that are gone say
+abbrev pub Reads : {A E : Type 0} → (A → List Sign → List Sign) → (before after : Tokens) → Result A E → Type 0
+Reads one before after result = IfOk result (λ a. signs_left before ≡ one a (signs_left after))
 
 -- ---- what is read, as signs before the rest
 
@@ -206,6 +220,42 @@ abbrev pub part_then : Part → List Sign → List Sign
 part_then (parts.Field f) rest = field_then f rest
 part_then (parts.Select s) rest = select_then s rest
 
+-- digitally-signed struct { parts } [NAME] ;
+abbrev pub signed_then : Signed → List Sign → List Sign
+signed_then s rest =
+    mark marks.DigitallySigned ∷ mark marks.Struct ∷ mark marks.OpeningBrace ∷
+    each_then part_then s.parts.items
+    (mark marks.ClosingBrace ∷ optional_name_then s.name (mark marks.Semicolon ∷ rest))
+
+abbrev pub source_part_then : SourcePart → List Sign → List Sign
+source_part_then (source_parts.Sent p) rest = part_then p rest
+source_part_then (source_parts.Signed s) rest = signed_then s rest
+
+-- [lent | digitally-signed]
+abbrev pub kind_then : StructKind → List Sign → List Sign
+kind_then struct_kinds.Sent rest = rest
+kind_then struct_kinds.Lent rest = mark marks.Lent ∷ rest
+kind_then struct_kinds.Signed rest = mark marks.DigitallySigned ∷ rest
+
+-- [lent | digitally-signed] struct { parts and signatures } NAME ;
+abbrev pub source_struct_then : SourceStruct → List Sign → List Sign
+source_struct_then s rest =
+    kind_then s.kind
+    (mark marks.Struct ∷ mark marks.OpeningBrace ∷
+    each_then source_part_then s.parts.items
+    (mark marks.ClosingBrace ∷ name_then s.name (mark marks.Semicolon ∷ rest)))
+
+abbrev pub definition_then : Definition → List Sign → List Sign
+definition_then (definitions.Enum e) rest = enum_then e rest
+definition_then (definitions.Struct s) rest = source_struct_then s rest
+definition_then (definitions.Alias f) rest = field_then f rest
+
+-- the signs of a whole text
+abbrev pub source_signs : Source → List Sign
+source_signs source = each_then definition_then source.definitions.items []
+
+-- ---- what is signed apart
+
 -- [lent] struct { parts } NAME ;
 abbrev pub struct_then : Struct → List Sign → List Sign
 struct_then s rest =
@@ -223,13 +273,17 @@ item_then (items.Alias f) rest = field_then f rest
 abbrev pub file_signs : File → List Sign
 file_signs file = each_then item_then file.items.items []
 
--- = NUMBER, = NAME, counts rest, fills rest, is open or left out
+-- ---- notes
+
+-- = NUMBER, = NAME, counts rest, fills rest, is open, flat or lent, or left out
 abbrev pub said_then : Said → List Sign → List Sign
 said_then (saids.Number n) rest = mark marks.Equals ∷ number_then n rest
 said_then (saids.Named name) rest = mark marks.Equals ∷ name_then name rest
 said_then saids.Counts rest = word (codes "counts") ∷ word (codes "rest") ∷ rest
 said_then saids.Fills rest = word (codes "fills") ∷ word (codes "rest") ∷ rest
 said_then saids.Open rest = word (codes "is") ∷ mark marks.Open ∷ rest
+said_then saids.Lent rest = word (codes "is") ∷ mark marks.Lent ∷ rest
+said_then saids.Flat rest = word (codes "is") ∷ word (codes "flat") ∷ rest
 said_then saids.LeftOut rest = word (codes "left") ∷ word (codes "out") ∷ rest
 
 -- path said ;

@@ -9,8 +9,8 @@ use std::alloc::Global;
 
 /// The words, numbers and marks of a text, in order, without its blanks and comments.
 ///
-/// Rejects a character outside ASCII, also in a comment; a number past 64 bits; a comment that doesn't end; any other
-/// character that begins no word, number or mark.
+/// Rejects a character outside ASCII, also in a comment; a number past 64 bits; a comment that doesn't end; a name with a
+/// hyphen; any other character that begins no word, number or mark.
 pub fn lex(alloc: Global, text: &str) -> Result<Vec<Token>, Trouble> {
     if !text.is_ascii() {
         return Err(outside(alloc, text));
@@ -124,13 +124,15 @@ fn part_len(left: &[u8], sign: u8) -> usize
     }
 }
 
-// How many bytes of a name are at the front: a dot before a digit is part of it, as in `ASN.1Cert`.
+// How many bytes of a name are at the front: a dot before a digit is part of it, as in `ASN.1Cert`, and a hyphen before a
+// letter, as in `digitally-signed`.
 fn name_len(bytes: &[u8]) -> usize
     ensures { result ≤ length bytes.now }
 {
     let first = word_len(bytes);
     match &bytes[first..] {
         [b'.', b'0'..=b'9', rest @ ..] => first + 2 + word_len(rest),
+        [b'-', b'a'..=b'z' | b'A'..=b'Z', rest @ ..] => first + 2 + word_len(rest),
         _ => first,
     }
 }
@@ -157,7 +159,7 @@ fn kind_of(alloc: Global, text: &str, place: Place) -> Result<TokenKind, Trouble
                 "a number of 64 bits, as 12, 0x0a or 2^16-1",
             )),
         },
-        [b'a'..=b'z' | b'A'..=b'Z' | b'_', ..] => word(alloc, text),
+        [b'a'..=b'z' | b'A'..=b'Z' | b'_', ..] => word(alloc, text, place),
         b".." => Ok(TokenKind::Mark(Mark::Dots)),
         b"/*" => Err(refusal(alloc, text, place, "a comment that ends")),
         [byte] => match Mark::of_byte(*byte) {
@@ -176,11 +178,19 @@ fn refusal(alloc: Global, text: &str, place: Place, expected: &'static str) -> T
     Trouble::at(place, String::from_str(alloc, text), expected)
 }
 
-fn word(alloc: Global, text: &str) -> Result<TokenKind, Trouble> {
-    match Mark::of_word(text) {
-        Some(mark) => Ok(TokenKind::Mark(mark)),
-        None => Ok(TokenKind::Word(String::from_str(alloc, text)?)),
+fn word(alloc: Global, text: &str, place: Place) -> Result<TokenKind, Trouble> {
+    if let Some(mark) = Mark::of_word(text) {
+        return Ok(TokenKind::Mark(mark));
     }
+    if text.as_bytes().contains(&b'-') {
+        return Err(refusal(
+            alloc,
+            text,
+            place,
+            "a name without a hyphen, or digitally-signed",
+        ));
+    }
+    Ok(TokenKind::Word(String::from_str(alloc, text)?))
 }
 
 // The value of `12`, `0x0a` or `2^16-1`, if it is a number of 64 bits.

@@ -1,13 +1,15 @@
 //! The presentation language of TLS (RFC 8446, section 3) with `<V>` and `optional<T>` of RFC 9420, section 2.1, as
 //! text: what a file of it says, and why a text is no such file.
 //!
-//! - [`syntax`]: [`File`](syntax::File), what a text says.
+//! - [`source`]: [`Source`](source::Source), what a text says as it is written.
+//! - [`syntax`]: [`File`](syntax::File), what a text says with what is signed apart.
 //! - [`refusal`]: [`Refusal`](refusal::Refusal), where and why a text is refused.
 //! - [`token`]: [`Token`](token::Token), a word, a number or a mark of a text.
 //! - [`lexer`]: [`lex`](lexer::lex), the tokens of a text.
 //! - [`parser`]: [`parse`](parser::parse), what a text says.
+//! - [`signed`]: [`set_apart`](signed::set_apart), a struct for what is signed.
 //! - [`noted`]: [`apply`](noted::apply), a text with its notes.
-//! - [`print`]: [`print`](print::print), the text of a file in one layout.
+//! - [`print`]: [`print`](print::print), a text in one layout.
 #![tactic(auto)]
 
 mod cursor;
@@ -16,6 +18,9 @@ pub mod noted;
 pub mod parser;
 pub mod print;
 pub mod refusal;
+mod registry;
+pub mod signed;
+pub mod source;
 pub mod syntax;
 pub mod token;
 mod tokens;

@@ -1,16 +1,25 @@
 //! A text with its notes.
+ghost use Rattle.std.specs.Prelude.{◌≡◌, OnOk};
 
 use crate::refusal::Trouble;
-use crate::syntax::{File, Item, Name, Note, Said};
+use crate::registry::name_values;
+use crate::syntax::{File, Item, Name, Note, Said, Struct};
 use std::alloc::Global;
 
-/// Gives a file its notes: enums that they call open are, and definitions that they leave out are no more.
+/// Gives a file its notes: enums that they call open are, and structs that they call flat or lent; integers that they give
+/// values are open enums, and definitions that they leave out are no more.
 ///
-/// Rejects a note on an enum or a definition that the file doesn't have.
-pub fn apply(alloc: Global, file: &mut File, notes: Vec<Note>) -> Result<(), Trouble> {
+/// Rejects a note on an enum, a struct or a definition that the file doesn't have, a value that the integer doesn't hold, and
+/// a name or a number that it has.
+pub fn apply(alloc: Global, file: &mut File, notes: Vec<Note>) -> Result<(), Trouble>
+    ensures { OnOk result (file.new.notes ≡ notes) }
+{
+    name_values(alloc, file, &notes)?;
     for note in &notes {
         match note.said {
             Said::Open => open(alloc, file, note)?,
+            Said::Flat => struct_of(alloc, file, note)?.is_flat = true,
+            Said::Lent => struct_of(alloc, file, note)?.is_lent = true,
             Said::LeftOut => leave_out(alloc, file, note)?,
             Said::Number(_) | Said::Named(_) | Said::Counts | Said::Fills => {}
         }
@@ -33,6 +42,22 @@ fn open(alloc: Global, file: &mut File, note: &Note) -> Result<(), Trouble> {
         return Ok(());
     }
     Err(refused(alloc, note, "an enum of this text"))
+}
+
+// The struct that a note is on.
+fn struct_of<'a>(
+    alloc: Global,
+    file: &'a mut File,
+    note: &Note,
+) -> Result<&'a mut Struct, Trouble> {
+    for item in &mut file.items {
+        if let Item::Struct(one) = item {
+            if is_called(note, &one.name) {
+                return Ok(one);
+            }
+        }
+    }
+    Err(refused(alloc, note, "a struct of this text"))
 }
 
 fn leave_out(alloc: Global, file: &mut File, note: &Note) -> Result<(), Trouble> {
@@ -60,7 +85,8 @@ fn is_called(note: &Note, name: &Name) -> bool {
     }
 }
 
-fn refused(alloc: Global, note: &Note, expected: &'static str) -> Trouble {
+/// The refusal of a note.
+pub(crate) fn refused(alloc: Global, note: &Note, expected: &'static str) -> Trouble {
     match note.path.first() {
         Some(name) => Trouble::at(name.place, name.text.clone(), expected),
         None => Trouble::Memory,

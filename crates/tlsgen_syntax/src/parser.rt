@@ -1,9 +1,9 @@
-//! Reads a file from its tokens.
+//! Reads a text from its tokens.
 //!
 //! Each function takes the tokens of one part of the grammar from the front of those that are left.
 
 ghost use Rattle.std.specs.Prelude.{◌≡◌, ◌<◌, IfOk, OnOk};
-ghost use Rattle.tlsgen_syntax.specs.Signs.{count_left, file_signs, item_then, signs, signs_left};
+ghost use Rattle.tlsgen_syntax.specs.Signs.{Reads, count_left, definition_then, signs, source_signs};
 
 mod enums;
 mod fields;
@@ -13,15 +13,23 @@ mod structs;
 
 use crate::lexer::lex;
 use crate::refusal::{Place, Trouble};
-use crate::syntax::{File, Item, Note};
+use crate::signed::set_apart;
+use crate::source::{Definition, Source};
+use crate::syntax::{File, Note};
 use crate::token::{Mark, Token};
 use crate::tokens::Tokens;
 use std::alloc::Global;
 
-/// What a text says.
+/// What a text says, with what is signed apart.
 ///
-/// Rejects the first token that can't come next in a file, and what the [lexer](crate::lexer::lex) rejects.
+/// Rejects the first token that can't come next in a text, and what the [lexer](crate::lexer::lex) rejects.
 pub fn parse(alloc: Global, text: &str) -> Result<File, Trouble> {
+    let source = parse_source(alloc, text)?;
+    Ok(set_apart(alloc, source)?)
+}
+
+/// What a text says as it is written. It rejects what [`parse`] does.
+pub fn parse_source(alloc: Global, text: &str) -> Result<Source, Trouble> {
     let tokens = lex(alloc, text)?;
     parse_tokens(alloc, &tokens, Place::end_of(text))
 }
@@ -36,27 +44,26 @@ pub fn parse_notes(alloc: Global, text: &str) -> Result<Vec<Note>, Trouble> {
 
 /// What the tokens of a text say. `end` is where the text ends.
 #[tactic(auto, using(crate::proofs::Gathered::gathered_each))]
-pub fn parse_tokens(alloc: Global, tokens: &[Token], end: Place) -> Result<File, Trouble>
-    ensures { IfOk result (λ file. signs tokens.now ≡ file_signs file) }
+pub fn parse_tokens(alloc: Global, tokens: &[Token], end: Place) -> Result<Source, Trouble>
+    ensures { IfOk result (λ source. signs tokens.now ≡ source_signs source) }
 {
     let mut left = Tokens::new(tokens, end);
-    let mut items = Vec::new(alloc);
+    let mut definitions = Vec::new(alloc);
     'more: while !left.is_empty() {
-        items.push(item(alloc, &mut left)?)?;
+        definitions.push(definition(alloc, &mut left)?)?;
     }
-    Ok(File {
-        items,
-        notes: Vec::new(alloc),
-    })
+    Ok(Source { definitions })
 }
 
-fn item(alloc: Global, tokens: &mut Tokens<'_>) -> Result<Item, Trouble>
-    ensures read { IfOk result (λ item. signs_left tokens.old ≡ item_then item (signs_left tokens.new)) }
+fn definition(alloc: Global, tokens: &mut Tokens<'_>) -> Result<Definition, Trouble>
+    ensures read { Reads definition_then tokens.old tokens.new result }
     ensures fewer { OnOk result (count_left tokens.new < count_left tokens.old) }
 {
     match tokens.mark() {
-        Some(Mark::Open | Mark::Enum) => Ok(Item::Enum(enums::enumeration(alloc, tokens)?)),
-        Some(Mark::Lent | Mark::Struct) => Ok(Item::Struct(structs::structure(alloc, tokens)?)),
-        _ => Ok(Item::Alias(fields::alias(alloc, tokens)?)),
+        Some(Mark::Open | Mark::Enum) => Ok(Definition::Enum(enums::enumeration(alloc, tokens)?)),
+        Some(Mark::Lent | Mark::DigitallySigned | Mark::Struct) => Ok(Definition::Struct(
+            structs::structure(alloc, tokens)?,
+        )),
+        _ => Ok(Definition::Alias(fields::alias(alloc, tokens)?)),
     }
 }

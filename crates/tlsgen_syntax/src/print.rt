@@ -1,27 +1,27 @@
-//! The text of a file in one layout.
+//! A text in one layout.
 
+use crate::source::{Definition, Signed, Source, SourcePart, SourceStruct, StructKind};
 use crate::syntax::{
-    Case, Constant, Enum, Field, File, Item, Label, Name, Number, Part, Select, Struct, Value,
-    Vector,
+    Case, Constant, Enum, Field, Label, Name, Number, Part, Select, Value, Vector,
 };
 use std::alloc::{AllocError, Global};
 
 const INDENT: &str = "    ";
 
-/// The text of a file: the items in their order, numbers in decimal, no comments.
-pub fn print(alloc: Global, file: &File) -> Result<String, AllocError> {
+/// The text of what one says: the definitions in their order, numbers in decimal, no comments.
+pub fn print(alloc: Global, source: &Source) -> Result<String, AllocError> {
     let mut out = String::new(alloc);
-    for item in &file.items {
-        print_item(&mut out, item)?;
+    for definition in &source.definitions {
+        print_definition(&mut out, definition)?;
     }
     Ok(out)
 }
 
-fn print_item(out: &mut String, item: &Item) -> Result<(), AllocError> {
-    match item {
-        Item::Enum(item) => print_enum(out, item),
-        Item::Struct(item) => print_struct(out, item),
-        Item::Alias(item) => print_field(out, item),
+fn print_definition(out: &mut String, definition: &Definition) -> Result<(), AllocError> {
+    match definition {
+        Definition::Enum(one) => print_enum(out, one),
+        Definition::Struct(one) => print_struct(out, one),
+        Definition::Alias(field) => print_field(out, field),
     }
 }
 
@@ -58,23 +58,60 @@ fn print_value(out: &mut String, value: &Value) -> Result<(), AllocError> {
     out.push_str(")")
 }
 
-fn print_struct(out: &mut String, item: &Struct) -> Result<(), AllocError> {
-    if item.is_lent {
-        out.push_str("lent ")?;
+fn print_struct(out: &mut String, one: &SourceStruct) -> Result<(), AllocError> {
+    out.push_str(match one.kind {
+        StructKind::Sent => "struct {\n",
+        StructKind::Lent => "lent struct {\n",
+        StructKind::Signed => "digitally-signed struct {\n",
+    })?;
+    for part in &one.parts {
+        print_source_part(out, part)?;
     }
-    out.push_str("struct {\n")?;
-    for part in &item.parts {
-        print_part(out, part)?;
-    }
-    let name = item.name.text.as_str();
+    let name = one.name.text.as_str();
     writeln!(out, "}} {name};")
 }
 
-fn print_part(out: &mut String, part: &Part) -> Result<(), AllocError> {
-    out.push_str(INDENT)?;
+fn print_source_part(out: &mut String, part: &SourcePart) -> Result<(), AllocError> {
+    match part {
+        SourcePart::Sent(part) => print_part(out, 1, part),
+        SourcePart::Signed(signed) => print_signed(out, signed),
+    }
+}
+
+fn print_signed(out: &mut String, signed: &Signed) -> Result<(), AllocError> {
+    print_indent(out, 1)?;
+    out.push_str("digitally-signed struct {\n")?;
+    for part in &signed.parts {
+        print_part(out, 2, part)?;
+    }
+    print_indent(out, 1)?;
+    out.push_str("}")?;
+    print_ending_name(out, signed.name.as_ref())?;
+    out.push_str(";\n")
+}
+
+// The blanks before what is so many structs and selects deep.
+fn print_indent(out: &mut String, depth: usize) -> Result<(), AllocError> {
+    for _ in 0..depth {
+        out.push_str(INDENT)?;
+    }
+    Ok(())
+}
+
+// A blank and the name behind a closing brace, if there is one.
+fn print_ending_name(out: &mut String, name: Option<&Name>) -> Result<(), AllocError> {
+    let Some(name) = name else {
+        return Ok(());
+    };
+    let name = name.text.as_str();
+    write!(out, " {name}")
+}
+
+fn print_part(out: &mut String, depth: usize, part: &Part) -> Result<(), AllocError> {
+    print_indent(out, depth)?;
     match part {
         Part::Field(field) => print_field(out, field),
-        Part::Select(select) => print_select(out, select),
+        Part::Select(select) => print_select(out, depth, select),
     }
 }
 
@@ -140,19 +177,16 @@ fn print_vector(out: &mut String, vector: &Vector) -> Result<(), AllocError> {
     }
 }
 
-fn print_select(out: &mut String, select: &Select) -> Result<(), AllocError> {
+fn print_select(out: &mut String, depth: usize, select: &Select) -> Result<(), AllocError> {
     out.push_str("select (")?;
     print_path(out, &select.path)?;
     out.push_str(") {\n")?;
     for case in &select.cases {
-        print_case(out, case)?;
+        print_case(out, depth.saturating_add(1), case)?;
     }
-    out.push_str(INDENT)?;
+    print_indent(out, depth)?;
     out.push_str("}")?;
-    if let Some(name) = &select.name {
-        let name = name.text.as_str();
-        write!(out, " {name}")?;
-    }
+    print_ending_name(out, select.name.as_ref())?;
     out.push_str(if select.ends_in_semicolon {
         ";\n"
     } else {
@@ -170,28 +204,27 @@ fn print_path(out: &mut String, path: &[Name]) -> Result<(), AllocError> {
     Ok(())
 }
 
-fn print_case(out: &mut String, case: &Case) -> Result<(), AllocError> {
+fn print_case(out: &mut String, depth: usize, case: &Case) -> Result<(), AllocError> {
     for label in &case.labels {
+        print_indent(out, depth)?;
         print_label(out, label)?;
     }
-    if case.fields.is_empty() {
-        out.push_str(INDENT)?;
-        out.push_str(INDENT)?;
-        out.push_str(INDENT)?;
+    print_case_fields(out, depth.saturating_add(1), &case.fields)
+}
+
+fn print_case_fields(out: &mut String, depth: usize, fields: &[Field]) -> Result<(), AllocError> {
+    if fields.is_empty() {
+        print_indent(out, depth)?;
         return out.push_str("struct {};\n");
     }
-    for field in &case.fields {
-        out.push_str(INDENT)?;
-        out.push_str(INDENT)?;
-        out.push_str(INDENT)?;
+    for field in fields {
+        print_indent(out, depth)?;
         print_field(out, field)?;
     }
     Ok(())
 }
 
 fn print_label(out: &mut String, label: &Label) -> Result<(), AllocError> {
-    out.push_str(INDENT)?;
-    out.push_str(INDENT)?;
     match label {
         Label::Name(name) => {
             let name = name.text.as_str();

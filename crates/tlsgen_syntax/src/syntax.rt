@@ -1,4 +1,4 @@
-//! What a text of the presentation language says.
+//! What a text of the presentation language says, with what is signed apart.
 
 use crate::refusal::Place;
 
@@ -26,7 +26,7 @@ pub struct Note {
 
 #[derive(Drop)]
 pub enum Said {
-    /// `Hash.length = 48`: so many bytes where an array has this name.
+    /// `Hash.length = 48`: so many bytes where an array has this name. `CredentialType.basic = 1`: a value of an integer type.
     Number(Number),
     /// `CertificateEntry.certificate_type = X509`: the only value of a tag that is elsewhere.
     Named(Name),
@@ -36,6 +36,10 @@ pub enum Said {
     Fills,
     /// `ExtensionType is open`: an enum keeps numbers without a name.
     Open,
+    /// `FramedContent is flat`: where a select's tag is in a struct, its fields stand in the place of the field of its type.
+    Flat,
+    /// `FramedContentTBS is lent`: a struct has references to its fields, and is only written.
+    Lent,
     /// `TLSInnerPlaintext left out`: nothing is made of a definition.
     LeftOut,
 }
@@ -76,10 +80,13 @@ pub struct Number {
     pub place: Place,
 }
 
-/// Fields and selects in a row. A lent one, `lent struct { .. }`, has references to its fields, and is only written.
+/// Fields and selects in a row. A lent one, `lent struct { .. }` or by a note, has references to its fields, and is only
+/// written.
 #[derive(Drop)]
 pub struct Struct {
     pub is_lent: bool,
+    /// A note calls it flat.
+    pub is_flat: bool,
     pub parts: Vec<Part>,
     pub name: Name,
 }

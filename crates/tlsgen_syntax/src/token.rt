@@ -26,6 +26,7 @@ pub enum TokenKind {
 #[derive(Clone, Copy, PartialEq)]
 pub enum Mark {
     Case,
+    DigitallySigned,
     Enum,
     Lent,
     Open,
@@ -55,6 +56,7 @@ impl Mark {
     {
         match self {
             Mark::Case => "case",
+            Mark::DigitallySigned => "digitally-signed",
             Mark::Enum => "enum",
             Mark::Lent => "lent",
             Mark::Open => "open",
@@ -84,6 +86,7 @@ impl Mark {
     {
         match word {
             "case" => Some(Mark::Case),
+            "digitally-signed" => Some(Mark::DigitallySigned),
             "enum" => Some(Mark::Enum),
             "lent" => Some(Mark::Lent),
             "open" => Some(Mark::Open),

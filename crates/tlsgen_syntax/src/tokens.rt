@@ -1,6 +1,6 @@
 //! The tokens of a text, taken from their front.
-ghost use Rattle.std.specs.Prelude.{◌≡◌, ◌==◌, ◌+◌, ◌<◌, ◌≤◌, ◌∷◌, length, codes, IfOk, IfSome, IfNone, MatchOption, OnOk, if◌then◌else◌};
-ghost use Rattle.tlsgen_syntax.specs.Signs.{count_left, flag_then, name_then, number_then, signs, signs_left, word_then};
+ghost use Rattle.std.specs.Prelude.{◌≡◌, ◌==◌, ◌+◌, ◌<◌, ◌∷◌, MatchOption, OnOk, if◌then◌else◌};
+ghost use Rattle.tlsgen_syntax.specs.Signs.{Reads, count_left, flag_then, name_then, number_then, signs, signs_left, word_then};
 ghost use Rattle.tlsgen_syntax.specs.Signs as sign;
 
 use crate::refusal::{Place, Trouble};
@@ -127,7 +127,7 @@ impl<'a> Tokens<'a> {
 
     /// Takes a word as a name, and rejects any other token.
     pub(crate) fn name(&mut self, alloc: Global, expected: &'static str) -> Result<Name, Trouble>
-        ensures read { IfOk result (λ name. signs_left self.old ≡ name_then name (signs_left self.new)) }
+        ensures read { Reads name_then self.old self.new result }
         ensures fewer { OnOk result (count_left self.new < count_left self.old) }
     {
         let Some((token, left)) = self.left.split_first() else {
@@ -152,7 +152,7 @@ impl<'a> Tokens<'a> {
         alloc: Global,
         expected: &'static str,
     ) -> Result<Number, Trouble>
-        ensures read { IfOk result (λ n. signs_left self.old ≡ number_then n (signs_left self.new)) }
+        ensures read { Reads number_then self.old self.new result }
         ensures fewer { OnOk result (count_left self.new < count_left self.old) }
     {
         match self.take_number() {

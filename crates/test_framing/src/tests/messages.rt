@@ -5,10 +5,7 @@ use framing_by_hand::{
     AuthenticatedContent, FramedContent, FramedContentAuthData, FramedContentBody, PublicMessage,
     Sender,
 };
-use mls_framing::{
-    AuthenticatedContentContentTypeData, Commit, MLSMessage, Proposal,
-    PublicMessageContentTypeData, SenderTypeData, WireFormatData,
-};
+use mls_framing::{Commit, ContentTypeData, MLSMessage, Proposal, WireFormatData};
 use std::alloc::Global;
 use std::fmt::Debug;
 use std::process::Abort;
@@ -34,10 +31,23 @@ where
     Ok(value)
 }
 
-// A body of a commit, as a written message has it.
-fn is_commit(rt: &impl Abort, body: &FramedContentBody<Proposal, Commit>, expected: &Commit) {
-    match body {
-        FramedContentBody::Commit(commit) => same(rt, &**commit, expected),
+// A content and what authenticates it, as a written message has them.
+fn is_commit(
+    rt: &impl Abort,
+    content: &FramedContent<Proposal, Commit>,
+    written: &mls_framing::FramedContent,
+) {
+    same(rt, &content.group_id, &written.group_id);
+    same(rt, content.epoch, written.epoch);
+    same(rt, &content.authenticated_data, &written.authenticated_data);
+    let mls_framing::Sender::Member(leaf_index) = &written.sender else {
+        panic!(rt; "another sender");
+    };
+    same(rt, content.sender, Sender::Member(*leaf_index));
+    match (&content.content, &written.content_type) {
+        (FramedContentBody::Commit(commit), ContentTypeData::Commit(expected)) => {
+            same(rt, &**commit, expected)
+        }
         _ => panic!(rt; "another content"),
     }
 }
@@ -45,11 +55,10 @@ fn is_commit(rt: &impl Abort, body: &FramedContentBody<Proposal, Commit>, expect
 fn is_auth(
     rt: &impl Abort,
     auth: &FramedContentAuthData,
-    signature: &VLBytes,
-    confirmation_tag: Option<&VLBytes>,
+    written: &mls_framing::FramedContentAuthData,
 ) {
-    same(rt, &auth.signature, signature);
-    same(rt, auth.confirmation_tag.as_ref(), confirmation_tag);
+    same(rt, &auth.signature, &written.signature);
+    same(rt, &auth.confirmation_tag, &written.confirmation_tag);
 }
 
 fn public_message(alloc: Global, bytes: &[u8]) -> Result<WireFormatData, Error> {
@@ -65,30 +74,9 @@ fn a_commit_in_a_public_message(rt: HostRuntime) -> Result<(), Fail> {
     let WireFormatData::MlsPublicMessage(written) = public_message(alloc, &COMMIT)? else {
         panic!(rt; "no public message");
     };
-    same(&rt, &message.content.group_id, &written.group_id);
-    same(&rt, message.content.epoch, written.epoch);
-    let SenderTypeData::Member {
-        leaf_index,
-        authenticated_data,
-        content_type,
-        membership_tag,
-    } = &written.sender_type
-    else {
-        panic!(rt; "another sender");
-    };
-    same(&rt, message.content.sender, Sender::Member(*leaf_index));
-    same(&rt, &message.content.authenticated_data, authenticated_data);
-    same(&rt, message.membership_tag.as_ref(), Some(membership_tag));
-    let PublicMessageContentTypeData::Commit {
-        commit,
-        signature,
-        confirmation_tag,
-    } = content_type
-    else {
-        panic!(rt; "another content");
-    };
-    is_commit(&rt, &message.content.content, commit);
-    is_auth(&rt, &message.auth, signature, Some(confirmation_tag));
+    is_commit(&rt, &message.content, &written.content);
+    is_auth(&rt, &message.auth, &written.auth);
+    same(&rt, &message.membership_tag, &written.membership_tag);
     Ok(())
 }
 
@@ -100,28 +88,19 @@ fn a_proposal_in_a_public_message(rt: HostRuntime) -> Result<(), Fail> {
     let WireFormatData::MlsPublicMessage(written) = public_message(alloc, &PROPOSAL)? else {
         panic!(rt; "no public message");
     };
-    let SenderTypeData::External {
-        sender_index,
-        content_type,
-        ..
-    } = &written.sender_type
-    else {
+    let mls_framing::Sender::External(sender_index) = &written.content.sender else {
         panic!(rt; "another sender");
     };
     same(&rt, message.content.sender, Sender::External(*sender_index));
     same(&rt, &message.membership_tag, &None);
-    let PublicMessageContentTypeData::Proposal {
-        proposal,
-        signature,
-    } = content_type
-    else {
-        panic!(rt; "another content");
-    };
-    match &message.content.content {
-        FramedContentBody::Proposal(found) => same(&rt, &**found, proposal),
+    same(&rt, &written.membership_tag, &None);
+    match (&message.content.content, &written.content.content_type) {
+        (FramedContentBody::Proposal(found), ContentTypeData::Proposal(expected)) => {
+            same(&rt, &**found, expected)
+        }
         _ => panic!(rt; "another content"),
     }
-    is_auth(&rt, &message.auth, signature, None);
+    is_auth(&rt, &message.auth, &written.auth);
     Ok(())
 }
 
@@ -132,18 +111,8 @@ fn an_authenticated_content(rt: HostRuntime) -> Result<(), Fail> {
     let found: AuthenticatedContent<Proposal, Commit> = comes_back(&rt, alloc, &bytes)?;
     let written: mls_framing::AuthenticatedContent = comes_back(&rt, alloc, &bytes)?;
     same(&rt, found.wire_format.0, written.wire_format.0);
-    same(&rt, &found.content.group_id, &written.group_id);
-    same(&rt, found.content.epoch, written.epoch);
-    let AuthenticatedContentContentTypeData::Commit {
-        commit,
-        signature,
-        confirmation_tag,
-    } = &written.content_type
-    else {
-        panic!(rt; "another content");
-    };
-    is_commit(&rt, &found.content.content, commit);
-    is_auth(&rt, &found.auth, signature, Some(confirmation_tag));
+    is_commit(&rt, &found.content, &written.content);
+    is_auth(&rt, &found.auth, &written.auth);
     Ok(())
 }
 

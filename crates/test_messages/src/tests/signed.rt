@@ -3,11 +3,10 @@ use crate::tests::each_call::is_written;
 use crate::tests::mls::{COMMIT, GROUP_INFO, KEY_PACKAGE, PRIVATE_MESSAGE};
 use crate::tests::same;
 use mls_framing::{
-    Commit, ConfirmedTranscriptHashInput, ContentTypeData, FramedContent, FramedContentBody,
-    FramedContentInGroup, FramedContentSender, FramedContentTBS, GroupContext, GroupInfo,
-    GroupInfoTBS, KeyPackage, KeyPackageTBS, LeafNode, LeafNodeOrigin, LeafNodeTBS,
-    LeafNodeTBSOrigin, MLSMessage, PrivateContentAAD, ProtocolVersionMls10, PublicMessage,
-    PublicMessageContentTypeData, Sender, SenderDataAAD, SenderTypeData, SignContent, WireFormat,
+    AuthenticatedContent, AuthenticatedContentTBM, Commit, ConfirmedTranscriptHashInput,
+    FramedContentTBS, GroupContext, GroupInfo, GroupInfoTBS, KeyPackage, KeyPackageTBS, LeafNode,
+    LeafNodeOrigin, LeafNodeTBS, LeafNodeTBSOrigin, MLSMessage, PrivateContentAAD,
+    ProtocolVersionMls10, PublicMessage, RefHashInput, SenderDataAAD, SignContent, WireFormat,
     WireFormatData,
 };
 use std::alloc::Global;
@@ -126,93 +125,95 @@ fn public_message(rt: &impl Abort, alloc: Global) -> Result<PublicMessage, Fail>
     Ok(message)
 }
 
-// What a commit's signature is over (section 6.1): it is a member's, in a public message that was read.
-fn is_content_written(
-    rt: &impl Abort,
-    alloc: Global,
-    message: &PublicMessage,
-    context: &GroupContext,
-) -> Result<(), Fail> {
-    let SenderTypeData::Member {
-        leaf_index,
-        authenticated_data,
-        content_type,
-        ..
-    } = &message.sender_type
-    else {
-        panic!(rt; "another sender");
-    };
-    let PublicMessageContentTypeData::Commit { commit, .. } = content_type else {
-        panic!(rt; "another content");
-    };
-    let body = FramedContentBody::Commit(commit);
-    let content = FramedContentInGroup { body, context };
-    let sender_type = FramedContentSender::Member {
-        leaf_index,
-        authenticated_data,
-        content,
-    };
-    let signed = FramedContentTBS {
+// What a signature is over (section 6.1), in a public message that was read. The context is the group's, if the sender is in it.
+fn signed_content<'a>(
+    message: &'a PublicMessage,
+    context: &'a Option<GroupContext>,
+) -> FramedContentTBS<'a> {
+    FramedContentTBS {
         version: &ProtocolVersionMls10::Mls10,
         wire_format: &WireFormat::MLS_PUBLIC_MESSAGE,
-        group_id: &message.group_id,
-        epoch: &message.epoch,
-        sender_type,
-    };
-    // The message up to its signature, and the group's context.
-    let context = part(rt, alloc, &GROUP_INFO, 4, 23, &[])?;
-    let expected = part(rt, alloc, &COMMIT, 0, 88, &context)?;
-    is_written(rt, alloc, &signed, &expected)
+        content: &message.content,
+        context,
+    }
 }
 
-// What the transcript's hash is over (section 8.2): the same up to the signature, but for the version, and then that.
-fn is_transcript_written(
-    rt: &impl Abort,
-    alloc: Global,
-    message: &PublicMessage,
-) -> Result<(), Fail> {
-    let SenderTypeData::Member {
-        leaf_index,
-        authenticated_data,
-        content_type,
-        ..
-    } = &message.sender_type
-    else {
-        panic!(rt; "another sender");
+// What the membership tag is over (section 6.2).
+fn authenticated_content<'a>(
+    message: &'a PublicMessage,
+    context: &'a Option<GroupContext>,
+) -> AuthenticatedContentTBM<'a> {
+    AuthenticatedContentTBM {
+        content_tbs: signed_content(message, context),
+        auth: &message.auth,
+    }
+}
+
+// What the reference of a proposal is the hash of (section 5.2).
+fn reference_input(alloc: Global, message: PublicMessage) -> Result<Vec<u8>, Error> {
+    let content = AuthenticatedContent {
+        wire_format: WireFormat::MLS_PUBLIC_MESSAGE,
+        content: message.content,
+        auth: message.auth,
     };
-    let PublicMessageContentTypeData::Commit {
-        commit,
-        signature,
-        ..
-    } = content_type
-    else {
-        panic!(rt; "another content");
-    };
-    let sender = Sender::Member(*leaf_index);
-    let content_type = ContentTypeData::Commit(commit);
-    let content = FramedContent {
-        group_id: &message.group_id,
-        epoch: &message.epoch,
-        sender: &sender,
-        authenticated_data,
-        content_type,
-    };
-    let hashed = ConfirmedTranscriptHashInput {
-        wire_format: &WireFormat::MLS_PUBLIC_MESSAGE,
-        content,
-        signature,
-    };
-    let expected = part(rt, alloc, &COMMIT, 2, 90, &[])?;
-    is_written(rt, alloc, &hashed, &expected)
+    let label = VLBytes::from_slice(alloc, b"MLS 1.0 Proposal Reference")?;
+    let value = VLBytes::new(content.tls_serialize_detached(alloc)?);
+    RefHashInput {
+        label: &label,
+        value: &value,
+    }
+    .tls_serialize_detached(alloc)
 }
 
 #[test]
 fn a_commit(rt: HostRuntime) -> Result<(), Fail> {
     let alloc = rt.alloc();
     let message = public_message(&rt, alloc)?;
-    let info = group_info(&rt, alloc)?;
-    is_content_written(&rt, alloc, &message, &info.group_context)?;
-    is_transcript_written(&rt, alloc, &message)
+    let context = Some(group_info(&rt, alloc)?.group_context);
+    // The message up to its signature, and the group's context; then what authenticates it.
+    let bytes = part(&rt, alloc, &GROUP_INFO, 4, 23, &[])?;
+    let signed = part(&rt, alloc, &COMMIT, 0, 88, &bytes)?;
+    is_written(&rt, alloc, &signed_content(&message, &context), &signed)?;
+    let tagged = part(&rt, alloc, &signed, 0, signed.len(), &COMMIT[88..92])?;
+    is_written(
+        &rt,
+        alloc,
+        &authenticated_content(&message, &context),
+        &tagged,
+    )?;
+    let without = signed_content(&message, &None).tls_serialize_detached(alloc);
+    same(
+        &rt,
+        without.err(),
+        Some(Error::EncodingError("value does not fit its context")),
+    );
+    Ok(())
+}
+
+// What the transcript's hash is over (section 8.2): the message up to its signature, but for the version, and then that.
+#[test]
+fn the_transcript_of_a_commit(rt: HostRuntime) -> Result<(), Fail> {
+    let alloc = rt.alloc();
+    let message = public_message(&rt, alloc)?;
+    let hashed = ConfirmedTranscriptHashInput {
+        wire_format: &WireFormat::MLS_PUBLIC_MESSAGE,
+        content: &message.content,
+        signature: &message.auth.signature,
+    };
+    let expected = part(&rt, alloc, &COMMIT, 2, 90, &[])?;
+    is_written(&rt, alloc, &hashed, &expected)
+}
+
+// The label, and the length of what follows the version up to the membership tag.
+#[test]
+fn the_reference_of_a_message(rt: HostRuntime) -> Result<(), Fail> {
+    let alloc = rt.alloc();
+    let mut expected = b"\x1aMLS 1.0 Proposal Reference\x40\x5a".to_vec(alloc)?;
+    let content = part(&rt, alloc, &COMMIT, 2, 92, &[])?;
+    expected.extend_from_slice(&content)?;
+    let found = reference_input(alloc, public_message(&rt, alloc)?)?;
+    same(&rt, found.as_slice(), expected.as_slice());
+    Ok(())
 }
 
 #[test]

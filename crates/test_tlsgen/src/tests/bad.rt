@@ -2,7 +2,7 @@
 use super::{refusal, same_at};
 use std::test::Fail;
 
-static BAD: [(&str, usize, usize, &str, &str); 83] = [
+static BAD: [(&str, usize, usize, &str, &str); 79] = [
     // types
     ("Foo A;", 1, 1, "Foo", "given by --with"),
     ("struct { Foo a; } A;", 1, 10, "Foo", "given by --with"),
@@ -275,13 +275,6 @@ static BAD: [(&str, usize, usize, &str, &str); 83] = [
         "no field of a case",
     ),
     (
-        "struct { uint8 t; W w; } B; struct { A a<V>; } W; struct { select (B.t) { case 1: uint8 a; } } A;",
-        1,
-        19,
-        "W",
-        "the tag itself",
-    ),
-    (
         "struct { uint8 t; } B; struct { select (B.t) { case 1: uint8 a; } } A; lent struct { A a; } C;",
         1,
         93,
@@ -370,18 +363,11 @@ static BAD: [(&str, usize, usize, &str, &str); 83] = [
     ("A B; B A;", 1, 3, "B", "contain itself"),
     // structs whose selects have their tags elsewhere
     (
-        "struct { uint8 t; A a<V>; } B; struct { select (B.t) { case 1: uint8 a; case 2: struct{}; } } A;",
-        1,
-        19,
-        "A",
-        "no vector or option",
-    ),
-    (
         "struct { uint8 t; uint8 u; select (B.u) { case 1: A a; case 2: struct{}; } } B; struct { select (B.t) { case 1: uint8 a; case 2: struct{}; } } A;",
         1,
         51,
         "A",
-        "the tag itself",
+        "unless the tag is above it",
     ),
     (
         "A C; struct { uint8 t; A a; } B; struct { select (B.t) { case 1: uint8 a; case 2: struct{}; } } A;",
@@ -417,21 +403,6 @@ static BAD: [(&str, usize, usize, &str, &str); 83] = [
         "lent struct {} L; struct { L l; } S;",
         1,
         28,
-        "L",
-        "a lent struct is only written",
-    ),
-    // the parts of a lent struct stand in one that isn't, and one of them is lent
-    (
-        "enum { a(1), b(2) } T; lent struct { uint8 x; } L; lent struct { L l; T t; } F; struct { F f; select (S.f.t) { case a: uint8 y; case b: struct{}; } } S;",
-        1,
-        66,
-        "L",
-        "a lent struct is only written",
-    ),
-    (
-        "enum { a(1), b(2) } T; lent struct { uint8 x; } L; lent struct { T t; select (F.t) { case a: L l; case b: struct{}; } } F; struct { F f; select (S.f.t) { case a: uint8 y; case b: struct{}; } } S;",
-        1,
-        94,
         "L",
         "a lent struct is only written",
     ),

@@ -3,7 +3,7 @@ use super::shown::show;
 use super::{made, same_at};
 use std::test::Fail;
 
-static ELSEWHERE: [(&str, &str); 8] = [
+static ELSEWHERE: [(&str, &str); 7] = [
     // a select on a tag of another struct, alone (RFC 8446, section 4.2.1)
     (
         "enum { a(1), b(2), (255) } T; struct { T t; uint8 x; } H; struct { select (H.t) { case a: uint8 y<0..255>; case b: uint8; } } S;",
@@ -18,11 +18,6 @@ static ELSEWHERE: [(&str, &str); 8] = [
     (
         "struct { uint16 v; } H; struct { uint8 a; select (H.v) { case 1: uint8 y; case 2: struct {}; } body; select (H.v) { case 7: uint8 q; } Last; } S;",
         "h.H: v u2,\nlast.Last for v u2 sum by 2:\n  Case7 CASE_7 7: q u1,\nv_data.VData for v u2 sum by 2:\n  Case1 CASE_1 1: y u1,\n  Case2 CASE_2 2:\ns.S for v u2: a u1, body VData*, v Last*,\n",
-    ),
-    // where the tag is at hand, the parts stand in place of the field
-    (
-        "enum { a(1), b(2) } T; struct { T t; uint8 x; } H; struct { select (H.t) { case a: uint8 y; case b: struct {}; } } P; struct { H h; P p; } S;",
-        "t.T values of 1: A 1 B 2\nh.H: t T, x u1,\ns.S by 1:\n  A A 1: x u1, y u1,\n  B B 2: x u1,\n",
     ),
     // one case alone: a constant, and the fields in the struct (RFC 6066, section 3)
     (

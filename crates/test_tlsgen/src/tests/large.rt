@@ -1,4 +1,5 @@
 // Texts that are long, or that would become long.
+use super::notes::read;
 use super::{expects, refusal, same};
 use std::alloc::{AllocError, Global};
 use std::test::Fail;
@@ -107,7 +108,7 @@ fn more_than_may_be_in_all(rt: HostRuntime) -> Result<(), Fail> {
     Ok(())
 }
 
-// The parts of a field that has the tag stand in its place.
+// The parts of a field that has the tag stand in its place, where its struct is flat.
 #[test]
 fn structs_in_structs(rt: HostRuntime) -> Result<(), Fail> {
     let alloc = rt.alloc();
@@ -116,7 +117,11 @@ fn structs_in_structs(rt: HostRuntime) -> Result<(), Fail> {
     let text = format!(in alloc;
         "struct {{ uint8 t; {few} }} A; struct {{ A a; {many} select (B.a.t) {{ case 1: struct {{}}; }} }} B;"
     )?;
-    let refusal = refusal(&rt, alloc, text.as_str());
-    expects(&rt, &refusal, "256 parts");
-    Ok(())
+    match read(alloc, text.as_str(), "A is flat;") {
+        Err(Trouble::Refused(refusal)) => {
+            expects(&rt, &refusal, "256 parts");
+            Ok(())
+        }
+        _ => panic!(rt; "not refused"),
+    }
 }

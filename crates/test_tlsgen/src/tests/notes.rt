@@ -10,7 +10,7 @@ use tlsgen_syntax::parser::{parse, parse_notes};
 use tlsgen_syntax::refusal::Trouble;
 
 // A text, its notes, and the plan.
-static NOTED: [(&str, &str, &str); 6] = [
+static NOTED: [(&str, &str, &str); 11] = [
     // a length of what follows (RFC 8446, section 4), and a struct that fills it
     (
         "enum { hello(1), done(5), finished(20), (255) } T; struct { uint16 v; uint8 x; } Hello; struct { opaque verify_data[Hash.length]; } Finished; struct { T t; uint24 length; select (H.t) { case hello: Hello; case finished: Finished; case done: struct {}; }; } H;",
@@ -41,12 +41,41 @@ static NOTED: [(&str, &str, &str); 6] = [
         "T is open; Inner left out;",
         "t.T open values of 1: A 1\ns.S: t T,\n",
     ),
+    // the parts of flat structs stand in place of the fields, where the tag is at hand
+    (
+        "enum { a(1), b(2) } T; struct { T t; uint8 x; } H; struct { select (H.t) { case a: uint8 y; case b: struct {}; } } P; struct { H h; P p; } S;",
+        "H is flat; P is flat;",
+        "t.T values of 1: A 1 B 2\nh.H: t T, x u1,\ns.S by 1:\n  A A 1: x u1, y u1,\n  B B 2: x u1,\n",
+    ),
+    (
+        "struct { select (H.t) { case 1: uint8 a; case 2: struct{}; } } R; struct { uint8 t; } H; struct { H h; R r; } S;",
+        "R is flat; H is flat;",
+        "h.H: t u1,\ns.S by 1:\n  Case1 CASE_1 1: a u1,\n  Case2 CASE_2 2:\n",
+    ),
+    // the enum of a lent struct is one of the same parts that isn't lent, or another's
+    (
+        "enum { a(1), b(2) } T; struct { select (H.t) { case a: uint8 y; case b: struct{}; } } R; struct { T t; } H; lent struct { uint8 x; H h; R r; } L; struct { uint8 x; H h; R r; } S; lent struct { uint8 z; H h; R r; } M;",
+        "R is flat; H is flat;",
+        "t.T values of 1: A 1 B 2\nh.H: t T,\nlent t_data.TData by 1:\n  A A 1: y u1,\n  B B 2:\nlent l.L: x u1, t TData,\nst_data.STData by 1:\n  A A 1: y u1,\n  B B 2:\ns.S: x u1, t STData,\nlent m.M: z u1, t STData,\n",
+    ),
+    // a registry's names, and a select on them
+    (
+        "uint16 CredentialType; struct { CredentialType credential_type; select (Credential.credential_type) { case basic: opaque identity<V>; case x509: uint8 certificates<V>; }; } Credential; struct { CredentialType kinds<V>; } C;",
+        "CredentialType.basic = 1; CredentialType.x509 = 2;",
+        "credential_type.CredentialType open values of 2: Basic 1 X509 2\ncredential.Credential by 2:\n  Basic BASIC 1: identity opaque<V>,\n  X509 X509 2: certificates u1<V>,\nc.C: kinds CredentialType<V>,\n",
+    ),
+    // a struct that is only written
+    (
+        "struct { uint8 a; opaque b<V>; } S;",
+        "S is lent;",
+        "lent s.S: a u1, b opaque<V>,\n",
+    ),
     // no notes
     ("struct {} A;", " // none", "a.A:\n"),
 ];
 
 // A text, its notes, the column and what was found and expected there.
-static REFUSED: [(&str, &str, usize, &str, &str); 16] = [
+static REFUSED: [(&str, &str, usize, &str, &str); 24] = [
     (
         "struct {} A;",
         "A.b counts rest;",
@@ -103,6 +132,39 @@ static REFUSED: [(&str, &str, usize, &str, &str); 16] = [
         "uint32",
         "1 or 2 bytes",
     ),
+    // the parts of a lent struct stand in one that isn't, and one of them is lent
+    (
+        "enum { a(1), b(2) } T; lent struct { uint8 x; } L; lent struct { L l; T t; } F; struct { F f; select (S.f.t) { case a: uint8 y; case b: struct{}; } } S;",
+        "F is flat;",
+        66,
+        "L",
+        "a lent struct is only written",
+    ),
+    (
+        "enum { a(1), b(2) } T; lent struct { uint8 x; } L; lent struct { T t; select (F.t) { case a: L l; case b: struct{}; } } F; struct { F f; select (S.f.t) { case a: uint8 y; case b: struct{}; } } S;",
+        "F is flat;",
+        94,
+        "L",
+        "a lent struct is only written",
+    ),
+    ("uint8 A;", "A.b = 256;", 1, "A", "that the type holds"),
+    ("uint8 A;", "A.b = 1; A.c = 1;", 10, "A", "no note above"),
+    ("uint8 A;", "A.b = 1; A.b = 2;", 10, "A", "no note above"),
+    ("enum { b(1) } A;", "A.b = 1;", 1, "A", "an integer type"),
+    (
+        "enum { a(1) } A;",
+        "A is flat;",
+        1,
+        "A",
+        "a struct of this text",
+    ),
+    (
+        "struct {} A;",
+        "A is round;",
+        6,
+        "round",
+        "open, flat or lent",
+    ),
     ("struct {} A;", "A is open;", 1, "A", "an enum"),
     ("struct {} A;", "B left out;", 1, "B", "a definition"),
     ("struct {} A;", "A.b left out;", 1, "A", "a definition"),
@@ -113,7 +175,7 @@ static REFUSED: [(&str, &str, usize, &str, &str); 16] = [
     ("struct {} A;", "A.b fills rest", 15, "", ";"),
 ];
 
-fn read(alloc: Global, text: &str, notes: &str) -> Result<Plan, Trouble> {
+pub fn read(alloc: Global, text: &str, notes: &str) -> Result<Plan, Trouble> {
     let mut file = parse(alloc, text)?;
     apply(alloc, &mut file, parse_notes(alloc, notes)?)?;
     plan_of(alloc, &[file]).map_err(|fault| fault.trouble)

@@ -73,6 +73,7 @@ proposal_or_ref.ProposalOrRef by 1:
   Proposal PROPOSAL 1: proposal Proposal,
   Reference REFERENCE 2: reference =ProposalRef,
 commit.Commit: proposals ProposalOrRef<V>, path UpdatePath?,
+sender_type.SenderType values of 1: Member 1 External 2 NewMemberProposal 3 NewMemberCommit 4
 sender.Sender by 1:
   Member MEMBER 1: leaf_index u4,
   External EXTERNAL 2: sender_index u4,
@@ -97,27 +98,10 @@ external_pub.ExternalPub: external_pub =HPKEPublicKey,
 required_capabilities.RequiredCapabilities: extension_types =ExtensionType<V>, proposal_types u2<V>, credential_types u2<V>,
 external_sender.ExternalSender: credential Credential, signature_key =SignaturePublicKey,
 wire_format.WireFormat values of 2: MlsPublicMessage 1 MlsPrivateMessage 2 MlsWelcome 3 MlsGroupInfo 4 MlsKeyPackage 5
-authenticated_content_content_type_data.AuthenticatedContentContentTypeData by 1:
-  Application APPLICATION 1: application_data opaque<V>, signature opaque<V>,
-  Proposal PROPOSAL 2: proposal Proposal, signature opaque<V>,
-  Commit COMMIT 3: commit Commit, signature opaque<V>, confirmation_tag =MAC,
-authenticated_content.AuthenticatedContent: wire_format WireFormat, group_id opaque<V>, epoch u8, sender Sender, authenticated_data opaque<V>, content_type AuthenticatedContentContentTypeData,
-public_message_content_type_data.PublicMessageContentTypeData by 1:
-  Application APPLICATION 1: application_data opaque<V>, signature opaque<V>,
-  Proposal PROPOSAL 2: proposal Proposal, signature opaque<V>,
-  Commit COMMIT 3: commit Commit, signature opaque<V>, confirmation_tag =MAC,
-sender_type_data.SenderTypeData by 1:
-  Member MEMBER 1: leaf_index u4, authenticated_data opaque<V>, content_type PublicMessageContentTypeData, membership_tag =MAC,
-  External EXTERNAL 2: sender_index u4, authenticated_data opaque<V>, content_type PublicMessageContentTypeData,
-  NewMemberCommit NEW_MEMBER_COMMIT 4: authenticated_data opaque<V>, content_type PublicMessageContentTypeData,
-  NewMemberProposal NEW_MEMBER_PROPOSAL 3: authenticated_data opaque<V>, content_type PublicMessageContentTypeData,
-public_message.PublicMessage: group_id opaque<V>, epoch u8, sender_type SenderTypeData,
-framed_content_tbs_sender_type_data.FramedContentTBSSenderTypeData by 1:
-  Member MEMBER 1: leaf_index u4, authenticated_data opaque<V>, content_type ContentTypeData, context GroupContext,
-  External EXTERNAL 2: sender_index u4, authenticated_data opaque<V>, content_type ContentTypeData,
-  NewMemberCommit NEW_MEMBER_COMMIT 4: authenticated_data opaque<V>, content_type ContentTypeData, context GroupContext,
-  NewMemberProposal NEW_MEMBER_PROPOSAL 3: authenticated_data opaque<V>, content_type ContentTypeData,
-framed_content_tbs.FramedContentTBS: version ProtocolVersion, wire_format WireFormat, group_id opaque<V>, epoch u8, sender_type FramedContentTBSSenderTypeData,
+framed_content_auth_data.FramedContentAuthData for content_type ContentType: signature opaque<V>, confirmation_tag =MAC for 3*,
+authenticated_content.AuthenticatedContent: wire_format WireFormat, content FramedContent, auth FramedContentAuthData*content.ContentType,
+public_message.PublicMessage: content FramedContent, auth FramedContentAuthData*content.ContentType, membership_tag =MAC for 1*content.SenderType,
+framed_content_tbs.FramedContentTBS: version ProtocolVersion, wire_format WireFormat, content FramedContent, context GroupContext for 1 4*content.SenderType,
 leaf_node_tbs_leaf_node_source_data.LeafNodeTBSLeafNodeSourceData by 1:
   KeyPackage KEY_PACKAGE 1: lifetime Lifetime, extensions Extension<V>,
   Update UPDATE 2: extensions Extension<V>, group_id opaque<V>, leaf_index u4,
@@ -130,4 +114,8 @@ wire_format_data.WireFormatData by 2:
   MlsGroupInfo MLS_GROUP_INFO 4: group_info GroupInfo,
   MlsKeyPackage MLS_KEY_PACKAGE 5: key_package KeyPackage,
 mls_message.MLSMessage: version ProtocolVersion, wire_format WireFormatData,
+ContentTypeData holds ContentType: its tag
+FramedContent holds ContentType: content_type
+FramedContent holds SenderType: sender
+Sender holds SenderType: its tag
 ";

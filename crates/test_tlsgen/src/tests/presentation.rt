@@ -1,24 +1,24 @@
 // What is read of a text, and what is printed of that.
-use super::{inputs, same, same_at};
+use super::{inputs, same, same_at, signed};
 use std::alloc::Global;
 use std::process::Abort;
 use std::test::Fail;
 use tlsgen_syntax::lexer::lex;
-use tlsgen_syntax::parser::parse;
+use tlsgen_syntax::parser::parse_source;
 use tlsgen_syntax::print::print;
 use tlsgen_syntax::refusal::{Refusal, Trouble};
-use tlsgen_syntax::syntax::File;
+use tlsgen_syntax::source::Source;
 
-fn file_of(rt: &impl Abort, alloc: Global, text: &str) -> File {
-    match parse(alloc, text) {
-        Ok(file) => file,
+fn source_of(rt: &impl Abort, alloc: Global, text: &str) -> Source {
+    match parse_source(alloc, text) {
+        Ok(source) => source,
         Err(Trouble::Refused(refusal)) => panic!(rt; "{refusal}"),
         Err(Trouble::Memory) => panic!(rt; "out of memory"),
     }
 }
 
 fn refusal_of(rt: &impl Abort, alloc: Global, text: &str) -> Refusal {
-    match parse(alloc, text) {
+    match parse_source(alloc, text) {
         Ok(_) => panic!(rt; "it parses"),
         Err(Trouble::Refused(refusal)) => refusal,
         Err(Trouble::Memory) => panic!(rt; "out of memory"),
@@ -48,13 +48,14 @@ fn what_is_printed_says_the_same(rt: HostRuntime) -> Result<(), Fail> {
         inputs::FRAMING,
         inputs::MLS,
         inputs::ALERT,
+        signed::TIMESTAMPS,
     ] {
-        let file = file_of(&rt, rt.alloc(), text);
-        let printed = print(rt.alloc(), &file)?;
+        let source = source_of(&rt, rt.alloc(), text);
+        let printed = print(rt.alloc(), &source)?;
         let signs = signs_of(&rt, rt.alloc(), text)?;
         let again = signs_of(&rt, rt.alloc(), &printed)?;
         same(&rt, signs.as_str(), again.as_str());
-        let again = file_of(&rt, rt.alloc(), &printed);
+        let again = source_of(&rt, rt.alloc(), &printed);
         let twice = print(rt.alloc(), &again)?;
         same(&rt, printed.as_str(), twice.as_str());
     }
@@ -65,7 +66,7 @@ fn what_is_printed_says_the_same(rt: HostRuntime) -> Result<(), Fail> {
 fn one_layout(rt: HostRuntime) -> Result<(), Fail> {
     let text =
         "enum{a(0x10),r(17..0x1f),(2^8-1)}A;open enum { b.1 ( 1 ) } B.2 ; lent struct{}E;opaque K<V>;optional<K>C[2];K D[A.b.c];// the end
-struct{A a=b;uint8 n=0x0a;C b={1,2};optional<C>c<0..2^16-1>;select(S.a.b){case a:case 7:uint8 x;K k[2];case y:K;case z:struct{};}select(S.a){}N;}S;";
+struct{A a=b;uint8 n=0x0a;C b={1,2};optional<C>c<0..2^16-1>;select(S.a.b){case a:case 7:uint8 x;K k[2];case y:K;case z:struct{};}select(S.a){}N;}S;digitally-signed struct{A a;}F;struct{digitally-signed struct{A a;select(a){case b:K;}s;}k;digitally-signed struct{};}G;";
     let want = "enum { a(16), r(17..31), (255) } A;
 open enum { b.1(1) } B.2;
 lent struct {
@@ -91,22 +92,36 @@ struct {
     select (S.a) {
     } N;
 } S;
+digitally-signed struct {
+    A a;
+} F;
+struct {
+    digitally-signed struct {
+        A a;
+        select (a) {
+            case b:
+                K;
+        } s;
+    } k;
+    digitally-signed struct {
+    };
+} G;
 ";
-    let file = file_of(&rt, rt.alloc(), text);
-    let printed = print(rt.alloc(), &file)?;
+    let source = source_of(&rt, rt.alloc(), text);
+    let printed = print(rt.alloc(), &source)?;
     same(&rt, printed.as_str(), want);
     Ok(())
 }
 
 // Texts that are refused, each with the place, what stands there, and what would be right.
-static BAD: [(&str, usize, usize, &str, &str); 37] = [
+static BAD: [(&str, usize, usize, &str, &str); 46] = [
     ("enum", 1, 5, "", "{"),
     (
         "{",
         1,
         1,
         "{",
-        "enum, open, struct, lent or the name of a type",
+        "enum, open, struct, lent, digitally-signed or the name of a type",
     ),
     ("\n  é", 2, 3, "é", "an ASCII character"),
     ("/* é */", 1, 4, "é", "an ASCII character"),
@@ -145,14 +160,14 @@ static BAD: [(&str, usize, usize, &str, &str); 37] = [
         1,
         9,
         ";",
-        "enum, open, struct, lent or the name of a type",
+        "enum, open, struct, lent, digitally-signed or the name of a type",
     ),
     (
         ";uint8 A;",
         1,
         1,
         ";",
-        "enum, open, struct, lent or the name of a type",
+        "enum, open, struct, lent, digitally-signed or the name of a type",
     ),
     ("uint8 struct;", 1, 7, "struct", "the new name of the type"),
     ("optional A b;", 1, 10, "A", "<"),
@@ -227,6 +242,64 @@ static BAD: [(&str, usize, usize, &str, &str); 37] = [
         "uint8",
         "}",
     ),
+    // signatures
+    ("digitally-signed opaque A;", 1, 18, "opaque", "struct"),
+    (
+        "struct { digitally-signed opaque a; } A;",
+        1,
+        27,
+        "opaque",
+        "struct",
+    ),
+    (
+        "struct { digitally-signed struct { uint8 a; } b c; } A;",
+        1,
+        47,
+        "b",
+        "the signature's name or ;",
+    ),
+    (
+        "struct { digitally-signed struct { digitally-signed struct {}; }; } A;",
+        1,
+        36,
+        "digitally-signed",
+        "the name of a type",
+    ),
+    (
+        "struct { select (A.a) { case a: digitally-signed struct {}; } } A;",
+        1,
+        33,
+        "digitally-signed",
+        "the name of a type",
+    ),
+    (
+        "lent digitally-signed struct {} A;",
+        1,
+        6,
+        "digitally-signed",
+        "struct",
+    ),
+    (
+        "uint8 digitally-signed;",
+        1,
+        7,
+        "digitally-signed",
+        "the new name of the type",
+    ),
+    (
+        "stream-ciphered struct {} A;",
+        1,
+        1,
+        "stream-ciphered",
+        "a name without a hyphen, or digitally-signed",
+    ),
+    (
+        "uint8 a-b;",
+        1,
+        7,
+        "a-b",
+        "a name without a hyphen, or digitally-signed",
+    ),
 ];
 
 #[test]
@@ -254,8 +327,8 @@ static COMMENTS: [(&str, &str); 6] = [
 #[test]
 fn comments(rt: HostRuntime) -> Result<(), Fail> {
     for (text, want) in &COMMENTS {
-        let file = file_of(&rt, rt.alloc(), text);
-        let printed = print(rt.alloc(), &file)?;
+        let source = source_of(&rt, rt.alloc(), text);
+        let printed = print(rt.alloc(), &source)?;
         same_at(&rt, *text, printed.as_str(), *want);
     }
     Ok(())
@@ -263,12 +336,12 @@ fn comments(rt: HostRuntime) -> Result<(), Fail> {
 
 #[test]
 fn numbers(rt: HostRuntime) -> Result<(), Fail> {
-    let file = file_of(
+    let source = source_of(
         &rt,
         rt.alloc(),
         "uint8 a<0x0A..2^64-1>; uint8 b<00..18446744073709551615>; uint8 c<7^2..5-5>;",
     );
-    let printed = print(rt.alloc(), &file)?;
+    let printed = print(rt.alloc(), &source)?;
     same(
         &rt,
         printed.as_str(),

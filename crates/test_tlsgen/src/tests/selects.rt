@@ -3,7 +3,7 @@ use super::shown::show;
 use super::{made, same_at};
 use std::test::Fail;
 
-static GOOD: [(&str, &str); 22] = [
+static GOOD: [(&str, &str); 20] = [
     // a tag in a struct, and a struct that is a tag and its select alone
     (
         "enum { a(1), b(2), (255) } T; struct { T t; select (S.t) { case a: uint8 y; case b: struct{}; } uint8 z; } S;",
@@ -74,11 +74,6 @@ static GOOD: [(&str, &str); 22] = [
         "struct { uint8 t; uint8 u; select (S.u) { case 1: uint8 a; case 2: struct{}; } select (S.t) { case 3: uint8 b; case 4: struct{}; } } S;",
         "u_data.UData by 1:\n  Case1 CASE_1 1: a u1,\n  Case2 CASE_2 2:\ns.S by 1:\n  Case3 CASE_3 3: u UData, b u1,\n  Case4 CASE_4 4: u UData,\n",
     ),
-    // a select whose tag is in another struct
-    (
-        "struct { select (H.t) { case 1: uint8 a; case 2: struct{}; } } R; struct { uint8 t; } H; struct { H h; R r; } S;",
-        "h.H: t u1,\ns.S by 1:\n  Case1 CASE_1 1: a u1,\n  Case2 CASE_2 2:\n",
-    ),
     // a constant of an open enum has a type of its own, once
     (
         "open enum { a(1), b(2), (65535) } E; struct { E e = b; E f = a; } S; struct { E e = b; E f; } T;",
@@ -92,11 +87,6 @@ static GOOD: [(&str, &str); 22] = [
     (
         "lent struct { uint8 x; } L; lent struct { L l; } M;",
         "lent l.L: x u1,\nlent m.M: l L,\n",
-    ),
-    // the enum of a lent struct is one of the same parts that isn't lent, or another's
-    (
-        "enum { a(1), b(2) } T; struct { select (H.t) { case a: uint8 y; case b: struct{}; } } R; struct { T t; } H; lent struct { uint8 x; H h; R r; } L; struct { uint8 x; H h; R r; } S; lent struct { uint8 z; H h; R r; } M;",
-        "t.T values of 1: A 1 B 2\nh.H: t T,\nlent t_data.TData by 1:\n  A A 1: y u1,\n  B B 2:\nlent l.L: x u1, t TData,\nst_data.STData by 1:\n  A A 1: y u1,\n  B B 2:\ns.S: x u1, t STData,\nlent m.M: z u1, t STData,\n",
     ),
     // bounds, after a length of as many bytes as the ceiling takes
     (

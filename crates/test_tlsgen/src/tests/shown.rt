@@ -1,6 +1,8 @@
 // A plan as a text that one reads: an alias, a message or a variant a line.
 use std::alloc::{AllocError, Global};
-use tlsgen_model::plan::{Body, Context, Element, Member, Plan, Shape, Type, Variant};
+use tlsgen_model::plan::{
+    Body, Context, Decided, Element, Holder, Member, Plan, Shape, Type, Variant,
+};
 
 pub fn show(alloc: Global, plan: &Plan) -> Result<String, AllocError> {
     let mut out = String::new(alloc);
@@ -20,7 +22,19 @@ pub fn show(alloc: Global, plan: &Plan) -> Result<String, AllocError> {
         }
         show_body(&mut out, &message.body)?;
     }
+    for holder in &plan.holders {
+        show_holder(&mut out, holder)?;
+    }
     Ok(out)
+}
+
+fn show_holder(out: &mut String, holder: &Holder) -> Result<(), AllocError> {
+    let (name, tag) = (holder.name.as_str(), holder.tag.as_str());
+    let member = match &holder.member {
+        Some(member) => member.as_str(),
+        None => "its tag",
+    };
+    writeln!(out, "{name} holds {tag}: {member}")
 }
 
 fn show_context(out: &mut String, context: &Context) -> Result<(), AllocError> {
@@ -89,12 +103,32 @@ fn show_members(out: &mut String, members: &[Member]) -> Result<(), AllocError> 
         let name = member.name.as_str();
         write!(out, " {name} ")?;
         show_type(out, &member.of)?;
-        if member.is_in_context {
-            out.push('*')?;
+        if let Some(numbers) = &member.present_for {
+            show_numbers(out, numbers)?;
         }
+        show_decided(out, &member.decided)?;
         out.push(',')?;
     }
     out.push('\n')
+}
+
+fn show_numbers(out: &mut String, numbers: &[u64]) -> Result<(), AllocError> {
+    out.push_str(" for")?;
+    for number in numbers {
+        write!(out, " {number}")?;
+    }
+    Ok(())
+}
+
+fn show_decided(out: &mut String, decided: &Decided) -> Result<(), AllocError> {
+    match decided {
+        Decided::Alone => Ok(()),
+        Decided::Outside => out.push('*'),
+        Decided::Before(before) => {
+            let (member, tag) = (before.member.as_str(), before.tag.as_str());
+            write!(out, "*{member}.{tag}")
+        }
+    }
 }
 
 fn show_type(out: &mut String, of: &Type) -> Result<(), AllocError> {

@@ -73,13 +73,13 @@ pub static MESSAGE: Kind = Kind {
     law: "$module$_meets",
 };
 
-/// One that a context decides, which the definitions call `c`.
+/// One that a context decides: the hole `c` is for what that stands for.
 pub static MESSAGE_IN_CONTEXT: Kind = Kind {
     rust: "$name$",
     plain: "$module$_plain",
     tree: "$module$_plain $v$",
-    format: "$module$_format_for c",
-    law: "$module$_meets_for c",
+    format: "$module$_format_for $c$",
+    law: "$module$_meets_for $c$",
 };
 
 // Those of other types have holes for the texts of these.
@@ -90,6 +90,15 @@ pub static OPTION: Kind = Kind {
     tree: "option_plain $plain$ $v$",
     format: "option_format $format$",
     law: "option_meets $law$",
+};
+
+/// One that is there for some numbers of a tag alone: no byte tells it.
+pub static PRESENT: Kind = Kind {
+    rust: "Option<$rust$>",
+    plain: "(option_plain $plain$)",
+    tree: "option_plain $plain$ $v$",
+    format: "present_format ($test$) $format$",
+    law: "present_meets ($test$) $law$",
 };
 
 pub static LIST: Kind = Kind {

@@ -1,6 +1,6 @@
 //! Enums.
 ghost use Rattle.std.specs.Prelude.{◌≡◌, ◌<◌, ◌≤◌, IfOk, OnOk};
-ghost use Rattle.tlsgen_syntax.specs.Signs.{count_left, enum_then, optional_name_then, range_end_then, separated_then, signs_left, value_then};
+ghost use Rattle.tlsgen_syntax.specs.Signs.{Reads, count_left, enum_then, optional_name_then, range_end_then, separated_then, signs_left, value_then};
 
 use crate::refusal::Trouble;
 use crate::syntax::{Enum, Name, Number, Value};
@@ -10,7 +10,7 @@ use std::alloc::Global;
 
 /// `["open"] "enum" "{" values "}" NAME ";"`
 pub(crate) fn enumeration(alloc: Global, tokens: &mut Tokens<'_>) -> Result<Enum, Trouble>
-    ensures read { IfOk result (λ e. signs_left tokens.old ≡ enum_then e (signs_left tokens.new)) }
+    ensures read { Reads enum_then tokens.old tokens.new result }
     ensures fewer { OnOk result (count_left tokens.new < count_left tokens.old) }
 {
     let is_open = tokens.take(Mark::Open);
@@ -44,7 +44,7 @@ fn values(alloc: Global, tokens: &mut Tokens<'_>) -> Result<Vec<Value>, Trouble>
 
 // `[NAME] "(" NUMBER [ ".." NUMBER ] ")"`
 fn value(alloc: Global, tokens: &mut Tokens<'_>) -> Result<Value, Trouble>
-    ensures read { IfOk result (λ value. signs_left tokens.old ≡ value_then value (signs_left tokens.new)) }
+    ensures read { Reads value_then tokens.old tokens.new result }
     ensures fewer { OnOk result (count_left tokens.new < count_left tokens.old) }
 {
     let name = value_name(alloc, tokens)?;
@@ -57,7 +57,7 @@ fn value(alloc: Global, tokens: &mut Tokens<'_>) -> Result<Value, Trouble>
 
 // `[ ".." NUMBER ]`
 fn range_end(alloc: Global, tokens: &mut Tokens<'_>) -> Result<Option<Number>, Trouble>
-    ensures read { IfOk result (λ last. signs_left tokens.old ≡ range_end_then last (signs_left tokens.new)) }
+    ensures read { Reads range_end_then tokens.old tokens.new result }
     ensures fewer { OnOk result (count_left tokens.new ≤ count_left tokens.old) }
 {
     if !tokens.take(Mark::Dots) {
@@ -69,8 +69,7 @@ fn range_end(alloc: Global, tokens: &mut Tokens<'_>) -> Result<Option<Number>, T
 
 // `[NAME]` before a parenthesis
 fn value_name(alloc: Global, tokens: &mut Tokens<'_>) -> Result<Option<Name>, Trouble>
-    ensures read { IfOk result (λ name. signs_left tokens.old ≡
-        optional_name_then name (signs_left tokens.new)) }
+    ensures read { Reads optional_name_then tokens.old tokens.new result }
     ensures fewer { OnOk result (count_left tokens.new ≤ count_left tokens.old) }
 {
     if tokens.mark() == Some(Mark::OpeningParenthesis) {

@@ -1,6 +1,6 @@
 //! Fields and aliases.
 ghost use Rattle.std.specs.Prelude.{◌≡◌, ◌<◌, ◌≤◌, ◌∷◌, IfOk, OnOk, true};
-ghost use Rattle.tlsgen_syntax.specs.Signs.{IsCalled, case_field_then, constant_then, constant_value_then, count_left, field_then, mark, number_then, separated_then, signs_left, type_then, typed_then, vector_then};
+ghost use Rattle.tlsgen_syntax.specs.Signs.{Reads, IsCalled, case_field_then, constant_then, constant_value_then, count_left, field_then, mark, number_then, separated_then, signs_left, type_then, typed_then, vector_then};
 
 use crate::parser::selects::path;
 use crate::refusal::Trouble;
@@ -11,8 +11,7 @@ use std::alloc::Global;
 
 /// `field ";"`
 pub(crate) fn field(alloc: Global, tokens: &mut Tokens<'_>) -> Result<Field, Trouble>
-    ensures read { IfOk result (λ field. signs_left tokens.old ≡
-        field_then field (signs_left tokens.new)) }
+    ensures read { Reads field_then tokens.old tokens.new result }
     ensures named { IfOk result (λ field. field.is_named ≡ true) }
     ensures fewer { OnOk result (count_left tokens.new < count_left tokens.old) }
 {
@@ -22,8 +21,7 @@ pub(crate) fn field(alloc: Global, tokens: &mut Tokens<'_>) -> Result<Field, Tro
 
 /// `field ";"` or, in a case, `type ";"`
 pub(crate) fn case_field(alloc: Global, tokens: &mut Tokens<'_>) -> Result<Field, Trouble>
-    ensures read { IfOk result (λ field. signs_left tokens.old ≡
-        case_field_then field (signs_left tokens.new)) }
+    ensures read { Reads case_field_then tokens.old tokens.new result }
     ensures named { IfOk result IsCalled }
     ensures fewer { OnOk result (count_left tokens.new < count_left tokens.old) }
 {
@@ -70,8 +68,7 @@ fn named_field(
 
 /// `type NAME vector ";"`
 pub(crate) fn alias(alloc: Global, tokens: &mut Tokens<'_>) -> Result<Field, Trouble>
-    ensures read { IfOk result (λ field. signs_left tokens.old ≡
-        field_then field (signs_left tokens.new)) }
+    ensures read { Reads field_then tokens.old tokens.new result }
     ensures named { IfOk result (λ field. field.is_named ≡ true) }
     ensures fewer { OnOk result (count_left tokens.new < count_left tokens.old) }
 {
@@ -80,7 +77,7 @@ pub(crate) fn alias(alloc: Global, tokens: &mut Tokens<'_>) -> Result<Field, Tro
         alloc,
         tokens,
         is_optional,
-        "enum, open, struct, lent or the name of a type",
+        "enum, open, struct, lent, digitally-signed or the name of a type",
     )?;
     let name = tokens.name(alloc, "the new name of the type")?;
     let vector = vector(alloc, tokens)?;
@@ -113,7 +110,7 @@ fn type_name(
     is_optional: bool,
     expected: &'static str,
 ) -> Result<Name, Trouble>
-    ensures read { IfOk result (λ of. signs_left tokens.old ≡ type_then is_optional of (signs_left tokens.new)) }
+    ensures read { Reads (type_then is_optional) tokens.old tokens.new result }
     ensures fewer { OnOk result (count_left tokens.new < count_left tokens.old) }
 {
     if !is_optional {
@@ -127,7 +124,7 @@ fn type_name(
 
 // `[ "[" length "]" | "<" bounds ">" ]`
 fn vector(alloc: Global, tokens: &mut Tokens<'_>) -> Result<Vector, Trouble>
-    ensures read { IfOk result (λ vector. signs_left tokens.old ≡ vector_then vector (signs_left tokens.new)) }
+    ensures read { Reads vector_then tokens.old tokens.new result }
     ensures fewer { OnOk result (count_left tokens.new ≤ count_left tokens.old) }
 {
     if tokens.take(Mark::OpeningBracket) {
@@ -177,8 +174,7 @@ fn bounds(alloc: Global, tokens: &mut Tokens<'_>) -> Result<Vector, Trouble>
 
 // `[ "=" value ]`
 fn constant(alloc: Global, tokens: &mut Tokens<'_>) -> Result<Option<Constant>, Trouble>
-    ensures read { IfOk result (λ constant. signs_left tokens.old ≡
-        constant_then constant (signs_left tokens.new)) }
+    ensures read { Reads constant_then tokens.old tokens.new result }
     ensures fewer { OnOk result (count_left tokens.new ≤ count_left tokens.old) }
 {
     if !tokens.take(Mark::Equals) {
@@ -190,8 +186,7 @@ fn constant(alloc: Global, tokens: &mut Tokens<'_>) -> Result<Option<Constant>, 
 
 // `NAME | NUMBER | "{" elements "}"`
 fn constant_value(alloc: Global, tokens: &mut Tokens<'_>) -> Result<Constant, Trouble>
-    ensures read { IfOk result (λ value. signs_left tokens.old ≡
-        constant_value_then value (signs_left tokens.new)) }
+    ensures read { Reads constant_value_then tokens.old tokens.new result }
     ensures fewer { OnOk result (count_left tokens.new < count_left tokens.old) }
 {
     if tokens.take(Mark::OpeningBrace) {

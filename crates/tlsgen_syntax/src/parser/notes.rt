@@ -1,6 +1,6 @@
 //! Notes.
-ghost use Rattle.std.specs.Prelude.{◌≡◌, ◌<◌, ◌∷◌, IfOk, OnOk};
-ghost use Rattle.tlsgen_syntax.specs.Signs.{count_left, mark, note_then, notes_signs, said_then, signs, signs_left, word};
+ghost use Rattle.std.specs.Prelude.{◌≡◌, ◌<◌, ◌∷◌, IfOk, OnOk, codes};
+ghost use Rattle.tlsgen_syntax.specs.Signs.{Reads, count_left, mark, note_then, notes_signs, said_then, signs, signs_left, word};
 
 use crate::parser::selects::path;
 use crate::refusal::{Place, Trouble};
@@ -24,7 +24,7 @@ pub(crate) fn notes(alloc: Global, tokens: &[Token], end: Place) -> Result<Vec<N
 
 // `path said ";"`
 fn note(alloc: Global, tokens: &mut Tokens<'_>) -> Result<Note, Trouble>
-    ensures read { IfOk result (λ note. signs_left tokens.old ≡ note_then note (signs_left tokens.new)) }
+    ensures read { Reads note_then tokens.old tokens.new result }
     ensures fewer { OnOk result (count_left tokens.new < count_left tokens.old) }
 {
     let path = path(alloc, tokens, "the name of a struct, or of a number")?;
@@ -33,9 +33,9 @@ fn note(alloc: Global, tokens: &mut Tokens<'_>) -> Result<Note, Trouble>
     Ok(Note { path, said })
 }
 
-// `"=" (NUMBER | NAME)`, `"counts" "rest"`, `"fills" "rest"`, `"is" "open"` or `"left" "out"`
+// `"=" (NUMBER | NAME)`, `"counts" "rest"`, `"fills" "rest"`, `"is" ("open" | "flat" | "lent")` or `"left" "out"`
 fn said(alloc: Global, tokens: &mut Tokens<'_>) -> Result<Said, Trouble>
-    ensures read { IfOk result (λ said. signs_left tokens.old ≡ said_then said (signs_left tokens.new)) }
+    ensures read { Reads said_then tokens.old tokens.new result }
     ensures fewer { OnOk result (count_left tokens.new < count_left tokens.old) }
 {
     if tokens.take(Mark::Equals) {
@@ -50,14 +50,29 @@ fn said(alloc: Global, tokens: &mut Tokens<'_>) -> Result<Said, Trouble>
         return Ok(Said::Fills);
     }
     if tokens.take_word("is") {
-        tokens.expect(alloc, Mark::Open, "open")?;
-        return Ok(Said::Open);
+        return kind(alloc, tokens);
     }
     if tokens.take_word("left") {
         expect_word(alloc, tokens, "out")?;
         return Ok(Said::LeftOut);
     }
     Err(tokens.refused(alloc, "., =, counts, fills, is or left"))
+}
+
+// `"open" | "flat" | "lent"`
+fn kind(alloc: Global, tokens: &mut Tokens<'_>) -> Result<Said, Trouble>
+    ensures read { IfOk result (λ said. word (codes "is") ∷ signs_left tokens.old ≡
+        said_then said (signs_left tokens.new)) }
+    ensures fewer { OnOk result (count_left tokens.new < count_left tokens.old) }
+{
+    if tokens.take_word("flat") {
+        return Ok(Said::Flat);
+    }
+    if tokens.take(Mark::Lent) {
+        return Ok(Said::Lent);
+    }
+    tokens.expect(alloc, Mark::Open, "open, flat or lent")?;
+    Ok(Said::Open)
 }
 
 // Takes this word, and rejects any other token.

@@ -1,6 +1,6 @@
 //! Selects and their cases.
 ghost use Rattle.std.specs.Prelude.{◌≡◌, ◌<◌, ◌≤◌, ◌∷◌, IfOk, OnOk};
-ghost use Rattle.tlsgen_syntax.specs.Signs.{case_fields_then, case_then, count_left, each_then, label_then, label_value_then, mark, name_then, optional_name_then, select_then, separated_then, signs_left};
+ghost use Rattle.tlsgen_syntax.specs.Signs.{Reads, case_fields_then, case_then, count_left, each_then, label_then, label_value_then, mark, name_then, optional_name_then, select_then, separated_then, signs_left};
 
 use crate::parser::fields::case_field;
 use crate::refusal::Trouble;
@@ -11,7 +11,7 @@ use std::alloc::Global;
 
 /// `"select" "(" path ")" "{" { case } "}" [ NAME ] [ ";" ]`
 pub(crate) fn select(alloc: Global, tokens: &mut Tokens<'_>) -> Result<Select, Trouble>
-    ensures read { IfOk result (λ s. signs_left tokens.old ≡ select_then s (signs_left tokens.new)) }
+    ensures read { Reads select_then tokens.old tokens.new result }
     ensures fewer { OnOk result (count_left tokens.new < count_left tokens.old) }
 {
     let place = tokens.place();
@@ -51,16 +51,15 @@ pub(crate) fn path(
     Ok(path)
 }
 
-// `[ NAME ]` before a semicolon: any other word begins the next field
-fn ending_name(alloc: Global, tokens: &mut Tokens<'_>) -> Result<Option<Name>, Trouble>
-    ensures read { IfOk result (λ name. signs_left tokens.old ≡
-        optional_name_then name (signs_left tokens.new)) }
+/// `[ NAME ]` before a semicolon: any other word begins the next field
+pub(crate) fn ending_name(alloc: Global, tokens: &mut Tokens<'_>) -> Result<Option<Name>, Trouble>
+    ensures read { Reads optional_name_then tokens.old tokens.new result }
     ensures fewer { OnOk result (count_left tokens.new ≤ count_left tokens.old) }
 {
     if !tokens.is_word_before(Mark::Semicolon) {
         return Ok(None);
     }
-    let name = tokens.name(alloc, "the select's name")?;
+    let name = tokens.name(alloc, "a name")?;
     Ok(Some(name))
 }
 
@@ -79,7 +78,7 @@ fn cases(alloc: Global, tokens: &mut Tokens<'_>) -> Result<Vec<Case>, Trouble>
 }
 
 fn case(alloc: Global, tokens: &mut Tokens<'_>) -> Result<Case, Trouble>
-    ensures read { IfOk result (λ c. signs_left tokens.old ≡ case_then c (signs_left tokens.new)) }
+    ensures read { Reads case_then tokens.old tokens.new result }
     ensures fewer { OnOk result (count_left tokens.new < count_left tokens.old) }
 {
     let labels = labels(alloc, tokens)?;
@@ -104,7 +103,7 @@ fn labels(alloc: Global, tokens: &mut Tokens<'_>) -> Result<Vec<Label>, Trouble>
 
 // `"case" label ":"`
 fn label(alloc: Global, tokens: &mut Tokens<'_>) -> Result<Label, Trouble>
-    ensures read { IfOk result (λ label. signs_left tokens.old ≡ label_then label (signs_left tokens.new)) }
+    ensures read { Reads label_then tokens.old tokens.new result }
     ensures fewer { OnOk result (count_left tokens.new < count_left tokens.old) }
 {
     tokens.expect(alloc, Mark::Case, "case or }")?;
@@ -115,8 +114,7 @@ fn label(alloc: Global, tokens: &mut Tokens<'_>) -> Result<Label, Trouble>
 
 // `NAME | NUMBER`
 fn label_value(alloc: Global, tokens: &mut Tokens<'_>) -> Result<Label, Trouble>
-    ensures read { IfOk result (λ label. signs_left tokens.old ≡
-        label_value_then label (signs_left tokens.new)) }
+    ensures read { Reads label_value_then tokens.old tokens.new result }
     ensures fewer { OnOk result (count_left tokens.new < count_left tokens.old) }
 {
     if let Some(number) = tokens.take_number() {

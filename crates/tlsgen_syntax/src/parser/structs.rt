@@ -1,31 +1,82 @@
 //! Structs.
-ghost use Rattle.std.specs.Prelude.{◌≡◌, ◌<◌, ◌∷◌, IfOk, OnOk};
-ghost use Rattle.tlsgen_syntax.specs.Signs.{count_left, each_then, mark, part_then, signs_left, struct_then};
+ghost use Rattle.std.specs.Prelude.{◌≡◌, ◌<◌, ◌≤◌, ◌∷◌, IfOk, OnOk};
+ghost use Rattle.tlsgen_syntax.specs.Signs.{Reads, count_left, each_then, kind_then, mark, part_then, signed_then, signs_left, source_part_then, source_struct_then};
 
 use crate::parser::fields::field;
-use crate::parser::selects::select;
+use crate::parser::selects::{ending_name, select};
 use crate::refusal::Trouble;
-use crate::syntax::{Part, Struct};
+use crate::source::{Signed, SourcePart, SourceStruct, StructKind};
+use crate::syntax::Part;
 use crate::token::Mark;
 use crate::tokens::Tokens;
 use std::alloc::Global;
 
-/// `["lent"] "struct" "{" { part } "}" NAME ";"`
-pub(crate) fn structure(alloc: Global, tokens: &mut Tokens<'_>) -> Result<Struct, Trouble>
-    ensures read { IfOk result (λ s. signs_left tokens.old ≡ struct_then s (signs_left tokens.new)) }
+/// `["lent" | "digitally-signed"] "struct" "{" { part | signature } "}" NAME ";"`
+pub(crate) fn structure(alloc: Global, tokens: &mut Tokens<'_>) -> Result<SourceStruct, Trouble>
+    ensures read { Reads source_struct_then tokens.old tokens.new result }
     ensures fewer { OnOk result (count_left tokens.new < count_left tokens.old) }
 {
-    let is_lent = tokens.take(Mark::Lent);
+    let kind = kind(tokens);
+    tokens.expect(alloc, Mark::Struct, "struct")?;
+    tokens.expect(alloc, Mark::OpeningBrace, "{")?;
+    let parts = source_parts(alloc, tokens)?;
+    let name = tokens.name(alloc, "the struct's name")?;
+    tokens.expect(alloc, Mark::Semicolon, ";")?;
+    Ok(SourceStruct { kind, parts, name })
+}
+
+// `["lent" | "digitally-signed"]`
+fn kind(tokens: &mut Tokens<'_>) -> StructKind
+    ensures read { signs_left tokens.old ≡ kind_then result (signs_left tokens.new) }
+    ensures fewer { count_left tokens.new ≤ count_left tokens.old }
+{
+    if tokens.take(Mark::Lent) {
+        return StructKind::Lent;
+    }
+    if tokens.take(Mark::DigitallySigned) {
+        return StructKind::Signed;
+    }
+    StructKind::Sent
+}
+
+// `{ part | signature } "}"`
+#[tactic(auto, using(crate::proofs::Gathered::gathered_each))]
+fn source_parts(alloc: Global, tokens: &mut Tokens<'_>) -> Result<Vec<SourcePart>, Trouble>
+    ensures read { IfOk result (λ parts. signs_left tokens.old ≡
+        each_then source_part_then parts.items (mark Mark.ClosingBrace ∷ signs_left tokens.new)) }
+    ensures fewer { OnOk result (count_left tokens.new < count_left tokens.old) }
+{
+    let mut parts = Vec::new(alloc);
+    'more: while !tokens.take(Mark::ClosingBrace) {
+        parts.push(source_part(alloc, tokens)?)?;
+    }
+    Ok(parts)
+}
+
+// A part or a signature
+fn source_part(alloc: Global, tokens: &mut Tokens<'_>) -> Result<SourcePart, Trouble>
+    ensures read { Reads source_part_then tokens.old tokens.new result }
+    ensures fewer { OnOk result (count_left tokens.new < count_left tokens.old) }
+{
+    if tokens.mark() == Some(Mark::DigitallySigned) {
+        return Ok(SourcePart::Signed(signature(alloc, tokens)?));
+    }
+    Ok(SourcePart::Sent(part(alloc, tokens)?))
+}
+
+// `"digitally-signed" "struct" "{" { part } "}" [ NAME ] ";"`
+fn signature(alloc: Global, tokens: &mut Tokens<'_>) -> Result<Signed, Trouble>
+    ensures read { Reads signed_then tokens.old tokens.new result }
+    ensures fewer { OnOk result (count_left tokens.new < count_left tokens.old) }
+{
+    let place = tokens.place();
+    tokens.expect(alloc, Mark::DigitallySigned, "digitally-signed")?;
     tokens.expect(alloc, Mark::Struct, "struct")?;
     tokens.expect(alloc, Mark::OpeningBrace, "{")?;
     let parts = parts(alloc, tokens)?;
-    let name = tokens.name(alloc, "the struct's name")?;
-    tokens.expect(alloc, Mark::Semicolon, ";")?;
-    Ok(Struct {
-        is_lent,
-        parts,
-        name,
-    })
+    let name = ending_name(alloc, tokens)?;
+    tokens.expect(alloc, Mark::Semicolon, "the signature's name or ;")?;
+    Ok(Signed { place, parts, name })
 }
 
 // `{ part } "}"`
@@ -44,7 +95,7 @@ fn parts(alloc: Global, tokens: &mut Tokens<'_>) -> Result<Vec<Part>, Trouble>
 
 // `field ";"` or a select
 fn part(alloc: Global, tokens: &mut Tokens<'_>) -> Result<Part, Trouble>
-    ensures read { IfOk result (λ part. signs_left tokens.old ≡ part_then part (signs_left tokens.new)) }
+    ensures read { Reads part_then tokens.old tokens.new result }
     ensures fewer { OnOk result (count_left tokens.new < count_left tokens.old) }
 {
     if tokens.mark() == Some(Mark::Select) {

@@ -1,0 +1,35 @@
+-- TimestampedEntryLogEntryTypeData: what it stands for, its format and its law.
+use Rattle.std.proofs.Common.{arith}
+use Rattle.std.specs.Prelude.{ℕ}
+use Rattle.tls_codec.specs.OwnMessages.{Tree, Number, Empty, Join, number_trees, Format, nothing_format, fields_format, bounded_bytes_format, Variants, no_variant, variant, tagged_format, MeetsLaws, MeetVariantLaws, nothing_meets, fields_meets, bounded_bytes_meets, no_variant_meets, variant_meets, tagged_meets}
+use Rattle.tls_codec.specs.Contents.{fixed_bytes_of}
+use Rattle.ct.specs.PreCert.{pre_cert_plain, pre_cert_format, pre_cert_meets}
+use Rattle.ct.specs.declared.timestamped_entry_log_entry_type_data.TimestampedEntryLogEntryTypeData.{TimestampedEntryLogEntryTypeData}
+use Rattle.ct.specs.declared.timestamped_entry_log_entry_type_data.TimestampedEntryLogEntryTypeData.TheVariants.{X509Entry, PrecertEntry}
+
+-- the tag of each case
+abbrev pub timestamped_entry_log_entry_type_data_tag : TimestampedEntryLogEntryTypeData → ℕ
+timestamped_entry_log_entry_type_data_tag (X509Entry a0) = 0
+timestamped_entry_log_entry_type_data_tag (PrecertEntry a0) = 1
+
+abbrev pub timestamped_entry_log_entry_type_data_plain : TimestampedEntryLogEntryTypeData → Tree
+timestamped_entry_log_entry_type_data_plain (X509Entry a0) = Join (Number 0) (Join (number_trees (fixed_bytes_of a0)) Empty)
+timestamped_entry_log_entry_type_data_plain (PrecertEntry a0) = Join (Number 1) (Join (pre_cert_plain a0) Empty)
+
+abbrev pub timestamped_entry_log_entry_type_data_variants : Variants
+timestamped_entry_log_entry_type_data_variants =
+    variant 0 (fields_format (bounded_bytes_format 3 1 16777215) nothing_format)
+    (variant 1 (fields_format pre_cert_format nothing_format)
+    no_variant)
+
+pub timestamped_entry_log_entry_type_data_variants_meet : MeetVariantLaws timestamped_entry_log_entry_type_data_variants
+timestamped_entry_log_entry_type_data_variants_meet =
+    variant_meets 0 (fields_meets (bounded_bytes_meets 3 1 16777215 (omega arith)) nothing_meets)
+    (variant_meets 1 (fields_meets pre_cert_meets nothing_meets)
+    no_variant_meets)
+
+abbrev pub timestamped_entry_log_entry_type_data_format : Format
+timestamped_entry_log_entry_type_data_format = tagged_format 2 timestamped_entry_log_entry_type_data_variants
+
+pub timestamped_entry_log_entry_type_data_meets : MeetsLaws timestamped_entry_log_entry_type_data_format
+timestamped_entry_log_entry_type_data_meets = tagged_meets 2 (omega arith) timestamped_entry_log_entry_type_data_variants_meet

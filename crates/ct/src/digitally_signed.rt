@@ -1,0 +1,84 @@
+//! [`DigitallySigned`].
+ghost use Rattle.std.specs.Prelude.{◌≡◌, ◌&&◌};
+ghost use Rattle.ct.specs.DigitallySigned.{digitally_signed_format, digitally_signed_meets, digitally_signed_plain};
+ghost use Rattle.ct.specs.declared.digitally_signed.DigitallySigned.{DigitallySigned};
+
+use crate::SignatureAndHashAlgorithm;
+use std::alloc::Global;
+use tls_codec::{
+    Deserialize, DeserializeBytes, Error, Lent, Serialize, Sink, Size, Source, TlsByteVecU16,
+};
+
+/// `DigitallySigned`.
+#[derive(PartialEq, Eq, Debug, Clone, Drop)]
+pub struct DigitallySigned {
+    /// `SignatureAndHashAlgorithm algorithm;`
+    pub algorithm: SignatureAndHashAlgorithm,
+    /// `opaque signature<0..2^16-1>;`
+    pub signature: TlsByteVecU16,
+}
+
+impl Size for DigitallySigned {
+    ghost plain = { digitally_signed_plain };
+
+    ghost format = { digitally_signed_format };
+
+    fn tls_serialized_len(&self) -> usize {
+        (Lent(&self.algorithm), Lent(&self.signature)).tls_serialized_len()
+    }
+
+    ghost lawful = { digitally_signed_meets };
+}
+
+impl Serialize for DigitallySigned {
+    fn tls_serialize<W: Sink>(&self, writer: &mut W) -> Result<usize, Error> {
+        (Lent(&self.algorithm), Lent(&self.signature)).tls_serialize(writer)
+    }
+
+    fn tls_serialize_into(&self, out: &mut Vec<u8>) -> Result<usize, Error> {
+        (Lent(&self.algorithm), Lent(&self.signature)).tls_serialize_into(out)
+    }
+}
+
+impl Deserialize for DigitallySigned {
+    ghost names = { ⟦<(SignatureAndHashAlgorithm, TlsByteVecU16) as Deserialize>⟧.names };
+
+    fn tls_deserialize<R: Source>(alloc: Global, src: &mut R) -> Result<DigitallySigned, Error> {
+        let (algorithm, signature) = <(SignatureAndHashAlgorithm, TlsByteVecU16)>::tls_deserialize(
+            alloc, src,
+        )?;
+        Ok(DigitallySigned {
+            algorithm,
+            signature,
+        })
+    }
+}
+
+impl DeserializeBytes for DigitallySigned {
+    ghost names = { ⟦<(SignatureAndHashAlgorithm, TlsByteVecU16) as DeserializeBytes>⟧.names };
+
+    fn tls_deserialize_bytes(
+        alloc: Global,
+        whole: &[u8],
+    ) -> Result<(DigitallySigned, &[u8]), Error> {
+        let ((algorithm, signature), rest) = <(
+            SignatureAndHashAlgorithm,
+            TlsByteVecU16,
+        )>::tls_deserialize_bytes(alloc, whole)?;
+        Ok((
+            DigitallySigned {
+                algorithm,
+                signature,
+            },
+            rest,
+        ))
+    }
+}
+
+/// Two are equal exactly where each field is.
+pub fn is_compared_by_its_fields()
+    ensures { (x y : DigitallySigned) →
+        ⟦<DigitallySigned as PartialEq>⟧.eq x y
+        ≡ (⟦<SignatureAndHashAlgorithm as PartialEq>⟧.eq x.algorithm y.algorithm
+        && ⟦<TlsByteVecU16 as PartialEq>⟧.eq x.signature y.signature) }
+{}

@@ -1,0 +1,131 @@
+//! [`LogEntry`].
+ghost use Rattle.std.specs.Prelude.{◌≡◌, IsTrue};
+ghost use Rattle.tls_codec.specs.OwnMessages.{no_variant_names, no_variant_source_names, tagged_names, tagged_source_names, variant_names, variant_source_names};
+ghost use Rattle.ct.specs.LogEntry.{log_entry_format, log_entry_meets, log_entry_plain, log_entry_tag};
+ghost use Rattle.ct.specs.declared.log_entry.LogEntry.{LogEntry};
+
+use crate::{PrecertChainEntry, X509ChainEntry};
+use std::alloc::Global;
+use tls_codec::{
+    Deserialize, DeserializeBytes, Error, Lent, Serialize, Sink, Size, Source, unknown_value,
+};
+
+const X509_ENTRY: u16 = 0;
+
+const PRECERT_ENTRY: u16 = 1;
+
+/// `LogEntryType entry_type` of `LogEntry`, and what comes after each.
+#[derive(PartialEq, Eq, Debug, Clone, Drop)]
+pub enum LogEntry {
+    /// `case x509_entry: X509ChainEntry;`
+    X509Entry(X509ChainEntry),
+    /// `case precert_entry: PrecertChainEntry;`
+    PrecertEntry(PrecertChainEntry),
+}
+
+impl Size for LogEntry {
+    ghost plain = { log_entry_plain };
+
+    ghost format = { log_entry_format };
+
+    fn tls_serialized_len(&self) -> usize {
+        match self {
+            LogEntry::X509Entry(x509_chain_entry) => (
+                X509_ENTRY,
+                Lent(x509_chain_entry),
+            ).tls_serialized_len(),
+            LogEntry::PrecertEntry(precert_chain_entry) => (
+                PRECERT_ENTRY,
+                Lent(precert_chain_entry),
+            ).tls_serialized_len(),
+        }
+    }
+
+    ghost lawful = { log_entry_meets };
+}
+
+impl Serialize for LogEntry {
+    fn tls_serialize<W: Sink>(&self, writer: &mut W) -> Result<usize, Error> {
+        match self {
+            LogEntry::X509Entry(x509_chain_entry) => (
+                X509_ENTRY,
+                Lent(x509_chain_entry),
+            ).tls_serialize(writer),
+            LogEntry::PrecertEntry(precert_chain_entry) => (
+                PRECERT_ENTRY,
+                Lent(precert_chain_entry),
+            ).tls_serialize(writer),
+        }
+    }
+
+    fn tls_serialize_into(&self, out: &mut Vec<u8>) -> Result<usize, Error> {
+        match self {
+            LogEntry::X509Entry(x509_chain_entry) => (
+                X509_ENTRY,
+                Lent(x509_chain_entry),
+            ).tls_serialize_into(out),
+            LogEntry::PrecertEntry(precert_chain_entry) => (
+                PRECERT_ENTRY,
+                Lent(precert_chain_entry),
+            ).tls_serialize_into(out),
+        }
+    }
+}
+
+impl Deserialize for LogEntry {
+    ghost names = { tagged_source_names 2
+        (variant_source_names 0 ⟦<X509ChainEntry as Deserialize>⟧.names
+        (variant_source_names 1 ⟦<PrecertChainEntry as Deserialize>⟧.names
+        no_variant_source_names)) };
+
+    fn tls_deserialize<R: Source>(alloc: Global, src: &mut R) -> Result<LogEntry, Error> {
+        let tag = u16::tls_deserialize(alloc, src)?;
+        match tag {
+            X509_ENTRY => {
+                let x509_chain_entry = X509ChainEntry::tls_deserialize(alloc, src)?;
+                Ok(LogEntry::X509Entry(x509_chain_entry))
+            }
+            PRECERT_ENTRY => {
+                let precert_chain_entry = PrecertChainEntry::tls_deserialize(alloc, src)?;
+                Ok(LogEntry::PrecertEntry(precert_chain_entry))
+            }
+            _ => Err(unknown_value(u64::from(tag))),
+        }
+    }
+}
+
+impl DeserializeBytes for LogEntry {
+    ghost names = { tagged_names 2
+        (variant_names 0 ⟦<X509ChainEntry as DeserializeBytes>⟧.names
+        (variant_names 1 ⟦<PrecertChainEntry as DeserializeBytes>⟧.names
+        no_variant_names)) };
+
+    fn tls_deserialize_bytes(alloc: Global, whole: &[u8]) -> Result<(LogEntry, &[u8]), Error> {
+        let (tag, rest) = u16::tls_deserialize_bytes(alloc, whole)?;
+        match tag {
+            X509_ENTRY => {
+                let (x509_chain_entry, rest) = X509ChainEntry::tls_deserialize_bytes(alloc, rest)?;
+                Ok((LogEntry::X509Entry(x509_chain_entry), rest))
+            }
+            PRECERT_ENTRY => {
+                let (precert_chain_entry, rest) = PrecertChainEntry::tls_deserialize_bytes(
+                    alloc, rest,
+                )?;
+                Ok((LogEntry::PrecertEntry(precert_chain_entry), rest))
+            }
+            _ => Err(unknown_value(u64::from(tag))),
+        }
+    }
+}
+
+/// Two are equal exactly where they are of one case, and each field is.
+pub fn is_compared_by_its_case()
+    ensures tag { (x y : LogEntry) →
+        IsTrue (⟦<LogEntry as PartialEq>⟧.eq x y) → log_entry_tag x ≡ log_entry_tag y }
+    ensures case_0 { (a0 b0 : _) →
+        ⟦<LogEntry as PartialEq>⟧.eq (LogEntry.X509Entry a0) (LogEntry.X509Entry b0)
+        ≡ ⟦<X509ChainEntry as PartialEq>⟧.eq a0 b0 }
+    ensures case_1 { (a0 b0 : _) →
+        ⟦<LogEntry as PartialEq>⟧.eq (LogEntry.PrecertEntry a0) (LogEntry.PrecertEntry b0)
+        ≡ ⟦<PrecertChainEntry as PartialEq>⟧.eq a0 b0 }
+{}

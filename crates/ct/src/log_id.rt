@@ -1,0 +1,61 @@
+//! [`LogID`].
+ghost use Rattle.std.specs.Prelude.{◌≡◌};
+ghost use Rattle.ct.specs.LogID.{log_id_format, log_id_meets, log_id_plain};
+ghost use Rattle.ct.specs.declared.log_id.LogID.{LogID};
+
+use std::alloc::Global;
+use tls_codec::{Deserialize, DeserializeBytes, Error, Serialize, Sink, Size, Source};
+
+/// `LogID`.
+#[derive(PartialEq, Eq, Debug, Clone, Drop)]
+pub struct LogID {
+    /// `opaque key_id[32];`
+    pub key_id: [u8; 32],
+}
+
+impl Size for LogID {
+    ghost plain = { log_id_plain };
+
+    ghost format = { log_id_format };
+
+    fn tls_serialized_len(&self) -> usize {
+        self.key_id.tls_serialized_len()
+    }
+
+    ghost lawful = { log_id_meets };
+}
+
+impl Serialize for LogID {
+    fn tls_serialize<W: Sink>(&self, writer: &mut W) -> Result<usize, Error> {
+        self.key_id.tls_serialize(writer)
+    }
+
+    fn tls_serialize_into(&self, out: &mut Vec<u8>) -> Result<usize, Error> {
+        self.key_id.tls_serialize_into(out)
+    }
+}
+
+impl Deserialize for LogID {
+    ghost names = { ⟦<[u8; 32] as Deserialize>⟧.names };
+
+    fn tls_deserialize<R: Source>(alloc: Global, src: &mut R) -> Result<LogID, Error> {
+        let key_id = <[u8; 32]>::tls_deserialize(alloc, src)?;
+        Ok(LogID { key_id })
+    }
+}
+
+impl DeserializeBytes for LogID {
+    ghost names = { ⟦<[u8; 32] as DeserializeBytes>⟧.names };
+
+    fn tls_deserialize_bytes(alloc: Global, whole: &[u8]) -> Result<(LogID, &[u8]), Error> {
+        let (key_id, rest) = <[u8; 32]>::tls_deserialize_bytes(alloc, whole)?;
+        Ok((LogID { key_id }, rest))
+    }
+}
+
+/// Two are equal exactly where each field is.
+pub fn is_compared_by_its_fields()
+    ensures { (x y : LogID) →
+        ⟦<LogID as PartialEq>⟧.eq x y
+        ≡ ⟦<[u8; 32] as PartialEq>⟧.eq x.key_id y.key_id }
+{}

@@ -1,0 +1,93 @@
+//! [`MerkleLeafType`].
+ghost use Rattle.std.specs.Prelude.{◌≡◌, MatchOption, false, nat_eq};
+ghost use Rattle.tls_codec.specs.OwnMessages.{values_names, values_source_names};
+ghost use Rattle.ct.specs.MerkleLeafType.{merkle_leaf_type_code, merkle_leaf_type_format, merkle_leaf_type_has, merkle_leaf_type_meets, merkle_leaf_type_plain};
+ghost use Rattle.ct.specs.declared.merkle_leaf_type.MerkleLeafType.{MerkleLeafType};
+
+use std::alloc::Global;
+use tls_codec::{
+    Deserialize, DeserializeBytes, Error, Serialize, Sink, Size, Source, unknown_value,
+};
+
+/// `MerkleLeafType`.
+#[derive(PartialEq, Eq, Debug, Clone, Copy)]
+pub enum MerkleLeafType {
+    /// `timestamped_entry(0)`
+    TimestampedEntry,
+}
+
+impl MerkleLeafType {
+    /// Its number.
+    pub fn code(&self) -> u8
+        ensures { result ≡ merkle_leaf_type_code self.now }
+    {
+        0
+    }
+
+    /// The value that has this number.
+    pub fn of_code(code: u8) -> Option<MerkleLeafType>
+        ensures { MatchOption result (merkle_leaf_type_has code ≡ false)
+            (λ v. merkle_leaf_type_code v ≡ code) }
+    {
+        match code {
+            0 => Some(MerkleLeafType::TimestampedEntry),
+            _ => None,
+        }
+    }
+}
+
+impl Size for MerkleLeafType {
+    ghost plain = { merkle_leaf_type_plain };
+
+    ghost format = { merkle_leaf_type_format };
+
+    fn tls_serialized_len(&self) -> usize {
+        1
+    }
+
+    ghost lawful = { merkle_leaf_type_meets };
+}
+
+impl Serialize for MerkleLeafType {
+    fn tls_serialize<W: Sink>(&self, writer: &mut W) -> Result<usize, Error> {
+        self.code().tls_serialize(writer)
+    }
+
+    fn tls_serialize_into(&self, out: &mut Vec<u8>) -> Result<usize, Error> {
+        self.code().tls_serialize_into(out)
+    }
+}
+
+impl Deserialize for MerkleLeafType {
+    ghost names = { values_source_names 1 merkle_leaf_type_has };
+
+    fn tls_deserialize<R: Source>(alloc: Global, src: &mut R) -> Result<MerkleLeafType, Error> {
+        let tag = u8::tls_deserialize(alloc, src)?;
+        match MerkleLeafType::of_code(tag) {
+            Some(value) => Ok(value),
+            None => Err(unknown_value(u64::from(tag))),
+        }
+    }
+}
+
+impl DeserializeBytes for MerkleLeafType {
+    ghost names = { values_names 1 merkle_leaf_type_has };
+
+    fn tls_deserialize_bytes(
+        alloc: Global,
+        whole: &[u8],
+    ) -> Result<(MerkleLeafType, &[u8]), Error> {
+        let (tag, rest) = u8::tls_deserialize_bytes(alloc, whole)?;
+        match MerkleLeafType::of_code(tag) {
+            Some(value) => Ok((value, rest)),
+            None => Err(unknown_value(u64::from(tag))),
+        }
+    }
+}
+
+/// Two are equal exactly where their numbers are.
+pub fn is_compared_by_its_number()
+    ensures { (x y : MerkleLeafType) →
+        ⟦<MerkleLeafType as PartialEq>⟧.eq x y
+        ≡ nat_eq (merkle_leaf_type_code x) (merkle_leaf_type_code y) }
+{}

@@ -1,0 +1,105 @@
+//! [`MerkleTreeLeaf`].
+ghost use Rattle.std.specs.Prelude.{◌≡◌, ◌&&◌};
+ghost use Rattle.ct.specs.MerkleTreeLeaf.{merkle_tree_leaf_format, merkle_tree_leaf_meets, merkle_tree_leaf_plain};
+ghost use Rattle.ct.specs.declared.merkle_tree_leaf.MerkleTreeLeaf.{MerkleTreeLeaf};
+
+use crate::{MerkleLeafType, TimestampedEntry, Version};
+use std::alloc::Global;
+use tls_codec::{Deserialize, DeserializeBytes, Error, Lent, Serialize, Sink, Size, Source};
+
+/// `MerkleTreeLeaf`.
+#[derive(PartialEq, Eq, Debug, Clone, Drop)]
+pub struct MerkleTreeLeaf {
+    /// `Version version;`
+    pub version: Version,
+    /// `MerkleLeafType leaf_type;`
+    pub leaf_type: MerkleLeafType,
+    /// `TimestampedEntry;`
+    pub timestamped_entry: TimestampedEntry,
+}
+
+impl Size for MerkleTreeLeaf {
+    ghost plain = { merkle_tree_leaf_plain };
+
+    ghost format = { merkle_tree_leaf_format };
+
+    fn tls_serialized_len(&self) -> usize {
+        (
+            Lent(&self.version),
+            Lent(&self.leaf_type),
+            Lent(&self.timestamped_entry),
+        )
+            .tls_serialized_len()
+    }
+
+    ghost lawful = { merkle_tree_leaf_meets };
+}
+
+impl Serialize for MerkleTreeLeaf {
+    fn tls_serialize<W: Sink>(&self, writer: &mut W) -> Result<usize, Error> {
+        (
+            Lent(&self.version),
+            Lent(&self.leaf_type),
+            Lent(&self.timestamped_entry),
+        )
+            .tls_serialize(writer)
+    }
+
+    fn tls_serialize_into(&self, out: &mut Vec<u8>) -> Result<usize, Error> {
+        (
+            Lent(&self.version),
+            Lent(&self.leaf_type),
+            Lent(&self.timestamped_entry),
+        )
+            .tls_serialize_into(out)
+    }
+}
+
+impl Deserialize for MerkleTreeLeaf {
+    ghost names = { ⟦<(Version, MerkleLeafType, TimestampedEntry) as Deserialize>⟧.names };
+
+    fn tls_deserialize<R: Source>(alloc: Global, src: &mut R) -> Result<MerkleTreeLeaf, Error> {
+        let (version, leaf_type, timestamped_entry) = <(
+            Version,
+            MerkleLeafType,
+            TimestampedEntry,
+        )>::tls_deserialize(alloc, src)?;
+        Ok(MerkleTreeLeaf {
+            version,
+            leaf_type,
+            timestamped_entry,
+        })
+    }
+}
+
+impl DeserializeBytes for MerkleTreeLeaf {
+    ghost names = { ⟦<(Version, MerkleLeafType, TimestampedEntry) as DeserializeBytes>⟧.names };
+
+    fn tls_deserialize_bytes(
+        alloc: Global,
+        whole: &[u8],
+    ) -> Result<(MerkleTreeLeaf, &[u8]), Error> {
+        let ((version, leaf_type, timestamped_entry), rest) = <(
+            Version,
+            MerkleLeafType,
+            TimestampedEntry,
+        )>::tls_deserialize_bytes(alloc, whole)?;
+        Ok((
+            MerkleTreeLeaf {
+                version,
+                leaf_type,
+                timestamped_entry,
+            },
+            rest,
+        ))
+    }
+}
+
+/// Two are equal exactly where each field is.
+pub fn is_compared_by_its_fields()
+    ensures { (x y : MerkleTreeLeaf) →
+        ⟦<MerkleTreeLeaf as PartialEq>⟧.eq x y
+        ≡ (⟦<Version as PartialEq>⟧.eq x.version y.version
+        && (⟦<MerkleLeafType as PartialEq>⟧.eq x.leaf_type y.leaf_type
+        && ⟦<TimestampedEntry as PartialEq>⟧.eq x.timestamped_entry y.timestamped_entry)) }
+{}

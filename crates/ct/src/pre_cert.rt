@@ -1,0 +1,79 @@
+//! [`PreCert`].
+ghost use Rattle.std.specs.Prelude.{◌≡◌, ◌&&◌};
+ghost use Rattle.ct.specs.PreCert.{pre_cert_format, pre_cert_meets, pre_cert_plain};
+ghost use Rattle.ct.specs.declared.pre_cert.PreCert.{PreCert};
+
+use crate::TBSCertificate;
+use std::alloc::Global;
+use tls_codec::{Deserialize, DeserializeBytes, Error, Lent, Serialize, Sink, Size, Source};
+
+/// `PreCert`.
+#[derive(PartialEq, Eq, Debug, Clone, Drop)]
+pub struct PreCert {
+    /// `opaque issuer_key_hash[32];`
+    pub issuer_key_hash: [u8; 32],
+    /// `TBSCertificate tbs_certificate;`
+    pub tbs_certificate: TBSCertificate,
+}
+
+impl Size for PreCert {
+    ghost plain = { pre_cert_plain };
+
+    ghost format = { pre_cert_format };
+
+    fn tls_serialized_len(&self) -> usize {
+        (Lent(&self.issuer_key_hash), Lent(&self.tbs_certificate)).tls_serialized_len()
+    }
+
+    ghost lawful = { pre_cert_meets };
+}
+
+impl Serialize for PreCert {
+    fn tls_serialize<W: Sink>(&self, writer: &mut W) -> Result<usize, Error> {
+        (Lent(&self.issuer_key_hash), Lent(&self.tbs_certificate)).tls_serialize(writer)
+    }
+
+    fn tls_serialize_into(&self, out: &mut Vec<u8>) -> Result<usize, Error> {
+        (Lent(&self.issuer_key_hash), Lent(&self.tbs_certificate)).tls_serialize_into(out)
+    }
+}
+
+impl Deserialize for PreCert {
+    ghost names = { ⟦<([u8; 32], TBSCertificate) as Deserialize>⟧.names };
+
+    fn tls_deserialize<R: Source>(alloc: Global, src: &mut R) -> Result<PreCert, Error> {
+        let (issuer_key_hash, tbs_certificate) = <([u8; 32], TBSCertificate)>::tls_deserialize(
+            alloc, src,
+        )?;
+        Ok(PreCert {
+            issuer_key_hash,
+            tbs_certificate,
+        })
+    }
+}
+
+impl DeserializeBytes for PreCert {
+    ghost names = { ⟦<([u8; 32], TBSCertificate) as DeserializeBytes>⟧.names };
+
+    fn tls_deserialize_bytes(alloc: Global, whole: &[u8]) -> Result<(PreCert, &[u8]), Error> {
+        let ((issuer_key_hash, tbs_certificate), rest) = <(
+            [u8; 32],
+            TBSCertificate,
+        )>::tls_deserialize_bytes(alloc, whole)?;
+        Ok((
+            PreCert {
+                issuer_key_hash,
+                tbs_certificate,
+            },
+            rest,
+        ))
+    }
+}
+
+/// Two are equal exactly where each field is.
+pub fn is_compared_by_its_fields()
+    ensures { (x y : PreCert) →
+        ⟦<PreCert as PartialEq>⟧.eq x y
+        ≡ (⟦<[u8; 32] as PartialEq>⟧.eq x.issuer_key_hash y.issuer_key_hash
+        && ⟦<TBSCertificate as PartialEq>⟧.eq x.tbs_certificate y.tbs_certificate) }
+{}

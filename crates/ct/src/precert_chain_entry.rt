@@ -1,0 +1,97 @@
+//! [`PrecertChainEntry`].
+ghost use Rattle.std.specs.Prelude.{◌≡◌, ◌&&◌};
+ghost use Rattle.ct.specs.PrecertChainEntry.{precert_chain_entry_format, precert_chain_entry_meets, precert_chain_entry_plain};
+ghost use Rattle.ct.specs.declared.precert_chain_entry.PrecertChainEntry.{PrecertChainEntry};
+
+use crate::ASN1Cert;
+use std::alloc::Global;
+use tls_codec::{
+    Deserialize, DeserializeBytes, Error, Lent, Serialize, Sink, Size, Source, TlsVecU24,
+};
+
+/// `PrecertChainEntry`.
+#[derive(PartialEq, Eq, Debug, Clone, Drop)]
+pub struct PrecertChainEntry {
+    /// `ASN.1Cert pre_certificate;`
+    pub pre_certificate: ASN1Cert,
+    /// `ASN.1Cert precertificate_chain<0..2^24-1>;`
+    pub precertificate_chain: TlsVecU24<ASN1Cert>,
+}
+
+impl Size for PrecertChainEntry {
+    ghost plain = { precert_chain_entry_plain };
+
+    ghost format = { precert_chain_entry_format };
+
+    fn tls_serialized_len(&self) -> usize {
+        (
+            Lent(&self.pre_certificate),
+            Lent(&self.precertificate_chain),
+        )
+            .tls_serialized_len()
+    }
+
+    ghost lawful = { precert_chain_entry_meets };
+}
+
+impl Serialize for PrecertChainEntry {
+    fn tls_serialize<W: Sink>(&self, writer: &mut W) -> Result<usize, Error> {
+        (
+            Lent(&self.pre_certificate),
+            Lent(&self.precertificate_chain),
+        )
+            .tls_serialize(writer)
+    }
+
+    fn tls_serialize_into(&self, out: &mut Vec<u8>) -> Result<usize, Error> {
+        (
+            Lent(&self.pre_certificate),
+            Lent(&self.precertificate_chain),
+        )
+            .tls_serialize_into(out)
+    }
+}
+
+impl Deserialize for PrecertChainEntry {
+    ghost names = { ⟦<(ASN1Cert, TlsVecU24<ASN1Cert>) as Deserialize>⟧.names };
+
+    fn tls_deserialize<R: Source>(alloc: Global, src: &mut R) -> Result<PrecertChainEntry, Error> {
+        let (pre_certificate, precertificate_chain) = <(
+            ASN1Cert,
+            TlsVecU24<ASN1Cert>,
+        )>::tls_deserialize(alloc, src)?;
+        Ok(PrecertChainEntry {
+            pre_certificate,
+            precertificate_chain,
+        })
+    }
+}
+
+impl DeserializeBytes for PrecertChainEntry {
+    ghost names = { ⟦<(ASN1Cert, TlsVecU24<ASN1Cert>) as DeserializeBytes>⟧.names };
+
+    fn tls_deserialize_bytes(
+        alloc: Global,
+        whole: &[u8],
+    ) -> Result<(PrecertChainEntry, &[u8]), Error> {
+        let ((pre_certificate, precertificate_chain), rest) = <(
+            ASN1Cert,
+            TlsVecU24<ASN1Cert>,
+        )>::tls_deserialize_bytes(alloc, whole)?;
+        Ok((
+            PrecertChainEntry {
+                pre_certificate,
+                precertificate_chain,
+            },
+            rest,
+        ))
+    }
+}
+
+/// Two are equal exactly where each field is.
+pub fn is_compared_by_its_fields()
+    ensures { (x y : PrecertChainEntry) →
+        ⟦<PrecertChainEntry as PartialEq>⟧.eq x y
+        ≡ (⟦<ASN1Cert as PartialEq>⟧.eq x.pre_certificate y.pre_certificate
+        && ⟦<TlsVecU24<ASN1Cert> as PartialEq>⟧.eq x.precertificate_chain y.precertificate_chain) }
+{}

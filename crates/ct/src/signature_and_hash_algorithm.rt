@@ -1,0 +1,74 @@
+//! [`SignatureAndHashAlgorithm`].
+ghost use Rattle.std.specs.Prelude.{◌≡◌, ◌&&◌};
+ghost use Rattle.ct.specs.SignatureAndHashAlgorithm.{signature_and_hash_algorithm_format, signature_and_hash_algorithm_meets, signature_and_hash_algorithm_plain};
+ghost use Rattle.ct.specs.declared.signature_and_hash_algorithm.SignatureAndHashAlgorithm.{SignatureAndHashAlgorithm};
+
+use crate::{HashAlgorithm, SignatureAlgorithm};
+use std::alloc::Global;
+use tls_codec::{Deserialize, DeserializeBytes, Error, Lent, Serialize, Sink, Size, Source};
+
+/// `SignatureAndHashAlgorithm`.
+#[derive(PartialEq, Eq, Debug, Clone, Drop)]
+pub struct SignatureAndHashAlgorithm {
+    /// `HashAlgorithm hash;`
+    pub hash: HashAlgorithm,
+    /// `SignatureAlgorithm signature;`
+    pub signature: SignatureAlgorithm,
+}
+
+impl Size for SignatureAndHashAlgorithm {
+    ghost plain = { signature_and_hash_algorithm_plain };
+
+    ghost format = { signature_and_hash_algorithm_format };
+
+    fn tls_serialized_len(&self) -> usize {
+        (Lent(&self.hash), Lent(&self.signature)).tls_serialized_len()
+    }
+
+    ghost lawful = { signature_and_hash_algorithm_meets };
+}
+
+impl Serialize for SignatureAndHashAlgorithm {
+    fn tls_serialize<W: Sink>(&self, writer: &mut W) -> Result<usize, Error> {
+        (Lent(&self.hash), Lent(&self.signature)).tls_serialize(writer)
+    }
+
+    fn tls_serialize_into(&self, out: &mut Vec<u8>) -> Result<usize, Error> {
+        (Lent(&self.hash), Lent(&self.signature)).tls_serialize_into(out)
+    }
+}
+
+impl Deserialize for SignatureAndHashAlgorithm {
+    ghost names = { ⟦<(HashAlgorithm, SignatureAlgorithm) as Deserialize>⟧.names };
+
+    fn tls_deserialize<R: Source>(
+        alloc: Global,
+        src: &mut R,
+    ) -> Result<SignatureAndHashAlgorithm, Error> {
+        let (hash, signature) = <(HashAlgorithm, SignatureAlgorithm)>::tls_deserialize(alloc, src)?;
+        Ok(SignatureAndHashAlgorithm { hash, signature })
+    }
+}
+
+impl DeserializeBytes for SignatureAndHashAlgorithm {
+    ghost names = { ⟦<(HashAlgorithm, SignatureAlgorithm) as DeserializeBytes>⟧.names };
+
+    fn tls_deserialize_bytes(
+        alloc: Global,
+        whole: &[u8],
+    ) -> Result<(SignatureAndHashAlgorithm, &[u8]), Error> {
+        let ((hash, signature), rest) = <(
+            HashAlgorithm,
+            SignatureAlgorithm,
+        )>::tls_deserialize_bytes(alloc, whole)?;
+        Ok((SignatureAndHashAlgorithm { hash, signature }, rest))
+    }
+}
+
+/// Two are equal exactly where each field is.
+pub fn is_compared_by_its_fields()
+    ensures { (x y : SignatureAndHashAlgorithm) →
+        ⟦<SignatureAndHashAlgorithm as PartialEq>⟧.eq x y
+        ≡ (⟦<HashAlgorithm as PartialEq>⟧.eq x.hash y.hash
+        && ⟦<SignatureAlgorithm as PartialEq>⟧.eq x.signature y.signature) }
+{}

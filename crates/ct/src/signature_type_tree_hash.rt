@@ -1,0 +1,96 @@
+//! [`SignatureTypeTreeHash`].
+ghost use Rattle.std.specs.Prelude.{◌≡◌, MatchOption, false, nat_eq};
+ghost use Rattle.tls_codec.specs.OwnMessages.{values_names, values_source_names};
+ghost use Rattle.ct.specs.SignatureTypeTreeHash.{signature_type_tree_hash_code, signature_type_tree_hash_format, signature_type_tree_hash_has, signature_type_tree_hash_meets, signature_type_tree_hash_plain};
+ghost use Rattle.ct.specs.declared.signature_type_tree_hash.SignatureTypeTreeHash.{SignatureTypeTreeHash};
+
+use std::alloc::Global;
+use tls_codec::{
+    Deserialize, DeserializeBytes, Error, Serialize, Sink, Size, Source, unknown_value,
+};
+
+/// `SignatureTypeTreeHash`.
+#[derive(PartialEq, Eq, Debug, Clone, Copy)]
+pub enum SignatureTypeTreeHash {
+    /// `tree_hash(1)`
+    TreeHash,
+}
+
+impl SignatureTypeTreeHash {
+    /// Its number.
+    pub fn code(&self) -> u8
+        ensures { result ≡ signature_type_tree_hash_code self.now }
+    {
+        1
+    }
+
+    /// The value that has this number.
+    pub fn of_code(code: u8) -> Option<SignatureTypeTreeHash>
+        ensures { MatchOption result (signature_type_tree_hash_has code ≡ false)
+            (λ v. signature_type_tree_hash_code v ≡ code) }
+    {
+        match code {
+            1 => Some(SignatureTypeTreeHash::TreeHash),
+            _ => None,
+        }
+    }
+}
+
+impl Size for SignatureTypeTreeHash {
+    ghost plain = { signature_type_tree_hash_plain };
+
+    ghost format = { signature_type_tree_hash_format };
+
+    fn tls_serialized_len(&self) -> usize {
+        1
+    }
+
+    ghost lawful = { signature_type_tree_hash_meets };
+}
+
+impl Serialize for SignatureTypeTreeHash {
+    fn tls_serialize<W: Sink>(&self, writer: &mut W) -> Result<usize, Error> {
+        self.code().tls_serialize(writer)
+    }
+
+    fn tls_serialize_into(&self, out: &mut Vec<u8>) -> Result<usize, Error> {
+        self.code().tls_serialize_into(out)
+    }
+}
+
+impl Deserialize for SignatureTypeTreeHash {
+    ghost names = { values_source_names 1 signature_type_tree_hash_has };
+
+    fn tls_deserialize<R: Source>(
+        alloc: Global,
+        src: &mut R,
+    ) -> Result<SignatureTypeTreeHash, Error> {
+        let tag = u8::tls_deserialize(alloc, src)?;
+        match SignatureTypeTreeHash::of_code(tag) {
+            Some(value) => Ok(value),
+            None => Err(unknown_value(u64::from(tag))),
+        }
+    }
+}
+
+impl DeserializeBytes for SignatureTypeTreeHash {
+    ghost names = { values_names 1 signature_type_tree_hash_has };
+
+    fn tls_deserialize_bytes(
+        alloc: Global,
+        whole: &[u8],
+    ) -> Result<(SignatureTypeTreeHash, &[u8]), Error> {
+        let (tag, rest) = u8::tls_deserialize_bytes(alloc, whole)?;
+        match SignatureTypeTreeHash::of_code(tag) {
+            Some(value) => Ok((value, rest)),
+            None => Err(unknown_value(u64::from(tag))),
+        }
+    }
+}
+
+/// Two are equal exactly where their numbers are.
+pub fn is_compared_by_its_number()
+    ensures { (x y : SignatureTypeTreeHash) →
+        ⟦<SignatureTypeTreeHash as PartialEq>⟧.eq x y
+        ≡ nat_eq (signature_type_tree_hash_code x) (signature_type_tree_hash_code y) }
+{}

@@ -1,0 +1,115 @@
+//! [`SignedCertificateTimestamp`].
+ghost use Rattle.std.specs.Prelude.{◌≡◌, ◌&&◌};
+ghost use Rattle.ct.specs.SignedCertificateTimestamp.{signed_certificate_timestamp_format, signed_certificate_timestamp_meets, signed_certificate_timestamp_plain};
+ghost use Rattle.ct.specs.declared.signed_certificate_timestamp.SignedCertificateTimestamp.{SignedCertificateTimestamp};
+
+use crate::{CtExtensions, DigitallySigned, LogID, Version};
+use std::alloc::Global;
+use tls_codec::{
+    Deserialize, DeserializeBytes, Error, Lent2, Lent3, Serialize, Sink, Size, Source,
+};
+
+/// `SignedCertificateTimestamp`.
+#[derive(PartialEq, Eq, Debug, Clone, Drop)]
+pub struct SignedCertificateTimestamp {
+    /// `Version sct_version;`
+    pub sct_version: Version,
+    /// `LogID id;`
+    pub id: LogID,
+    /// `uint64 timestamp;`
+    pub timestamp: u64,
+    /// `CtExtensions extensions;`
+    pub extensions: CtExtensions,
+    /// `DigitallySigned signature;`
+    pub signature: DigitallySigned,
+}
+
+impl Size for SignedCertificateTimestamp {
+    ghost plain = { signed_certificate_timestamp_plain };
+
+    ghost format = { signed_certificate_timestamp_format };
+
+    fn tls_serialized_len(&self) -> usize {
+        (
+            Lent3(&self.sct_version, &self.id, &self.timestamp),
+            Lent2(&self.extensions, &self.signature),
+        )
+            .tls_serialized_len()
+    }
+
+    ghost lawful = { signed_certificate_timestamp_meets };
+}
+
+impl Serialize for SignedCertificateTimestamp {
+    fn tls_serialize<W: Sink>(&self, writer: &mut W) -> Result<usize, Error> {
+        (
+            Lent3(&self.sct_version, &self.id, &self.timestamp),
+            Lent2(&self.extensions, &self.signature),
+        )
+            .tls_serialize(writer)
+    }
+
+    fn tls_serialize_into(&self, out: &mut Vec<u8>) -> Result<usize, Error> {
+        (
+            Lent3(&self.sct_version, &self.id, &self.timestamp),
+            Lent2(&self.extensions, &self.signature),
+        )
+            .tls_serialize_into(out)
+    }
+}
+
+impl Deserialize for SignedCertificateTimestamp {
+    ghost names = { ⟦<((Version, LogID, u64), (CtExtensions, DigitallySigned)) as Deserialize>⟧.names };
+
+    fn tls_deserialize<R: Source>(
+        alloc: Global,
+        src: &mut R,
+    ) -> Result<SignedCertificateTimestamp, Error> {
+        let ((sct_version, id, timestamp), (extensions, signature)) = <(
+            (Version, LogID, u64),
+            (CtExtensions, DigitallySigned),
+        )>::tls_deserialize(alloc, src)?;
+        Ok(SignedCertificateTimestamp {
+            sct_version,
+            id,
+            timestamp,
+            extensions,
+            signature,
+        })
+    }
+}
+
+impl DeserializeBytes for SignedCertificateTimestamp {
+    ghost names = { ⟦<((Version, LogID, u64), (CtExtensions, DigitallySigned)) as DeserializeBytes>⟧.names };
+
+    fn tls_deserialize_bytes(
+        alloc: Global,
+        whole: &[u8],
+    ) -> Result<(SignedCertificateTimestamp, &[u8]), Error> {
+        let (((sct_version, id, timestamp), (extensions, signature)), rest) = <(
+            (Version, LogID, u64),
+            (CtExtensions, DigitallySigned),
+        )>::tls_deserialize_bytes(alloc, whole)?;
+        Ok((
+            SignedCertificateTimestamp {
+                sct_version,
+                id,
+                timestamp,
+                extensions,
+                signature,
+            },
+            rest,
+        ))
+    }
+}
+
+/// Two are equal exactly where each field is.
+pub fn is_compared_by_its_fields()
+    ensures { (x y : SignedCertificateTimestamp) →
+        ⟦<SignedCertificateTimestamp as PartialEq>⟧.eq x y
+        ≡ (⟦<Version as PartialEq>⟧.eq x.sct_version y.sct_version
+        && (⟦<LogID as PartialEq>⟧.eq x.id y.id
+        && (⟦<u64 as PartialEq>⟧.eq x.timestamp y.timestamp
+        && (⟦<CtExtensions as PartialEq>⟧.eq x.extensions y.extensions
+        && ⟦<DigitallySigned as PartialEq>⟧.eq x.signature y.signature)))) }
+{}

@@ -1,0 +1,73 @@
+//! [`SignedCertificateTimestampList`].
+ghost use Rattle.std.specs.Prelude.{◌≡◌};
+ghost use Rattle.ct.specs.SignedCertificateTimestampList.{signed_certificate_timestamp_list_format, signed_certificate_timestamp_list_meets, signed_certificate_timestamp_list_plain};
+ghost use Rattle.ct.specs.declared.signed_certificate_timestamp_list.SignedCertificateTimestampList.{SignedCertificateTimestampList};
+
+use crate::SerializedSCT;
+use std::alloc::Global;
+use tls_codec::{
+    Deserialize, DeserializeBytes, Error, Serialize, Sink, Size, Source, TlsVec, Within,
+};
+
+/// `SignedCertificateTimestampList`.
+#[derive(PartialEq, Eq, Debug, Clone, Drop)]
+pub struct SignedCertificateTimestampList {
+    /// `SerializedSCT sct_list<1..2^16-1>;`
+    pub sct_list: TlsVec<Within<u16, 1, 65535>, SerializedSCT>,
+}
+
+impl Size for SignedCertificateTimestampList {
+    ghost plain = { signed_certificate_timestamp_list_plain };
+
+    ghost format = { signed_certificate_timestamp_list_format };
+
+    fn tls_serialized_len(&self) -> usize {
+        self.sct_list.tls_serialized_len()
+    }
+
+    ghost lawful = { signed_certificate_timestamp_list_meets };
+}
+
+impl Serialize for SignedCertificateTimestampList {
+    fn tls_serialize<W: Sink>(&self, writer: &mut W) -> Result<usize, Error> {
+        self.sct_list.tls_serialize(writer)
+    }
+
+    fn tls_serialize_into(&self, out: &mut Vec<u8>) -> Result<usize, Error> {
+        self.sct_list.tls_serialize_into(out)
+    }
+}
+
+impl Deserialize for SignedCertificateTimestampList {
+    ghost names = { ⟦<TlsVec<Within<u16, 1, 65535>, SerializedSCT> as Deserialize>⟧.names };
+
+    fn tls_deserialize<R: Source>(
+        alloc: Global,
+        src: &mut R,
+    ) -> Result<SignedCertificateTimestampList, Error> {
+        let sct_list = <TlsVec<Within<u16, 1, 65535>, SerializedSCT>>::tls_deserialize(alloc, src)?;
+        Ok(SignedCertificateTimestampList { sct_list })
+    }
+}
+
+impl DeserializeBytes for SignedCertificateTimestampList {
+    ghost names = { ⟦<TlsVec<Within<u16, 1, 65535>, SerializedSCT> as DeserializeBytes>⟧.names };
+
+    fn tls_deserialize_bytes(
+        alloc: Global,
+        whole: &[u8],
+    ) -> Result<(SignedCertificateTimestampList, &[u8]), Error> {
+        let (sct_list, rest) = <TlsVec<
+            Within<u16, 1, 65535>,
+            SerializedSCT,
+        >>::tls_deserialize_bytes(alloc, whole)?;
+        Ok((SignedCertificateTimestampList { sct_list }, rest))
+    }
+}
+
+/// Two are equal exactly where each field is.
+pub fn is_compared_by_its_fields()
+    ensures { (x y : SignedCertificateTimestampList) →
+        ⟦<SignedCertificateTimestampList as PartialEq>⟧.eq x y
+        ≡ ⟦<TlsVec<Within<u16, 1, 65535>, SerializedSCT> as PartialEq>⟧.eq x.sct_list y.sct_list }
+{}

@@ -1,0 +1,117 @@
+//! [`SignedCertificateTimestampTBS`].
+ghost use Rattle.std.specs.Prelude.{◌≡◌, ◌&&◌};
+ghost use Rattle.ct.specs.SignedCertificateTimestampTBS.{signed_certificate_timestamp_tbs_format, signed_certificate_timestamp_tbs_meets, signed_certificate_timestamp_tbs_plain};
+ghost use Rattle.ct.specs.declared.signed_certificate_timestamp_tbs.SignedCertificateTimestampTBS.{SignedCertificateTimestampTBS};
+
+use crate::{CtExtensions, LogEntryTypeData, SignatureTypeCertificateTimestamp, Version};
+use std::alloc::Global;
+use tls_codec::{
+    Deserialize, DeserializeBytes, Error, Lent2, Lent3, Serialize, Sink, Size, Source,
+};
+
+/// `SignedCertificateTimestampTBS`.
+#[derive(PartialEq, Eq, Debug, Clone, Drop)]
+pub struct SignedCertificateTimestampTBS {
+    /// `Version sct_version;`
+    pub sct_version: Version,
+    /// `SignatureType signature_type = certificate_timestamp;`
+    pub signature_type: SignatureTypeCertificateTimestamp,
+    /// `uint64 timestamp;`
+    pub timestamp: u64,
+    /// `LogEntryType entry_type;`
+    pub signed_entry: LogEntryTypeData,
+    /// `CtExtensions extensions;`
+    pub extensions: CtExtensions,
+}
+
+impl Size for SignedCertificateTimestampTBS {
+    ghost plain = { signed_certificate_timestamp_tbs_plain };
+
+    ghost format = { signed_certificate_timestamp_tbs_format };
+
+    fn tls_serialized_len(&self) -> usize {
+        (
+            Lent3(&self.sct_version, &self.signature_type, &self.timestamp),
+            Lent2(&self.signed_entry, &self.extensions),
+        )
+            .tls_serialized_len()
+    }
+
+    ghost lawful = { signed_certificate_timestamp_tbs_meets };
+}
+
+impl Serialize for SignedCertificateTimestampTBS {
+    fn tls_serialize<W: Sink>(&self, writer: &mut W) -> Result<usize, Error> {
+        (
+            Lent3(&self.sct_version, &self.signature_type, &self.timestamp),
+            Lent2(&self.signed_entry, &self.extensions),
+        )
+            .tls_serialize(writer)
+    }
+
+    fn tls_serialize_into(&self, out: &mut Vec<u8>) -> Result<usize, Error> {
+        (
+            Lent3(&self.sct_version, &self.signature_type, &self.timestamp),
+            Lent2(&self.signed_entry, &self.extensions),
+        )
+            .tls_serialize_into(out)
+    }
+}
+
+impl Deserialize for SignedCertificateTimestampTBS {
+    ghost names = { ⟦<((Version, SignatureTypeCertificateTimestamp, u64),
+        (LogEntryTypeData, CtExtensions)) as Deserialize>⟧.names };
+
+    fn tls_deserialize<R: Source>(
+        alloc: Global,
+        src: &mut R,
+    ) -> Result<SignedCertificateTimestampTBS, Error> {
+        let ((sct_version, signature_type, timestamp), (signed_entry, extensions)) = <(
+            (Version, SignatureTypeCertificateTimestamp, u64),
+            (LogEntryTypeData, CtExtensions),
+        )>::tls_deserialize(alloc, src)?;
+        Ok(SignedCertificateTimestampTBS {
+            sct_version,
+            signature_type,
+            timestamp,
+            signed_entry,
+            extensions,
+        })
+    }
+}
+
+impl DeserializeBytes for SignedCertificateTimestampTBS {
+    ghost names = { ⟦<((Version, SignatureTypeCertificateTimestamp, u64),
+        (LogEntryTypeData, CtExtensions)) as DeserializeBytes>⟧.names };
+
+    fn tls_deserialize_bytes(
+        alloc: Global,
+        whole: &[u8],
+    ) -> Result<(SignedCertificateTimestampTBS, &[u8]), Error> {
+        let (((sct_version, signature_type, timestamp), (signed_entry, extensions)), rest) = <(
+            (Version, SignatureTypeCertificateTimestamp, u64),
+            (LogEntryTypeData, CtExtensions),
+        )>::tls_deserialize_bytes(alloc, whole)?;
+        Ok((
+            SignedCertificateTimestampTBS {
+                sct_version,
+                signature_type,
+                timestamp,
+                signed_entry,
+                extensions,
+            },
+            rest,
+        ))
+    }
+}
+
+/// Two are equal exactly where each field is.
+pub fn is_compared_by_its_fields()
+    ensures { (x y : SignedCertificateTimestampTBS) →
+        ⟦<SignedCertificateTimestampTBS as PartialEq>⟧.eq x y
+        ≡ (⟦<Version as PartialEq>⟧.eq x.sct_version y.sct_version
+        && (⟦<SignatureTypeCertificateTimestamp as PartialEq>⟧.eq x.signature_type y.signature_type
+        && (⟦<u64 as PartialEq>⟧.eq x.timestamp y.timestamp
+        && (⟦<LogEntryTypeData as PartialEq>⟧.eq x.signed_entry y.signed_entry
+        && ⟦<CtExtensions as PartialEq>⟧.eq x.extensions y.extensions)))) }
+{}

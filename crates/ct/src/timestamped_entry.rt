@@ -1,0 +1,105 @@
+//! [`TimestampedEntry`].
+ghost use Rattle.std.specs.Prelude.{◌≡◌, ◌&&◌};
+ghost use Rattle.ct.specs.TimestampedEntry.{timestamped_entry_format, timestamped_entry_meets, timestamped_entry_plain};
+ghost use Rattle.ct.specs.declared.timestamped_entry.TimestampedEntry.{TimestampedEntry};
+
+use crate::{CtExtensions, TimestampedEntryLogEntryTypeData};
+use std::alloc::Global;
+use tls_codec::{Deserialize, DeserializeBytes, Error, Lent, Serialize, Sink, Size, Source};
+
+/// `TimestampedEntry`.
+#[derive(PartialEq, Eq, Debug, Clone, Drop)]
+pub struct TimestampedEntry {
+    /// `uint64 timestamp;`
+    pub timestamp: u64,
+    /// `LogEntryType entry_type;`
+    pub signed_entry: TimestampedEntryLogEntryTypeData,
+    /// `CtExtensions extensions;`
+    pub extensions: CtExtensions,
+}
+
+impl Size for TimestampedEntry {
+    ghost plain = { timestamped_entry_plain };
+
+    ghost format = { timestamped_entry_format };
+
+    fn tls_serialized_len(&self) -> usize {
+        (
+            Lent(&self.timestamp),
+            Lent(&self.signed_entry),
+            Lent(&self.extensions),
+        )
+            .tls_serialized_len()
+    }
+
+    ghost lawful = { timestamped_entry_meets };
+}
+
+impl Serialize for TimestampedEntry {
+    fn tls_serialize<W: Sink>(&self, writer: &mut W) -> Result<usize, Error> {
+        (
+            Lent(&self.timestamp),
+            Lent(&self.signed_entry),
+            Lent(&self.extensions),
+        )
+            .tls_serialize(writer)
+    }
+
+    fn tls_serialize_into(&self, out: &mut Vec<u8>) -> Result<usize, Error> {
+        (
+            Lent(&self.timestamp),
+            Lent(&self.signed_entry),
+            Lent(&self.extensions),
+        )
+            .tls_serialize_into(out)
+    }
+}
+
+impl Deserialize for TimestampedEntry {
+    ghost names = { ⟦<(u64, TimestampedEntryLogEntryTypeData, CtExtensions) as Deserialize>⟧.names };
+
+    fn tls_deserialize<R: Source>(alloc: Global, src: &mut R) -> Result<TimestampedEntry, Error> {
+        let (timestamp, signed_entry, extensions) = <(
+            u64,
+            TimestampedEntryLogEntryTypeData,
+            CtExtensions,
+        )>::tls_deserialize(alloc, src)?;
+        Ok(TimestampedEntry {
+            timestamp,
+            signed_entry,
+            extensions,
+        })
+    }
+}
+
+impl DeserializeBytes for TimestampedEntry {
+    ghost names = { ⟦<(u64, TimestampedEntryLogEntryTypeData, CtExtensions) as DeserializeBytes>⟧.names };
+
+    fn tls_deserialize_bytes(
+        alloc: Global,
+        whole: &[u8],
+    ) -> Result<(TimestampedEntry, &[u8]), Error> {
+        let ((timestamp, signed_entry, extensions), rest) = <(
+            u64,
+            TimestampedEntryLogEntryTypeData,
+            CtExtensions,
+        )>::tls_deserialize_bytes(alloc, whole)?;
+        Ok((
+            TimestampedEntry {
+                timestamp,
+                signed_entry,
+                extensions,
+            },
+            rest,
+        ))
+    }
+}
+
+/// Two are equal exactly where each field is.
+pub fn is_compared_by_its_fields()
+    ensures { (x y : TimestampedEntry) →
+        ⟦<TimestampedEntry as PartialEq>⟧.eq x y
+        ≡ (⟦<u64 as PartialEq>⟧.eq x.timestamp y.timestamp
+        && (⟦<TimestampedEntryLogEntryTypeData as PartialEq>⟧.eq x.signed_entry y.signed_entry
+        && ⟦<CtExtensions as PartialEq>⟧.eq x.extensions y.extensions)) }
+{}

@@ -1,0 +1,147 @@
+//! [`TimestampedEntryLogEntryTypeData`].
+ghost use Rattle.std.specs.Prelude.{◌≡◌, IsTrue};
+ghost use Rattle.tls_codec.specs.OwnMessages.{no_variant_names, no_variant_source_names, tagged_names, tagged_source_names, variant_names, variant_source_names};
+ghost use Rattle.ct.specs.TimestampedEntryLogEntryTypeData.{timestamped_entry_log_entry_type_data_format, timestamped_entry_log_entry_type_data_meets, timestamped_entry_log_entry_type_data_plain, timestamped_entry_log_entry_type_data_tag};
+ghost use Rattle.ct.specs.declared.timestamped_entry_log_entry_type_data.TimestampedEntryLogEntryTypeData.{TimestampedEntryLogEntryTypeData};
+
+use crate::{ASN1Cert, PreCert};
+use std::alloc::Global;
+use tls_codec::{
+    Deserialize, DeserializeBytes, Error, Lent, Serialize, Sink, Size, Source, unknown_value,
+};
+
+const X509_ENTRY: u16 = 0;
+
+const PRECERT_ENTRY: u16 = 1;
+
+/// `LogEntryType entry_type` of `TimestampedEntry`, and what comes after each.
+#[derive(PartialEq, Eq, Debug, Clone, Drop)]
+pub enum TimestampedEntryLogEntryTypeData {
+    /// `case x509_entry: ASN.1Cert;`
+    X509Entry(ASN1Cert),
+    /// `case precert_entry: PreCert;`
+    PrecertEntry(PreCert),
+}
+
+impl Size for TimestampedEntryLogEntryTypeData {
+    ghost plain = { timestamped_entry_log_entry_type_data_plain };
+
+    ghost format = { timestamped_entry_log_entry_type_data_format };
+
+    fn tls_serialized_len(&self) -> usize {
+        match self {
+            TimestampedEntryLogEntryTypeData::X509Entry(asn_1_cert) => (
+                X509_ENTRY,
+                Lent(asn_1_cert),
+            ).tls_serialized_len(),
+            TimestampedEntryLogEntryTypeData::PrecertEntry(pre_cert) => (
+                PRECERT_ENTRY,
+                Lent(pre_cert),
+            ).tls_serialized_len(),
+        }
+    }
+
+    ghost lawful = { timestamped_entry_log_entry_type_data_meets };
+}
+
+impl Serialize for TimestampedEntryLogEntryTypeData {
+    fn tls_serialize<W: Sink>(&self, writer: &mut W) -> Result<usize, Error> {
+        match self {
+            TimestampedEntryLogEntryTypeData::X509Entry(asn_1_cert) => (
+                X509_ENTRY,
+                Lent(asn_1_cert),
+            ).tls_serialize(writer),
+            TimestampedEntryLogEntryTypeData::PrecertEntry(pre_cert) => (
+                PRECERT_ENTRY,
+                Lent(pre_cert),
+            ).tls_serialize(writer),
+        }
+    }
+
+    fn tls_serialize_into(&self, out: &mut Vec<u8>) -> Result<usize, Error> {
+        match self {
+            TimestampedEntryLogEntryTypeData::X509Entry(asn_1_cert) => (
+                X509_ENTRY,
+                Lent(asn_1_cert),
+            ).tls_serialize_into(out),
+            TimestampedEntryLogEntryTypeData::PrecertEntry(pre_cert) => (
+                PRECERT_ENTRY,
+                Lent(pre_cert),
+            ).tls_serialize_into(out),
+        }
+    }
+}
+
+impl Deserialize for TimestampedEntryLogEntryTypeData {
+    ghost names = { tagged_source_names 2
+        (variant_source_names 0 ⟦<ASN1Cert as Deserialize>⟧.names
+        (variant_source_names 1 ⟦<PreCert as Deserialize>⟧.names
+        no_variant_source_names)) };
+
+    fn tls_deserialize<R: Source>(
+        alloc: Global,
+        src: &mut R,
+    ) -> Result<TimestampedEntryLogEntryTypeData, Error> {
+        let tag = u16::tls_deserialize(alloc, src)?;
+        match tag {
+            X509_ENTRY => {
+                let asn_1_cert = ASN1Cert::tls_deserialize(alloc, src)?;
+                Ok(TimestampedEntryLogEntryTypeData::X509Entry(asn_1_cert))
+            }
+            PRECERT_ENTRY => {
+                let pre_cert = PreCert::tls_deserialize(alloc, src)?;
+                Ok(TimestampedEntryLogEntryTypeData::PrecertEntry(pre_cert))
+            }
+            _ => Err(unknown_value(u64::from(tag))),
+        }
+    }
+}
+
+impl DeserializeBytes for TimestampedEntryLogEntryTypeData {
+    ghost names = { tagged_names 2
+        (variant_names 0 ⟦<ASN1Cert as DeserializeBytes>⟧.names
+        (variant_names 1 ⟦<PreCert as DeserializeBytes>⟧.names
+        no_variant_names)) };
+
+    fn tls_deserialize_bytes(
+        alloc: Global,
+        whole: &[u8],
+    ) -> Result<(TimestampedEntryLogEntryTypeData, &[u8]), Error> {
+        let (tag, rest) = u16::tls_deserialize_bytes(alloc, whole)?;
+        match tag {
+            X509_ENTRY => {
+                let (asn_1_cert, rest) = ASN1Cert::tls_deserialize_bytes(alloc, rest)?;
+                Ok((
+                    TimestampedEntryLogEntryTypeData::X509Entry(asn_1_cert),
+                    rest,
+                ))
+            }
+            PRECERT_ENTRY => {
+                let (pre_cert, rest) = PreCert::tls_deserialize_bytes(alloc, rest)?;
+                Ok((
+                    TimestampedEntryLogEntryTypeData::PrecertEntry(pre_cert),
+                    rest,
+                ))
+            }
+            _ => Err(unknown_value(u64::from(tag))),
+        }
+    }
+}
+
+/// Two are equal exactly where they are of one case, and each field is.
+pub fn is_compared_by_its_case()
+    ensures tag { (x y : TimestampedEntryLogEntryTypeData) →
+        IsTrue (⟦<TimestampedEntryLogEntryTypeData as PartialEq>⟧.eq x y)
+        → timestamped_entry_log_entry_type_data_tag x
+        ≡ timestamped_entry_log_entry_type_data_tag y }
+    ensures case_0 { (a0 b0 : _) →
+        ⟦<TimestampedEntryLogEntryTypeData as PartialEq>⟧.eq
+        (TimestampedEntryLogEntryTypeData.X509Entry a0)
+        (TimestampedEntryLogEntryTypeData.X509Entry b0)
+        ≡ ⟦<ASN1Cert as PartialEq>⟧.eq a0 b0 }
+    ensures case_1 { (a0 b0 : _) →
+        ⟦<TimestampedEntryLogEntryTypeData as PartialEq>⟧.eq
+        (TimestampedEntryLogEntryTypeData.PrecertEntry a0)
+        (TimestampedEntryLogEntryTypeData.PrecertEntry b0)
+        ≡ ⟦<PreCert as PartialEq>⟧.eq a0 b0 }
+{}

@@ -1,0 +1,112 @@
+//! [`TreeHeadSignature`].
+ghost use Rattle.std.specs.Prelude.{◌≡◌, ◌&&◌};
+ghost use Rattle.ct.specs.TreeHeadSignature.{tree_head_signature_format, tree_head_signature_meets, tree_head_signature_plain};
+ghost use Rattle.ct.specs.declared.tree_head_signature.TreeHeadSignature.{TreeHeadSignature};
+
+use crate::{SignatureTypeTreeHash, Version};
+use std::alloc::Global;
+use tls_codec::{
+    Deserialize, DeserializeBytes, Error, Lent2, Lent3, Serialize, Sink, Size, Source,
+};
+
+/// `TreeHeadSignature`.
+#[derive(PartialEq, Eq, Debug, Clone, Drop)]
+pub struct TreeHeadSignature {
+    /// `Version version;`
+    pub version: Version,
+    /// `SignatureType signature_type = tree_hash;`
+    pub signature_type: SignatureTypeTreeHash,
+    /// `uint64 timestamp;`
+    pub timestamp: u64,
+    /// `uint64 tree_size;`
+    pub tree_size: u64,
+    /// `opaque sha256_root_hash[32];`
+    pub sha256_root_hash: [u8; 32],
+}
+
+impl Size for TreeHeadSignature {
+    ghost plain = { tree_head_signature_plain };
+
+    ghost format = { tree_head_signature_format };
+
+    fn tls_serialized_len(&self) -> usize {
+        (
+            Lent3(&self.version, &self.signature_type, &self.timestamp),
+            Lent2(&self.tree_size, &self.sha256_root_hash),
+        )
+            .tls_serialized_len()
+    }
+
+    ghost lawful = { tree_head_signature_meets };
+}
+
+impl Serialize for TreeHeadSignature {
+    fn tls_serialize<W: Sink>(&self, writer: &mut W) -> Result<usize, Error> {
+        (
+            Lent3(&self.version, &self.signature_type, &self.timestamp),
+            Lent2(&self.tree_size, &self.sha256_root_hash),
+        )
+            .tls_serialize(writer)
+    }
+
+    fn tls_serialize_into(&self, out: &mut Vec<u8>) -> Result<usize, Error> {
+        (
+            Lent3(&self.version, &self.signature_type, &self.timestamp),
+            Lent2(&self.tree_size, &self.sha256_root_hash),
+        )
+            .tls_serialize_into(out)
+    }
+}
+
+impl Deserialize for TreeHeadSignature {
+    ghost names = { ⟦<((Version, SignatureTypeTreeHash, u64), (u64, [u8; 32])) as Deserialize>⟧.names };
+
+    fn tls_deserialize<R: Source>(alloc: Global, src: &mut R) -> Result<TreeHeadSignature, Error> {
+        let ((version, signature_type, timestamp), (tree_size, sha256_root_hash)) = <(
+            (Version, SignatureTypeTreeHash, u64),
+            (u64, [u8; 32]),
+        )>::tls_deserialize(alloc, src)?;
+        Ok(TreeHeadSignature {
+            version,
+            signature_type,
+            timestamp,
+            tree_size,
+            sha256_root_hash,
+        })
+    }
+}
+
+impl DeserializeBytes for TreeHeadSignature {
+    ghost names = { ⟦<((Version, SignatureTypeTreeHash, u64), (u64, [u8; 32])) as DeserializeBytes>⟧.names };
+
+    fn tls_deserialize_bytes(
+        alloc: Global,
+        whole: &[u8],
+    ) -> Result<(TreeHeadSignature, &[u8]), Error> {
+        let (((version, signature_type, timestamp), (tree_size, sha256_root_hash)), rest) = <(
+            (Version, SignatureTypeTreeHash, u64),
+            (u64, [u8; 32]),
+        )>::tls_deserialize_bytes(alloc, whole)?;
+        Ok((
+            TreeHeadSignature {
+                version,
+                signature_type,
+                timestamp,
+                tree_size,
+                sha256_root_hash,
+            },
+            rest,
+        ))
+    }
+}
+
+/// Two are equal exactly where each field is.
+pub fn is_compared_by_its_fields()
+    ensures { (x y : TreeHeadSignature) →
+        ⟦<TreeHeadSignature as PartialEq>⟧.eq x y
+        ≡ (⟦<Version as PartialEq>⟧.eq x.version y.version
+        && (⟦<SignatureTypeTreeHash as PartialEq>⟧.eq x.signature_type y.signature_type
+        && (⟦<u64 as PartialEq>⟧.eq x.timestamp y.timestamp
+        && (⟦<u64 as PartialEq>⟧.eq x.tree_size y.tree_size
+        && ⟦<[u8; 32] as PartialEq>⟧.eq x.sha256_root_hash y.sha256_root_hash)))) }
+{}

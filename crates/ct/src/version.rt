@@ -1,0 +1,89 @@
+//! [`Version`].
+ghost use Rattle.std.specs.Prelude.{◌≡◌, MatchOption, false, nat_eq};
+ghost use Rattle.tls_codec.specs.OwnMessages.{values_names, values_source_names};
+ghost use Rattle.ct.specs.Version.{version_code, version_format, version_has, version_meets, version_plain};
+ghost use Rattle.ct.specs.declared.version.Version.{Version};
+
+use std::alloc::Global;
+use tls_codec::{
+    Deserialize, DeserializeBytes, Error, Serialize, Sink, Size, Source, unknown_value,
+};
+
+/// `Version`.
+#[derive(PartialEq, Eq, Debug, Clone, Copy)]
+pub enum Version {
+    /// `v1(0)`
+    V1,
+}
+
+impl Version {
+    /// Its number.
+    pub fn code(&self) -> u8
+        ensures { result ≡ version_code self.now }
+    {
+        0
+    }
+
+    /// The value that has this number.
+    pub fn of_code(code: u8) -> Option<Version>
+        ensures { MatchOption result (version_has code ≡ false) (λ v. version_code v ≡ code) }
+    {
+        match code {
+            0 => Some(Version::V1),
+            _ => None,
+        }
+    }
+}
+
+impl Size for Version {
+    ghost plain = { version_plain };
+
+    ghost format = { version_format };
+
+    fn tls_serialized_len(&self) -> usize {
+        1
+    }
+
+    ghost lawful = { version_meets };
+}
+
+impl Serialize for Version {
+    fn tls_serialize<W: Sink>(&self, writer: &mut W) -> Result<usize, Error> {
+        self.code().tls_serialize(writer)
+    }
+
+    fn tls_serialize_into(&self, out: &mut Vec<u8>) -> Result<usize, Error> {
+        self.code().tls_serialize_into(out)
+    }
+}
+
+impl Deserialize for Version {
+    ghost names = { values_source_names 1 version_has };
+
+    fn tls_deserialize<R: Source>(alloc: Global, src: &mut R) -> Result<Version, Error> {
+        let tag = u8::tls_deserialize(alloc, src)?;
+        match Version::of_code(tag) {
+            Some(value) => Ok(value),
+            None => Err(unknown_value(u64::from(tag))),
+        }
+    }
+}
+
+impl DeserializeBytes for Version {
+    ghost names = { values_names 1 version_has };
+
+    fn tls_deserialize_bytes(alloc: Global, whole: &[u8]) -> Result<(Version, &[u8]), Error> {
+        let (tag, rest) = u8::tls_deserialize_bytes(alloc, whole)?;
+        match Version::of_code(tag) {
+            Some(value) => Ok((value, rest)),
+            None => Err(unknown_value(u64::from(tag))),
+        }
+    }
+}
+
+/// Two are equal exactly where their numbers are.
+pub fn is_compared_by_its_number()
+    ensures { (x y : Version) →
+        ⟦<Version as PartialEq>⟧.eq x y
+        ≡ nat_eq (version_code x) (version_code y) }
+{}

@@ -1,0 +1,85 @@
+//! [`X509ChainEntry`].
+ghost use Rattle.std.specs.Prelude.{◌≡◌, ◌&&◌};
+ghost use Rattle.ct.specs.X509ChainEntry.{x509_chain_entry_format, x509_chain_entry_meets, x509_chain_entry_plain};
+ghost use Rattle.ct.specs.declared.x509_chain_entry.X509ChainEntry.{X509ChainEntry};
+
+use crate::ASN1Cert;
+use std::alloc::Global;
+use tls_codec::{
+    Deserialize, DeserializeBytes, Error, Lent, Serialize, Sink, Size, Source, TlsVecU24,
+};
+
+/// `X509ChainEntry`.
+#[derive(PartialEq, Eq, Debug, Clone, Drop)]
+pub struct X509ChainEntry {
+    /// `ASN.1Cert leaf_certificate;`
+    pub leaf_certificate: ASN1Cert,
+    /// `ASN.1Cert certificate_chain<0..2^24-1>;`
+    pub certificate_chain: TlsVecU24<ASN1Cert>,
+}
+
+impl Size for X509ChainEntry {
+    ghost plain = { x509_chain_entry_plain };
+
+    ghost format = { x509_chain_entry_format };
+
+    fn tls_serialized_len(&self) -> usize {
+        (Lent(&self.leaf_certificate), Lent(&self.certificate_chain)).tls_serialized_len()
+    }
+
+    ghost lawful = { x509_chain_entry_meets };
+}
+
+impl Serialize for X509ChainEntry {
+    fn tls_serialize<W: Sink>(&self, writer: &mut W) -> Result<usize, Error> {
+        (Lent(&self.leaf_certificate), Lent(&self.certificate_chain)).tls_serialize(writer)
+    }
+
+    fn tls_serialize_into(&self, out: &mut Vec<u8>) -> Result<usize, Error> {
+        (Lent(&self.leaf_certificate), Lent(&self.certificate_chain)).tls_serialize_into(out)
+    }
+}
+
+impl Deserialize for X509ChainEntry {
+    ghost names = { ⟦<(ASN1Cert, TlsVecU24<ASN1Cert>) as Deserialize>⟧.names };
+
+    fn tls_deserialize<R: Source>(alloc: Global, src: &mut R) -> Result<X509ChainEntry, Error> {
+        let (leaf_certificate, certificate_chain) = <(
+            ASN1Cert,
+            TlsVecU24<ASN1Cert>,
+        )>::tls_deserialize(alloc, src)?;
+        Ok(X509ChainEntry {
+            leaf_certificate,
+            certificate_chain,
+        })
+    }
+}
+
+impl DeserializeBytes for X509ChainEntry {
+    ghost names = { ⟦<(ASN1Cert, TlsVecU24<ASN1Cert>) as DeserializeBytes>⟧.names };
+
+    fn tls_deserialize_bytes(
+        alloc: Global,
+        whole: &[u8],
+    ) -> Result<(X509ChainEntry, &[u8]), Error> {
+        let ((leaf_certificate, certificate_chain), rest) = <(
+            ASN1Cert,
+            TlsVecU24<ASN1Cert>,
+        )>::tls_deserialize_bytes(alloc, whole)?;
+        Ok((
+            X509ChainEntry {
+                leaf_certificate,
+                certificate_chain,
+            },
+            rest,
+        ))
+    }
+}
+
+/// Two are equal exactly where each field is.
+pub fn is_compared_by_its_fields()
+    ensures { (x y : X509ChainEntry) →
+        ⟦<X509ChainEntry as PartialEq>⟧.eq x y
+        ≡ (⟦<ASN1Cert as PartialEq>⟧.eq x.leaf_certificate y.leaf_certificate
+        && ⟦<TlsVecU24<ASN1Cert> as PartialEq>⟧.eq x.certificate_chain y.certificate_chain) }
+{}

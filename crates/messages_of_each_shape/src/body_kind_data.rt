@@ -1,0 +1,118 @@
+//! [`BodyKindData`].
+ghost use Rattle.std.specs.Prelude.{◌≡◌, IsTrue};
+ghost use Rattle.messages_of_each_shape.specs.BodyKindData.{body_kind_data_format_for, body_kind_data_meets_for, body_kind_data_plain, body_kind_data_tag};
+ghost use Rattle.messages_of_each_shape.specs.declared.body_kind_data.BodyKindData.{BodyKindData};
+
+use crate::BodyKind;
+use std::alloc::Global;
+use tls_codec::{
+    DeserializeBytesFor, DeserializeFor, Error, Lent, SerializeFor, Sink, SizeFor, Source, VLBytes,
+};
+use tls_codec_cases::{Case, Chosen, Or, append_as_for, write_as_for};
+
+/// `select (body_kind)` of `KindBody`: no byte of it tells the tag.
+#[derive(PartialEq, Eq, Debug, Clone, Drop)]
+pub enum BodyKindData {
+    /// `case chat: uint16 code;`
+    Chat(u16),
+    /// `case file: opaque content<V>;`
+    File(VLBytes),
+}
+
+type Cases = Chosen<Or<Case<1, u16>, Case<2, VLBytes>>>;
+
+type LentCases<'a> = Chosen<Or<Case<1, Lent<'a, u16>>, Case<2, Lent<'a, VLBytes>>>>;
+
+impl BodyKindData {
+    fn cases(&self) -> LentCases<'_>
+        ensures { ⟦<LentCases<'static> as SizeFor<BodyKind>>⟧.plain result
+            ≡ body_kind_data_plain self.now }
+    {
+        let cases = match self {
+            BodyKindData::Chat(code_) => Or::First(Case(Lent(code_))),
+            BodyKindData::File(content) => Or::Second(Case(Lent(content))),
+        };
+        Chosen(cases)
+    }
+
+    fn of(cases: Cases) -> BodyKindData
+        ensures { body_kind_data_plain result ≡ ⟦<Cases as SizeFor<BodyKind>>⟧.plain cases }
+    {
+        match cases.0 {
+            Or::First(case) => BodyKindData::Chat(case.0),
+            Or::Second(case) => BodyKindData::File(case.0),
+        }
+    }
+}
+
+impl SizeFor<BodyKind> for BodyKindData {
+    ghost plain = { body_kind_data_plain };
+
+    ghost format_for = { body_kind_data_format_for };
+
+    fn tls_serialized_len_for(&self, body_kind: &BodyKind) -> usize {
+        self.cases().tls_serialized_len_for(body_kind)
+    }
+
+    ghost lawful = { body_kind_data_meets_for };
+}
+
+/// `EncodingError("value does not fit its context")`: the value is of another case.
+impl SerializeFor<BodyKind> for BodyKindData {
+    fn tls_serialize_for<W: Sink>(
+        &self,
+        body_kind: &BodyKind,
+        writer: &mut W,
+    ) -> Result<usize, Error> {
+        write_as_for(self, &self.cases(), body_kind, writer)
+    }
+
+    fn tls_serialize_into_for(
+        &self,
+        body_kind: &BodyKind,
+        out: &mut Vec<u8>,
+    ) -> Result<usize, Error> {
+        append_as_for(self, &self.cases(), body_kind, out)
+    }
+}
+
+impl DeserializeFor<BodyKind> for BodyKindData {
+    ghost names = { ⟦<Cases as DeserializeFor<BodyKind>>⟧.names };
+
+    /// `UnknownValue`: no case has the context's tag.
+    fn tls_deserialize_for<R: Source>(
+        body_kind: &BodyKind,
+        alloc: Global,
+        src: &mut R,
+    ) -> Result<BodyKindData, Error> {
+        let cases = <Cases>::tls_deserialize_for(body_kind, alloc, src)?;
+        Ok(BodyKindData::of(cases))
+    }
+}
+
+impl DeserializeBytesFor<BodyKind> for BodyKindData {
+    ghost names = { ⟦<Cases as DeserializeBytesFor<BodyKind>>⟧.names };
+
+    /// `UnknownValue`: no case has the context's tag.
+    fn tls_deserialize_bytes_for<'a>(
+        body_kind: &BodyKind,
+        alloc: Global,
+        whole: &'a [u8],
+    ) -> Result<(BodyKindData, &'a [u8]), Error> {
+        let (cases, rest) = <Cases>::tls_deserialize_bytes_for(body_kind, alloc, whole)?;
+        Ok((BodyKindData::of(cases), rest))
+    }
+}
+
+/// Two are equal exactly where they are of one case, and each field is.
+pub fn is_compared_by_its_case()
+    ensures tag { (x y : BodyKindData) →
+        IsTrue (⟦<BodyKindData as PartialEq>⟧.eq x y)
+        → body_kind_data_tag x ≡ body_kind_data_tag y }
+    ensures case_1 { (a0 b0 : _) →
+        ⟦<BodyKindData as PartialEq>⟧.eq (BodyKindData.Chat a0) (BodyKindData.Chat b0)
+        ≡ ⟦<u16 as PartialEq>⟧.eq a0 b0 }
+    ensures case_2 { (a0 b0 : _) →
+        ⟦<BodyKindData as PartialEq>⟧.eq (BodyKindData.File a0) (BodyKindData.File b0)
+        ≡ ⟦<VLBytes as PartialEq>⟧.eq a0 b0 }
+{}

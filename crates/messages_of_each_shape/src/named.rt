@@ -1,0 +1,75 @@
+//! [`Named`].
+ghost use Rattle.std.specs.Prelude.{◌≡◌, ◌&&◌};
+ghost use Rattle.messages_of_each_shape.specs.Named.{named_format, named_meets, named_plain};
+ghost use Rattle.messages_of_each_shape.specs.declared.named.Named.{Named};
+ghost use Rattle.messages_of_each_shape.specs.Named.{named_name_type};
+
+use crate::NameType;
+use std::alloc::Global;
+use tls_codec::{Deserialize, DeserializeBytes, Error, Lent, Serialize, Sink, Size, Source};
+use tls_codec_cases::Holds;
+
+/// `Named`.
+#[derive(PartialEq, Eq, Debug, Clone, Drop)]
+pub struct Named {
+    /// `uint8 before;`
+    pub before: u8,
+    /// `NameType name_type;`
+    pub name_type: NameType,
+}
+
+impl Size for Named {
+    ghost plain = { named_plain };
+
+    ghost format = { named_format };
+
+    fn tls_serialized_len(&self) -> usize {
+        (Lent(&self.before), Lent(&self.name_type)).tls_serialized_len()
+    }
+
+    ghost lawful = { named_meets };
+}
+
+impl Serialize for Named {
+    fn tls_serialize<W: Sink>(&self, writer: &mut W) -> Result<usize, Error> {
+        (Lent(&self.before), Lent(&self.name_type)).tls_serialize(writer)
+    }
+
+    fn tls_serialize_into(&self, out: &mut Vec<u8>) -> Result<usize, Error> {
+        (Lent(&self.before), Lent(&self.name_type)).tls_serialize_into(out)
+    }
+}
+
+impl Deserialize for Named {
+    ghost names = { ⟦<(u8, NameType) as Deserialize>⟧.names };
+
+    fn tls_deserialize<R: Source>(alloc: Global, src: &mut R) -> Result<Named, Error> {
+        let (before, name_type) = <(u8, NameType)>::tls_deserialize(alloc, src)?;
+        Ok(Named { before, name_type })
+    }
+}
+
+impl DeserializeBytes for Named {
+    ghost names = { ⟦<(u8, NameType) as DeserializeBytes>⟧.names };
+
+    fn tls_deserialize_bytes(alloc: Global, whole: &[u8]) -> Result<(Named, &[u8]), Error> {
+        let ((before, name_type), rest) = <(u8, NameType)>::tls_deserialize_bytes(alloc, whole)?;
+        Ok((Named { before, name_type }, rest))
+    }
+}
+
+impl Holds<NameType> for Named {
+    ghost held = { named_name_type };
+
+    fn held(&self) -> NameType {
+        self.name_type
+    }
+}
+
+/// Two are equal exactly where each field is.
+pub fn is_compared_by_its_fields()
+    ensures { (x y : Named) →
+        ⟦<Named as PartialEq>⟧.eq x y
+        ≡ (⟦<u8 as PartialEq>⟧.eq x.before y.before
+        && ⟦<NameType as PartialEq>⟧.eq x.name_type y.name_type) }
+{}

@@ -1,0 +1,94 @@
+//! [`Versioned`].
+ghost use Rattle.std.specs.Prelude.{◌≡◌, ◌&&◌};
+ghost use Rattle.messages_of_each_shape.specs.Versioned.{versioned_format, versioned_meets, versioned_plain};
+ghost use Rattle.messages_of_each_shape.specs.declared.versioned.Versioned.{Versioned};
+
+use crate::{ByVersion, Header};
+use std::alloc::Global;
+use std::marker::PhantomData;
+use tls_codec::{
+    Deserialize, DeserializeBytes, Error, LentIn, LentThen, Serialize, Sink, Size, Source, Then,
+};
+use tls_codec_cases::{By, append_as, write_as};
+
+/// `Versioned`.
+#[derive(PartialEq, Eq, Debug, Clone, Drop)]
+pub struct Versioned {
+    /// `Header header;`
+    pub header: Header,
+    /// `ByVersion parts;`
+    pub parts_: ByVersion,
+}
+
+type Parts = Then<Header, By<u16, ByVersion>>;
+
+type LentParts<'a> = LentThen<'a, Header, By<u16, LentIn<'a, ByVersion>>>;
+
+impl Versioned {
+    fn parts(&self) -> LentParts<'_>
+        ensures { ⟦<LentParts<'static> as Size>⟧.plain result ≡ versioned_plain self.now }
+    {
+        let first = &self.header;
+        let rest = By(LentIn(&self.parts_), PhantomData);
+        LentThen { first, rest }
+    }
+}
+
+impl Size for Versioned {
+    ghost plain = { versioned_plain };
+
+    ghost format = { versioned_format };
+
+    fn tls_serialized_len(&self) -> usize {
+        self.parts().tls_serialized_len()
+    }
+
+    ghost lawful = { versioned_meets };
+}
+
+/// `EncodingError("value does not fit its context")`: a field is of another case.
+impl Serialize for Versioned {
+    fn tls_serialize<W: Sink>(&self, writer: &mut W) -> Result<usize, Error> {
+        write_as(self, &self.parts(), writer)
+    }
+
+    fn tls_serialize_into(&self, out: &mut Vec<u8>) -> Result<usize, Error> {
+        append_as(self, &self.parts(), out)
+    }
+}
+
+impl Deserialize for Versioned {
+    ghost names = { ⟦<Parts as Deserialize>⟧.names };
+
+    fn tls_deserialize<R: Source>(alloc: Global, src: &mut R) -> Result<Versioned, Error> {
+        let parts = <Parts>::tls_deserialize(alloc, src)?;
+        let Then {
+            first: header,
+            rest,
+        } = parts;
+        let By(parts_, _) = rest;
+        Ok(Versioned { header, parts_ })
+    }
+}
+
+impl DeserializeBytes for Versioned {
+    ghost names = { ⟦<Parts as DeserializeBytes>⟧.names };
+
+    fn tls_deserialize_bytes(alloc: Global, whole: &[u8]) -> Result<(Versioned, &[u8]), Error> {
+        let (parts, left) = <Parts>::tls_deserialize_bytes(alloc, whole)?;
+        let Then {
+            first: header,
+            rest,
+        } = parts;
+        let By(parts_, _) = rest;
+        Ok((Versioned { header, parts_ }, left))
+    }
+}
+
+/// Two are equal exactly where each field is.
+pub fn is_compared_by_its_fields()
+    ensures { (x y : Versioned) →
+        ⟦<Versioned as PartialEq>⟧.eq x y
+        ≡ (⟦<Header as PartialEq>⟧.eq x.header y.header
+        && ⟦<ByVersion as PartialEq>⟧.eq x.parts_ y.parts_) }
+{}

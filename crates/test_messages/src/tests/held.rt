@@ -1,0 +1,106 @@
+//! Messages whose parts are on a tag in a field before them.
+use crate::tests::each_call::{is_refused, is_spelled};
+use crate::tests::same;
+use messages_of_each_shape::{
+    Bearer, BodyKind, BodyKindData, ByVersion, Carrier, Header, KindBody, NameType, NameTypeData,
+    Named, Versioned,
+};
+use std::alloc::Global;
+use std::process::Abort;
+use std::test::Fail;
+use tls_codec::{Error, Serialize, TlsVecU16, VLBytes};
+
+const MISFIT: Error = Error::EncodingError("value does not fit its context");
+
+fn bytes(alloc: Global, byte: u8) -> Result<VLBytes, Error> {
+    VLBytes::from_array(alloc, &[byte])
+}
+
+fn is_misfit<T: Serialize>(rt: &impl Abort, alloc: Global, value: &T) {
+    same(rt, value.tls_serialize_detached(alloc).err(), Some(MISFIT));
+}
+
+fn chat(first: u8, code: u16) -> KindBody {
+    KindBody {
+        first,
+        body: BodyKindData::Chat(code),
+    }
+}
+
+fn carrier(alloc: Global, one: KindBody) -> Result<Carrier, Fail> {
+    let many = Vec::from_array(alloc, [chat(3, 4), chat(5, 6)])?;
+    Ok(Carrier {
+        body_kind: BodyKind::Chat,
+        one,
+        count: 2,
+        many: TlsVecU16::new(many),
+        more: Vec::from_array(alloc, [chat(7, 8)])?,
+    })
+}
+
+static CARRIER: [u8; 17] = [
+    1, // body_kind: chat
+    9, 1, 2, // one
+    2, // count
+    0, 6, 3, 0, 4, 5, 0, 6, // many
+    3, 7, 0, 8, // more
+];
+
+// The tag itself decides a struct and two lists behind it.
+#[test]
+fn a_tag_before_what_it_decides(rt: HostRuntime) -> Result<(), Fail> {
+    let alloc = rt.alloc();
+    is_spelled(&rt, alloc, &carrier(alloc, chat(9, 0x0102))?, &CARRIER)?;
+    let file = KindBody {
+        first: 9,
+        body: BodyKindData::File(bytes(alloc, 1)?),
+    };
+    is_misfit(&rt, alloc, &carrier(alloc, file)?);
+    is_refused::<Carrier>(&rt, alloc, &[3, 9], Error::UnknownValue(3));
+    Ok(())
+}
+
+fn bearer(alloc: Global, number: u8, body: NameTypeData) -> Result<Bearer, Error> {
+    Ok(Bearer {
+        level: 5,
+        named: Named {
+            before: 1,
+            name_type: NameType(number),
+        },
+        body,
+        last: bytes(alloc, 0xaa)?,
+    })
+}
+
+// A struct holds the tag, of an enum that keeps numbers without a name.
+#[test]
+fn a_struct_before_what_its_tag_decides(rt: HostRuntime) -> Result<(), Fail> {
+    let alloc = rt.alloc();
+    let host = bearer(alloc, 0, NameTypeData::HostName(8))?;
+    is_spelled(&rt, alloc, &host, &[5, 1, 0, 8, 1, 0xaa])?;
+    let other = bearer(alloc, 7, NameTypeData::Case7(bytes(alloc, 0xb1)?))?;
+    is_spelled(&rt, alloc, &other, &[5, 1, 7, 1, 0xb1, 1, 0xaa])?;
+    is_misfit(&rt, alloc, &bearer(alloc, 7, NameTypeData::HostName(8))?);
+    is_refused::<Bearer>(&rt, alloc, &[5, 1, 9, 8, 1, 0xaa], Error::UnknownValue(9));
+    Ok(())
+}
+
+// The tag is a number of two bytes.
+#[test]
+fn a_number_before_what_it_decides(rt: HostRuntime) -> Result<(), Fail> {
+    let alloc = rt.alloc();
+    let value = Versioned {
+        header: Header {
+            version: 2,
+            rest_: VLBytes::new(Vec::new(alloc)),
+        },
+        parts_: ByVersion::Case2 {
+            long: 1,
+            tail: bytes(alloc, 0xb1)?,
+            last: 6,
+        },
+    };
+    is_spelled(&rt, alloc, &value, &[0, 2, 0, 0, 0, 0, 1, 1, 0xb1, 6])?;
+    is_refused::<Versioned>(&rt, alloc, &[0, 4, 0], Error::UnknownValue(4));
+    Ok(())
+}

@@ -1,0 +1,200 @@
+//! A struct with fields on tags that one before them is or holds: it is read and written as that field and then what it
+//! decides, behind the fields before.
+
+use super::{Templates, structs};
+
+/// The holes of some of the fields: how they are read and lent, and their definitions.
+pub struct Part {
+    pub types: &'static str,
+    pub lent_types: &'static str,
+    pub lent: &'static str,
+    pub plain: &'static str,
+    pub format: &'static str,
+    pub law: &'static str,
+    /// The lines that take them of a tuple, which the variable has.
+    pub lets: &'static str,
+    pub tuple: &'static str,
+    /// What their format and its law are functions of.
+    pub binds: &'static str,
+}
+
+/// The templates.
+pub fn templates() -> Templates {
+    Templates {
+        ghost_uses: structs::GHOST_USES,
+        code: CODE,
+        decoders: DECODERS,
+        law: structs::LAW,
+        specs: SPECS,
+        texts: &structs::TEXTS,
+    }
+}
+
+/// The fields before the one that decides others.
+pub static BEFORE: Part = Part {
+    types: "before_types",
+    lent_types: "before_lent_types",
+    lent: "before_lent",
+    plain: "before_plain",
+    format: "before_format",
+    law: "before_law",
+    lets: "before_lets",
+    tuple: "parts",
+    binds: "",
+};
+
+/// The field that decides others.
+pub static GIVER: Part = Part {
+    types: "giver_type",
+    lent_types: "giver_lent_type",
+    lent: "giver_lent",
+    plain: "giver_plain",
+    format: "giver_format",
+    law: "giver_law",
+    lets: "giver_lets",
+    tuple: "first",
+    binds: "",
+};
+
+/// Those behind it.
+pub static BEHIND: Part = Part {
+    types: "behind_types",
+    lent_types: "behind_lent_types",
+    lent: "behind_lent",
+    plain: "behind_plain",
+    format: "behind_format",
+    law: "behind_law",
+    lets: "behind_lets",
+    tuple: "rest",
+    binds: "λ c. ",
+};
+
+/// Of a struct whose first field decides others.
+pub static FIRST: [(&str, &str); 7] = [
+    ("then_types", "Then<$giver_type$, $behind_types$>"),
+    (
+        "then_lent_types",
+        "LentThen<'a, $giver_rust$, $behind_lent_types$>",
+    ),
+    ("then_lent", "LentThen { first, rest }"),
+    (
+        "then_lets",
+        "        let Then { first: $giver$, rest } = parts;\n",
+    ),
+    ("then_plain", "Join\n    $giver_plain$\n    $behind_plain$"),
+    (
+        "then_format",
+        "then_format\n    $giver_format$\n    $behind_format$",
+    ),
+    ("then_law", "then_meets\n    $giver_law$\n    $behind_law$"),
+];
+
+/// Of one that has fields before it.
+pub static LATER: [(&str, &str); 7] = [
+    (
+        "then_types",
+        "($before_types$, Then<$giver_type$, $behind_types$>)",
+    ),
+    (
+        "then_lent_types",
+        "($before_lent_types$, LentThen<'a, $giver_rust$, $behind_lent_types$>)",
+    ),
+    ("then_lent", "($before_lent$, LentThen { first, rest })"),
+    (
+        "then_lets",
+        "        let (parts, rest) = parts;
+$before_lets$        let Then { first: $giver$, rest } = rest;
+",
+    ),
+    (
+        "then_plain",
+        "pair_tree\n    $before_plain$\n    (Join $giver_plain$ $behind_plain$)",
+    ),
+    (
+        "then_format",
+        "pair_format\n    $before_format$\n    (then_format $giver_format$ $behind_format$)",
+    ),
+    (
+        "then_law",
+        "pair_meets\n    $before_law$\n    (then_meets $giver_law$ $behind_law$)",
+    ),
+];
+
+/// What one that owns its fields is read as.
+pub static OWNED: [(&str, &str); 1] = [("read_parts", "type Parts = $then_types$;\n\n")];
+
+/// One that is lent is only written.
+pub static LENT: [(&str, &str); 1] = [("read_parts", "")];
+
+const CODE: &str = "$doc$$lent_doc$#[derive($derives$)]
+pub struct $name$$lifetime$ {
+$declared$}
+
+$read_parts$type LentParts<'a> = $then_lent_types$;
+
+impl $name$$any$ {
+    fn parts(&self) -> LentParts<'_>
+        ensures { ⟦<LentParts<'static> as Size>⟧.plain result ≡ $module$_plain self.now }
+    {
+        let first = $giver_own$;
+        let rest = $behind_lent$;
+        $then_lent$
+    }
+}
+
+impl Size for $name$$any$ {
+    ghost plain = { $module$_plain };
+
+    ghost format = { $module$_format };
+
+    fn tls_serialized_len(&self) -> usize {
+        self.parts().tls_serialized_len()
+    }
+
+    ghost lawful = { $module$_meets };
+}
+
+/// `EncodingError(\"value does not fit its context\")`: a field is of another case.
+impl Serialize for $name$$any$ {
+    fn tls_serialize<W: Sink>(&self, writer: &mut W) -> Result<usize, Error> {
+        write_as(self, &self.parts(), writer)
+    }
+
+    fn tls_serialize_into(&self, out: &mut Vec<u8>) -> Result<usize, Error> {
+        append_as(self, &self.parts(), out)
+    }
+}
+";
+
+const DECODERS: &str = "
+impl Deserialize for $name$ {
+    ghost names = { ⟦<Parts as Deserialize>⟧.names };
+
+    fn tls_deserialize<R: Source>(alloc: Global, src: &mut R) -> Result<$name$, Error> {
+        let parts = <Parts>::tls_deserialize(alloc, src)?;
+$then_lets$$behind_lets$        Ok($name$ { $fields$ })
+    }
+}
+
+impl DeserializeBytes for $name$ {
+    ghost names = { ⟦<Parts as DeserializeBytes>⟧.names };
+
+    fn tls_deserialize_bytes(alloc: Global, whole: &[u8]) -> Result<($name$, &[u8]), Error> {
+        let (parts, left) = <Parts>::tls_deserialize_bytes(alloc, whole)?;
+$then_lets$$behind_lets$        Ok(($name$ { $fields$ }, left))
+    }
+}
+";
+
+const SPECS: &str = "abbrev pub $module$_plain : $name$ → Tree
+$module$_plain v =
+    $then_plain$
+
+abbrev pub $module$_format : Format
+$module$_format =
+    $then_format$
+
+pub $module$_meets : MeetsLaws $module$_format
+$module$_meets =
+    $then_law$
+";

@@ -1,0 +1,173 @@
+//! Tags in an earlier field, which is of the tag's enum or of a struct that holds one: `content` for the
+//! `select (PublicMessage.content.sender.sender_type)` of RFC 9420, section 6.2.
+use crate::contexts::{OuterTag, outer_tag};
+use crate::items::is_single;
+use crate::refuse::refused;
+use crate::sequence::{IndexedField, Key, Piece, Sequence, find_field, is_here, is_own};
+use std::alloc::{AllocError, Global};
+use tlsgen_syntax::refusal::Trouble;
+use tlsgen_syntax::syntax::{Field, File, Name, Select};
+
+/// Where the tag of a select is.
+#[derive(Clone, Copy)]
+pub enum Site<'a> {
+    /// A field of the struct, above the select.
+    Here,
+    /// In a field before the select, which stays one.
+    Before(IndexedField<'a>),
+    /// In another struct, or said by the protocol alone.
+    Elsewhere,
+}
+
+/// A struct that holds a tag, and its one field that is the tag or holds it.
+#[derive(Clone, Copy)]
+pub struct Holding<'a> {
+    pub name: &'a str,
+    pub field: &'a Field,
+}
+
+/// Where the tag of a select at a position is.
+pub fn site_of<'a>(
+    alloc: Global,
+    files: &'a [File],
+    all: &[Sequence<'a>],
+    sequence: &Sequence<'a>,
+    at: usize,
+) -> Result<Site<'a>, Trouble> {
+    let Some(Piece::Select(select, owner)) = sequence.pieces.get(at) else {
+        return Ok(Site::Here);
+    };
+    if is_here(sequence, &Piece::Select(select, owner)) {
+        return site_on_path(alloc, sequence, select, owner, at);
+    }
+    let tag = outer_tag(alloc, files, select)?;
+    match giver_of(alloc, all, sequence, at, &tag)? {
+        Some(giver) => Ok(Site::Before(giver)),
+        None => Ok(Site::Elsewhere),
+    }
+}
+
+// The site of a tag whose path begins here: a field that it goes through, unless the parts of that stand here.
+fn site_on_path<'a>(
+    alloc: Global,
+    sequence: &Sequence<'a>,
+    select: &Select,
+    owner: &str,
+    at: usize,
+) -> Result<Site<'a>, Trouble> {
+    let Some(word) = first_kept(sequence, select, owner) else {
+        return Ok(Site::Here);
+    };
+    match find_field(sequence, Key::Name(word.text.as_str())) {
+        Some(giver) if giver.index < at && is_giver(giver.field) => Ok(Site::Before(giver)),
+        Some(_) => Err(refused(
+            alloc,
+            word.place,
+            word.text.as_str(),
+            "a field above the select, one struct that has the tag",
+        )),
+        None => Ok(Site::Here),
+    }
+}
+
+// The first word within a path that is no inlined field.
+fn first_kept<'b>(sequence: &Sequence<'_>, select: &'b Select, owner: &str) -> Option<&'b Name> {
+    let (_, words) = select.path.split_last()?;
+    let (first, inner) = words.split_first()?;
+    if !is_own(sequence, owner, first.text.as_str()) && !sequence.has_inlined(first.text.as_str()) {
+        return None;
+    }
+    inner.iter().find(|word| !has_inlined_field(sequence, word))
+}
+
+fn has_inlined_field(sequence: &Sequence<'_>, word: &Name) -> bool {
+    sequence
+        .inlined
+        .iter()
+        .any(|field| field.name.text == word.text)
+}
+
+fn is_giver(field: &Field) -> bool {
+    is_single(field) && field.constant.is_none()
+}
+
+/// The field before a position that is the tag or holds it. Rejects two.
+pub fn giver_of<'a>(
+    alloc: Global,
+    all: &[Sequence<'a>],
+    sequence: &Sequence<'a>,
+    at: usize,
+    tag: &OuterTag<'a>,
+) -> Result<Option<IndexedField<'a>>, Trouble> {
+    let holders = holders_of(alloc, all, tag)?;
+    let mut giver = None;
+    for (index, piece) in sequence.pieces.iter().take(at).enumerate() {
+        if let Piece::Field(field) = piece {
+            if holds(&holders, sequence.name, field, tag) {
+                if giver.is_some() {
+                    return Err(refused(
+                        alloc,
+                        field.name.place,
+                        field.name.text.as_str(),
+                        "one field alone that has the tag of what follows",
+                    ));
+                }
+                giver = Some(IndexedField { index, field });
+            }
+        }
+    }
+    Ok(giver)
+}
+
+/// The structs that hold a tag, each after those that it contains.
+pub fn holders_of<'a>(
+    alloc: Global,
+    all: &[Sequence<'a>],
+    tag: &OuterTag<'a>,
+) -> Result<Vec<Holding<'a>>, AllocError> {
+    let mut holders = Vec::new(alloc);
+    for one in all {
+        if let Some(field) = only_holding(&holders, one, tag) {
+            holders.push(Holding {
+                name: one.name,
+                field,
+            })?;
+        }
+    }
+    Ok(holders)
+}
+
+// The one field of a struct that is a tag or holds it. What is in a context holds none.
+fn only_holding<'a>(
+    holders: &[Holding<'a>],
+    one: &Sequence<'a>,
+    tag: &OuterTag<'a>,
+) -> Option<&'a Field> {
+    if one.context.is_some() {
+        return None;
+    }
+    let mut only = None;
+    for piece in &one.pieces {
+        if let Piece::Field(field) = piece {
+            if holds(holders, one.name, field, tag) {
+                if only.is_some() {
+                    return None;
+                }
+                only = Some(*field);
+            }
+        }
+    }
+    only
+}
+
+// Whether a field of a struct is a tag, or of a struct that holds it.
+fn holds(holders: &[Holding<'_>], of: &str, field: &Field, tag: &OuterTag<'_>) -> bool {
+    is_giver(field) && (tag.is_field(of, field) || holder(holders, field).is_some())
+}
+
+/// The struct of a field, if it holds the tag.
+pub fn holder<'b, 'a>(holders: &'b [Holding<'a>], field: &Field) -> Option<&'b Holding<'a>> {
+    holders
+        .iter()
+        .find(|one| one.name == field.of.text.as_str())
+}

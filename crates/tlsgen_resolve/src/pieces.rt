@@ -1,0 +1,75 @@
+//! The parts of a struct as pieces: a number with what it counts is one, and of a select that always has one case its
+//! fields are.
+use crate::counted::length_before;
+use crate::notes::{counts_select, filling_field, settled_case};
+use crate::sequence::{MOST_PIECES, Piece, Sequence, refused_size};
+use std::alloc::{AllocError, Global};
+use tlsgen_syntax::refusal::Trouble;
+use tlsgen_syntax::syntax::{Field, File, Part, Select, Struct};
+
+/// The pieces of a struct, before any field is inlined.
+pub fn own_pieces<'a>(
+    alloc: Global,
+    files: &'a [File],
+    one: &'a Struct,
+) -> Result<Sequence<'a>, Trouble> {
+    let name = one.name.text.as_str();
+    let mut pieces = Vec::new(alloc);
+    if one.parts.len() > MOST_PIECES {
+        return Err(refused_size(alloc, &one.name));
+    }
+    for (at, part) in one.parts.iter().enumerate() {
+        match part {
+            Part::Field(field) => push_field(files, one, at, field, &mut pieces)?,
+            Part::Select(select) => push_select(files, one, select, &mut pieces)?,
+        }
+    }
+    Ok(Sequence {
+        name,
+        place: one.name.place,
+        is_lent: one.is_lent,
+        is_flat: one.is_flat,
+        pieces,
+        inlined: Vec::new(alloc),
+        is_whole: false,
+        context: None,
+        is_written: false,
+        is_filling: filling_field(files, one).is_some(),
+    })
+}
+
+// A number that counts the field right behind it becomes a piece with that field.
+fn push_field<'a>(
+    files: &[File],
+    one: &'a Struct,
+    at: usize,
+    field: &'a Field,
+    pieces: &mut Vec<Piece<'a>>,
+) -> Result<(), AllocError> {
+    match length_before(one, at) {
+        Some(length) => {
+            pieces.pop();
+            pieces.push(Piece::Counted(length, field))?;
+        }
+        None if counts_select(files, one, at) => pieces.push(Piece::Length(field))?,
+        None => pieces.push(Piece::Field(field))?,
+    }
+    Ok(())
+}
+
+// A select that always has one case is the fields of that case.
+fn push_select<'a>(
+    files: &[File],
+    one: &'a Struct,
+    select: &'a Select,
+    pieces: &mut Vec<Piece<'a>>,
+) -> Result<(), AllocError> {
+    let Some(case) = settled_case(files, one, select) else {
+        pieces.push(Piece::Select(select, one.name.text.as_str()))?;
+        return Ok(());
+    };
+    for field in &case.fields {
+        pieces.push(Piece::Field(field))?;
+    }
+    Ok(())
+}
