@@ -10,7 +10,7 @@ import sys
 import tempfile
 
 CRATES = pathlib.Path(__file__).resolve().parent.parent / "crates"
-MLS = ["mls_leaf", "mls_proposals", "mls_framing"]
+MLS = ["mls_leaf", "mls_proposals", "mls"]
 
 # For each run: the crate whose files are compared, the text, and the words.
 RUNS = {

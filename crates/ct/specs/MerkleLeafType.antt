@@ -1,12 +1,16 @@
 -- MerkleLeafType: what it stands for, its format and its law.
 use Rattle.std.proofs.Common.{arith}
-use Rattle.std.specs.Prelude.{◌≡◌, ◌==◌, ℕ, Bool, true, refl}
+use Rattle.std.specs.Prelude.{◌≡◌, ◌==◌, ℕ, Bool, true, refl, List, codes}
 use Rattle.tls_codec.specs.OwnMessages.{Tree, Number, Empty, Join, Format, values_format, MeetsLaws, tagged_meets, values_meet}
 use Rattle.ct.specs.declared.merkle_leaf_type.MerkleLeafType.{MerkleLeafType}
 
 -- the number of each value
 abbrev pub merkle_leaf_type_code : MerkleLeafType → ℕ
 merkle_leaf_type_code v = 0
+
+-- the name of each value
+abbrev pub merkle_leaf_type_name : MerkleLeafType → List ℕ
+merkle_leaf_type_name v = codes "timestamped_entry"
 
 -- which numbers there are
 abbrev pub merkle_leaf_type_has : ℕ → Bool

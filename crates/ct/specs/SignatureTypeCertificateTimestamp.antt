@@ -1,12 +1,16 @@
 -- SignatureTypeCertificateTimestamp: what it stands for, its format and its law.
 use Rattle.std.proofs.Common.{arith}
-use Rattle.std.specs.Prelude.{◌≡◌, ◌==◌, ℕ, Bool, true, refl}
+use Rattle.std.specs.Prelude.{◌≡◌, ◌==◌, ℕ, Bool, true, refl, List, codes}
 use Rattle.tls_codec.specs.OwnMessages.{Tree, Number, Empty, Join, Format, values_format, MeetsLaws, tagged_meets, values_meet}
 use Rattle.ct.specs.declared.signature_type_certificate_timestamp.SignatureTypeCertificateTimestamp.{SignatureTypeCertificateTimestamp}
 
 -- the number of each value
 abbrev pub signature_type_certificate_timestamp_code : SignatureTypeCertificateTimestamp → ℕ
 signature_type_certificate_timestamp_code v = 0
+
+-- the name of each value
+abbrev pub signature_type_certificate_timestamp_name : SignatureTypeCertificateTimestamp → List ℕ
+signature_type_certificate_timestamp_name v = codes "certificate_timestamp"
 
 -- which numbers there are
 abbrev pub signature_type_certificate_timestamp_has : ℕ → Bool

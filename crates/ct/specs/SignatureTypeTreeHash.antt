@@ -1,12 +1,16 @@
 -- SignatureTypeTreeHash: what it stands for, its format and its law.
 use Rattle.std.proofs.Common.{arith}
-use Rattle.std.specs.Prelude.{◌≡◌, ◌==◌, ℕ, Bool, true, refl}
+use Rattle.std.specs.Prelude.{◌≡◌, ◌==◌, ℕ, Bool, true, refl, List, codes}
 use Rattle.tls_codec.specs.OwnMessages.{Tree, Number, Empty, Join, Format, values_format, MeetsLaws, tagged_meets, values_meet}
 use Rattle.ct.specs.declared.signature_type_tree_hash.SignatureTypeTreeHash.{SignatureTypeTreeHash}
 
 -- the number of each value
 abbrev pub signature_type_tree_hash_code : SignatureTypeTreeHash → ℕ
 signature_type_tree_hash_code v = 1
+
+-- the name of each value
+abbrev pub signature_type_tree_hash_name : SignatureTypeTreeHash → List ℕ
+signature_type_tree_hash_name v = codes "tree_hash"
 
 -- which numbers there are
 abbrev pub signature_type_tree_hash_has : ℕ → Bool

@@ -1,12 +1,16 @@
 -- Version: what it stands for, its format and its law.
 use Rattle.std.proofs.Common.{arith}
-use Rattle.std.specs.Prelude.{◌≡◌, ◌==◌, ℕ, Bool, true, refl}
+use Rattle.std.specs.Prelude.{◌≡◌, ◌==◌, ℕ, Bool, true, refl, List, codes}
 use Rattle.tls_codec.specs.OwnMessages.{Tree, Number, Empty, Join, Format, values_format, MeetsLaws, tagged_meets, values_meet}
 use Rattle.ct.specs.declared.version.Version.{Version}
 
 -- the number of each value
 abbrev pub version_code : Version → ℕ
 version_code v = 0
+
+-- the name of each value
+abbrev pub version_name : Version → List ℕ
+version_name v = codes "v1"
 
 -- which numbers there are
 abbrev pub version_has : ℕ → Bool

@@ -9,7 +9,7 @@ use tls_codec::{
     Deserialize, DeserializeBytes, Error, Lent, Serialize, Sink, Size, Source, TlsByteVecU16,
 };
 
-/// `DigitallySigned`.
+/// `DigitallySigned` (RFC 5246, section 4.7).
 #[derive(PartialEq, Eq, Debug, Clone, Drop)]
 pub struct DigitallySigned {
     /// `SignatureAndHashAlgorithm algorithm;`

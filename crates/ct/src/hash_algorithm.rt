@@ -1,13 +1,15 @@
 //! [`HashAlgorithm`].
-ghost use Rattle.std.specs.Prelude.{◌≡◌, nat_eq};
-ghost use Rattle.ct.specs.HashAlgorithm.{hash_algorithm_format, hash_algorithm_meets, hash_algorithm_plain};
+ghost use Rattle.std.specs.Prelude.{◌≡◌, Some, nat_eq, option_map};
+ghost use Rattle.std.specs.Ordering.{nat_cmp};
+ghost use Rattle.ct.specs.HashAlgorithm.{hash_algorithm_format, hash_algorithm_meets, hash_algorithm_name, hash_algorithm_plain, hash_algorithm_text};
 ghost use Rattle.ct.specs.declared.hash_algorithm.HashAlgorithm.{HashAlgorithm};
 
 use std::alloc::Global;
+use std::fmt;
 use tls_codec::{Deserialize, DeserializeBytes, Error, Serialize, Sink, Size, Source};
 
-/// `HashAlgorithm`.
-#[derive(PartialEq, Eq, Debug, Clone, Copy)]
+/// `HashAlgorithm` (RFC 5246, section 7.4.1.4.1).
+#[derive(PartialEq, Eq, PartialOrd, Ord, Hash, Debug, Clone, Copy)]
 pub struct HashAlgorithm(pub u8);
 
 impl HashAlgorithm {
@@ -31,6 +33,53 @@ impl HashAlgorithm {
 
     /// `sha512`
     pub const SHA512: HashAlgorithm = HashAlgorithm(6);
+
+    /// Its name in the text, if it has one.
+    pub fn name(&self) -> Option<&'static str>
+        ensures { option_map (λ name. name.now) result ≡ hash_algorithm_name self.now.0 }
+    {
+        match self.0 {
+            0 => Some("none"),
+            1 => Some("md5"),
+            2 => Some("sha1"),
+            3 => Some("sha224"),
+            4 => Some("sha256"),
+            5 => Some("sha384"),
+            6 => Some("sha512"),
+            _ => None,
+        }
+    }
+}
+
+/// Its name, or else its number in hexadecimal, two digits a byte. A width pads names alone.
+impl fmt::Display for HashAlgorithm {
+    ghost output = { λ v. Some (hash_algorithm_text v.0) };
+
+    #[tactic(auto, using(crate::specs::HashAlgorithm::hash_algorithm_printed))]
+    fn fmt<W: fmt::Write>(&self, f: &mut fmt::Formatter<W>) -> fmt::Result {
+        match self.name() {
+            Some(name) => f.pad(name),
+            None => write!(f, "0x{:02x}", self.0),
+        }
+    }
+}
+
+/// Its number.
+impl From<HashAlgorithm> for u8 {
+    ghost from_gives = { λ v number. number ≡ v.0 };
+
+    fn from(value: HashAlgorithm) -> u8 {
+        value.0
+    }
+}
+
+/// The one that has this number.
+impl From<u8> for HashAlgorithm {
+    ghost from_gives = { λ number v. v.0 ≡ number };
+
+    fn from(number: u8) -> HashAlgorithm {
+        HashAlgorithm(number)
+    }
 }
 
 impl Size for HashAlgorithm {
@@ -81,4 +130,10 @@ impl DeserializeBytes for HashAlgorithm {
 pub fn is_compared_by_its_number()
     ensures { (x y : HashAlgorithm) →
         ⟦<HashAlgorithm as PartialEq>⟧.eq x y ≡ nat_eq x.0 y.0 }
+{}
+
+/// Two are in the order of their numbers.
+pub fn is_ordered_by_its_number()
+    ensures { (x y : HashAlgorithm) →
+        ⟦<HashAlgorithm as Ord>⟧.cmp x y ≡ nat_cmp x.0 y.0 }
 {}

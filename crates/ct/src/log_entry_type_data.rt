@@ -14,7 +14,8 @@ const X509_ENTRY: u16 = 0;
 
 const PRECERT_ENTRY: u16 = 1;
 
-/// `LogEntryType entry_type` of `SignedCertificateTimestampTBS`, and what comes after each.
+/// `LogEntryType entry_type` of `SignedCertificateTimestampTBS` (RFC 6962, section 3.2),
+/// and what comes after each.
 #[derive(PartialEq, Eq, Debug, Clone, Drop)]
 pub enum LogEntryTypeData {
     /// `case x509_entry: ASN.1Cert;`

@@ -6,7 +6,7 @@ ghost use Rattle.ct.specs.declared.log_id.LogID.{LogID};
 use std::alloc::Global;
 use tls_codec::{Deserialize, DeserializeBytes, Error, Serialize, Sink, Size, Source};
 
-/// `LogID`.
+/// `LogID` (RFC 6962, section 3.2).
 #[derive(PartialEq, Eq, Debug, Clone, Drop)]
 pub struct LogID {
     /// `opaque key_id[32];`

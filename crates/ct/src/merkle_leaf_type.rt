@@ -1,16 +1,20 @@
 //! [`MerkleLeafType`].
-ghost use Rattle.std.specs.Prelude.{◌≡◌, MatchOption, false, nat_eq};
+ghost use Rattle.std.specs.Prelude.{◌≡◌, MatchOption, MatchResult, Some, false, nat_eq};
+ghost use Rattle.std.specs.Fmt.{padded};
+ghost use Rattle.std.specs.Ordering.{nat_cmp};
+ghost use Rattle.tls_codec.specs.Errors.{UnknownValue};
 ghost use Rattle.tls_codec.specs.OwnMessages.{values_names, values_source_names};
-ghost use Rattle.ct.specs.MerkleLeafType.{merkle_leaf_type_code, merkle_leaf_type_format, merkle_leaf_type_has, merkle_leaf_type_meets, merkle_leaf_type_plain};
+ghost use Rattle.ct.specs.MerkleLeafType.{merkle_leaf_type_code, merkle_leaf_type_format, merkle_leaf_type_has, merkle_leaf_type_meets, merkle_leaf_type_name, merkle_leaf_type_plain};
 ghost use Rattle.ct.specs.declared.merkle_leaf_type.MerkleLeafType.{MerkleLeafType};
 
 use std::alloc::Global;
+use std::fmt;
 use tls_codec::{
     Deserialize, DeserializeBytes, Error, Serialize, Sink, Size, Source, unknown_value,
 };
 
-/// `MerkleLeafType`.
-#[derive(PartialEq, Eq, Debug, Clone, Copy)]
+/// `MerkleLeafType` (RFC 6962, section 3.4).
+#[derive(PartialEq, Eq, PartialOrd, Ord, Hash, Debug, Clone, Copy)]
 pub enum MerkleLeafType {
     /// `timestamped_entry(0)`
     TimestampedEntry,
@@ -24,6 +28,13 @@ impl MerkleLeafType {
         0
     }
 
+    /// Its name in the text.
+    pub fn name(&self) -> &'static str
+        ensures { result.now ≡ merkle_leaf_type_name self.now }
+    {
+        "timestamped_entry"
+    }
+
     /// The value that has this number.
     pub fn of_code(code: u8) -> Option<MerkleLeafType>
         ensures { MatchOption result (merkle_leaf_type_has code ≡ false)
@@ -32,6 +43,42 @@ impl MerkleLeafType {
         match code {
             0 => Some(MerkleLeafType::TimestampedEntry),
             _ => None,
+        }
+    }
+}
+
+/// Its name.
+impl fmt::Display for MerkleLeafType {
+    ghost output = { λ v. Some (merkle_leaf_type_name v) };
+
+    ghost styled_output = { λ v spec. Some (padded spec (merkle_leaf_type_name v)) };
+
+    fn fmt<W: fmt::Write>(&self, f: &mut fmt::Formatter<W>) -> fmt::Result {
+        f.pad(self.name())
+    }
+}
+
+/// Its number.
+impl From<MerkleLeafType> for u8 {
+    ghost from_gives = { λ v number. number ≡ merkle_leaf_type_code v };
+
+    fn from(value: MerkleLeafType) -> u8 {
+        value.code()
+    }
+}
+
+/// The value that has this number.
+impl TryFrom<u8> for MerkleLeafType {
+    type Error = Error;
+
+    ghost try_from_gives = { λ tag r. MatchResult r
+        (λ v. merkle_leaf_type_code v ≡ tag)
+        (λ e. (merkle_leaf_type_has tag ≡ false) × (e ≡ UnknownValue tag)) };
+
+    fn try_from(tag: u8) -> Result<MerkleLeafType, Error> {
+        match MerkleLeafType::of_code(tag) {
+            Some(value) => Ok(value),
+            None => Err(unknown_value(u64::from(tag))),
         }
     }
 }
@@ -90,4 +137,11 @@ pub fn is_compared_by_its_number()
     ensures { (x y : MerkleLeafType) →
         ⟦<MerkleLeafType as PartialEq>⟧.eq x y
         ≡ nat_eq (merkle_leaf_type_code x) (merkle_leaf_type_code y) }
+{}
+
+/// Two are in the order of their numbers.
+pub fn is_ordered_by_its_number()
+    ensures { (x y : MerkleLeafType) →
+        ⟦<MerkleLeafType as Ord>⟧.cmp x y
+        ≡ nat_cmp (merkle_leaf_type_code x) (merkle_leaf_type_code y) }
 {}

@@ -7,7 +7,7 @@ use crate::{MerkleLeafType, TimestampedEntry, Version};
 use std::alloc::Global;
 use tls_codec::{Deserialize, DeserializeBytes, Error, Lent, Serialize, Sink, Size, Source};
 
-/// `MerkleTreeLeaf`.
+/// `MerkleTreeLeaf` (RFC 6962, section 3.4).
 #[derive(PartialEq, Eq, Debug, Clone, Drop)]
 pub struct MerkleTreeLeaf {
     /// `Version version;`

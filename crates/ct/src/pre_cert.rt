@@ -7,7 +7,7 @@ use crate::TBSCertificate;
 use std::alloc::Global;
 use tls_codec::{Deserialize, DeserializeBytes, Error, Lent, Serialize, Sink, Size, Source};
 
-/// `PreCert`.
+/// `PreCert` (RFC 6962, section 3.2).
 #[derive(PartialEq, Eq, Debug, Clone, Drop)]
 pub struct PreCert {
     /// `opaque issuer_key_hash[32];`

@@ -9,7 +9,7 @@ use tls_codec::{
     Deserialize, DeserializeBytes, Error, Lent, Serialize, Sink, Size, Source, TlsVecU24,
 };
 
-/// `PrecertChainEntry`.
+/// `PrecertChainEntry` (RFC 6962, section 3.1).
 #[derive(PartialEq, Eq, Debug, Clone, Drop)]
 pub struct PrecertChainEntry {
     /// `ASN.1Cert pre_certificate;`

@@ -1,13 +1,15 @@
 //! [`SignatureAlgorithm`].
-ghost use Rattle.std.specs.Prelude.{◌≡◌, nat_eq};
-ghost use Rattle.ct.specs.SignatureAlgorithm.{signature_algorithm_format, signature_algorithm_meets, signature_algorithm_plain};
+ghost use Rattle.std.specs.Prelude.{◌≡◌, Some, nat_eq, option_map};
+ghost use Rattle.std.specs.Ordering.{nat_cmp};
+ghost use Rattle.ct.specs.SignatureAlgorithm.{signature_algorithm_format, signature_algorithm_meets, signature_algorithm_name, signature_algorithm_plain, signature_algorithm_text};
 ghost use Rattle.ct.specs.declared.signature_algorithm.SignatureAlgorithm.{SignatureAlgorithm};
 
 use std::alloc::Global;
+use std::fmt;
 use tls_codec::{Deserialize, DeserializeBytes, Error, Serialize, Sink, Size, Source};
 
-/// `SignatureAlgorithm`.
-#[derive(PartialEq, Eq, Debug, Clone, Copy)]
+/// `SignatureAlgorithm` (RFC 5246, section 7.4.1.4.1).
+#[derive(PartialEq, Eq, PartialOrd, Ord, Hash, Debug, Clone, Copy)]
 pub struct SignatureAlgorithm(pub u8);
 
 impl SignatureAlgorithm {
@@ -22,6 +24,50 @@ impl SignatureAlgorithm {
 
     /// `ecdsa`
     pub const ECDSA: SignatureAlgorithm = SignatureAlgorithm(3);
+
+    /// Its name in the text, if it has one.
+    pub fn name(&self) -> Option<&'static str>
+        ensures { option_map (λ name. name.now) result ≡ signature_algorithm_name self.now.0 }
+    {
+        match self.0 {
+            0 => Some("anonymous"),
+            1 => Some("rsa"),
+            2 => Some("dsa"),
+            3 => Some("ecdsa"),
+            _ => None,
+        }
+    }
+}
+
+/// Its name, or else its number in hexadecimal, two digits a byte. A width pads names alone.
+impl fmt::Display for SignatureAlgorithm {
+    ghost output = { λ v. Some (signature_algorithm_text v.0) };
+
+    #[tactic(auto, using(crate::specs::SignatureAlgorithm::signature_algorithm_printed))]
+    fn fmt<W: fmt::Write>(&self, f: &mut fmt::Formatter<W>) -> fmt::Result {
+        match self.name() {
+            Some(name) => f.pad(name),
+            None => write!(f, "0x{:02x}", self.0),
+        }
+    }
+}
+
+/// Its number.
+impl From<SignatureAlgorithm> for u8 {
+    ghost from_gives = { λ v number. number ≡ v.0 };
+
+    fn from(value: SignatureAlgorithm) -> u8 {
+        value.0
+    }
+}
+
+/// The one that has this number.
+impl From<u8> for SignatureAlgorithm {
+    ghost from_gives = { λ number v. v.0 ≡ number };
+
+    fn from(number: u8) -> SignatureAlgorithm {
+        SignatureAlgorithm(number)
+    }
 }
 
 impl Size for SignatureAlgorithm {
@@ -75,4 +121,10 @@ impl DeserializeBytes for SignatureAlgorithm {
 pub fn is_compared_by_its_number()
     ensures { (x y : SignatureAlgorithm) →
         ⟦<SignatureAlgorithm as PartialEq>⟧.eq x y ≡ nat_eq x.0 y.0 }
+{}
+
+/// Two are in the order of their numbers.
+pub fn is_ordered_by_its_number()
+    ensures { (x y : SignatureAlgorithm) →
+        ⟦<SignatureAlgorithm as Ord>⟧.cmp x y ≡ nat_cmp x.0 y.0 }
 {}

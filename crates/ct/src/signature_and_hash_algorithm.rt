@@ -7,7 +7,7 @@ use crate::{HashAlgorithm, SignatureAlgorithm};
 use std::alloc::Global;
 use tls_codec::{Deserialize, DeserializeBytes, Error, Lent, Serialize, Sink, Size, Source};
 
-/// `SignatureAndHashAlgorithm`.
+/// `SignatureAndHashAlgorithm` (RFC 5246, section 7.4.1.4.1).
 #[derive(PartialEq, Eq, Debug, Clone, Drop)]
 pub struct SignatureAndHashAlgorithm {
     /// `HashAlgorithm hash;`

@@ -1,44 +1,64 @@
 //! [`SignatureType`].
-ghost use Rattle.std.specs.Prelude.{◌≡◌, MatchOption, false, nat_eq};
-ghost use Rattle.tls_codec.specs.OwnMessages.{values_names, values_source_names};
-ghost use Rattle.ct.specs.SignatureType.{signature_type_code, signature_type_format, signature_type_has, signature_type_meets, signature_type_plain};
+ghost use Rattle.std.specs.Prelude.{◌≡◌, Some, nat_eq, option_map};
+ghost use Rattle.std.specs.Ordering.{nat_cmp};
+ghost use Rattle.ct.specs.SignatureType.{signature_type_format, signature_type_meets, signature_type_name, signature_type_plain, signature_type_text};
 ghost use Rattle.ct.specs.declared.signature_type.SignatureType.{SignatureType};
 
 use std::alloc::Global;
-use tls_codec::{
-    Deserialize, DeserializeBytes, Error, Serialize, Sink, Size, Source, unknown_value,
-};
+use std::fmt;
+use tls_codec::{Deserialize, DeserializeBytes, Error, Serialize, Sink, Size, Source};
 
-/// `SignatureType`.
-#[derive(PartialEq, Eq, Debug, Clone, Copy)]
-pub enum SignatureType {
-    /// `certificate_timestamp(0)`
-    CertificateTimestamp,
-    /// `tree_hash(1)`
-    TreeHash,
-}
+/// `SignatureType` (RFC 6962, section 3.2).
+#[derive(PartialEq, Eq, PartialOrd, Ord, Hash, Debug, Clone, Copy)]
+pub struct SignatureType(pub u8);
 
 impl SignatureType {
-    /// Its number.
-    pub fn code(&self) -> u8
-        ensures { result ≡ signature_type_code self.now }
-    {
-        match self {
-            SignatureType::CertificateTimestamp => 0,
-            SignatureType::TreeHash => 1,
-        }
-    }
+    /// `certificate_timestamp`
+    pub const CERTIFICATE_TIMESTAMP: SignatureType = SignatureType(0);
 
-    /// The value that has this number.
-    pub fn of_code(code: u8) -> Option<SignatureType>
-        ensures { MatchOption result (signature_type_has code ≡ false)
-            (λ v. signature_type_code v ≡ code) }
+    /// `tree_hash`
+    pub const TREE_HASH: SignatureType = SignatureType(1);
+
+    /// Its name in the text, if it has one.
+    pub fn name(&self) -> Option<&'static str>
+        ensures { option_map (λ name. name.now) result ≡ signature_type_name self.now.0 }
     {
-        match code {
-            0 => Some(SignatureType::CertificateTimestamp),
-            1 => Some(SignatureType::TreeHash),
+        match self.0 {
+            0 => Some("certificate_timestamp"),
+            1 => Some("tree_hash"),
             _ => None,
         }
+    }
+}
+
+/// Its name, or else its number in hexadecimal, two digits a byte. A width pads names alone.
+impl fmt::Display for SignatureType {
+    ghost output = { λ v. Some (signature_type_text v.0) };
+
+    #[tactic(auto, using(crate::specs::SignatureType::signature_type_printed))]
+    fn fmt<W: fmt::Write>(&self, f: &mut fmt::Formatter<W>) -> fmt::Result {
+        match self.name() {
+            Some(name) => f.pad(name),
+            None => write!(f, "0x{:02x}", self.0),
+        }
+    }
+}
+
+/// Its number.
+impl From<SignatureType> for u8 {
+    ghost from_gives = { λ v number. number ≡ v.0 };
+
+    fn from(value: SignatureType) -> u8 {
+        value.0
+    }
+}
+
+/// The one that has this number.
+impl From<u8> for SignatureType {
+    ghost from_gives = { λ number v. v.0 ≡ number };
+
+    fn from(number: u8) -> SignatureType {
+        SignatureType(number)
     }
 }
 
@@ -51,46 +71,49 @@ impl Size for SignatureType {
         1
     }
 
+    fn tls_fixed_len() -> Option<usize> {
+        Some(1)
+    }
+
     ghost lawful = { signature_type_meets };
 }
 
 impl Serialize for SignatureType {
     fn tls_serialize<W: Sink>(&self, writer: &mut W) -> Result<usize, Error> {
-        self.code().tls_serialize(writer)
+        self.0.tls_serialize(writer)
     }
 
     fn tls_serialize_into(&self, out: &mut Vec<u8>) -> Result<usize, Error> {
-        self.code().tls_serialize_into(out)
+        self.0.tls_serialize_into(out)
     }
 }
 
 impl Deserialize for SignatureType {
-    ghost names = { values_source_names 1 signature_type_has };
+    ghost names = { ⟦<u8 as Deserialize>⟧.names };
 
     fn tls_deserialize<R: Source>(alloc: Global, src: &mut R) -> Result<SignatureType, Error> {
-        let tag = u8::tls_deserialize(alloc, src)?;
-        match SignatureType::of_code(tag) {
-            Some(value) => Ok(value),
-            None => Err(unknown_value(u64::from(tag))),
-        }
+        let number = u8::tls_deserialize(alloc, src)?;
+        Ok(SignatureType(number))
     }
 }
 
 impl DeserializeBytes for SignatureType {
-    ghost names = { values_names 1 signature_type_has };
+    ghost names = { ⟦<u8 as DeserializeBytes>⟧.names };
 
     fn tls_deserialize_bytes(alloc: Global, whole: &[u8]) -> Result<(SignatureType, &[u8]), Error> {
-        let (tag, rest) = u8::tls_deserialize_bytes(alloc, whole)?;
-        match SignatureType::of_code(tag) {
-            Some(value) => Ok((value, rest)),
-            None => Err(unknown_value(u64::from(tag))),
-        }
+        let (number, rest) = u8::tls_deserialize_bytes(alloc, whole)?;
+        Ok((SignatureType(number), rest))
     }
 }
 
 /// Two are equal exactly where their numbers are.
 pub fn is_compared_by_its_number()
     ensures { (x y : SignatureType) →
-        ⟦<SignatureType as PartialEq>⟧.eq x y
-        ≡ nat_eq (signature_type_code x) (signature_type_code y) }
+        ⟦<SignatureType as PartialEq>⟧.eq x y ≡ nat_eq x.0 y.0 }
+{}
+
+/// Two are in the order of their numbers.
+pub fn is_ordered_by_its_number()
+    ensures { (x y : SignatureType) →
+        ⟦<SignatureType as Ord>⟧.cmp x y ≡ nat_cmp x.0 y.0 }
 {}

@@ -1,16 +1,20 @@
 //! [`SignatureTypeCertificateTimestamp`].
-ghost use Rattle.std.specs.Prelude.{◌≡◌, MatchOption, false, nat_eq};
+ghost use Rattle.std.specs.Prelude.{◌≡◌, MatchOption, MatchResult, Some, false, nat_eq};
+ghost use Rattle.std.specs.Fmt.{padded};
+ghost use Rattle.std.specs.Ordering.{nat_cmp};
+ghost use Rattle.tls_codec.specs.Errors.{UnknownValue};
 ghost use Rattle.tls_codec.specs.OwnMessages.{values_names, values_source_names};
-ghost use Rattle.ct.specs.SignatureTypeCertificateTimestamp.{signature_type_certificate_timestamp_code, signature_type_certificate_timestamp_format, signature_type_certificate_timestamp_has, signature_type_certificate_timestamp_meets, signature_type_certificate_timestamp_plain};
+ghost use Rattle.ct.specs.SignatureTypeCertificateTimestamp.{signature_type_certificate_timestamp_code, signature_type_certificate_timestamp_format, signature_type_certificate_timestamp_has, signature_type_certificate_timestamp_meets, signature_type_certificate_timestamp_name, signature_type_certificate_timestamp_plain};
 ghost use Rattle.ct.specs.declared.signature_type_certificate_timestamp.SignatureTypeCertificateTimestamp.{SignatureTypeCertificateTimestamp};
 
 use std::alloc::Global;
+use std::fmt;
 use tls_codec::{
     Deserialize, DeserializeBytes, Error, Serialize, Sink, Size, Source, unknown_value,
 };
 
 /// `SignatureTypeCertificateTimestamp`.
-#[derive(PartialEq, Eq, Debug, Clone, Copy)]
+#[derive(PartialEq, Eq, PartialOrd, Ord, Hash, Debug, Clone, Copy)]
 pub enum SignatureTypeCertificateTimestamp {
     /// `certificate_timestamp(0)`
     CertificateTimestamp,
@@ -24,6 +28,13 @@ impl SignatureTypeCertificateTimestamp {
         0
     }
 
+    /// Its name in the text.
+    pub fn name(&self) -> &'static str
+        ensures { result.now ≡ signature_type_certificate_timestamp_name self.now }
+    {
+        "certificate_timestamp"
+    }
+
     /// The value that has this number.
     pub fn of_code(code: u8) -> Option<SignatureTypeCertificateTimestamp>
         ensures { MatchOption result (signature_type_certificate_timestamp_has code ≡ false)
@@ -32,6 +43,43 @@ impl SignatureTypeCertificateTimestamp {
         match code {
             0 => Some(SignatureTypeCertificateTimestamp::CertificateTimestamp),
             _ => None,
+        }
+    }
+}
+
+/// Its name.
+impl fmt::Display for SignatureTypeCertificateTimestamp {
+    ghost output = { λ v. Some (signature_type_certificate_timestamp_name v) };
+
+    ghost styled_output = { λ v spec. Some (padded spec
+        (signature_type_certificate_timestamp_name v)) };
+
+    fn fmt<W: fmt::Write>(&self, f: &mut fmt::Formatter<W>) -> fmt::Result {
+        f.pad(self.name())
+    }
+}
+
+/// Its number.
+impl From<SignatureTypeCertificateTimestamp> for u8 {
+    ghost from_gives = { λ v number. number ≡ signature_type_certificate_timestamp_code v };
+
+    fn from(value: SignatureTypeCertificateTimestamp) -> u8 {
+        value.code()
+    }
+}
+
+/// The value that has this number.
+impl TryFrom<u8> for SignatureTypeCertificateTimestamp {
+    type Error = Error;
+
+    ghost try_from_gives = { λ tag r. MatchResult r
+        (λ v. signature_type_certificate_timestamp_code v ≡ tag)
+        (λ e. (signature_type_certificate_timestamp_has tag ≡ false) × (e ≡ UnknownValue tag)) };
+
+    fn try_from(tag: u8) -> Result<SignatureTypeCertificateTimestamp, Error> {
+        match SignatureTypeCertificateTimestamp::of_code(tag) {
+            Some(value) => Ok(value),
+            None => Err(unknown_value(u64::from(tag))),
         }
     }
 }
@@ -92,5 +140,14 @@ impl DeserializeBytes for SignatureTypeCertificateTimestamp {
 pub fn is_compared_by_its_number()
     ensures { (x y : SignatureTypeCertificateTimestamp) →
         ⟦<SignatureTypeCertificateTimestamp as PartialEq>⟧.eq x y
-        ≡ nat_eq (signature_type_certificate_timestamp_code x) (signature_type_certificate_timestamp_code y) }
+        ≡ nat_eq (signature_type_certificate_timestamp_code x)
+        (signature_type_certificate_timestamp_code y) }
+{}
+
+/// Two are in the order of their numbers.
+pub fn is_ordered_by_its_number()
+    ensures { (x y : SignatureTypeCertificateTimestamp) →
+        ⟦<SignatureTypeCertificateTimestamp as Ord>⟧.cmp x y
+        ≡ nat_cmp (signature_type_certificate_timestamp_code x)
+        (signature_type_certificate_timestamp_code y) }
 {}

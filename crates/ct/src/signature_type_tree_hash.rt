@@ -1,16 +1,20 @@
 //! [`SignatureTypeTreeHash`].
-ghost use Rattle.std.specs.Prelude.{◌≡◌, MatchOption, false, nat_eq};
+ghost use Rattle.std.specs.Prelude.{◌≡◌, MatchOption, MatchResult, Some, false, nat_eq};
+ghost use Rattle.std.specs.Fmt.{padded};
+ghost use Rattle.std.specs.Ordering.{nat_cmp};
+ghost use Rattle.tls_codec.specs.Errors.{UnknownValue};
 ghost use Rattle.tls_codec.specs.OwnMessages.{values_names, values_source_names};
-ghost use Rattle.ct.specs.SignatureTypeTreeHash.{signature_type_tree_hash_code, signature_type_tree_hash_format, signature_type_tree_hash_has, signature_type_tree_hash_meets, signature_type_tree_hash_plain};
+ghost use Rattle.ct.specs.SignatureTypeTreeHash.{signature_type_tree_hash_code, signature_type_tree_hash_format, signature_type_tree_hash_has, signature_type_tree_hash_meets, signature_type_tree_hash_name, signature_type_tree_hash_plain};
 ghost use Rattle.ct.specs.declared.signature_type_tree_hash.SignatureTypeTreeHash.{SignatureTypeTreeHash};
 
 use std::alloc::Global;
+use std::fmt;
 use tls_codec::{
     Deserialize, DeserializeBytes, Error, Serialize, Sink, Size, Source, unknown_value,
 };
 
 /// `SignatureTypeTreeHash`.
-#[derive(PartialEq, Eq, Debug, Clone, Copy)]
+#[derive(PartialEq, Eq, PartialOrd, Ord, Hash, Debug, Clone, Copy)]
 pub enum SignatureTypeTreeHash {
     /// `tree_hash(1)`
     TreeHash,
@@ -24,6 +28,13 @@ impl SignatureTypeTreeHash {
         1
     }
 
+    /// Its name in the text.
+    pub fn name(&self) -> &'static str
+        ensures { result.now ≡ signature_type_tree_hash_name self.now }
+    {
+        "tree_hash"
+    }
+
     /// The value that has this number.
     pub fn of_code(code: u8) -> Option<SignatureTypeTreeHash>
         ensures { MatchOption result (signature_type_tree_hash_has code ≡ false)
@@ -32,6 +43,42 @@ impl SignatureTypeTreeHash {
         match code {
             1 => Some(SignatureTypeTreeHash::TreeHash),
             _ => None,
+        }
+    }
+}
+
+/// Its name.
+impl fmt::Display for SignatureTypeTreeHash {
+    ghost output = { λ v. Some (signature_type_tree_hash_name v) };
+
+    ghost styled_output = { λ v spec. Some (padded spec (signature_type_tree_hash_name v)) };
+
+    fn fmt<W: fmt::Write>(&self, f: &mut fmt::Formatter<W>) -> fmt::Result {
+        f.pad(self.name())
+    }
+}
+
+/// Its number.
+impl From<SignatureTypeTreeHash> for u8 {
+    ghost from_gives = { λ v number. number ≡ signature_type_tree_hash_code v };
+
+    fn from(value: SignatureTypeTreeHash) -> u8 {
+        value.code()
+    }
+}
+
+/// The value that has this number.
+impl TryFrom<u8> for SignatureTypeTreeHash {
+    type Error = Error;
+
+    ghost try_from_gives = { λ tag r. MatchResult r
+        (λ v. signature_type_tree_hash_code v ≡ tag)
+        (λ e. (signature_type_tree_hash_has tag ≡ false) × (e ≡ UnknownValue tag)) };
+
+    fn try_from(tag: u8) -> Result<SignatureTypeTreeHash, Error> {
+        match SignatureTypeTreeHash::of_code(tag) {
+            Some(value) => Ok(value),
+            None => Err(unknown_value(u64::from(tag))),
         }
     }
 }
@@ -93,4 +140,11 @@ pub fn is_compared_by_its_number()
     ensures { (x y : SignatureTypeTreeHash) →
         ⟦<SignatureTypeTreeHash as PartialEq>⟧.eq x y
         ≡ nat_eq (signature_type_tree_hash_code x) (signature_type_tree_hash_code y) }
+{}
+
+/// Two are in the order of their numbers.
+pub fn is_ordered_by_its_number()
+    ensures { (x y : SignatureTypeTreeHash) →
+        ⟦<SignatureTypeTreeHash as Ord>⟧.cmp x y
+        ≡ nat_cmp (signature_type_tree_hash_code x) (signature_type_tree_hash_code y) }
 {}

@@ -9,7 +9,7 @@ use tls_codec::{
     Deserialize, DeserializeBytes, Error, Serialize, Sink, Size, Source, TlsVec, Within,
 };
 
-/// `SignedCertificateTimestampList`.
+/// `SignedCertificateTimestampList` (RFC 6962, section 3.3).
 #[derive(PartialEq, Eq, Debug, Clone, Drop)]
 pub struct SignedCertificateTimestampList {
     /// `SerializedSCT sct_list<1..2^16-1>;`

@@ -9,7 +9,7 @@ use tls_codec::{
     Deserialize, DeserializeBytes, Error, Lent2, Lent3, Serialize, Sink, Size, Source,
 };
 
-/// `SignedCertificateTimestampTBS`.
+/// `SignedCertificateTimestampTBS` (RFC 6962, section 3.2).
 #[derive(PartialEq, Eq, Debug, Clone, Drop)]
 pub struct SignedCertificateTimestampTBS {
     /// `Version sct_version;`

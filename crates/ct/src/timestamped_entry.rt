@@ -7,7 +7,7 @@ use crate::{CtExtensions, TimestampedEntryLogEntryTypeData};
 use std::alloc::Global;
 use tls_codec::{Deserialize, DeserializeBytes, Error, Lent, Serialize, Sink, Size, Source};
 
-/// `TimestampedEntry`.
+/// `TimestampedEntry` (RFC 6962, section 3.4).
 #[derive(PartialEq, Eq, Debug, Clone, Drop)]
 pub struct TimestampedEntry {
     /// `uint64 timestamp;`

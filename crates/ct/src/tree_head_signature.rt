@@ -9,7 +9,7 @@ use tls_codec::{
     Deserialize, DeserializeBytes, Error, Lent2, Lent3, Serialize, Sink, Size, Source,
 };
 
-/// `TreeHeadSignature`.
+/// `TreeHeadSignature` (RFC 6962, section 3.5).
 #[derive(PartialEq, Eq, Debug, Clone, Drop)]
 pub struct TreeHeadSignature {
     /// `Version version;`

@@ -1,16 +1,20 @@
 //! [`Version`].
-ghost use Rattle.std.specs.Prelude.{◌≡◌, MatchOption, false, nat_eq};
+ghost use Rattle.std.specs.Prelude.{◌≡◌, MatchOption, MatchResult, Some, false, nat_eq};
+ghost use Rattle.std.specs.Fmt.{padded};
+ghost use Rattle.std.specs.Ordering.{nat_cmp};
+ghost use Rattle.tls_codec.specs.Errors.{UnknownValue};
 ghost use Rattle.tls_codec.specs.OwnMessages.{values_names, values_source_names};
-ghost use Rattle.ct.specs.Version.{version_code, version_format, version_has, version_meets, version_plain};
+ghost use Rattle.ct.specs.Version.{version_code, version_format, version_has, version_meets, version_name, version_plain};
 ghost use Rattle.ct.specs.declared.version.Version.{Version};
 
 use std::alloc::Global;
+use std::fmt;
 use tls_codec::{
     Deserialize, DeserializeBytes, Error, Serialize, Sink, Size, Source, unknown_value,
 };
 
-/// `Version`.
-#[derive(PartialEq, Eq, Debug, Clone, Copy)]
+/// `Version` (RFC 6962, section 3.2).
+#[derive(PartialEq, Eq, PartialOrd, Ord, Hash, Debug, Clone, Copy)]
 pub enum Version {
     /// `v1(0)`
     V1,
@@ -24,6 +28,13 @@ impl Version {
         0
     }
 
+    /// Its name in the text.
+    pub fn name(&self) -> &'static str
+        ensures { result.now ≡ version_name self.now }
+    {
+        "v1"
+    }
+
     /// The value that has this number.
     pub fn of_code(code: u8) -> Option<Version>
         ensures { MatchOption result (version_has code ≡ false) (λ v. version_code v ≡ code) }
@@ -31,6 +42,42 @@ impl Version {
         match code {
             0 => Some(Version::V1),
             _ => None,
+        }
+    }
+}
+
+/// Its name.
+impl fmt::Display for Version {
+    ghost output = { λ v. Some (version_name v) };
+
+    ghost styled_output = { λ v spec. Some (padded spec (version_name v)) };
+
+    fn fmt<W: fmt::Write>(&self, f: &mut fmt::Formatter<W>) -> fmt::Result {
+        f.pad(self.name())
+    }
+}
+
+/// Its number.
+impl From<Version> for u8 {
+    ghost from_gives = { λ v number. number ≡ version_code v };
+
+    fn from(value: Version) -> u8 {
+        value.code()
+    }
+}
+
+/// The value that has this number.
+impl TryFrom<u8> for Version {
+    type Error = Error;
+
+    ghost try_from_gives = { λ tag r. MatchResult r
+        (λ v. version_code v ≡ tag)
+        (λ e. (version_has tag ≡ false) × (e ≡ UnknownValue tag)) };
+
+    fn try_from(tag: u8) -> Result<Version, Error> {
+        match Version::of_code(tag) {
+            Some(value) => Ok(value),
+            None => Err(unknown_value(u64::from(tag))),
         }
     }
 }
@@ -86,4 +133,11 @@ pub fn is_compared_by_its_number()
     ensures { (x y : Version) →
         ⟦<Version as PartialEq>⟧.eq x y
         ≡ nat_eq (version_code x) (version_code y) }
+{}
+
+/// Two are in the order of their numbers.
+pub fn is_ordered_by_its_number()
+    ensures { (x y : Version) →
+        ⟦<Version as Ord>⟧.cmp x y
+        ≡ nat_cmp (version_code x) (version_code y) }
 {}

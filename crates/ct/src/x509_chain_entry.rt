@@ -9,7 +9,7 @@ use tls_codec::{
     Deserialize, DeserializeBytes, Error, Lent, Serialize, Sink, Size, Source, TlsVecU24,
 };
 
-/// `X509ChainEntry`.
+/// `X509ChainEntry` (RFC 6962, section 3.1).
 #[derive(PartialEq, Eq, Debug, Clone, Drop)]
 pub struct X509ChainEntry {
     /// `ASN.1Cert leaf_certificate;`

@@ -1,6 +1,6 @@
 -- BodyKind: what it stands for, its format and its law.
 use Rattle.std.proofs.Common.{arith}
-use Rattle.std.specs.Prelude.{◌≡◌, ◌==◌, ◌||◌, ℕ, Bool, true, refl}
+use Rattle.std.specs.Prelude.{◌≡◌, ◌==◌, ◌||◌, ℕ, Bool, true, refl, List, codes}
 use Rattle.tls_codec.specs.OwnMessages.{Tree, Number, Empty, Join, Format, values_format, MeetsLaws, tagged_meets, values_meet}
 use Rattle.messages_of_each_shape.specs.declared.body_kind.BodyKind.{BodyKind}
 use Rattle.messages_of_each_shape.specs.declared.body_kind.BodyKind.TheVariants.{Chat, File}
@@ -9,6 +9,11 @@ use Rattle.messages_of_each_shape.specs.declared.body_kind.BodyKind.TheVariants.
 abbrev pub body_kind_code : BodyKind → ℕ
 body_kind_code Chat = 1
 body_kind_code File = 2
+
+-- the name of each value
+abbrev pub body_kind_name : BodyKind → List ℕ
+body_kind_name Chat = codes "chat"
+body_kind_name File = codes "file"
 
 -- which numbers there are
 abbrev pub body_kind_has : ℕ → Bool

@@ -1,6 +1,6 @@
 -- CertificateType: what it stands for, its format and its law.
 use Rattle.std.proofs.Common.{arith}
-use Rattle.std.specs.Prelude.{◌≡◌, ◌==◌, ◌||◌, ℕ, Bool, true, refl}
+use Rattle.std.specs.Prelude.{◌≡◌, ◌==◌, ◌||◌, ℕ, Bool, true, refl, List, codes}
 use Rattle.tls_codec.specs.OwnMessages.{Tree, Number, Empty, Join, Format, values_format, MeetsLaws, tagged_meets, values_meet}
 use Rattle.messages_of_each_shape.specs.declared.certificate_type.CertificateType.{CertificateType}
 use Rattle.messages_of_each_shape.specs.declared.certificate_type.CertificateType.TheVariants.{X509, RawPublicKey}
@@ -9,6 +9,11 @@ use Rattle.messages_of_each_shape.specs.declared.certificate_type.CertificateTyp
 abbrev pub certificate_type_code : CertificateType → ℕ
 certificate_type_code X509 = 0
 certificate_type_code RawPublicKey = 2
+
+-- the name of each value
+abbrev pub certificate_type_name : CertificateType → List ℕ
+certificate_type_name X509 = codes "X509"
+certificate_type_name RawPublicKey = codes "RawPublicKey"
 
 -- which numbers there are
 abbrev pub certificate_type_has : ℕ → Bool

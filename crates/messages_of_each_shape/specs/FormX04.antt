@@ -1,12 +1,16 @@
 -- FormX04: what it stands for, its format and its law.
 use Rattle.std.proofs.Common.{arith}
-use Rattle.std.specs.Prelude.{◌≡◌, ◌==◌, ℕ, Bool, true, refl}
+use Rattle.std.specs.Prelude.{◌≡◌, ◌==◌, ℕ, Bool, true, refl, List, codes}
 use Rattle.tls_codec.specs.OwnMessages.{Tree, Number, Empty, Join, Format, values_format, MeetsLaws, tagged_meets, values_meet}
 use Rattle.messages_of_each_shape.specs.declared.form_x04.FormX04.{FormX04}
 
 -- the number of each value
 abbrev pub form_x04_code : FormX04 → ℕ
 form_x04_code v = 4
+
+-- the name of each value
+abbrev pub form_x04_name : FormX04 → List ℕ
+form_x04_name v = codes "0x04"
 
 -- which numbers there are
 abbrev pub form_x04_has : ℕ → Bool

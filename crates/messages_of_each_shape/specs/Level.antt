@@ -1,6 +1,6 @@
 -- Level: what it stands for, its format and its law.
 use Rattle.std.proofs.Common.{arith}
-use Rattle.std.specs.Prelude.{◌≡◌, ◌==◌, ◌||◌, ℕ, Bool, true, refl}
+use Rattle.std.specs.Prelude.{◌≡◌, ◌==◌, ◌||◌, ℕ, Bool, true, refl, List, codes}
 use Rattle.tls_codec.specs.OwnMessages.{Tree, Number, Empty, Join, Format, values_format, MeetsLaws, tagged_meets, values_meet}
 use Rattle.messages_of_each_shape.specs.declared.level.Level.{Level}
 use Rattle.messages_of_each_shape.specs.declared.level.Level.TheVariants.{Low, Middle, High}
@@ -10,6 +10,12 @@ abbrev pub level_code : Level → ℕ
 level_code Low = 1
 level_code Middle = 256
 level_code High = 65535
+
+-- the name of each value
+abbrev pub level_name : Level → List ℕ
+level_name Low = codes "low"
+level_name Middle = codes "middle"
+level_name High = codes "high"
 
 -- which numbers there are
 abbrev pub level_has : ℕ → Bool

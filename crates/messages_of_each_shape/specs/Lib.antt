@@ -6,6 +6,8 @@ pub mod ByVersion
 pub mod Carrier
 pub mod CertificateType
 pub mod CertificateTypeData
+pub mod ClientCertTypeExtension
+pub mod ClientOrServerExtension
 pub mod ContentTypeData
 pub mod EmptyType
 pub mod Entries

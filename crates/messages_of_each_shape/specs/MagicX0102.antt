@@ -1,12 +1,16 @@
 -- MagicX0102: what it stands for, its format and its law.
 use Rattle.std.proofs.Common.{arith}
-use Rattle.std.specs.Prelude.{◌≡◌, ◌==◌, ℕ, Bool, true, refl}
+use Rattle.std.specs.Prelude.{◌≡◌, ◌==◌, ℕ, Bool, true, refl, List, codes}
 use Rattle.tls_codec.specs.OwnMessages.{Tree, Number, Empty, Join, Format, values_format, MeetsLaws, tagged_meets, values_meet}
 use Rattle.messages_of_each_shape.specs.declared.magic_x0102.MagicX0102.{MagicX0102}
 
 -- the number of each value
 abbrev pub magic_x0102_code : MagicX0102 → ℕ
 magic_x0102_code v = 258
+
+-- the name of each value
+abbrev pub magic_x0102_name : MagicX0102 → List ℕ
+magic_x0102_name v = codes "0x0102"
 
 -- which numbers there are
 abbrev pub magic_x0102_has : ℕ → Bool

@@ -1,12 +1,16 @@
 -- NameTypeHostName: what it stands for, its format and its law.
 use Rattle.std.proofs.Common.{arith}
-use Rattle.std.specs.Prelude.{◌≡◌, ◌==◌, ℕ, Bool, true, refl}
+use Rattle.std.specs.Prelude.{◌≡◌, ◌==◌, ℕ, Bool, true, refl, List, codes}
 use Rattle.tls_codec.specs.OwnMessages.{Tree, Number, Empty, Join, Format, values_format, MeetsLaws, tagged_meets, values_meet}
 use Rattle.messages_of_each_shape.specs.declared.name_type_host_name.NameTypeHostName.{NameTypeHostName}
 
 -- the number of each value
 abbrev pub name_type_host_name_code : NameTypeHostName → ℕ
 name_type_host_name_code v = 0
+
+-- the name of each value
+abbrev pub name_type_host_name_name : NameTypeHostName → List ℕ
+name_type_host_name_name v = codes "host_name"
 
 -- which numbers there are
 abbrev pub name_type_host_name_has : ℕ → Bool

@@ -1,12 +1,16 @@
 -- VersionXfefd: what it stands for, its format and its law.
 use Rattle.std.proofs.Common.{arith}
-use Rattle.std.specs.Prelude.{◌≡◌, ◌==◌, ℕ, Bool, true, refl}
+use Rattle.std.specs.Prelude.{◌≡◌, ◌==◌, ℕ, Bool, true, refl, List, codes}
 use Rattle.tls_codec.specs.OwnMessages.{Tree, Number, Empty, Join, Format, values_format, MeetsLaws, tagged_meets, values_meet}
 use Rattle.messages_of_each_shape.specs.declared.version_xfefd.VersionXfefd.{VersionXfefd}
 
 -- the number of each value
 abbrev pub version_xfefd_code : VersionXfefd → ℕ
 version_xfefd_code v = 65277
+
+-- the name of each value
+abbrev pub version_xfefd_name : VersionXfefd → List ℕ
+version_xfefd_name v = codes "0xfefd"
 
 -- which numbers there are
 abbrev pub version_xfefd_has : ℕ → Bool

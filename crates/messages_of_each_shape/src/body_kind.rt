@@ -1,17 +1,21 @@
 //! [`BodyKind`].
-ghost use Rattle.std.specs.Prelude.{◌≡◌, MatchOption, false, nat_eq};
+ghost use Rattle.std.specs.Prelude.{◌≡◌, MatchOption, MatchResult, Some, false, nat_eq};
+ghost use Rattle.std.specs.Fmt.{padded};
+ghost use Rattle.std.specs.Ordering.{nat_cmp};
+ghost use Rattle.tls_codec.specs.Errors.{UnknownValue};
 ghost use Rattle.tls_codec.specs.OwnMessages.{values_names, values_source_names};
-ghost use Rattle.messages_of_each_shape.specs.BodyKind.{body_kind_code, body_kind_format, body_kind_has, body_kind_meets, body_kind_plain, body_kind_selected};
+ghost use Rattle.messages_of_each_shape.specs.BodyKind.{body_kind_code, body_kind_format, body_kind_has, body_kind_meets, body_kind_name, body_kind_plain, body_kind_selected};
 ghost use Rattle.messages_of_each_shape.specs.declared.body_kind.BodyKind.{BodyKind};
 
 use std::alloc::Global;
+use std::fmt;
 use tls_codec::{
     Deserialize, DeserializeBytes, Error, Serialize, Sink, Size, Source, unknown_value,
 };
 use tls_codec_cases::Selector;
 
 /// `BodyKind`.
-#[derive(PartialEq, Eq, Debug, Clone, Copy)]
+#[derive(PartialEq, Eq, PartialOrd, Ord, Hash, Debug, Clone, Copy)]
 pub enum BodyKind {
     /// `chat(1)`
     Chat,
@@ -30,6 +34,16 @@ impl BodyKind {
         }
     }
 
+    /// Its name in the text.
+    pub fn name(&self) -> &'static str
+        ensures { result.now ≡ body_kind_name self.now }
+    {
+        match self {
+            BodyKind::Chat => "chat",
+            BodyKind::File => "file",
+        }
+    }
+
     /// The value that has this number.
     pub fn of_code(code: u8) -> Option<BodyKind>
         ensures { MatchOption result (body_kind_has code ≡ false) (λ v. body_kind_code v ≡ code) }
@@ -38,6 +52,42 @@ impl BodyKind {
             1 => Some(BodyKind::Chat),
             2 => Some(BodyKind::File),
             _ => None,
+        }
+    }
+}
+
+/// Its name.
+impl fmt::Display for BodyKind {
+    ghost output = { λ v. Some (body_kind_name v) };
+
+    ghost styled_output = { λ v spec. Some (padded spec (body_kind_name v)) };
+
+    fn fmt<W: fmt::Write>(&self, f: &mut fmt::Formatter<W>) -> fmt::Result {
+        f.pad(self.name())
+    }
+}
+
+/// Its number.
+impl From<BodyKind> for u8 {
+    ghost from_gives = { λ v number. number ≡ body_kind_code v };
+
+    fn from(value: BodyKind) -> u8 {
+        value.code()
+    }
+}
+
+/// The value that has this number.
+impl TryFrom<u8> for BodyKind {
+    type Error = Error;
+
+    ghost try_from_gives = { λ tag r. MatchResult r
+        (λ v. body_kind_code v ≡ tag)
+        (λ e. (body_kind_has tag ≡ false) × (e ≡ UnknownValue tag)) };
+
+    fn try_from(tag: u8) -> Result<BodyKind, Error> {
+        match BodyKind::of_code(tag) {
+            Some(value) => Ok(value),
+            None => Err(unknown_value(u64::from(tag))),
         }
     }
 }
@@ -102,4 +152,11 @@ pub fn is_compared_by_its_number()
     ensures { (x y : BodyKind) →
         ⟦<BodyKind as PartialEq>⟧.eq x y
         ≡ nat_eq (body_kind_code x) (body_kind_code y) }
+{}
+
+/// Two are in the order of their numbers.
+pub fn is_ordered_by_its_number()
+    ensures { (x y : BodyKind) →
+        ⟦<BodyKind as Ord>⟧.cmp x y
+        ≡ nat_cmp (body_kind_code x) (body_kind_code y) }
 {}

@@ -10,6 +10,8 @@ use tls_codec::{
 };
 
 /// `Bounded`.
+///
+/// Bounds on bytes and on a list of numbers.
 #[derive(PartialEq, Eq, Debug, Clone, Drop)]
 pub struct Bounded {
     /// `opaque session<0..32>;`

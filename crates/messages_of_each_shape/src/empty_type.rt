@@ -1,16 +1,58 @@
 //! [`EmptyType`].
-ghost use Rattle.std.specs.Prelude.{◌≡◌, nat_eq};
-ghost use Rattle.messages_of_each_shape.specs.EmptyType.{empty_type_format, empty_type_meets, empty_type_plain};
+ghost use Rattle.std.specs.Prelude.{◌≡◌, Some, nat_eq, option_map};
+ghost use Rattle.std.specs.Ordering.{nat_cmp};
+ghost use Rattle.messages_of_each_shape.specs.EmptyType.{empty_type_format, empty_type_meets, empty_type_name, empty_type_plain, empty_type_text};
 ghost use Rattle.messages_of_each_shape.specs.declared.empty_type.EmptyType.{EmptyType};
 
 use std::alloc::Global;
+use std::fmt;
 use tls_codec::{Deserialize, DeserializeBytes, Error, Serialize, Sink, Size, Source};
 
 /// `Empty`.
-#[derive(PartialEq, Eq, Debug, Clone, Copy)]
+#[derive(PartialEq, Eq, PartialOrd, Ord, Hash, Debug, Clone, Copy)]
 pub struct EmptyType(pub u8);
 
-impl EmptyType {}
+impl EmptyType {
+    /// Its name in the text, if it has one.
+    pub fn name(&self) -> Option<&'static str>
+        ensures { option_map (λ name. name.now) result ≡ empty_type_name self.now.0 }
+    {
+        match self.0 {
+            _ => None,
+        }
+    }
+}
+
+/// Its name, or else its number in hexadecimal, two digits a byte. A width pads names alone.
+impl fmt::Display for EmptyType {
+    ghost output = { λ v. Some (empty_type_text v.0) };
+
+    #[tactic(auto, using(crate::specs::EmptyType::empty_type_printed))]
+    fn fmt<W: fmt::Write>(&self, f: &mut fmt::Formatter<W>) -> fmt::Result {
+        match self.name() {
+            Some(name) => f.pad(name),
+            None => write!(f, "0x{:02x}", self.0),
+        }
+    }
+}
+
+/// Its number.
+impl From<EmptyType> for u8 {
+    ghost from_gives = { λ v number. number ≡ v.0 };
+
+    fn from(value: EmptyType) -> u8 {
+        value.0
+    }
+}
+
+/// The one that has this number.
+impl From<u8> for EmptyType {
+    ghost from_gives = { λ number v. v.0 ≡ number };
+
+    fn from(number: u8) -> EmptyType {
+        EmptyType(number)
+    }
+}
 
 impl Size for EmptyType {
     ghost plain = { empty_type_plain };
@@ -60,4 +102,10 @@ impl DeserializeBytes for EmptyType {
 pub fn is_compared_by_its_number()
     ensures { (x y : EmptyType) →
         ⟦<EmptyType as PartialEq>⟧.eq x y ≡ nat_eq x.0 y.0 }
+{}
+
+/// Two are in the order of their numbers.
+pub fn is_ordered_by_its_number()
+    ensures { (x y : EmptyType) →
+        ⟦<EmptyType as Ord>⟧.cmp x y ≡ nat_cmp x.0 y.0 }
 {}

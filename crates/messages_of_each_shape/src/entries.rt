@@ -11,6 +11,8 @@ use tls_codec::{
 };
 
 /// `Entries`.
+///
+/// A list in the context.
 #[derive(PartialEq, Eq, Debug, Clone, Drop)]
 pub struct Entries {
     /// `uint8 count;`

@@ -1,16 +1,20 @@
 //! [`FormX04`].
-ghost use Rattle.std.specs.Prelude.{◌≡◌, MatchOption, false, nat_eq};
+ghost use Rattle.std.specs.Prelude.{◌≡◌, MatchOption, MatchResult, Some, false, nat_eq};
+ghost use Rattle.std.specs.Fmt.{padded};
+ghost use Rattle.std.specs.Ordering.{nat_cmp};
+ghost use Rattle.tls_codec.specs.Errors.{UnknownValue};
 ghost use Rattle.tls_codec.specs.OwnMessages.{values_names, values_source_names};
-ghost use Rattle.messages_of_each_shape.specs.FormX04.{form_x04_code, form_x04_format, form_x04_has, form_x04_meets, form_x04_plain};
+ghost use Rattle.messages_of_each_shape.specs.FormX04.{form_x04_code, form_x04_format, form_x04_has, form_x04_meets, form_x04_name, form_x04_plain};
 ghost use Rattle.messages_of_each_shape.specs.declared.form_x04.FormX04.{FormX04};
 
 use std::alloc::Global;
+use std::fmt;
 use tls_codec::{
     Deserialize, DeserializeBytes, Error, Serialize, Sink, Size, Source, unknown_value,
 };
 
 /// `FormX04`.
-#[derive(PartialEq, Eq, Debug, Clone, Copy)]
+#[derive(PartialEq, Eq, PartialOrd, Ord, Hash, Debug, Clone, Copy)]
 pub enum FormX04 {
     /// `0x04(4)`
     X04,
@@ -24,6 +28,13 @@ impl FormX04 {
         4
     }
 
+    /// Its name in the text.
+    pub fn name(&self) -> &'static str
+        ensures { result.now ≡ form_x04_name self.now }
+    {
+        "0x04"
+    }
+
     /// The value that has this number.
     pub fn of_code(code: u8) -> Option<FormX04>
         ensures { MatchOption result (form_x04_has code ≡ false) (λ v. form_x04_code v ≡ code) }
@@ -31,6 +42,42 @@ impl FormX04 {
         match code {
             4 => Some(FormX04::X04),
             _ => None,
+        }
+    }
+}
+
+/// Its name.
+impl fmt::Display for FormX04 {
+    ghost output = { λ v. Some (form_x04_name v) };
+
+    ghost styled_output = { λ v spec. Some (padded spec (form_x04_name v)) };
+
+    fn fmt<W: fmt::Write>(&self, f: &mut fmt::Formatter<W>) -> fmt::Result {
+        f.pad(self.name())
+    }
+}
+
+/// Its number.
+impl From<FormX04> for u8 {
+    ghost from_gives = { λ v number. number ≡ form_x04_code v };
+
+    fn from(value: FormX04) -> u8 {
+        value.code()
+    }
+}
+
+/// The value that has this number.
+impl TryFrom<u8> for FormX04 {
+    type Error = Error;
+
+    ghost try_from_gives = { λ tag r. MatchResult r
+        (λ v. form_x04_code v ≡ tag)
+        (λ e. (form_x04_has tag ≡ false) × (e ≡ UnknownValue tag)) };
+
+    fn try_from(tag: u8) -> Result<FormX04, Error> {
+        match FormX04::of_code(tag) {
+            Some(value) => Ok(value),
+            None => Err(unknown_value(u64::from(tag))),
         }
     }
 }
@@ -86,4 +133,11 @@ pub fn is_compared_by_its_number()
     ensures { (x y : FormX04) →
         ⟦<FormX04 as PartialEq>⟧.eq x y
         ≡ nat_eq (form_x04_code x) (form_x04_code y) }
+{}
+
+/// Two are in the order of their numbers.
+pub fn is_ordered_by_its_number()
+    ensures { (x y : FormX04) →
+        ⟦<FormX04 as Ord>⟧.cmp x y
+        ≡ nat_cmp (form_x04_code x) (form_x04_code y) }
 {}

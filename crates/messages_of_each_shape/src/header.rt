@@ -11,6 +11,8 @@ use tls_codec::{
 use tls_codec_cases::Holds;
 
 /// `Header`.
+///
+/// A number of another struct: cases of one field, of more, and of none.
 #[derive(PartialEq, Eq, Debug, Clone, Drop)]
 pub struct Header {
     /// `uint16 version;`

@@ -1,16 +1,22 @@
 //! [`Level`].
-ghost use Rattle.std.specs.Prelude.{◌≡◌, MatchOption, false, nat_eq};
+ghost use Rattle.std.specs.Prelude.{◌≡◌, MatchOption, MatchResult, Some, false, nat_eq};
+ghost use Rattle.std.specs.Fmt.{padded};
+ghost use Rattle.std.specs.Ordering.{nat_cmp};
+ghost use Rattle.tls_codec.specs.Errors.{UnknownValue};
 ghost use Rattle.tls_codec.specs.OwnMessages.{values_names, values_source_names};
-ghost use Rattle.messages_of_each_shape.specs.Level.{level_code, level_format, level_has, level_meets, level_plain};
+ghost use Rattle.messages_of_each_shape.specs.Level.{level_code, level_format, level_has, level_meets, level_name, level_plain};
 ghost use Rattle.messages_of_each_shape.specs.declared.level.Level.{Level};
 
 use std::alloc::Global;
+use std::fmt;
 use tls_codec::{
     Deserialize, DeserializeBytes, Error, Serialize, Sink, Size, Source, unknown_value,
 };
 
 /// `Level`.
-#[derive(PartialEq, Eq, Debug, Clone, Copy)]
+///
+/// Values of two bytes, past those of one.
+#[derive(PartialEq, Eq, PartialOrd, Ord, Hash, Debug, Clone, Copy)]
 pub enum Level {
     /// `low(1)`
     Low,
@@ -32,6 +38,17 @@ impl Level {
         }
     }
 
+    /// Its name in the text.
+    pub fn name(&self) -> &'static str
+        ensures { result.now ≡ level_name self.now }
+    {
+        match self {
+            Level::Low => "low",
+            Level::Middle => "middle",
+            Level::High => "high",
+        }
+    }
+
     /// The value that has this number.
     pub fn of_code(code: u16) -> Option<Level>
         ensures { MatchOption result (level_has code ≡ false) (λ v. level_code v ≡ code) }
@@ -41,6 +58,42 @@ impl Level {
             256 => Some(Level::Middle),
             65535 => Some(Level::High),
             _ => None,
+        }
+    }
+}
+
+/// Its name.
+impl fmt::Display for Level {
+    ghost output = { λ v. Some (level_name v) };
+
+    ghost styled_output = { λ v spec. Some (padded spec (level_name v)) };
+
+    fn fmt<W: fmt::Write>(&self, f: &mut fmt::Formatter<W>) -> fmt::Result {
+        f.pad(self.name())
+    }
+}
+
+/// Its number.
+impl From<Level> for u16 {
+    ghost from_gives = { λ v number. number ≡ level_code v };
+
+    fn from(value: Level) -> u16 {
+        value.code()
+    }
+}
+
+/// The value that has this number.
+impl TryFrom<u16> for Level {
+    type Error = Error;
+
+    ghost try_from_gives = { λ tag r. MatchResult r
+        (λ v. level_code v ≡ tag)
+        (λ e. (level_has tag ≡ false) × (e ≡ UnknownValue tag)) };
+
+    fn try_from(tag: u16) -> Result<Level, Error> {
+        match Level::of_code(tag) {
+            Some(value) => Ok(value),
+            None => Err(unknown_value(u64::from(tag))),
         }
     }
 }
@@ -96,4 +149,11 @@ pub fn is_compared_by_its_number()
     ensures { (x y : Level) →
         ⟦<Level as PartialEq>⟧.eq x y
         ≡ nat_eq (level_code x) (level_code y) }
+{}
+
+/// Two are in the order of their numbers.
+pub fn is_ordered_by_its_number()
+    ensures { (x y : Level) →
+        ⟦<Level as Ord>⟧.cmp x y
+        ≡ nat_cmp (level_code x) (level_code y) }
 {}

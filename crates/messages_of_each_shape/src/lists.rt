@@ -11,6 +11,8 @@ use tls_codec::{
 };
 
 /// `Lists`.
+///
+/// Lists of each length, lists of lists, and other names.
 #[derive(PartialEq, Eq, Debug, Clone, Drop)]
 pub struct Lists {
     /// `uint16 octets<0..2^8-1>;`

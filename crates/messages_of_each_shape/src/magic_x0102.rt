@@ -1,16 +1,20 @@
 //! [`MagicX0102`].
-ghost use Rattle.std.specs.Prelude.{◌≡◌, MatchOption, false, nat_eq};
+ghost use Rattle.std.specs.Prelude.{◌≡◌, MatchOption, MatchResult, Some, false, nat_eq};
+ghost use Rattle.std.specs.Fmt.{padded};
+ghost use Rattle.std.specs.Ordering.{nat_cmp};
+ghost use Rattle.tls_codec.specs.Errors.{UnknownValue};
 ghost use Rattle.tls_codec.specs.OwnMessages.{values_names, values_source_names};
-ghost use Rattle.messages_of_each_shape.specs.MagicX0102.{magic_x0102_code, magic_x0102_format, magic_x0102_has, magic_x0102_meets, magic_x0102_plain};
+ghost use Rattle.messages_of_each_shape.specs.MagicX0102.{magic_x0102_code, magic_x0102_format, magic_x0102_has, magic_x0102_meets, magic_x0102_name, magic_x0102_plain};
 ghost use Rattle.messages_of_each_shape.specs.declared.magic_x0102.MagicX0102.{MagicX0102};
 
 use std::alloc::Global;
+use std::fmt;
 use tls_codec::{
     Deserialize, DeserializeBytes, Error, Serialize, Sink, Size, Source, unknown_value,
 };
 
 /// `MagicX0102`.
-#[derive(PartialEq, Eq, Debug, Clone, Copy)]
+#[derive(PartialEq, Eq, PartialOrd, Ord, Hash, Debug, Clone, Copy)]
 pub enum MagicX0102 {
     /// `0x0102(258)`
     X0102,
@@ -24,6 +28,13 @@ impl MagicX0102 {
         258
     }
 
+    /// Its name in the text.
+    pub fn name(&self) -> &'static str
+        ensures { result.now ≡ magic_x0102_name self.now }
+    {
+        "0x0102"
+    }
+
     /// The value that has this number.
     pub fn of_code(code: u16) -> Option<MagicX0102>
         ensures { MatchOption result (magic_x0102_has code ≡ false)
@@ -32,6 +43,42 @@ impl MagicX0102 {
         match code {
             258 => Some(MagicX0102::X0102),
             _ => None,
+        }
+    }
+}
+
+/// Its name.
+impl fmt::Display for MagicX0102 {
+    ghost output = { λ v. Some (magic_x0102_name v) };
+
+    ghost styled_output = { λ v spec. Some (padded spec (magic_x0102_name v)) };
+
+    fn fmt<W: fmt::Write>(&self, f: &mut fmt::Formatter<W>) -> fmt::Result {
+        f.pad(self.name())
+    }
+}
+
+/// Its number.
+impl From<MagicX0102> for u16 {
+    ghost from_gives = { λ v number. number ≡ magic_x0102_code v };
+
+    fn from(value: MagicX0102) -> u16 {
+        value.code()
+    }
+}
+
+/// The value that has this number.
+impl TryFrom<u16> for MagicX0102 {
+    type Error = Error;
+
+    ghost try_from_gives = { λ tag r. MatchResult r
+        (λ v. magic_x0102_code v ≡ tag)
+        (λ e. (magic_x0102_has tag ≡ false) × (e ≡ UnknownValue tag)) };
+
+    fn try_from(tag: u16) -> Result<MagicX0102, Error> {
+        match MagicX0102::of_code(tag) {
+            Some(value) => Ok(value),
+            None => Err(unknown_value(u64::from(tag))),
         }
     }
 }
@@ -87,4 +134,11 @@ pub fn is_compared_by_its_number()
     ensures { (x y : MagicX0102) →
         ⟦<MagicX0102 as PartialEq>⟧.eq x y
         ≡ nat_eq (magic_x0102_code x) (magic_x0102_code y) }
+{}
+
+/// Two are in the order of their numbers.
+pub fn is_ordered_by_its_number()
+    ensures { (x y : MagicX0102) →
+        ⟦<MagicX0102 as Ord>⟧.cmp x y
+        ≡ nat_cmp (magic_x0102_code x) (magic_x0102_code y) }
 {}

@@ -1,19 +1,64 @@
 //! [`NameType`].
-ghost use Rattle.std.specs.Prelude.{◌≡◌, nat_eq};
-ghost use Rattle.messages_of_each_shape.specs.NameType.{name_type_format, name_type_meets, name_type_plain, name_type_selected};
+ghost use Rattle.std.specs.Prelude.{◌≡◌, Some, nat_eq, option_map};
+ghost use Rattle.std.specs.Ordering.{nat_cmp};
+ghost use Rattle.messages_of_each_shape.specs.NameType.{name_type_format, name_type_meets, name_type_name, name_type_plain, name_type_text, name_type_selected};
 ghost use Rattle.messages_of_each_shape.specs.declared.name_type.NameType.{NameType};
 
 use std::alloc::Global;
+use std::fmt;
 use tls_codec::{Deserialize, DeserializeBytes, Error, Serialize, Sink, Size, Source};
 use tls_codec_cases::Selector;
 
 /// `NameType`.
-#[derive(PartialEq, Eq, Debug, Clone, Copy)]
+///
+/// A registry of one byte: numbers without a name are kept.
+#[derive(PartialEq, Eq, PartialOrd, Ord, Hash, Debug, Clone, Copy)]
 pub struct NameType(pub u8);
 
 impl NameType {
     /// `host_name`
     pub const HOST_NAME: NameType = NameType(0);
+
+    /// Its name in the text, if it has one.
+    pub fn name(&self) -> Option<&'static str>
+        ensures { option_map (λ name. name.now) result ≡ name_type_name self.now.0 }
+    {
+        match self.0 {
+            0 => Some("host_name"),
+            _ => None,
+        }
+    }
+}
+
+/// Its name, or else its number in hexadecimal, two digits a byte. A width pads names alone.
+impl fmt::Display for NameType {
+    ghost output = { λ v. Some (name_type_text v.0) };
+
+    #[tactic(auto, using(crate::specs::NameType::name_type_printed))]
+    fn fmt<W: fmt::Write>(&self, f: &mut fmt::Formatter<W>) -> fmt::Result {
+        match self.name() {
+            Some(name) => f.pad(name),
+            None => write!(f, "0x{:02x}", self.0),
+        }
+    }
+}
+
+/// Its number.
+impl From<NameType> for u8 {
+    ghost from_gives = { λ v number. number ≡ v.0 };
+
+    fn from(value: NameType) -> u8 {
+        value.0
+    }
+}
+
+/// The one that has this number.
+impl From<u8> for NameType {
+    ghost from_gives = { λ number v. v.0 ≡ number };
+
+    fn from(number: u8) -> NameType {
+        NameType(number)
+    }
 }
 
 impl Size for NameType {
@@ -73,4 +118,10 @@ impl Selector for NameType {
 pub fn is_compared_by_its_number()
     ensures { (x y : NameType) →
         ⟦<NameType as PartialEq>⟧.eq x y ≡ nat_eq x.0 y.0 }
+{}
+
+/// Two are in the order of their numbers.
+pub fn is_ordered_by_its_number()
+    ensures { (x y : NameType) →
+        ⟦<NameType as Ord>⟧.cmp x y ≡ nat_cmp x.0 y.0 }
 {}

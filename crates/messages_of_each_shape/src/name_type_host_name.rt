@@ -1,16 +1,20 @@
 //! [`NameTypeHostName`].
-ghost use Rattle.std.specs.Prelude.{◌≡◌, MatchOption, false, nat_eq};
+ghost use Rattle.std.specs.Prelude.{◌≡◌, MatchOption, MatchResult, Some, false, nat_eq};
+ghost use Rattle.std.specs.Fmt.{padded};
+ghost use Rattle.std.specs.Ordering.{nat_cmp};
+ghost use Rattle.tls_codec.specs.Errors.{UnknownValue};
 ghost use Rattle.tls_codec.specs.OwnMessages.{values_names, values_source_names};
-ghost use Rattle.messages_of_each_shape.specs.NameTypeHostName.{name_type_host_name_code, name_type_host_name_format, name_type_host_name_has, name_type_host_name_meets, name_type_host_name_plain};
+ghost use Rattle.messages_of_each_shape.specs.NameTypeHostName.{name_type_host_name_code, name_type_host_name_format, name_type_host_name_has, name_type_host_name_meets, name_type_host_name_name, name_type_host_name_plain};
 ghost use Rattle.messages_of_each_shape.specs.declared.name_type_host_name.NameTypeHostName.{NameTypeHostName};
 
 use std::alloc::Global;
+use std::fmt;
 use tls_codec::{
     Deserialize, DeserializeBytes, Error, Serialize, Sink, Size, Source, unknown_value,
 };
 
 /// `NameTypeHostName`.
-#[derive(PartialEq, Eq, Debug, Clone, Copy)]
+#[derive(PartialEq, Eq, PartialOrd, Ord, Hash, Debug, Clone, Copy)]
 pub enum NameTypeHostName {
     /// `host_name(0)`
     HostName,
@@ -24,6 +28,13 @@ impl NameTypeHostName {
         0
     }
 
+    /// Its name in the text.
+    pub fn name(&self) -> &'static str
+        ensures { result.now ≡ name_type_host_name_name self.now }
+    {
+        "host_name"
+    }
+
     /// The value that has this number.
     pub fn of_code(code: u8) -> Option<NameTypeHostName>
         ensures { MatchOption result (name_type_host_name_has code ≡ false)
@@ -32,6 +43,42 @@ impl NameTypeHostName {
         match code {
             0 => Some(NameTypeHostName::HostName),
             _ => None,
+        }
+    }
+}
+
+/// Its name.
+impl fmt::Display for NameTypeHostName {
+    ghost output = { λ v. Some (name_type_host_name_name v) };
+
+    ghost styled_output = { λ v spec. Some (padded spec (name_type_host_name_name v)) };
+
+    fn fmt<W: fmt::Write>(&self, f: &mut fmt::Formatter<W>) -> fmt::Result {
+        f.pad(self.name())
+    }
+}
+
+/// Its number.
+impl From<NameTypeHostName> for u8 {
+    ghost from_gives = { λ v number. number ≡ name_type_host_name_code v };
+
+    fn from(value: NameTypeHostName) -> u8 {
+        value.code()
+    }
+}
+
+/// The value that has this number.
+impl TryFrom<u8> for NameTypeHostName {
+    type Error = Error;
+
+    ghost try_from_gives = { λ tag r. MatchResult r
+        (λ v. name_type_host_name_code v ≡ tag)
+        (λ e. (name_type_host_name_has tag ≡ false) × (e ≡ UnknownValue tag)) };
+
+    fn try_from(tag: u8) -> Result<NameTypeHostName, Error> {
+        match NameTypeHostName::of_code(tag) {
+            Some(value) => Ok(value),
+            None => Err(unknown_value(u64::from(tag))),
         }
     }
 }
@@ -90,4 +137,11 @@ pub fn is_compared_by_its_number()
     ensures { (x y : NameTypeHostName) →
         ⟦<NameTypeHostName as PartialEq>⟧.eq x y
         ≡ nat_eq (name_type_host_name_code x) (name_type_host_name_code y) }
+{}
+
+/// Two are in the order of their numbers.
+pub fn is_ordered_by_its_number()
+    ensures { (x y : NameTypeHostName) →
+        ⟦<NameTypeHostName as Ord>⟧.cmp x y
+        ≡ nat_cmp (name_type_host_name_code x) (name_type_host_name_code y) }
 {}

@@ -98,7 +98,8 @@ impl Serialize for VersionData {
 impl Deserialize for VersionData {
     ghost names = { ⟦<Cases as Deserialize>⟧.names };
 
-    /// `TrailingData`: the case's fields end before their length does. `UnknownValue`: no case has the tag.
+    /// `TrailingData`: the case's fields end before their length does.
+    /// `UnknownValue`: no case has the tag.
     fn tls_deserialize<R: Source>(alloc: Global, src: &mut R) -> Result<VersionData, Error> {
         let cases = <Cases>::tls_deserialize(alloc, src)?;
         Ok(VersionData::of(cases))
@@ -108,7 +109,8 @@ impl Deserialize for VersionData {
 impl DeserializeBytes for VersionData {
     ghost names = { ⟦<Cases as DeserializeBytes>⟧.names };
 
-    /// `TrailingData`: the case's fields end before their length does. `UnknownValue`: no case has the tag.
+    /// `TrailingData`: the case's fields end before their length does.
+    /// `UnknownValue`: no case has the tag.
     fn tls_deserialize_bytes(alloc: Global, whole: &[u8]) -> Result<(VersionData, &[u8]), Error> {
         let (cases, rest) = <Cases>::tls_deserialize_bytes(alloc, whole)?;
         Ok((VersionData::of(cases), rest))

@@ -1,16 +1,20 @@
 //! [`VersionXfefd`].
-ghost use Rattle.std.specs.Prelude.{◌≡◌, MatchOption, false, nat_eq};
+ghost use Rattle.std.specs.Prelude.{◌≡◌, MatchOption, MatchResult, Some, false, nat_eq};
+ghost use Rattle.std.specs.Fmt.{padded};
+ghost use Rattle.std.specs.Ordering.{nat_cmp};
+ghost use Rattle.tls_codec.specs.Errors.{UnknownValue};
 ghost use Rattle.tls_codec.specs.OwnMessages.{values_names, values_source_names};
-ghost use Rattle.messages_of_each_shape.specs.VersionXfefd.{version_xfefd_code, version_xfefd_format, version_xfefd_has, version_xfefd_meets, version_xfefd_plain};
+ghost use Rattle.messages_of_each_shape.specs.VersionXfefd.{version_xfefd_code, version_xfefd_format, version_xfefd_has, version_xfefd_meets, version_xfefd_name, version_xfefd_plain};
 ghost use Rattle.messages_of_each_shape.specs.declared.version_xfefd.VersionXfefd.{VersionXfefd};
 
 use std::alloc::Global;
+use std::fmt;
 use tls_codec::{
     Deserialize, DeserializeBytes, Error, Serialize, Sink, Size, Source, unknown_value,
 };
 
 /// `VersionXfefd`.
-#[derive(PartialEq, Eq, Debug, Clone, Copy)]
+#[derive(PartialEq, Eq, PartialOrd, Ord, Hash, Debug, Clone, Copy)]
 pub enum VersionXfefd {
     /// `0xfefd(65277)`
     Xfefd,
@@ -24,6 +28,13 @@ impl VersionXfefd {
         65277
     }
 
+    /// Its name in the text.
+    pub fn name(&self) -> &'static str
+        ensures { result.now ≡ version_xfefd_name self.now }
+    {
+        "0xfefd"
+    }
+
     /// The value that has this number.
     pub fn of_code(code: u16) -> Option<VersionXfefd>
         ensures { MatchOption result (version_xfefd_has code ≡ false)
@@ -32,6 +43,42 @@ impl VersionXfefd {
         match code {
             65277 => Some(VersionXfefd::Xfefd),
             _ => None,
+        }
+    }
+}
+
+/// Its name.
+impl fmt::Display for VersionXfefd {
+    ghost output = { λ v. Some (version_xfefd_name v) };
+
+    ghost styled_output = { λ v spec. Some (padded spec (version_xfefd_name v)) };
+
+    fn fmt<W: fmt::Write>(&self, f: &mut fmt::Formatter<W>) -> fmt::Result {
+        f.pad(self.name())
+    }
+}
+
+/// Its number.
+impl From<VersionXfefd> for u16 {
+    ghost from_gives = { λ v number. number ≡ version_xfefd_code v };
+
+    fn from(value: VersionXfefd) -> u16 {
+        value.code()
+    }
+}
+
+/// The value that has this number.
+impl TryFrom<u16> for VersionXfefd {
+    type Error = Error;
+
+    ghost try_from_gives = { λ tag r. MatchResult r
+        (λ v. version_xfefd_code v ≡ tag)
+        (λ e. (version_xfefd_has tag ≡ false) × (e ≡ UnknownValue tag)) };
+
+    fn try_from(tag: u16) -> Result<VersionXfefd, Error> {
+        match VersionXfefd::of_code(tag) {
+            Some(value) => Ok(value),
+            None => Err(unknown_value(u64::from(tag))),
         }
     }
 }
@@ -87,4 +134,11 @@ pub fn is_compared_by_its_number()
     ensures { (x y : VersionXfefd) →
         ⟦<VersionXfefd as PartialEq>⟧.eq x y
         ≡ nat_eq (version_xfefd_code x) (version_xfefd_code y) }
+{}
+
+/// Two are in the order of their numbers.
+pub fn is_ordered_by_its_number()
+    ensures { (x y : VersionXfefd) →
+        ⟦<VersionXfefd as Ord>⟧.cmp x y
+        ≡ nat_cmp (version_xfefd_code x) (version_xfefd_code y) }
 {}

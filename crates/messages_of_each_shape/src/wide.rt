@@ -11,6 +11,8 @@ use tls_codec::{
 };
 
 /// `Wide`.
+///
+/// Twelve fields.
 #[derive(PartialEq, Eq, Debug, Clone, Drop)]
 pub struct Wide {
     /// `uint8 a;`

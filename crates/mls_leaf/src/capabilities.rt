@@ -9,7 +9,7 @@ use tls_codec::{
     Deserialize, DeserializeBytes, Error, Lent2, Lent3, Serialize, Sink, Size, Source,
 };
 
-/// `Capabilities`.
+/// `Capabilities` (RFC 9420, section 7.2).
 #[derive(PartialEq, Eq, Debug, Clone, Drop)]
 pub struct Capabilities {
     /// `ProtocolVersion versions<V>;`

@@ -6,7 +6,7 @@ ghost use Rattle.mls_leaf.specs.declared.certificate.Certificate.{Certificate};
 use std::alloc::Global;
 use tls_codec::{Deserialize, DeserializeBytes, Error, Serialize, Sink, Size, Source, VLBytes};
 
-/// `Certificate`.
+/// `Certificate` (RFC 9420, section 5.3).
 #[derive(PartialEq, Eq, Debug, Clone, Drop)]
 pub struct Certificate {
     /// `opaque cert_data<V>;`

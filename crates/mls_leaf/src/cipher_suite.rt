@@ -1,13 +1,15 @@
 //! [`CipherSuite`].
-ghost use Rattle.std.specs.Prelude.{◌≡◌, nat_eq};
-ghost use Rattle.mls_leaf.specs.CipherSuite.{cipher_suite_format, cipher_suite_meets, cipher_suite_plain};
+ghost use Rattle.std.specs.Prelude.{◌≡◌, Some, nat_eq, option_map};
+ghost use Rattle.std.specs.Ordering.{nat_cmp};
+ghost use Rattle.mls_leaf.specs.CipherSuite.{cipher_suite_format, cipher_suite_meets, cipher_suite_name, cipher_suite_plain, cipher_suite_text};
 ghost use Rattle.mls_leaf.specs.declared.cipher_suite.CipherSuite.{CipherSuite};
 
 use std::alloc::Global;
+use std::fmt;
 use tls_codec::{Deserialize, DeserializeBytes, Error, Serialize, Sink, Size, Source};
 
-/// `CipherSuite`.
-#[derive(PartialEq, Eq, Debug, Clone, Copy)]
+/// `CipherSuite` (RFC 9420, section 5.1).
+#[derive(PartialEq, Eq, PartialOrd, Ord, Hash, Debug, Clone, Copy)]
 pub struct CipherSuite(pub u16);
 
 impl CipherSuite {
@@ -31,6 +33,53 @@ impl CipherSuite {
 
     /// `MLS_256_DHKEMP384_AES256GCM_SHA384_P384`
     pub const MLS_256_DHKEMP384_AES256GCM_SHA384_P384: CipherSuite = CipherSuite(7);
+
+    /// Its name in the text, if it has one.
+    pub fn name(&self) -> Option<&'static str>
+        ensures { option_map (λ name. name.now) result ≡ cipher_suite_name self.now.0 }
+    {
+        match self.0 {
+            1 => Some("MLS_128_DHKEMX25519_AES128GCM_SHA256_Ed25519"),
+            2 => Some("MLS_128_DHKEMP256_AES128GCM_SHA256_P256"),
+            3 => Some("MLS_128_DHKEMX25519_CHACHA20POLY1305_SHA256_Ed25519"),
+            4 => Some("MLS_256_DHKEMX448_AES256GCM_SHA512_Ed448"),
+            5 => Some("MLS_256_DHKEMP521_AES256GCM_SHA512_P521"),
+            6 => Some("MLS_256_DHKEMX448_CHACHA20POLY1305_SHA512_Ed448"),
+            7 => Some("MLS_256_DHKEMP384_AES256GCM_SHA384_P384"),
+            _ => None,
+        }
+    }
+}
+
+/// Its name, or else its number in hexadecimal, two digits a byte. A width pads names alone.
+impl fmt::Display for CipherSuite {
+    ghost output = { λ v. Some (cipher_suite_text v.0) };
+
+    #[tactic(auto, using(crate::specs::CipherSuite::cipher_suite_printed))]
+    fn fmt<W: fmt::Write>(&self, f: &mut fmt::Formatter<W>) -> fmt::Result {
+        match self.name() {
+            Some(name) => f.pad(name),
+            None => write!(f, "0x{:04x}", self.0),
+        }
+    }
+}
+
+/// Its number.
+impl From<CipherSuite> for u16 {
+    ghost from_gives = { λ v number. number ≡ v.0 };
+
+    fn from(value: CipherSuite) -> u16 {
+        value.0
+    }
+}
+
+/// The one that has this number.
+impl From<u16> for CipherSuite {
+    ghost from_gives = { λ number v. v.0 ≡ number };
+
+    fn from(number: u16) -> CipherSuite {
+        CipherSuite(number)
+    }
 }
 
 impl Size for CipherSuite {
@@ -81,4 +130,10 @@ impl DeserializeBytes for CipherSuite {
 pub fn is_compared_by_its_number()
     ensures { (x y : CipherSuite) →
         ⟦<CipherSuite as PartialEq>⟧.eq x y ≡ nat_eq x.0 y.0 }
+{}
+
+/// Two are in the order of their numbers.
+pub fn is_ordered_by_its_number()
+    ensures { (x y : CipherSuite) →
+        ⟦<CipherSuite as Ord>⟧.cmp x y ≡ nat_cmp x.0 y.0 }
 {}

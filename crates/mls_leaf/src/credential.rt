@@ -15,7 +15,8 @@ const BASIC: u16 = 1;
 
 const X509: u16 = 2;
 
-/// `CredentialType credential_type` of `Credential`, and what comes after each.
+/// `CredentialType credential_type` of `Credential` (RFC 9420, section 5.3), and what comes
+/// after each.
 #[derive(PartialEq, Eq, Debug, Clone, Drop)]
 pub enum Credential {
     /// `case basic: opaque identity<V>;`

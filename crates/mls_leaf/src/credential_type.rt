@@ -1,13 +1,15 @@
 //! [`CredentialType`].
-ghost use Rattle.std.specs.Prelude.{◌≡◌, nat_eq};
-ghost use Rattle.mls_leaf.specs.CredentialType.{credential_type_format, credential_type_meets, credential_type_plain};
+ghost use Rattle.std.specs.Prelude.{◌≡◌, Some, nat_eq, option_map};
+ghost use Rattle.std.specs.Ordering.{nat_cmp};
+ghost use Rattle.mls_leaf.specs.CredentialType.{credential_type_format, credential_type_meets, credential_type_name, credential_type_plain, credential_type_text};
 ghost use Rattle.mls_leaf.specs.declared.credential_type.CredentialType.{CredentialType};
 
 use std::alloc::Global;
+use std::fmt;
 use tls_codec::{Deserialize, DeserializeBytes, Error, Serialize, Sink, Size, Source};
 
-/// `CredentialType`.
-#[derive(PartialEq, Eq, Debug, Clone, Copy)]
+/// `CredentialType` (RFC 9420, section 5.3).
+#[derive(PartialEq, Eq, PartialOrd, Ord, Hash, Debug, Clone, Copy)]
 pub struct CredentialType(pub u16);
 
 impl CredentialType {
@@ -16,6 +18,48 @@ impl CredentialType {
 
     /// `x509`
     pub const X509: CredentialType = CredentialType(2);
+
+    /// Its name in the text, if it has one.
+    pub fn name(&self) -> Option<&'static str>
+        ensures { option_map (λ name. name.now) result ≡ credential_type_name self.now.0 }
+    {
+        match self.0 {
+            1 => Some("basic"),
+            2 => Some("x509"),
+            _ => None,
+        }
+    }
+}
+
+/// Its name, or else its number in hexadecimal, two digits a byte. A width pads names alone.
+impl fmt::Display for CredentialType {
+    ghost output = { λ v. Some (credential_type_text v.0) };
+
+    #[tactic(auto, using(crate::specs::CredentialType::credential_type_printed))]
+    fn fmt<W: fmt::Write>(&self, f: &mut fmt::Formatter<W>) -> fmt::Result {
+        match self.name() {
+            Some(name) => f.pad(name),
+            None => write!(f, "0x{:04x}", self.0),
+        }
+    }
+}
+
+/// Its number.
+impl From<CredentialType> for u16 {
+    ghost from_gives = { λ v number. number ≡ v.0 };
+
+    fn from(value: CredentialType) -> u16 {
+        value.0
+    }
+}
+
+/// The one that has this number.
+impl From<u16> for CredentialType {
+    ghost from_gives = { λ number v. v.0 ≡ number };
+
+    fn from(number: u16) -> CredentialType {
+        CredentialType(number)
+    }
 }
 
 impl Size for CredentialType {
@@ -69,4 +113,10 @@ impl DeserializeBytes for CredentialType {
 pub fn is_compared_by_its_number()
     ensures { (x y : CredentialType) →
         ⟦<CredentialType as PartialEq>⟧.eq x y ≡ nat_eq x.0 y.0 }
+{}
+
+/// Two are in the order of their numbers.
+pub fn is_ordered_by_its_number()
+    ensures { (x y : CredentialType) →
+        ⟦<CredentialType as Ord>⟧.cmp x y ≡ nat_cmp x.0 y.0 }
 {}

@@ -5,7 +5,7 @@ ghost use Rattle.mls_leaf.specs.declared.encrypt_context.EncryptContext.{Encrypt
 
 use tls_codec::{Error, Lent, Serialize, Sink, Size, VLBytes};
 
-/// `EncryptContext`.
+/// `EncryptContext` (RFC 9420, section 5.1.3).
 ///
 /// It has references to its fields, and is only written.
 #[derive(PartialEq, Eq, Debug, Clone, Copy)]

@@ -9,7 +9,7 @@ use tls_codec::{
     Deserialize, DeserializeBytes, Error, Lent, Serialize, Sink, Size, Source, VLBytes,
 };
 
-/// `Extension`.
+/// `Extension` (RFC 9420, section 7.2).
 #[derive(PartialEq, Eq, Debug, Clone, Drop)]
 pub struct Extension {
     /// `ExtensionType extension_type;`

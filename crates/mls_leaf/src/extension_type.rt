@@ -1,13 +1,15 @@
 //! [`ExtensionType`].
-ghost use Rattle.std.specs.Prelude.{◌≡◌, nat_eq};
-ghost use Rattle.mls_leaf.specs.ExtensionType.{extension_type_format, extension_type_meets, extension_type_plain};
+ghost use Rattle.std.specs.Prelude.{◌≡◌, Some, nat_eq, option_map};
+ghost use Rattle.std.specs.Ordering.{nat_cmp};
+ghost use Rattle.mls_leaf.specs.ExtensionType.{extension_type_format, extension_type_meets, extension_type_name, extension_type_plain, extension_type_text};
 ghost use Rattle.mls_leaf.specs.declared.extension_type.ExtensionType.{ExtensionType};
 
 use std::alloc::Global;
+use std::fmt;
 use tls_codec::{Deserialize, DeserializeBytes, Error, Serialize, Sink, Size, Source};
 
-/// `ExtensionType`.
-#[derive(PartialEq, Eq, Debug, Clone, Copy)]
+/// `ExtensionType` (RFC 9420, section 17.3).
+#[derive(PartialEq, Eq, PartialOrd, Ord, Hash, Debug, Clone, Copy)]
 pub struct ExtensionType(pub u16);
 
 impl ExtensionType {
@@ -25,6 +27,51 @@ impl ExtensionType {
 
     /// `external_senders`
     pub const EXTERNAL_SENDERS: ExtensionType = ExtensionType(5);
+
+    /// Its name in the text, if it has one.
+    pub fn name(&self) -> Option<&'static str>
+        ensures { option_map (λ name. name.now) result ≡ extension_type_name self.now.0 }
+    {
+        match self.0 {
+            1 => Some("application_id"),
+            2 => Some("ratchet_tree"),
+            3 => Some("required_capabilities"),
+            4 => Some("external_pub"),
+            5 => Some("external_senders"),
+            _ => None,
+        }
+    }
+}
+
+/// Its name, or else its number in hexadecimal, two digits a byte. A width pads names alone.
+impl fmt::Display for ExtensionType {
+    ghost output = { λ v. Some (extension_type_text v.0) };
+
+    #[tactic(auto, using(crate::specs::ExtensionType::extension_type_printed))]
+    fn fmt<W: fmt::Write>(&self, f: &mut fmt::Formatter<W>) -> fmt::Result {
+        match self.name() {
+            Some(name) => f.pad(name),
+            None => write!(f, "0x{:04x}", self.0),
+        }
+    }
+}
+
+/// Its number.
+impl From<ExtensionType> for u16 {
+    ghost from_gives = { λ v number. number ≡ v.0 };
+
+    fn from(value: ExtensionType) -> u16 {
+        value.0
+    }
+}
+
+/// The one that has this number.
+impl From<u16> for ExtensionType {
+    ghost from_gives = { λ number v. v.0 ≡ number };
+
+    fn from(number: u16) -> ExtensionType {
+        ExtensionType(number)
+    }
 }
 
 impl Size for ExtensionType {
@@ -75,4 +122,10 @@ impl DeserializeBytes for ExtensionType {
 pub fn is_compared_by_its_number()
     ensures { (x y : ExtensionType) →
         ⟦<ExtensionType as PartialEq>⟧.eq x y ≡ nat_eq x.0 y.0 }
+{}
+
+/// Two are in the order of their numbers.
+pub fn is_ordered_by_its_number()
+    ensures { (x y : ExtensionType) →
+        ⟦<ExtensionType as Ord>⟧.cmp x y ≡ nat_cmp x.0 y.0 }
 {}

@@ -9,7 +9,7 @@ use tls_codec::{
     Deserialize, DeserializeBytes, Error, Lent3, Serialize, Sink, Size, Source, VLBytes,
 };
 
-/// `KeyPackage`.
+/// `KeyPackage` (RFC 9420, section 10).
 #[derive(PartialEq, Eq, Debug, Clone, Drop)]
 pub struct KeyPackage {
     /// `ProtocolVersion version;`
@@ -23,6 +23,7 @@ pub struct KeyPackage {
     /// `Extension extensions<V>;`
     pub extensions: Vec<Extension>,
     /// `opaque signature<V>;`
+    /// SignWithLabel(., "KeyPackageTBS", KeyPackageTBS)
     pub signature: VLBytes,
 }
 

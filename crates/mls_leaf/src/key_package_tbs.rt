@@ -6,7 +6,7 @@ ghost use Rattle.mls_leaf.specs.declared.key_package_tbs.KeyPackageTBS.{KeyPacka
 use crate::{CipherSuite, Extension, HPKEPublicKey, LeafNode, ProtocolVersion};
 use tls_codec::{Error, Lent2, Lent3, Serialize, Sink, Size};
 
-/// `KeyPackageTBS`.
+/// `KeyPackageTBS` (RFC 9420, section 10).
 ///
 /// It has references to its fields, and is only written.
 #[derive(PartialEq, Eq, Debug, Clone, Copy)]

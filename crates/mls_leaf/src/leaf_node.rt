@@ -11,7 +11,7 @@ use tls_codec::{
     Deserialize, DeserializeBytes, Error, Lent2, Lent3, Serialize, Sink, Size, Source, VLBytes,
 };
 
-/// `LeafNode`.
+/// `LeafNode` (RFC 9420, section 7.2).
 #[derive(PartialEq, Eq, Debug, Clone, Drop)]
 pub struct LeafNode {
     /// `HPKEPublicKey encryption_key;`
@@ -27,6 +27,7 @@ pub struct LeafNode {
     /// `Extension extensions<V>;`
     pub extensions: Vec<Extension>,
     /// `opaque signature<V>;`
+    /// SignWithLabel(., "LeafNodeTBS", LeafNodeTBS)
     pub signature: VLBytes,
 }
 

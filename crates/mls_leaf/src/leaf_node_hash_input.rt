@@ -7,7 +7,7 @@ use crate::LeafNode;
 use std::alloc::Global;
 use tls_codec::{Deserialize, DeserializeBytes, Error, Lent, Serialize, Sink, Size, Source};
 
-/// `LeafNodeHashInput`.
+/// `LeafNodeHashInput` (RFC 9420, section 7.8).
 #[derive(PartialEq, Eq, Debug, Clone, Drop)]
 pub struct LeafNodeHashInput {
     /// `uint32 leaf_index;`

@@ -17,7 +17,8 @@ const UPDATE: u8 = 2;
 
 const COMMIT: u8 = 3;
 
-/// `LeafNodeSource leaf_node_source` of `LeafNode`, and what comes after each.
+/// `LeafNodeSource leaf_node_source` of `LeafNode` (RFC 9420, section 7.2), and what comes
+/// after each.
 #[derive(PartialEq, Eq, Debug, Clone, Drop)]
 pub enum LeafNodeOrigin {
     /// `case key_package: Lifetime lifetime;`

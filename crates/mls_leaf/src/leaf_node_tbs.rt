@@ -6,7 +6,10 @@ ghost use Rattle.mls_leaf.specs.declared.leaf_node_tbs.LeafNodeTBS.{LeafNodeTBS}
 use crate::{Capabilities, Credential, HPKEPublicKey, LeafNodeTBSOrigin, SignaturePublicKey};
 use tls_codec::{Error, Lent4, Serialize, Sink, Size};
 
-/// `LeafNodeTBS`.
+/// `LeafNodeTBS` (RFC 9420, section 7.2).
+///
+/// What the signature of a leaf node is over. Its second select is on a tag that was read
+/// earlier.
 ///
 /// It has references to its fields, and is only written.
 #[derive(PartialEq, Eq, Debug, Clone, Copy)]

@@ -12,7 +12,8 @@ const UPDATE: u8 = 2;
 
 const COMMIT: u8 = 3;
 
-/// `LeafNodeSource leaf_node_source` of `LeafNodeTBS`, and what comes after each.
+/// `LeafNodeSource leaf_node_source` of `LeafNodeTBS` (RFC 9420, section 7.2), and what
+/// comes after each.
 ///
 /// It has references to its fields, and is only written.
 #[derive(PartialEq, Eq, Debug, Clone, Copy)]

@@ -6,7 +6,7 @@ ghost use Rattle.mls_leaf.specs.declared.lifetime.Lifetime.{Lifetime};
 use std::alloc::Global;
 use tls_codec::{Deserialize, DeserializeBytes, Error, Lent, Serialize, Sink, Size, Source};
 
-/// `Lifetime`.
+/// `Lifetime` (RFC 9420, section 7.2).
 #[derive(PartialEq, Eq, Debug, Clone, Drop)]
 pub struct Lifetime {
     /// `uint64 not_before;`

@@ -14,7 +14,7 @@ const LEAF: u8 = 1;
 
 const PARENT: u8 = 2;
 
-/// `NodeType node_type` of `Node`, and what comes after each.
+/// `NodeType node_type` of `Node` (RFC 9420, section 12.4.3.3), and what comes after each.
 #[derive(PartialEq, Eq, Debug, Clone, Drop)]
 pub enum Node {
     /// `case leaf: LeafNode leaf_node;`

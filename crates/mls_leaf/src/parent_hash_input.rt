@@ -6,7 +6,7 @@ ghost use Rattle.mls_leaf.specs.declared.parent_hash_input.ParentHashInput.{Pare
 use crate::HPKEPublicKey;
 use tls_codec::{Error, Lent, Serialize, Sink, Size, VLBytes};
 
-/// `ParentHashInput`.
+/// `ParentHashInput` (RFC 9420, section 7.9).
 ///
 /// It has references to its fields, and is only written.
 #[derive(PartialEq, Eq, Debug, Clone, Copy)]

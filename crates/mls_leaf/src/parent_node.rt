@@ -9,7 +9,7 @@ use tls_codec::{
     Deserialize, DeserializeBytes, Error, Lent, Serialize, Sink, Size, Source, VLBytes,
 };
 
-/// `ParentNode`.
+/// `ParentNode` (RFC 9420, section 7.1).
 #[derive(PartialEq, Eq, Debug, Clone, Drop)]
 pub struct ParentNode {
     /// `HPKEPublicKey encryption_key;`

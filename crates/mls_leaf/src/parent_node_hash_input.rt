@@ -9,7 +9,7 @@ use tls_codec::{
     Deserialize, DeserializeBytes, Error, Lent, Serialize, Sink, Size, Source, VLBytes,
 };
 
-/// `ParentNodeHashInput`.
+/// `ParentNodeHashInput` (RFC 9420, section 7.8).
 #[derive(PartialEq, Eq, Debug, Clone, Drop)]
 pub struct ParentNodeHashInput {
     /// `optional<ParentNode> parent_node;`

@@ -1,13 +1,15 @@
 //! [`ProposalType`].
-ghost use Rattle.std.specs.Prelude.{◌≡◌, nat_eq};
-ghost use Rattle.mls_leaf.specs.ProposalType.{proposal_type_format, proposal_type_meets, proposal_type_plain};
+ghost use Rattle.std.specs.Prelude.{◌≡◌, Some, nat_eq, option_map};
+ghost use Rattle.std.specs.Ordering.{nat_cmp};
+ghost use Rattle.mls_leaf.specs.ProposalType.{proposal_type_format, proposal_type_meets, proposal_type_name, proposal_type_plain, proposal_type_text};
 ghost use Rattle.mls_leaf.specs.declared.proposal_type.ProposalType.{ProposalType};
 
 use std::alloc::Global;
+use std::fmt;
 use tls_codec::{Deserialize, DeserializeBytes, Error, Serialize, Sink, Size, Source};
 
-/// `ProposalType`.
-#[derive(PartialEq, Eq, Debug, Clone, Copy)]
+/// `ProposalType` (RFC 9420, section 17.4).
+#[derive(PartialEq, Eq, PartialOrd, Ord, Hash, Debug, Clone, Copy)]
 pub struct ProposalType(pub u16);
 
 impl ProposalType {
@@ -31,6 +33,53 @@ impl ProposalType {
 
     /// `group_context_extensions`
     pub const GROUP_CONTEXT_EXTENSIONS: ProposalType = ProposalType(7);
+
+    /// Its name in the text, if it has one.
+    pub fn name(&self) -> Option<&'static str>
+        ensures { option_map (λ name. name.now) result ≡ proposal_type_name self.now.0 }
+    {
+        match self.0 {
+            1 => Some("add"),
+            2 => Some("update"),
+            3 => Some("remove"),
+            4 => Some("psk"),
+            5 => Some("reinit"),
+            6 => Some("external_init"),
+            7 => Some("group_context_extensions"),
+            _ => None,
+        }
+    }
+}
+
+/// Its name, or else its number in hexadecimal, two digits a byte. A width pads names alone.
+impl fmt::Display for ProposalType {
+    ghost output = { λ v. Some (proposal_type_text v.0) };
+
+    #[tactic(auto, using(crate::specs::ProposalType::proposal_type_printed))]
+    fn fmt<W: fmt::Write>(&self, f: &mut fmt::Formatter<W>) -> fmt::Result {
+        match self.name() {
+            Some(name) => f.pad(name),
+            None => write!(f, "0x{:04x}", self.0),
+        }
+    }
+}
+
+/// Its number.
+impl From<ProposalType> for u16 {
+    ghost from_gives = { λ v number. number ≡ v.0 };
+
+    fn from(value: ProposalType) -> u16 {
+        value.0
+    }
+}
+
+/// The one that has this number.
+impl From<u16> for ProposalType {
+    ghost from_gives = { λ number v. v.0 ≡ number };
+
+    fn from(number: u16) -> ProposalType {
+        ProposalType(number)
+    }
 }
 
 impl Size for ProposalType {
@@ -81,4 +130,10 @@ impl DeserializeBytes for ProposalType {
 pub fn is_compared_by_its_number()
     ensures { (x y : ProposalType) →
         ⟦<ProposalType as PartialEq>⟧.eq x y ≡ nat_eq x.0 y.0 }
+{}
+
+/// Two are in the order of their numbers.
+pub fn is_ordered_by_its_number()
+    ensures { (x y : ProposalType) →
+        ⟦<ProposalType as Ord>⟧.cmp x y ≡ nat_cmp x.0 y.0 }
 {}

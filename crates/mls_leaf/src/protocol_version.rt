@@ -1,18 +1,61 @@
 //! [`ProtocolVersion`].
-ghost use Rattle.std.specs.Prelude.{◌≡◌, nat_eq};
-ghost use Rattle.mls_leaf.specs.ProtocolVersion.{protocol_version_format, protocol_version_meets, protocol_version_plain};
+ghost use Rattle.std.specs.Prelude.{◌≡◌, Some, nat_eq, option_map};
+ghost use Rattle.std.specs.Ordering.{nat_cmp};
+ghost use Rattle.mls_leaf.specs.ProtocolVersion.{protocol_version_format, protocol_version_meets, protocol_version_name, protocol_version_plain, protocol_version_text};
 ghost use Rattle.mls_leaf.specs.declared.protocol_version.ProtocolVersion.{ProtocolVersion};
 
 use std::alloc::Global;
+use std::fmt;
 use tls_codec::{Deserialize, DeserializeBytes, Error, Serialize, Sink, Size, Source};
 
-/// `ProtocolVersion`.
-#[derive(PartialEq, Eq, Debug, Clone, Copy)]
+/// `ProtocolVersion` (RFC 9420, section 6).
+#[derive(PartialEq, Eq, PartialOrd, Ord, Hash, Debug, Clone, Copy)]
 pub struct ProtocolVersion(pub u16);
 
 impl ProtocolVersion {
     /// `mls10`
     pub const MLS10: ProtocolVersion = ProtocolVersion(1);
+
+    /// Its name in the text, if it has one.
+    pub fn name(&self) -> Option<&'static str>
+        ensures { option_map (λ name. name.now) result ≡ protocol_version_name self.now.0 }
+    {
+        match self.0 {
+            1 => Some("mls10"),
+            _ => None,
+        }
+    }
+}
+
+/// Its name, or else its number in hexadecimal, two digits a byte. A width pads names alone.
+impl fmt::Display for ProtocolVersion {
+    ghost output = { λ v. Some (protocol_version_text v.0) };
+
+    #[tactic(auto, using(crate::specs::ProtocolVersion::protocol_version_printed))]
+    fn fmt<W: fmt::Write>(&self, f: &mut fmt::Formatter<W>) -> fmt::Result {
+        match self.name() {
+            Some(name) => f.pad(name),
+            None => write!(f, "0x{:04x}", self.0),
+        }
+    }
+}
+
+/// Its number.
+impl From<ProtocolVersion> for u16 {
+    ghost from_gives = { λ v number. number ≡ v.0 };
+
+    fn from(value: ProtocolVersion) -> u16 {
+        value.0
+    }
+}
+
+/// The one that has this number.
+impl From<u16> for ProtocolVersion {
+    ghost from_gives = { λ number v. v.0 ≡ number };
+
+    fn from(number: u16) -> ProtocolVersion {
+        ProtocolVersion(number)
+    }
 }
 
 impl Size for ProtocolVersion {
@@ -66,4 +109,10 @@ impl DeserializeBytes for ProtocolVersion {
 pub fn is_compared_by_its_number()
     ensures { (x y : ProtocolVersion) →
         ⟦<ProtocolVersion as PartialEq>⟧.eq x y ≡ nat_eq x.0 y.0 }
+{}
+
+/// Two are in the order of their numbers.
+pub fn is_ordered_by_its_number()
+    ensures { (x y : ProtocolVersion) →
+        ⟦<ProtocolVersion as Ord>⟧.cmp x y ≡ nat_cmp x.0 y.0 }
 {}

@@ -7,7 +7,7 @@ use crate::Node;
 use std::alloc::Global;
 use tls_codec::{Deserialize, DeserializeBytes, Error, Serialize, Sink, Size, Source};
 
-/// `RatchetTree`.
+/// `RatchetTree` (RFC 9420, section 12.4.3.3).
 #[derive(PartialEq, Eq, Debug, Clone, Drop)]
 pub struct RatchetTree {
     /// `optional<Node> ratchet_tree<V>;`

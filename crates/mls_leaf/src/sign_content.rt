@@ -5,7 +5,7 @@ ghost use Rattle.mls_leaf.specs.declared.sign_content.SignContent.{SignContent};
 
 use tls_codec::{Error, Lent, Serialize, Sink, Size, VLBytes};
 
-/// `SignContent`.
+/// `SignContent` (RFC 9420, section 5.1.2).
 ///
 /// It has references to its fields, and is only written.
 #[derive(PartialEq, Eq, Debug, Clone, Copy)]

@@ -14,7 +14,8 @@ const LEAF: u8 = 1;
 
 const PARENT: u8 = 2;
 
-/// `NodeType node_type` of `TreeHashInput`, and what comes after each.
+/// `NodeType node_type` of `TreeHashInput` (RFC 9420, section 7.8), and what comes after
+/// each.
 #[derive(PartialEq, Eq, Debug, Clone, Drop)]
 pub enum TreeHashInput {
     /// `case leaf: LeafNodeHashInput leaf_node;`

@@ -1,12 +1,16 @@
 -- ProtocolVersionMls10: what it stands for, its format and its law.
 use Rattle.std.proofs.Common.{arith}
-use Rattle.std.specs.Prelude.{◌≡◌, ◌==◌, ℕ, Bool, true, refl}
+use Rattle.std.specs.Prelude.{◌≡◌, ◌==◌, ℕ, Bool, true, refl, List, codes}
 use Rattle.tls_codec.specs.OwnMessages.{Tree, Number, Empty, Join, Format, values_format, MeetsLaws, tagged_meets, values_meet}
 use Rattle.mls_proposals.specs.declared.protocol_version_mls10.ProtocolVersionMls10.{ProtocolVersionMls10}
 
 -- the number of each value
 abbrev pub protocol_version_mls10_code : ProtocolVersionMls10 → ℕ
 protocol_version_mls10_code v = 1
+
+-- the name of each value
+abbrev pub protocol_version_mls10_name : ProtocolVersionMls10 → List ℕ
+protocol_version_mls10_name v = codes "mls10"
 
 -- which numbers there are
 abbrev pub protocol_version_mls10_has : ℕ → Bool

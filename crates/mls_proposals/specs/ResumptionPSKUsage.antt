@@ -1,6 +1,6 @@
 -- ResumptionPSKUsage: what it stands for, its format and its law.
 use Rattle.std.proofs.Common.{arith}
-use Rattle.std.specs.Prelude.{◌≡◌, ◌==◌, ◌||◌, ℕ, Bool, true, refl}
+use Rattle.std.specs.Prelude.{◌≡◌, ◌==◌, ◌||◌, ℕ, Bool, true, refl, List, codes}
 use Rattle.tls_codec.specs.OwnMessages.{Tree, Number, Empty, Join, Format, values_format, MeetsLaws, tagged_meets, values_meet}
 use Rattle.mls_proposals.specs.declared.resumption_psk_usage.ResumptionPSKUsage.{ResumptionPSKUsage}
 use Rattle.mls_proposals.specs.declared.resumption_psk_usage.ResumptionPSKUsage.TheVariants.{Application, Reinit, Branch}
@@ -10,6 +10,12 @@ abbrev pub resumption_psk_usage_code : ResumptionPSKUsage → ℕ
 resumption_psk_usage_code Application = 1
 resumption_psk_usage_code Reinit = 2
 resumption_psk_usage_code Branch = 3
+
+-- the name of each value
+abbrev pub resumption_psk_usage_name : ResumptionPSKUsage → List ℕ
+resumption_psk_usage_name Application = codes "application"
+resumption_psk_usage_name Reinit = codes "reinit"
+resumption_psk_usage_name Branch = codes "branch"
 
 -- which numbers there are
 abbrev pub resumption_psk_usage_has : ℕ → Bool

@@ -7,7 +7,7 @@ use mls_leaf::KeyPackage;
 use std::alloc::Global;
 use tls_codec::{Deserialize, DeserializeBytes, Error, Serialize, Sink, Size, Source};
 
-/// `Add`.
+/// `Add` (RFC 9420, section 12.1.1).
 #[derive(PartialEq, Eq, Debug, Clone, Drop)]
 pub struct Add {
     /// `KeyPackage key_package;`

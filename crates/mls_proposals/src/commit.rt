@@ -7,7 +7,7 @@ use crate::{ProposalOrRef, UpdatePath};
 use std::alloc::Global;
 use tls_codec::{Deserialize, DeserializeBytes, Error, Lent, Serialize, Sink, Size, Source};
 
-/// `Commit`.
+/// `Commit` (RFC 9420, section 12.4).
 #[derive(PartialEq, Eq, Debug, Clone, Drop)]
 pub struct Commit {
     /// `ProposalOrRef proposals<V>;`

@@ -7,7 +7,7 @@ use crate::{HPKECiphertext, KeyPackageRef};
 use std::alloc::Global;
 use tls_codec::{Deserialize, DeserializeBytes, Error, Lent, Serialize, Sink, Size, Source};
 
-/// `EncryptedGroupSecrets`.
+/// `EncryptedGroupSecrets` (RFC 9420, section 12.4.3.1).
 #[derive(PartialEq, Eq, Debug, Clone, Drop)]
 pub struct EncryptedGroupSecrets {
     /// `KeyPackageRef new_member;`

@@ -6,7 +6,7 @@ ghost use Rattle.mls_proposals.specs.declared.external_init.ExternalInit.{Extern
 use std::alloc::Global;
 use tls_codec::{Deserialize, DeserializeBytes, Error, Serialize, Sink, Size, Source, VLBytes};
 
-/// `ExternalInit`.
+/// `ExternalInit` (RFC 9420, section 12.1.6).
 #[derive(PartialEq, Eq, Debug, Clone, Drop)]
 pub struct ExternalInit {
     /// `opaque kem_output<V>;`

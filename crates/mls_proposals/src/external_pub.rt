@@ -7,7 +7,7 @@ use mls_leaf::HPKEPublicKey;
 use std::alloc::Global;
 use tls_codec::{Deserialize, DeserializeBytes, Error, Serialize, Sink, Size, Source};
 
-/// `ExternalPub`.
+/// `ExternalPub` (RFC 9420, section 12.4.3.2).
 #[derive(PartialEq, Eq, Debug, Clone, Drop)]
 pub struct ExternalPub {
     /// `HPKEPublicKey external_pub;`

@@ -7,7 +7,7 @@ use mls_leaf::{Credential, SignaturePublicKey};
 use std::alloc::Global;
 use tls_codec::{Deserialize, DeserializeBytes, Error, Lent, Serialize, Sink, Size, Source};
 
-/// `ExternalSender`.
+/// `ExternalSender` (RFC 9420, section 12.1.8.1).
 #[derive(PartialEq, Eq, Debug, Clone, Drop)]
 pub struct ExternalSender {
     /// `SignaturePublicKey signature_key;`

@@ -7,7 +7,7 @@ use crate::ExternalSender;
 use std::alloc::Global;
 use tls_codec::{Deserialize, DeserializeBytes, Error, Serialize, Sink, Size, Source};
 
-/// `ExternalSenders`.
+/// `ExternalSenders` (RFC 9420, section 12.1.8.1).
 #[derive(PartialEq, Eq, Debug, Clone, Drop)]
 pub struct ExternalSenders {
     /// `ExternalSender external_senders<V>;`

@@ -10,7 +10,7 @@ use tls_codec::{
     Deserialize, DeserializeBytes, Error, Lent2, Lent3, Serialize, Sink, Size, Source, VLBytes,
 };
 
-/// `GroupContext`.
+/// `GroupContext` (RFC 9420, section 8.1).
 #[derive(PartialEq, Eq, Debug, Clone, Drop)]
 pub struct GroupContext {
     /// `ProtocolVersion version = mls10;`

@@ -7,7 +7,7 @@ use mls_leaf::Extension;
 use std::alloc::Global;
 use tls_codec::{Deserialize, DeserializeBytes, Error, Serialize, Sink, Size, Source};
 
-/// `GroupContextExtensions`.
+/// `GroupContextExtensions` (RFC 9420, section 12.1.7).
 #[derive(PartialEq, Eq, Debug, Clone, Drop)]
 pub struct GroupContextExtensions {
     /// `Extension extensions<V>;`

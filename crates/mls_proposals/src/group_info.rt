@@ -10,7 +10,7 @@ use tls_codec::{
     Deserialize, DeserializeBytes, Error, Lent2, Lent3, Serialize, Sink, Size, Source, VLBytes,
 };
 
-/// `GroupInfo`.
+/// `GroupInfo` (RFC 9420, section 12.4.3).
 #[derive(PartialEq, Eq, Debug, Clone, Drop)]
 pub struct GroupInfo {
     /// `GroupContext group_context;`
@@ -22,6 +22,7 @@ pub struct GroupInfo {
     /// `uint32 signer;`
     pub signer: u32,
     /// `opaque signature<V>;`
+    /// SignWithLabel(., "GroupInfoTBS", GroupInfoTBS)
     pub signature: VLBytes,
 }
 

@@ -7,7 +7,7 @@ use crate::{GroupContext, MAC};
 use mls_leaf::Extension;
 use tls_codec::{Error, Lent2, Serialize, Sink, Size};
 
-/// `GroupInfoTBS`.
+/// `GroupInfoTBS` (RFC 9420, section 12.4.3).
 ///
 /// It has references to its fields, and is only written.
 #[derive(PartialEq, Eq, Debug, Clone, Copy)]

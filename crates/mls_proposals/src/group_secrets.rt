@@ -9,7 +9,7 @@ use tls_codec::{
     Deserialize, DeserializeBytes, Error, Lent, Serialize, Sink, Size, Source, VLBytes,
 };
 
-/// `GroupSecrets`.
+/// `GroupSecrets` (RFC 9420, section 12.4.3.1).
 #[derive(PartialEq, Eq, Debug, Clone, Drop)]
 pub struct GroupSecrets {
     /// `opaque joiner_secret<V>;`

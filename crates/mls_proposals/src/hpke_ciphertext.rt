@@ -8,7 +8,7 @@ use tls_codec::{
     Deserialize, DeserializeBytes, Error, Lent, Serialize, Sink, Size, Source, VLBytes,
 };
 
-/// `HPKECiphertext`.
+/// `HPKECiphertext` (RFC 9420, section 7.6).
 #[derive(PartialEq, Eq, Debug, Clone, Drop)]
 pub struct HPKECiphertext {
     /// `opaque kem_output<V>;`

@@ -5,7 +5,7 @@ ghost use Rattle.mls_proposals.specs.declared.kdf_label.KDFLabel.{KDFLabel};
 
 use tls_codec::{Error, Lent, Serialize, Sink, Size, VLBytes};
 
-/// `KDFLabel`.
+/// `KDFLabel` (RFC 9420, section 8).
 ///
 /// It has references to its fields, and is only written.
 #[derive(PartialEq, Eq, Debug, Clone, Copy)]

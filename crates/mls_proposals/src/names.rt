@@ -1,14 +1,14 @@
 //! Other names of types.
 use tls_codec::VLBytes;
 
-/// `opaque HashReference<V>;`
+/// `opaque HashReference<V>;` (RFC 9420, section 5.2).
 pub type HashReference = VLBytes;
 
-/// `HashReference KeyPackageRef;`
+/// `HashReference KeyPackageRef;` (RFC 9420, section 5.2).
 pub type KeyPackageRef = HashReference;
 
-/// `HashReference ProposalRef;`
+/// `HashReference ProposalRef;` (RFC 9420, section 5.2).
 pub type ProposalRef = HashReference;
 
-/// `opaque MAC<V>;`
+/// `opaque MAC<V>;` (RFC 9420, section 6.1).
 pub type MAC = VLBytes;

@@ -6,7 +6,7 @@ ghost use Rattle.mls_proposals.specs.declared.path_secret.PathSecret.{PathSecret
 use std::alloc::Global;
 use tls_codec::{Deserialize, DeserializeBytes, Error, Serialize, Sink, Size, Source, VLBytes};
 
-/// `PathSecret`.
+/// `PathSecret` (RFC 9420, section 12.4.3.1).
 #[derive(PartialEq, Eq, Debug, Clone, Drop)]
 pub struct PathSecret {
     /// `opaque path_secret<V>;`

@@ -7,7 +7,7 @@ use crate::PreSharedKeyID;
 use std::alloc::Global;
 use tls_codec::{Deserialize, DeserializeBytes, Error, Serialize, Sink, Size, Source};
 
-/// `PreSharedKey`.
+/// `PreSharedKey` (RFC 9420, section 12.1.4).
 #[derive(PartialEq, Eq, Debug, Clone, Drop)]
 pub struct PreSharedKey {
     /// `PreSharedKeyID psk;`

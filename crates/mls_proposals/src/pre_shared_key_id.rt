@@ -9,7 +9,7 @@ use tls_codec::{
     Deserialize, DeserializeBytes, Error, Lent, Serialize, Sink, Size, Source, VLBytes,
 };
 
-/// `PreSharedKeyID`.
+/// `PreSharedKeyID` (RFC 9420, section 8.4).
 #[derive(PartialEq, Eq, Debug, Clone, Drop)]
 pub struct PreSharedKeyID {
     /// `PSKType psktype;`

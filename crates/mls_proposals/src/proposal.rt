@@ -24,7 +24,8 @@ const EXTERNAL_INIT: u16 = 6;
 
 const GROUP_CONTEXT_EXTENSIONS: u16 = 7;
 
-/// `ProposalType proposal_type` of `Proposal`, and what comes after each.
+/// `ProposalType proposal_type` of `Proposal` (RFC 9420, section 12.1), and what comes
+/// after each.
 #[derive(PartialEq, Eq, Debug, Clone, Drop)]
 pub enum Proposal {
     /// `case add: Add add;`

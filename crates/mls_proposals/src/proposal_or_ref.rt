@@ -14,7 +14,8 @@ const PROPOSAL: u8 = 1;
 
 const REFERENCE: u8 = 2;
 
-/// `ProposalOrRefType type` of `ProposalOrRef`, and what comes after each.
+/// `ProposalOrRefType type` of `ProposalOrRef` (RFC 9420, section 12.4), and what comes
+/// after each.
 #[derive(PartialEq, Eq, Debug, Clone, Drop)]
 pub enum ProposalOrRef {
     /// `case proposal: Proposal proposal;`

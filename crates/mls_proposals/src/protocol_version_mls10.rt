@@ -1,16 +1,20 @@
 //! [`ProtocolVersionMls10`].
-ghost use Rattle.std.specs.Prelude.{◌≡◌, MatchOption, false, nat_eq};
+ghost use Rattle.std.specs.Prelude.{◌≡◌, MatchOption, MatchResult, Some, false, nat_eq};
+ghost use Rattle.std.specs.Fmt.{padded};
+ghost use Rattle.std.specs.Ordering.{nat_cmp};
+ghost use Rattle.tls_codec.specs.Errors.{UnknownValue};
 ghost use Rattle.tls_codec.specs.OwnMessages.{values_names, values_source_names};
-ghost use Rattle.mls_proposals.specs.ProtocolVersionMls10.{protocol_version_mls10_code, protocol_version_mls10_format, protocol_version_mls10_has, protocol_version_mls10_meets, protocol_version_mls10_plain};
+ghost use Rattle.mls_proposals.specs.ProtocolVersionMls10.{protocol_version_mls10_code, protocol_version_mls10_format, protocol_version_mls10_has, protocol_version_mls10_meets, protocol_version_mls10_name, protocol_version_mls10_plain};
 ghost use Rattle.mls_proposals.specs.declared.protocol_version_mls10.ProtocolVersionMls10.{ProtocolVersionMls10};
 
 use std::alloc::Global;
+use std::fmt;
 use tls_codec::{
     Deserialize, DeserializeBytes, Error, Serialize, Sink, Size, Source, unknown_value,
 };
 
 /// `ProtocolVersionMls10`.
-#[derive(PartialEq, Eq, Debug, Clone, Copy)]
+#[derive(PartialEq, Eq, PartialOrd, Ord, Hash, Debug, Clone, Copy)]
 pub enum ProtocolVersionMls10 {
     /// `mls10(1)`
     Mls10,
@@ -24,6 +28,13 @@ impl ProtocolVersionMls10 {
         1
     }
 
+    /// Its name in the text.
+    pub fn name(&self) -> &'static str
+        ensures { result.now ≡ protocol_version_mls10_name self.now }
+    {
+        "mls10"
+    }
+
     /// The value that has this number.
     pub fn of_code(code: u16) -> Option<ProtocolVersionMls10>
         ensures { MatchOption result (protocol_version_mls10_has code ≡ false)
@@ -32,6 +43,42 @@ impl ProtocolVersionMls10 {
         match code {
             1 => Some(ProtocolVersionMls10::Mls10),
             _ => None,
+        }
+    }
+}
+
+/// Its name.
+impl fmt::Display for ProtocolVersionMls10 {
+    ghost output = { λ v. Some (protocol_version_mls10_name v) };
+
+    ghost styled_output = { λ v spec. Some (padded spec (protocol_version_mls10_name v)) };
+
+    fn fmt<W: fmt::Write>(&self, f: &mut fmt::Formatter<W>) -> fmt::Result {
+        f.pad(self.name())
+    }
+}
+
+/// Its number.
+impl From<ProtocolVersionMls10> for u16 {
+    ghost from_gives = { λ v number. number ≡ protocol_version_mls10_code v };
+
+    fn from(value: ProtocolVersionMls10) -> u16 {
+        value.code()
+    }
+}
+
+/// The value that has this number.
+impl TryFrom<u16> for ProtocolVersionMls10 {
+    type Error = Error;
+
+    ghost try_from_gives = { λ tag r. MatchResult r
+        (λ v. protocol_version_mls10_code v ≡ tag)
+        (λ e. (protocol_version_mls10_has tag ≡ false) × (e ≡ UnknownValue tag)) };
+
+    fn try_from(tag: u16) -> Result<ProtocolVersionMls10, Error> {
+        match ProtocolVersionMls10::of_code(tag) {
+            Some(value) => Ok(value),
+            None => Err(unknown_value(u64::from(tag))),
         }
     }
 }
@@ -93,4 +140,11 @@ pub fn is_compared_by_its_number()
     ensures { (x y : ProtocolVersionMls10) →
         ⟦<ProtocolVersionMls10 as PartialEq>⟧.eq x y
         ≡ nat_eq (protocol_version_mls10_code x) (protocol_version_mls10_code y) }
+{}
+
+/// Two are in the order of their numbers.
+pub fn is_ordered_by_its_number()
+    ensures { (x y : ProtocolVersionMls10) →
+        ⟦<ProtocolVersionMls10 as Ord>⟧.cmp x y
+        ≡ nat_cmp (protocol_version_mls10_code x) (protocol_version_mls10_code y) }
 {}

@@ -6,7 +6,7 @@ ghost use Rattle.mls_proposals.specs.declared.psk_label.PSKLabel.{PSKLabel};
 use crate::PreSharedKeyID;
 use tls_codec::{Error, Lent, Serialize, Sink, Size};
 
-/// `PSKLabel`.
+/// `PSKLabel` (RFC 9420, section 8.4).
 ///
 /// It has references to its fields, and is only written.
 #[derive(PartialEq, Eq, Debug, Clone, Copy)]

@@ -15,7 +15,8 @@ const EXTERNAL: u8 = 1;
 
 const RESUMPTION: u8 = 2;
 
-/// `PSKType psktype` of `PreSharedKeyID`, and what comes after each.
+/// `PSKType psktype` of `PreSharedKeyID` (RFC 9420, section 8.4), and what comes after
+/// each.
 #[derive(PartialEq, Eq, Debug, Clone, Drop)]
 pub enum PSKOrigin {
     /// `case external: opaque psk_id<V>;`

@@ -9,7 +9,7 @@ use tls_codec::{
     Deserialize, DeserializeBytes, Error, Lent2, Serialize, Sink, Size, Source, VLBytes,
 };
 
-/// `ReInit`.
+/// `ReInit` (RFC 9420, section 12.1.5).
 #[derive(PartialEq, Eq, Debug, Clone, Drop)]
 pub struct ReInit {
     /// `opaque group_id<V>;`

@@ -5,7 +5,7 @@ ghost use Rattle.mls_proposals.specs.declared.ref_hash_input.RefHashInput.{RefHa
 
 use tls_codec::{Error, Lent, Serialize, Sink, Size, VLBytes};
 
-/// `RefHashInput`.
+/// `RefHashInput` (RFC 9420, section 5.2).
 ///
 /// It has references to its fields, and is only written.
 #[derive(PartialEq, Eq, Debug, Clone, Copy)]

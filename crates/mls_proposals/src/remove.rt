@@ -6,7 +6,7 @@ ghost use Rattle.mls_proposals.specs.declared.remove.Remove.{Remove};
 use std::alloc::Global;
 use tls_codec::{Deserialize, DeserializeBytes, Error, Serialize, Sink, Size, Source};
 
-/// `Remove`.
+/// `Remove` (RFC 9420, section 12.1.3).
 #[derive(PartialEq, Eq, Debug, Clone, Drop)]
 pub struct Remove {
     /// `uint32 removed;`

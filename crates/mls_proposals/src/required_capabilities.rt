@@ -7,7 +7,7 @@ use mls_leaf::{CredentialType, ExtensionType, ProposalType};
 use std::alloc::Global;
 use tls_codec::{Deserialize, DeserializeBytes, Error, Lent, Serialize, Sink, Size, Source};
 
-/// `RequiredCapabilities`.
+/// `RequiredCapabilities` (RFC 9420, section 11.1).
 #[derive(PartialEq, Eq, Debug, Clone, Drop)]
 pub struct RequiredCapabilities {
     /// `ExtensionType extension_types<V>;`

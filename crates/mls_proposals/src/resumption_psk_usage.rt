@@ -1,16 +1,20 @@
 //! [`ResumptionPSKUsage`].
-ghost use Rattle.std.specs.Prelude.{◌≡◌, MatchOption, false, nat_eq};
+ghost use Rattle.std.specs.Prelude.{◌≡◌, MatchOption, MatchResult, Some, false, nat_eq};
+ghost use Rattle.std.specs.Fmt.{padded};
+ghost use Rattle.std.specs.Ordering.{nat_cmp};
+ghost use Rattle.tls_codec.specs.Errors.{UnknownValue};
 ghost use Rattle.tls_codec.specs.OwnMessages.{values_names, values_source_names};
-ghost use Rattle.mls_proposals.specs.ResumptionPSKUsage.{resumption_psk_usage_code, resumption_psk_usage_format, resumption_psk_usage_has, resumption_psk_usage_meets, resumption_psk_usage_plain};
+ghost use Rattle.mls_proposals.specs.ResumptionPSKUsage.{resumption_psk_usage_code, resumption_psk_usage_format, resumption_psk_usage_has, resumption_psk_usage_meets, resumption_psk_usage_name, resumption_psk_usage_plain};
 ghost use Rattle.mls_proposals.specs.declared.resumption_psk_usage.ResumptionPSKUsage.{ResumptionPSKUsage};
 
 use std::alloc::Global;
+use std::fmt;
 use tls_codec::{
     Deserialize, DeserializeBytes, Error, Serialize, Sink, Size, Source, unknown_value,
 };
 
-/// `ResumptionPSKUsage`.
-#[derive(PartialEq, Eq, Debug, Clone, Copy)]
+/// `ResumptionPSKUsage` (RFC 9420, section 8.4).
+#[derive(PartialEq, Eq, PartialOrd, Ord, Hash, Debug, Clone, Copy)]
 pub enum ResumptionPSKUsage {
     /// `application(1)`
     Application,
@@ -32,6 +36,17 @@ impl ResumptionPSKUsage {
         }
     }
 
+    /// Its name in the text.
+    pub fn name(&self) -> &'static str
+        ensures { result.now ≡ resumption_psk_usage_name self.now }
+    {
+        match self {
+            ResumptionPSKUsage::Application => "application",
+            ResumptionPSKUsage::Reinit => "reinit",
+            ResumptionPSKUsage::Branch => "branch",
+        }
+    }
+
     /// The value that has this number.
     pub fn of_code(code: u8) -> Option<ResumptionPSKUsage>
         ensures { MatchOption result (resumption_psk_usage_has code ≡ false)
@@ -42,6 +57,42 @@ impl ResumptionPSKUsage {
             2 => Some(ResumptionPSKUsage::Reinit),
             3 => Some(ResumptionPSKUsage::Branch),
             _ => None,
+        }
+    }
+}
+
+/// Its name.
+impl fmt::Display for ResumptionPSKUsage {
+    ghost output = { λ v. Some (resumption_psk_usage_name v) };
+
+    ghost styled_output = { λ v spec. Some (padded spec (resumption_psk_usage_name v)) };
+
+    fn fmt<W: fmt::Write>(&self, f: &mut fmt::Formatter<W>) -> fmt::Result {
+        f.pad(self.name())
+    }
+}
+
+/// Its number.
+impl From<ResumptionPSKUsage> for u8 {
+    ghost from_gives = { λ v number. number ≡ resumption_psk_usage_code v };
+
+    fn from(value: ResumptionPSKUsage) -> u8 {
+        value.code()
+    }
+}
+
+/// The value that has this number.
+impl TryFrom<u8> for ResumptionPSKUsage {
+    type Error = Error;
+
+    ghost try_from_gives = { λ tag r. MatchResult r
+        (λ v. resumption_psk_usage_code v ≡ tag)
+        (λ e. (resumption_psk_usage_has tag ≡ false) × (e ≡ UnknownValue tag)) };
+
+    fn try_from(tag: u8) -> Result<ResumptionPSKUsage, Error> {
+        match ResumptionPSKUsage::of_code(tag) {
+            Some(value) => Ok(value),
+            None => Err(unknown_value(u64::from(tag))),
         }
     }
 }
@@ -100,4 +151,11 @@ pub fn is_compared_by_its_number()
     ensures { (x y : ResumptionPSKUsage) →
         ⟦<ResumptionPSKUsage as PartialEq>⟧.eq x y
         ≡ nat_eq (resumption_psk_usage_code x) (resumption_psk_usage_code y) }
+{}
+
+/// Two are in the order of their numbers.
+pub fn is_ordered_by_its_number()
+    ensures { (x y : ResumptionPSKUsage) →
+        ⟦<ResumptionPSKUsage as Ord>⟧.cmp x y
+        ≡ nat_cmp (resumption_psk_usage_code x) (resumption_psk_usage_code y) }
 {}

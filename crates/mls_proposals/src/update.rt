@@ -7,7 +7,7 @@ use mls_leaf::LeafNode;
 use std::alloc::Global;
 use tls_codec::{Deserialize, DeserializeBytes, Error, Serialize, Sink, Size, Source};
 
-/// `Update`.
+/// `Update` (RFC 9420, section 12.1.2).
 #[derive(PartialEq, Eq, Debug, Clone, Drop)]
 pub struct Update {
     /// `LeafNode leaf_node;`

@@ -8,7 +8,7 @@ use mls_leaf::LeafNode;
 use std::alloc::Global;
 use tls_codec::{Deserialize, DeserializeBytes, Error, Lent, Serialize, Sink, Size, Source};
 
-/// `UpdatePath`.
+/// `UpdatePath` (RFC 9420, section 7.6).
 #[derive(PartialEq, Eq, Debug, Clone, Drop)]
 pub struct UpdatePath {
     /// `LeafNode leaf_node;`

@@ -8,7 +8,7 @@ use mls_leaf::HPKEPublicKey;
 use std::alloc::Global;
 use tls_codec::{Deserialize, DeserializeBytes, Error, Lent, Serialize, Sink, Size, Source};
 
-/// `UpdatePathNode`.
+/// `UpdatePathNode` (RFC 9420, section 7.6).
 #[derive(PartialEq, Eq, Debug, Clone, Drop)]
 pub struct UpdatePathNode {
     /// `HPKEPublicKey encryption_key;`

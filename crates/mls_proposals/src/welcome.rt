@@ -10,7 +10,7 @@ use tls_codec::{
     Deserialize, DeserializeBytes, Error, Lent, Serialize, Sink, Size, Source, VLBytes,
 };
 
-/// `Welcome`.
+/// `Welcome` (RFC 9420, section 12.4.3.1).
 #[derive(PartialEq, Eq, Debug, Clone, Drop)]
 pub struct Welcome {
     /// `CipherSuite cipher_suite;`

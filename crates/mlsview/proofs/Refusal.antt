@@ -6,7 +6,7 @@ use Rattle.tls_codec.specs.Devices.{FaultIsCounted, Gives, no_counts}
 use Rattle.tls_codec.specs.Errors.{OutOfMemory}
 use Rattle.tls_codec.specs.OwnMessages.{Tree}
 use Rattle.tls_codec.specs.Spellings.{GaveSpelling, NoneBegins, NoneSpelled, Reading, RefusesSource}
-use Rattle.mls_framing.specs.MLSMessage.{mls_message_format}
+use Rattle.mls.specs.MLSMessage.{mls_message_format}
 use Rattle.mlsview.specs.View.{GoesOn}
 
 -- bytes that are no message go on after one that comes first

@@ -5,7 +5,7 @@ use Rattle.tls_codec.specs.Devices.{Causes, no_counts}
 use Rattle.tls_codec.specs.Errors.{DecodingError, OutOfMemory, TrailingData, UnknownValue, name_of}
 use Rattle.tls_codec.specs.OwnMessages.{Tree}
 use Rattle.tls_codec.specs.Spellings.{Begins, NoneBegins, NoneSpelled, Reading}
-use Rattle.mls_framing.specs.MLSMessage.{mls_message_format}
+use Rattle.mls.specs.MLSMessage.{mls_message_format}
 use Rattle.view_input.specs.Input as input
 use Rattle.view_input.specs.Input.{GaveAll, StandsFor, WhyNoInput, WhyNoText}
 use Rattle.view_input.specs.declared.fault.InputFault.{InputFault}

@@ -3,11 +3,11 @@ ghost use Rattle.std.specs.Prelude.{◌≡◌, ◌≢◌, ◌++◌, ◌-◌, IfE
 ghost use Rattle.tls_codec.specs.Devices.{Gave, NoneFell};
 ghost use Rattle.tls_codec.specs.Errors.{OutOfMemory};
 ghost use Rattle.tls_codec.specs.Spellings.{NoneSpelled};
-ghost use Rattle.mls_framing.specs.MLSMessage.{mls_message_format};
+ghost use Rattle.mls.specs.MLSMessage.{mls_message_format};
 ghost use Rattle.mlsview.specs.View.{GaveView, Stands, Tells, WhyNoBytes, WhyNoView, error_text, refusal_line};
 
 use message_tree::Tree;
-use mls_framing::MLSMessage;
+use mls::MLSMessage;
 use mls_shown::show::Show;
 use std::alloc::{AllocError, Global};
 use tls_codec::{Deserialize, DeserializeBytes, Error, Source};

@@ -1,5 +1,6 @@
 // What no clause says: what is read and planned of worked texts, and where and why texts are refused.
 mod bad;
+mod comments;
 mod crates;
 mod elsewhere;
 mod held;

@@ -1,12 +1,16 @@
 -- ContentTypeApplicationData: what it stands for, its format and its law.
 use Rattle.std.proofs.Common.{arith}
-use Rattle.std.specs.Prelude.{◌≡◌, ◌==◌, ℕ, Bool, true, refl}
+use Rattle.std.specs.Prelude.{◌≡◌, ◌==◌, ℕ, Bool, true, refl, List, codes}
 use Rattle.tls_codec.specs.OwnMessages.{Tree, Number, Empty, Join, Format, values_format, MeetsLaws, tagged_meets, values_meet}
 use Rattle.tls13.specs.declared.content_type_application_data.ContentTypeApplicationData.{ContentTypeApplicationData}
 
 -- the number of each value
 abbrev pub content_type_application_data_code : ContentTypeApplicationData → ℕ
 content_type_application_data_code v = 23
+
+-- the name of each value
+abbrev pub content_type_application_data_name : ContentTypeApplicationData → List ℕ
+content_type_application_data_name v = codes "application_data"
 
 -- which numbers there are
 abbrev pub content_type_application_data_has : ℕ → Bool

@@ -1,6 +1,6 @@
 -- HandshakeType: what it stands for, its format and its law.
 use Rattle.std.proofs.Common.{arith}
-use Rattle.std.specs.Prelude.{◌≡◌, ◌==◌, ◌||◌, ℕ, Bool, true, refl}
+use Rattle.std.specs.Prelude.{◌≡◌, ◌==◌, ◌||◌, ℕ, Bool, true, refl, List, codes}
 use Rattle.tls_codec.specs.OwnMessages.{Tree, Number, Empty, Join, Format, values_format, MeetsLaws, tagged_meets, values_meet}
 use Rattle.tls13.specs.declared.handshake_type.HandshakeType.{HandshakeType}
 use Rattle.tls13.specs.declared.handshake_type.HandshakeType.TheVariants.{HelloRequestReserved, ClientHello, ServerHello, HelloVerifyRequestReserved, NewSessionTicket, EndOfEarlyData, HelloRetryRequestReserved, EncryptedExtensions, Certificate, ServerKeyExchangeReserved, CertificateRequest, ServerHelloDoneReserved, CertificateVerify, ClientKeyExchangeReserved, Finished, CertificateUrlReserved, CertificateStatusReserved, SupplementalDataReserved, KeyUpdate, MessageHash}
@@ -27,6 +27,29 @@ handshake_type_code CertificateStatusReserved = 22
 handshake_type_code SupplementalDataReserved = 23
 handshake_type_code KeyUpdate = 24
 handshake_type_code MessageHash = 254
+
+-- the name of each value
+abbrev pub handshake_type_name : HandshakeType → List ℕ
+handshake_type_name HelloRequestReserved = codes "hello_request_RESERVED"
+handshake_type_name ClientHello = codes "client_hello"
+handshake_type_name ServerHello = codes "server_hello"
+handshake_type_name HelloVerifyRequestReserved = codes "hello_verify_request_RESERVED"
+handshake_type_name NewSessionTicket = codes "new_session_ticket"
+handshake_type_name EndOfEarlyData = codes "end_of_early_data"
+handshake_type_name HelloRetryRequestReserved = codes "hello_retry_request_RESERVED"
+handshake_type_name EncryptedExtensions = codes "encrypted_extensions"
+handshake_type_name Certificate = codes "certificate"
+handshake_type_name ServerKeyExchangeReserved = codes "server_key_exchange_RESERVED"
+handshake_type_name CertificateRequest = codes "certificate_request"
+handshake_type_name ServerHelloDoneReserved = codes "server_hello_done_RESERVED"
+handshake_type_name CertificateVerify = codes "certificate_verify"
+handshake_type_name ClientKeyExchangeReserved = codes "client_key_exchange_RESERVED"
+handshake_type_name Finished = codes "finished"
+handshake_type_name CertificateUrlReserved = codes "certificate_url_RESERVED"
+handshake_type_name CertificateStatusReserved = codes "certificate_status_RESERVED"
+handshake_type_name SupplementalDataReserved = codes "supplemental_data_RESERVED"
+handshake_type_name KeyUpdate = codes "key_update"
+handshake_type_name MessageHash = codes "message_hash"
 
 -- which numbers there are
 abbrev pub handshake_type_has : ℕ → Bool

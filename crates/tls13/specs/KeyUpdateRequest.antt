@@ -1,6 +1,6 @@
 -- KeyUpdateRequest: what it stands for, its format and its law.
 use Rattle.std.proofs.Common.{arith}
-use Rattle.std.specs.Prelude.{◌≡◌, ◌==◌, ◌||◌, ℕ, Bool, true, refl}
+use Rattle.std.specs.Prelude.{◌≡◌, ◌==◌, ◌||◌, ℕ, Bool, true, refl, List, codes}
 use Rattle.tls_codec.specs.OwnMessages.{Tree, Number, Empty, Join, Format, values_format, MeetsLaws, tagged_meets, values_meet}
 use Rattle.tls13.specs.declared.key_update_request.KeyUpdateRequest.{KeyUpdateRequest}
 use Rattle.tls13.specs.declared.key_update_request.KeyUpdateRequest.TheVariants.{UpdateNotRequested, UpdateRequested}
@@ -9,6 +9,11 @@ use Rattle.tls13.specs.declared.key_update_request.KeyUpdateRequest.TheVariants.
 abbrev pub key_update_request_code : KeyUpdateRequest → ℕ
 key_update_request_code UpdateNotRequested = 0
 key_update_request_code UpdateRequested = 1
+
+-- the name of each value
+abbrev pub key_update_request_name : KeyUpdateRequest → List ℕ
+key_update_request_name UpdateNotRequested = codes "update_not_requested"
+key_update_request_name UpdateRequested = codes "update_requested"
 
 -- which numbers there are
 abbrev pub key_update_request_has : ℕ → Bool

@@ -1,12 +1,16 @@
 -- LegacyCompressionMethodX00: what it stands for, its format and its law.
 use Rattle.std.proofs.Common.{arith}
-use Rattle.std.specs.Prelude.{◌≡◌, ◌==◌, ℕ, Bool, true, refl}
+use Rattle.std.specs.Prelude.{◌≡◌, ◌==◌, ℕ, Bool, true, refl, List, codes}
 use Rattle.tls_codec.specs.OwnMessages.{Tree, Number, Empty, Join, Format, values_format, MeetsLaws, tagged_meets, values_meet}
 use Rattle.tls13.specs.declared.legacy_compression_method_x00.LegacyCompressionMethodX00.{LegacyCompressionMethodX00}
 
 -- the number of each value
 abbrev pub legacy_compression_method_x00_code : LegacyCompressionMethodX00 → ℕ
 legacy_compression_method_x00_code v = 0
+
+-- the name of each value
+abbrev pub legacy_compression_method_x00_name : LegacyCompressionMethodX00 → List ℕ
+legacy_compression_method_x00_name v = codes "0x00"
 
 -- which numbers there are
 abbrev pub legacy_compression_method_x00_has : ℕ → Bool

@@ -1,12 +1,16 @@
 -- ProtocolVersionX0303: what it stands for, its format and its law.
 use Rattle.std.proofs.Common.{arith}
-use Rattle.std.specs.Prelude.{◌≡◌, ◌==◌, ℕ, Bool, true, refl}
+use Rattle.std.specs.Prelude.{◌≡◌, ◌==◌, ℕ, Bool, true, refl, List, codes}
 use Rattle.tls_codec.specs.OwnMessages.{Tree, Number, Empty, Join, Format, values_format, MeetsLaws, tagged_meets, values_meet}
 use Rattle.tls13.specs.declared.protocol_version_x0303.ProtocolVersionX0303.{ProtocolVersionX0303}
 
 -- the number of each value
 abbrev pub protocol_version_x0303_code : ProtocolVersionX0303 → ℕ
 protocol_version_x0303_code v = 771
+
+-- the name of each value
+abbrev pub protocol_version_x0303_name : ProtocolVersionX0303 → List ℕ
+protocol_version_x0303_name v = codes "0x0303"
 
 -- which numbers there are
 abbrev pub protocol_version_x0303_has : ℕ → Bool

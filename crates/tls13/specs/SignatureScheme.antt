@@ -1,4 +1,8 @@
 -- SignatureScheme: what it stands for, its format and its law.
+use Rattle.std.proofs.Common.{append-nil, arith}
+use Rattle.std.specs.Prelude.{◌≡◌, ◌==◌, ◌-◌, ◌^◌, ◌∷◌, ◌++◌, ℕ, false, refl, List, [], codes, length, replicate, Option, option_map, unwrap_or}
+use Rattle.std.specs.List.{find}
+use Rattle.std.specs.Fmt.{char_count, digits, format_spec, padded_integral}
 use Rattle.tls_codec.specs.OwnMessages.{Tree, Number, Format, number_format, MeetsLaws, u16_meets}
 use Rattle.tls13.specs.declared.signature_scheme.SignatureScheme.{SignatureScheme}
 
@@ -10,3 +14,51 @@ signature_scheme_format = number_format 2
 
 pub signature_scheme_meets : MeetsLaws signature_scheme_format
 signature_scheme_meets = u16_meets
+
+-- the numbers that have names
+abbrev pub signature_scheme_names : List (ℕ × List ℕ)
+signature_scheme_names =
+    (1025, codes "rsa_pkcs1_sha256") ∷
+    (1281, codes "rsa_pkcs1_sha384") ∷
+    (1537, codes "rsa_pkcs1_sha512") ∷
+    (1027, codes "ecdsa_secp256r1_sha256") ∷
+    (1283, codes "ecdsa_secp384r1_sha384") ∷
+    (1539, codes "ecdsa_secp521r1_sha512") ∷
+    (2052, codes "rsa_pss_rsae_sha256") ∷
+    (2053, codes "rsa_pss_rsae_sha384") ∷
+    (2054, codes "rsa_pss_rsae_sha512") ∷
+    (2055, codes "ed25519") ∷
+    (2056, codes "ed448") ∷
+    (2057, codes "rsa_pss_pss_sha256") ∷
+    (2058, codes "rsa_pss_pss_sha384") ∷
+    (2059, codes "rsa_pss_pss_sha512") ∷
+    (513, codes "rsa_pkcs1_sha1") ∷
+    (515, codes "ecdsa_sha1") ∷
+    (514, codes "dsa_sha1_RESERVED") ∷
+    (1026, codes "dsa_sha256_RESERVED") ∷
+    (1282, codes "dsa_sha384_RESERVED") ∷
+    (1538, codes "dsa_sha512_RESERVED") ∷
+    []
+
+-- the name of a number
+abbrev pub signature_scheme_name : ℕ → Option (List ℕ)
+signature_scheme_name n =
+    option_map (λ (entry : ℕ × List ℕ). entry.1)
+    (find (λ (entry : ℕ × List ℕ). n == entry.0) signature_scheme_names)
+
+-- a number in hexadecimal, with zeros up to 4 digits
+abbrev pub signature_scheme_hex : ℕ → List ℕ
+signature_scheme_hex n = let hex = digits 16 false n in replicate (4 - length hex) 48 ++ hex
+
+-- what is printed
+abbrev pub signature_scheme_text : ℕ → List ℕ
+signature_scheme_text n = unwrap_or (signature_scheme_name n) (codes "0x" ++ signature_scheme_hex n)
+
+-- the hexadecimal digits, as std says it of `{:04x}`
+pub signature_scheme_printed : (hex : List ℕ)
+    → padded_integral (format_spec 32 0 4 4 (2 ^ 64 - 1)) false [] hex
+    ≡ replicate (4 - length hex) 48 ++ hex
+unfolding padded_integral char_count
+signature_scheme_printed hex =
+    let short : 4 - length hex - 0 - 0 ≡ 4 - length hex = omega arith in
+    rw (short, append-nil hex) refl

@@ -7,7 +7,7 @@ use crate::{AlertDescription, AlertLevel};
 use std::alloc::Global;
 use tls_codec::{Deserialize, DeserializeBytes, Error, Lent, Serialize, Sink, Size, Source};
 
-/// `Alert`.
+/// `Alert` (RFC 8446, appendix B.2).
 #[derive(PartialEq, Eq, Debug, Clone, Drop)]
 pub struct Alert {
     /// `AlertLevel level;`

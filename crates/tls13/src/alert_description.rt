@@ -1,13 +1,15 @@
 //! [`AlertDescription`].
-ghost use Rattle.std.specs.Prelude.{◌≡◌, nat_eq};
-ghost use Rattle.tls13.specs.AlertDescription.{alert_description_format, alert_description_meets, alert_description_plain};
+ghost use Rattle.std.specs.Prelude.{◌≡◌, Some, nat_eq, option_map};
+ghost use Rattle.std.specs.Ordering.{nat_cmp};
+ghost use Rattle.tls13.specs.AlertDescription.{alert_description_format, alert_description_meets, alert_description_name, alert_description_plain, alert_description_text};
 ghost use Rattle.tls13.specs.declared.alert_description.AlertDescription.{AlertDescription};
 
 use std::alloc::Global;
+use std::fmt;
 use tls_codec::{Deserialize, DeserializeBytes, Error, Serialize, Sink, Size, Source};
 
-/// `AlertDescription`.
-#[derive(PartialEq, Eq, Debug, Clone, Copy)]
+/// `AlertDescription` (RFC 8446, appendix B.2).
+#[derive(PartialEq, Eq, PartialOrd, Ord, Hash, Debug, Clone, Copy)]
 pub struct AlertDescription(pub u8);
 
 impl AlertDescription {
@@ -112,6 +114,80 @@ impl AlertDescription {
 
     /// `no_application_protocol`
     pub const NO_APPLICATION_PROTOCOL: AlertDescription = AlertDescription(120);
+
+    /// Its name in the text, if it has one.
+    pub fn name(&self) -> Option<&'static str>
+        ensures { option_map (λ name. name.now) result ≡ alert_description_name self.now.0 }
+    {
+        match self.0 {
+            0 => Some("close_notify"),
+            10 => Some("unexpected_message"),
+            20 => Some("bad_record_mac"),
+            21 => Some("decryption_failed_RESERVED"),
+            22 => Some("record_overflow"),
+            30 => Some("decompression_failure_RESERVED"),
+            40 => Some("handshake_failure"),
+            41 => Some("no_certificate_RESERVED"),
+            42 => Some("bad_certificate"),
+            43 => Some("unsupported_certificate"),
+            44 => Some("certificate_revoked"),
+            45 => Some("certificate_expired"),
+            46 => Some("certificate_unknown"),
+            47 => Some("illegal_parameter"),
+            48 => Some("unknown_ca"),
+            49 => Some("access_denied"),
+            50 => Some("decode_error"),
+            51 => Some("decrypt_error"),
+            60 => Some("export_restriction_RESERVED"),
+            70 => Some("protocol_version"),
+            71 => Some("insufficient_security"),
+            80 => Some("internal_error"),
+            86 => Some("inappropriate_fallback"),
+            90 => Some("user_canceled"),
+            100 => Some("no_renegotiation_RESERVED"),
+            109 => Some("missing_extension"),
+            110 => Some("unsupported_extension"),
+            111 => Some("certificate_unobtainable_RESERVED"),
+            112 => Some("unrecognized_name"),
+            113 => Some("bad_certificate_status_response"),
+            114 => Some("bad_certificate_hash_value_RESERVED"),
+            115 => Some("unknown_psk_identity"),
+            116 => Some("certificate_required"),
+            120 => Some("no_application_protocol"),
+            _ => None,
+        }
+    }
+}
+
+/// Its name, or else its number in hexadecimal, two digits a byte. A width pads names alone.
+impl fmt::Display for AlertDescription {
+    ghost output = { λ v. Some (alert_description_text v.0) };
+
+    #[tactic(auto, using(crate::specs::AlertDescription::alert_description_printed))]
+    fn fmt<W: fmt::Write>(&self, f: &mut fmt::Formatter<W>) -> fmt::Result {
+        match self.name() {
+            Some(name) => f.pad(name),
+            None => write!(f, "0x{:02x}", self.0),
+        }
+    }
+}
+
+/// Its number.
+impl From<AlertDescription> for u8 {
+    ghost from_gives = { λ v number. number ≡ v.0 };
+
+    fn from(value: AlertDescription) -> u8 {
+        value.0
+    }
+}
+
+/// The one that has this number.
+impl From<u8> for AlertDescription {
+    ghost from_gives = { λ number v. v.0 ≡ number };
+
+    fn from(number: u8) -> AlertDescription {
+        AlertDescription(number)
+    }
 }
 
 impl Size for AlertDescription {
@@ -165,4 +241,10 @@ impl DeserializeBytes for AlertDescription {
 pub fn is_compared_by_its_number()
     ensures { (x y : AlertDescription) →
         ⟦<AlertDescription as PartialEq>⟧.eq x y ≡ nat_eq x.0 y.0 }
+{}
+
+/// Two are in the order of their numbers.
+pub fn is_ordered_by_its_number()
+    ensures { (x y : AlertDescription) →
+        ⟦<AlertDescription as Ord>⟧.cmp x y ≡ nat_cmp x.0 y.0 }
 {}

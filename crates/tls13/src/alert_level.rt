@@ -1,13 +1,15 @@
 //! [`AlertLevel`].
-ghost use Rattle.std.specs.Prelude.{◌≡◌, nat_eq};
-ghost use Rattle.tls13.specs.AlertLevel.{alert_level_format, alert_level_meets, alert_level_plain};
+ghost use Rattle.std.specs.Prelude.{◌≡◌, Some, nat_eq, option_map};
+ghost use Rattle.std.specs.Ordering.{nat_cmp};
+ghost use Rattle.tls13.specs.AlertLevel.{alert_level_format, alert_level_meets, alert_level_name, alert_level_plain, alert_level_text};
 ghost use Rattle.tls13.specs.declared.alert_level.AlertLevel.{AlertLevel};
 
 use std::alloc::Global;
+use std::fmt;
 use tls_codec::{Deserialize, DeserializeBytes, Error, Serialize, Sink, Size, Source};
 
-/// `AlertLevel`.
-#[derive(PartialEq, Eq, Debug, Clone, Copy)]
+/// `AlertLevel` (RFC 8446, appendix B.2).
+#[derive(PartialEq, Eq, PartialOrd, Ord, Hash, Debug, Clone, Copy)]
 pub struct AlertLevel(pub u8);
 
 impl AlertLevel {
@@ -16,6 +18,48 @@ impl AlertLevel {
 
     /// `fatal`
     pub const FATAL: AlertLevel = AlertLevel(2);
+
+    /// Its name in the text, if it has one.
+    pub fn name(&self) -> Option<&'static str>
+        ensures { option_map (λ name. name.now) result ≡ alert_level_name self.now.0 }
+    {
+        match self.0 {
+            1 => Some("warning"),
+            2 => Some("fatal"),
+            _ => None,
+        }
+    }
+}
+
+/// Its name, or else its number in hexadecimal, two digits a byte. A width pads names alone.
+impl fmt::Display for AlertLevel {
+    ghost output = { λ v. Some (alert_level_text v.0) };
+
+    #[tactic(auto, using(crate::specs::AlertLevel::alert_level_printed))]
+    fn fmt<W: fmt::Write>(&self, f: &mut fmt::Formatter<W>) -> fmt::Result {
+        match self.name() {
+            Some(name) => f.pad(name),
+            None => write!(f, "0x{:02x}", self.0),
+        }
+    }
+}
+
+/// Its number.
+impl From<AlertLevel> for u8 {
+    ghost from_gives = { λ v number. number ≡ v.0 };
+
+    fn from(value: AlertLevel) -> u8 {
+        value.0
+    }
+}
+
+/// The one that has this number.
+impl From<u8> for AlertLevel {
+    ghost from_gives = { λ number v. v.0 ≡ number };
+
+    fn from(number: u8) -> AlertLevel {
+        AlertLevel(number)
+    }
 }
 
 impl Size for AlertLevel {
@@ -66,4 +110,10 @@ impl DeserializeBytes for AlertLevel {
 pub fn is_compared_by_its_number()
     ensures { (x y : AlertLevel) →
         ⟦<AlertLevel as PartialEq>⟧.eq x y ≡ nat_eq x.0 y.0 }
+{}
+
+/// Two are in the order of their numbers.
+pub fn is_ordered_by_its_number()
+    ensures { (x y : AlertLevel) →
+        ⟦<AlertLevel as Ord>⟧.cmp x y ≡ nat_cmp x.0 y.0 }
 {}

@@ -10,7 +10,7 @@ use tls_codec::{
     TlsVecU24,
 };
 
-/// `Certificate`.
+/// `Certificate` (RFC 8446, appendix B.3.3).
 #[derive(PartialEq, Eq, Debug, Clone, Drop)]
 pub struct Certificate {
     /// `opaque certificate_request_context<0..2^8-1>;`

@@ -9,7 +9,7 @@ use tls_codec::{
     Deserialize, DeserializeBytes, Error, Serialize, Sink, Size, Source, TlsVec, Within,
 };
 
-/// `CertificateAuthoritiesExtension`.
+/// `CertificateAuthoritiesExtension` (RFC 8446, appendix B.3.2).
 #[derive(PartialEq, Eq, Debug, Clone, Drop)]
 pub struct CertificateAuthoritiesExtension {
     /// `DistinguishedName authorities<3..2^16-1>;`

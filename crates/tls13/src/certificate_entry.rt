@@ -10,7 +10,7 @@ use tls_codec::{
     TlsVecU16, U24, Within,
 };
 
-/// `CertificateEntry`.
+/// `CertificateEntry` (RFC 8446, appendix B.3.3).
 #[derive(PartialEq, Eq, Debug, Clone, Drop)]
 pub struct CertificateEntry {
     /// `opaque cert_data<1..2^24-1>;`

@@ -10,7 +10,7 @@ use tls_codec::{
     TlsVec, Within,
 };
 
-/// `CertificateRequest`.
+/// `CertificateRequest` (RFC 8446, appendix B.3.2).
 #[derive(PartialEq, Eq, Debug, Clone, Drop)]
 pub struct CertificateRequest {
     /// `opaque certificate_request_context<0..2^8-1>;`

@@ -1,16 +1,20 @@
 //! [`CertificateType`].
-ghost use Rattle.std.specs.Prelude.{◌≡◌, MatchOption, false, nat_eq};
+ghost use Rattle.std.specs.Prelude.{◌≡◌, MatchOption, MatchResult, Some, false, nat_eq};
+ghost use Rattle.std.specs.Fmt.{padded};
+ghost use Rattle.std.specs.Ordering.{nat_cmp};
+ghost use Rattle.tls_codec.specs.Errors.{UnknownValue};
 ghost use Rattle.tls_codec.specs.OwnMessages.{values_names, values_source_names};
-ghost use Rattle.tls13.specs.CertificateType.{certificate_type_code, certificate_type_format, certificate_type_has, certificate_type_meets, certificate_type_plain};
+ghost use Rattle.tls13.specs.CertificateType.{certificate_type_code, certificate_type_format, certificate_type_has, certificate_type_meets, certificate_type_name, certificate_type_plain};
 ghost use Rattle.tls13.specs.declared.certificate_type.CertificateType.{CertificateType};
 
 use std::alloc::Global;
+use std::fmt;
 use tls_codec::{
     Deserialize, DeserializeBytes, Error, Serialize, Sink, Size, Source, unknown_value,
 };
 
-/// `CertificateType`.
-#[derive(PartialEq, Eq, Debug, Clone, Copy)]
+/// `CertificateType` (RFC 8446, appendix B.3.3).
+#[derive(PartialEq, Eq, PartialOrd, Ord, Hash, Debug, Clone, Copy)]
 pub enum CertificateType {
     /// `X509(0)`
     X509,
@@ -32,6 +36,17 @@ impl CertificateType {
         }
     }
 
+    /// Its name in the text.
+    pub fn name(&self) -> &'static str
+        ensures { result.now ≡ certificate_type_name self.now }
+    {
+        match self {
+            CertificateType::X509 => "X509",
+            CertificateType::OpenPGPReserved => "OpenPGP_RESERVED",
+            CertificateType::RawPublicKey => "RawPublicKey",
+        }
+    }
+
     /// The value that has this number.
     pub fn of_code(code: u8) -> Option<CertificateType>
         ensures { MatchOption result (certificate_type_has code ≡ false)
@@ -42,6 +57,42 @@ impl CertificateType {
             1 => Some(CertificateType::OpenPGPReserved),
             2 => Some(CertificateType::RawPublicKey),
             _ => None,
+        }
+    }
+}
+
+/// Its name.
+impl fmt::Display for CertificateType {
+    ghost output = { λ v. Some (certificate_type_name v) };
+
+    ghost styled_output = { λ v spec. Some (padded spec (certificate_type_name v)) };
+
+    fn fmt<W: fmt::Write>(&self, f: &mut fmt::Formatter<W>) -> fmt::Result {
+        f.pad(self.name())
+    }
+}
+
+/// Its number.
+impl From<CertificateType> for u8 {
+    ghost from_gives = { λ v number. number ≡ certificate_type_code v };
+
+    fn from(value: CertificateType) -> u8 {
+        value.code()
+    }
+}
+
+/// The value that has this number.
+impl TryFrom<u8> for CertificateType {
+    type Error = Error;
+
+    ghost try_from_gives = { λ tag r. MatchResult r
+        (λ v. certificate_type_code v ≡ tag)
+        (λ e. (certificate_type_has tag ≡ false) × (e ≡ UnknownValue tag)) };
+
+    fn try_from(tag: u8) -> Result<CertificateType, Error> {
+        match CertificateType::of_code(tag) {
+            Some(value) => Ok(value),
+            None => Err(unknown_value(u64::from(tag))),
         }
     }
 }
@@ -100,4 +151,11 @@ pub fn is_compared_by_its_number()
     ensures { (x y : CertificateType) →
         ⟦<CertificateType as PartialEq>⟧.eq x y
         ≡ nat_eq (certificate_type_code x) (certificate_type_code y) }
+{}
+
+/// Two are in the order of their numbers.
+pub fn is_ordered_by_its_number()
+    ensures { (x y : CertificateType) →
+        ⟦<CertificateType as Ord>⟧.cmp x y
+        ≡ nat_cmp (certificate_type_code x) (certificate_type_code y) }
 {}

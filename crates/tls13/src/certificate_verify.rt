@@ -9,7 +9,7 @@ use tls_codec::{
     Deserialize, DeserializeBytes, Error, Lent, Serialize, Sink, Size, Source, TlsByteVecU16,
 };
 
-/// `CertificateVerify`.
+/// `CertificateVerify` (RFC 8446, appendix B.3.3).
 #[derive(PartialEq, Eq, Debug, Clone, Drop)]
 pub struct CertificateVerify {
     /// `SignatureScheme algorithm;`

@@ -1,60 +1,81 @@
 //! [`ContentType`].
-ghost use Rattle.std.specs.Prelude.{◌≡◌, MatchOption, false, nat_eq};
-ghost use Rattle.tls_codec.specs.OwnMessages.{values_names, values_source_names};
-ghost use Rattle.tls13.specs.ContentType.{content_type_code, content_type_format, content_type_has, content_type_meets, content_type_plain};
+ghost use Rattle.std.specs.Prelude.{◌≡◌, Some, nat_eq, option_map};
+ghost use Rattle.std.specs.Ordering.{nat_cmp};
+ghost use Rattle.tls13.specs.ContentType.{content_type_format, content_type_meets, content_type_name, content_type_plain, content_type_text};
 ghost use Rattle.tls13.specs.declared.content_type.ContentType.{ContentType};
 
 use std::alloc::Global;
-use tls_codec::{
-    Deserialize, DeserializeBytes, Error, Serialize, Sink, Size, Source, unknown_value,
-};
+use std::fmt;
+use tls_codec::{Deserialize, DeserializeBytes, Error, Serialize, Sink, Size, Source};
 
-/// `ContentType`.
-#[derive(PartialEq, Eq, Debug, Clone, Copy)]
-pub enum ContentType {
-    /// `invalid(0)`
-    Invalid,
-    /// `change_cipher_spec(20)`
-    ChangeCipherSpec,
-    /// `alert(21)`
-    Alert,
-    /// `handshake(22)`
-    Handshake,
-    /// `application_data(23)`
-    ApplicationData,
-    /// `heartbeat(24)`
-    Heartbeat,
-}
+/// `ContentType` (RFC 8446, appendix B.1).
+#[derive(PartialEq, Eq, PartialOrd, Ord, Hash, Debug, Clone, Copy)]
+pub struct ContentType(pub u8);
 
 impl ContentType {
-    /// Its number.
-    pub fn code(&self) -> u8
-        ensures { result ≡ content_type_code self.now }
-    {
-        match self {
-            ContentType::Invalid => 0,
-            ContentType::ChangeCipherSpec => 20,
-            ContentType::Alert => 21,
-            ContentType::Handshake => 22,
-            ContentType::ApplicationData => 23,
-            ContentType::Heartbeat => 24,
-        }
-    }
+    /// `invalid`
+    pub const INVALID: ContentType = ContentType(0);
 
-    /// The value that has this number.
-    pub fn of_code(code: u8) -> Option<ContentType>
-        ensures { MatchOption result (content_type_has code ≡ false)
-            (λ v. content_type_code v ≡ code) }
+    /// `change_cipher_spec`
+    pub const CHANGE_CIPHER_SPEC: ContentType = ContentType(20);
+
+    /// `alert`
+    pub const ALERT: ContentType = ContentType(21);
+
+    /// `handshake`
+    pub const HANDSHAKE: ContentType = ContentType(22);
+
+    /// `application_data`
+    pub const APPLICATION_DATA: ContentType = ContentType(23);
+
+    /// `heartbeat`
+    /// RFC 6520
+    pub const HEARTBEAT: ContentType = ContentType(24);
+
+    /// Its name in the text, if it has one.
+    pub fn name(&self) -> Option<&'static str>
+        ensures { option_map (λ name. name.now) result ≡ content_type_name self.now.0 }
     {
-        match code {
-            0 => Some(ContentType::Invalid),
-            20 => Some(ContentType::ChangeCipherSpec),
-            21 => Some(ContentType::Alert),
-            22 => Some(ContentType::Handshake),
-            23 => Some(ContentType::ApplicationData),
-            24 => Some(ContentType::Heartbeat),
+        match self.0 {
+            0 => Some("invalid"),
+            20 => Some("change_cipher_spec"),
+            21 => Some("alert"),
+            22 => Some("handshake"),
+            23 => Some("application_data"),
+            24 => Some("heartbeat"),
             _ => None,
         }
+    }
+}
+
+/// Its name, or else its number in hexadecimal, two digits a byte. A width pads names alone.
+impl fmt::Display for ContentType {
+    ghost output = { λ v. Some (content_type_text v.0) };
+
+    #[tactic(auto, using(crate::specs::ContentType::content_type_printed))]
+    fn fmt<W: fmt::Write>(&self, f: &mut fmt::Formatter<W>) -> fmt::Result {
+        match self.name() {
+            Some(name) => f.pad(name),
+            None => write!(f, "0x{:02x}", self.0),
+        }
+    }
+}
+
+/// Its number.
+impl From<ContentType> for u8 {
+    ghost from_gives = { λ v number. number ≡ v.0 };
+
+    fn from(value: ContentType) -> u8 {
+        value.0
+    }
+}
+
+/// The one that has this number.
+impl From<u8> for ContentType {
+    ghost from_gives = { λ number v. v.0 ≡ number };
+
+    fn from(number: u8) -> ContentType {
+        ContentType(number)
     }
 }
 
@@ -67,46 +88,49 @@ impl Size for ContentType {
         1
     }
 
+    fn tls_fixed_len() -> Option<usize> {
+        Some(1)
+    }
+
     ghost lawful = { content_type_meets };
 }
 
 impl Serialize for ContentType {
     fn tls_serialize<W: Sink>(&self, writer: &mut W) -> Result<usize, Error> {
-        self.code().tls_serialize(writer)
+        self.0.tls_serialize(writer)
     }
 
     fn tls_serialize_into(&self, out: &mut Vec<u8>) -> Result<usize, Error> {
-        self.code().tls_serialize_into(out)
+        self.0.tls_serialize_into(out)
     }
 }
 
 impl Deserialize for ContentType {
-    ghost names = { values_source_names 1 content_type_has };
+    ghost names = { ⟦<u8 as Deserialize>⟧.names };
 
     fn tls_deserialize<R: Source>(alloc: Global, src: &mut R) -> Result<ContentType, Error> {
-        let tag = u8::tls_deserialize(alloc, src)?;
-        match ContentType::of_code(tag) {
-            Some(value) => Ok(value),
-            None => Err(unknown_value(u64::from(tag))),
-        }
+        let number = u8::tls_deserialize(alloc, src)?;
+        Ok(ContentType(number))
     }
 }
 
 impl DeserializeBytes for ContentType {
-    ghost names = { values_names 1 content_type_has };
+    ghost names = { ⟦<u8 as DeserializeBytes>⟧.names };
 
     fn tls_deserialize_bytes(alloc: Global, whole: &[u8]) -> Result<(ContentType, &[u8]), Error> {
-        let (tag, rest) = u8::tls_deserialize_bytes(alloc, whole)?;
-        match ContentType::of_code(tag) {
-            Some(value) => Ok((value, rest)),
-            None => Err(unknown_value(u64::from(tag))),
-        }
+        let (number, rest) = u8::tls_deserialize_bytes(alloc, whole)?;
+        Ok((ContentType(number), rest))
     }
 }
 
 /// Two are equal exactly where their numbers are.
 pub fn is_compared_by_its_number()
     ensures { (x y : ContentType) →
-        ⟦<ContentType as PartialEq>⟧.eq x y
-        ≡ nat_eq (content_type_code x) (content_type_code y) }
+        ⟦<ContentType as PartialEq>⟧.eq x y ≡ nat_eq x.0 y.0 }
+{}
+
+/// Two are in the order of their numbers.
+pub fn is_ordered_by_its_number()
+    ensures { (x y : ContentType) →
+        ⟦<ContentType as Ord>⟧.cmp x y ≡ nat_cmp x.0 y.0 }
 {}

@@ -1,16 +1,20 @@
 //! [`ContentTypeApplicationData`].
-ghost use Rattle.std.specs.Prelude.{◌≡◌, MatchOption, false, nat_eq};
+ghost use Rattle.std.specs.Prelude.{◌≡◌, MatchOption, MatchResult, Some, false, nat_eq};
+ghost use Rattle.std.specs.Fmt.{padded};
+ghost use Rattle.std.specs.Ordering.{nat_cmp};
+ghost use Rattle.tls_codec.specs.Errors.{UnknownValue};
 ghost use Rattle.tls_codec.specs.OwnMessages.{values_names, values_source_names};
-ghost use Rattle.tls13.specs.ContentTypeApplicationData.{content_type_application_data_code, content_type_application_data_format, content_type_application_data_has, content_type_application_data_meets, content_type_application_data_plain};
+ghost use Rattle.tls13.specs.ContentTypeApplicationData.{content_type_application_data_code, content_type_application_data_format, content_type_application_data_has, content_type_application_data_meets, content_type_application_data_name, content_type_application_data_plain};
 ghost use Rattle.tls13.specs.declared.content_type_application_data.ContentTypeApplicationData.{ContentTypeApplicationData};
 
 use std::alloc::Global;
+use std::fmt;
 use tls_codec::{
     Deserialize, DeserializeBytes, Error, Serialize, Sink, Size, Source, unknown_value,
 };
 
 /// `ContentTypeApplicationData`.
-#[derive(PartialEq, Eq, Debug, Clone, Copy)]
+#[derive(PartialEq, Eq, PartialOrd, Ord, Hash, Debug, Clone, Copy)]
 pub enum ContentTypeApplicationData {
     /// `application_data(23)`
     ApplicationData,
@@ -24,6 +28,13 @@ impl ContentTypeApplicationData {
         23
     }
 
+    /// Its name in the text.
+    pub fn name(&self) -> &'static str
+        ensures { result.now ≡ content_type_application_data_name self.now }
+    {
+        "application_data"
+    }
+
     /// The value that has this number.
     pub fn of_code(code: u8) -> Option<ContentTypeApplicationData>
         ensures { MatchOption result (content_type_application_data_has code ≡ false)
@@ -32,6 +43,42 @@ impl ContentTypeApplicationData {
         match code {
             23 => Some(ContentTypeApplicationData::ApplicationData),
             _ => None,
+        }
+    }
+}
+
+/// Its name.
+impl fmt::Display for ContentTypeApplicationData {
+    ghost output = { λ v. Some (content_type_application_data_name v) };
+
+    ghost styled_output = { λ v spec. Some (padded spec (content_type_application_data_name v)) };
+
+    fn fmt<W: fmt::Write>(&self, f: &mut fmt::Formatter<W>) -> fmt::Result {
+        f.pad(self.name())
+    }
+}
+
+/// Its number.
+impl From<ContentTypeApplicationData> for u8 {
+    ghost from_gives = { λ v number. number ≡ content_type_application_data_code v };
+
+    fn from(value: ContentTypeApplicationData) -> u8 {
+        value.code()
+    }
+}
+
+/// The value that has this number.
+impl TryFrom<u8> for ContentTypeApplicationData {
+    type Error = Error;
+
+    ghost try_from_gives = { λ tag r. MatchResult r
+        (λ v. content_type_application_data_code v ≡ tag)
+        (λ e. (content_type_application_data_has tag ≡ false) × (e ≡ UnknownValue tag)) };
+
+    fn try_from(tag: u8) -> Result<ContentTypeApplicationData, Error> {
+        match ContentTypeApplicationData::of_code(tag) {
+            Some(value) => Ok(value),
+            None => Err(unknown_value(u64::from(tag))),
         }
     }
 }
@@ -93,4 +140,11 @@ pub fn is_compared_by_its_number()
     ensures { (x y : ContentTypeApplicationData) →
         ⟦<ContentTypeApplicationData as PartialEq>⟧.eq x y
         ≡ nat_eq (content_type_application_data_code x) (content_type_application_data_code y) }
+{}
+
+/// Two are in the order of their numbers.
+pub fn is_ordered_by_its_number()
+    ensures { (x y : ContentTypeApplicationData) →
+        ⟦<ContentTypeApplicationData as Ord>⟧.cmp x y
+        ≡ nat_cmp (content_type_application_data_code x) (content_type_application_data_code y) }
 {}

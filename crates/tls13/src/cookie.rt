@@ -8,7 +8,7 @@ use tls_codec::{
     Deserialize, DeserializeBytes, Error, Serialize, Sink, Size, Source, TlsByteVec, Within,
 };
 
-/// `Cookie`.
+/// `Cookie` (RFC 8446, appendix B.3.1.2).
 #[derive(PartialEq, Eq, Debug, Clone, Drop)]
 pub struct Cookie {
     /// `opaque cookie<1..2^16-1>;`

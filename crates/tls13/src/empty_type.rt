@@ -6,7 +6,7 @@ ghost use Rattle.tls13.specs.declared.empty_type.EmptyType.{EmptyType};
 use std::alloc::Global;
 use tls_codec::{Deserialize, DeserializeBytes, Error, Serialize, Sink, Size, Source};
 
-/// `Empty`.
+/// `Empty` (RFC 8446, appendix B.3.1).
 #[derive(PartialEq, Eq, Debug, Clone, Drop)]
 pub struct EmptyType {}
 

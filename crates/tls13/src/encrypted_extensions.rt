@@ -7,7 +7,7 @@ use crate::Extension;
 use std::alloc::Global;
 use tls_codec::{Deserialize, DeserializeBytes, Error, Serialize, Sink, Size, Source, TlsVecU16};
 
-/// `EncryptedExtensions`.
+/// `EncryptedExtensions` (RFC 8446, appendix B.3.2).
 #[derive(PartialEq, Eq, Debug, Clone, Drop)]
 pub struct EncryptedExtensions {
     /// `Extension extensions<0..2^16-1>;`

@@ -6,7 +6,7 @@ ghost use Rattle.tls13.specs.declared.end_of_early_data.EndOfEarlyData.{EndOfEar
 use std::alloc::Global;
 use tls_codec::{Deserialize, DeserializeBytes, Error, Serialize, Sink, Size, Source};
 
-/// `EndOfEarlyData`.
+/// `EndOfEarlyData` (RFC 8446, appendix B.3.5).
 #[derive(PartialEq, Eq, Debug, Clone, Drop)]
 pub struct EndOfEarlyData {}
 

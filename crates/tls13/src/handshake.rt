@@ -14,7 +14,8 @@ use tls_codec::{
 };
 use tls_codec_cases::{Case, Enclosed, Or, Tagged, append_as, write_as};
 
-/// `HandshakeType msg_type` of `Handshake`, and what comes after each.
+/// `HandshakeType msg_type` of `Handshake` (RFC 8446, appendix B.3), and what comes after
+/// each.
 #[derive(PartialEq, Eq, Debug, Clone, Drop)]
 pub enum Handshake {
     /// `case client_hello: ClientHello;`
@@ -186,7 +187,8 @@ impl Serialize for Handshake {
 impl Deserialize for Handshake {
     ghost names = { ⟦<Cases as Deserialize>⟧.names };
 
-    /// `TrailingData`: the case's fields end before their length does. `UnknownValue`: no case has the tag.
+    /// `TrailingData`: the case's fields end before their length does.
+    /// `UnknownValue`: no case has the tag.
     fn tls_deserialize<R: Source>(alloc: Global, src: &mut R) -> Result<Handshake, Error> {
         let cases = <Cases>::tls_deserialize(alloc, src)?;
         Ok(Handshake::of(cases))
@@ -196,7 +198,8 @@ impl Deserialize for Handshake {
 impl DeserializeBytes for Handshake {
     ghost names = { ⟦<Cases as DeserializeBytes>⟧.names };
 
-    /// `TrailingData`: the case's fields end before their length does. `UnknownValue`: no case has the tag.
+    /// `TrailingData`: the case's fields end before their length does.
+    /// `UnknownValue`: no case has the tag.
     fn tls_deserialize_bytes(alloc: Global, whole: &[u8]) -> Result<(Handshake, &[u8]), Error> {
         let (cases, rest) = <Cases>::tls_deserialize_bytes(alloc, whole)?;
         Ok((Handshake::of(cases), rest))

@@ -1,17 +1,21 @@
 //! [`HandshakeType`].
-ghost use Rattle.std.specs.Prelude.{◌≡◌, MatchOption, false, nat_eq};
+ghost use Rattle.std.specs.Prelude.{◌≡◌, MatchOption, MatchResult, Some, false, nat_eq};
+ghost use Rattle.std.specs.Fmt.{padded};
+ghost use Rattle.std.specs.Ordering.{nat_cmp};
+ghost use Rattle.tls_codec.specs.Errors.{UnknownValue};
 ghost use Rattle.tls_codec.specs.OwnMessages.{values_names, values_source_names};
-ghost use Rattle.tls13.specs.HandshakeType.{handshake_type_code, handshake_type_format, handshake_type_has, handshake_type_meets, handshake_type_plain, handshake_type_selected};
+ghost use Rattle.tls13.specs.HandshakeType.{handshake_type_code, handshake_type_format, handshake_type_has, handshake_type_meets, handshake_type_name, handshake_type_plain, handshake_type_selected};
 ghost use Rattle.tls13.specs.declared.handshake_type.HandshakeType.{HandshakeType};
 
 use std::alloc::Global;
+use std::fmt;
 use tls_codec::{
     Deserialize, DeserializeBytes, Error, Serialize, Sink, Size, Source, unknown_value,
 };
 use tls_codec_cases::Selector;
 
-/// `HandshakeType`.
-#[derive(PartialEq, Eq, Debug, Clone, Copy)]
+/// `HandshakeType` (RFC 8446, appendix B.3).
+#[derive(PartialEq, Eq, PartialOrd, Ord, Hash, Debug, Clone, Copy)]
 pub enum HandshakeType {
     /// `hello_request_RESERVED(0)`
     HelloRequestReserved,
@@ -84,6 +88,34 @@ impl HandshakeType {
         }
     }
 
+    /// Its name in the text.
+    pub fn name(&self) -> &'static str
+        ensures { result.now ≡ handshake_type_name self.now }
+    {
+        match self {
+            HandshakeType::HelloRequestReserved => "hello_request_RESERVED",
+            HandshakeType::ClientHello => "client_hello",
+            HandshakeType::ServerHello => "server_hello",
+            HandshakeType::HelloVerifyRequestReserved => "hello_verify_request_RESERVED",
+            HandshakeType::NewSessionTicket => "new_session_ticket",
+            HandshakeType::EndOfEarlyData => "end_of_early_data",
+            HandshakeType::HelloRetryRequestReserved => "hello_retry_request_RESERVED",
+            HandshakeType::EncryptedExtensions => "encrypted_extensions",
+            HandshakeType::Certificate => "certificate",
+            HandshakeType::ServerKeyExchangeReserved => "server_key_exchange_RESERVED",
+            HandshakeType::CertificateRequest => "certificate_request",
+            HandshakeType::ServerHelloDoneReserved => "server_hello_done_RESERVED",
+            HandshakeType::CertificateVerify => "certificate_verify",
+            HandshakeType::ClientKeyExchangeReserved => "client_key_exchange_RESERVED",
+            HandshakeType::Finished => "finished",
+            HandshakeType::CertificateUrlReserved => "certificate_url_RESERVED",
+            HandshakeType::CertificateStatusReserved => "certificate_status_RESERVED",
+            HandshakeType::SupplementalDataReserved => "supplemental_data_RESERVED",
+            HandshakeType::KeyUpdate => "key_update",
+            HandshakeType::MessageHash => "message_hash",
+        }
+    }
+
     /// The value that has this number.
     pub fn of_code(code: u8) -> Option<HandshakeType>
         ensures { MatchOption result (handshake_type_has code ≡ false)
@@ -111,6 +143,42 @@ impl HandshakeType {
             24 => Some(HandshakeType::KeyUpdate),
             254 => Some(HandshakeType::MessageHash),
             _ => None,
+        }
+    }
+}
+
+/// Its name.
+impl fmt::Display for HandshakeType {
+    ghost output = { λ v. Some (handshake_type_name v) };
+
+    ghost styled_output = { λ v spec. Some (padded spec (handshake_type_name v)) };
+
+    fn fmt<W: fmt::Write>(&self, f: &mut fmt::Formatter<W>) -> fmt::Result {
+        f.pad(self.name())
+    }
+}
+
+/// Its number.
+impl From<HandshakeType> for u8 {
+    ghost from_gives = { λ v number. number ≡ handshake_type_code v };
+
+    fn from(value: HandshakeType) -> u8 {
+        value.code()
+    }
+}
+
+/// The value that has this number.
+impl TryFrom<u8> for HandshakeType {
+    type Error = Error;
+
+    ghost try_from_gives = { λ tag r. MatchResult r
+        (λ v. handshake_type_code v ≡ tag)
+        (λ e. (handshake_type_has tag ≡ false) × (e ≡ UnknownValue tag)) };
+
+    fn try_from(tag: u8) -> Result<HandshakeType, Error> {
+        match HandshakeType::of_code(tag) {
+            Some(value) => Ok(value),
+            None => Err(unknown_value(u64::from(tag))),
         }
     }
 }
@@ -175,4 +243,11 @@ pub fn is_compared_by_its_number()
     ensures { (x y : HandshakeType) →
         ⟦<HandshakeType as PartialEq>⟧.eq x y
         ≡ nat_eq (handshake_type_code x) (handshake_type_code y) }
+{}
+
+/// Two are in the order of their numbers.
+pub fn is_ordered_by_its_number()
+    ensures { (x y : HandshakeType) →
+        ⟦<HandshakeType as Ord>⟧.cmp x y
+        ≡ nat_cmp (handshake_type_code x) (handshake_type_code y) }
 {}

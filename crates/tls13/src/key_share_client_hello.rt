@@ -7,7 +7,7 @@ use crate::KeyShareEntry;
 use std::alloc::Global;
 use tls_codec::{Deserialize, DeserializeBytes, Error, Serialize, Sink, Size, Source, TlsVecU16};
 
-/// `KeyShareClientHello`.
+/// `KeyShareClientHello` (RFC 8446, appendix B.3.1).
 #[derive(PartialEq, Eq, Debug, Clone, Drop)]
 pub struct KeyShareClientHello {
     /// `KeyShareEntry client_shares<0..2^16-1>;`

@@ -9,7 +9,7 @@ use tls_codec::{
     Deserialize, DeserializeBytes, Error, Lent, Serialize, Sink, Size, Source, TlsByteVec, Within,
 };
 
-/// `KeyShareEntry`.
+/// `KeyShareEntry` (RFC 8446, appendix B.3.1).
 #[derive(PartialEq, Eq, Debug, Clone, Drop)]
 pub struct KeyShareEntry {
     /// `NamedGroup group;`

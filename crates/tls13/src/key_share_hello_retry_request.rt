@@ -7,7 +7,7 @@ use crate::NamedGroup;
 use std::alloc::Global;
 use tls_codec::{Deserialize, DeserializeBytes, Error, Serialize, Sink, Size, Source};
 
-/// `KeyShareHelloRetryRequest`.
+/// `KeyShareHelloRetryRequest` (RFC 8446, appendix B.3.1).
 #[derive(PartialEq, Eq, Debug, Clone, Drop)]
 pub struct KeyShareHelloRetryRequest {
     /// `NamedGroup selected_group;`

@@ -7,7 +7,7 @@ use crate::KeyUpdateRequest;
 use std::alloc::Global;
 use tls_codec::{Deserialize, DeserializeBytes, Error, Serialize, Sink, Size, Source};
 
-/// `KeyUpdate`.
+/// `KeyUpdate` (RFC 8446, appendix B.3.5).
 #[derive(PartialEq, Eq, Debug, Clone, Drop)]
 pub struct KeyUpdate {
     /// `KeyUpdateRequest request_update;`

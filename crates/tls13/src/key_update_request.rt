@@ -1,16 +1,20 @@
 //! [`KeyUpdateRequest`].
-ghost use Rattle.std.specs.Prelude.{◌≡◌, MatchOption, false, nat_eq};
+ghost use Rattle.std.specs.Prelude.{◌≡◌, MatchOption, MatchResult, Some, false, nat_eq};
+ghost use Rattle.std.specs.Fmt.{padded};
+ghost use Rattle.std.specs.Ordering.{nat_cmp};
+ghost use Rattle.tls_codec.specs.Errors.{UnknownValue};
 ghost use Rattle.tls_codec.specs.OwnMessages.{values_names, values_source_names};
-ghost use Rattle.tls13.specs.KeyUpdateRequest.{key_update_request_code, key_update_request_format, key_update_request_has, key_update_request_meets, key_update_request_plain};
+ghost use Rattle.tls13.specs.KeyUpdateRequest.{key_update_request_code, key_update_request_format, key_update_request_has, key_update_request_meets, key_update_request_name, key_update_request_plain};
 ghost use Rattle.tls13.specs.declared.key_update_request.KeyUpdateRequest.{KeyUpdateRequest};
 
 use std::alloc::Global;
+use std::fmt;
 use tls_codec::{
     Deserialize, DeserializeBytes, Error, Serialize, Sink, Size, Source, unknown_value,
 };
 
-/// `KeyUpdateRequest`.
-#[derive(PartialEq, Eq, Debug, Clone, Copy)]
+/// `KeyUpdateRequest` (RFC 8446, appendix B.3.5).
+#[derive(PartialEq, Eq, PartialOrd, Ord, Hash, Debug, Clone, Copy)]
 pub enum KeyUpdateRequest {
     /// `update_not_requested(0)`
     UpdateNotRequested,
@@ -29,6 +33,16 @@ impl KeyUpdateRequest {
         }
     }
 
+    /// Its name in the text.
+    pub fn name(&self) -> &'static str
+        ensures { result.now ≡ key_update_request_name self.now }
+    {
+        match self {
+            KeyUpdateRequest::UpdateNotRequested => "update_not_requested",
+            KeyUpdateRequest::UpdateRequested => "update_requested",
+        }
+    }
+
     /// The value that has this number.
     pub fn of_code(code: u8) -> Option<KeyUpdateRequest>
         ensures { MatchOption result (key_update_request_has code ≡ false)
@@ -38,6 +52,42 @@ impl KeyUpdateRequest {
             0 => Some(KeyUpdateRequest::UpdateNotRequested),
             1 => Some(KeyUpdateRequest::UpdateRequested),
             _ => None,
+        }
+    }
+}
+
+/// Its name.
+impl fmt::Display for KeyUpdateRequest {
+    ghost output = { λ v. Some (key_update_request_name v) };
+
+    ghost styled_output = { λ v spec. Some (padded spec (key_update_request_name v)) };
+
+    fn fmt<W: fmt::Write>(&self, f: &mut fmt::Formatter<W>) -> fmt::Result {
+        f.pad(self.name())
+    }
+}
+
+/// Its number.
+impl From<KeyUpdateRequest> for u8 {
+    ghost from_gives = { λ v number. number ≡ key_update_request_code v };
+
+    fn from(value: KeyUpdateRequest) -> u8 {
+        value.code()
+    }
+}
+
+/// The value that has this number.
+impl TryFrom<u8> for KeyUpdateRequest {
+    type Error = Error;
+
+    ghost try_from_gives = { λ tag r. MatchResult r
+        (λ v. key_update_request_code v ≡ tag)
+        (λ e. (key_update_request_has tag ≡ false) × (e ≡ UnknownValue tag)) };
+
+    fn try_from(tag: u8) -> Result<KeyUpdateRequest, Error> {
+        match KeyUpdateRequest::of_code(tag) {
+            Some(value) => Ok(value),
+            None => Err(unknown_value(u64::from(tag))),
         }
     }
 }
@@ -96,4 +146,11 @@ pub fn is_compared_by_its_number()
     ensures { (x y : KeyUpdateRequest) →
         ⟦<KeyUpdateRequest as PartialEq>⟧.eq x y
         ≡ nat_eq (key_update_request_code x) (key_update_request_code y) }
+{}
+
+/// Two are in the order of their numbers.
+pub fn is_ordered_by_its_number()
+    ensures { (x y : KeyUpdateRequest) →
+        ⟦<KeyUpdateRequest as Ord>⟧.cmp x y
+        ≡ nat_cmp (key_update_request_code x) (key_update_request_code y) }
 {}

@@ -1,16 +1,20 @@
 //! [`LegacyCompressionMethodX00`].
-ghost use Rattle.std.specs.Prelude.{◌≡◌, MatchOption, false, nat_eq};
+ghost use Rattle.std.specs.Prelude.{◌≡◌, MatchOption, MatchResult, Some, false, nat_eq};
+ghost use Rattle.std.specs.Fmt.{padded};
+ghost use Rattle.std.specs.Ordering.{nat_cmp};
+ghost use Rattle.tls_codec.specs.Errors.{UnknownValue};
 ghost use Rattle.tls_codec.specs.OwnMessages.{values_names, values_source_names};
-ghost use Rattle.tls13.specs.LegacyCompressionMethodX00.{legacy_compression_method_x00_code, legacy_compression_method_x00_format, legacy_compression_method_x00_has, legacy_compression_method_x00_meets, legacy_compression_method_x00_plain};
+ghost use Rattle.tls13.specs.LegacyCompressionMethodX00.{legacy_compression_method_x00_code, legacy_compression_method_x00_format, legacy_compression_method_x00_has, legacy_compression_method_x00_meets, legacy_compression_method_x00_name, legacy_compression_method_x00_plain};
 ghost use Rattle.tls13.specs.declared.legacy_compression_method_x00.LegacyCompressionMethodX00.{LegacyCompressionMethodX00};
 
 use std::alloc::Global;
+use std::fmt;
 use tls_codec::{
     Deserialize, DeserializeBytes, Error, Serialize, Sink, Size, Source, unknown_value,
 };
 
 /// `LegacyCompressionMethodX00`.
-#[derive(PartialEq, Eq, Debug, Clone, Copy)]
+#[derive(PartialEq, Eq, PartialOrd, Ord, Hash, Debug, Clone, Copy)]
 pub enum LegacyCompressionMethodX00 {
     /// `0x00(0)`
     X00,
@@ -24,6 +28,13 @@ impl LegacyCompressionMethodX00 {
         0
     }
 
+    /// Its name in the text.
+    pub fn name(&self) -> &'static str
+        ensures { result.now ≡ legacy_compression_method_x00_name self.now }
+    {
+        "0x00"
+    }
+
     /// The value that has this number.
     pub fn of_code(code: u8) -> Option<LegacyCompressionMethodX00>
         ensures { MatchOption result (legacy_compression_method_x00_has code ≡ false)
@@ -32,6 +43,42 @@ impl LegacyCompressionMethodX00 {
         match code {
             0 => Some(LegacyCompressionMethodX00::X00),
             _ => None,
+        }
+    }
+}
+
+/// Its name.
+impl fmt::Display for LegacyCompressionMethodX00 {
+    ghost output = { λ v. Some (legacy_compression_method_x00_name v) };
+
+    ghost styled_output = { λ v spec. Some (padded spec (legacy_compression_method_x00_name v)) };
+
+    fn fmt<W: fmt::Write>(&self, f: &mut fmt::Formatter<W>) -> fmt::Result {
+        f.pad(self.name())
+    }
+}
+
+/// Its number.
+impl From<LegacyCompressionMethodX00> for u8 {
+    ghost from_gives = { λ v number. number ≡ legacy_compression_method_x00_code v };
+
+    fn from(value: LegacyCompressionMethodX00) -> u8 {
+        value.code()
+    }
+}
+
+/// The value that has this number.
+impl TryFrom<u8> for LegacyCompressionMethodX00 {
+    type Error = Error;
+
+    ghost try_from_gives = { λ tag r. MatchResult r
+        (λ v. legacy_compression_method_x00_code v ≡ tag)
+        (λ e. (legacy_compression_method_x00_has tag ≡ false) × (e ≡ UnknownValue tag)) };
+
+    fn try_from(tag: u8) -> Result<LegacyCompressionMethodX00, Error> {
+        match LegacyCompressionMethodX00::of_code(tag) {
+            Some(value) => Ok(value),
+            None => Err(unknown_value(u64::from(tag))),
         }
     }
 }
@@ -93,4 +140,11 @@ pub fn is_compared_by_its_number()
     ensures { (x y : LegacyCompressionMethodX00) →
         ⟦<LegacyCompressionMethodX00 as PartialEq>⟧.eq x y
         ≡ nat_eq (legacy_compression_method_x00_code x) (legacy_compression_method_x00_code y) }
+{}
+
+/// Two are in the order of their numbers.
+pub fn is_ordered_by_its_number()
+    ensures { (x y : LegacyCompressionMethodX00) →
+        ⟦<LegacyCompressionMethodX00 as Ord>⟧.cmp x y
+        ≡ nat_cmp (legacy_compression_method_x00_code x) (legacy_compression_method_x00_code y) }
 {}

@@ -1,13 +1,15 @@
 //! [`NamedGroup`].
-ghost use Rattle.std.specs.Prelude.{◌≡◌, nat_eq};
-ghost use Rattle.tls13.specs.NamedGroup.{named_group_format, named_group_meets, named_group_plain};
+ghost use Rattle.std.specs.Prelude.{◌≡◌, Some, nat_eq, option_map};
+ghost use Rattle.std.specs.Ordering.{nat_cmp};
+ghost use Rattle.tls13.specs.NamedGroup.{named_group_format, named_group_meets, named_group_name, named_group_plain, named_group_text};
 ghost use Rattle.tls13.specs.declared.named_group.NamedGroup.{NamedGroup};
 
 use std::alloc::Global;
+use std::fmt;
 use tls_codec::{Deserialize, DeserializeBytes, Error, Serialize, Sink, Size, Source};
 
-/// `NamedGroup`.
-#[derive(PartialEq, Eq, Debug, Clone, Copy)]
+/// `NamedGroup` (RFC 8446, appendix B.3.1.4).
+#[derive(PartialEq, Eq, PartialOrd, Ord, Hash, Debug, Clone, Copy)]
 pub struct NamedGroup(pub u16);
 
 impl NamedGroup {
@@ -30,6 +32,7 @@ impl NamedGroup {
     pub const X448: NamedGroup = NamedGroup(30);
 
     /// `ffdhe2048`
+    /// Finite Field Groups (DHE)
     pub const FFDHE2048: NamedGroup = NamedGroup(256);
 
     /// `ffdhe3072`
@@ -43,6 +46,57 @@ impl NamedGroup {
 
     /// `ffdhe8192`
     pub const FFDHE8192: NamedGroup = NamedGroup(260);
+
+    /// Its name in the text, if it has one.
+    pub fn name(&self) -> Option<&'static str>
+        ensures { option_map (λ name. name.now) result ≡ named_group_name self.now.0 }
+    {
+        match self.0 {
+            0 => Some("unallocated_RESERVED"),
+            23 => Some("secp256r1"),
+            24 => Some("secp384r1"),
+            25 => Some("secp521r1"),
+            29 => Some("x25519"),
+            30 => Some("x448"),
+            256 => Some("ffdhe2048"),
+            257 => Some("ffdhe3072"),
+            258 => Some("ffdhe4096"),
+            259 => Some("ffdhe6144"),
+            260 => Some("ffdhe8192"),
+            _ => None,
+        }
+    }
+}
+
+/// Its name, or else its number in hexadecimal, two digits a byte. A width pads names alone.
+impl fmt::Display for NamedGroup {
+    ghost output = { λ v. Some (named_group_text v.0) };
+
+    #[tactic(auto, using(crate::specs::NamedGroup::named_group_printed))]
+    fn fmt<W: fmt::Write>(&self, f: &mut fmt::Formatter<W>) -> fmt::Result {
+        match self.name() {
+            Some(name) => f.pad(name),
+            None => write!(f, "0x{:04x}", self.0),
+        }
+    }
+}
+
+/// Its number.
+impl From<NamedGroup> for u16 {
+    ghost from_gives = { λ v number. number ≡ v.0 };
+
+    fn from(value: NamedGroup) -> u16 {
+        value.0
+    }
+}
+
+/// The one that has this number.
+impl From<u16> for NamedGroup {
+    ghost from_gives = { λ number v. v.0 ≡ number };
+
+    fn from(number: u16) -> NamedGroup {
+        NamedGroup(number)
+    }
 }
 
 impl Size for NamedGroup {
@@ -93,4 +147,10 @@ impl DeserializeBytes for NamedGroup {
 pub fn is_compared_by_its_number()
     ensures { (x y : NamedGroup) →
         ⟦<NamedGroup as PartialEq>⟧.eq x y ≡ nat_eq x.0 y.0 }
+{}
+
+/// Two are in the order of their numbers.
+pub fn is_ordered_by_its_number()
+    ensures { (x y : NamedGroup) →
+        ⟦<NamedGroup as Ord>⟧.cmp x y ≡ nat_cmp x.0 y.0 }
 {}

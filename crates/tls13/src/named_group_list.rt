@@ -9,7 +9,7 @@ use tls_codec::{
     Deserialize, DeserializeBytes, Error, Serialize, Sink, Size, Source, TlsVec, Within,
 };
 
-/// `NamedGroupList`.
+/// `NamedGroupList` (RFC 8446, appendix B.3.1.4).
 #[derive(PartialEq, Eq, Debug, Clone, Drop)]
 pub struct NamedGroupList {
     /// `NamedGroup named_group_list<2..2^16-1>;`

@@ -10,7 +10,7 @@ use tls_codec::{
     TlsByteVecU8, TlsVec, Within,
 };
 
-/// `NewSessionTicket`.
+/// `NewSessionTicket` (RFC 8446, appendix B.3.4).
 #[derive(PartialEq, Eq, Debug, Clone, Drop)]
 pub struct NewSessionTicket {
     /// `uint32 ticket_lifetime;`

@@ -9,7 +9,7 @@ use tls_codec::{
     Deserialize, DeserializeBytes, Error, Lent, Serialize, Sink, Size, Source, TlsVec, Within,
 };
 
-/// `OfferedPsks`.
+/// `OfferedPsks` (RFC 8446, appendix B.3.1).
 #[derive(PartialEq, Eq, Debug, Clone, Drop)]
 pub struct OfferedPsks {
     /// `PskIdentity identities<7..2^16-1>;`

@@ -9,7 +9,7 @@ use tls_codec::{
     TlsByteVecU16, Within,
 };
 
-/// `OIDFilter`.
+/// `OIDFilter` (RFC 8446, appendix B.3.2).
 #[derive(PartialEq, Eq, Debug, Clone, Drop)]
 pub struct OIDFilter {
     /// `opaque certificate_extension_oid<1..2^8-1>;`

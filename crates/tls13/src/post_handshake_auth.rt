@@ -6,7 +6,7 @@ ghost use Rattle.tls13.specs.declared.post_handshake_auth.PostHandshakeAuth.{Pos
 use std::alloc::Global;
 use tls_codec::{Deserialize, DeserializeBytes, Error, Serialize, Sink, Size, Source};
 
-/// `PostHandshakeAuth`.
+/// `PostHandshakeAuth` (RFC 8446, appendix B.3.2).
 #[derive(PartialEq, Eq, Debug, Clone, Drop)]
 pub struct PostHandshakeAuth {}
 

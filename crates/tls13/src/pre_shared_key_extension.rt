@@ -10,7 +10,8 @@ use tls_codec::{
 };
 use tls_codec_cases::{Case, Chosen, Or, append_as_for, write_as_for};
 
-/// `select (msg_type)` of `PreSharedKeyExtension`: no byte of it tells the tag.
+/// `select (msg_type)` of `PreSharedKeyExtension` (RFC 8446, appendix B.3.1): no byte of it
+/// tells the tag.
 #[derive(PartialEq, Eq, Debug, Clone, Drop)]
 pub enum PreSharedKeyExtension {
     /// `case client_hello: OfferedPsks;`

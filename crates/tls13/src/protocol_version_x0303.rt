@@ -1,16 +1,20 @@
 //! [`ProtocolVersionX0303`].
-ghost use Rattle.std.specs.Prelude.{◌≡◌, MatchOption, false, nat_eq};
+ghost use Rattle.std.specs.Prelude.{◌≡◌, MatchOption, MatchResult, Some, false, nat_eq};
+ghost use Rattle.std.specs.Fmt.{padded};
+ghost use Rattle.std.specs.Ordering.{nat_cmp};
+ghost use Rattle.tls_codec.specs.Errors.{UnknownValue};
 ghost use Rattle.tls_codec.specs.OwnMessages.{values_names, values_source_names};
-ghost use Rattle.tls13.specs.ProtocolVersionX0303.{protocol_version_x0303_code, protocol_version_x0303_format, protocol_version_x0303_has, protocol_version_x0303_meets, protocol_version_x0303_plain};
+ghost use Rattle.tls13.specs.ProtocolVersionX0303.{protocol_version_x0303_code, protocol_version_x0303_format, protocol_version_x0303_has, protocol_version_x0303_meets, protocol_version_x0303_name, protocol_version_x0303_plain};
 ghost use Rattle.tls13.specs.declared.protocol_version_x0303.ProtocolVersionX0303.{ProtocolVersionX0303};
 
 use std::alloc::Global;
+use std::fmt;
 use tls_codec::{
     Deserialize, DeserializeBytes, Error, Serialize, Sink, Size, Source, unknown_value,
 };
 
 /// `ProtocolVersionX0303`.
-#[derive(PartialEq, Eq, Debug, Clone, Copy)]
+#[derive(PartialEq, Eq, PartialOrd, Ord, Hash, Debug, Clone, Copy)]
 pub enum ProtocolVersionX0303 {
     /// `0x0303(771)`
     X0303,
@@ -24,6 +28,13 @@ impl ProtocolVersionX0303 {
         771
     }
 
+    /// Its name in the text.
+    pub fn name(&self) -> &'static str
+        ensures { result.now ≡ protocol_version_x0303_name self.now }
+    {
+        "0x0303"
+    }
+
     /// The value that has this number.
     pub fn of_code(code: u16) -> Option<ProtocolVersionX0303>
         ensures { MatchOption result (protocol_version_x0303_has code ≡ false)
@@ -32,6 +43,42 @@ impl ProtocolVersionX0303 {
         match code {
             771 => Some(ProtocolVersionX0303::X0303),
             _ => None,
+        }
+    }
+}
+
+/// Its name.
+impl fmt::Display for ProtocolVersionX0303 {
+    ghost output = { λ v. Some (protocol_version_x0303_name v) };
+
+    ghost styled_output = { λ v spec. Some (padded spec (protocol_version_x0303_name v)) };
+
+    fn fmt<W: fmt::Write>(&self, f: &mut fmt::Formatter<W>) -> fmt::Result {
+        f.pad(self.name())
+    }
+}
+
+/// Its number.
+impl From<ProtocolVersionX0303> for u16 {
+    ghost from_gives = { λ v number. number ≡ protocol_version_x0303_code v };
+
+    fn from(value: ProtocolVersionX0303) -> u16 {
+        value.code()
+    }
+}
+
+/// The value that has this number.
+impl TryFrom<u16> for ProtocolVersionX0303 {
+    type Error = Error;
+
+    ghost try_from_gives = { λ tag r. MatchResult r
+        (λ v. protocol_version_x0303_code v ≡ tag)
+        (λ e. (protocol_version_x0303_has tag ≡ false) × (e ≡ UnknownValue tag)) };
+
+    fn try_from(tag: u16) -> Result<ProtocolVersionX0303, Error> {
+        match ProtocolVersionX0303::of_code(tag) {
+            Some(value) => Ok(value),
+            None => Err(unknown_value(u64::from(tag))),
         }
     }
 }
@@ -93,4 +140,11 @@ pub fn is_compared_by_its_number()
     ensures { (x y : ProtocolVersionX0303) →
         ⟦<ProtocolVersionX0303 as PartialEq>⟧.eq x y
         ≡ nat_eq (protocol_version_x0303_code x) (protocol_version_x0303_code y) }
+{}
+
+/// Two are in the order of their numbers.
+pub fn is_ordered_by_its_number()
+    ensures { (x y : ProtocolVersionX0303) →
+        ⟦<ProtocolVersionX0303 as Ord>⟧.cmp x y
+        ≡ nat_cmp (protocol_version_x0303_code x) (protocol_version_x0303_code y) }
 {}

@@ -8,7 +8,7 @@ use tls_codec::{
     Deserialize, DeserializeBytes, Error, Lent, Serialize, Sink, Size, Source, TlsByteVec, Within,
 };
 
-/// `PskIdentity`.
+/// `PskIdentity` (RFC 8446, appendix B.3.1).
 #[derive(PartialEq, Eq, Debug, Clone, Drop)]
 pub struct PskIdentity {
     /// `opaque identity<1..2^16-1>;`

@@ -1,13 +1,15 @@
 //! [`PskKeyExchangeMode`].
-ghost use Rattle.std.specs.Prelude.{◌≡◌, nat_eq};
-ghost use Rattle.tls13.specs.PskKeyExchangeMode.{psk_key_exchange_mode_format, psk_key_exchange_mode_meets, psk_key_exchange_mode_plain};
+ghost use Rattle.std.specs.Prelude.{◌≡◌, Some, nat_eq, option_map};
+ghost use Rattle.std.specs.Ordering.{nat_cmp};
+ghost use Rattle.tls13.specs.PskKeyExchangeMode.{psk_key_exchange_mode_format, psk_key_exchange_mode_meets, psk_key_exchange_mode_name, psk_key_exchange_mode_plain, psk_key_exchange_mode_text};
 ghost use Rattle.tls13.specs.declared.psk_key_exchange_mode.PskKeyExchangeMode.{PskKeyExchangeMode};
 
 use std::alloc::Global;
+use std::fmt;
 use tls_codec::{Deserialize, DeserializeBytes, Error, Serialize, Sink, Size, Source};
 
-/// `PskKeyExchangeMode`.
-#[derive(PartialEq, Eq, Debug, Clone, Copy)]
+/// `PskKeyExchangeMode` (RFC 8446, appendix B.3.1).
+#[derive(PartialEq, Eq, PartialOrd, Ord, Hash, Debug, Clone, Copy)]
 pub struct PskKeyExchangeMode(pub u8);
 
 impl PskKeyExchangeMode {
@@ -16,6 +18,48 @@ impl PskKeyExchangeMode {
 
     /// `psk_dhe_ke`
     pub const PSK_DHE_KE: PskKeyExchangeMode = PskKeyExchangeMode(1);
+
+    /// Its name in the text, if it has one.
+    pub fn name(&self) -> Option<&'static str>
+        ensures { option_map (λ name. name.now) result ≡ psk_key_exchange_mode_name self.now.0 }
+    {
+        match self.0 {
+            0 => Some("psk_ke"),
+            1 => Some("psk_dhe_ke"),
+            _ => None,
+        }
+    }
+}
+
+/// Its name, or else its number in hexadecimal, two digits a byte. A width pads names alone.
+impl fmt::Display for PskKeyExchangeMode {
+    ghost output = { λ v. Some (psk_key_exchange_mode_text v.0) };
+
+    #[tactic(auto, using(crate::specs::PskKeyExchangeMode::psk_key_exchange_mode_printed))]
+    fn fmt<W: fmt::Write>(&self, f: &mut fmt::Formatter<W>) -> fmt::Result {
+        match self.name() {
+            Some(name) => f.pad(name),
+            None => write!(f, "0x{:02x}", self.0),
+        }
+    }
+}
+
+/// Its number.
+impl From<PskKeyExchangeMode> for u8 {
+    ghost from_gives = { λ v number. number ≡ v.0 };
+
+    fn from(value: PskKeyExchangeMode) -> u8 {
+        value.0
+    }
+}
+
+/// The one that has this number.
+impl From<u8> for PskKeyExchangeMode {
+    ghost from_gives = { λ number v. v.0 ≡ number };
+
+    fn from(number: u8) -> PskKeyExchangeMode {
+        PskKeyExchangeMode(number)
+    }
 }
 
 impl Size for PskKeyExchangeMode {
@@ -69,4 +113,10 @@ impl DeserializeBytes for PskKeyExchangeMode {
 pub fn is_compared_by_its_number()
     ensures { (x y : PskKeyExchangeMode) →
         ⟦<PskKeyExchangeMode as PartialEq>⟧.eq x y ≡ nat_eq x.0 y.0 }
+{}
+
+/// Two are in the order of their numbers.
+pub fn is_ordered_by_its_number()
+    ensures { (x y : PskKeyExchangeMode) →
+        ⟦<PskKeyExchangeMode as Ord>⟧.cmp x y ≡ nat_cmp x.0 y.0 }
 {}

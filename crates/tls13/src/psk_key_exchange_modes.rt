@@ -9,7 +9,7 @@ use tls_codec::{
     Deserialize, DeserializeBytes, Error, Serialize, Sink, Size, Source, TlsVec, Within,
 };
 
-/// `PskKeyExchangeModes`.
+/// `PskKeyExchangeModes` (RFC 8446, appendix B.3.1).
 #[derive(PartialEq, Eq, Debug, Clone, Drop)]
 pub struct PskKeyExchangeModes {
     /// `PskKeyExchangeMode ke_modes<1..2^8-1>;`

@@ -10,10 +10,11 @@ use tls_codec::{
     Within,
 };
 
-/// `ServerHello`.
+/// `ServerHello` (RFC 8446, appendix B.3.1).
 #[derive(PartialEq, Eq, Debug, Clone, Drop)]
 pub struct ServerHello {
     /// `ProtocolVersion legacy_version = 0x0303;`
+    /// TLS v1.2
     pub legacy_version: ProtocolVersionX0303,
     /// `Random random;`
     pub random: Random,

@@ -1,17 +1,20 @@
 //! [`SignatureScheme`].
-ghost use Rattle.std.specs.Prelude.{◌≡◌, nat_eq};
-ghost use Rattle.tls13.specs.SignatureScheme.{signature_scheme_format, signature_scheme_meets, signature_scheme_plain};
+ghost use Rattle.std.specs.Prelude.{◌≡◌, Some, nat_eq, option_map};
+ghost use Rattle.std.specs.Ordering.{nat_cmp};
+ghost use Rattle.tls13.specs.SignatureScheme.{signature_scheme_format, signature_scheme_meets, signature_scheme_name, signature_scheme_plain, signature_scheme_text};
 ghost use Rattle.tls13.specs.declared.signature_scheme.SignatureScheme.{SignatureScheme};
 
 use std::alloc::Global;
+use std::fmt;
 use tls_codec::{Deserialize, DeserializeBytes, Error, Serialize, Sink, Size, Source};
 
-/// `SignatureScheme`.
-#[derive(PartialEq, Eq, Debug, Clone, Copy)]
+/// `SignatureScheme` (RFC 8446, appendix B.3.1.3).
+#[derive(PartialEq, Eq, PartialOrd, Ord, Hash, Debug, Clone, Copy)]
 pub struct SignatureScheme(pub u16);
 
 impl SignatureScheme {
     /// `rsa_pkcs1_sha256`
+    /// RSASSA-PKCS1-v1_5 algorithms
     pub const RSA_PKCS1_SHA256: SignatureScheme = SignatureScheme(1025);
 
     /// `rsa_pkcs1_sha384`
@@ -21,6 +24,7 @@ impl SignatureScheme {
     pub const RSA_PKCS1_SHA512: SignatureScheme = SignatureScheme(1537);
 
     /// `ecdsa_secp256r1_sha256`
+    /// ECDSA algorithms
     pub const ECDSA_SECP256R1_SHA256: SignatureScheme = SignatureScheme(1027);
 
     /// `ecdsa_secp384r1_sha384`
@@ -30,6 +34,7 @@ impl SignatureScheme {
     pub const ECDSA_SECP521R1_SHA512: SignatureScheme = SignatureScheme(1539);
 
     /// `rsa_pss_rsae_sha256`
+    /// RSASSA-PSS algorithms with public key OID rsaEncryption
     pub const RSA_PSS_RSAE_SHA256: SignatureScheme = SignatureScheme(2052);
 
     /// `rsa_pss_rsae_sha384`
@@ -39,12 +44,14 @@ impl SignatureScheme {
     pub const RSA_PSS_RSAE_SHA512: SignatureScheme = SignatureScheme(2054);
 
     /// `ed25519`
+    /// EdDSA algorithms
     pub const ED25519: SignatureScheme = SignatureScheme(2055);
 
     /// `ed448`
     pub const ED448: SignatureScheme = SignatureScheme(2056);
 
     /// `rsa_pss_pss_sha256`
+    /// RSASSA-PSS algorithms with public key OID RSASSA-PSS
     pub const RSA_PSS_PSS_SHA256: SignatureScheme = SignatureScheme(2057);
 
     /// `rsa_pss_pss_sha384`
@@ -54,6 +61,7 @@ impl SignatureScheme {
     pub const RSA_PSS_PSS_SHA512: SignatureScheme = SignatureScheme(2059);
 
     /// `rsa_pkcs1_sha1`
+    /// Legacy algorithms
     pub const RSA_PKCS1_SHA1: SignatureScheme = SignatureScheme(513);
 
     /// `ecdsa_sha1`
@@ -70,6 +78,66 @@ impl SignatureScheme {
 
     /// `dsa_sha512_RESERVED`
     pub const DSA_SHA512_RESERVED: SignatureScheme = SignatureScheme(1538);
+
+    /// Its name in the text, if it has one.
+    pub fn name(&self) -> Option<&'static str>
+        ensures { option_map (λ name. name.now) result ≡ signature_scheme_name self.now.0 }
+    {
+        match self.0 {
+            1025 => Some("rsa_pkcs1_sha256"),
+            1281 => Some("rsa_pkcs1_sha384"),
+            1537 => Some("rsa_pkcs1_sha512"),
+            1027 => Some("ecdsa_secp256r1_sha256"),
+            1283 => Some("ecdsa_secp384r1_sha384"),
+            1539 => Some("ecdsa_secp521r1_sha512"),
+            2052 => Some("rsa_pss_rsae_sha256"),
+            2053 => Some("rsa_pss_rsae_sha384"),
+            2054 => Some("rsa_pss_rsae_sha512"),
+            2055 => Some("ed25519"),
+            2056 => Some("ed448"),
+            2057 => Some("rsa_pss_pss_sha256"),
+            2058 => Some("rsa_pss_pss_sha384"),
+            2059 => Some("rsa_pss_pss_sha512"),
+            513 => Some("rsa_pkcs1_sha1"),
+            515 => Some("ecdsa_sha1"),
+            514 => Some("dsa_sha1_RESERVED"),
+            1026 => Some("dsa_sha256_RESERVED"),
+            1282 => Some("dsa_sha384_RESERVED"),
+            1538 => Some("dsa_sha512_RESERVED"),
+            _ => None,
+        }
+    }
+}
+
+/// Its name, or else its number in hexadecimal, two digits a byte. A width pads names alone.
+impl fmt::Display for SignatureScheme {
+    ghost output = { λ v. Some (signature_scheme_text v.0) };
+
+    #[tactic(auto, using(crate::specs::SignatureScheme::signature_scheme_printed))]
+    fn fmt<W: fmt::Write>(&self, f: &mut fmt::Formatter<W>) -> fmt::Result {
+        match self.name() {
+            Some(name) => f.pad(name),
+            None => write!(f, "0x{:04x}", self.0),
+        }
+    }
+}
+
+/// Its number.
+impl From<SignatureScheme> for u16 {
+    ghost from_gives = { λ v number. number ≡ v.0 };
+
+    fn from(value: SignatureScheme) -> u16 {
+        value.0
+    }
+}
+
+/// The one that has this number.
+impl From<u16> for SignatureScheme {
+    ghost from_gives = { λ number v. v.0 ≡ number };
+
+    fn from(number: u16) -> SignatureScheme {
+        SignatureScheme(number)
+    }
 }
 
 impl Size for SignatureScheme {
@@ -123,4 +191,10 @@ impl DeserializeBytes for SignatureScheme {
 pub fn is_compared_by_its_number()
     ensures { (x y : SignatureScheme) →
         ⟦<SignatureScheme as PartialEq>⟧.eq x y ≡ nat_eq x.0 y.0 }
+{}
+
+/// Two are in the order of their numbers.
+pub fn is_ordered_by_its_number()
+    ensures { (x y : SignatureScheme) →
+        ⟦<SignatureScheme as Ord>⟧.cmp x y ≡ nat_cmp x.0 y.0 }
 {}

@@ -9,7 +9,7 @@ use tls_codec::{
     Deserialize, DeserializeBytes, Error, Serialize, Sink, Size, Source, TlsVec, Within,
 };
 
-/// `SignatureSchemeList`.
+/// `SignatureSchemeList` (RFC 8446, appendix B.3.1.3).
 #[derive(PartialEq, Eq, Debug, Clone, Drop)]
 pub struct SignatureSchemeList {
     /// `SignatureScheme supported_signature_algorithms<2..65534>;`

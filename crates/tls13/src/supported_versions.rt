@@ -11,7 +11,8 @@ use tls_codec::{
 };
 use tls_codec_cases::{Case, Chosen, Or, append_as_for, write_as_for};
 
-/// `select (msg_type)` of `SupportedVersions`: no byte of it tells the tag.
+/// `select (msg_type)` of `SupportedVersions` (RFC 8446, appendix B.3.1.1): no byte of it
+/// tells the tag.
 #[derive(PartialEq, Eq, Debug, Clone, Drop)]
 pub enum SupportedVersions {
     /// `case client_hello: ProtocolVersion versions<2..254>;`

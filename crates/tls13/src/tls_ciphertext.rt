@@ -9,12 +9,14 @@ use tls_codec::{
     Deserialize, DeserializeBytes, Error, Lent, Serialize, Sink, Size, Source, TlsByteVecU16,
 };
 
-/// `TLSCiphertext`.
+/// `TLSCiphertext` (RFC 8446, appendix B.1).
 #[derive(PartialEq, Eq, Debug, Clone, Drop)]
 pub struct TLSCiphertext {
     /// `ContentType opaque_type = application_data;`
+    /// 23
     pub opaque_type: ContentTypeApplicationData,
     /// `ProtocolVersion legacy_record_version = 0x0303;`
+    /// TLS v1.2
     pub legacy_record_version: ProtocolVersionX0303,
     /// `opaque encrypted_record[TLSCiphertext.length];`
     pub encrypted_record: TlsByteVecU16,

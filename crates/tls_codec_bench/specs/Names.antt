@@ -1,7 +1,7 @@
 -- What the cases are called.
 use Rattle.std.specs.Prelude.{ℕ, List, codes}
 use Rattle.tls_codec_bench.specs.declared.cases.Case.{Case}
-use Rattle.tls_codec_bench.specs.declared.cases.Case.TheVariants.{Copy64, Copy4096, Copy1048576, Bytes64, Bytes4096, Bytes1048576, Numbers512, Numbers65536, FixedNumbers65536, Lists, Vl64, Vl4096, Vl1048576, Fixed1048576, VlLists, VlEmpty, Text64, Text4096, Log, Vl4096Outside, Numbers512Outside, DeepOne, DeepTwo, Deep2, Deep4, Deep8, Deep16}
+use Rattle.tls_codec_bench.specs.declared.cases.Case.TheVariants.{Copy64, Copy4096, Copy1048576, Bytes64, Bytes4096, Bytes1048576, Numbers512, Numbers65536, FixedNumbers65536, Lists, Vl64, Vl4096, Vl1048576, Fixed1048576, VlLists, VlEmpty, Text64, Text4096, Log, KeyPackage, Welcome, PrivateMessage, UpdatePath, Vl4096Outside, Numbers512Outside, DeepOne, DeepTwo, Deep2, Deep4, Deep8, Deep16}
 
 abbrev pub name_of : Case → List ℕ
 name_of Copy64 = codes "copy 64"
@@ -23,6 +23,10 @@ name_of VlEmpty = codes "Vec<VLBytes> 1000x0"
 name_of Text64 = codes "String 64"
 name_of Text4096 = codes "String 4096"
 name_of Log = codes "Log, 100 leaves of 16-byte names"
+name_of KeyPackage = codes "KeyPackage"
+name_of Welcome = codes "Welcome, 100 members"
+name_of PrivateMessage = codes "PrivateMessage"
+name_of UpdatePath = codes "UpdatePath, 10x10"
 name_of Vl4096Outside = codes "VLBytes 4096, outside"
 name_of Numbers512Outside = codes "Vec<u16> 512, outside"
 name_of DeepOne = codes "8 deep, one element a level"

@@ -43,6 +43,14 @@ pub enum Case {
     Text4096,
     /// A message of your own, with 100 messages in it.
     Log,
+    /// A key package of MLS.
+    KeyPackage,
+    /// A welcome of MLS for 100 members.
+    Welcome,
+    /// A private message of MLS, with 256 bytes of ciphertext.
+    PrivateMessage,
+    /// An update path of MLS, with ten ciphertexts in each of ten nodes.
+    UpdatePath,
     /// `Vl4096`, from a source that doesn't have its bytes at hand.
     Vl4096Outside,
     /// `Numbers512`, from a source that doesn't have its bytes at hand.
@@ -64,7 +72,7 @@ pub enum Case {
 /// The cases, in the order in which they are timed.
 ///
 /// Those of a mebibyte come last: a byte vector of 4,096 was written more slowly after them.
-pub const CASES: [Case; 27] = [
+pub const CASES: [Case; 31] = [
     Case::Copy64,
     Case::Copy4096,
     Case::Bytes64,
@@ -83,6 +91,10 @@ pub const CASES: [Case; 27] = [
     Case::Deep8,
     Case::Deep16,
     Case::Log,
+    Case::KeyPackage,
+    Case::Welcome,
+    Case::PrivateMessage,
+    Case::UpdatePath,
     Case::Lists,
     Case::VlLists,
     Case::VlEmpty,
@@ -119,6 +131,10 @@ impl Case {
             Case::Text64 => "String 64",
             Case::Text4096 => "String 4096",
             Case::Log => "Log, 100 leaves of 16-byte names",
+            Case::KeyPackage => "KeyPackage",
+            Case::Welcome => "Welcome, 100 members",
+            Case::PrivateMessage => "PrivateMessage",
+            Case::UpdatePath => "UpdatePath, 10x10",
             Case::Vl4096Outside => "VLBytes 4096, outside",
             Case::Numbers512Outside => "Vec<u16> 512, outside",
             Case::DeepOne => "8 deep, one element a level",

@@ -11,6 +11,7 @@ use crate::fault::BenchFault;
 use crate::noise::Noise;
 use crate::timing::time;
 use crate::values::FromNoise;
+use mls::{KeyPackage, PrivateMessage, UpdatePath, Welcome};
 use std::alloc::Global;
 use std::cell::RefCell;
 use std::rt::Clock;
@@ -76,6 +77,10 @@ pub fn measure<C: Clock>(alloc: Global, clock: &C, case: Case) -> Result<Figures
         Case::Text64 => measure_codec::<String, C>(alloc, clock, &[64]),
         Case::Text4096 => measure_codec::<String, C>(alloc, clock, &[4096]),
         Case::Log => measure_codec::<Log, C>(alloc, clock, &[16]),
+        Case::KeyPackage => measure_codec::<KeyPackage, C>(alloc, clock, &[]),
+        Case::Welcome => measure_codec::<Welcome, C>(alloc, clock, &[100, 80]),
+        Case::PrivateMessage => measure_codec::<PrivateMessage, C>(alloc, clock, &[256]),
+        Case::UpdatePath => measure_codec::<UpdatePath, C>(alloc, clock, &[10, 10, 48]),
         Case::Vl4096Outside => measure_outside::<VLBytes, C>(alloc, clock, &[4096]),
         Case::Numbers512Outside => measure_outside::<Vec<u16>, C>(alloc, clock, &[512]),
         Case::DeepOne => measure_codec::<Eight, C>(alloc, clock, &[1; 8]),

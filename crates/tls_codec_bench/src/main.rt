@@ -7,7 +7,8 @@
 //! slice. In the rows that end with `outside`, the last one is over a `Cursor`, which has no bytes at hand. A
 //! figure is the median of 15 batches of at least 20 milliseconds. With any other argument it ends with status 1.
 //!
-//! - [`cases`]: the cases and their names. [`values`]: their values, over the numbers of a [`noise`].
+//! - [`cases`]: the cases and their names. [`values`] and [`messages`]: their values, over the numbers of a
+//!   [`noise`].
 //! - [`calls`]: the calls that are timed. [`figures`]: the figures of a case.
 //! - [`timing`]: how long a call takes. [`median`]: the middle one of the batches. [`ticks`]: a clock that shows
 //!   what it is told.
@@ -19,6 +20,7 @@ mod cases;
 mod fault;
 mod figures;
 mod median;
+mod messages;
 mod noise;
 #[cfg(test)]
 mod tests;

@@ -3,7 +3,7 @@ ghost use Rattle.std.specs.Prelude.{◌≡◌};
 ghost use Rattle.tls_codec_bench.specs.Noise.{state_of, shifted};
 
 /// Marsaglia's xorshift generator of 64 bits, with the shifts 13, 7 and 17.
-#[derive(Drop)]
+#[derive(Clone, Drop)]
 pub struct Noise {
     state: u64,
 }
@@ -11,10 +11,10 @@ pub struct Noise {
 impl Noise {
     /// The generator at its start.
     pub fn new() -> Noise
-        ensures { state_of result ≡ 88172645463325252 }
+        ensures { state_of result ≡ 11400714819323198485 }
     {
         Noise {
-            state: 88_172_645_463_325_252,
+            state: 11_400_714_819_323_198_485,
         }
     }
 

@@ -6,3 +6,4 @@ pub mod Elses
 pub mod Chosen
 pub mod Enclosed
 pub mod Held
+pub mod Padded

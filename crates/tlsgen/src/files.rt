@@ -45,11 +45,13 @@ fn write_file<R: Files>(rt: &R, path: &str, text: &str) -> anyhow::Result<()> {
     Ok(())
 }
 
-/// Compares each file with that of its path in a folder, and prints the first line that differs.
-pub fn compare_with<R: Print + AllocGlobal + Files>(
+/// Compares each file with that of its path in a folder, and prints the first line that differs. Of a whole crate it also
+/// prints the first file there that isn't written.
+pub fn compare_with<R: Print + AllocGlobal + Alloc + Files + Clone + Drop>(
     rt: &R,
     folder: &str,
     written: &[Written],
+    is_whole: bool,
 ) -> anyhow::Result<ExitCode> {
     for file in written {
         let inner = file.path.as_str();
@@ -63,5 +65,62 @@ pub fn compare_with<R: Print + AllocGlobal + Files>(
             return Ok(ExitCode::from(1));
         }
     }
+    if is_whole {
+        if let Some(inner) = stale_file(rt, folder, written)? {
+            println!(rt; "{folder}/{inner}: isn't written for the input")?;
+            return Ok(ExitCode::from(1));
+        }
+    }
     Ok(ExitCode::SUCCESS)
+}
+
+// The most folders of a crate that are looked into.
+const MOST_FOLDERS: usize = 100_000;
+
+// A file of a crate's folder that isn't written, by its path there.
+fn stale_file<R: AllocGlobal + Alloc + Files + Clone + Drop>(
+    rt: &R,
+    folder: &str,
+    written: &[Written],
+) -> anyhow::Result<Option<String>> {
+    let alloc = rt.alloc();
+    let mut left = Vec::new(alloc);
+    for part in ["src", "specs", "proofs"] {
+        left.push(String::from_str(alloc, part)?)?;
+    }
+    for _ in 0..MOST_FOLDERS {
+        let Some(inner) = left.pop() else {
+            break;
+        };
+        if let Some(stale) = stale_in(rt, folder, inner.as_str(), written, &mut left)? {
+            return Ok(Some(stale));
+        }
+    }
+    Ok(None)
+}
+
+// The same in one folder, whose own folders are appended to those that are left. There is none in a folder that can't be read.
+fn stale_in<R: AllocGlobal + Alloc + Files + Clone + Drop>(
+    rt: &R,
+    folder: &str,
+    inner: &str,
+    written: &[Written],
+    left: &mut Vec<String>,
+) -> anyhow::Result<Option<String>> {
+    let alloc = rt.alloc();
+    let path = format!(in alloc; "{folder}/{inner}")?;
+    let Ok(entries) = fs::read_dir(rt, path.as_str()) else {
+        return Ok(None);
+    };
+    for entry in entries {
+        let entry = entry?;
+        let name = entry.file_name();
+        let own = format!(in alloc; "{inner}/{name}")?;
+        if entry.file_type()?.is_dir() {
+            left.push(own)?;
+        } else if !written.iter().any(|file| file.path == own) {
+            return Ok(Some(own));
+        }
+    }
+    Ok(None)
 }

@@ -3,7 +3,7 @@
 //!
 //! It prints each file after a line with its path. With `--to FOLDER` it writes them there, and with `--compare FOLDER`
 //! it ends with status 0 if the files there are the same but for layout, and else with 1 and the first line that
-//! differs, or the first file that can't be read. `--show` is for one file in place of those: a module that shows the
+//! differs, or the first file that can't be read or isn't written. `--show` is for one file in place of those: a module that shows the
 //! messages as a tree, for a crate that has `show::Show` and uses `message_tree`. `--notes FILE` has what the RFC says of the
 //! text in prose. `--with NAME=FILE`, or `NAME=FILE,NOTES`, names another crate and its input: the text may name its types. A text that is rejected or can't be read, and a file that can't be written,
 //! end it with status 2; nothing is written before the whole text is read.
@@ -65,7 +65,8 @@ fn main(rt: HostRuntime) -> anyhow::Result<ExitCode> {
         return files::write_to(&rt, folder, written.as_slice());
     }
     if let Some(folder) = matches.get_str("compare") {
-        return files::compare_with(&rt, folder, written.as_slice());
+        let is_whole = !matches.get_flag("show");
+        return files::compare_with(&rt, folder, written.as_slice(), is_whole);
     }
     files::print(&rt, written.as_slice())
 }

@@ -31,13 +31,20 @@ pub fn push_definitions(alloc: Global, out: &mut String, text: &str) -> Result<(
 /// Adds the text of a module, with its long clauses broken. Its code is left to `rt fmt`.
 pub fn push_code(alloc: Global, out: &mut String, text: &str) -> Result<(), AllocError> {
     for line in text.lines() {
-        if line.contains('⟦') || line.contains("ensures ") {
+        if is_of_clause(line) {
             push_line(alloc, out, line, CLAUSE_COLUMNS)?;
         } else {
             writeln!(out, "{line}")?;
         }
     }
     Ok(())
+}
+
+// Whether a line is of a clause, or of what a member of a trait means. One of a comment is none, whatever it says.
+fn is_of_clause(line: &str) -> bool {
+    let text = line.trim_start();
+    let begins = text.starts_with("ghost ") || text.starts_with("ensures ");
+    !text.starts_with("//") && (begins || text.contains('≡') || text.contains('⟦'))
 }
 
 // A word of a line, up to the next blank.

@@ -1,5 +1,6 @@
 //! The code of a crate: its root, its other names of types, and a module for each message.
 
+use crate::docs::doc;
 use crate::forms::Form;
 use crate::template::Holes;
 use crate::types::{Names, Words};
@@ -13,8 +14,7 @@ static ROOT: &str = "//! Messages, written by `tlsgen`.
 ";
 
 static ALIAS: &str = "
-/// `$declared$`
-pub type $name$ = $rust$;
+$doc$pub type $name$ = $rust$;
 ";
 
 /// The root: its modules, what they have by name, and what the other crates have.
@@ -115,11 +115,8 @@ fn push_alias(
     alias: &Alias,
     mut holes: Holes,
 ) -> Result<(), AllocError> {
-    let texts = [
-        ("declared", alias.declared.as_str()),
-        ("name", alias.name.as_str()),
-    ];
-    holes.set_all(alloc, &texts)?;
+    holes.set("doc", doc(alloc, alias.doc.as_str())?)?;
+    holes.set_all(alloc, &[("name", alias.name.as_str())])?;
     holes.push(alloc, out, ALIAS)
 }
 

@@ -1,12 +1,13 @@
 //! A field, as what stands for the holes of its texts.
 
+use crate::docs::doc;
 use crate::owners::Owner;
 use crate::template::Holes;
 use crate::types::Words;
 use std::alloc::{AllocError, Global};
 use tlsgen_model::plan::Member;
 
-/// A field, as the holes of its type and `name`, `declared`, `type`, `tree_of` and `alike`.
+/// A field, as the holes of its type and `name`, `declared`, `comment`, `type`, `tree_of` and `alike`.
 #[derive(Drop)]
 pub struct Field {
     /// It is lent itself, and so has references and is none.
@@ -49,6 +50,9 @@ impl Field {
             ("reference", reference),
         ];
         field.holes.set_all(alloc, &texts)?;
+        field
+            .holes
+            .set("comment", doc(alloc, member.comment.as_str())?)?;
         field.holes.set_number(alloc, "at", at as u64)?;
         field.set_values(alloc, owner)?;
         let own = if is_lent {

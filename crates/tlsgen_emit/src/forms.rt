@@ -3,6 +3,7 @@ ghost use Rattle.std.specs.Prelude.{◌≡◌, IfOk};
 ghost use Rattle.tlsgen_emit.specs.Forms.{has_answers};
 ghost use Rattle.tlsgen_emit.specs.Paths.{needs_answers};
 
+use crate::docs::doc;
 use crate::holds::Held;
 use crate::owners::Owner;
 use crate::parts::{Part, cases_of, has, has_bare, values_of};
@@ -162,9 +163,13 @@ impl<'a> Form<'a> {
                 let is_in_context = message.context.is_some();
                 self.set_fields(alloc, names, is_in_context, members)?;
             }
-            Body::Values { width, values, .. } => {
+            Body::Values {
+                width,
+                is_open,
+                values,
+            } => {
                 set_tag(alloc, &mut self.holes, *width)?;
-                self.parts = values_of(alloc, &self.holes, values)?;
+                self.parts = values_of(alloc, &self.holes, *is_open, values)?;
                 self.set_selector(alloc, names, message)?;
             }
             Body::Choice { width, variants } => {
@@ -316,14 +321,6 @@ fn add_names(cases: &mut Vec<&'static str>, names: &[&'static str]) -> Result<()
     Ok(())
 }
 
-fn doc(alloc: Global, text: &str) -> Result<String, AllocError> {
-    let mut out = String::new(alloc);
-    for line in text.lines() {
-        writeln!(out, "/// {line}")?;
-    }
-    Ok(out)
-}
-
 // Of a message that is lent, and of one that isn't. The hole `static` is the lifetime in a clause.
 static LENT: [(&str, &str); 6] = [
     (
@@ -355,8 +352,9 @@ static OF_TAG: [(&str, &str); 3] = [
 
 static OF_U64: [(&str, &str); 3] = [("u64", "tag"), ("cast", ""), ("end", "")];
 
-// Sets the holes `width`, `bits`, and those of `OF_TAG`.
+// Sets the holes `width`, `bits`, `digits`, and those of `OF_TAG`.
 fn set_tag(alloc: Global, holes: &mut Holes, width: usize) -> Result<(), AllocError> {
     set_width(alloc, holes, width)?;
+    holes.set_number(alloc, "digits", (width as u64).saturating_mul(2))?;
     holes.set_all(alloc, if width == 8 { &OF_U64 } else { &OF_TAG })
 }

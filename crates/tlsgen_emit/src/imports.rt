@@ -2,38 +2,47 @@
 
 use crate::types::Names;
 use crate::vocabulary::{
-    CHOSEN, CLAUSES, CONTENTS, ENCLOSED, HELD, LAWS, LEMMAS, NAMES, PRELUDE, SUMS, WORDS,
+    CHOSEN, CLAUSES, CONTENTS, ENCLOSED, HELD, LAWS, LEMMAS, NAMES, PRELUDE, PRINTED, SUMS, WORDS,
 };
 use std::alloc::{AllocError, Global};
 
-/// The words of a text, other than those of its comments.
+/// The lines of a text and their words, other than those of its comments and the names of fields behind a dot.
 #[derive(Drop)]
 struct Text<'a> {
-    text: &'a str,
+    lines: Vec<&'a str>,
     words: Vec<&'a str>,
 }
 
 impl<'a> Text<'a> {
     fn of(alloc: Global, text: &'a str) -> Result<Text<'a>, AllocError> {
+        let mut lines = Vec::new(alloc);
         let mut words = Vec::new(alloc);
         for line in text.lines() {
             if line.trim_start().starts_with("//") {
                 continue;
             }
-            for word in line.split(is_between_words) {
-                words.push(word)?;
+            lines.push(line)?;
+            for word in line.split(is_between_paths) {
+                let own = word.split('.').next();
+                words.push(own.unwrap_or(word))?;
             }
         }
-        Ok(Text { text, words })
+        Ok(Text { lines, words })
     }
 
-    // Whether it has a word, or the sign of an operator, as `◌≡◌`.
+    // Whether it has a word, or the sign of an operator, as `◌≡◌`. Code has `Some` in clauses alone with a blank behind
+    // it, and a dash is in comments and in `→` of Rust too.
     fn has(&self, word: &str) -> bool {
-        if word.is_ascii() {
-            self.words.as_slice().contains(&word)
-        } else {
-            self.text.contains(word.trim_matches('◌'))
+        match word {
+            "Some" => self.has_sign("Some ("),
+            "◌-◌" => self.has_sign(" - "),
+            _ if word.contains(is_between_words) => self.has_sign(word.trim_matches('◌')),
+            _ => self.words.as_slice().contains(&word),
         }
+    }
+
+    fn has_sign(&self, sign: &str) -> bool {
+        self.lines.iter().any(|line| line.contains(sign))
     }
 
     // Those of the words that it has.
@@ -68,11 +77,21 @@ pub fn is_between_words(c: char) -> bool {
     !c.is_ascii_alphanumeric() && c != '_'
 }
 
+// Whether a character ends a word and the names of fields behind it, as `v.length`.
+fn is_between_paths(c: char) -> bool {
+    c != '.' && is_between_words(c)
+}
+
 /// Adds the lines of a file of definitions, but those of its own message.
 pub fn push_definitions(alloc: Global, out: &mut String, text: &str) -> Result<(), AllocError> {
     let brought = [
-        ("Rattle.std.proofs.Common", ["arith"].as_slice()),
+        (
+            "Rattle.std.proofs.Common",
+            ["append-nil", "arith"].as_slice(),
+        ),
         ("Rattle.std.specs.Prelude", PRELUDE.as_slice()),
+        ("Rattle.std.specs.List", ["find"].as_slice()),
+        ("Rattle.std.specs.Fmt", PRINTED.as_slice()),
         ("Rattle.tls_codec.specs.OwnMessages", WORDS.as_slice()),
         ("Rattle.tls_codec.specs.Contents", CONTENTS.as_slice()),
         ("Rattle.tls_codec_cases.specs.Sums", SUMS.as_slice()),
@@ -131,6 +150,9 @@ pub fn code(
         lines.add_types(alloc, names, Some(other.as_str()), types)?;
     }
     let text = Text::of(alloc, text)?;
+    if text.has("fmt") {
+        lines.add_module(alloc, "std::fmt")?;
+    }
     lines.add(
         alloc,
         "std::alloc",
@@ -170,6 +192,13 @@ impl UseLines {
         }
         let mut line = String::new(alloc);
         push_rust_use(alloc, &mut line, path, names)?;
+        self.lines.push((order_of(alloc, path)?, line))?;
+        Ok(())
+    }
+
+    // Adds the line for a module.
+    fn add_module(&mut self, alloc: Global, path: &str) -> Result<(), AllocError> {
+        let line = format!(in alloc; "use {path};\n")?;
         self.lines.push((order_of(alloc, path)?, line))?;
         Ok(())
     }

@@ -3,7 +3,7 @@
 //! - [`file`]: [`files_of`](file::files_of), all files of a crate, each of them a [`Written`](tlsgen_model::emitted::Written).
 //! - [`shows`]: [`file_of`](shows::file_of), the module that shows messages as a tree.
 //! - `code`, `specs` and `proofs`: the texts of `src/`, `specs/` and the answers, by `templates`; `imports`: which
-//!   lines of imports a text needs, by the `vocabulary`; `breaks`: where long lines are broken.
+//!   lines of imports a text needs, by the `vocabulary`; `docs`: doc comments; `breaks`: where long lines are broken.
 //! - `forms`: a message as what stands for the holes of its templates; `template` and `lines` fill these. `parts`: its values
 //!   or cases; `sums`: cases that nest; `contexts`: what decides its parts; `thens`: fields on tags before them; `holds`: tags of others in it.
 //!   `uses`: the names that it brings in.
@@ -14,6 +14,7 @@
 mod breaks;
 mod code;
 mod contexts;
+mod docs;
 mod fields;
 pub mod file;
 mod forms;

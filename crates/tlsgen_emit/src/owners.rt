@@ -17,11 +17,11 @@ pub enum Owner {
 }
 
 static DECLARED_IN_STRUCT: &str = "    /// `$declared$`
-    pub $name$: $type$,
+$comment$    pub $name$: $type$,
 ";
 
 static DECLARED_IN_VARIANT: &str = "        /// `$declared$`
-        $name$: $type$,
+$comment$        $name$: $type$,
 ";
 
 static SHOWN_IN_STRUCT: &str = "        self.$name$.show(tree, \"$name$\")?;

@@ -1,5 +1,6 @@
 //! The values or the cases of a message.
 
+use crate::docs::doc;
 use crate::owners::Owner;
 use crate::rows::Row;
 use crate::template::Holes;
@@ -16,16 +17,34 @@ pub struct Part {
     pub holes: Holes,
 }
 
-pub fn values_of(alloc: Global, holes: &Holes, values: &[Value]) -> Result<Vec<Part>, AllocError> {
+/// The values of an enum or a registry. Those of an enum are in the order of their numbers, by which a derive compares
+/// them.
+pub fn values_of(
+    alloc: Global,
+    holes: &Holes,
+    is_open: bool,
+    values: &[Value],
+) -> Result<Vec<Part>, AllocError> {
+    let mut order = Vec::new(alloc);
+    for (at, value) in values.iter().enumerate() {
+        order.push((if is_open { 0 } else { value.number }, at))?;
+    }
+    order.sort()?;
     let mut parts = Vec::new(alloc);
-    for value in values {
+    for (_, at) in &order {
+        let Some(value) = values.get(*at) else {
+            break;
+        };
         let texts = [
             ("variant", value.name.as_str()),
             ("label", value.label.as_str()),
             ("constant", value.constant.as_str()),
         ];
         let at = parts.len();
-        parts.push(Part::of(alloc, holes, 0, at, &texts, value.number)?)?;
+        let mut part = Part::of(alloc, holes, 0, at, &texts, value.number)?;
+        part.holes
+            .set("comment", doc(alloc, value.comment.as_str())?)?;
+        parts.push(part)?;
     }
     Ok(parts)
 }

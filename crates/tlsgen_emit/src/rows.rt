@@ -58,7 +58,7 @@ impl Row {
         })
     }
 
-    /// Sets the holes `fields`, `first`, `stated`, `declared`, `lent`, `lent_types`, `shown`, `pattern`, `lets`, `types`,
+    /// Sets the holes `fields`, `first`, `stated`, `comment`, `declared`, `lent`, `lent_types`, `shown`, `pattern`, `lets`, `types`,
     /// `path`, `split`, `apart`, `alike`, `gap`, `plain`, `format` and `law`.
     pub fn set(&self, alloc: Global, holes: &mut Holes) -> Result<(), AllocError> {
         self.set_lists(alloc, holes)?;
@@ -107,7 +107,12 @@ impl Row {
 
     fn set_first(&self, alloc: Global, holes: &mut Holes) -> Result<(), AllocError> {
         if let Some(first) = self.fields.first() {
-            for (word, template) in [("first", "$name$"), ("stated", "$declared$")] {
+            let texts = [
+                ("first", "$name$"),
+                ("stated", "$declared$"),
+                ("comment", "$comment$"),
+            ];
+            for (word, template) in texts {
                 holes.set(word, first.holes.filled(alloc, template)?)?;
             }
         }

@@ -1,25 +1,44 @@
 //! The words of std and of the codec that texts may take.
 
 /// What definitions take of std.
-pub static PRELUDE: [&str; 8] = [
+pub static PRELUDE: [&str; 21] = [
     "◌≡◌",
     "◌==◌",
     "◌||◌",
+    "◌-◌",
+    "◌^◌",
+    "◌∷◌",
+    "◌++◌",
     "ℕ",
     "string_bytes",
     "Bool",
     "true",
+    "false",
     "refl",
+    "List",
+    "[]",
+    "codes",
+    "length",
+    "replicate",
+    "Option",
+    "option_map",
+    "unwrap_or",
 ];
 
+/// What they take of its words for printed text.
+pub static PRINTED: [&str; 4] = ["char_count", "digits", "format_spec", "padded_integral"];
+
 /// What the clauses of code take of std.
-pub static CLAUSES: [&str; 7] = [
+pub static CLAUSES: [&str; 10] = [
     "◌≡◌",
     "◌&&◌",
     "IsTrue",
     "MatchOption",
+    "MatchResult",
+    "Some",
     "false",
     "nat_eq",
+    "option_map",
     "true",
 ];
 

@@ -30,7 +30,7 @@ pub fn field_name(alloc: Global, name: &str) -> Result<String, AllocError>
     lettered(alloc, out)
 }
 
-/// The name of a variant of `of`: `NewMember` for `new_member`.
+/// The name of a variant of `of`: `NewMember` for `new_member`, `V512` for `512`.
 pub fn variant_name(alloc: Global, name: &str, of: &str) -> Result<String, AllocError>
     ensures { IfOk result (λ name. BeginsWithLetter (string_bytes name)) }
 {
@@ -38,15 +38,15 @@ pub fn variant_name(alloc: Global, name: &str, of: &str) -> Result<String, Alloc
     if is_variant_word(out.as_str()) || out.as_str() == of {
         out.push_str("Case")?;
     }
-    lettered(alloc, out)
+    capital_lettered(alloc, out)
 }
 
-/// The name of a tag's constant: `NEW_MEMBER` for `new_member`.
+/// The name of a tag's constant: `NEW_MEMBER` for `new_member`, `V512` for `512`.
 pub fn constant_name(alloc: Global, name: &str) -> Result<String, AllocError>
     ensures { IfOk result (λ name. BeginsWithLetter (string_bytes name)) }
 {
     let out = name.chars().map(|c| c.to_ascii_uppercase()).collect(alloc)?;
-    lettered(alloc, out)
+    capital_lettered(alloc, out)
 }
 
 /// The name, after an `x` if it doesn't begin with a letter.
@@ -57,6 +57,16 @@ fn lettered(alloc: Global, name: String) -> Result<String, AllocError>
         return Ok(name);
     }
     format!(in alloc; "x{name}")
+}
+
+/// The name, after a `V` if it doesn't begin with a letter.
+fn capital_lettered(alloc: Global, name: String) -> Result<String, AllocError>
+    ensures { IfOk result (λ name. BeginsWithLetter (string_bytes name)) }
+{
+    if begins_with_letter(name.as_str()) {
+        return Ok(name);
+    }
+    format!(in alloc; "V{name}")
 }
 
 fn begins_with_letter(name: &str) -> bool

@@ -31,8 +31,8 @@ pub struct Alias {
     pub of: Type,
     /// Which crate has it: after the others the one that is written.
     pub home: usize,
-    /// The line of the file, as `opaque MAC<V>;`.
-    pub declared: String,
+    /// What its doc comment says: the line of the file, as `opaque MAC<V>;`, its section and what comments say of it.
+    pub doc: String,
 }
 
 #[derive(Drop)]
@@ -105,6 +105,8 @@ pub struct Value {
     /// The name of its constant, as `MLS10`.
     pub constant: String,
     pub number: u64,
+    /// What comments of the file say of it, line by line.
+    pub comment: String,
 }
 
 #[derive(Drop)]
@@ -132,6 +134,8 @@ pub struct Member {
     pub present_for: Option<Vec<u64>>,
     /// The line of the file, as `opaque group_id<V>;`.
     pub declared: String,
+    /// What comments of the file say of it, line by line.
+    pub comment: String,
 }
 
 /// What decides a member's parts.

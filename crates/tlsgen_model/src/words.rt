@@ -161,7 +161,7 @@ static MODULES: [&str; 9] = [
     "tls_codec_cases",
 ];
 
-static TYPES: [&str; 105] = [
+static TYPES: [&str; 108] = [
     "Abort",
     "AllocError",
     "AllocFailed",
@@ -213,6 +213,7 @@ static TYPES: [&str; 105] = [
     "LentParts",
     "LentThen",
     "MatchOption",
+    "MatchResult",
     "None",
     "Ok",
     "Option",
@@ -262,7 +263,9 @@ static TYPES: [&str; 105] = [
     "TlsVecU32",
     "TlsVecU8",
     "ToString",
+    "TryFrom",
     "U24",
+    "UnknownValue",
     "VLByteSlice",
     "VLBytes",
     "Vec",

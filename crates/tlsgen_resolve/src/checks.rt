@@ -41,6 +41,21 @@ pub fn check_letters(alloc: Global, name: &Name) -> Result<(), Trouble> {
             "a name that begins with a letter",
         ));
     }
+    check_signs(alloc, name)
+}
+
+// Rejects the name of a value as that of a type, but for its first digit: `512` is one.
+fn check_value_letters(alloc: Global, name: &Name) -> Result<(), Trouble> {
+    let first = name.text.as_bytes().first();
+    if first.is_some_and(|first| first.is_ascii_digit()) {
+        return check_signs(alloc, name);
+    }
+    check_letters(alloc, name)
+}
+
+// Rejects a name that has other characters than letters, digits, `_` and dots.
+fn check_signs(alloc: Global, name: &Name) -> Result<(), Trouble> {
+    let bytes = name.text.as_bytes();
     if !bytes.iter().all(|byte| byte.is_ascii_alphanumeric() || *byte == b'_' || *byte == b'.') {
         return Err(refused(
             alloc,
@@ -133,7 +148,7 @@ fn push_value(
     ensures { OnOk result (numbers_of values.new ≡ numbers_of values.old ++ number.value ∷ []) }
 {
     let text = name.text.as_str();
-    check_letters(alloc, name)?;
+    check_value_letters(alloc, name)?;
     if values.len() >= MOST_VALUES {
         return Err(refused(alloc, name.place, text, "at most 1024 values"));
     }
@@ -143,6 +158,7 @@ fn push_value(
         name: variant_name(alloc, spelled.as_str(), one.name.text.as_str())?,
         constant: constant_name(alloc, spelled.as_str())?,
         number: number.value,
+        comment: name.remark.text.clone()?,
     };
     match values.push(value)? {
         None => Ok(()),

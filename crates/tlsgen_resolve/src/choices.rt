@@ -4,14 +4,15 @@ ghost use Rattle.tlsgen_model.specs.Writable.{HaveNames, HaveTypes, IsWritable};
 
 use crate::cases::{Labelled, cases_of, find_case, tag_of};
 use crate::checks::{TOO_GREAT, check_letters};
+use crate::given::{Given, given_to};
 use crate::lent::lends;
 use crate::members::{ResolvedMember, copy, push_member};
-use crate::naming::{choice_doc, is_of_field, type_name, underscored};
+use crate::naming::{choice_doc, push_comment, type_name, underscored};
+use crate::padding::push_padding;
 use crate::refuse::refused;
 use crate::resolver::Resolver;
 use crate::segment::{
-    ResolvedPiece, ResolvedSelect, check_segment, counted_select, nearest_select, only_select,
-    refused_counting,
+    ResolvedPiece, ResolvedSelect, check_segment, counted_select, nearest_select, refused_counting,
 };
 use crate::sequence::{IndexedField, Sequence, tag_of_select};
 use crate::types::declared;
@@ -22,24 +23,20 @@ use tlsgen_syntax::refusal::{Place, Trouble};
 use tlsgen_syntax::syntax::{Field, Name, Select};
 
 impl<'a> Resolver<'a> {
-    /// A select at a position of a struct, with its tag. `owner` is the struct that it is written in.
+    /// A select at a position of a struct, with its tag.
     pub fn resolve_select(
         &mut self,
         sequence: &Sequence<'a>,
         select: &'a Select,
-        owner: &str,
         index: usize,
     ) -> Result<ResolvedSelect<'a>, Trouble> {
         let tag = tag_of_select(self.alloc, sequence, select, index)?;
         let of = tag_of(self.alloc, self.files, tag.field)?;
         let cases = cases_of(self.alloc, of, select, &mut self.budget)?;
-        let is_own = owner == sequence.name;
-        let name = if is_own { select.name.as_ref() } else { None };
         Ok(ResolvedSelect {
             tag: tag.index,
             cases,
-            is_own,
-            name,
+            given: given_to(self.files, sequence.name, select),
             place: select.place,
         })
     }
@@ -53,7 +50,10 @@ impl<'a> Resolver<'a> {
     ) -> Result<(), Trouble> {
         let name = type_name(self.alloc, sequence.name)?;
         let body = self.choice_body(sequence, tag, segment, sequence.name)?;
-        self.push_choice(sequence, tag.field, name, body)
+        let mut doc = choice_doc(self.alloc, tag.field, sequence)?;
+        push_comment(&mut doc, sequence.remark)?;
+        push_padding(self.alloc, &mut doc, sequence)?;
+        self.push_choice(sequence, tag.field.name.place, name, doc, body)
     }
 
     /// Makes the message of a tag and its cases, which are a part of a struct. Returns the member of it.
@@ -62,40 +62,14 @@ impl<'a> Resolver<'a> {
         sequence: &Sequence<'a>,
         tag: IndexedField<'a>,
         segment: &[ResolvedPiece<'a>],
-        given: Option<&Name>,
+        given: Given<'a>,
     ) -> Result<ResolvedMember, Trouble> {
-        let only = only_select(segment);
-        if let Some(other) = self.same_choice(sequence, tag.field.name.place, only) {
-            let name = other.clone()?;
-            return self.choice_member(tag.field, given, name);
-        }
-        let name = self.choice_name(sequence.name, tag.field, given)?;
+        let name = self.choice_name(sequence.name, tag.field, given.of_type)?;
         let body = self.choice_body(sequence, tag, segment, name.as_str())?;
-        let member = self.choice_member(tag.field, given, name.clone()?)?;
-        if let Some(select) = only {
-            self.out.keep_choice(
-                tag.field.name.place,
-                select.place,
-                sequence.is_lent,
-                name.clone()?,
-            )?;
-        }
-        self.push_choice(sequence, tag.field, name, body)?;
+        let member = self.choice_member(tag.field, given.of_field, name.clone()?)?;
+        let doc = choice_doc(self.alloc, tag.field, sequence)?;
+        self.push_choice(sequence, tag.field.name.place, name, doc, body)?;
         Ok(member)
-    }
-
-    // The name of the message that was made for a tag and a select which another struct has.
-    fn same_choice(
-        &self,
-        sequence: &Sequence<'_>,
-        tag: Place,
-        only: Option<&ResolvedSelect<'_>>,
-    ) -> Option<&String> {
-        let select = only?;
-        if select.is_own {
-            return None;
-        }
-        self.out.choice(tag, select.place, sequence.is_lent)
     }
 
     // A tag with all that is in its cases.
@@ -152,11 +126,13 @@ impl<'a> Resolver<'a> {
         }
     }
 
+    // The message of a tag and its cases, by its name and doc comment.
     fn push_choice(
         &mut self,
         sequence: &Sequence<'_>,
-        tag: &Field,
+        place: Place,
         name: String,
+        doc: String,
         body: Body,
     ) -> Result<(), Trouble>
         requires { IsWritable body }
@@ -166,22 +142,22 @@ impl<'a> Resolver<'a> {
             module: module_name(self.alloc, name.as_str())?,
             home: self.out.home,
             is_lent: lends(sequence, &body),
-            doc: choice_doc(self.alloc, tag, sequence.name)?,
+            doc,
             context: None,
             name,
             body,
         };
-        self.push(tag.name.place, message)
+        self.push(place, message)
     }
 
-    // The member is called as its tag, or by a name with a small letter behind the select.
+    // The member is called as its tag, or by the name that the select gives it.
     fn choice_member(
         &self,
         tag: &Field,
         given: Option<&Name>,
         name: String,
     ) -> Result<ResolvedMember, Trouble> {
-        let own = given.filter(|name| is_of_field(*name)).unwrap_or(&tag.name);
+        let own = given.unwrap_or(&tag.name);
         check_letters(self.alloc, own)?;
         let words = underscored(self.alloc, own.text.as_str())?;
         Ok(ResolvedMember {
@@ -195,6 +171,7 @@ impl<'a> Resolver<'a> {
                 decided: Decided::Alone,
                 present_for: None,
                 declared: declared(self.alloc, tag)?,
+                comment: tag.name.remark.text.clone()?,
             },
             place: tag.name.place,
         })

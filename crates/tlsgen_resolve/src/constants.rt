@@ -245,6 +245,7 @@ pub fn fixed_body(alloc: Global, fixed: &Fixed) -> Result<Body, Trouble>
         name: variant_name(alloc, words, fixed.type_name.as_str())?,
         constant: constant_name(alloc, words)?,
         number: fixed.number.value,
+        comment: String::new(alloc),
     };
     match values.push(value)? {
         None => Ok(values.into_body(false)),

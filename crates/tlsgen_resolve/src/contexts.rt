@@ -7,7 +7,7 @@ use crate::holders::{Site, giver_of, site_of};
 use crate::items::{find_struct, item_name};
 use crate::naming::{type_name, underscored};
 use crate::refuse::refused;
-use crate::sequence::{IndexedField, Piece, Sequence, find_field_of_name, known};
+use crate::sequence::{IndexedField, Piece, Sequence, known};
 use std::alloc::{AllocError, Global};
 use tlsgen_model::names::{field_name, module_name};
 use tlsgen_model::plan::{Context, Element};
@@ -179,7 +179,7 @@ pub fn context_of<'a>(
                 with_field(alloc, all, sequence, at, field, context)?
             }
             Piece::Length(_) => context,
-            Piece::Select(select, _) => {
+            Piece::Select(select) => {
                 let tag = tag_elsewhere(alloc, files, all, sequence, at, select)?;
                 let context = with_select(alloc, tag, context)?;
                 with_cases(alloc, all, sequence, select, context)?
@@ -302,16 +302,4 @@ fn with_tag<'a>(
 /// The tag of the context that the struct of this name is in.
 pub fn context_of_type<'a>(all: &[Sequence<'a>], name: &str) -> Option<OuterTag<'a>> {
     known(all, name)?.context
-}
-
-/// Whether a select's tag is in a struct with these pieces: where its path begins, or by its one name.
-pub fn has_tag_of(sequence: &Sequence<'_>, select: &Select) -> bool {
-    let Some((head, others)) = select.path.split_first() else {
-        return false;
-    };
-    let name = head.text.as_str();
-    if others.is_empty() {
-        return find_field_of_name(sequence, name).is_some();
-    }
-    name == sequence.name || sequence.has_inlined(name) || sequence.has_field_of_type(name)
 }

@@ -3,7 +3,7 @@
 use crate::contexts::{OuterTag, outer_tag};
 use crate::items::is_single;
 use crate::refuse::refused;
-use crate::sequence::{IndexedField, Key, Piece, Sequence, find_field, is_here, is_own};
+use crate::sequence::{IndexedField, Piece, Sequence, find_field, is_here};
 use std::alloc::{AllocError, Global};
 use tlsgen_syntax::refusal::Trouble;
 use tlsgen_syntax::syntax::{Field, File, Name, Select};
@@ -34,11 +34,11 @@ pub fn site_of<'a>(
     sequence: &Sequence<'a>,
     at: usize,
 ) -> Result<Site<'a>, Trouble> {
-    let Some(Piece::Select(select, owner)) = sequence.pieces.get(at) else {
+    let Some(Piece::Select(select)) = sequence.pieces.get(at) else {
         return Ok(Site::Here);
     };
-    if is_here(sequence, &Piece::Select(select, owner)) {
-        return site_on_path(alloc, sequence, select, owner, at);
+    if is_here(sequence, select) {
+        return site_on_path(alloc, sequence, select, at);
     }
     let tag = outer_tag(alloc, files, select)?;
     match giver_of(alloc, all, sequence, at, &tag)? {
@@ -47,18 +47,17 @@ pub fn site_of<'a>(
     }
 }
 
-// The site of a tag whose path begins here: a field that it goes through, unless the parts of that stand here.
+// The site of a tag whose path begins here: a field that it goes through, if it does.
 fn site_on_path<'a>(
     alloc: Global,
     sequence: &Sequence<'a>,
     select: &Select,
-    owner: &str,
     at: usize,
 ) -> Result<Site<'a>, Trouble> {
-    let Some(word) = first_kept(sequence, select, owner) else {
+    let Some(word) = first_within(select) else {
         return Ok(Site::Here);
     };
-    match find_field(sequence, Key::Name(word.text.as_str())) {
+    match find_field(sequence, word.text.as_str()) {
         Some(giver) if giver.index < at && is_giver(giver.field) => Ok(Site::Before(giver)),
         Some(_) => Err(refused(
             alloc,
@@ -70,21 +69,10 @@ fn site_on_path<'a>(
     }
 }
 
-// The first word within a path that is no inlined field.
-fn first_kept<'b>(sequence: &Sequence<'_>, select: &'b Select, owner: &str) -> Option<&'b Name> {
+// The word of a path behind the struct's name, if it isn't the tag.
+fn first_within(select: &Select) -> Option<&Name> {
     let (_, words) = select.path.split_last()?;
-    let (first, inner) = words.split_first()?;
-    if !is_own(sequence, owner, first.text.as_str()) && !sequence.has_inlined(first.text.as_str()) {
-        return None;
-    }
-    inner.iter().find(|word| !has_inlined_field(sequence, word))
-}
-
-fn has_inlined_field(sequence: &Sequence<'_>, word: &Name) -> bool {
-    sequence
-        .inlined
-        .iter()
-        .any(|field| field.name.text == word.text)
+    words.get(1)
 }
 
 fn is_giver(field: &Field) -> bool {

@@ -45,6 +45,7 @@ pub fn copy(resolved: &ResolvedMember) -> Result<ResolvedMember, AllocError> {
             decided: copy_decided(&resolved.member.decided)?,
             present_for: copy_numbers(&resolved.member.present_for)?,
             declared: resolved.member.declared.clone()?,
+            comment: resolved.member.comment.clone()?,
         },
         place: resolved.place,
     })

@@ -2,11 +2,12 @@
 use crate::checks::type_module;
 use crate::items::integer_width;
 use crate::resolver::Resolver;
+use crate::sequence::Sequence;
 use std::alloc::{AllocError, Global};
 use tlsgen_model::names::{module_name, variant_name};
 use tlsgen_model::words::{is_module_word, is_type_word};
 use tlsgen_syntax::refusal::Trouble;
-use tlsgen_syntax::syntax::{Field, Name};
+use tlsgen_syntax::syntax::{Field, Name, Remark};
 
 impl<'a> Resolver<'a> {
     /// The name of a tag's message: the one that is given, or that of the tag's type with `Data`, after the name of
@@ -18,8 +19,8 @@ impl<'a> Resolver<'a> {
         given: Option<&Name>,
     ) -> Result<String, Trouble> {
         match given {
-            Some(name) if !is_of_field(name) => self.free_name(name),
-            _ => {
+            Some(name) => self.free_name(name),
+            None => {
                 let base = base_name(self.alloc, tag)?;
                 self.derived_name(of, base.as_str(), &tag.name)
             }
@@ -104,9 +105,41 @@ pub fn underscored(alloc: Global, text: &str) -> Result<String, AllocError> {
         .collect(alloc)
 }
 
+/// What the doc comment says of a definition that is shown so: its section, and the comments on it.
+pub fn definition_doc(alloc: Global, shown: &str, remark: &Remark) -> Result<String, AllocError> {
+    let section = section_doc(alloc, remark)?;
+    let mut doc = format!(in alloc; "`{shown}`{section}.")?;
+    push_comment(&mut doc, remark)?;
+    Ok(doc)
+}
+
+/// The section of a definition in parentheses, behind a blank, or nothing.
+pub fn section_doc(alloc: Global, remark: &Remark) -> Result<String, AllocError> {
+    let section = remark.section.as_str();
+    if section.is_empty() {
+        return Ok(String::new(alloc));
+    }
+    format!(in alloc; " ({section})")
+}
+
+/// Adds what comments say of a definition, as a paragraph of its own.
+pub fn push_comment(doc: &mut String, remark: &Remark) -> Result<(), AllocError> {
+    if remark.text.is_empty() {
+        return Ok(());
+    }
+    doc.push_str("\n\n")?;
+    doc.push_str(remark.text.as_str())
+}
+
 /// What the doc comment says of a tag and its selects.
-pub fn choice_doc(alloc: Global, tag: &Field, of: &str) -> Result<String, AllocError> {
+pub fn choice_doc(
+    alloc: Global,
+    tag: &Field,
+    sequence: &Sequence<'_>,
+) -> Result<String, AllocError> {
     let of_tag = tag.of.text.as_str();
     let name = tag.name.text.as_str();
-    format!(in alloc; "`{of_tag} {name}` of `{of}`, and what comes after each.")
+    let of = sequence.name;
+    let section = section_doc(alloc, sequence.remark)?;
+    format!(in alloc; "`{of_tag} {name}` of `{of}`{section}, and what comes after each.")
 }

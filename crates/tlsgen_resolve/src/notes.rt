@@ -1,5 +1,6 @@
 //! What the notes beside a text say: a length, a size or a tag that the RFC's prose gives.
 use crate::counted::{is_length, path_of_array};
+use crate::naming::is_of_field;
 use crate::refuse::refused;
 use crate::resolver::Resolver;
 use std::alloc::Global;
@@ -36,13 +37,17 @@ fn are_same(own: &[Name], path: &[Name]) -> bool {
 fn said_of<'a>(files: &'a [File], of: &Name, name: &Name) -> Option<&'a Said> {
     notes_of(files)
         .iter()
-        .find(|note| is_of(&note.path, of, name))
+        .find(|note| is_of(&note.path, of, name) && !matches!(note.said, Said::Called(_)))
         .map(|note| &note.said)
 }
 
 fn is_of(path: &[Name], of: &Name, name: &Name) -> bool {
+    is_of_names(path, of.text.as_str(), name)
+}
+
+fn is_of_names(path: &[Name], of: &str, name: &Name) -> bool {
     match path {
-        [first, second] => first.text == of.text && second.text == name.text,
+        [first, second] => first.text.as_str() == of && second.text == name.text,
         _ => false,
     }
 }
@@ -72,6 +77,36 @@ pub fn filling_field<'a>(files: &[File], one: &'a Struct) -> Option<&'a Field> {
     } else {
         None
     }
+}
+
+/// The field of zeros at the end of a struct, if it has one.
+pub fn padding_of<'a>(files: &[File], one: &'a Struct) -> Option<&'a Field> {
+    match one.parts.last() {
+        Some(Part::Field(field)) if pads(files, one, field) => Some(field),
+        _ => None,
+    }
+}
+
+/// Whether a field of a struct is zeros up to the end of what is read.
+pub fn pads(files: &[File], one: &Struct, field: &Field) -> bool {
+    matches!(said_of(files, &one.name, &field.name), Some(Said::Pads))
+        && matches!(field.of.text.as_str(), "opaque" | "uint8" | "uint8_t")
+        && path_of_array(field).is_some()
+}
+
+/// The name that a note gives a select of a struct: of its field, with a small letter, or of its type.
+pub fn name_of_select<'a>(
+    files: &'a [File],
+    of: &str,
+    select: &Select,
+    is_field: bool,
+) -> Option<&'a Name> {
+    let tag = select.path.last()?;
+    notes_of(files).iter().find_map(|note| match &note.said {
+        Said::Called(name) if is_of_names(&note.path, of, tag) && is_of_field(name) == is_field =>
+            Some(name),
+        _ => None,
+    })
 }
 
 /// The only case of a select whose tag is elsewhere and always has one value.
@@ -107,7 +142,7 @@ impl<'a> Resolver<'a> {
     fn unused(&self, file: &File, note: &Note) -> Option<&'static str> {
         let is_used = match &note.said {
             Said::Number(_) => has_array(file, &note.path) || has_value(file, &note.path),
-            Said::Open | Said::Flat | Said::Lent | Said::LeftOut => true,
+            Said::Open | Said::Closed | Said::Lent | Said::LeftOut => true,
             said => file.items.iter().any(|item| match item {
                 Item::Struct(one) => self.is_said_of(one, note, said),
                 _ => false,
@@ -125,6 +160,18 @@ impl<'a> Resolver<'a> {
             (Part::Field(field), Said::Fills) => {
                 is_of(&note.path, &one.name, &field.name)
                     && filling_field(self.files, one).is_some()
+            }
+            (Part::Field(field), Said::Pads) => {
+                is_of(&note.path, &one.name, &field.name)
+                    && at.saturating_add(1) == one.parts.len()
+                    && pads(self.files, one, field)
+            }
+            (Part::Select(select), Said::Called(_)) => {
+                select.name.is_none()
+                    && select
+                        .path
+                        .last()
+                        .is_some_and(|tag| is_of(&note.path, &one.name, tag))
             }
             (Part::Select(select), Said::Named(_)) => {
                 is_of_select(&note.path, &one.name, select)
@@ -150,7 +197,13 @@ fn expected(said: &Said) -> Option<&'static str> {
         Said::Fills => Some(
             "a struct of this text and its only field, as `opaque verify_data[Hash.length]`",
         ),
-        Said::Open | Said::Flat | Said::Lent | Said::LeftOut => None,
+        Said::Pads => Some(
+            "a struct of this text and its last field, as `opaque padding[length_of_padding]`",
+        ),
+        Said::Called(_) => Some(
+            "a struct of this text and the tag of a select in it that has no name",
+        ),
+        Said::Open | Said::Closed | Said::Lent | Said::LeftOut => None,
     }
 }
 

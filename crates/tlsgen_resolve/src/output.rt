@@ -7,21 +7,11 @@ use tlsgen_model::messages::Messages;
 use tlsgen_model::plan::{Alias, Element, Holder, Message, Other, Plan};
 use tlsgen_syntax::refusal::{Place, Trouble};
 
-/// A message that was made for a tag with one select.
-#[derive(Drop)]
-struct Choice {
-    tag: Place,
-    select: Place,
-    is_lent: bool,
-    name: String,
-}
-
 /// The messages and aliases that are made, and what is kept while they are.
 #[derive(Drop)]
 pub struct Output {
     messages: Messages,
     pub aliases: Vec<Alias>,
-    choices: Vec<Choice>,
     /// The messages that hold a tag, of all crates.
     pub holders: Vec<Holder>,
     /// The types of tags, which are no members of their own.
@@ -39,7 +29,6 @@ impl Output {
         Output {
             messages: Messages::new(alloc),
             aliases: Vec::new(alloc),
-            choices: Vec::new(alloc),
             holders: Vec::new(alloc),
             tags: Vec::new(alloc),
             constants: Vec::new(alloc),
@@ -98,41 +87,6 @@ impl Output {
                 "a name that no type has",
             )),
         }
-    }
-
-    /// Keeps the name of a message that was made for a tag with one select.
-    pub fn keep_choice(
-        &mut self,
-        tag: Place,
-        select: Place,
-        is_lent: bool,
-        name: String,
-    ) -> Result<(), AllocError> {
-        self.choices.push(Choice {
-            tag,
-            select,
-            is_lent,
-            name,
-        })?;
-        Ok(())
-    }
-
-    /// The name that was kept for a tag and a select. A lent message may also take that of a lent one, if there is no other.
-    pub fn choice(&self, tag: Place, select: Place, is_lent: bool) -> Option<&String> {
-        match self.kept(tag, select, false) {
-            Some(name) => Some(name),
-            None if is_lent => self.kept(tag, select, true),
-            None => None,
-        }
-    }
-
-    fn kept(&self, tag: Place, select: Place, is_lent: bool) -> Option<&String> {
-        for one in &self.choices {
-            if is_same(one.tag, tag) && is_same(one.select, select) && one.is_lent == is_lent {
-                return Some(&one.name);
-            }
-        }
-        None
     }
 
     /// Leaves enums of these names out of what is written.

@@ -1,13 +1,13 @@
 //! The parts of a struct as pieces: a number with what it counts is one, and of a select that always has one case its
 //! fields are.
 use crate::counted::length_before;
-use crate::notes::{counts_select, filling_field, settled_case};
+use crate::notes::{counts_select, filling_field, padding_of, pads, settled_case};
 use crate::sequence::{MOST_PIECES, Piece, Sequence, refused_size};
 use std::alloc::{AllocError, Global};
 use tlsgen_syntax::refusal::Trouble;
 use tlsgen_syntax::syntax::{Field, File, Part, Select, Struct};
 
-/// The pieces of a struct, before any field is inlined.
+/// The pieces of a struct.
 pub fn own_pieces<'a>(
     alloc: Global,
     files: &'a [File],
@@ -20,6 +20,7 @@ pub fn own_pieces<'a>(
     }
     for (at, part) in one.parts.iter().enumerate() {
         match part {
+            Part::Field(field) if pads(files, one, field) => {}
             Part::Field(field) => push_field(files, one, at, field, &mut pieces)?,
             Part::Select(select) => push_select(files, one, select, &mut pieces)?,
         }
@@ -27,14 +28,12 @@ pub fn own_pieces<'a>(
     Ok(Sequence {
         name,
         place: one.name.place,
+        remark: &one.name.remark,
         is_lent: one.is_lent,
-        is_flat: one.is_flat,
         pieces,
-        inlined: Vec::new(alloc),
-        is_whole: false,
         context: None,
-        is_written: false,
         is_filling: filling_field(files, one).is_some(),
+        padding: padding_of(files, one),
     })
 }
 
@@ -65,7 +64,7 @@ fn push_select<'a>(
     pieces: &mut Vec<Piece<'a>>,
 ) -> Result<(), AllocError> {
     let Some(case) = settled_case(files, one, select) else {
-        pieces.push(Piece::Select(select, one.name.text.as_str()))?;
+        pieces.push(Piece::Select(select))?;
         return Ok(());
     };
     for field in &case.fields {

@@ -3,7 +3,7 @@ ghost use Rattle.std.specs.Prelude.{IfOk};
 ghost use Rattle.tlsgen_model.specs.Writable.{AreWritable, HaveModules};
 
 use crate::checks::enum_body;
-use crate::naming::type_name;
+use crate::naming::{definition_doc, type_name};
 use crate::order::order_of;
 use crate::others::{check_alone, others_of, tags_alone};
 use crate::refuse::refused;
@@ -13,7 +13,7 @@ use crate::types::{declared, type_of};
 use std::alloc::Global;
 use tlsgen_model::plan::{Alias, Plan};
 use tlsgen_syntax::refusal::Trouble;
-use tlsgen_syntax::syntax::{Enum, Field, File, Item, Name};
+use tlsgen_syntax::syntax::{Enum, Field, File, Item};
 
 // A short text may put a struct's parts in many places.
 const MOST: usize = 100_000;
@@ -35,7 +35,7 @@ pub struct Fault {
 /// or a number twice; a word of Rust or of the definitions as a type's name; a number of more bytes than its enum's;
 /// a vector, bounds or a constant that aren't kept; a select on a tag that isn't in the same bytes, a case that its
 /// enum lacks; more fields than can be written in a row; an enum of another crate that isn't
-/// written there, since it is a tag alone; a lent struct in one that isn't, unless it is inlined.
+/// written there, since it is a tag alone; a lent struct in one that isn't.
 ///
 /// In what is made, each struct has at most 27 fields and each case at most 18, with names that differ; the numbers of
 /// an enum and of the cases of a tag differ, and have the bytes of the enum or the tag: 1, 2, 4 or 8.
@@ -88,7 +88,7 @@ impl<'a> Resolver<'a> {
                 self.resolve_item(item)?;
             }
         }
-        self.check_inlined()?;
+        self.check_filling()?;
         let alone = tags_alone(self.alloc, &self.out)?;
         self.out.leave_out(alone)?;
         check_alone(self.alloc, file, &self.out)
@@ -104,8 +104,9 @@ impl<'a> Resolver<'a> {
 
     fn resolve_enum(&mut self, one: &Enum) -> Result<(), Trouble> {
         let body = enum_body(self.alloc, one)?;
-        let message = self.defined_message(one.name.text.as_str(), body)?;
-        self.push(one.name.place, message)
+        let name = &one.name;
+        let message = self.defined_message(name.text.as_str(), &name.remark, body)?;
+        self.push(name.place, message)
     }
 
     fn resolve_alias(&mut self, field: &Field) -> Result<(), Trouble> {
@@ -115,17 +116,18 @@ impl<'a> Resolver<'a> {
                 "a struct whose selects have their tags in it",
             ));
         }
+        let declared = declared(self.alloc, field)?;
         self.out.aliases.push(Alias {
             name: type_name(self.alloc, field.name.text.as_str())?,
             of: type_of(self.alloc, self.files, field)?,
             home: self.out.home,
-            declared: declared(self.alloc, field)?,
+            doc: definition_doc(self.alloc, declared.as_str(), &field.name.remark)?,
         })?;
         Ok(())
     }
 
-    // Rejects a struct that has a select whose tag is in another struct, and that is a field of none that has the tag.
-    fn check_inlined(&self) -> Result<(), Trouble> {
+    // Rejects a struct that fills what is left of a length, and is no case behind one.
+    fn check_filling(&self) -> Result<(), Trouble> {
         for one in &self.known {
             if one.is_filling && !self.known.iter().any(|other| is_filled(other, one.name)) {
                 return Err(refused(
@@ -134,12 +136,6 @@ impl<'a> Resolver<'a> {
                     one.name,
                     "a struct that is all of a case whose length counts the rest: a note says that it fills what is left",
                 ));
-            }
-            if !one.is_written
-                && !one.is_filling
-                && !self.known.iter().any(|other| inlines(other, one.name))
-            {
-                return Err(refused_tag(self.alloc, one));
             }
         }
         Ok(())
@@ -157,45 +153,10 @@ fn is_filled(sequence: &Sequence<'_>, name: &str) -> bool {
 
 fn has_case_of(piece: &Piece<'_>, name: &str) -> bool {
     match piece {
-        Piece::Select(select, _) => select.cases.iter().any(|case| case
+        Piece::Select(select) => select.cases.iter().any(|case| case
             .fields
             .iter()
             .any(|field| field.of.text.as_str() == name)),
         _ => false,
     }
-}
-
-fn inlines(sequence: &Sequence<'_>, name: &str) -> bool {
-    sequence
-        .inlined
-        .iter()
-        .any(|field| field.of.text.as_str() == name)
-}
-
-fn refused_tag(alloc: Global, sequence: &Sequence<'_>) -> Trouble {
-    match sequence
-        .pieces
-        .iter()
-        .find_map(|piece| outer_struct(sequence, piece))
-    {
-        Some(name) => refused(
-            alloc,
-            name.place,
-            name.text.as_str(),
-            "a tag in the same bytes, before the select: this struct has no field of that type, and no struct that has this one as a field has one",
-        ),
-        None => Trouble::Memory,
-    }
-}
-
-// The name of another struct at the head of a select's path.
-fn outer_struct<'a>(sequence: &Sequence<'_>, piece: &Piece<'a>) -> Option<&'a Name> {
-    let Piece::Select(select, _) = piece else {
-        return None;
-    };
-    let (first, others) = select.path.split_first()?;
-    if others.is_empty() || first.text.as_str() == sequence.name {
-        return None;
-    }
-    Some(first)
 }

@@ -3,9 +3,10 @@
 use crate::cases::{Labelled, cases_of, find_case};
 use crate::checks::named;
 use crate::contexts::OuterTag;
-use crate::members::ResolvedMember;
-use crate::naming::is_of_field;
+use crate::given::given_to;
+use crate::members::{ResolvedMember, copy_decided};
 use crate::resolver::Resolver;
+use crate::sequence::Sequence;
 use crate::types::declared;
 use std::alloc::{AllocError, Global};
 use tlsgen_model::names::field_name;
@@ -18,11 +19,16 @@ impl<'a> Resolver<'a> {
     /// has a case.
     pub fn present_member(
         &mut self,
+        sequence: &Sequence<'a>,
         tag: &OuterTag<'a>,
         select: &'a Select,
         decided: &Decided,
     ) -> Result<Option<ResolvedMember>, Trouble> {
-        let Some(field) = only_field(self.alloc, tag, select)? else {
+        let given = given_to(self.files, sequence.name, select);
+        if given.of_type.is_some() {
+            return Ok(None);
+        }
+        let Some(field) = only_field(self.alloc, select)? else {
             return Ok(None);
         };
         let cases = cases_of(self.alloc, tag.tag, select, &mut self.budget)?;
@@ -33,25 +39,18 @@ impl<'a> Resolver<'a> {
         if !matches!(member.member.decided, Decided::Alone) {
             return Ok(None);
         }
-        if let Some(name) = select.name.as_ref().filter(|name| is_of_field(*name)) {
+        if let Some(name) = given.of_field {
             member.member.name = field_name(self.alloc, name.text.as_str())?;
         }
         member.member.declared = declared_for(self.alloc, select, field)?;
-        member.member.decided = crate::members::copy_decided(decided)?;
+        member.member.decided = copy_decided(decided)?;
         member.member.present_for = Some(numbers_of(self.alloc, &cases)?);
         Ok(Some(member))
     }
 }
 
 // The field that each case is which isn't empty. None if two differ, or if no case is empty, or none isn't.
-fn only_field<'a>(
-    alloc: Global,
-    tag: &OuterTag<'a>,
-    select: &'a Select,
-) -> Result<Option<&'a Field>, AllocError> {
-    if select.name.as_ref().is_some_and(|name| !is_of_field(name)) {
-        return Ok(None);
-    }
+fn only_field<'a>(alloc: Global, select: &'a Select) -> Result<Option<&'a Field>, AllocError> {
     let mut only = None;
     let mut is_empty = false;
     for case in &select.cases {

@@ -8,7 +8,7 @@ use crate::counted::counted_type;
 use crate::held::{PlacedTag, member_name};
 use crate::items::{MOST_ITEMS, item_name};
 use crate::members::ResolvedMember;
-use crate::naming::type_name;
+use crate::naming::{definition_doc, type_name};
 use crate::output::Output;
 use crate::refuse::{Budget, refused};
 use crate::sequence::{Sequence, known, needs_outer_tag};
@@ -17,7 +17,7 @@ use std::alloc::{AllocError, Global};
 use tlsgen_model::names::module_name;
 use tlsgen_model::plan::{Body, Decided, Member, Message, Type};
 use tlsgen_syntax::refusal::{Place, Trouble};
-use tlsgen_syntax::syntax::{Field, File, Name};
+use tlsgen_syntax::syntax::{Field, File, Name, Remark};
 
 /// Resolves files, one crate after another, and in each the items after those that they contain.
 #[derive(Drop)]
@@ -146,13 +146,13 @@ impl<'a> Resolver<'a> {
                 "no struct that fills what is left, but as all of a case whose length counts the rest",
             ));
         }
+        if one.padding.is_some() {
+            return Ok(Some(
+                "no struct that zeros follow up to the end: it is read of all that there is, as `Padded`",
+            ));
+        }
         if one.context.is_none() {
             return Ok(None);
-        }
-        if !one.is_written {
-            return Ok(Some(
-                "a struct whose selects have their tags in it: this one's parts stand only in a struct's place",
-            ));
         }
         if self.is_elsewhere(one.name)? {
             return Ok(Some("no type of another crate that is in the context of a tag elsewhere"));
@@ -184,17 +184,23 @@ impl<'a> Resolver<'a> {
                 decided,
                 present_for: None,
                 declared: declared(self.alloc, field)?,
+                comment: field.name.remark.text.clone()?,
             },
             place: field.name.place,
         })
     }
 
     /// The message of a definition, by its name in the text, without references.
-    pub fn defined_message(&self, name: &str, body: Body) -> Result<Message, AllocError>
+    pub fn defined_message(
+        &self,
+        name: &str,
+        remark: &Remark,
+        body: Body,
+    ) -> Result<Message, AllocError>
         requires { IsWritable body }
         ensures { IfOk result (λ message. IsWritable message.body) }
     {
-        let doc = format!(in self.alloc; "`{name}`.")?;
+        let doc = definition_doc(self.alloc, name, remark)?;
         self.message(type_name(self.alloc, name)?, doc, body)
     }
 

@@ -1,10 +1,11 @@
 //! The pieces of a struct that follow a field, resolved, from the last to the first.
 use crate::cases::{Labelled, has_case};
+use crate::given::{Given, joined};
 use crate::members::ResolvedMember;
 use crate::refuse::refused;
 use std::alloc::Global;
 use tlsgen_syntax::refusal::{Place, Trouble};
-use tlsgen_syntax::syntax::{Field, Name};
+use tlsgen_syntax::syntax::Field;
 
 /// A piece of a struct: the member that a field becomes, or a select with its cases.
 #[derive(Drop)]
@@ -20,24 +21,13 @@ pub enum ResolvedPiece<'a> {
 pub struct ResolvedSelect<'a> {
     pub tag: usize,
     pub cases: Vec<Labelled<'a>>,
-    /// It is written in this struct, and not in one of an inlined field.
-    pub is_own: bool,
-    /// The name that is given to its enum in this struct.
-    pub name: Option<&'a Name>,
+    pub given: Given<'a>,
     pub place: Place,
 }
 
 /// Whether a piece is a select on the tag at a position.
 pub fn is_on(piece: &ResolvedPiece<'_>, tag: usize) -> bool {
     select_of(piece).is_some_and(|select| select.tag == tag)
-}
-
-/// The select of a tag that nothing else follows.
-pub fn only_select<'b, 'a>(segment: &'b [ResolvedPiece<'a>]) -> Option<&'b ResolvedSelect<'a>> {
-    match segment {
-        [piece] => select_of(piece),
-        _ => None,
-    }
 }
 
 /// The select nearest to its tag.
@@ -130,36 +120,16 @@ pub fn refused_crossing(alloc: Global, place: Place) -> Trouble {
     )
 }
 
-/// The name that the selects give to the enum of their tag. Rejects two that differ.
-pub fn given_name<'a>(
-    alloc: Global,
-    segment: &[ResolvedPiece<'a>],
-) -> Result<Option<&'a Name>, Trouble> {
-    let mut given = None;
+/// The names that the selects on a tag have. Rejects two that differ.
+pub fn names_given<'a>(alloc: Global, segment: &[ResolvedPiece<'a>]) -> Result<Given<'a>, Trouble> {
+    let mut given = Given {
+        of_type: None,
+        of_field: None,
+    };
     for piece in segment {
         if let ResolvedPiece::Select(select) = piece {
-            given = one_name(alloc, given, select.name)?;
+            given = joined(alloc, given, select.given)?;
         }
     }
     Ok(given)
-}
-
-// The name that is given, or the next one. Rejects two that differ.
-fn one_name<'a>(
-    alloc: Global,
-    given: Option<&'a Name>,
-    next: Option<&'a Name>,
-) -> Result<Option<&'a Name>, Trouble> {
-    let Some(name) = next else {
-        return Ok(given);
-    };
-    match given {
-        Some(other) if other.text != name.text => Err(refused(
-            alloc,
-            name.place,
-            name.text.as_str(),
-            "one name for the selects on a tag",
-        )),
-        _ => Ok(Some(name)),
-    }
 }

@@ -2,7 +2,7 @@
 use crate::cases::{Labelled, tag_of};
 use crate::constants::fixed_tag;
 use crate::members::{ResolvedMember, copy};
-use crate::naming::{is_of_field, underscored};
+use crate::naming::underscored;
 use crate::resolver::Resolver;
 use crate::segment::{
     ResolvedPiece, ResolvedSelect, check_segment, nearest_select, refused_counting,
@@ -66,10 +66,10 @@ impl<'a> Resolver<'a> {
     }
 }
 
-// The name with a small letter behind a select, for a field that is alone and has no name of its own.
+// The name that a select gives its field, where that is alone and has no name of its own.
 fn name_of_only<'a>(select: &ResolvedSelect<'a>, field: &Field, count: usize) -> Option<&'a Name> {
     if count == 1 && !field.is_named {
-        select.name.filter(|name| is_of_field(*name))
+        select.given.of_field
     } else {
         None
     }
@@ -88,6 +88,7 @@ fn fixed_member(alloc: Global, tag: &Field, of: String) -> Result<ResolvedMember
             decided: Decided::Alone,
             present_for: None,
             declared: declared(alloc, tag)?,
+            comment: tag.name.remark.text.clone()?,
         },
         place: tag.name.place,
     })

@@ -7,11 +7,12 @@ use crate::held::{TagPart, part_of};
 use crate::holders::{Site, site_of};
 use crate::lent::lends;
 use crate::members::push_member;
-use crate::naming::{is_of_field, type_name};
+use crate::naming::type_name;
+use crate::padding::push_padding;
 use crate::refuse::refused;
 use crate::resolver::Resolver;
 use crate::segment::{
-    ResolvedPiece, given_name, is_on, only_case, refused_counting, refused_crossing,
+    ResolvedPiece, is_on, names_given, only_case, refused_counting, refused_crossing,
 };
 use crate::sequence::{IndexedField, Piece, Sequence, sequence_of};
 use std::alloc::Global;
@@ -22,13 +23,13 @@ use tlsgen_syntax::refusal::Trouble;
 use tlsgen_syntax::syntax::{Field, Part, Select, Struct};
 
 impl<'a> Resolver<'a> {
-    /// Makes the messages of a struct, and keeps its pieces for structs that inline it.
+    /// Makes the messages of a struct, and keeps its pieces for the structs that have it.
     pub fn resolve_struct(&mut self, one: &'a Struct) -> Result<(), Trouble> {
-        let mut sequence = sequence_of(self.alloc, self.files, &self.known, one)?;
+        let sequence = sequence_of(self.alloc, self.files, &self.known, one)?;
         self.check_lent(&sequence)?;
         self.make_constants(one)?;
-        sequence.is_written = self.is_written(&sequence)?;
-        if sequence.is_written {
+        self.check_lent_context(&sequence)?;
+        if !sequence.is_filling {
             self.make_messages(&sequence)?;
         }
         self.known.push(sequence)?;
@@ -46,7 +47,8 @@ impl<'a> Resolver<'a> {
         self.check_givers(sequence, &tail)?;
         let body = struct_body(self.alloc, sequence, tail)?;
         self.check_runs(sequence, &body)?;
-        let mut message = self.defined_message(sequence.name, body)?;
+        let mut message = self.defined_message(sequence.name, sequence.remark, body)?;
+        push_padding(self.alloc, &mut message.doc, sequence)?;
         message.is_lent = lends(sequence, &message.body);
         if let Some(tag) = &sequence.context {
             message.context = Some(tag.context(self.alloc)?);
@@ -63,9 +65,7 @@ impl<'a> Resolver<'a> {
         tail: &mut Vec<ResolvedPiece<'a>>,
     ) -> Result<bool, Trouble> {
         match piece {
-            Piece::Select(select, owner) => {
-                self.prepend_select(sequence, index, (*select, *owner), tail)
-            }
+            Piece::Select(select) => self.prepend_select(sequence, index, select, tail),
             Piece::Length(length) => {
                 tail.push(ResolvedPiece::Length(length))?;
                 Ok(false)
@@ -87,19 +87,17 @@ impl<'a> Resolver<'a> {
         &mut self,
         sequence: &Sequence<'a>,
         index: usize,
-        (select, owner): (&'a Select, &'a str),
+        select: &'a Select,
         tail: &mut Vec<ResolvedPiece<'a>>,
     ) -> Result<bool, Trouble> {
         match site_of(self.alloc, self.files, &self.known, sequence, index)? {
             Site::Here => {
-                let select = self.resolve_select(sequence, select, owner, index)?;
+                let select = self.resolve_select(sequence, select, index)?;
                 tail.push(ResolvedPiece::Select(select))?;
                 Ok(false)
             }
-            Site::Before(giver) => {
-                self.prepend_sum(sequence, (select, owner), Some(giver.field), tail)
-            }
-            Site::Elsewhere => self.prepend_sum(sequence, (select, owner), None, tail),
+            Site::Before(giver) => { self.prepend_sum(sequence, select, Some(giver.field), tail) }
+            Site::Elsewhere => self.prepend_sum(sequence, select, None, tail),
         }
     }
 
@@ -128,8 +126,8 @@ impl<'a> Resolver<'a> {
             self.place_tag(sequence, at.field, TagPart::Fixed)?;
             return Ok(false);
         }
-        let given = given_name(self.alloc, &segment)?;
-        if at.index == 0 && last == 0 && given.is_none_or(is_of_field) {
+        let given = names_given(self.alloc, &segment)?;
+        if at.index == 0 && last == 0 && given.of_type.is_none() {
             self.make_whole(sequence, at, &segment)?;
             self.place_tag(sequence, at.field, TagPart::Whole)?;
             return Ok(true);

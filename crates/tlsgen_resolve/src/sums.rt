@@ -5,24 +5,25 @@ ghost use Rattle.tlsgen_model.specs.Writable.{IsWritable};
 use crate::cases::{Labelled, cases_of, tag_of};
 use crate::checks::check_letters;
 use crate::contexts::{OuterTag, outer_tag};
+use crate::given::given_to;
 use crate::items::{integer_width, is_single};
 use crate::members::{ResolvedMember, push_member};
-use crate::naming::{is_of_field, type_name, underscored};
+use crate::naming::{push_comment, section_doc, type_name, underscored};
+use crate::padding::push_padding;
 use crate::refuse::refused;
 use crate::resolver::Resolver;
 use crate::segment::{ResolvedPiece, ResolvedSelect, refused_counting, refused_crossing};
-use crate::sequence::{IndexedField, Key, Piece, Sequence, has_key, is_here, known};
+use crate::sequence::{IndexedField, Piece, Sequence, known};
 use tlsgen_model::lists::{CaseList, FieldList};
 use tlsgen_model::names::field_name;
 use tlsgen_model::plan::{Body, Decided, Element, Member, Shape, Type};
-use tlsgen_syntax::refusal::Trouble;
-use tlsgen_syntax::syntax::{Field, File, Item, Part, Select, Struct};
+use tlsgen_syntax::refusal::{Place, Trouble};
+use tlsgen_syntax::syntax::{Field, Name, Select};
 
 impl<'a> Resolver<'a> {
-    /// Whether a struct is a message of its own: all its tags are in it, or it is in a context, and isn't flat in a struct
-    /// that has the tag.
-    pub fn is_written(&self, sequence: &Sequence<'_>) -> Result<bool, Trouble> {
-        if sequence.is_lent && sequence.is_whole && sequence.context.is_some() {
+    /// Rejects a lent struct in a context.
+    pub fn check_lent_context(&self, sequence: &Sequence<'_>) -> Result<(), Trouble> {
+        if sequence.is_lent && sequence.context.is_some() {
             return Err(refused(
                 self.alloc,
                 sequence.place,
@@ -30,14 +31,7 @@ impl<'a> Resolver<'a> {
                 "no lent struct in the context of a tag elsewhere",
             ));
         }
-        let Some(file) = self.files.last() else {
-            return Ok(sequence.is_whole);
-        };
-        if sequence.is_filling {
-            return Ok(false);
-        }
-        let is_inlined = sequence.is_flat && is_inlined_in(file, sequence);
-        Ok(sequence.is_whole || !sequence.is_lent && !is_inlined)
+        Ok(())
     }
 
     /// Makes the message of a select whose tag is elsewhere, or in the field `giver` before it, and puts the member of it
@@ -45,7 +39,7 @@ impl<'a> Resolver<'a> {
     pub fn prepend_sum(
         &mut self,
         sequence: &Sequence<'a>,
-        (select, owner): (&'a Select, &str),
+        select: &'a Select,
         giver: Option<&'a Field>,
         tail: &mut Vec<ResolvedPiece<'a>>,
     ) -> Result<bool, Trouble> {
@@ -57,20 +51,22 @@ impl<'a> Resolver<'a> {
         };
         let is_all = giver.is_none() && sequence.pieces.len() == 1;
         if !is_all {
-            if let Some(member) = self.present_member(&tag, select, &decided)? {
+            if let Some(member) = self.present_member(sequence, &tag, select, &decided)? {
                 tail.push(ResolvedPiece::Member(member))?;
                 return Ok(false);
             }
         }
+        let given = given_to(self.files, sequence.name, select);
         let name = if is_all {
             type_name(self.alloc, sequence.name)?
         } else {
-            self.sum_name(sequence, select, owner, &tag)?
+            self.sum_name(sequence, given.of_type, &tag)?
         };
         let body = self.sum_body(&tag, select, name.as_str())?;
-        self.push_sum(sequence, &tag, name.clone()?, body)?;
+        self.push_sum(sequence, is_all, &tag, name.clone()?, body)?;
         if !is_all {
-            let member = self.sum_member(select, &tag, name, decided)?;
+            let own = given.of_field.unwrap_or(tag.name);
+            let member = self.sum_member(own, select.place, &tag, name, decided)?;
             tail.push(ResolvedPiece::Member(member))?;
         }
         Ok(is_all)
@@ -91,21 +87,20 @@ impl<'a> Resolver<'a> {
         ))
     }
 
-    // The name behind the select, or that of the tag's type with `Data`.
+    // The name of the select, or that of the tag's type with `Data`.
     fn sum_name(
         &self,
         sequence: &Sequence<'a>,
-        select: &Select,
-        owner: &str,
+        given: Option<&Name>,
         tag: &OuterTag<'a>,
     ) -> Result<String, Trouble> {
         let base = match tag.element(self.alloc)? {
             Element::Message(name) => name,
             _ => type_name(self.alloc, tag.name.text.as_str())?,
         };
-        match &select.name {
-            Some(name) if owner == sequence.name && !is_of_field(name) => self.free_name(name),
-            _ => self.derived_name(sequence.name, base.as_str(), tag.name),
+        match given {
+            Some(name) => self.free_name(name),
+            None => self.derived_name(sequence.name, base.as_str(), tag.name),
         }
     }
 
@@ -193,9 +188,11 @@ impl<'a> Resolver<'a> {
         }
     }
 
+    // The message of a select, which is all of its struct or not.
     fn push_sum(
         &mut self,
         sequence: &Sequence<'a>,
+        is_all: bool,
         tag: &OuterTag<'a>,
         name: String,
         body: Body,
@@ -204,26 +201,28 @@ impl<'a> Resolver<'a> {
     {
         let of = sequence.name;
         let by = tag.name.text.as_str();
-        let doc = format!(in self.alloc;
-            "`select ({by})` of `{of}`: no byte of it tells the tag."
+        let section = section_doc(self.alloc, sequence.remark)?;
+        let mut doc = format!(in self.alloc;
+            "`select ({by})` of `{of}`{section}: no byte of it tells the tag."
         )?;
+        if is_all {
+            push_comment(&mut doc, sequence.remark)?;
+            push_padding(self.alloc, &mut doc, sequence)?;
+        }
         let mut message = self.message(name, doc, body)?;
         message.context = Some(tag.context(self.alloc)?);
         self.push(tag.name.place, message)
     }
 
-    // The member is called as the tag, or by a name with a small letter behind the select.
+    // The member of a select, by its name.
     fn sum_member(
         &self,
-        select: &Select,
+        own: &Name,
+        place: Place,
         tag: &OuterTag<'a>,
         name: String,
         decided: Decided,
     ) -> Result<ResolvedMember, Trouble> {
-        let own = match &select.name {
-            Some(given) if is_of_field(given) => given,
-            _ => tag.name,
-        };
         check_letters(self.alloc, own)?;
         let words = underscored(self.alloc, own.text.as_str())?;
         let by = tag.name.text.as_str();
@@ -238,49 +237,9 @@ impl<'a> Resolver<'a> {
                 decided,
                 present_for: None,
                 declared: format!(in self.alloc; "select ({by});")?,
+                comment: own.remark.text.clone()?,
             },
-            place: select.place,
+            place,
         })
     }
-}
-
-// Whether a struct of the file has the parts of this one in its place: it has a field of its type, and its tag.
-fn is_inlined_in(file: &File, sequence: &Sequence<'_>) -> bool {
-    file.items.iter().any(|item| match item {
-        Item::Struct(one) => has_single(one, sequence.name) && has_tags_of(one, sequence),
-        _ => false,
-    })
-}
-
-fn has_single(one: &Struct, name: &str) -> bool {
-    one.parts.iter().any(|part| match part {
-        Part::Field(field) => is_single(field) && field.of.text.as_str() == name,
-        Part::Select(_) => false,
-    })
-}
-
-fn has_field(one: &Struct, key: Key<'_>) -> bool {
-    one.parts.iter().any(|part| match part {
-        Part::Field(field) => has_key(field, key),
-        Part::Select(_) => false,
-    })
-}
-
-// Whether a struct has the tag of a select of this one that is in another struct.
-fn has_tags_of(one: &Struct, sequence: &Sequence<'_>) -> bool {
-    sequence.pieces.iter().any(|piece| match piece {
-        Piece::Select(select, _) if !is_here(sequence, piece) => has_tag(one, select),
-        _ => false,
-    })
-}
-
-fn has_tag(one: &Struct, select: &Select) -> bool {
-    let Some((head, others)) = select.path.split_first() else {
-        return false;
-    };
-    let name = head.text.as_str();
-    if others.is_empty() {
-        return has_field(one, Key::Name(name));
-    }
-    one.name.text.as_str() == name || has_field(one, Key::Type(name))
 }

@@ -1,7 +1,7 @@
 //! Which types fields may have, also those of structs that are no messages of their own.
 use crate::counted::{counted_type, length_before};
 use crate::items::{find_struct, is_single};
-use crate::notes::filling_field;
+use crate::notes::{filling_field, pads};
 use crate::resolver::Resolver;
 use crate::sequence::{Piece, Sequence};
 use crate::types::type_of;
@@ -28,6 +28,7 @@ impl<'a> Resolver<'a> {
         }
         for (at, part) in one.parts.iter().enumerate() {
             match part {
+                Part::Field(field) if pads(self.files, one, field) => {}
                 Part::Field(field) => self.check_part(one, at, field)?,
                 Part::Select(select) => self.check_cases(select, one.is_lent)?,
             }
@@ -35,7 +36,7 @@ impl<'a> Resolver<'a> {
         Ok(())
     }
 
-    // `check_lent` rejects a lent struct that isn't inlined.
+    // `check_lent` rejects a lent struct in one that isn't.
     fn check_part(&self, one: &Struct, at: usize, field: &Field) -> Result<(), Trouble> {
         let Some(length) = length_before(one, at) else {
             return self.check_type(field, true);
@@ -70,7 +71,7 @@ impl<'a> Resolver<'a> {
         Ok(())
     }
 
-    /// Rejects a lent struct as a field of a struct that isn't lent, also as a field of an inlined one.
+    /// Rejects a lent struct as a field of a struct that isn't lent.
     pub fn check_lent(&self, sequence: &Sequence<'_>) -> Result<(), Trouble> {
         if sequence.is_lent {
             return Ok(());
@@ -81,7 +82,7 @@ impl<'a> Resolver<'a> {
                     return Err(self.refused_lent(field));
                 }
                 Piece::Field(_) | Piece::Counted(..) | Piece::Length(_) => {}
-                Piece::Select(select, _) => self.check_cases(select, false)?,
+                Piece::Select(select) => self.check_cases(select, false)?,
             }
         }
         Ok(())

@@ -1,5 +1,5 @@
--- Where a comment ends.
-use Rattle.std.specs.Prelude.{◌≡◌, ◌+◌, ◌<◌, ℕ, List, get_or, length}
+-- Where a comment ends, and what it is between its marks.
+use Rattle.std.specs.Prelude.{◌≡◌, ◌+◌, ◌++◌, ◌<◌, ℕ, List, Bool, true, false, codes, get_or, length}
 
 -- `*/` begins at this place
 abbrev pub EndsAt : List ℕ → ℕ → Type 0
@@ -12,3 +12,8 @@ GoesOn bytes end = (at : ℕ) → at < end → EndsAt bytes at → ⊥
 -- so many bytes are those up to the first `*/` and with it
 abbrev pub IsComment : List ℕ → ℕ → Type 0
 IsComment bytes len = (at : ℕ) × (len ≡ at + 2) × GoesOn bytes at × EndsAt bytes at
+
+-- a comment that ends with its line or not, with its marks
+abbrev pub marked : Bool → List ℕ → List ℕ
+marked true text = codes "//" ++ text
+marked false text = codes "/*" ++ text ++ codes "*/"

@@ -31,12 +31,20 @@ use Rattle.tlsgen_syntax.specs.declared.syntax.Said.TheVariants as saids
 use Rattle.tlsgen_syntax.specs.declared.source.Source.{Source}
 use Rattle.tlsgen_syntax.specs.declared.source.Definition.{Definition}
 use Rattle.tlsgen_syntax.specs.declared.source.Definition.TheVariants as definitions
+use Rattle.tlsgen_syntax.specs.declared.source.SourceEnum.{SourceEnum}
+use Rattle.tlsgen_syntax.specs.declared.source.Numbers.{Numbers}
+use Rattle.tlsgen_syntax.specs.declared.source.SourceValue.{SourceValue}
+use Rattle.tlsgen_syntax.specs.declared.source.ValueName.{ValueName}
+use Rattle.tlsgen_syntax.specs.declared.source.ValueName.TheVariants as value_names
 use Rattle.tlsgen_syntax.specs.declared.source.SourceStruct.{SourceStruct}
 use Rattle.tlsgen_syntax.specs.declared.source.StructKind.{StructKind}
 use Rattle.tlsgen_syntax.specs.declared.source.StructKind.TheVariants as struct_kinds
 use Rattle.tlsgen_syntax.specs.declared.source.SourcePart.{SourcePart}
 use Rattle.tlsgen_syntax.specs.declared.source.SourcePart.TheVariants as source_parts
 use Rattle.tlsgen_syntax.specs.declared.source.Signed.{Signed}
+use Rattle.tlsgen_syntax.specs.declared.source.InPlace.{InPlace}
+use Rattle.tlsgen_syntax.specs.declared.source.TypeInPlace.{TypeInPlace}
+use Rattle.tlsgen_syntax.specs.declared.source.TypeInPlace.TheVariants as types_in_place
 
 -- how a mark is written
 abbrev pub mark_text : Mark → List ℕ
@@ -220,6 +228,43 @@ abbrev pub part_then : Part → List Sign → List Sign
 part_then (parts.Field f) rest = field_then f rest
 part_then (parts.Select s) rest = select_then s rest
 
+-- ---- what is written
+
+-- [NAME | NUMBER]
+abbrev pub value_name_then : Option ValueName → List Sign → List Sign
+value_name_then None rest = rest
+value_name_then (Some (value_names.Word name)) rest = name_then name rest
+value_name_then (Some (value_names.Number n)) rest = number_then n rest
+
+-- [NAME | NUMBER] ( NUMBER [ .. NUMBER ] )
+abbrev pub source_value_then : SourceValue → List Sign → List Sign
+source_value_then value rest =
+    value_name_then value.name
+    (mark marks.OpeningParenthesis ∷
+    number_then value.number (range_end_then value.last (mark marks.ClosingParenthesis ∷ rest)))
+
+-- [open] enum { values }
+abbrev pub numbers_then : Numbers → List Sign → List Sign
+numbers_then numbers rest =
+    flag_then marks.Open numbers.is_open
+    (mark marks.Enum ∷ mark marks.OpeningBrace ∷
+    separated_then marks.Comma source_value_then numbers.values.items (mark marks.ClosingBrace ∷ rest))
+
+-- [open] enum { values } NAME ;
+abbrev pub source_enum_then : SourceEnum → List Sign → List Sign
+source_enum_then e rest = numbers_then e.numbers (name_then e.name (mark marks.Semicolon ∷ rest))
+
+-- [open] enum { values } or struct { parts }
+abbrev pub type_in_place_then : TypeInPlace → List Sign → List Sign
+type_in_place_then (types_in_place.Enum numbers) rest = numbers_then numbers rest
+type_in_place_then (types_in_place.Struct ps) rest =
+    mark marks.Struct ∷ mark marks.OpeningBrace ∷ each_then part_then ps.items (mark marks.ClosingBrace ∷ rest)
+
+-- type NAME vector ;
+abbrev pub in_place_then : InPlace → List Sign → List Sign
+in_place_then f rest =
+    type_in_place_then f.of (name_then f.name (vector_then f.vector (mark marks.Semicolon ∷ rest)))
+
 -- digitally-signed struct { parts } [NAME] ;
 abbrev pub signed_then : Signed → List Sign → List Sign
 signed_then s rest =
@@ -230,6 +275,7 @@ signed_then s rest =
 abbrev pub source_part_then : SourcePart → List Sign → List Sign
 source_part_then (source_parts.Sent p) rest = part_then p rest
 source_part_then (source_parts.Signed s) rest = signed_then s rest
+source_part_then (source_parts.InPlace f) rest = in_place_then f rest
 
 -- [lent | digitally-signed]
 abbrev pub kind_then : StructKind → List Sign → List Sign
@@ -237,7 +283,7 @@ kind_then struct_kinds.Sent rest = rest
 kind_then struct_kinds.Lent rest = mark marks.Lent ∷ rest
 kind_then struct_kinds.Signed rest = mark marks.DigitallySigned ∷ rest
 
--- [lent | digitally-signed] struct { parts and signatures } NAME ;
+-- [lent | digitally-signed] struct { parts, signatures and types in place } NAME ;
 abbrev pub source_struct_then : SourceStruct → List Sign → List Sign
 source_struct_then s rest =
     kind_then s.kind
@@ -246,7 +292,7 @@ source_struct_then s rest =
     (mark marks.ClosingBrace ∷ name_then s.name (mark marks.Semicolon ∷ rest)))
 
 abbrev pub definition_then : Definition → List Sign → List Sign
-definition_then (definitions.Enum e) rest = enum_then e rest
+definition_then (definitions.Enum e) rest = source_enum_then e rest
 definition_then (definitions.Struct s) rest = source_struct_then s rest
 definition_then (definitions.Alias f) rest = field_then f rest
 
@@ -254,7 +300,7 @@ definition_then (definitions.Alias f) rest = field_then f rest
 abbrev pub source_signs : Source → List Sign
 source_signs source = each_then definition_then source.definitions.items []
 
--- ---- what is signed apart
+-- ---- what is signed and types in place apart
 
 -- [lent] struct { parts } NAME ;
 abbrev pub struct_then : Struct → List Sign → List Sign
@@ -275,15 +321,17 @@ file_signs file = each_then item_then file.items.items []
 
 -- ---- notes
 
--- = NUMBER, = NAME, counts rest, fills rest, is open, flat or lent, or left out
+-- = NUMBER, = NAME, counts rest, fills rest, fills rest with zeros, called NAME, is open, closed or lent, or left out
 abbrev pub said_then : Said → List Sign → List Sign
 said_then (saids.Number n) rest = mark marks.Equals ∷ number_then n rest
 said_then (saids.Named name) rest = mark marks.Equals ∷ name_then name rest
 said_then saids.Counts rest = word (codes "counts") ∷ word (codes "rest") ∷ rest
 said_then saids.Fills rest = word (codes "fills") ∷ word (codes "rest") ∷ rest
+said_then saids.Pads rest = word (codes "fills") ∷ word (codes "rest") ∷ word (codes "with") ∷ word (codes "zeros") ∷ rest
+said_then (saids.Called name) rest = word (codes "called") ∷ name_then name rest
 said_then saids.Open rest = word (codes "is") ∷ mark marks.Open ∷ rest
 said_then saids.Lent rest = word (codes "is") ∷ mark marks.Lent ∷ rest
-said_then saids.Flat rest = word (codes "is") ∷ word (codes "flat") ∷ rest
+said_then saids.Closed rest = word (codes "is") ∷ word (codes "closed") ∷ rest
 said_then saids.LeftOut rest = word (codes "left") ∷ word (codes "out") ∷ rest
 
 -- path said ;

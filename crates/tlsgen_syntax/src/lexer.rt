@@ -2,12 +2,15 @@
 ghost use Rattle.std.specs.Prelude.{◌≡◌, ◌<◌, ◌≤◌, length, IfSome, MatchOption};
 ghost use Rattle.tlsgen_syntax.specs.Comments.{GoesOn, IsComment};
 
+use crate::comments::{Comment, comment_of};
 use crate::cursor::Cursor;
 use crate::refusal::{Place, Trouble};
+use crate::remarks::give;
+use crate::syntax::Remark;
 use crate::token::{Mark, Token, TokenKind};
-use std::alloc::Global;
+use std::alloc::{AllocError, Global};
 
-/// The words, numbers and marks of a text, in order, without its blanks and comments.
+/// The words, numbers and marks of a text, in order, without its blanks. What its comments say of a name is with that.
 ///
 /// Rejects a character outside ASCII, also in a comment; a number past 64 bits; a comment that doesn't end; a name with a
 /// hyphen; any other character that begins no word, number or mark.
@@ -17,14 +20,21 @@ pub fn lex(alloc: Global, text: &str) -> Result<Vec<Token>, Trouble> {
     }
     let mut cursor = Cursor::new(text);
     let mut tokens = Vec::new(alloc);
-    skip_blanks(&mut cursor);
+    let mut comments = Vec::new(alloc);
+    skip_blanks(&mut cursor, 0, &mut comments)?;
     'more: while !cursor.left().is_empty() {
         let place = cursor.place();
         let count = token_len(cursor.left());
         let kind = kind_of(alloc, cursor.take(count), place)?;
-        tokens.push(Token { kind, place })?;
-        skip_blanks(&mut cursor);
+        let remark = Remark::none(alloc);
+        tokens.push(Token {
+            kind,
+            place,
+            remark,
+        })?;
+        skip_blanks(&mut cursor, tokens.len(), &mut comments)?;
     }
+    give(alloc, &mut tokens, &comments)?;
     Ok(tokens)
 }
 
@@ -42,15 +52,24 @@ fn outside(alloc: Global, text: &str) -> Trouble {
     Trouble::at(place, found, "an ASCII character")
 }
 
-fn skip_blanks(cursor: &mut Cursor<'_>)
+// Takes blanks, and comments behind so many tokens, which are kept.
+fn skip_blanks<'a>(
+    cursor: &mut Cursor<'a>,
+    before: usize,
+    comments: &mut Vec<Comment<'a>>,
+) -> Result<(), AllocError>
     ensures { length cursor.new.left.now ≤ length cursor.old.left.now }
 {
     'more: loop {
         let count = blank_len(cursor.left());
         if count == 0 {
-            return;
+            return Ok(());
         }
-        cursor.take(count);
+        let place = cursor.place();
+        let text = cursor.take(count);
+        if let Some(comment) = comment_of(text, place, cursor.place(), before) {
+            comments.push(comment)?;
+        }
     }
 }
 

@@ -3,11 +3,11 @@ ghost use Rattle.std.specs.Prelude.{◌≡◌, OnOk};
 
 use crate::refusal::Trouble;
 use crate::registry::name_values;
-use crate::syntax::{File, Item, Name, Note, Said, Struct};
+use crate::syntax::{Enum, File, Item, Name, Note, Said, Struct};
 use std::alloc::Global;
 
-/// Gives a file its notes: enums that they call open are, and structs that they call flat or lent; integers that they give
-/// values are open enums, and definitions that they leave out are no more.
+/// Gives a file its notes: enums that they call open or closed are, and structs that they call lent; integers that they give
+/// values are open enums, names of tags that nothing defines are closed ones, and definitions that they leave out are no more.
 ///
 /// Rejects a note on an enum, a struct or a definition that the file doesn't have, a value that the integer doesn't hold, and
 /// a name or a number that it has.
@@ -17,29 +17,30 @@ pub fn apply(alloc: Global, file: &mut File, notes: Vec<Note>) -> Result<(), Tro
     name_values(alloc, file, &notes)?;
     for note in &notes {
         match note.said {
-            Said::Open => open(alloc, file, note)?,
-            Said::Flat => struct_of(alloc, file, note)?.is_flat = true,
+            Said::Open => enum_of(alloc, file, note)?.is_open = true,
+            Said::Closed => enum_of(alloc, file, note)?.is_open = false,
             Said::Lent => struct_of(alloc, file, note)?.is_lent = true,
             Said::LeftOut => leave_out(alloc, file, note)?,
-            Said::Number(_) | Said::Named(_) | Said::Counts | Said::Fills => {}
+            Said::Number(_)
+            | Said::Named(_)
+            | Said::Counts
+            | Said::Fills
+            | Said::Pads
+            | Said::Called(_) => {}
         }
     }
     file.notes = notes;
     Ok(())
 }
 
-fn open(alloc: Global, file: &mut File, note: &Note) -> Result<(), Trouble> {
-    let mut is_found = false;
+// The enum that a note is on.
+fn enum_of<'a>(alloc: Global, file: &'a mut File, note: &Note) -> Result<&'a mut Enum, Trouble> {
     for item in &mut file.items {
         if let Item::Enum(one) = item {
             if is_called(note, &one.name) {
-                one.is_open = true;
-                is_found = true;
+                return Ok(one);
             }
         }
-    }
-    if is_found {
-        return Ok(());
     }
     Err(refused(alloc, note, "an enum of this text"))
 }
@@ -69,7 +70,8 @@ fn leave_out(alloc: Global, file: &mut File, note: &Note) -> Result<(), Trouble>
     Err(refused(alloc, note, "a definition of this text"))
 }
 
-fn name_of(item: &Item) -> &Name {
+/// The name of a definition.
+pub(crate) fn name_of(item: &Item) -> &Name {
     match item {
         Item::Enum(one) => &one.name,
         Item::Struct(one) => &one.name,

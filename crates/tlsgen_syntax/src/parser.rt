@@ -7,11 +7,13 @@ ghost use Rattle.tlsgen_syntax.specs.Signs.{Reads, count_left, definition_then, 
 
 mod enums;
 mod fields;
+mod in_place;
 mod notes;
 mod selects;
 mod structs;
 
 use crate::lexer::lex;
+use crate::opening::open_unselected;
 use crate::refusal::{Place, Trouble};
 use crate::signed::set_apart;
 use crate::source::{Definition, Source};
@@ -20,12 +22,15 @@ use crate::token::{Mark, Token};
 use crate::tokens::Tokens;
 use std::alloc::Global;
 
-/// What a text says, with what is signed apart.
+/// What a text says, with what is signed and types in place apart. Enums that no select is on are open (RFC 8446,
+/// section 3.5).
 ///
 /// Rejects the first token that can't come next in a text, and what the [lexer](crate::lexer::lex) rejects.
 pub fn parse(alloc: Global, text: &str) -> Result<File, Trouble> {
     let source = parse_source(alloc, text)?;
-    Ok(set_apart(alloc, source)?)
+    let mut file = set_apart(alloc, source)?;
+    open_unselected(alloc, &mut file)?;
+    Ok(file)
 }
 
 /// What a text says as it is written. It rejects what [`parse`] does.

@@ -1,9 +1,10 @@
 //! A text in one layout.
 
-use crate::source::{Definition, Signed, Source, SourcePart, SourceStruct, StructKind};
-use crate::syntax::{
-    Case, Constant, Enum, Field, Label, Name, Number, Part, Select, Value, Vector,
+use crate::source::{
+    Definition, InPlace, Numbers, Signed, Source, SourceEnum, SourcePart, SourceStruct,
+    SourceValue, StructKind, TypeInPlace, ValueName,
 };
+use crate::syntax::{Case, Constant, Field, Label, Name, Number, Part, Select, Vector};
 use std::alloc::{AllocError, Global};
 
 const INDENT: &str = "    ";
@@ -25,17 +26,22 @@ fn print_definition(out: &mut String, definition: &Definition) -> Result<(), All
     }
 }
 
-fn print_enum(out: &mut String, item: &Enum) -> Result<(), AllocError> {
-    if item.is_open {
+fn print_enum(out: &mut String, item: &SourceEnum) -> Result<(), AllocError> {
+    print_numbers(out, &item.numbers)?;
+    let name = item.name.text.as_str();
+    writeln!(out, " {name};")
+}
+
+fn print_numbers(out: &mut String, numbers: &Numbers) -> Result<(), AllocError> {
+    if numbers.is_open {
         out.push_str("open ")?;
     }
     out.push_str("enum { ")?;
-    print_values(out, &item.values)?;
-    let name = item.name.text.as_str();
-    writeln!(out, " }} {name};")
+    print_values(out, &numbers.values)?;
+    out.push_str(" }")
 }
 
-fn print_values(out: &mut String, values: &[Value]) -> Result<(), AllocError> {
+fn print_values(out: &mut String, values: &[SourceValue]) -> Result<(), AllocError> {
     let mut separator = "";
     for value in values {
         out.push_str(separator)?;
@@ -45,9 +51,9 @@ fn print_values(out: &mut String, values: &[Value]) -> Result<(), AllocError> {
     Ok(())
 }
 
-fn print_value(out: &mut String, value: &Value) -> Result<(), AllocError> {
+fn print_value(out: &mut String, value: &SourceValue) -> Result<(), AllocError> {
     if let Some(name) = &value.name {
-        out.push_str(name.text.as_str())?;
+        print_value_name(out, name)?;
     }
     let number = value.number.value;
     write!(out, "({number}")?;
@@ -56,6 +62,16 @@ fn print_value(out: &mut String, value: &Value) -> Result<(), AllocError> {
         write!(out, "..{last}")?;
     }
     out.push_str(")")
+}
+
+fn print_value_name(out: &mut String, name: &ValueName) -> Result<(), AllocError> {
+    match name {
+        ValueName::Word(name) => out.push_str(name.text.as_str()),
+        ValueName::Number(number) => {
+            let number = number.value;
+            write!(out, "{number}")
+        }
+    }
 }
 
 fn print_struct(out: &mut String, one: &SourceStruct) -> Result<(), AllocError> {
@@ -75,17 +91,35 @@ fn print_source_part(out: &mut String, part: &SourcePart) -> Result<(), AllocErr
     match part {
         SourcePart::Sent(part) => print_part(out, 1, part),
         SourcePart::Signed(signed) => print_signed(out, signed),
+        SourcePart::InPlace(one) => print_in_place(out, one),
     }
+}
+
+fn print_in_place(out: &mut String, one: &InPlace) -> Result<(), AllocError> {
+    print_indent(out, 1)?;
+    match &one.of {
+        TypeInPlace::Enum(numbers) => print_numbers(out, numbers)?,
+        TypeInPlace::Struct(parts) => print_inner_struct(out, parts)?,
+    }
+    print_ending_name(out, Some(&one.name))?;
+    print_vector(out, &one.vector)?;
+    out.push_str(";\n")
+}
+
+// A struct in a struct, up to its closing brace.
+fn print_inner_struct(out: &mut String, parts: &[Part]) -> Result<(), AllocError> {
+    out.push_str("struct {\n")?;
+    for part in parts {
+        print_part(out, 2, part)?;
+    }
+    print_indent(out, 1)?;
+    out.push_str("}")
 }
 
 fn print_signed(out: &mut String, signed: &Signed) -> Result<(), AllocError> {
     print_indent(out, 1)?;
-    out.push_str("digitally-signed struct {\n")?;
-    for part in &signed.parts {
-        print_part(out, 2, part)?;
-    }
-    print_indent(out, 1)?;
-    out.push_str("}")?;
+    out.push_str("digitally-signed ")?;
+    print_inner_struct(out, &signed.parts)?;
     print_ending_name(out, signed.name.as_ref())?;
     out.push_str(";\n")
 }

@@ -1,11 +1,13 @@
-//! Integers whose values a registry names, as `uint16 CredentialType;` (RFC 9420, section 17.5): open enums, by the notes.
+//! Enums by the notes: integers whose values a registry names, as `uint16 CredentialType;` (RFC 9420, section 17.5), and tags
+//! that nothing defines, as `select (ClientOrServerExtension)` has (RFC 7250, section 3).
 
-use crate::noted::refused;
+use crate::noted::{name_of, refused};
 use crate::refusal::Trouble;
-use crate::syntax::{Enum, Field, File, Item, Name, Note, Number, Said, Value, Vector};
+use crate::syntax::{Enum, Field, File, Item, Name, Note, Number, Part, Said, Value, Vector};
 use std::alloc::{AllocError, Global};
 
-/// Makes an open enum of each integer type of a file that notes give values: `CredentialType.basic = 1;`.
+/// Makes an open enum of each integer type of a file that notes give values: `CredentialType.basic = 1;`. The tag of a select
+/// that nothing defines, and that notes give values, becomes a closed enum of a byte.
 ///
 /// Rejects a number that the type doesn't hold, a name or a number twice, and a note on an enum, whose text names its values.
 pub(crate) fn name_values(alloc: Global, file: &mut File, notes: &[Note]) -> Result<(), Trouble> {
@@ -17,7 +19,48 @@ pub(crate) fn name_values(alloc: Global, file: &mut File, notes: &[Note]) -> Res
             *item = Item::Enum(one);
         }
     }
+    for note in notes {
+        add_tag(alloc, file, note, notes)?;
+    }
     Ok(())
+}
+
+// Adds the enum of a tag that a note gives a value and nothing defines.
+fn add_tag(alloc: Global, file: &mut File, note: &Note, notes: &[Note]) -> Result<(), Trouble> {
+    let Some((of, _, _)) = value_in(note) else {
+        return Ok(());
+    };
+    if file.items.iter().any(|item| name_of(item).text == of.text) || !is_tag(file, of) {
+        return Ok(());
+    }
+    let Some(values) = values_of(alloc, of, 0xff, notes)? else {
+        return Ok(());
+    };
+    let one = Enum {
+        is_open: false,
+        values,
+        name: copy(of)?,
+    };
+    file.items.insert(0, Item::Enum(one))?;
+    Ok(())
+}
+
+// Whether a select is on a tag of this one name.
+fn is_tag(file: &File, name: &Name) -> bool {
+    file.items.iter().any(|item| match item {
+        Item::Struct(one) => one.parts.iter().any(|part| is_select_on(part, name)),
+        _ => false,
+    })
+}
+
+fn is_select_on(part: &Part, name: &Name) -> bool {
+    let Part::Select(select) = part else {
+        return false;
+    };
+    match select.path.as_slice() {
+        [only] => only.text == name.text,
+        _ => false,
+    }
 }
 
 // Rejects a value that a note gives an enum of the text.
@@ -58,9 +101,26 @@ fn registry_of(alloc: Global, item: &Item, notes: &[Note]) -> Result<Option<Enum
     let Some(greatest) = greatest_of(field) else {
         return Ok(None);
     };
+    let Some(values) = values_of(alloc, &field.name, greatest, notes)? else {
+        return Ok(None);
+    };
+    Ok(Some(Enum {
+        is_open: true,
+        values,
+        name: copy(&field.name)?,
+    }))
+}
+
+// The values that notes give a type, and behind them the greatest number, which gives the width. None if they give none.
+fn values_of(
+    alloc: Global,
+    of: &Name,
+    greatest: u64,
+    notes: &[Note],
+) -> Result<Option<Vec<Value>>, Trouble> {
     let mut values = Vec::new(alloc);
     for note in notes {
-        push_value(alloc, field, greatest, note, &mut values)?;
+        push_value(alloc, of, greatest, note, &mut values)?;
     }
     if values.is_empty() {
         return Ok(None);
@@ -69,15 +129,11 @@ fn registry_of(alloc: Global, item: &Item, notes: &[Note]) -> Result<Option<Enum
         name: None,
         number: Number {
             value: greatest,
-            place: field.name.place,
+            place: of.place,
         },
         last: None,
     })?;
-    Ok(Some(Enum {
-        is_open: true,
-        values,
-        name: copy(&field.name)?,
-    }))
+    Ok(Some(values))
 }
 
 // The greatest number of an integer type.
@@ -97,15 +153,15 @@ fn greatest_of(field: &Field) -> Option<u64> {
 // Appends the value that a note gives the type.
 fn push_value(
     alloc: Global,
-    field: &Field,
+    of: &Name,
     greatest: u64,
     note: &Note,
     values: &mut Vec<Value>,
 ) -> Result<(), Trouble> {
-    let Some((of, name, number)) = value_in(note) else {
+    let Some((own, name, number)) = value_in(note) else {
         return Ok(());
     };
-    if of.text != field.name.text {
+    if own.text != of.text {
         return Ok(());
     }
     if number.value > greatest {
@@ -138,5 +194,6 @@ fn copy(name: &Name) -> Result<Name, AllocError> {
     Ok(Name {
         text: name.text.clone()?,
         place: name.place,
+        remark: name.remark.clone()?,
     })
 }

@@ -1,7 +1,8 @@
-//! What a text says as it is written: what is signed stands in the struct that has its signature.
+//! What a text says as it is written: what is signed, and types in place of their names, stand in
+//! the struct around them.
 
 use crate::refusal::Place;
-use crate::syntax::{Enum, Field, Name, Part};
+use crate::syntax::{Field, Name, Number, Part, Vector};
 
 /// What a text defines, in its order.
 #[derive(Drop)]
@@ -12,14 +13,47 @@ pub struct Source {
 #[derive(Drop)]
 pub enum Definition {
     /// `enum { member(1), external(2), (255) } SenderType;`
-    Enum(Enum),
+    Enum(SourceEnum),
     /// `struct { LogID id; digitally-signed struct { uint64 timestamp; }; } Receipt;`
     Struct(SourceStruct),
     /// `opaque MAC<V>;` gives `MAC` as another name of a type.
     Alias(Field),
 }
 
-/// Fields, selects and signatures in a row.
+/// `enum { 2^9(1), 2^10(2), (255) } MaxFragmentLength;`
+#[derive(Drop)]
+pub struct SourceEnum {
+    pub numbers: Numbers,
+    pub name: Name,
+}
+
+/// Numbers with names, `enum { a(1), (255) }`, or with others too, `open enum { a(1), (255) }`.
+#[derive(Drop)]
+pub struct Numbers {
+    pub is_open: bool,
+    /// At least one.
+    pub values: Vec<SourceValue>,
+}
+
+/// `member(1)`, `2^9(1)`, `(255)` or `private_use(0xFE00..0xFFFF)`.
+#[derive(Drop)]
+pub struct SourceValue {
+    pub name: Option<ValueName>,
+    pub number: Number,
+    /// The last number of a range.
+    pub last: Option<Number>,
+}
+
+/// What a value is called.
+#[derive(Drop)]
+pub enum ValueName {
+    /// `member(1)`
+    Word(Name),
+    /// `2^9(1)` (RFC 6066, section 4)
+    Number(Number),
+}
+
+/// Fields, selects, signatures and fields with their types in place, in a row.
 #[derive(Drop)]
 pub struct SourceStruct {
     pub kind: StructKind,
@@ -44,6 +78,8 @@ pub enum SourcePart {
     Sent(Part),
     /// A signature.
     Signed(Signed),
+    /// A field with its type in place.
+    InPlace(InPlace),
 }
 
 /// `digitally-signed struct { uint64 timestamp; } signature;`: a signature, and what it is of (RFC 5246, section 4.7).
@@ -55,4 +91,20 @@ pub struct Signed {
     pub parts: Vec<Part>,
     /// The name of the signature, where it has one.
     pub name: Option<Name>,
+}
+
+/// `enum { a(1), (255) } kind;`: a field whose type stands in the place of a type's name.
+#[derive(Drop)]
+pub struct InPlace {
+    pub of: TypeInPlace,
+    pub name: Name,
+    pub vector: Vector,
+}
+
+#[derive(Drop)]
+pub enum TypeInPlace {
+    /// `enum { a(1), (255) } kind;`
+    Enum(Numbers),
+    /// `struct { opaque a[2]; } inner;`
+    Struct(Vec<Part>),
 }

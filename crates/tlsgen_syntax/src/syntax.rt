@@ -1,12 +1,33 @@
-//! What a text of the presentation language says, with what is signed apart.
+//! What a text of the presentation language says, with what is signed and types in place apart.
 
 use crate::refusal::Place;
+use std::alloc::Global;
 
-/// A name, and where it stands.
+/// A name, where it stands, and what comments say of what it names.
 #[derive(Clone, Drop)]
 pub struct Name {
     pub text: String,
     pub place: Place,
+    pub remark: Remark,
+}
+
+/// What comments say of what a name names.
+#[derive(Clone, Drop)]
+pub struct Remark {
+    /// The section of a definition, as `RFC 9420, section 6.3.2`. Empty where no heading names one.
+    pub section: String,
+    /// The lines of the comments above and behind. Empty where there are none.
+    pub text: String,
+}
+
+impl Remark {
+    /// Where no comment says anything.
+    pub(crate) fn none(alloc: Global) -> Remark {
+        Remark {
+            section: String::new(alloc),
+            text: String::new(alloc),
+        }
+    }
 }
 
 /// What a file defines, in its order, and what an RFC says of it in prose.
@@ -34,10 +55,14 @@ pub enum Said {
     Counts,
     /// `Finished.verify_data fills rest`: as many bytes as are left.
     Fills,
-    /// `ExtensionType is open`: an enum keeps numbers without a name.
+    /// `PrivateMessageContent.padding fills rest with zeros`: zeros go to the end of what is read.
+    Pads,
+    /// `FramedContent.content_type called content`: a select on this tag has a name.
+    Called(Name),
+    /// `ContentType is open`: an enum keeps numbers without a name.
     Open,
-    /// `FramedContent is flat`: where a select's tag is in a struct, its fields stand in the place of the field of its type.
-    Flat,
+    /// `KeyUpdateRequest is closed`: an enum rejects numbers without a name.
+    Closed,
     /// `FramedContentTBS is lent`: a struct has references to its fields, and is only written.
     Lent,
     /// `TLSInnerPlaintext left out`: nothing is made of a definition.
@@ -54,7 +79,8 @@ pub enum Item {
     Alias(Field),
 }
 
-/// Numbers with names. In an open one, `open enum { .. }`, numbers without a name are kept too.
+/// Numbers with names. In an open one numbers without a name are kept too: it is `open enum { .. }`, or no select is on it
+/// (RFC 8446, section 3.5), unless the notes say otherwise.
 #[derive(Drop)]
 pub struct Enum {
     pub is_open: bool,
@@ -85,8 +111,6 @@ pub struct Number {
 #[derive(Drop)]
 pub struct Struct {
     pub is_lent: bool,
-    /// A note calls it flat.
-    pub is_flat: bool,
     pub parts: Vec<Part>,
     pub name: Name,
 }

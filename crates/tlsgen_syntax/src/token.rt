@@ -4,6 +4,7 @@ ghost use Rattle.tlsgen_syntax.specs.Signs.{mark_text, sign_of};
 ghost use Rattle.tlsgen_syntax.specs.Signs as sign;
 
 use crate::refusal::Place;
+use crate::syntax::Remark;
 use std::fmt;
 
 /// A word, a number or a mark, and where it stands.
@@ -11,6 +12,8 @@ use std::fmt;
 pub struct Token {
     pub kind: TokenKind,
     pub place: Place,
+    /// What comments say of what it names, if it is a name that is given.
+    pub remark: Remark,
 }
 
 #[derive(Drop)]

@@ -136,10 +136,12 @@ impl<'a> Tokens<'a> {
         match token.kind.word() {
             Some(word) => {
                 let text = String::from_str(alloc, word)?;
+                let remark = token.remark.clone()?;
                 self.left = left;
                 Ok(Name {
                     text,
                     place: token.place,
+                    remark,
                 })
             }
             None => Err(self.refused(alloc, expected)),

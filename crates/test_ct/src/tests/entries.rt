@@ -1,8 +1,8 @@
 //! What a log keeps of a certificate (RFC 6962, section 3.1).
 use crate::tests::certificate;
-use crate::tests::each_call::{is_refused, is_refused_by, is_spelled};
 use ct::{LogEntry, PrecertChainEntry, X509ChainEntry};
 use std::test::Fail;
+use test_support::each_call::{is_refused, is_refused_by, is_spelled};
 use tls_codec::{Error, TlsVec};
 
 const NOT_FILLED: Error = Error::DecodingError("elements do not fill the declared length");
@@ -36,12 +36,12 @@ fn entries(rt: HostRuntime) -> Result<(), Fail> {
         leaf_certificate: certificate(alloc, &[7])?,
         certificate_chain: TlsVec::new(Vec::from_array(alloc, chain)?),
     });
-    is_spelled(&rt, alloc, "a certificate", &entry, &X509)?;
+    is_spelled(alloc, "a certificate", &entry, &X509)?;
     let entry = LogEntry::PrecertEntry(PrecertChainEntry {
         pre_certificate: certificate(alloc, &[7])?,
         precertificate_chain: TlsVec::new(Vec::new(alloc)),
     });
-    is_spelled(&rt, alloc, "a precertificate", &entry, &PRECERT)
+    is_spelled(alloc, "a precertificate", &entry, &PRECERT)
 }
 
 #[test]
@@ -58,7 +58,7 @@ fn refused_entries(rt: HostRuntime) -> Result<(), Fail> {
     ] {
         let mut bytes = X509.to_vec(alloc)?;
         bytes[at] = byte;
-        is_refused::<LogEntry>(&rt, alloc, row, &bytes, error);
+        is_refused::<LogEntry>(alloc, row, &bytes, error)?;
     }
     Ok(())
 }
@@ -70,6 +70,6 @@ fn an_end_within_a_certificate(rt: HostRuntime) -> Result<(), Fail> {
     let mut bytes = X509.to_vec(alloc)?;
     bytes[8] = 8;
     let row = "a chain of 8 bytes";
-    is_refused_by::<LogEntry>(&rt, alloc, row, &bytes, NOT_FILLED, Error::EndOfStream);
+    is_refused_by::<LogEntry>(alloc, row, &bytes, NOT_FILLED, Error::EndOfStream)?;
     Ok(())
 }

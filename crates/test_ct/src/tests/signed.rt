@@ -1,5 +1,4 @@
 //! What is signed: of a timestamp (RFC 6962, section 3.2), and of a tree (section 3.5).
-use crate::tests::each_call::{is_refused, is_spelled};
 use crate::tests::{TIME, certificate, extensions, precertificate};
 use ct::{
     LogEntryTypeData, SignatureTypeCertificateTimestamp, SignatureTypeTreeHash,
@@ -7,6 +6,7 @@ use ct::{
 };
 use std::alloc::Global;
 use std::test::Fail;
+use test_support::each_call::{is_refused, is_spelled};
 use tls_codec::Error;
 
 fn to_be_signed(
@@ -52,10 +52,10 @@ fn timestamps(rt: HostRuntime) -> Result<(), Fail> {
     let alloc = rt.alloc();
     let entry = LogEntryTypeData::X509Entry(certificate(alloc, &[0x30, 1, 5])?);
     let signed = to_be_signed(alloc, entry)?;
-    is_spelled(&rt, alloc, "a certificate", &signed, &OF_CERTIFICATE)?;
+    is_spelled(alloc, "a certificate", &signed, &OF_CERTIFICATE)?;
     let entry = LogEntryTypeData::PrecertEntry(precertificate(alloc)?);
     let signed = to_be_signed(alloc, entry)?;
-    is_spelled(&rt, alloc, "a precertificate", &signed, &OF_PRECERTIFICATE)
+    is_spelled(alloc, "a precertificate", &signed, &OF_PRECERTIFICATE)
 }
 
 #[test]
@@ -75,7 +75,7 @@ fn refused_timestamps(rt: HostRuntime) -> Result<(), Fail> {
     ] {
         let mut bytes = OF_CERTIFICATE.to_vec(alloc)?;
         bytes[at] = byte;
-        is_refused::<SignedCertificateTimestampTBS>(&rt, alloc, row, &bytes, error);
+        is_refused::<SignedCertificateTimestampTBS>(alloc, row, &bytes, error)?;
     }
     Ok(())
 }
@@ -100,12 +100,12 @@ fn trees(rt: HostRuntime) -> Result<(), Fail> {
         tree_size: 65538,
         sha256_root_hash: [7; 32],
     };
-    is_spelled(&rt, alloc, "a tree", &head, &OF_TREE)?;
+    is_spelled(alloc, "a tree", &head, &OF_TREE)?;
     for (row, bytes, error) in [
         ("version 1", [1, 1], Error::UnknownValue(1)),
         ("certificate_timestamp", [0, 0], Error::UnknownValue(0)),
     ] {
-        is_refused::<TreeHeadSignature>(&rt, alloc, row, &bytes, error);
+        is_refused::<TreeHeadSignature>(alloc, row, &bytes, error)?;
     }
     Ok(())
 }

@@ -1,12 +1,13 @@
 //! What a server sends of its certificate (RFC 6962, section 3.3), and the signatures in it.
-use crate::tests::each_call::{is_refused, is_spelled};
-use crate::tests::{TIME, extensions, same_at};
+use crate::tests::{TIME, extensions};
 use ct::{
     DigitallySigned, HashAlgorithm, LogID, SerializedSCT, SignatureAlgorithm,
     SignatureAndHashAlgorithm, SignedCertificateTimestamp, SignedCertificateTimestampList, Version,
 };
 use std::alloc::Global;
 use std::test::Fail;
+use test_support::each_call::{is_refused, is_spelled};
+use test_support::rows::same_at;
 use tls_codec::{DeserializeBytes, Error, TlsByteVec, TlsByteVecU16, TlsVec};
 
 // A list with one timestamp.
@@ -54,9 +55,9 @@ fn lists(rt: HostRuntime) -> Result<(), Fail> {
     let list = SignedCertificateTimestampList {
         sct_list: TlsVec::new(Vec::from_array(alloc, [serialized])?),
     };
-    is_spelled(&rt, alloc, "a list", &list, &LIST)?;
+    is_spelled(alloc, "a list", &list, &LIST)?;
     let timestamp = timestamp(alloc)?;
-    is_spelled(&rt, alloc, "its timestamp", &timestamp, &LIST[TIMESTAMP..])
+    is_spelled(alloc, "its timestamp", &timestamp, &LIST[TIMESTAMP..])
 }
 
 // Each timestamp of a list is read by its own length, so that a list may have some of other versions.
@@ -69,7 +70,7 @@ fn timestamps_of_lists(rt: HostRuntime) -> Result<(), Fail> {
     };
     let bytes = serialized.as_slice();
     let read = SignedCertificateTimestamp::tls_deserialize_exact_bytes(alloc, bytes)?;
-    same_at(&rt, "a timestamp", &read, &timestamp(alloc)?);
+    same_at("a timestamp", &read, &timestamp(alloc)?)?;
     Ok(())
 }
 
@@ -93,7 +94,7 @@ fn refused_lists(rt: HostRuntime) -> Result<(), Fail> {
             Error::EndOfStream,
         ),
     ] {
-        is_refused::<SignedCertificateTimestampList>(&rt, alloc, row, bytes, error);
+        is_refused::<SignedCertificateTimestampList>(alloc, row, bytes, error)?;
     }
     Ok(())
 }
@@ -103,7 +104,7 @@ fn refused_timestamps(rt: HostRuntime) -> Result<(), Fail> {
     let alloc = rt.alloc();
     let row = "version 1";
     let error = Error::UnknownValue(1);
-    is_refused::<SignedCertificateTimestamp>(&rt, alloc, row, &[1], error);
+    is_refused::<SignedCertificateTimestamp>(alloc, row, &[1], error)?;
     // one byte more of extensions, of the signature, and one less of the signature's length
     for (row, at, byte) in [
         ("extensions", 46, 13),
@@ -112,7 +113,7 @@ fn refused_timestamps(rt: HostRuntime) -> Result<(), Fail> {
     ] {
         let mut bytes = LIST[TIMESTAMP..].to_vec(alloc)?;
         bytes[at - TIMESTAMP] = byte;
-        is_refused::<SignedCertificateTimestamp>(&rt, alloc, row, &bytes, Error::EndOfStream);
+        is_refused::<SignedCertificateTimestamp>(alloc, row, &bytes, Error::EndOfStream)?;
     }
     Ok(())
 }
@@ -131,7 +132,7 @@ fn algorithms(rt: HostRuntime) -> Result<(), Fail> {
         ("no names", HashAlgorithm(8), SignatureAlgorithm(7), [8, 7]),
     ] {
         let algorithm = SignatureAndHashAlgorithm { hash, signature };
-        is_spelled(&rt, alloc, row, &algorithm, &bytes)?;
+        is_spelled(alloc, row, &algorithm, &bytes)?;
     }
     Ok(())
 }

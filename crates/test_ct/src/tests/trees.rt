@@ -1,11 +1,11 @@
 //! Leaves of a log's tree (RFC 6962, section 3.4).
-use crate::tests::each_call::{is_refused, is_spelled};
 use crate::tests::{TIME, certificate, extensions, precertificate};
 use ct::{
     MerkleLeafType, MerkleTreeLeaf, TimestampedEntry, TimestampedEntryLogEntryTypeData, Version,
 };
 use std::alloc::Global;
 use std::test::Fail;
+use test_support::each_call::{is_refused, is_spelled};
 use tls_codec::Error;
 
 fn leaf(
@@ -53,17 +53,11 @@ fn leaves(rt: HostRuntime) -> Result<(), Fail> {
     let alloc = rt.alloc();
     let cert = certificate(alloc, &[0x30, 1, 5])?;
     let of_cert = leaf(alloc, TimestampedEntryLogEntryTypeData::X509Entry(cert))?;
-    is_spelled(&rt, alloc, "a certificate", &of_cert, &OF_CERTIFICATE)?;
+    is_spelled(alloc, "a certificate", &of_cert, &OF_CERTIFICATE)?;
     let precert = precertificate(alloc)?;
     let entry = TimestampedEntryLogEntryTypeData::PrecertEntry(precert);
     let of_precert = leaf(alloc, entry)?;
-    is_spelled(
-        &rt,
-        alloc,
-        "a precertificate",
-        &of_precert,
-        &OF_PRECERTIFICATE,
-    )
+    is_spelled(alloc, "a precertificate", &of_precert, &OF_PRECERTIFICATE)
 }
 
 #[test]
@@ -83,7 +77,7 @@ fn refused_leaves(rt: HostRuntime) -> Result<(), Fail> {
     ] {
         let mut bytes = OF_CERTIFICATE.to_vec(alloc)?;
         bytes[at] = byte;
-        is_refused::<MerkleTreeLeaf>(&rt, alloc, row, &bytes, error);
+        is_refused::<MerkleTreeLeaf>(alloc, row, &bytes, error)?;
     }
     Ok(())
 }

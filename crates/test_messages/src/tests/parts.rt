@@ -1,6 +1,6 @@
 //! Parts of messages of MLS (RFC 9420), each alone, spelled field by field.
 use crate::tests::each_call::{is_refused, is_spelled, is_written};
-use mls_framing::{
+use mls::{
     Certificate, CipherSuite, Commit, Credential, GroupContext, InterimTranscriptHashInput,
     LeafNodeOrigin, LeafNodeTBSOrigin, Lifetime, PSKOrigin, PreSharedKeyID, ProtocolVersionMls10,
     ResumptionPSKUsage, SenderData,

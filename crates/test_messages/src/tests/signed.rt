@@ -1,8 +1,8 @@
 //! What is signed or authenticated, lent from messages that were read (RFC 9420).
 use crate::tests::each_call::is_written;
-use crate::tests::mls::{COMMIT, GROUP_INFO, KEY_PACKAGE, PRIVATE_MESSAGE};
+use crate::tests::mls_messages::{COMMIT, GROUP_INFO, KEY_PACKAGE, PRIVATE_MESSAGE};
 use crate::tests::same;
-use mls_framing::{
+use mls::{
     AuthenticatedContent, AuthenticatedContentTBM, Commit, ConfirmedTranscriptHashInput,
     FramedContentTBS, GroupContext, GroupInfo, GroupInfoTBS, KeyPackage, KeyPackageTBS, LeafNode,
     LeafNodeOrigin, LeafNodeTBS, LeafNodeTBSOrigin, MLSMessage, PrivateContentAAD,
@@ -14,13 +14,15 @@ use std::process::Abort;
 use std::test::Fail;
 use tls_codec::{DeserializeBytes, Error, Serialize, VLBytes};
 
+const MISFIT: Error = Error::EncodingError("value does not fit its context");
+
 fn read(alloc: Global, bytes: &[u8]) -> Result<WireFormatData, Error> {
     let message = MLSMessage::tls_deserialize_exact_bytes(alloc, bytes)?;
     Ok(message.wire_format)
 }
 
 // The bytes of a message from one place up to another, and then others.
-fn part(
+pub(super) fn part(
     rt: &impl Abort,
     alloc: Global,
     bytes: &[u8],
@@ -182,12 +184,72 @@ fn a_commit(rt: HostRuntime) -> Result<(), Fail> {
         &tagged,
     )?;
     let without = signed_content(&message, &None).tls_serialize_detached(alloc);
-    same(
-        &rt,
-        without.err(),
-        Some(Error::EncodingError("value does not fit its context")),
-    );
+    same(&rt, without.err(), Some(MISFIT));
     Ok(())
+}
+
+// A proposal in a public message of a sender that isn't in the group: it has no tag, and no group is signed with it.
+static PROPOSAL: [u8; 30] = [
+    0, 1, // version: mls10
+    0, 1, // wire_format: mls_public_message
+    1, 0xfa, // content: group_id
+    0, 0, 0, 0, 0, 0, 0, 7, // epoch
+    2, 0, 0, 0, 5, // sender: external, sender_index
+    1, 0xfb, // authenticated_data
+    2, // content_type: proposal
+    0, 3, 0, 0, 0, 9, // proposal: remove, removed
+    1, 0xe1, // auth: signature
+];
+
+#[test]
+fn a_proposal(rt: HostRuntime) -> Result<(), Fail> {
+    let alloc = rt.alloc();
+    let WireFormatData::MlsPublicMessage(message) = read(alloc, &PROPOSAL)? else {
+        panic!(rt; "no public message");
+    };
+    same(&rt, &message.membership_tag, &None);
+    is_written(
+        &rt,
+        alloc,
+        &signed_content(&message, &None),
+        &PROPOSAL[..28],
+    )?;
+    is_written(
+        &rt,
+        alloc,
+        &authenticated_content(&message, &None),
+        &PROPOSAL,
+    )?;
+    let context = Some(group_info(&rt, alloc)?.group_context);
+    let with = signed_content(&message, &context).tls_serialize_detached(alloc);
+    same(&rt, with.err(), Some(MISFIT));
+    Ok(())
+}
+
+// A commit without its confirmation, a message of a member without its tag, and both where there should be none.
+#[test]
+fn misfits(rt: HostRuntime) -> Result<(), Fail> {
+    let alloc = rt.alloc();
+    let mut commit = public_message(&rt, alloc)?;
+    let WireFormatData::MlsPublicMessage(mut proposal) = read(alloc, &PROPOSAL)? else {
+        panic!(rt; "no public message");
+    };
+    proposal.membership_tag = commit.membership_tag.take();
+    is_misfit(&rt, alloc, &commit);
+    is_misfit(&rt, alloc, &proposal);
+    commit.membership_tag = proposal.membership_tag.take();
+    proposal.auth.confirmation_tag = commit.auth.confirmation_tag.take();
+    is_misfit(&rt, alloc, &commit);
+    is_misfit(&rt, alloc, &proposal);
+    Ok(())
+}
+
+fn is_misfit(rt: &impl Abort, alloc: Global, message: &PublicMessage) {
+    same(
+        rt,
+        message.tls_serialize_detached(alloc).err(),
+        Some(MISFIT),
+    );
 }
 
 // What the transcript's hash is over (section 8.2): the message up to its signature, but for the version, and then that.

@@ -1,11 +1,11 @@
 //! What OpenSSL sent: each message is read to its last byte, and so is each of its extensions that RFC 8446 has.
 use crate::tests::captured::{ALERTS, Row, basic, bytes, hrr, keyup, mtls, resume, seed, tls12};
-use crate::tests::each_call::{is_refused, is_spelled, opens};
 use crate::tests::extensions::{Found, Place, is_retry, open_all};
-use crate::tests::{done_at, same, same_at};
 use std::alloc::Global;
 use std::process::Abort;
 use std::test::Fail;
+use test_support::each_call::{is_refused, is_spelled, opens};
+use test_support::rows::{done_at, same, same_at};
 use tls_codec::DeserializeBytes;
 use tls13::{Alert, AlertDescription, AlertLevel, Handshake, HandshakeType};
 
@@ -23,32 +23,30 @@ fn opens_run(
         all.types.extend_from_slice(&found.types)?;
         all.opened.extend_from_slice(&found.opened)?;
     }
-    same(rt, all.types.len(), extensions);
-    same(rt, all.opened.len(), opened);
+    same(all.types.len(), extensions)?;
+    same(all.opened.len(), opened)?;
     Ok(())
 }
 
 fn opens_with_extensions(rt: &impl Abort, alloc: Global, row: &Row) -> Result<Found, Fail> {
     let bytes = bytes(rt, alloc, row.digits)?;
-    opens::<Handshake>(rt, alloc, row.name, &bytes)?;
+    opens::<Handshake>(alloc, row.name, &bytes)?;
     let message = done_at(
-        rt,
         row.name,
         Handshake::tls_deserialize_exact_bytes(alloc, &bytes),
-    );
+    )?;
     let (kind, _) = done_at(
-        rt,
         row.name,
         HandshakeType::tls_deserialize_bytes(alloc, &bytes),
-    );
+    )?;
     let place = Place {
         row: row.name,
         kind,
         retries: is_retry(&message),
     };
     let found = open_all(rt, alloc, &place, &message)?;
-    same_at(rt, row.name, found.types.as_slice(), row.extensions);
-    same_at(rt, row.name, found.opened.as_slice(), row.opened);
+    same_at(row.name, found.types.as_slice(), row.extensions)?;
+    same_at(row.name, found.opened.as_slice(), row.opened)?;
     Ok(found)
 }
 
@@ -93,7 +91,7 @@ fn other_messages(rt: HostRuntime) -> Result<(), Fail> {
     let alloc = rt.alloc();
     for row in &tls12::REFUSED {
         let bytes = bytes(&rt, alloc, row.digits)?;
-        is_refused::<Handshake>(&rt, alloc, row.name, &bytes, row.error);
+        is_refused::<Handshake>(alloc, row.name, &bytes, row.error)?;
     }
     Ok(())
 }
@@ -106,7 +104,7 @@ fn alerts(rt: HostRuntime) -> Result<(), Fail> {
         description: AlertDescription::CLOSE_NOTIFY,
     };
     for (row, bytes) in ALERTS {
-        is_spelled(&rt, alloc, row, &alert, bytes)?;
+        is_spelled(alloc, row, &alert, bytes)?;
     }
     Ok(())
 }

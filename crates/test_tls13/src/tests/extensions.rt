@@ -1,10 +1,10 @@
 //! Extensions, each opened as what RFC 8446 has for its type in its message (section 4.2).
-use crate::tests::each_call::opens;
-use crate::tests::in_context::{is_misfit, is_refused_in, opens_in};
-use crate::tests::same_at;
 use std::alloc::Global;
 use std::process::Abort;
 use std::test::Fail;
+use test_support::each_call::opens;
+use test_support::in_context::{is_misfit, is_refused_in, opens_in};
+use test_support::rows::same_at;
 use tls_codec::{Error, TlsByteVecU16};
 use tls13::{
     CertificateAuthoritiesExtension, Cookie, EarlyDataIndication, EmptyType, Extension,
@@ -101,28 +101,28 @@ fn opens_as_its_type(
     let row = place.row;
     let bytes = extension.extension_data.as_slice();
     match extension.extension_type {
-        ExtensionType::SUPPORTED_GROUPS => opens::<NamedGroupList>(rt, alloc, row, bytes)?,
+        ExtensionType::SUPPORTED_GROUPS => opens::<NamedGroupList>(alloc, row, bytes)?,
         ExtensionType::SIGNATURE_ALGORITHMS | ExtensionType::SIGNATURE_ALGORITHMS_CERT => {
-            opens::<SignatureSchemeList>(rt, alloc, row, bytes)?
+            opens::<SignatureSchemeList>(alloc, row, bytes)?
         }
         ExtensionType::PRE_SHARED_KEY => {
-            opens_in::<PreSharedKeyExtension>(rt, alloc, row, &place.kind, bytes)?
+            opens_in::<_, PreSharedKeyExtension>(alloc, row, &place.kind, bytes)?
         }
         ExtensionType::EARLY_DATA => {
-            opens_in::<EarlyDataIndication>(rt, alloc, row, &place.kind, bytes)?
+            opens_in::<_, EarlyDataIndication>(alloc, row, &place.kind, bytes)?
         }
         ExtensionType::SUPPORTED_VERSIONS => {
-            opens_in::<SupportedVersions>(rt, alloc, row, &place.kind, bytes)?
+            opens_in::<_, SupportedVersions>(alloc, row, &place.kind, bytes)?
         }
-        ExtensionType::COOKIE => opens::<Cookie>(rt, alloc, row, bytes)?,
+        ExtensionType::COOKIE => opens::<Cookie>(alloc, row, bytes)?,
         ExtensionType::PSK_KEY_EXCHANGE_MODES => {
-            opens::<PskKeyExchangeModes>(rt, alloc, row, bytes)?
+            opens::<PskKeyExchangeModes>(alloc, row, bytes)?
         }
         ExtensionType::CERTIFICATE_AUTHORITIES => {
-            opens::<CertificateAuthoritiesExtension>(rt, alloc, row, bytes)?
+            opens::<CertificateAuthoritiesExtension>(alloc, row, bytes)?
         }
-        ExtensionType::OID_FILTERS => opens::<OIDFilterExtension>(rt, alloc, row, bytes)?,
-        ExtensionType::POST_HANDSHAKE_AUTH => opens::<PostHandshakeAuth>(rt, alloc, row, bytes)?,
+        ExtensionType::OID_FILTERS => opens::<OIDFilterExtension>(alloc, row, bytes)?,
+        ExtensionType::POST_HANDSHAKE_AUTH => opens::<PostHandshakeAuth>(alloc, row, bytes)?,
         ExtensionType::KEY_SHARE => opens_key_share(rt, alloc, place, bytes)?,
         _ => return Ok(false),
     }
@@ -138,11 +138,11 @@ fn opens_key_share(
 ) -> Result<(), Fail> {
     let row = place.row;
     if place.retries {
-        opens::<KeyShareHelloRetryRequest>(rt, alloc, row, bytes)
+        opens::<KeyShareHelloRetryRequest>(alloc, row, bytes)
     } else if place.kind == HandshakeType::ServerHello {
-        opens::<KeyShareServerHello>(rt, alloc, row, bytes)
+        opens::<KeyShareServerHello>(alloc, row, bytes)
     } else {
-        opens::<KeyShareClientHello>(rt, alloc, row, bytes)
+        opens::<KeyShareClientHello>(alloc, row, bytes)
     }
 }
 
@@ -198,38 +198,40 @@ fn other_extensions(rt: HostRuntime) -> Result<(), Fail> {
             retries: false,
         };
         let opened = opens_as_its_type(&rt, alloc, &place, &extension)?;
-        same_at(&rt, row, opened, true);
+        same_at(row, opened, true)?;
     }
     Ok(())
 }
 
 // An empty body of one message is none of another's.
 #[test]
-fn values_of_other_messages(rt: HostRuntime) {
+fn values_of_other_messages(rt: HostRuntime) -> Result<(), Fail> {
     let alloc = rt.alloc();
     let version = SupportedVersions::ServerHello(0x0304);
     let identity = PreSharedKeyExtension::ServerHello(0);
     let early = EarlyDataIndication::ClientHello(EmptyType {});
     let client = HandshakeType::ClientHello;
-    is_misfit(&rt, alloc, "a version", &client, &version);
-    is_misfit(&rt, alloc, "an identity", &client, &identity);
+    is_misfit(alloc, "a version", &client, &version)?;
+    is_misfit(alloc, "an identity", &client, &identity)?;
     for (row, kind) in [
         ("a server's", HandshakeType::EncryptedExtensions),
         ("a ticket's", HandshakeType::NewSessionTicket),
     ] {
-        is_misfit(&rt, alloc, row, &kind, &early);
+        is_misfit(alloc, row, &kind, &early)?;
     }
+    Ok(())
 }
 
 // The context's number is named.
 #[test]
-fn messages_without_the_extension(rt: HostRuntime) {
+fn messages_without_the_extension(rt: HostRuntime) -> Result<(), Fail> {
     let alloc = rt.alloc();
     let server = HandshakeType::ServerHello;
     let finished = HandshakeType::Finished;
     let two = Error::UnknownValue(2);
-    is_refused_in::<EarlyDataIndication>(&rt, alloc, "early data", &server, &[], two);
+    is_refused_in::<_, EarlyDataIndication>(alloc, "early data", &server, &[], two)?;
     let twenty = Error::UnknownValue(20);
-    is_refused_in::<SupportedVersions>(&rt, alloc, "versions", &finished, &[3, 4], twenty);
-    is_refused_in::<PreSharedKeyExtension>(&rt, alloc, "keys", &finished, &[0, 0], twenty);
+    is_refused_in::<_, SupportedVersions>(alloc, "versions", &finished, &[3, 4], twenty)?;
+    is_refused_in::<_, PreSharedKeyExtension>(alloc, "keys", &finished, &[0, 0], twenty)?;
+    Ok(())
 }

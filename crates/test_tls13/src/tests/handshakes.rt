@@ -1,10 +1,10 @@
 //! Types and lengths of messages (section 4): those that no capture has, and wrong ones.
 use crate::tests::captured::{Row, bytes, mtls};
-use crate::tests::each_call::{is_refused_by, is_spelled};
-use crate::tests::same_at;
 use std::alloc::Global;
 use std::process::Abort;
 use std::test::Fail;
+use test_support::each_call::{is_refused_by, is_spelled};
+use test_support::rows::same_at;
 use tls_codec::{Deserialize, DeserializeBytes, Error, Serialize, TlsByteVecU24, U24};
 use tls13::{EndOfEarlyData, Handshake, KeyUpdate, KeyUpdateRequest};
 
@@ -42,7 +42,7 @@ fn small_messages(rt: HostRuntime) -> Result<(), Fail> {
             &[20, 0, 0, 2, 8, 9],
         ),
     ] {
-        is_spelled(&rt, alloc, row, &message, bytes)?;
+        is_spelled(alloc, row, &message, bytes)?;
     }
     Ok(())
 }
@@ -103,20 +103,21 @@ static REFUSED: [(&str, &[u8], Error, Error); 15] = [
 fn refused_lengths(rt: HostRuntime) -> Result<(), Fail> {
     let alloc = rt.alloc();
     for (row, bytes, of_slice, of_source) in REFUSED {
-        is_refused_by::<Handshake>(&rt, alloc, row, bytes, of_slice, of_source);
+        is_refused_by::<Handshake>(alloc, row, bytes, of_slice, of_source)?;
     }
     Ok(())
 }
 
 // Its hash has one byte then, and another is behind it.
 #[test]
-fn a_finished_of_one_less(rt: HostRuntime) {
+fn a_finished_of_one_less(rt: HostRuntime) -> Result<(), Fail> {
     let alloc = rt.alloc();
     let bytes = [20, 0, 0, 1, 8, 9];
     let split = Handshake::tls_deserialize_exact_bytes(alloc, &bytes).err();
-    same_at(&rt, "a slice", split, Some(TRAILING));
+    same_at("a slice", split, Some(TRAILING))?;
     let read = Handshake::tls_deserialize_exact(alloc, &bytes).err();
-    same_at(&rt, "a source", read, Some(TRAILING));
+    same_at("a source", read, Some(TRAILING))?;
+    Ok(())
 }
 
 // Those of earlier versions, of which TLS 1.3 has no structure, one of a transcript alone (254), and others.
@@ -128,7 +129,7 @@ fn refused_types(rt: HostRuntime) -> Result<(), Fail> {
     ] {
         let row = format!(in alloc; "type {kind}")?;
         let error = Error::UnknownValue(u64::from(kind));
-        is_refused_by::<Handshake>(&rt, alloc, &row, &[kind, 0, 0, 0], error, error);
+        is_refused_by::<Handshake>(alloc, &row, &[kind, 0, 0, 0], error, error)?;
     }
     Ok(())
 }
@@ -171,7 +172,7 @@ fn refuses_lengths(rt: &impl Abort, alloc: Global, row: &Row) -> Result<(), Fail
     ] {
         let name = format!(in alloc; "{}, {altered}", row.name)?;
         let bytes = spelled(alloc, *kind, length, body)?;
-        is_refused_by::<Handshake>(rt, alloc, &name, &bytes, of_slice, of_source);
+        is_refused_by::<Handshake>(alloc, &name, &bytes, of_slice, of_source)?;
     }
     Ok(())
 }

@@ -2,7 +2,7 @@
 use super::{refusal, same_at};
 use std::test::Fail;
 
-static BAD: [(&str, usize, usize, &str, &str); 79] = [
+static BAD: [(&str, usize, usize, &str, &str); 88] = [
     // types
     ("Foo A;", 1, 1, "Foo", "given by --with"),
     ("struct { Foo a; } A;", 1, 10, "Foo", "given by --with"),
@@ -91,9 +91,73 @@ static BAD: [(&str, usize, usize, &str, &str); 79] = [
     ("enum { a(70000) } A;", 1, 19, "A", "1, 2, 4 or 8"),
     ("enum { a(1), (16777215) } A;", 1, 27, "A", "1, 2, 4 or 8"),
     ("enum { a(4294967296) } A;", 1, 24, "A", "at most 4 bytes"),
+    (
+        "enum { 2^9(1), 512(2), (255) } A;",
+        1,
+        16,
+        "512",
+        "no value above",
+    ),
+    (
+        "enum { V512(1), 2^9(2), (255) } A;",
+        1,
+        17,
+        "512",
+        "no value above",
+    ),
+    (
+        "enum { 512(1), (255) } T; struct { T t; select (A.t) { case 512: uint8 a; } } A;",
+        1,
+        61,
+        "512",
+        "enum's bytes",
+    ),
+    (
+        "enum { 200(1), (255) } T; struct { T t; select (A.t) { case 200: uint8 a; } } A;",
+        1,
+        61,
+        "200",
+        "a value of the tag's enum",
+    ),
     // ranges
     ("enum { a(2..1), (255) } A;", 1, 13, "1", "before it begins"),
     ("enum { a(1..256), (255) } A;", 1, 13, "256", "enum's bytes"),
+    // types in place
+    (
+        "uint8 AKind; struct { enum { a(1) } kind; } A;",
+        1,
+        37,
+        "AKind",
+        "no definition above",
+    ),
+    (
+        "struct { struct {} own_kind; enum { a(1) } ownKind; } A;",
+        1,
+        44,
+        "AOwnKind",
+        "no definition above",
+    ),
+    (
+        "struct { struct {} _; } A;",
+        1,
+        25,
+        "A",
+        "no definition above",
+    ),
+    (
+        "struct { enum { a(1) } a[2]; } A;",
+        1,
+        24,
+        "AA",
+        "an array of bytes",
+    ),
+    (
+        "struct { enum { a(1), a(2) } b; } A;",
+        1,
+        23,
+        "a",
+        "no value above",
+    ),
     // vectors
     ("struct { opaque a; } A;", 1, 10, "opaque", "in a vector"),
     ("opaque A;", 1, 1, "opaque", "in a vector"),

@@ -27,7 +27,7 @@ static ELSEWHERE: [(&str, &str); 7] = [
     // of several values, with fields before, between and after (RFC 6962, section 3.4)
     (
         "enum { v1(0), (255) } V; enum { leaf(0), node(1), (255) } K; struct { V v; K k; uint8 x; select (k) { case leaf: uint16 a; uint16 b; } uint8 z; } M;",
-        "v.V values of 1: V1 0\nk_leaf.KLeaf values of 1: Leaf 0\nm.M: v V, k KLeaf, x u1, a u2, b u2, z u1,\n",
+        "v.V open values of 1: V1 0\nk_leaf.KLeaf values of 1: Leaf 0\nm.M: v V, k KLeaf, x u1, a u2, b u2, z u1,\n",
     ),
     // a number, and a value of an open enum that has no name
     (

@@ -107,21 +107,3 @@ fn more_than_may_be_in_all(rt: HostRuntime) -> Result<(), Fail> {
     expects(&rt, &refusal, "a smaller text");
     Ok(())
 }
-
-// The parts of a field that has the tag stand in its place, where its struct is flat.
-#[test]
-fn structs_in_structs(rt: HostRuntime) -> Result<(), Fail> {
-    let alloc = rt.alloc();
-    let few = fields(alloc, 20)?;
-    let many = fields(alloc, 240)?;
-    let text = format!(in alloc;
-        "struct {{ uint8 t; {few} }} A; struct {{ A a; {many} select (B.a.t) {{ case 1: struct {{}}; }} }} B;"
-    )?;
-    match read(alloc, text.as_str(), "A is flat;") {
-        Err(Trouble::Refused(refusal)) => {
-            expects(&rt, &refusal, "256 parts");
-            Ok(())
-        }
-        _ => panic!(rt; "not refused"),
-    }
-}

@@ -58,7 +58,8 @@ fn variants(rt: HostRuntime) -> Result<(), Fail> {
             "DECRYPT_ERROR_RESERVED",
         ),
         ("a__b", "AB", "A__B"),
-        ("1", "x1", "x1"),
+        ("512", "V512", "V512"),
+        ("_a", "A", "V_A"),
     ] {
         let found = variant_name(rt.alloc(), name, "Color")?;
         same_at(&rt, name, found.as_str(), variant);

@@ -10,7 +10,7 @@ use tlsgen_syntax::parser::{parse, parse_notes};
 use tlsgen_syntax::refusal::Trouble;
 
 // A text, its notes, and the plan.
-static NOTED: [(&str, &str, &str); 11] = [
+static NOTED: [(&str, &str, &str); 12] = [
     // a length of what follows (RFC 8446, section 4), and a struct that fills it
     (
         "enum { hello(1), done(5), finished(20), (255) } T; struct { uint16 v; uint8 x; } Hello; struct { opaque verify_data[Hash.length]; } Finished; struct { T t; uint24 length; select (H.t) { case hello: Hello; case finished: Finished; case done: struct {}; }; } H;",
@@ -41,22 +41,28 @@ static NOTED: [(&str, &str, &str); 11] = [
         "T is open; Inner left out;",
         "t.T open values of 1: A 1\ns.S: t T,\n",
     ),
-    // the parts of flat structs stand in place of the fields, where the tag is at hand
+    // enums that no select is on keep numbers without a name, unless a note closes them
     (
-        "enum { a(1), b(2) } T; struct { T t; uint8 x; } H; struct { select (H.t) { case a: uint8 y; case b: struct {}; } } P; struct { H h; P p; } S;",
-        "H is flat; P is flat;",
-        "t.T values of 1: A 1 B 2\nh.H: t T, x u1,\ns.S by 1:\n  A A 1: x u1, y u1,\n  B B 2: x u1,\n",
+        "enum { a(1), (255) } T; enum { b(1), (255) } U; struct { T t; U u; } S;",
+        "U is closed;",
+        "t.T open values of 1: A 1\nu.U values of 1: B 1\ns.S: t T, u U,\n",
+    ),
+    // zeros to the end (RFC 9420, section 6.3.1), and names for selects
+    (
+        "enum { a(1), b(2) } T; struct { select (M.t) { case a: opaque x<V>; case b: struct {}; }; uint8 y; opaque padding[length_of_padding]; } P; struct { T t; uint8 z; } M;",
+        "P.padding fills rest with zeros; P.t called content; P.t called Content;",
+        "t.T values of 1: A 1 B 2\ncontent.Content for t T sum by 1:\n  A A 1: x opaque<V>,\n  B B 2:\np.P for t T: content Content*, y u1,\nm.M: t T, z u1,\n",
     ),
     (
-        "struct { select (H.t) { case 1: uint8 a; case 2: struct{}; } } R; struct { uint8 t; } H; struct { H h; R r; } S;",
-        "R is flat; H is flat;",
-        "h.H: t u1,\ns.S by 1:\n  Case1 CASE_1 1: a u1,\n  Case2 CASE_2 2:\n",
+        "struct { uint8 t; uint8 k; select (t) { case 1: uint8 a; case 2: opaque b<V>; }; uint8 c; } S;",
+        "S.t called body;",
+        "t_data.TData by 1:\n  Case1 CASE_1 1: k u1, a u1,\n  Case2 CASE_2 2: k u1, b opaque<V>,\ns.S: body TData, c u1,\n",
     ),
-    // the enum of a lent struct is one of the same parts that isn't lent, or another's
+    // a tag that nothing defines (RFC 7250, section 3)
     (
-        "enum { a(1), b(2) } T; struct { select (H.t) { case a: uint8 y; case b: struct{}; } } R; struct { T t; } H; lent struct { uint8 x; H h; R r; } L; struct { uint8 x; H h; R r; } S; lent struct { uint8 z; H h; R r; } M;",
-        "R is flat; H is flat;",
-        "t.T values of 1: A 1 B 2\nh.H: t T,\nlent t_data.TData by 1:\n  A A 1: y u1,\n  B B 2:\nlent l.L: x u1, t TData,\nst_data.STData by 1:\n  A A 1: y u1,\n  B B 2:\ns.S: x u1, t STData,\nlent m.M: z u1, t STData,\n",
+        "struct { select (ClientOrServer) { case client: uint8 types<1..2^8-1>; case server: uint8 type; } } E;",
+        "ClientOrServer.client = 0; ClientOrServer.server = 1;",
+        "client_or_server.ClientOrServer values of 1: Client 0 Server 1\ne.E for client_or_server ClientOrServer sum by 1:\n  Client CLIENT 0: types u1<1: 1..255>,\n  Server SERVER 1: kind u1,\n",
     ),
     // a registry's names, and a select on them
     (
@@ -75,7 +81,7 @@ static NOTED: [(&str, &str, &str); 11] = [
 ];
 
 // A text, its notes, the column and what was found and expected there.
-static REFUSED: [(&str, &str, usize, &str, &str); 24] = [
+static REFUSED: [(&str, &str, usize, &str, &str); 27] = [
     (
         "struct {} A;",
         "A.b counts rest;",
@@ -132,20 +138,40 @@ static REFUSED: [(&str, &str, usize, &str, &str); 24] = [
         "uint32",
         "1 or 2 bytes",
     ),
-    // the parts of a lent struct stand in one that isn't, and one of them is lent
     (
-        "enum { a(1), b(2) } T; lent struct { uint8 x; } L; lent struct { L l; T t; } F; struct { F f; select (S.f.t) { case a: uint8 y; case b: struct{}; } } S;",
-        "F is flat;",
-        66,
-        "L",
-        "a lent struct is only written",
+        "struct { uint8 t; uint8 p[n]; uint8 z; } A;",
+        "A.p fills rest with zeros;",
+        1,
+        "A",
+        "its last field",
     ),
     (
-        "enum { a(1), b(2) } T; lent struct { uint8 x; } L; lent struct { T t; select (F.t) { case a: L l; case b: struct{}; } } F; struct { F f; select (S.f.t) { case a: uint8 y; case b: struct{}; } } S;",
-        "F is flat;",
-        94,
-        "L",
-        "a lent struct is only written",
+        "struct { uint8 t; uint16 p[n]; } A;",
+        "A.p fills rest with zeros;",
+        1,
+        "A",
+        "its last field",
+    ),
+    (
+        "struct { uint8 t; uint8 p[n]; } A;",
+        "A.p fills rest with ones;",
+        21,
+        "ones",
+        "zeros",
+    ),
+    (
+        "struct { uint8 t; uint8 p[n]; } A; struct { A a; } B;",
+        "A.p fills rest with zeros;",
+        45,
+        "A",
+        "as `Padded`",
+    ),
+    (
+        "struct { uint8 t; select (t) { case 1: uint8 a; case 2: struct {}; } body; } A;",
+        "A.t called content;",
+        1,
+        "A",
+        "that has no name",
     ),
     ("uint8 A;", "A.b = 256;", 1, "A", "that the type holds"),
     ("uint8 A;", "A.b = 1; A.c = 1;", 10, "A", "no note above"),
@@ -153,7 +179,7 @@ static REFUSED: [(&str, &str, usize, &str, &str); 24] = [
     ("enum { b(1) } A;", "A.b = 1;", 1, "A", "an integer type"),
     (
         "enum { a(1) } A;",
-        "A is flat;",
+        "A is lent;",
         1,
         "A",
         "a struct of this text",
@@ -163,7 +189,7 @@ static REFUSED: [(&str, &str, usize, &str, &str); 24] = [
         "A is round;",
         6,
         "round",
-        "open, flat or lent",
+        "open, closed or lent",
     ),
     ("struct {} A;", "A is open;", 1, "A", "an enum"),
     ("struct {} A;", "B left out;", 1, "B", "a definition"),

@@ -1,7 +1,7 @@
 // The plans of the inputs, as another program in another language makes them of the same texts.
 
 pub static SHAPES: &str = "type Key = opaque<V>
-version.Version values of 2: Mls10 1 Draft 2
+version.Version open values of 2: Mls10 1 Draft 2
 certificate.Certificate: cert_data opaque<V>,
 credential.Credential by 2:
   Basic BASIC 1: identity opaque<V>,
@@ -13,7 +13,7 @@ wide.Wide: a u1, b u3, c u4, d u8, e opaque[16], f opaque<1: 0..255>, g opaque<2
 ";
 
 pub static ALERT: &str =
-    "alert.Alert values of 1: CloseNotify 0 UnexpectedMessage 10 BadRecordMac 20 RecordOverflow 22 HandshakeFailure 40 BadCertificate 42 UnsupportedCertificate 43 CertificateRevoked 44 CertificateExpired 45 CertificateUnknown 46 IllegalParameter 47 UnknownCa 48 AccessDenied 49 DecodeError 50 DecryptError 51 ProtocolVersion 70 InsufficientSecurity 71 InternalError 80 InappropriateFallback 86 UserCanceled 90 MissingExtension 109 UnsupportedExtension 110 UnrecognizedName 112 BadCertificateStatusResponse 113
+    "alert.Alert open values of 1: CloseNotify 0 UnexpectedMessage 10 BadRecordMac 20 RecordOverflow 22 HandshakeFailure 40 BadCertificate 42 UnsupportedCertificate 43 CertificateRevoked 44 CertificateExpired 45 CertificateUnknown 46 IllegalParameter 47 UnknownCa 48 AccessDenied 49 DecodeError 50 DecryptError 51 ProtocolVersion 70 InsufficientSecurity 71 InternalError 80 InappropriateFallback 86 UserCanceled 90 MissingExtension 109 UnsupportedExtension 110 UnrecognizedName 112 BadCertificateStatusResponse 113
 message.Message: alert Alert, level u1,
 ";
 
@@ -25,7 +25,7 @@ type KeyPackageRef = =HashReference
 type ProposalRef = =HashReference
 type CipherSuite = u2
 type ExtensionType = u2
-protocol_version.ProtocolVersion values of 2: Mls10 1
+protocol_version.ProtocolVersion open values of 2: Mls10 1
 certificate.Certificate: cert_data opaque<V>,
 credential.Credential by 2:
   Basic BASIC 1: identity opaque<V>,
@@ -48,7 +48,7 @@ hpke_ciphertext.HPKECiphertext: kem_output opaque<V>, ciphertext opaque<V>,
 update_path_node.UpdatePathNode: encryption_key =HPKEPublicKey, encrypted_path_secret HPKECiphertext<V>,
 update_path.UpdatePath: leaf_node LeafNode, nodes UpdatePathNode<V>,
 group_context.GroupContext: version ProtocolVersion, cipher_suite =CipherSuite, group_id opaque<V>, epoch u8, tree_hash opaque<V>, confirmed_transcript_hash opaque<V>, extensions Extension<V>,
-resumption_psk_usage.ResumptionPSKUsage values of 1: Application 1 Reinit 2 Branch 3
+resumption_psk_usage.ResumptionPSKUsage open values of 1: Application 1 Reinit 2 Branch 3
 psk_type_data.PSKTypeData by 1:
   External EXTERNAL 1: psk_id opaque<V>,
   Resumption RESUMPTION 2: usage ResumptionPSKUsage, psk_group_id opaque<V>, psk_epoch u8,
@@ -101,7 +101,8 @@ wire_format.WireFormat values of 2: MlsPublicMessage 1 MlsPrivateMessage 2 MlsWe
 framed_content_auth_data.FramedContentAuthData for content_type ContentType: signature opaque<V>, confirmation_tag =MAC for 3*,
 authenticated_content.AuthenticatedContent: wire_format WireFormat, content FramedContent, auth FramedContentAuthData*content.ContentType,
 public_message.PublicMessage: content FramedContent, auth FramedContentAuthData*content.ContentType, membership_tag =MAC for 1*content.SenderType,
-framed_content_tbs.FramedContentTBS: version ProtocolVersion, wire_format WireFormat, content FramedContent, context GroupContext for 1 4*content.SenderType,
+protocol_version_mls10.ProtocolVersionMls10 values of 2: Mls10 1
+framed_content_tbs.FramedContentTBS: version ProtocolVersionMls10, wire_format WireFormat, content FramedContent, context GroupContext for 1 4*content.SenderType,
 leaf_node_tbs_leaf_node_source_data.LeafNodeTBSLeafNodeSourceData by 1:
   KeyPackage KEY_PACKAGE 1: lifetime Lifetime, extensions Extension<V>,
   Update UPDATE 2: extensions Extension<V>, group_id opaque<V>, leaf_index u4,
@@ -113,7 +114,7 @@ wire_format_data.WireFormatData by 2:
   MlsWelcome MLS_WELCOME 3: welcome Welcome,
   MlsGroupInfo MLS_GROUP_INFO 4: group_info GroupInfo,
   MlsKeyPackage MLS_KEY_PACKAGE 5: key_package KeyPackage,
-mls_message.MLSMessage: version ProtocolVersion, wire_format WireFormatData,
+mls_message.MLSMessage: version ProtocolVersionMls10, wire_format WireFormatData,
 ContentTypeData holds ContentType: its tag
 FramedContent holds ContentType: content_type
 FramedContent holds SenderType: sender

@@ -65,9 +65,9 @@ fn what_is_printed_says_the_same(rt: HostRuntime) -> Result<(), Fail> {
 #[test]
 fn one_layout(rt: HostRuntime) -> Result<(), Fail> {
     let text =
-        "enum{a(0x10),r(17..0x1f),(2^8-1)}A;open enum { b.1 ( 1 ) } B.2 ; lent struct{}E;opaque K<V>;optional<K>C[2];K D[A.b.c];// the end
-struct{A a=b;uint8 n=0x0a;C b={1,2};optional<C>c<0..2^16-1>;select(S.a.b){case a:case 7:uint8 x;K k[2];case y:K;case z:struct{};}select(S.a){}N;}S;digitally-signed struct{A a;}F;struct{digitally-signed struct{A a;select(a){case b:K;}s;}k;digitally-signed struct{};}G;";
-    let want = "enum { a(16), r(17..31), (255) } A;
+        "enum{a(0x10),2^9(3),r(17..0x1f),(2^8-1)}A;open enum { b.1 ( 1 ) } B.2 ; lent struct{}E;opaque K<V>;optional<K>C[2];K D[A.b.c];// the end
+struct{A a=b;uint8 n=0x0a;C b={1,2};optional<C>c<0..2^16-1>;select(S.a.b){case a:case 7:uint8 x;K k[2];case y:K;case z:struct{};}select(S.a){}N;}S;digitally-signed struct{A a;}F;struct{digitally-signed struct{A a;select(a){case b:K;}s;}k;digitally-signed struct{};}G;struct{enum{a(1)}k;open enum{2(1),(255)}l<V>;struct{opaque a[2];select(k){case a:K;}}i[2];struct{}j;}H;";
+    let want = "enum { a(16), 512(3), r(17..31), (255) } A;
 open enum { b.1(1) } B.2;
 lent struct {
 } E;
@@ -106,6 +106,19 @@ struct {
     digitally-signed struct {
     };
 } G;
+struct {
+    enum { a(1) } k;
+    open enum { 2(1), (255) } l<V>;
+    struct {
+        opaque a[2];
+        select (k) {
+            case a:
+                K;
+        }
+    } i[2];
+    struct {
+    } j;
+} H;
 ";
     let source = source_of(&rt, rt.alloc(), text);
     let printed = print(rt.alloc(), &source)?;
@@ -114,7 +127,7 @@ struct {
 }
 
 // Texts that are refused, each with the place, what stands there, and what would be right.
-static BAD: [(&str, usize, usize, &str, &str); 46] = [
+static BAD: [(&str, usize, usize, &str, &str); 53] = [
     ("enum", 1, 5, "", "{"),
     (
         "{",
@@ -240,7 +253,45 @@ static BAD: [(&str, usize, usize, &str, &str); 46] = [
         1,
         42,
         "uint8",
-        "}",
+        "} of struct {}: a struct with fields is no case's, but a definition of its own",
+    ),
+    ("enum { 1 2(3) } A;", 1, 10, "2", "("),
+    // types in place
+    (
+        "struct { enum { a(1) }; } A;",
+        1,
+        23,
+        ";",
+        "the field's name",
+    ),
+    (
+        "struct { enum { a(1) } b = a; } A;",
+        1,
+        26,
+        "=",
+        "[, < or ;",
+    ),
+    ("struct { open struct {} a; } A;", 1, 15, "struct", "enum"),
+    (
+        "struct { struct { struct {} a; } b; } A;",
+        1,
+        19,
+        "struct",
+        "the name of a type: an enum or a struct may stand in a struct that is a definition",
+    ),
+    (
+        "struct { struct { open enum { a(1) } a; } b; } A;",
+        1,
+        19,
+        "open",
+        "the name of a type: an enum or a struct may stand in a struct that is a definition",
+    ),
+    (
+        "struct { digitally-signed struct { enum { a(1) } a; }; } A;",
+        1,
+        36,
+        "enum",
+        "the name of a type: an enum or a struct may stand in a struct that is a definition",
     ),
     // signatures
     ("digitally-signed opaque A;", 1, 18, "opaque", "struct"),

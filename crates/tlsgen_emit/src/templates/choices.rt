@@ -172,7 +172,7 @@ pub const VARIANTS: Lines = Lines {
 $declared$    },
 ",
     bare: Some("    /// `case $label$:`\n    $variant$,\n"),
-    one: Some("    /// `case $label$: $stated$`\n    $variant$($types$),\n"),
+    one: Some("    /// `case $label$: $stated$`\n$comment$    $variant$($types$),\n"),
     behind: "",
     alone: None,
 };

@@ -15,19 +15,37 @@ pub fn templates() -> Templates {
     }
 }
 
-const GHOST_USES: &str =
-    "ghost use Rattle.$crate$.specs.$name$.{$module$_format, $module$_meets, $module$_plain$selected_use$};
+const GHOST_USES: &str = "ghost use Rattle.std.specs.Ordering.{nat_cmp};
+ghost use Rattle.$crate$.specs.$name$.{$module$_format, $module$_meets, $module$_name, $module$_plain, $module$_text$selected_use$};
 ghost use Rattle.$crate$.specs.declared.$module$.$name$.{$name$};
 ";
 
-static TEXTS: [Lines; 2] = [
+static TEXTS: [Lines; 4] = [
     Lines {
         hole: "constants",
         before: "",
-        each: "$line$    /// `$label$`\n    pub const $constant$: $name$ = $name$($number$);\n",
+        each: "$line$    /// `$label$`\n$comment$    pub const $constant$: $name$ = $name$($number$);\n",
         bare: None,
         one: None,
         behind: "",
+        alone: None,
+    },
+    Lines {
+        hole: "name_of",
+        before: "",
+        each: "            $number$ => Some(\"$label$\"),\n",
+        bare: None,
+        one: None,
+        behind: "",
+        alone: None,
+    },
+    Lines {
+        hole: "named",
+        before: "",
+        each: "    ($number$, codes \"$label$\") ∷\n",
+        bare: None,
+        one: None,
+        behind: "    []\n",
         alone: None,
     },
     Lines {
@@ -41,11 +59,52 @@ static TEXTS: [Lines; 2] = [
     },
 ];
 
-const CODE: &str = "$doc$$lent_doc$#[derive(PartialEq, Eq, Debug, Clone, Copy)]
+const CODE: &str =
+    "$doc$$lent_doc$#[derive(PartialEq, Eq, PartialOrd, Ord, Hash, Debug, Clone, Copy)]
 pub struct $name$(pub u$bits$);
 
 impl $name$ {
-$constants$}
+$constants$
+    /// Its name in the text, if it has one.
+    pub fn name(&self) -> Option<&'static str>
+        ensures { option_map (λ name. name.now) result ≡ $module$_name self.now.0 }
+    {
+        match self.0 {
+$name_of$            _ => None,
+        }
+    }
+}
+
+/// Its name, or else its number in hexadecimal, two digits a byte. A width pads names alone.
+impl fmt::Display for $name$ {
+    ghost output = { λ v. Some ($module$_text v.0) };
+
+    #[tactic(auto, using(crate::specs::$name$::$module$_printed))]
+    fn fmt<W: fmt::Write>(&self, f: &mut fmt::Formatter<W>) -> fmt::Result {
+        match self.name() {
+            Some(name) => f.pad(name),
+            None => write!(f, \"0x{:0$digits$x}\", self.0),
+        }
+    }
+}
+
+/// Its number.
+impl From<$name$> for u$bits$ {
+    ghost from_gives = { λ v number. number ≡ v.0 };
+
+    fn from(value: $name$) -> u$bits$ {
+        value.0
+    }
+}
+
+/// The one that has this number.
+impl From<u$bits$> for $name$ {
+    ghost from_gives = { λ number v. v.0 ≡ number };
+
+    fn from(number: u$bits$) -> $name$ {
+        $name$(number)
+    }
+}
 
 impl Size for $name$ {
     ghost plain = { $module$_plain };
@@ -98,6 +157,12 @@ pub fn is_compared_by_its_number()
     ensures { (x y : $name$) →
         ⟦<$name$ as PartialEq>⟧.eq x y ≡ nat_eq x.0 y.0 }
 {}
+
+/// Two are in the order of their numbers.
+pub fn is_ordered_by_its_number()
+    ensures { (x y : $name$) →
+        ⟦<$name$ as Ord>⟧.cmp x y ≡ nat_cmp x.0 y.0 }
+{}
 ";
 
 const SPECS: &str = "abbrev pub $module$_plain : $name$ → Tree
@@ -108,4 +173,31 @@ $module$_format = number_format $width$
 
 pub $module$_meets : MeetsLaws $module$_format
 $module$_meets = u$bits$_meets
+
+-- the numbers that have names
+abbrev pub $module$_names : List (ℕ × List ℕ)
+$module$_names =
+$named$
+-- the name of a number
+abbrev pub $module$_name : ℕ → Option (List ℕ)
+$module$_name n =
+    option_map (λ (entry : ℕ × List ℕ). entry.1)
+    (find (λ (entry : ℕ × List ℕ). n == entry.0) $module$_names)
+
+-- a number in hexadecimal, with zeros up to $digits$ digits
+abbrev pub $module$_hex : ℕ → List ℕ
+$module$_hex n = let hex = digits 16 false n in replicate ($digits$ - length hex) 48 ++ hex
+
+-- what is printed
+abbrev pub $module$_text : ℕ → List ℕ
+$module$_text n = unwrap_or ($module$_name n) (codes \"0x\" ++ $module$_hex n)
+
+-- the hexadecimal digits, as std says it of `{:0$digits$x}`
+pub $module$_printed : (hex : List ℕ)
+    → padded_integral (format_spec 32 0 4 $digits$ (2 ^ 64 - 1)) false [] hex
+    ≡ replicate ($digits$ - length hex) 48 ++ hex
+unfolding padded_integral char_count
+$module$_printed hex =
+    let short : $digits$ - length hex - 0 - 0 ≡ $digits$ - length hex = omega arith in
+    rw (short, append-nil hex) refl
 $selection$";

@@ -183,7 +183,8 @@ const TAGGED_DECODERS: &str = "
 impl Deserialize for $name$ {
     ghost names = { ⟦<Cases as Deserialize>⟧.names };
 
-    /// `TrailingData`: the case's fields end before their length does. `UnknownValue`: no case has the tag.
+    /// `TrailingData`: the case's fields end before their length does.
+    /// `UnknownValue`: no case has the tag.
     fn tls_deserialize<R: Source>(alloc: Global, src: &mut R) -> Result<$name$, Error> {
         let cases = <Cases>::tls_deserialize(alloc, src)?;
         Ok($name$::of(cases))
@@ -193,7 +194,8 @@ impl Deserialize for $name$ {
 impl DeserializeBytes for $name$ {
     ghost names = { ⟦<Cases as DeserializeBytes>⟧.names };
 
-    /// `TrailingData`: the case's fields end before their length does. `UnknownValue`: no case has the tag.
+    /// `TrailingData`: the case's fields end before their length does.
+    /// `UnknownValue`: no case has the tag.
     fn tls_deserialize_bytes(alloc: Global, whole: &[u8]) -> Result<($name$, &[u8]), Error> {
         let (cases, rest) = <Cases>::tls_deserialize_bytes(alloc, whole)?;
         Ok(($name$::of(cases), rest))

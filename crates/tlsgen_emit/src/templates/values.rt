@@ -15,17 +15,19 @@ pub fn templates() -> Templates {
     }
 }
 
-const GHOST_USES: &str =
-    "ghost use Rattle.tls_codec.specs.OwnMessages.{values_names, values_source_names};
-ghost use Rattle.$crate$.specs.$name$.{$module$_code, $module$_format, $module$_has, $module$_meets, $module$_plain$selected_use$};
+const GHOST_USES: &str = "ghost use Rattle.std.specs.Fmt.{padded};
+ghost use Rattle.std.specs.Ordering.{nat_cmp};
+ghost use Rattle.tls_codec.specs.Errors.{UnknownValue};
+ghost use Rattle.tls_codec.specs.OwnMessages.{values_names, values_source_names};
+ghost use Rattle.$crate$.specs.$name$.{$module$_code, $module$_format, $module$_has, $module$_meets, $module$_name, $module$_plain$selected_use$};
 ghost use Rattle.$crate$.specs.declared.$module$.$name$.{$name$};
 ";
 
-static TEXTS: [Lines; 6] = [
+static TEXTS: [Lines; 8] = [
     Lines {
         hole: "variants",
         before: "",
-        each: "    /// `$label$($number$)`\n    $variant$,\n",
+        each: "    /// `$label$($number$)`\n$comment$    $variant$,\n",
         bare: None,
         one: None,
         behind: "",
@@ -39,6 +41,15 @@ static TEXTS: [Lines; 6] = [
         one: None,
         behind: "        }\n",
         alone: Some("        $number$\n"),
+    },
+    Lines {
+        hole: "name_of",
+        before: "        match self {\n",
+        each: "            $name$::$variant$ => \"$label$\",\n",
+        bare: None,
+        one: None,
+        behind: "        }\n",
+        alone: Some("        \"$label$\"\n"),
     },
     Lines {
         hole: "of_code",
@@ -57,6 +68,15 @@ static TEXTS: [Lines; 6] = [
         one: None,
         behind: "",
         alone: Some("$module$_code v = $number$\n"),
+    },
+    Lines {
+        hole: "named",
+        before: "",
+        each: "$module$_name $variant$ = codes \"$label$\"\n",
+        bare: None,
+        one: None,
+        behind: "",
+        alone: Some("$module$_name v = codes \"$label$\"\n"),
     },
     Lines {
         hole: "known",
@@ -78,7 +98,8 @@ static TEXTS: [Lines; 6] = [
     },
 ];
 
-const CODE: &str = "$doc$$lent_doc$#[derive(PartialEq, Eq, Debug, Clone, Copy)]
+const CODE: &str =
+    "$doc$$lent_doc$#[derive(PartialEq, Eq, PartialOrd, Ord, Hash, Debug, Clone, Copy)]
 pub enum $name$ {
 $variants$}
 
@@ -89,12 +110,54 @@ impl $name$ {
     {
 $code$    }
 
+    /// Its name in the text.
+    pub fn name(&self) -> &'static str
+        ensures { result.now ≡ $module$_name self.now }
+    {
+$name_of$    }
+
     /// The value that has this number.
     pub fn of_code(code: u$bits$) -> Option<$name$>
         ensures { MatchOption result ($module$_has code ≡ false) (λ v. $module$_code v ≡ code) }
     {
         match code {
 $of_code$            _ => None,
+        }
+    }
+}
+
+/// Its name.
+impl fmt::Display for $name$ {
+    ghost output = { λ v. Some ($module$_name v) };
+
+    ghost styled_output = { λ v spec. Some (padded spec ($module$_name v)) };
+
+    fn fmt<W: fmt::Write>(&self, f: &mut fmt::Formatter<W>) -> fmt::Result {
+        f.pad(self.name())
+    }
+}
+
+/// Its number.
+impl From<$name$> for u$bits$ {
+    ghost from_gives = { λ v number. number ≡ $module$_code v };
+
+    fn from(value: $name$) -> u$bits$ {
+        value.code()
+    }
+}
+
+/// The value that has this number.
+impl TryFrom<u$bits$> for $name$ {
+    type Error = Error;
+
+    ghost try_from_gives = { λ tag r. MatchResult r
+        (λ v. $module$_code v ≡ tag)
+        (λ e. ($module$_has tag ≡ false) × (e ≡ UnknownValue tag)) };
+
+    fn try_from(tag: u$bits$) -> Result<$name$, Error> {
+        match $name$::of_code(tag) {
+            Some(value) => Ok(value),
+            None => Err(unknown_value($u64$)),
         }
     }
 }
@@ -153,11 +216,21 @@ pub fn is_compared_by_its_number()
         ⟦<$name$ as PartialEq>⟧.eq x y
         ≡ nat_eq ($module$_code x) ($module$_code y) }
 {}
+
+/// Two are in the order of their numbers.
+pub fn is_ordered_by_its_number()
+    ensures { (x y : $name$) →
+        ⟦<$name$ as Ord>⟧.cmp x y
+        ≡ nat_cmp ($module$_code x) ($module$_code y) }
+{}
 ";
 
 const SPECS: &str = "-- the number of each value
 abbrev pub $module$_code : $name$ → ℕ
 $codes$
+-- the name of each value
+abbrev pub $module$_name : $name$ → List ℕ
+$named$
 -- which numbers there are
 abbrev pub $module$_has : ℕ → Bool
 $module$_has n = $has$
@@ -182,7 +255,9 @@ pub static WRITES: Lines = Lines {
     hole: "answers",
     before: "
 pub returns-clause-writes : goal.returns-clause-writes
-returns-clause-writes g c = value_writes $module$_has u$bits$_meets ($module$_known c.args.self.now) c.code.ensures _ _ _ _ c.tls_serialize.ensures.writes
+returns-clause-writes g c =
+    value_writes $module$_has u$bits$_meets ($module$_known c.args.self.now) c.code.ensures _ _ _ _
+    c.tls_serialize.ensures.writes
 ",
     each: "",
     bare: None,
@@ -195,7 +270,9 @@ pub static APPENDS: Lines = Lines {
     hole: "answers",
     before: "
 pub returns-clause-appends : goal.returns-clause-appends
-returns-clause-appends c = value_appends $module$_has u$bits$_meets ($module$_known c.args.self.now) c.code.ensures _ _ _ c.tls_serialize_into.ensures.appends
+returns-clause-appends c =
+    value_appends $module$_has u$bits$_meets ($module$_known c.args.self.now) c.code.ensures _ _ _
+    c.tls_serialize_into.ensures.appends
 ",
     each: "",
     bare: None,
@@ -208,23 +285,34 @@ pub static READS: Lines = Lines {
     hole: "answers",
     before: "
 pub returns-in_err-tag-clause-reads : goal.returns-in_err-tag-clause-reads
-returns-in_err-tag-clause-reads g c = tag_reads u$bits$_meets (values_meet $module$_has) _ _ _ _ _ c.from_residual.ensures.1 c.in_err-tag.ensures.reads
+returns-in_err-tag-clause-reads g c =
+    tag_reads u$bits$_meets (values_meet $module$_has) _ _ _ _ _ c.from_residual.ensures.1
+    c.in_err-tag.ensures.reads
 
 pub returns-in_err-tag-clause-named : goal.returns-in_err-tag-clause-named
-returns-in_err-tag-clause-named g c = tag_named_source u$bits$_meets (values_meet $module$_has) _ _ _ _ _ c.from_residual.ensures.1 c.in_err-tag.ensures.named
+returns-in_err-tag-clause-named g c =
+    tag_named_source u$bits$_meets (values_meet $module$_has) _ _ _ _ _ c.from_residual.ensures.1
+    c.in_err-tag.ensures.named
 
 pub returns-in-Some-clause-reads : goal.returns-in-Some-clause-reads
 returns-in-Some-clause-reads g c =
     let source = g.met.R.Source in
-    value_given $module$_has u$bits$_meets ($module$_known c.in-Some.value) (sym c.in-Some.ensures) source.gives_in_order source.gives_nothing c.in_ok-tag.ensures.reads
+    value_given $module$_has u$bits$_meets ($module$_known c.in-Some.value)
+    (sym c.in-Some.ensures) source.gives_in_order source.gives_nothing c.in_ok-tag.ensures.reads
 
 pub returns-in-None-clause-reads : goal.returns-in-None-clause-reads
-returns-in-None-clause-reads g c = let is = c.unknown_value.ensures in rw is (tagged_leaves_unknown u$bits$_meets (values_meet $module$_has) g.met.R.Source.gives_nothing c.in_ok-tag.ensures.reads c.in-None.ensures)
+returns-in-None-clause-reads g c =
+    let is = c.unknown_value.ensures in
+    rw is (tagged_leaves_unknown u$bits$_meets (values_meet $module$_has)
+    g.met.R.Source.gives_nothing c.in_ok-tag.ensures.reads c.in-None.ensures)
 
 pub returns-in-None-clause-named : goal.returns-in-None-clause-named
 returns-in-None-clause-named g c =
     let source = g.met.R.Source in
-    let is = c.unknown_value.ensures in rw is $cast$(unknown_named_source u$bits$_meets (values_meet $module$_has) _ source.gives_nothing source.no_count_falls c.in_ok-tag.ensures.reads c.in-None.ensures (λ x. (c.in-None.ensures, refl)))$end$
+    let is = c.unknown_value.ensures in
+    rw is $cast$(unknown_named_source u$bits$_meets (values_meet $module$_has) _
+    source.gives_nothing source.no_count_falls c.in_ok-tag.ensures.reads
+    c.in-None.ensures (λ x. (c.in-None.ensures, refl)))$end$
 ",
     each: "",
     bare: None,
@@ -237,10 +325,15 @@ pub static SPLITS: Lines = Lines {
     hole: "answers",
     before: "
 pub returns-in-Some-clause-splits : goal.returns-in-Some-clause-splits
-returns-in-Some-clause-splits c = value_begins $module$_has u$bits$_meets ($module$_known c.in-Some.value) (sym c.in-Some.ensures) c.in_ok-tag.ensures.splits
+returns-in-Some-clause-splits c =
+    value_begins $module$_has u$bits$_meets ($module$_known c.in-Some.value)
+    (sym c.in-Some.ensures) c.in_ok-tag.ensures.splits
 
 pub returns-in-None-clause-splits : goal.returns-in-None-clause-splits
-returns-in-None-clause-splits c = let is = c.unknown_value.ensures in rw is (tagged_refuses_unknown u$bits$_meets (values_meet $module$_has) c.in_ok-tag.ensures.splits c.in-None.ensures)
+returns-in-None-clause-splits c =
+    let is = c.unknown_value.ensures in
+    rw is (tagged_refuses_unknown u$bits$_meets (values_meet $module$_has)
+    c.in_ok-tag.ensures.splits c.in-None.ensures)
 ",
     each: "",
     bare: None,

@@ -1,16 +1,28 @@
 //! Enums.
 ghost use Rattle.std.specs.Prelude.{◌≡◌, ◌<◌, ◌≤◌, IfOk, OnOk};
-ghost use Rattle.tlsgen_syntax.specs.Signs.{Reads, count_left, enum_then, optional_name_then, range_end_then, separated_then, signs_left, value_then};
+ghost use Rattle.tlsgen_syntax.specs.Signs.{Reads, count_left, numbers_then, range_end_then, separated_then, signs_left, source_enum_then, source_value_then, value_name_then};
 
 use crate::refusal::Trouble;
-use crate::syntax::{Enum, Name, Number, Value};
+use crate::source::{Numbers, SourceEnum, SourceValue, ValueName};
+use crate::syntax::Number;
 use crate::token::Mark;
 use crate::tokens::Tokens;
 use std::alloc::Global;
 
 /// `["open"] "enum" "{" values "}" NAME ";"`
-pub(crate) fn enumeration(alloc: Global, tokens: &mut Tokens<'_>) -> Result<Enum, Trouble>
-    ensures read { Reads enum_then tokens.old tokens.new result }
+pub(crate) fn enumeration(alloc: Global, tokens: &mut Tokens<'_>) -> Result<SourceEnum, Trouble>
+    ensures read { Reads source_enum_then tokens.old tokens.new result }
+    ensures fewer { OnOk result (count_left tokens.new < count_left tokens.old) }
+{
+    let numbers = numbers(alloc, tokens)?;
+    let name = tokens.name(alloc, "the enum's name")?;
+    tokens.expect(alloc, Mark::Semicolon, ";")?;
+    Ok(SourceEnum { numbers, name })
+}
+
+/// `["open"] "enum" "{" values "}"`
+pub(crate) fn numbers(alloc: Global, tokens: &mut Tokens<'_>) -> Result<Numbers, Trouble>
+    ensures read { Reads numbers_then tokens.old tokens.new result }
     ensures fewer { OnOk result (count_left tokens.new < count_left tokens.old) }
 {
     let is_open = tokens.take(Mark::Open);
@@ -18,20 +30,14 @@ pub(crate) fn enumeration(alloc: Global, tokens: &mut Tokens<'_>) -> Result<Enum
     tokens.expect(alloc, Mark::OpeningBrace, "{")?;
     let values = values(alloc, tokens)?;
     tokens.expect(alloc, Mark::ClosingBrace, ", or }")?;
-    let name = tokens.name(alloc, "the enum's name")?;
-    tokens.expect(alloc, Mark::Semicolon, ";")?;
-    Ok(Enum {
-        is_open,
-        values,
-        name,
-    })
+    Ok(Numbers { is_open, values })
 }
 
 // `value { "," value }`
 #[tactic(auto, using(crate::proofs::Gathered::gathered_separated))]
-fn values(alloc: Global, tokens: &mut Tokens<'_>) -> Result<Vec<Value>, Trouble>
+fn values(alloc: Global, tokens: &mut Tokens<'_>) -> Result<Vec<SourceValue>, Trouble>
     ensures read { IfOk result (λ values. signs_left tokens.old ≡
-        separated_then Mark.Comma value_then values.items (signs_left tokens.new)) }
+        separated_then Mark.Comma source_value_then values.items (signs_left tokens.new)) }
     ensures fewer { OnOk result (count_left tokens.new < count_left tokens.old) }
 {
     let mut values = Vec::new(alloc);
@@ -42,9 +48,9 @@ fn values(alloc: Global, tokens: &mut Tokens<'_>) -> Result<Vec<Value>, Trouble>
     Ok(values)
 }
 
-// `[NAME] "(" NUMBER [ ".." NUMBER ] ")"`
-fn value(alloc: Global, tokens: &mut Tokens<'_>) -> Result<Value, Trouble>
-    ensures read { Reads value_then tokens.old tokens.new result }
+// `[NAME | NUMBER] "(" NUMBER [ ".." NUMBER ] ")"`
+fn value(alloc: Global, tokens: &mut Tokens<'_>) -> Result<SourceValue, Trouble>
+    ensures read { Reads source_value_then tokens.old tokens.new result }
     ensures fewer { OnOk result (count_left tokens.new < count_left tokens.old) }
 {
     let name = value_name(alloc, tokens)?;
@@ -52,7 +58,7 @@ fn value(alloc: Global, tokens: &mut Tokens<'_>) -> Result<Value, Trouble>
     let number = tokens.number(alloc, "the value's number")?;
     let last = range_end(alloc, tokens)?;
     tokens.expect(alloc, Mark::ClosingParenthesis, ".. or )")?;
-    Ok(Value { name, number, last })
+    Ok(SourceValue { name, number, last })
 }
 
 // `[ ".." NUMBER ]`
@@ -67,14 +73,17 @@ fn range_end(alloc: Global, tokens: &mut Tokens<'_>) -> Result<Option<Number>, T
     Ok(Some(last))
 }
 
-// `[NAME]` before a parenthesis
-fn value_name(alloc: Global, tokens: &mut Tokens<'_>) -> Result<Option<Name>, Trouble>
-    ensures read { Reads optional_name_then tokens.old tokens.new result }
+// `[NAME | NUMBER]` before a parenthesis
+fn value_name(alloc: Global, tokens: &mut Tokens<'_>) -> Result<Option<ValueName>, Trouble>
+    ensures read { Reads value_name_then tokens.old tokens.new result }
     ensures fewer { OnOk result (count_left tokens.new ≤ count_left tokens.old) }
 {
     if tokens.mark() == Some(Mark::OpeningParenthesis) {
         return Ok(None);
     }
+    if let Some(number) = tokens.take_number() {
+        return Ok(Some(ValueName::Number(number)));
+    }
     let name = tokens.name(alloc, "a value's name or (")?;
-    Ok(Some(name))
+    Ok(Some(ValueName::Word(name)))
 }

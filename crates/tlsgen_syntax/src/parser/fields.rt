@@ -122,8 +122,8 @@ fn type_name(
     Ok(of)
 }
 
-// `[ "[" length "]" | "<" bounds ">" ]`
-fn vector(alloc: Global, tokens: &mut Tokens<'_>) -> Result<Vector, Trouble>
+/// `[ "[" length "]" | "<" bounds ">" ]`
+pub(crate) fn vector(alloc: Global, tokens: &mut Tokens<'_>) -> Result<Vector, Trouble>
     ensures read { Reads vector_then tokens.old tokens.new result }
     ensures fewer { OnOk result (count_left tokens.new ≤ count_left tokens.old) }
 {

@@ -33,7 +33,8 @@ fn note(alloc: Global, tokens: &mut Tokens<'_>) -> Result<Note, Trouble>
     Ok(Note { path, said })
 }
 
-// `"=" (NUMBER | NAME)`, `"counts" "rest"`, `"fills" "rest"`, `"is" ("open" | "flat" | "lent")` or `"left" "out"`
+// `"=" (NUMBER | NAME)`, `"counts" "rest"`, `"fills" "rest" ["with" "zeros"]`, `"called" NAME`,
+// `"is" ("open" | "closed" | "lent")` or `"left" "out"`
 fn said(alloc: Global, tokens: &mut Tokens<'_>) -> Result<Said, Trouble>
     ensures read { Reads said_then tokens.old tokens.new result }
     ensures fewer { OnOk result (count_left tokens.new < count_left tokens.old) }
@@ -46,8 +47,10 @@ fn said(alloc: Global, tokens: &mut Tokens<'_>) -> Result<Said, Trouble>
         return Ok(Said::Counts);
     }
     if tokens.take_word("fills") {
-        expect_word(alloc, tokens, "rest")?;
-        return Ok(Said::Fills);
+        return filling(alloc, tokens);
+    }
+    if tokens.take_word("called") {
+        return Ok(Said::Called(tokens.name(alloc, "a name of the select")?));
     }
     if tokens.take_word("is") {
         return kind(alloc, tokens);
@@ -56,22 +59,36 @@ fn said(alloc: Global, tokens: &mut Tokens<'_>) -> Result<Said, Trouble>
         expect_word(alloc, tokens, "out")?;
         return Ok(Said::LeftOut);
     }
-    Err(tokens.refused(alloc, "., =, counts, fills, is or left"))
+    Err(tokens.refused(alloc, "., =, counts, fills, called, is or left"))
 }
 
-// `"open" | "flat" | "lent"`
+// `"rest" ["with" "zeros"]`
+fn filling(alloc: Global, tokens: &mut Tokens<'_>) -> Result<Said, Trouble>
+    ensures read { IfOk result (λ said. word (codes "fills") ∷ signs_left tokens.old ≡
+        said_then said (signs_left tokens.new)) }
+    ensures fewer { OnOk result (count_left tokens.new < count_left tokens.old) }
+{
+    expect_word(alloc, tokens, "rest")?;
+    if !tokens.take_word("with") {
+        return Ok(Said::Fills);
+    }
+    expect_word(alloc, tokens, "zeros")?;
+    Ok(Said::Pads)
+}
+
+// `"open" | "closed" | "lent"`
 fn kind(alloc: Global, tokens: &mut Tokens<'_>) -> Result<Said, Trouble>
     ensures read { IfOk result (λ said. word (codes "is") ∷ signs_left tokens.old ≡
         said_then said (signs_left tokens.new)) }
     ensures fewer { OnOk result (count_left tokens.new < count_left tokens.old) }
 {
-    if tokens.take_word("flat") {
-        return Ok(Said::Flat);
+    if tokens.take_word("closed") {
+        return Ok(Said::Closed);
     }
     if tokens.take(Mark::Lent) {
         return Ok(Said::Lent);
     }
-    tokens.expect(alloc, Mark::Open, "open, flat or lent")?;
+    tokens.expect(alloc, Mark::Open, "open, closed or lent")?;
     Ok(Said::Open)
 }
 

@@ -144,7 +144,11 @@ fn no_fields(alloc: Global, tokens: &mut Tokens<'_>) -> Result<(), Trouble>
     ensures fewer { OnOk result (count_left tokens.new < count_left tokens.old) }
 {
     tokens.expect(alloc, Mark::OpeningBrace, "{")?;
-    tokens.expect(alloc, Mark::ClosingBrace, "}")?;
+    tokens.expect(
+        alloc,
+        Mark::ClosingBrace,
+        "} of struct {}: a struct with fields is no case's, but a definition of its own",
+    )?;
     tokens.expect(alloc, Mark::Semicolon, ";")
 }
 

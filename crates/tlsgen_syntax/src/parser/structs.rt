@@ -3,6 +3,7 @@ ghost use Rattle.std.specs.Prelude.{◌≡◌, ◌<◌, ◌≤◌, ◌∷◌, If
 ghost use Rattle.tlsgen_syntax.specs.Signs.{Reads, count_left, each_then, kind_then, mark, part_then, signed_then, signs_left, source_part_then, source_struct_then};
 
 use crate::parser::fields::field;
+use crate::parser::in_place::in_place;
 use crate::parser::selects::{ending_name, select};
 use crate::refusal::Trouble;
 use crate::source::{Signed, SourcePart, SourceStruct, StructKind};
@@ -11,7 +12,7 @@ use crate::token::Mark;
 use crate::tokens::Tokens;
 use std::alloc::Global;
 
-/// `["lent" | "digitally-signed"] "struct" "{" { part | signature } "}" NAME ";"`
+/// `["lent" | "digitally-signed"] "struct" "{" { part | signature | type in place } "}" NAME ";"`
 pub(crate) fn structure(alloc: Global, tokens: &mut Tokens<'_>) -> Result<SourceStruct, Trouble>
     ensures read { Reads source_struct_then tokens.old tokens.new result }
     ensures fewer { OnOk result (count_left tokens.new < count_left tokens.old) }
@@ -39,7 +40,7 @@ fn kind(tokens: &mut Tokens<'_>) -> StructKind
     StructKind::Sent
 }
 
-// `{ part | signature } "}"`
+// `{ part | signature | type in place } "}"`
 #[tactic(auto, using(crate::proofs::Gathered::gathered_each))]
 fn source_parts(alloc: Global, tokens: &mut Tokens<'_>) -> Result<Vec<SourcePart>, Trouble>
     ensures read { IfOk result (λ parts. signs_left tokens.old ≡
@@ -53,15 +54,18 @@ fn source_parts(alloc: Global, tokens: &mut Tokens<'_>) -> Result<Vec<SourcePart
     Ok(parts)
 }
 
-// A part or a signature
+// A part, a signature or a field with its type in place
 fn source_part(alloc: Global, tokens: &mut Tokens<'_>) -> Result<SourcePart, Trouble>
     ensures read { Reads source_part_then tokens.old tokens.new result }
     ensures fewer { OnOk result (count_left tokens.new < count_left tokens.old) }
 {
-    if tokens.mark() == Some(Mark::DigitallySigned) {
-        return Ok(SourcePart::Signed(signature(alloc, tokens)?));
+    match tokens.mark() {
+        Some(Mark::DigitallySigned) => Ok(SourcePart::Signed(signature(alloc, tokens)?)),
+        Some(Mark::Open | Mark::Enum | Mark::Struct) => {
+            Ok(SourcePart::InPlace(in_place(alloc, tokens)?))
+        }
+        _ => Ok(SourcePart::Sent(part(alloc, tokens)?)),
     }
-    Ok(SourcePart::Sent(part(alloc, tokens)?))
 }
 
 // `"digitally-signed" "struct" "{" { part } "}" [ NAME ] ";"`
@@ -79,9 +83,9 @@ fn signature(alloc: Global, tokens: &mut Tokens<'_>) -> Result<Signed, Trouble>
     Ok(Signed { place, parts, name })
 }
 
-// `{ part } "}"`
+/// `{ part } "}"`
 #[tactic(auto, using(crate::proofs::Gathered::gathered_each))]
-fn parts(alloc: Global, tokens: &mut Tokens<'_>) -> Result<Vec<Part>, Trouble>
+pub(crate) fn parts(alloc: Global, tokens: &mut Tokens<'_>) -> Result<Vec<Part>, Trouble>
     ensures read { IfOk result (λ parts. signs_left tokens.old ≡
         each_then part_then parts.items (mark Mark.ClosingBrace ∷ signs_left tokens.new)) }
     ensures fewer { OnOk result (count_left tokens.new < count_left tokens.old) }
@@ -98,8 +102,12 @@ fn part(alloc: Global, tokens: &mut Tokens<'_>) -> Result<Part, Trouble>
     ensures read { Reads part_then tokens.old tokens.new result }
     ensures fewer { OnOk result (count_left tokens.new < count_left tokens.old) }
 {
-    if tokens.mark() == Some(Mark::Select) {
-        return Ok(Part::Select(select(alloc, tokens)?));
+    match tokens.mark() {
+        Some(Mark::Select) => Ok(Part::Select(select(alloc, tokens)?)),
+        Some(Mark::Open | Mark::Enum | Mark::Struct) => Err(tokens.refused(
+            alloc,
+            "the name of a type: an enum or a struct may stand in a struct that is a definition",
+        )),
+        _ => Ok(Part::Field(field(alloc, tokens)?)),
     }
-    Ok(Part::Field(field(alloc, tokens)?))
 }

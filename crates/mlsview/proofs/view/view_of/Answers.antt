@@ -1,5 +1,5 @@
 use Rattle.std.proofs.lemmas.Result.{IfOk-weaker}
-use Rattle.mls_framing.specs.MLSMessage.{mls_message_plain}
+use Rattle.mls.specs.MLSMessage.{mls_message_plain}
 use Rattle.mlsview.proofs.view.view_of.Goals as goal
 
 pub returns-in-Ok-clause-ok : goal.returns-in-Ok-clause-ok

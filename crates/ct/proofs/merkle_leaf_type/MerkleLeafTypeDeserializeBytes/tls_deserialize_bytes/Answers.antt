@@ -5,9 +5,12 @@ use Rattle.ct.specs.MerkleLeafType.{merkle_leaf_type_has, merkle_leaf_type_known
 use Rattle.ct.proofs.merkle_leaf_type.MerkleLeafTypeDeserializeBytes.tls_deserialize_bytes.Goals as goal
 
 pub returns-in-Some-clause-splits : goal.returns-in-Some-clause-splits
-returns-in-Some-clause-splits c = value_begins merkle_leaf_type_has u8_meets (merkle_leaf_type_known c.in-Some.value)
+returns-in-Some-clause-splits c =
+    value_begins merkle_leaf_type_has u8_meets (merkle_leaf_type_known c.in-Some.value)
     (sym c.in-Some.ensures) c.in_ok-tag.ensures.splits
 
 pub returns-in-None-clause-splits : goal.returns-in-None-clause-splits
-returns-in-None-clause-splits c = let is = c.unknown_value.ensures in rw is
-    (tagged_refuses_unknown u8_meets (values_meet merkle_leaf_type_has) c.in_ok-tag.ensures.splits c.in-None.ensures)
+returns-in-None-clause-splits c =
+    let is = c.unknown_value.ensures in
+    rw is (tagged_refuses_unknown u8_meets (values_meet merkle_leaf_type_has)
+    c.in_ok-tag.ensures.splits c.in-None.ensures)

@@ -4,5 +4,6 @@ use Rattle.ct.specs.MerkleLeafType.{merkle_leaf_type_has, merkle_leaf_type_known
 use Rattle.ct.proofs.merkle_leaf_type.MerkleLeafTypeSerialize.tls_serialize_into.Goals as goal
 
 pub returns-clause-appends : goal.returns-clause-appends
-returns-clause-appends c = value_appends merkle_leaf_type_has u8_meets (merkle_leaf_type_known c.args.self.now) c.code.ensures _ _ _
+returns-clause-appends c =
+    value_appends merkle_leaf_type_has u8_meets (merkle_leaf_type_known c.args.self.now) c.code.ensures _ _ _
     c.tls_serialize_into.ensures.appends

@@ -5,9 +5,12 @@ use Rattle.ct.specs.SignatureTypeCertificateTimestamp.{signature_type_certificat
 use Rattle.ct.proofs.signature_type_certificate_timestamp.SignatureTypeCertificateTimestampDeserializeBytes.tls_deserialize_bytes.Goals as goal
 
 pub returns-in-Some-clause-splits : goal.returns-in-Some-clause-splits
-returns-in-Some-clause-splits c = value_begins signature_type_certificate_timestamp_has u8_meets
-    (signature_type_certificate_timestamp_known c.in-Some.value) (sym c.in-Some.ensures) c.in_ok-tag.ensures.splits
+returns-in-Some-clause-splits c =
+    value_begins signature_type_certificate_timestamp_has u8_meets (signature_type_certificate_timestamp_known c.in-Some.value)
+    (sym c.in-Some.ensures) c.in_ok-tag.ensures.splits
 
 pub returns-in-None-clause-splits : goal.returns-in-None-clause-splits
-returns-in-None-clause-splits c = let is = c.unknown_value.ensures in rw is
-    (tagged_refuses_unknown u8_meets (values_meet signature_type_certificate_timestamp_has) c.in_ok-tag.ensures.splits c.in-None.ensures)
+returns-in-None-clause-splits c =
+    let is = c.unknown_value.ensures in
+    rw is (tagged_refuses_unknown u8_meets (values_meet signature_type_certificate_timestamp_has)
+    c.in_ok-tag.ensures.splits c.in-None.ensures)

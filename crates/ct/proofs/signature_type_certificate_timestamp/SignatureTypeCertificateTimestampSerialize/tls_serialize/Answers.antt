@@ -4,5 +4,7 @@ use Rattle.ct.specs.SignatureTypeCertificateTimestamp.{signature_type_certificat
 use Rattle.ct.proofs.signature_type_certificate_timestamp.SignatureTypeCertificateTimestampSerialize.tls_serialize.Goals as goal
 
 pub returns-clause-writes : goal.returns-clause-writes
-returns-clause-writes g c = value_writes signature_type_certificate_timestamp_has u8_meets
-    (signature_type_certificate_timestamp_known c.args.self.now) c.code.ensures _ _ _ _ c.tls_serialize.ensures.writes
+returns-clause-writes g c =
+    value_writes signature_type_certificate_timestamp_has u8_meets (signature_type_certificate_timestamp_known c.args.self.now)
+    c.code.ensures _ _ _ _
+    c.tls_serialize.ensures.writes

@@ -4,5 +4,6 @@ use Rattle.ct.specs.SignatureTypeTreeHash.{signature_type_tree_hash_has, signatu
 use Rattle.ct.proofs.signature_type_tree_hash.SignatureTypeTreeHashSerialize.tls_serialize.Goals as goal
 
 pub returns-clause-writes : goal.returns-clause-writes
-returns-clause-writes g c = value_writes signature_type_tree_hash_has u8_meets (signature_type_tree_hash_known c.args.self.now)
-    c.code.ensures _ _ _ _ c.tls_serialize.ensures.writes
+returns-clause-writes g c =
+    value_writes signature_type_tree_hash_has u8_meets (signature_type_tree_hash_known c.args.self.now) c.code.ensures _ _ _ _
+    c.tls_serialize.ensures.writes

@@ -4,5 +4,6 @@ use Rattle.ct.specs.SignatureTypeTreeHash.{signature_type_tree_hash_has, signatu
 use Rattle.ct.proofs.signature_type_tree_hash.SignatureTypeTreeHashSerialize.tls_serialize_into.Goals as goal
 
 pub returns-clause-appends : goal.returns-clause-appends
-returns-clause-appends c = value_appends signature_type_tree_hash_has u8_meets (signature_type_tree_hash_known c.args.self.now)
-    c.code.ensures _ _ _ c.tls_serialize_into.ensures.appends
+returns-clause-appends c =
+    value_appends signature_type_tree_hash_has u8_meets (signature_type_tree_hash_known c.args.self.now) c.code.ensures _ _ _
+    c.tls_serialize_into.ensures.appends

@@ -4,5 +4,6 @@ use Rattle.messages_of_each_shape.specs.BodyKind.{body_kind_has, body_kind_known
 use Rattle.messages_of_each_shape.proofs.body_kind.BodyKindSerialize.tls_serialize.Goals as goal
 
 pub returns-clause-writes : goal.returns-clause-writes
-returns-clause-writes g c = value_writes body_kind_has u8_meets (body_kind_known c.args.self.now) c.code.ensures _ _ _ _
+returns-clause-writes g c =
+    value_writes body_kind_has u8_meets (body_kind_known c.args.self.now) c.code.ensures _ _ _ _
     c.tls_serialize.ensures.writes

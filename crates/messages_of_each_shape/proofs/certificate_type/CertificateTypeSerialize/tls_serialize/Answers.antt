@@ -4,5 +4,6 @@ use Rattle.messages_of_each_shape.specs.CertificateType.{certificate_type_has, c
 use Rattle.messages_of_each_shape.proofs.certificate_type.CertificateTypeSerialize.tls_serialize.Goals as goal
 
 pub returns-clause-writes : goal.returns-clause-writes
-returns-clause-writes g c = value_writes certificate_type_has u8_meets (certificate_type_known c.args.self.now) c.code.ensures _ _ _ _
+returns-clause-writes g c =
+    value_writes certificate_type_has u8_meets (certificate_type_known c.args.self.now) c.code.ensures _ _ _ _
     c.tls_serialize.ensures.writes

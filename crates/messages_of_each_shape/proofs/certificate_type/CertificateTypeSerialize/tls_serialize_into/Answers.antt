@@ -4,5 +4,6 @@ use Rattle.messages_of_each_shape.specs.CertificateType.{certificate_type_has, c
 use Rattle.messages_of_each_shape.proofs.certificate_type.CertificateTypeSerialize.tls_serialize_into.Goals as goal
 
 pub returns-clause-appends : goal.returns-clause-appends
-returns-clause-appends c = value_appends certificate_type_has u8_meets (certificate_type_known c.args.self.now) c.code.ensures _ _ _
+returns-clause-appends c =
+    value_appends certificate_type_has u8_meets (certificate_type_known c.args.self.now) c.code.ensures _ _ _
     c.tls_serialize_into.ensures.appends

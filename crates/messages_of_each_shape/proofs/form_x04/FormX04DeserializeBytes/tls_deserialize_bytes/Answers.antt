@@ -5,9 +5,12 @@ use Rattle.messages_of_each_shape.specs.FormX04.{form_x04_has, form_x04_known}
 use Rattle.messages_of_each_shape.proofs.form_x04.FormX04DeserializeBytes.tls_deserialize_bytes.Goals as goal
 
 pub returns-in-Some-clause-splits : goal.returns-in-Some-clause-splits
-returns-in-Some-clause-splits c = value_begins form_x04_has u8_meets (form_x04_known c.in-Some.value) (sym c.in-Some.ensures)
-    c.in_ok-tag.ensures.splits
+returns-in-Some-clause-splits c =
+    value_begins form_x04_has u8_meets (form_x04_known c.in-Some.value)
+    (sym c.in-Some.ensures) c.in_ok-tag.ensures.splits
 
 pub returns-in-None-clause-splits : goal.returns-in-None-clause-splits
-returns-in-None-clause-splits c = let is = c.unknown_value.ensures in rw is
-    (tagged_refuses_unknown u8_meets (values_meet form_x04_has) c.in_ok-tag.ensures.splits c.in-None.ensures)
+returns-in-None-clause-splits c =
+    let is = c.unknown_value.ensures in
+    rw is (tagged_refuses_unknown u8_meets (values_meet form_x04_has)
+    c.in_ok-tag.ensures.splits c.in-None.ensures)

@@ -4,5 +4,6 @@ use Rattle.messages_of_each_shape.specs.FormX04.{form_x04_has, form_x04_known}
 use Rattle.messages_of_each_shape.proofs.form_x04.FormX04Serialize.tls_serialize_into.Goals as goal
 
 pub returns-clause-appends : goal.returns-clause-appends
-returns-clause-appends c = value_appends form_x04_has u8_meets (form_x04_known c.args.self.now) c.code.ensures _ _ _
+returns-clause-appends c =
+    value_appends form_x04_has u8_meets (form_x04_known c.args.self.now) c.code.ensures _ _ _
     c.tls_serialize_into.ensures.appends

@@ -4,5 +4,6 @@ use Rattle.messages_of_each_shape.specs.NameTypeHostName.{name_type_host_name_ha
 use Rattle.messages_of_each_shape.proofs.name_type_host_name.NameTypeHostNameSerialize.tls_serialize.Goals as goal
 
 pub returns-clause-writes : goal.returns-clause-writes
-returns-clause-writes g c = value_writes name_type_host_name_has u8_meets (name_type_host_name_known c.args.self.now) c.code.ensures _ _ _ _
+returns-clause-writes g c =
+    value_writes name_type_host_name_has u8_meets (name_type_host_name_known c.args.self.now) c.code.ensures _ _ _ _
     c.tls_serialize.ensures.writes

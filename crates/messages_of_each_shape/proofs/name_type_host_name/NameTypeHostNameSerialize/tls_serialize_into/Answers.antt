@@ -4,5 +4,6 @@ use Rattle.messages_of_each_shape.specs.NameTypeHostName.{name_type_host_name_ha
 use Rattle.messages_of_each_shape.proofs.name_type_host_name.NameTypeHostNameSerialize.tls_serialize_into.Goals as goal
 
 pub returns-clause-appends : goal.returns-clause-appends
-returns-clause-appends c = value_appends name_type_host_name_has u8_meets (name_type_host_name_known c.args.self.now) c.code.ensures _ _ _
+returns-clause-appends c =
+    value_appends name_type_host_name_has u8_meets (name_type_host_name_known c.args.self.now) c.code.ensures _ _ _
     c.tls_serialize_into.ensures.appends

@@ -5,9 +5,12 @@ use Rattle.messages_of_each_shape.specs.VersionXfefd.{version_xfefd_has, version
 use Rattle.messages_of_each_shape.proofs.version_xfefd.VersionXfefdDeserializeBytes.tls_deserialize_bytes.Goals as goal
 
 pub returns-in-Some-clause-splits : goal.returns-in-Some-clause-splits
-returns-in-Some-clause-splits c = value_begins version_xfefd_has u16_meets (version_xfefd_known c.in-Some.value) (sym c.in-Some.ensures)
-    c.in_ok-tag.ensures.splits
+returns-in-Some-clause-splits c =
+    value_begins version_xfefd_has u16_meets (version_xfefd_known c.in-Some.value)
+    (sym c.in-Some.ensures) c.in_ok-tag.ensures.splits
 
 pub returns-in-None-clause-splits : goal.returns-in-None-clause-splits
-returns-in-None-clause-splits c = let is = c.unknown_value.ensures in rw is
-    (tagged_refuses_unknown u16_meets (values_meet version_xfefd_has) c.in_ok-tag.ensures.splits c.in-None.ensures)
+returns-in-None-clause-splits c =
+    let is = c.unknown_value.ensures in
+    rw is (tagged_refuses_unknown u16_meets (values_meet version_xfefd_has)
+    c.in_ok-tag.ensures.splits c.in-None.ensures)

@@ -4,5 +4,6 @@ use Rattle.messages_of_each_shape.specs.VersionXfefd.{version_xfefd_has, version
 use Rattle.messages_of_each_shape.proofs.version_xfefd.VersionXfefdSerialize.tls_serialize_into.Goals as goal
 
 pub returns-clause-appends : goal.returns-clause-appends
-returns-clause-appends c = value_appends version_xfefd_has u16_meets (version_xfefd_known c.args.self.now) c.code.ensures _ _ _
+returns-clause-appends c =
+    value_appends version_xfefd_has u16_meets (version_xfefd_known c.args.self.now) c.code.ensures _ _ _
     c.tls_serialize_into.ensures.appends

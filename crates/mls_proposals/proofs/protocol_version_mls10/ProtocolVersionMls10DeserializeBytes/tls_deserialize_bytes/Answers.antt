@@ -5,9 +5,12 @@ use Rattle.mls_proposals.specs.ProtocolVersionMls10.{protocol_version_mls10_has,
 use Rattle.mls_proposals.proofs.protocol_version_mls10.ProtocolVersionMls10DeserializeBytes.tls_deserialize_bytes.Goals as goal
 
 pub returns-in-Some-clause-splits : goal.returns-in-Some-clause-splits
-returns-in-Some-clause-splits c = value_begins protocol_version_mls10_has u16_meets (protocol_version_mls10_known c.in-Some.value)
+returns-in-Some-clause-splits c =
+    value_begins protocol_version_mls10_has u16_meets (protocol_version_mls10_known c.in-Some.value)
     (sym c.in-Some.ensures) c.in_ok-tag.ensures.splits
 
 pub returns-in-None-clause-splits : goal.returns-in-None-clause-splits
-returns-in-None-clause-splits c = let is = c.unknown_value.ensures in rw is
-    (tagged_refuses_unknown u16_meets (values_meet protocol_version_mls10_has) c.in_ok-tag.ensures.splits c.in-None.ensures)
+returns-in-None-clause-splits c =
+    let is = c.unknown_value.ensures in
+    rw is (tagged_refuses_unknown u16_meets (values_meet protocol_version_mls10_has)
+    c.in_ok-tag.ensures.splits c.in-None.ensures)

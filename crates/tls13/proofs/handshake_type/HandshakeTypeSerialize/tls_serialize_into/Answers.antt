@@ -4,5 +4,6 @@ use Rattle.tls13.specs.HandshakeType.{handshake_type_has, handshake_type_known}
 use Rattle.tls13.proofs.handshake_type.HandshakeTypeSerialize.tls_serialize_into.Goals as goal
 
 pub returns-clause-appends : goal.returns-clause-appends
-returns-clause-appends c = value_appends handshake_type_has u8_meets (handshake_type_known c.args.self.now) c.code.ensures _ _ _
+returns-clause-appends c =
+    value_appends handshake_type_has u8_meets (handshake_type_known c.args.self.now) c.code.ensures _ _ _
     c.tls_serialize_into.ensures.appends

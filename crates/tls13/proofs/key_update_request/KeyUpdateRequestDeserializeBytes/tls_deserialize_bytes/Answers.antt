@@ -5,9 +5,12 @@ use Rattle.tls13.specs.KeyUpdateRequest.{key_update_request_has, key_update_requ
 use Rattle.tls13.proofs.key_update_request.KeyUpdateRequestDeserializeBytes.tls_deserialize_bytes.Goals as goal
 
 pub returns-in-Some-clause-splits : goal.returns-in-Some-clause-splits
-returns-in-Some-clause-splits c = value_begins key_update_request_has u8_meets (key_update_request_known c.in-Some.value)
+returns-in-Some-clause-splits c =
+    value_begins key_update_request_has u8_meets (key_update_request_known c.in-Some.value)
     (sym c.in-Some.ensures) c.in_ok-tag.ensures.splits
 
 pub returns-in-None-clause-splits : goal.returns-in-None-clause-splits
-returns-in-None-clause-splits c = let is = c.unknown_value.ensures in rw is
-    (tagged_refuses_unknown u8_meets (values_meet key_update_request_has) c.in_ok-tag.ensures.splits c.in-None.ensures)
+returns-in-None-clause-splits c =
+    let is = c.unknown_value.ensures in
+    rw is (tagged_refuses_unknown u8_meets (values_meet key_update_request_has)
+    c.in_ok-tag.ensures.splits c.in-None.ensures)

@@ -5,9 +5,12 @@ use Rattle.tls13.specs.LegacyCompressionMethodX00.{legacy_compression_method_x00
 use Rattle.tls13.proofs.legacy_compression_method_x00.LegacyCompressionMethodX00DeserializeBytes.tls_deserialize_bytes.Goals as goal
 
 pub returns-in-Some-clause-splits : goal.returns-in-Some-clause-splits
-returns-in-Some-clause-splits c = value_begins legacy_compression_method_x00_has u8_meets
-    (legacy_compression_method_x00_known c.in-Some.value) (sym c.in-Some.ensures) c.in_ok-tag.ensures.splits
+returns-in-Some-clause-splits c =
+    value_begins legacy_compression_method_x00_has u8_meets (legacy_compression_method_x00_known c.in-Some.value)
+    (sym c.in-Some.ensures) c.in_ok-tag.ensures.splits
 
 pub returns-in-None-clause-splits : goal.returns-in-None-clause-splits
-returns-in-None-clause-splits c = let is = c.unknown_value.ensures in rw is
-    (tagged_refuses_unknown u8_meets (values_meet legacy_compression_method_x00_has) c.in_ok-tag.ensures.splits c.in-None.ensures)
+returns-in-None-clause-splits c =
+    let is = c.unknown_value.ensures in
+    rw is (tagged_refuses_unknown u8_meets (values_meet legacy_compression_method_x00_has)
+    c.in_ok-tag.ensures.splits c.in-None.ensures)

@@ -1,9 +1,0 @@
-pub mod ContentType
-pub mod Sender
-pub mod WireFormat
-pub mod Body
-pub mod Framed
-pub mod Auth
-pub mod Messages
-pub mod Signed
-pub mod Private

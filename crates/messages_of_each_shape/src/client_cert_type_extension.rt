@@ -1,0 +1,142 @@
+//! [`ClientCertTypeExtension`].
+ghost use Rattle.std.specs.Prelude.{◌≡◌, IsTrue};
+ghost use Rattle.messages_of_each_shape.specs.ClientCertTypeExtension.{client_cert_type_extension_format_for, client_cert_type_extension_meets_for, client_cert_type_extension_plain, client_cert_type_extension_tag};
+ghost use Rattle.messages_of_each_shape.specs.declared.client_cert_type_extension.ClientCertTypeExtension.{ClientCertTypeExtension};
+
+use crate::{CertificateType, ClientOrServerExtension};
+use std::alloc::Global;
+use tls_codec::{
+    DeserializeBytesFor, DeserializeFor, Error, Lent, SerializeFor, Sink, SizeFor, Source, TlsVec,
+    Within,
+};
+use tls_codec_cases::{Case, Chosen, Or, append_as_for, write_as_for};
+
+/// `select (ClientOrServerExtension)` of `ClientCertTypeExtension`: no byte of it tells the
+/// tag.
+#[derive(PartialEq, Eq, Debug, Clone, Drop)]
+pub enum ClientCertTypeExtension {
+    /// `case client: CertificateType client_certificate_types<1..2^8-1>;`
+    Client(TlsVec<Within<u8, 1, 255>, CertificateType>),
+    /// `case server: CertificateType client_certificate_type;`
+    Server(CertificateType),
+}
+
+type Cases = Chosen<
+    Or<Case<0, TlsVec<Within<u8, 1, 255>, CertificateType>>, Case<1, CertificateType>>,
+>;
+
+type LentCases<'a> = Chosen<
+    Or<
+        Case<0, Lent<'a, TlsVec<Within<u8, 1, 255>, CertificateType>>>,
+        Case<1, Lent<'a, CertificateType>>,
+    >,
+>;
+
+impl ClientCertTypeExtension {
+    fn cases(&self) -> LentCases<'_>
+        ensures { ⟦<LentCases<'static> as SizeFor<ClientOrServerExtension>>⟧.plain result
+            ≡ client_cert_type_extension_plain self.now }
+    {
+        let cases = match self {
+            ClientCertTypeExtension::Client(client_certificate_types) => Or::First(Case(Lent(
+                client_certificate_types,
+            ))),
+            ClientCertTypeExtension::Server(client_certificate_type) => Or::Second(Case(Lent(
+                client_certificate_type,
+            ))),
+        };
+        Chosen(cases)
+    }
+
+    fn of(cases: Cases) -> ClientCertTypeExtension
+        ensures { client_cert_type_extension_plain result
+            ≡ ⟦<Cases as SizeFor<ClientOrServerExtension>>⟧.plain cases }
+    {
+        match cases.0 {
+            Or::First(case) => ClientCertTypeExtension::Client(case.0),
+            Or::Second(case) => ClientCertTypeExtension::Server(case.0),
+        }
+    }
+}
+
+impl SizeFor<ClientOrServerExtension> for ClientCertTypeExtension {
+    ghost plain = { client_cert_type_extension_plain };
+
+    ghost format_for = { client_cert_type_extension_format_for };
+
+    fn tls_serialized_len_for(
+        &self,
+        client_or_server_extension: &ClientOrServerExtension,
+    ) -> usize {
+        self.cases()
+            .tls_serialized_len_for(client_or_server_extension)
+    }
+
+    ghost lawful = { client_cert_type_extension_meets_for };
+}
+
+/// `EncodingError("value does not fit its context")`: the value is of another case.
+impl SerializeFor<ClientOrServerExtension> for ClientCertTypeExtension {
+    fn tls_serialize_for<W: Sink>(
+        &self,
+        client_or_server_extension: &ClientOrServerExtension,
+        writer: &mut W,
+    ) -> Result<usize, Error> {
+        write_as_for(self, &self.cases(), client_or_server_extension, writer)
+    }
+
+    fn tls_serialize_into_for(
+        &self,
+        client_or_server_extension: &ClientOrServerExtension,
+        out: &mut Vec<u8>,
+    ) -> Result<usize, Error> {
+        append_as_for(self, &self.cases(), client_or_server_extension, out)
+    }
+}
+
+impl DeserializeFor<ClientOrServerExtension> for ClientCertTypeExtension {
+    ghost names = { ⟦<Cases as DeserializeFor<ClientOrServerExtension>>⟧.names };
+
+    /// `UnknownValue`: no case has the context's tag.
+    fn tls_deserialize_for<R: Source>(
+        client_or_server_extension: &ClientOrServerExtension,
+        alloc: Global,
+        src: &mut R,
+    ) -> Result<ClientCertTypeExtension, Error> {
+        let cases = <Cases>::tls_deserialize_for(client_or_server_extension, alloc, src)?;
+        Ok(ClientCertTypeExtension::of(cases))
+    }
+}
+
+impl DeserializeBytesFor<ClientOrServerExtension> for ClientCertTypeExtension {
+    ghost names = { ⟦<Cases as DeserializeBytesFor<ClientOrServerExtension>>⟧.names };
+
+    /// `UnknownValue`: no case has the context's tag.
+    fn tls_deserialize_bytes_for<'a>(
+        client_or_server_extension: &ClientOrServerExtension,
+        alloc: Global,
+        whole: &'a [u8],
+    ) -> Result<(ClientCertTypeExtension, &'a [u8]), Error> {
+        let (cases, rest) = <Cases>::tls_deserialize_bytes_for(
+            client_or_server_extension,
+            alloc,
+            whole,
+        )?;
+        Ok((ClientCertTypeExtension::of(cases), rest))
+    }
+}
+
+/// Two are equal exactly where they are of one case, and each field is.
+pub fn is_compared_by_its_case()
+    ensures tag { (x y : ClientCertTypeExtension) →
+        IsTrue (⟦<ClientCertTypeExtension as PartialEq>⟧.eq x y)
+        → client_cert_type_extension_tag x ≡ client_cert_type_extension_tag y }
+    ensures case_0 { (a0 b0 : _) →
+        ⟦<ClientCertTypeExtension as PartialEq>⟧.eq (ClientCertTypeExtension.Client a0)
+        (ClientCertTypeExtension.Client b0)
+        ≡ ⟦<TlsVec<Within<u8, 1, 255>, CertificateType> as PartialEq>⟧.eq a0 b0 }
+    ensures case_1 { (a0 b0 : _) →
+        ⟦<ClientCertTypeExtension as PartialEq>⟧.eq (ClientCertTypeExtension.Server a0)
+        (ClientCertTypeExtension.Server b0)
+        ≡ ⟦<CertificateType as PartialEq>⟧.eq a0 b0 }
+{}

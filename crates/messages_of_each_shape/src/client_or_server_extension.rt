@@ -1,0 +1,170 @@
+//! [`ClientOrServerExtension`].
+ghost use Rattle.std.specs.Prelude.{◌≡◌, MatchOption, MatchResult, Some, false, nat_eq};
+ghost use Rattle.std.specs.Fmt.{padded};
+ghost use Rattle.std.specs.Ordering.{nat_cmp};
+ghost use Rattle.tls_codec.specs.Errors.{UnknownValue};
+ghost use Rattle.tls_codec.specs.OwnMessages.{values_names, values_source_names};
+ghost use Rattle.messages_of_each_shape.specs.ClientOrServerExtension.{client_or_server_extension_code, client_or_server_extension_format, client_or_server_extension_has, client_or_server_extension_meets, client_or_server_extension_name, client_or_server_extension_plain, client_or_server_extension_selected};
+ghost use Rattle.messages_of_each_shape.specs.declared.client_or_server_extension.ClientOrServerExtension.{ClientOrServerExtension};
+
+use std::alloc::Global;
+use std::fmt;
+use tls_codec::{
+    Deserialize, DeserializeBytes, Error, Serialize, Sink, Size, Source, unknown_value,
+};
+use tls_codec_cases::Selector;
+
+/// `ClientOrServerExtension`.
+#[derive(PartialEq, Eq, PartialOrd, Ord, Hash, Debug, Clone, Copy)]
+pub enum ClientOrServerExtension {
+    /// `client(0)`
+    /// What would be prose: a message is a client's or a server's.
+    Client,
+    /// `server(1)`
+    Server,
+}
+
+impl ClientOrServerExtension {
+    /// Its number.
+    pub fn code(&self) -> u8
+        ensures { result ≡ client_or_server_extension_code self.now }
+    {
+        match self {
+            ClientOrServerExtension::Client => 0,
+            ClientOrServerExtension::Server => 1,
+        }
+    }
+
+    /// Its name in the text.
+    pub fn name(&self) -> &'static str
+        ensures { result.now ≡ client_or_server_extension_name self.now }
+    {
+        match self {
+            ClientOrServerExtension::Client => "client",
+            ClientOrServerExtension::Server => "server",
+        }
+    }
+
+    /// The value that has this number.
+    pub fn of_code(code: u8) -> Option<ClientOrServerExtension>
+        ensures { MatchOption result (client_or_server_extension_has code ≡ false)
+            (λ v. client_or_server_extension_code v ≡ code) }
+    {
+        match code {
+            0 => Some(ClientOrServerExtension::Client),
+            1 => Some(ClientOrServerExtension::Server),
+            _ => None,
+        }
+    }
+}
+
+/// Its name.
+impl fmt::Display for ClientOrServerExtension {
+    ghost output = { λ v. Some (client_or_server_extension_name v) };
+
+    ghost styled_output = { λ v spec. Some (padded spec (client_or_server_extension_name v)) };
+
+    fn fmt<W: fmt::Write>(&self, f: &mut fmt::Formatter<W>) -> fmt::Result {
+        f.pad(self.name())
+    }
+}
+
+/// Its number.
+impl From<ClientOrServerExtension> for u8 {
+    ghost from_gives = { λ v number. number ≡ client_or_server_extension_code v };
+
+    fn from(value: ClientOrServerExtension) -> u8 {
+        value.code()
+    }
+}
+
+/// The value that has this number.
+impl TryFrom<u8> for ClientOrServerExtension {
+    type Error = Error;
+
+    ghost try_from_gives = { λ tag r. MatchResult r
+        (λ v. client_or_server_extension_code v ≡ tag)
+        (λ e. (client_or_server_extension_has tag ≡ false) × (e ≡ UnknownValue tag)) };
+
+    fn try_from(tag: u8) -> Result<ClientOrServerExtension, Error> {
+        match ClientOrServerExtension::of_code(tag) {
+            Some(value) => Ok(value),
+            None => Err(unknown_value(u64::from(tag))),
+        }
+    }
+}
+
+impl Size for ClientOrServerExtension {
+    ghost plain = { client_or_server_extension_plain };
+
+    ghost format = { client_or_server_extension_format };
+
+    fn tls_serialized_len(&self) -> usize {
+        1
+    }
+
+    ghost lawful = { client_or_server_extension_meets };
+}
+
+impl Serialize for ClientOrServerExtension {
+    fn tls_serialize<W: Sink>(&self, writer: &mut W) -> Result<usize, Error> {
+        self.code().tls_serialize(writer)
+    }
+
+    fn tls_serialize_into(&self, out: &mut Vec<u8>) -> Result<usize, Error> {
+        self.code().tls_serialize_into(out)
+    }
+}
+
+impl Deserialize for ClientOrServerExtension {
+    ghost names = { values_source_names 1 client_or_server_extension_has };
+
+    fn tls_deserialize<R: Source>(
+        alloc: Global,
+        src: &mut R,
+    ) -> Result<ClientOrServerExtension, Error> {
+        let tag = u8::tls_deserialize(alloc, src)?;
+        match ClientOrServerExtension::of_code(tag) {
+            Some(value) => Ok(value),
+            None => Err(unknown_value(u64::from(tag))),
+        }
+    }
+}
+
+impl DeserializeBytes for ClientOrServerExtension {
+    ghost names = { values_names 1 client_or_server_extension_has };
+
+    fn tls_deserialize_bytes(
+        alloc: Global,
+        whole: &[u8],
+    ) -> Result<(ClientOrServerExtension, &[u8]), Error> {
+        let (tag, rest) = u8::tls_deserialize_bytes(alloc, whole)?;
+        match ClientOrServerExtension::of_code(tag) {
+            Some(value) => Ok((value, rest)),
+            None => Err(unknown_value(u64::from(tag))),
+        }
+    }
+}
+
+impl Selector for ClientOrServerExtension {
+    ghost selected = { client_or_server_extension_selected };
+
+    fn selects(&self) -> u64 {
+        let tag = self.code();
+        u64::from(tag)
+    }
+}
+
+/// Two are equal exactly where their numbers are.
+pub fn is_compared_by_its_number()
+    ensures { (x y : ClientOrServerExtension) →
+        ⟦<ClientOrServerExtension as PartialEq>⟧.eq x y
+        ≡ nat_eq (client_or_server_extension_code x) (client_or_server_extension_code y) }
+{}
+
+/// Two are in the order of their numbers.
+pub fn is_ordered_by_its_number()
+    ensures { (x y : ClientOrServerExtension) →
+        ⟦<ClientOrServerExtension as Ord>⟧.cmp x y
+        ≡ nat_cmp (client_or_server_extension_code x) (client_or_server_extension_code y) }
+{}

@@ -1,0 +1,68 @@
+//! [`AuthenticatedContentTBM`].
+ghost use Rattle.std.specs.Prelude.{◌≡◌, ◌&&◌};
+ghost use Rattle.mls.specs.AuthenticatedContentTBM.{authenticated_content_tbm_format, authenticated_content_tbm_meets, authenticated_content_tbm_plain};
+ghost use Rattle.mls.specs.declared.authenticated_content_tbm.AuthenticatedContentTBM.{AuthenticatedContentTBM};
+
+use crate::{ContentType, FramedContentAuthData, FramedContentTBS};
+use std::marker::PhantomData;
+use tls_codec::{Error, LentIn, LentThen, Serialize, Sink, Size};
+use tls_codec_cases::{By, append_as, write_as};
+
+/// `AuthenticatedContentTBM` (RFC 9420, section 6.2).
+///
+/// It has references to its fields, and is only written.
+#[derive(PartialEq, Eq, Debug, Clone, Copy)]
+pub struct AuthenticatedContentTBM<'a> {
+    /// `FramedContentTBS content_tbs;`
+    pub content_tbs: FramedContentTBS<'a>,
+    /// `FramedContentAuthData auth;`
+    pub auth: &'a FramedContentAuthData,
+}
+
+type LentParts<'a> = LentThen<
+    'a,
+    FramedContentTBS<'a>,
+    By<ContentType, LentIn<'a, FramedContentAuthData>>,
+>;
+
+impl AuthenticatedContentTBM<'_> {
+    fn parts(&self) -> LentParts<'_>
+        ensures { ⟦<LentParts<'static> as Size>⟧.plain result
+            ≡ authenticated_content_tbm_plain self.now }
+    {
+        let first = &self.content_tbs;
+        let rest = By(LentIn(self.auth), PhantomData);
+        LentThen { first, rest }
+    }
+}
+
+impl Size for AuthenticatedContentTBM<'_> {
+    ghost plain = { authenticated_content_tbm_plain };
+
+    ghost format = { authenticated_content_tbm_format };
+
+    fn tls_serialized_len(&self) -> usize {
+        self.parts().tls_serialized_len()
+    }
+
+    ghost lawful = { authenticated_content_tbm_meets };
+}
+
+/// `EncodingError("value does not fit its context")`: a field is of another case.
+impl Serialize for AuthenticatedContentTBM<'_> {
+    fn tls_serialize<W: Sink>(&self, writer: &mut W) -> Result<usize, Error> {
+        write_as(self, &self.parts(), writer)
+    }
+
+    fn tls_serialize_into(&self, out: &mut Vec<u8>) -> Result<usize, Error> {
+        append_as(self, &self.parts(), out)
+    }
+}
+
+/// Two are equal exactly where each field is.
+pub fn is_compared_by_its_fields()
+    ensures { (x y : AuthenticatedContentTBM) →
+        ⟦<AuthenticatedContentTBM<'static> as PartialEq>⟧.eq x y
+        ≡ (⟦<FramedContentTBS<'static> as PartialEq>⟧.eq x.content_tbs y.content_tbs
+        && ⟦<FramedContentAuthData as PartialEq>⟧.eq x.auth.now y.auth.now) }
+{}

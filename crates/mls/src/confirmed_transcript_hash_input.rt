@@ -1,0 +1,66 @@
+//! [`ConfirmedTranscriptHashInput`].
+ghost use Rattle.std.specs.Prelude.{◌≡◌, ◌&&◌};
+ghost use Rattle.mls.specs.ConfirmedTranscriptHashInput.{confirmed_transcript_hash_input_format, confirmed_transcript_hash_input_meets, confirmed_transcript_hash_input_plain};
+ghost use Rattle.mls.specs.declared.confirmed_transcript_hash_input.ConfirmedTranscriptHashInput.{ConfirmedTranscriptHashInput};
+
+use crate::{FramedContent, WireFormat};
+use tls_codec::{Error, Lent, Serialize, Sink, Size, VLBytes};
+
+/// `ConfirmedTranscriptHashInput` (RFC 9420, section 8.2).
+///
+/// It has references to its fields, and is only written.
+#[derive(PartialEq, Eq, Debug, Clone, Copy)]
+pub struct ConfirmedTranscriptHashInput<'a> {
+    /// `WireFormat wire_format;`
+    pub wire_format: &'a WireFormat,
+    /// `FramedContent content;`
+    pub content: &'a FramedContent,
+    /// `opaque signature<V>;`
+    pub signature: &'a VLBytes,
+}
+
+impl Size for ConfirmedTranscriptHashInput<'_> {
+    ghost plain = { confirmed_transcript_hash_input_plain };
+
+    ghost format = { confirmed_transcript_hash_input_format };
+
+    fn tls_serialized_len(&self) -> usize {
+        (
+            Lent(self.wire_format),
+            Lent(self.content),
+            Lent(self.signature),
+        )
+            .tls_serialized_len()
+    }
+
+    ghost lawful = { confirmed_transcript_hash_input_meets };
+}
+
+impl Serialize for ConfirmedTranscriptHashInput<'_> {
+    fn tls_serialize<W: Sink>(&self, writer: &mut W) -> Result<usize, Error> {
+        (
+            Lent(self.wire_format),
+            Lent(self.content),
+            Lent(self.signature),
+        )
+            .tls_serialize(writer)
+    }
+
+    fn tls_serialize_into(&self, out: &mut Vec<u8>) -> Result<usize, Error> {
+        (
+            Lent(self.wire_format),
+            Lent(self.content),
+            Lent(self.signature),
+        )
+            .tls_serialize_into(out)
+    }
+}
+
+/// Two are equal exactly where each field is.
+pub fn is_compared_by_its_fields()
+    ensures { (x y : ConfirmedTranscriptHashInput) →
+        ⟦<ConfirmedTranscriptHashInput<'static> as PartialEq>⟧.eq x y
+        ≡ (⟦<WireFormat as PartialEq>⟧.eq x.wire_format.now y.wire_format.now
+        && (⟦<FramedContent as PartialEq>⟧.eq x.content.now y.content.now
+        && ⟦<VLBytes as PartialEq>⟧.eq x.signature.now y.signature.now)) }
+{}

@@ -1,0 +1,165 @@
+//! [`ContentTypeData`].
+ghost use Rattle.std.specs.Prelude.{◌≡◌, IsTrue};
+ghost use Rattle.tls_codec.specs.OwnMessages.{no_variant_names, no_variant_source_names, tagged_names, tagged_source_names, variant_names, variant_source_names};
+ghost use Rattle.mls.specs.ContentTypeData.{content_type_data_format, content_type_data_meets, content_type_data_plain, content_type_data_tag};
+ghost use Rattle.mls.specs.declared.content_type_data.ContentTypeData.{ContentTypeData};
+ghost use Rattle.mls.specs.ContentTypeData.{content_type_data_content_type};
+
+use crate::ContentType;
+use mls_proposals::{Commit, Proposal};
+use std::alloc::Global;
+use tls_codec::{
+    Deserialize, DeserializeBytes, Error, Lent, Serialize, Sink, Size, Source, VLBytes,
+    unknown_value,
+};
+use tls_codec_cases::Holds;
+
+const APPLICATION: u8 = 1;
+
+const PROPOSAL: u8 = 2;
+
+const COMMIT: u8 = 3;
+
+/// `ContentType content_type` of `FramedContent` (RFC 9420, section 6), and what comes
+/// after each.
+#[derive(PartialEq, Eq, Debug, Clone, Drop)]
+pub enum ContentTypeData {
+    /// `case application: opaque application_data<V>;`
+    Application(VLBytes),
+    /// `case proposal: Proposal proposal;`
+    Proposal(Proposal),
+    /// `case commit: Commit commit;`
+    Commit(Commit),
+}
+
+impl Size for ContentTypeData {
+    ghost plain = { content_type_data_plain };
+
+    ghost format = { content_type_data_format };
+
+    fn tls_serialized_len(&self) -> usize {
+        match self {
+            ContentTypeData::Application(application_data) => (
+                APPLICATION,
+                Lent(application_data),
+            ).tls_serialized_len(),
+            ContentTypeData::Proposal(proposal) => (PROPOSAL, Lent(proposal)).tls_serialized_len(),
+            ContentTypeData::Commit(commit) => (COMMIT, Lent(commit)).tls_serialized_len(),
+        }
+    }
+
+    ghost lawful = { content_type_data_meets };
+}
+
+impl Serialize for ContentTypeData {
+    fn tls_serialize<W: Sink>(&self, writer: &mut W) -> Result<usize, Error> {
+        match self {
+            ContentTypeData::Application(application_data) => (
+                APPLICATION,
+                Lent(application_data),
+            ).tls_serialize(writer),
+            ContentTypeData::Proposal(proposal) => (PROPOSAL, Lent(proposal)).tls_serialize(writer),
+            ContentTypeData::Commit(commit) => (COMMIT, Lent(commit)).tls_serialize(writer),
+        }
+    }
+
+    fn tls_serialize_into(&self, out: &mut Vec<u8>) -> Result<usize, Error> {
+        match self {
+            ContentTypeData::Application(application_data) => (
+                APPLICATION,
+                Lent(application_data),
+            ).tls_serialize_into(out),
+            ContentTypeData::Proposal(proposal) => (PROPOSAL, Lent(proposal)).tls_serialize_into(
+                out,
+            ),
+            ContentTypeData::Commit(commit) => (COMMIT, Lent(commit)).tls_serialize_into(out),
+        }
+    }
+}
+
+impl Deserialize for ContentTypeData {
+    ghost names = { tagged_source_names 1
+        (variant_source_names 1 ⟦<VLBytes as Deserialize>⟧.names
+        (variant_source_names 2 ⟦<Proposal as Deserialize>⟧.names
+        (variant_source_names 3 ⟦<Commit as Deserialize>⟧.names
+        no_variant_source_names))) };
+
+    fn tls_deserialize<R: Source>(alloc: Global, src: &mut R) -> Result<ContentTypeData, Error> {
+        let tag = u8::tls_deserialize(alloc, src)?;
+        match tag {
+            APPLICATION => {
+                let application_data = VLBytes::tls_deserialize(alloc, src)?;
+                Ok(ContentTypeData::Application(application_data))
+            }
+            PROPOSAL => {
+                let proposal = Proposal::tls_deserialize(alloc, src)?;
+                Ok(ContentTypeData::Proposal(proposal))
+            }
+            COMMIT => {
+                let commit = Commit::tls_deserialize(alloc, src)?;
+                Ok(ContentTypeData::Commit(commit))
+            }
+            _ => Err(unknown_value(u64::from(tag))),
+        }
+    }
+}
+
+impl DeserializeBytes for ContentTypeData {
+    ghost names = { tagged_names 1
+        (variant_names 1 ⟦<VLBytes as DeserializeBytes>⟧.names
+        (variant_names 2 ⟦<Proposal as DeserializeBytes>⟧.names
+        (variant_names 3 ⟦<Commit as DeserializeBytes>⟧.names
+        no_variant_names))) };
+
+    fn tls_deserialize_bytes(
+        alloc: Global,
+        whole: &[u8],
+    ) -> Result<(ContentTypeData, &[u8]), Error> {
+        let (tag, rest) = u8::tls_deserialize_bytes(alloc, whole)?;
+        match tag {
+            APPLICATION => {
+                let (application_data, rest) = VLBytes::tls_deserialize_bytes(alloc, rest)?;
+                Ok((ContentTypeData::Application(application_data), rest))
+            }
+            PROPOSAL => {
+                let (proposal, rest) = Proposal::tls_deserialize_bytes(alloc, rest)?;
+                Ok((ContentTypeData::Proposal(proposal), rest))
+            }
+            COMMIT => {
+                let (commit, rest) = Commit::tls_deserialize_bytes(alloc, rest)?;
+                Ok((ContentTypeData::Commit(commit), rest))
+            }
+            _ => Err(unknown_value(u64::from(tag))),
+        }
+    }
+}
+
+impl Holds<ContentType> for ContentTypeData {
+    ghost held = { content_type_data_content_type };
+
+    fn held(&self) -> ContentType {
+        match self {
+            ContentTypeData::Application(_) => ContentType::Application,
+            ContentTypeData::Proposal(_) => ContentType::Proposal,
+            ContentTypeData::Commit(_) => ContentType::Commit,
+        }
+    }
+}
+
+/// Two are equal exactly where they are of one case, and each field is.
+pub fn is_compared_by_its_case()
+    ensures tag { (x y : ContentTypeData) →
+        IsTrue (⟦<ContentTypeData as PartialEq>⟧.eq x y)
+        → content_type_data_tag x ≡ content_type_data_tag y }
+    ensures case_1 { (a0 b0 : _) →
+        ⟦<ContentTypeData as PartialEq>⟧.eq (ContentTypeData.Application a0)
+        (ContentTypeData.Application b0)
+        ≡ ⟦<VLBytes as PartialEq>⟧.eq a0 b0 }
+    ensures case_2 { (a0 b0 : _) →
+        ⟦<ContentTypeData as PartialEq>⟧.eq (ContentTypeData.Proposal a0)
+        (ContentTypeData.Proposal b0)
+        ≡ ⟦<Proposal as PartialEq>⟧.eq a0 b0 }
+    ensures case_3 { (a0 b0 : _) →
+        ⟦<ContentTypeData as PartialEq>⟧.eq (ContentTypeData.Commit a0) (ContentTypeData.Commit b0)
+        ≡ ⟦<Commit as PartialEq>⟧.eq a0 b0 }
+{}

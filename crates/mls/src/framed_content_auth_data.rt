@@ -1,0 +1,142 @@
+//! [`FramedContentAuthData`].
+ghost use Rattle.std.specs.Prelude.{◌≡◌, ◌&&◌};
+ghost use Rattle.mls.specs.FramedContentAuthData.{framed_content_auth_data_format_for, framed_content_auth_data_meets_for, framed_content_auth_data_plain};
+ghost use Rattle.mls.specs.declared.framed_content_auth_data.FramedContentAuthData.{FramedContentAuthData};
+
+use crate::ContentType;
+use mls_proposals::MAC;
+use std::alloc::Global;
+use std::marker::PhantomData;
+use tls_codec::{
+    Always, DeserializeBytesFor, DeserializeFor, Error, Lent, LentWhen, SerializeFor, Sink,
+    SizeFor, Source, VLBytes, When,
+};
+use tls_codec_cases::Is;
+
+/// `FramedContentAuthData` (RFC 9420, section 6.1).
+#[derive(PartialEq, Eq, Debug, Clone, Drop)]
+pub struct FramedContentAuthData {
+    /// `opaque signature<V>;`
+    /// SignWithLabel(., "FramedContentTBS", FramedContentTBS)
+    pub signature: VLBytes,
+    /// `case commit: MAC confirmation_tag;`
+    /// MAC(confirmation_key, GroupContext.confirmed_transcript_hash)
+    pub confirmation_tag: Option<MAC>,
+}
+
+impl SizeFor<ContentType> for FramedContentAuthData {
+    ghost plain = { framed_content_auth_data_plain };
+
+    ghost format_for = { framed_content_auth_data_format_for };
+
+    fn tls_serialized_len_for(&self, content_type: &ContentType) -> usize {
+        (
+            Lent(&self.signature),
+            LentWhen {
+                value: &self.confirmation_tag,
+                condition: PhantomData::<Is<3>>,
+            },
+        )
+            .tls_serialized_len_for(content_type)
+    }
+
+    ghost lawful = { framed_content_auth_data_meets_for };
+}
+
+/// `EncodingError("value does not fit its context")`: a field is of another case.
+impl SerializeFor<ContentType> for FramedContentAuthData {
+    fn tls_serialize_for<W: Sink>(
+        &self,
+        content_type: &ContentType,
+        writer: &mut W,
+    ) -> Result<usize, Error> {
+        (
+            Lent(&self.signature),
+            LentWhen {
+                value: &self.confirmation_tag,
+                condition: PhantomData::<Is<3>>,
+            },
+        )
+            .tls_serialize_for(content_type, writer)
+    }
+
+    fn tls_serialize_into_for(
+        &self,
+        content_type: &ContentType,
+        out: &mut Vec<u8>,
+    ) -> Result<usize, Error> {
+        (
+            Lent(&self.signature),
+            LentWhen {
+                value: &self.confirmation_tag,
+                condition: PhantomData::<Is<3>>,
+            },
+        )
+            .tls_serialize_into_for(content_type, out)
+    }
+}
+
+impl DeserializeFor<ContentType> for FramedContentAuthData {
+    ghost names = { ⟦<(Always<VLBytes>, When<Is<3>, MAC>) as DeserializeFor<ContentType>>⟧.names };
+
+    fn tls_deserialize_for<R: Source>(
+        content_type: &ContentType,
+        alloc: Global,
+        src: &mut R,
+    ) -> Result<FramedContentAuthData, Error> {
+        let parts = <(Always<VLBytes>, When<Is<3>, MAC>)>::tls_deserialize_for(
+            content_type,
+            alloc,
+            src,
+        )?;
+        let (
+            Always(signature),
+            When {
+                value: confirmation_tag,
+                ..
+            },
+        ) = parts;
+        Ok(FramedContentAuthData {
+            signature,
+            confirmation_tag,
+        })
+    }
+}
+
+impl DeserializeBytesFor<ContentType> for FramedContentAuthData {
+    ghost names = { ⟦<(Always<VLBytes>, When<Is<3>, MAC>) as DeserializeBytesFor<ContentType>>⟧.names };
+
+    fn tls_deserialize_bytes_for<'a>(
+        content_type: &ContentType,
+        alloc: Global,
+        whole: &'a [u8],
+    ) -> Result<(FramedContentAuthData, &'a [u8]), Error> {
+        let (parts, rest) = <(Always<VLBytes>, When<Is<3>, MAC>)>::tls_deserialize_bytes_for(
+            content_type,
+            alloc,
+            whole,
+        )?;
+        let (
+            Always(signature),
+            When {
+                value: confirmation_tag,
+                ..
+            },
+        ) = parts;
+        Ok((
+            FramedContentAuthData {
+                signature,
+                confirmation_tag,
+            },
+            rest,
+        ))
+    }
+}
+
+/// Two are equal exactly where each field is.
+pub fn is_compared_by_its_fields()
+    ensures { (x y : FramedContentAuthData) →
+        ⟦<FramedContentAuthData as PartialEq>⟧.eq x y
+        ≡ (⟦<VLBytes as PartialEq>⟧.eq x.signature y.signature
+        && ⟦<Option<MAC> as PartialEq>⟧.eq x.confirmation_tag y.confirmation_tag) }
+{}

@@ -1,0 +1,91 @@
+//! [`FramedContentTBS`].
+ghost use Rattle.std.specs.Prelude.{◌≡◌, ◌&&◌};
+ghost use Rattle.mls.specs.FramedContentTBS.{framed_content_tbs_format, framed_content_tbs_meets, framed_content_tbs_plain};
+ghost use Rattle.mls.specs.declared.framed_content_tbs.FramedContentTBS.{FramedContentTBS};
+ghost use Rattle.mls.specs.FramedContentTBS.{framed_content_tbs_content_type};
+
+use crate::{ContentType, FramedContent, SenderType, WireFormat};
+use mls_proposals::{GroupContext, ProtocolVersionMls10};
+use std::marker::PhantomData;
+use tls_codec::{Error, Lent, LentThen, LentWhen, Serialize, Sink, Size};
+use tls_codec_cases::{AnyOf, By, Holds, Is, append_as, write_as};
+
+/// `FramedContentTBS` (RFC 9420, section 6.1).
+///
+/// It has references to its fields, and is only written.
+#[derive(PartialEq, Eq, Debug, Clone, Copy)]
+pub struct FramedContentTBS<'a> {
+    /// `ProtocolVersion version = mls10;`
+    pub version: &'a ProtocolVersionMls10,
+    /// `WireFormat wire_format;`
+    pub wire_format: &'a WireFormat,
+    /// `FramedContent content;`
+    pub content: &'a FramedContent,
+    /// `case member: case new_member_commit: GroupContext context;`
+    pub context: &'a Option<GroupContext>,
+}
+
+type LentParts<'a> = (
+    (Lent<'a, ProtocolVersionMls10>, Lent<'a, WireFormat>),
+    LentThen<'a, FramedContent, By<SenderType, LentWhen<'a, AnyOf<Is<1>, Is<4>>, GroupContext>>>,
+);
+
+impl FramedContentTBS<'_> {
+    fn parts(&self) -> LentParts<'_>
+        ensures { ⟦<LentParts<'static> as Size>⟧.plain result ≡ framed_content_tbs_plain self.now }
+    {
+        let first = self.content;
+        let rest = By(
+            LentWhen {
+                value: self.context,
+                condition: PhantomData::<AnyOf<Is<1>, Is<4>>>,
+            },
+            PhantomData,
+        );
+        (
+            (Lent(self.version), Lent(self.wire_format)),
+            LentThen { first, rest },
+        )
+    }
+}
+
+impl Size for FramedContentTBS<'_> {
+    ghost plain = { framed_content_tbs_plain };
+
+    ghost format = { framed_content_tbs_format };
+
+    fn tls_serialized_len(&self) -> usize {
+        self.parts().tls_serialized_len()
+    }
+
+    ghost lawful = { framed_content_tbs_meets };
+}
+
+/// `EncodingError("value does not fit its context")`: a field is of another case.
+impl Serialize for FramedContentTBS<'_> {
+    fn tls_serialize<W: Sink>(&self, writer: &mut W) -> Result<usize, Error> {
+        write_as(self, &self.parts(), writer)
+    }
+
+    fn tls_serialize_into(&self, out: &mut Vec<u8>) -> Result<usize, Error> {
+        append_as(self, &self.parts(), out)
+    }
+}
+
+impl Holds<ContentType> for FramedContentTBS<'_> {
+    ghost held = { framed_content_tbs_content_type };
+
+    fn held(&self) -> ContentType {
+        self.content.held()
+    }
+}
+
+/// Two are equal exactly where each field is.
+pub fn is_compared_by_its_fields()
+    ensures { (x y : FramedContentTBS) →
+        ⟦<FramedContentTBS<'static> as PartialEq>⟧.eq x y
+        ≡ (⟦<ProtocolVersionMls10 as PartialEq>⟧.eq x.version.now y.version.now
+        && (⟦<WireFormat as PartialEq>⟧.eq x.wire_format.now y.wire_format.now
+        && (⟦<FramedContent as PartialEq>⟧.eq x.content.now y.content.now
+        && ⟦<Option<GroupContext> as PartialEq>⟧.eq x.context.now y.context.now))) }
+{}

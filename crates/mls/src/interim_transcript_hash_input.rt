@@ -1,0 +1,45 @@
+//! [`InterimTranscriptHashInput`].
+ghost use Rattle.std.specs.Prelude.{◌≡◌};
+ghost use Rattle.mls.specs.InterimTranscriptHashInput.{interim_transcript_hash_input_format, interim_transcript_hash_input_meets, interim_transcript_hash_input_plain};
+ghost use Rattle.mls.specs.declared.interim_transcript_hash_input.InterimTranscriptHashInput.{InterimTranscriptHashInput};
+
+use mls_proposals::MAC;
+use tls_codec::{Error, Serialize, Sink, Size};
+
+/// `InterimTranscriptHashInput` (RFC 9420, section 8.2).
+///
+/// It has references to its fields, and is only written.
+#[derive(PartialEq, Eq, Debug, Clone, Copy)]
+pub struct InterimTranscriptHashInput<'a> {
+    /// `MAC confirmation_tag;`
+    pub confirmation_tag: &'a MAC,
+}
+
+impl Size for InterimTranscriptHashInput<'_> {
+    ghost plain = { interim_transcript_hash_input_plain };
+
+    ghost format = { interim_transcript_hash_input_format };
+
+    fn tls_serialized_len(&self) -> usize {
+        self.confirmation_tag.tls_serialized_len()
+    }
+
+    ghost lawful = { interim_transcript_hash_input_meets };
+}
+
+impl Serialize for InterimTranscriptHashInput<'_> {
+    fn tls_serialize<W: Sink>(&self, writer: &mut W) -> Result<usize, Error> {
+        self.confirmation_tag.tls_serialize(writer)
+    }
+
+    fn tls_serialize_into(&self, out: &mut Vec<u8>) -> Result<usize, Error> {
+        self.confirmation_tag.tls_serialize_into(out)
+    }
+}
+
+/// Two are equal exactly where each field is.
+pub fn is_compared_by_its_fields()
+    ensures { (x y : InterimTranscriptHashInput) →
+        ⟦<InterimTranscriptHashInput<'static> as PartialEq>⟧.eq x y
+        ≡ ⟦<MAC as PartialEq>⟧.eq x.confirmation_tag.now y.confirmation_tag.now }
+{}

@@ -1,0 +1,80 @@
+//! [`MLSMessage`].
+ghost use Rattle.std.specs.Prelude.{◌≡◌, ◌&&◌};
+ghost use Rattle.mls.specs.MLSMessage.{mls_message_format, mls_message_meets, mls_message_plain};
+ghost use Rattle.mls.specs.declared.mls_message.MLSMessage.{MLSMessage};
+
+use crate::WireFormatData;
+use mls_proposals::ProtocolVersionMls10;
+use std::alloc::Global;
+use tls_codec::{Deserialize, DeserializeBytes, Error, Lent, Serialize, Sink, Size, Source};
+
+/// `MLSMessage` (RFC 9420, section 6).
+#[derive(PartialEq, Eq, Debug, Clone, Drop)]
+pub struct MLSMessage {
+    /// `ProtocolVersion version = mls10;`
+    pub version: ProtocolVersionMls10,
+    /// `WireFormat wire_format;`
+    pub wire_format: WireFormatData,
+}
+
+impl Size for MLSMessage {
+    ghost plain = { mls_message_plain };
+
+    ghost format = { mls_message_format };
+
+    fn tls_serialized_len(&self) -> usize {
+        (Lent(&self.version), Lent(&self.wire_format)).tls_serialized_len()
+    }
+
+    ghost lawful = { mls_message_meets };
+}
+
+impl Serialize for MLSMessage {
+    fn tls_serialize<W: Sink>(&self, writer: &mut W) -> Result<usize, Error> {
+        (Lent(&self.version), Lent(&self.wire_format)).tls_serialize(writer)
+    }
+
+    fn tls_serialize_into(&self, out: &mut Vec<u8>) -> Result<usize, Error> {
+        (Lent(&self.version), Lent(&self.wire_format)).tls_serialize_into(out)
+    }
+}
+
+impl Deserialize for MLSMessage {
+    ghost names = { ⟦<(ProtocolVersionMls10, WireFormatData) as Deserialize>⟧.names };
+
+    fn tls_deserialize<R: Source>(alloc: Global, src: &mut R) -> Result<MLSMessage, Error> {
+        let (version, wire_format) = <(ProtocolVersionMls10, WireFormatData)>::tls_deserialize(
+            alloc, src,
+        )?;
+        Ok(MLSMessage {
+            version,
+            wire_format,
+        })
+    }
+}
+
+impl DeserializeBytes for MLSMessage {
+    ghost names = { ⟦<(ProtocolVersionMls10, WireFormatData) as DeserializeBytes>⟧.names };
+
+    fn tls_deserialize_bytes(alloc: Global, whole: &[u8]) -> Result<(MLSMessage, &[u8]), Error> {
+        let ((version, wire_format), rest) = <(
+            ProtocolVersionMls10,
+            WireFormatData,
+        )>::tls_deserialize_bytes(alloc, whole)?;
+        Ok((
+            MLSMessage {
+                version,
+                wire_format,
+            },
+            rest,
+        ))
+    }
+}
+
+/// Two are equal exactly where each field is.
+pub fn is_compared_by_its_fields()
+    ensures { (x y : MLSMessage) →
+        ⟦<MLSMessage as PartialEq>⟧.eq x y
+        ≡ (⟦<ProtocolVersionMls10 as PartialEq>⟧.eq x.version y.version
+        && ⟦<WireFormatData as PartialEq>⟧.eq x.wire_format y.wire_format) }
+{}

@@ -1,0 +1,136 @@
+//! [`PrivateMessage`].
+ghost use Rattle.std.specs.Prelude.{◌≡◌, ◌&&◌};
+ghost use Rattle.mls.specs.PrivateMessage.{private_message_format, private_message_meets, private_message_plain};
+ghost use Rattle.mls.specs.declared.private_message.PrivateMessage.{PrivateMessage};
+
+use crate::ContentType;
+use std::alloc::Global;
+use tls_codec::{
+    Deserialize, DeserializeBytes, Error, Lent3, Serialize, Sink, Size, Source, VLBytes,
+};
+
+/// `PrivateMessage` (RFC 9420, section 6.3).
+#[derive(PartialEq, Eq, Debug, Clone, Drop)]
+pub struct PrivateMessage {
+    /// `opaque group_id<V>;`
+    pub group_id: VLBytes,
+    /// `uint64 epoch;`
+    pub epoch: u64,
+    /// `ContentType content_type;`
+    pub content_type: ContentType,
+    /// `opaque authenticated_data<V>;`
+    pub authenticated_data: VLBytes,
+    /// `opaque encrypted_sender_data<V>;`
+    pub encrypted_sender_data: VLBytes,
+    /// `opaque ciphertext<V>;`
+    pub ciphertext: VLBytes,
+}
+
+impl Size for PrivateMessage {
+    ghost plain = { private_message_plain };
+
+    ghost format = { private_message_format };
+
+    fn tls_serialized_len(&self) -> usize {
+        (
+            Lent3(&self.group_id, &self.epoch, &self.content_type),
+            Lent3(
+                &self.authenticated_data,
+                &self.encrypted_sender_data,
+                &self.ciphertext,
+            ),
+        )
+            .tls_serialized_len()
+    }
+
+    ghost lawful = { private_message_meets };
+}
+
+impl Serialize for PrivateMessage {
+    fn tls_serialize<W: Sink>(&self, writer: &mut W) -> Result<usize, Error> {
+        (
+            Lent3(&self.group_id, &self.epoch, &self.content_type),
+            Lent3(
+                &self.authenticated_data,
+                &self.encrypted_sender_data,
+                &self.ciphertext,
+            ),
+        )
+            .tls_serialize(writer)
+    }
+
+    fn tls_serialize_into(&self, out: &mut Vec<u8>) -> Result<usize, Error> {
+        (
+            Lent3(&self.group_id, &self.epoch, &self.content_type),
+            Lent3(
+                &self.authenticated_data,
+                &self.encrypted_sender_data,
+                &self.ciphertext,
+            ),
+        )
+            .tls_serialize_into(out)
+    }
+}
+
+impl Deserialize for PrivateMessage {
+    ghost names = { ⟦<((VLBytes, u64, ContentType), (VLBytes, VLBytes, VLBytes)) as Deserialize>⟧.names };
+
+    fn tls_deserialize<R: Source>(alloc: Global, src: &mut R) -> Result<PrivateMessage, Error> {
+        let (
+            (group_id, epoch, content_type),
+            (authenticated_data, encrypted_sender_data, ciphertext),
+        ) = <((VLBytes, u64, ContentType), (VLBytes, VLBytes, VLBytes))>::tls_deserialize(
+            alloc, src,
+        )?;
+        Ok(PrivateMessage {
+            group_id,
+            epoch,
+            content_type,
+            authenticated_data,
+            encrypted_sender_data,
+            ciphertext,
+        })
+    }
+}
+
+impl DeserializeBytes for PrivateMessage {
+    ghost names = { ⟦<((VLBytes, u64, ContentType), (VLBytes, VLBytes, VLBytes)) as DeserializeBytes>⟧.names };
+
+    fn tls_deserialize_bytes(
+        alloc: Global,
+        whole: &[u8],
+    ) -> Result<(PrivateMessage, &[u8]), Error> {
+        let (
+            (
+                (group_id, epoch, content_type),
+                (authenticated_data, encrypted_sender_data, ciphertext),
+            ),
+            rest,
+        ) = <((VLBytes, u64, ContentType), (VLBytes, VLBytes, VLBytes))>::tls_deserialize_bytes(
+            alloc, whole,
+        )?;
+        Ok((
+            PrivateMessage {
+                group_id,
+                epoch,
+                content_type,
+                authenticated_data,
+                encrypted_sender_data,
+                ciphertext,
+            },
+            rest,
+        ))
+    }
+}
+
+/// Two are equal exactly where each field is.
+pub fn is_compared_by_its_fields()
+    ensures { (x y : PrivateMessage) →
+        ⟦<PrivateMessage as PartialEq>⟧.eq x y
+        ≡ (⟦<VLBytes as PartialEq>⟧.eq x.group_id y.group_id
+        && (⟦<u64 as PartialEq>⟧.eq x.epoch y.epoch
+        && (⟦<ContentType as PartialEq>⟧.eq x.content_type y.content_type
+        && (⟦<VLBytes as PartialEq>⟧.eq x.authenticated_data y.authenticated_data
+        && (⟦<VLBytes as PartialEq>⟧.eq x.encrypted_sender_data y.encrypted_sender_data
+        && ⟦<VLBytes as PartialEq>⟧.eq x.ciphertext y.ciphertext))))) }
+{}

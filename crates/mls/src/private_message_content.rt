@@ -1,0 +1,97 @@
+//! [`PrivateMessageContent`].
+ghost use Rattle.std.specs.Prelude.{◌≡◌, ◌&&◌};
+ghost use Rattle.mls.specs.PrivateMessageContent.{private_message_content_format_for, private_message_content_meets_for, private_message_content_plain};
+ghost use Rattle.mls.specs.declared.private_message_content.PrivateMessageContent.{PrivateMessageContent};
+
+use crate::{ContentType, FramedContentAuthData, PrivateContent};
+use std::alloc::Global;
+use tls_codec::{
+    DeserializeBytesFor, DeserializeFor, Error, LentIn, SerializeFor, Sink, SizeFor, Source,
+};
+
+/// `PrivateMessageContent` (RFC 9420, section 6.3.1).
+///
+/// Zeros go to the end behind it, `opaque padding[length_of_padding];`: it is read and
+/// written as `Padded<PrivateMessageContent>`.
+#[derive(PartialEq, Eq, Debug, Clone, Drop)]
+pub struct PrivateMessageContent {
+    /// `select (content_type);`
+    pub content: PrivateContent,
+    /// `FramedContentAuthData auth;`
+    pub auth: FramedContentAuthData,
+}
+
+impl SizeFor<ContentType> for PrivateMessageContent {
+    ghost plain = { private_message_content_plain };
+
+    ghost format_for = { private_message_content_format_for };
+
+    fn tls_serialized_len_for(&self, content_type: &ContentType) -> usize {
+        (LentIn(&self.content), LentIn(&self.auth)).tls_serialized_len_for(content_type)
+    }
+
+    ghost lawful = { private_message_content_meets_for };
+}
+
+/// `EncodingError("value does not fit its context")`: a field is of another case.
+impl SerializeFor<ContentType> for PrivateMessageContent {
+    fn tls_serialize_for<W: Sink>(
+        &self,
+        content_type: &ContentType,
+        writer: &mut W,
+    ) -> Result<usize, Error> {
+        (LentIn(&self.content), LentIn(&self.auth)).tls_serialize_for(content_type, writer)
+    }
+
+    fn tls_serialize_into_for(
+        &self,
+        content_type: &ContentType,
+        out: &mut Vec<u8>,
+    ) -> Result<usize, Error> {
+        (LentIn(&self.content), LentIn(&self.auth)).tls_serialize_into_for(content_type, out)
+    }
+}
+
+impl DeserializeFor<ContentType> for PrivateMessageContent {
+    ghost names = { ⟦<(PrivateContent, FramedContentAuthData) as DeserializeFor<ContentType>>⟧.names };
+
+    fn tls_deserialize_for<R: Source>(
+        content_type: &ContentType,
+        alloc: Global,
+        src: &mut R,
+    ) -> Result<PrivateMessageContent, Error> {
+        let parts = <(PrivateContent, FramedContentAuthData)>::tls_deserialize_for(
+            content_type,
+            alloc,
+            src,
+        )?;
+        let (content, auth) = parts;
+        Ok(PrivateMessageContent { content, auth })
+    }
+}
+
+impl DeserializeBytesFor<ContentType> for PrivateMessageContent {
+    ghost names = { ⟦<(PrivateContent, FramedContentAuthData) as DeserializeBytesFor<ContentType>>⟧.names };
+
+    fn tls_deserialize_bytes_for<'a>(
+        content_type: &ContentType,
+        alloc: Global,
+        whole: &'a [u8],
+    ) -> Result<(PrivateMessageContent, &'a [u8]), Error> {
+        let (parts, rest) = <(PrivateContent, FramedContentAuthData)>::tls_deserialize_bytes_for(
+            content_type,
+            alloc,
+            whole,
+        )?;
+        let (content, auth) = parts;
+        Ok((PrivateMessageContent { content, auth }, rest))
+    }
+}
+
+/// Two are equal exactly where each field is.
+pub fn is_compared_by_its_fields()
+    ensures { (x y : PrivateMessageContent) →
+        ⟦<PrivateMessageContent as PartialEq>⟧.eq x y
+        ≡ (⟦<PrivateContent as PartialEq>⟧.eq x.content y.content
+        && ⟦<FramedContentAuthData as PartialEq>⟧.eq x.auth y.auth) }
+{}

@@ -1,0 +1,150 @@
+//! [`PublicMessage`].
+ghost use Rattle.std.specs.Prelude.{◌≡◌, ◌&&◌};
+ghost use Rattle.mls.specs.PublicMessage.{public_message_format, public_message_meets, public_message_plain};
+ghost use Rattle.mls.specs.declared.public_message.PublicMessage.{PublicMessage};
+
+use crate::{ContentType, FramedContent, FramedContentAuthData, SenderType};
+use mls_proposals::MAC;
+use std::alloc::Global;
+use std::marker::PhantomData;
+use tls_codec::{
+    Deserialize, DeserializeBytes, Error, LentIn, LentThen, LentWhen, Serialize, Sink, Size,
+    Source, Then, When,
+};
+use tls_codec_cases::{By, Is, append_as, write_as};
+
+/// `PublicMessage` (RFC 9420, section 6.2).
+#[derive(PartialEq, Eq, Debug, Clone, Drop)]
+pub struct PublicMessage {
+    /// `FramedContent content;`
+    pub content: FramedContent,
+    /// `FramedContentAuthData auth;`
+    pub auth: FramedContentAuthData,
+    /// `case member: MAC membership_tag;`
+    pub membership_tag: Option<MAC>,
+}
+
+type Parts = Then<
+    FramedContent,
+    (
+        By<ContentType, FramedContentAuthData>,
+        By<SenderType, When<Is<1>, MAC>>,
+    ),
+>;
+
+type LentParts<'a> = LentThen<
+    'a,
+    FramedContent,
+    (
+        By<ContentType, LentIn<'a, FramedContentAuthData>>,
+        By<SenderType, LentWhen<'a, Is<1>, MAC>>,
+    ),
+>;
+
+impl PublicMessage {
+    fn parts(&self) -> LentParts<'_>
+        ensures { ⟦<LentParts<'static> as Size>⟧.plain result ≡ public_message_plain self.now }
+    {
+        let first = &self.content;
+        let rest = (
+            By(LentIn(&self.auth), PhantomData),
+            By(
+                LentWhen {
+                    value: &self.membership_tag,
+                    condition: PhantomData::<Is<1>>,
+                },
+                PhantomData,
+            ),
+        );
+        LentThen { first, rest }
+    }
+}
+
+impl Size for PublicMessage {
+    ghost plain = { public_message_plain };
+
+    ghost format = { public_message_format };
+
+    fn tls_serialized_len(&self) -> usize {
+        self.parts().tls_serialized_len()
+    }
+
+    ghost lawful = { public_message_meets };
+}
+
+/// `EncodingError("value does not fit its context")`: a field is of another case.
+impl Serialize for PublicMessage {
+    fn tls_serialize<W: Sink>(&self, writer: &mut W) -> Result<usize, Error> {
+        write_as(self, &self.parts(), writer)
+    }
+
+    fn tls_serialize_into(&self, out: &mut Vec<u8>) -> Result<usize, Error> {
+        append_as(self, &self.parts(), out)
+    }
+}
+
+impl Deserialize for PublicMessage {
+    ghost names = { ⟦<Parts as Deserialize>⟧.names };
+
+    fn tls_deserialize<R: Source>(alloc: Global, src: &mut R) -> Result<PublicMessage, Error> {
+        let parts = <Parts>::tls_deserialize(alloc, src)?;
+        let Then {
+            first: content,
+            rest,
+        } = parts;
+        let (
+            By(auth, _),
+            By(
+                When {
+                    value: membership_tag,
+                    ..
+                },
+                _,
+            ),
+        ) = rest;
+        Ok(PublicMessage {
+            content,
+            auth,
+            membership_tag,
+        })
+    }
+}
+
+impl DeserializeBytes for PublicMessage {
+    ghost names = { ⟦<Parts as DeserializeBytes>⟧.names };
+
+    fn tls_deserialize_bytes(alloc: Global, whole: &[u8]) -> Result<(PublicMessage, &[u8]), Error> {
+        let (parts, left) = <Parts>::tls_deserialize_bytes(alloc, whole)?;
+        let Then {
+            first: content,
+            rest,
+        } = parts;
+        let (
+            By(auth, _),
+            By(
+                When {
+                    value: membership_tag,
+                    ..
+                },
+                _,
+            ),
+        ) = rest;
+        Ok((
+            PublicMessage {
+                content,
+                auth,
+                membership_tag,
+            },
+            left,
+        ))
+    }
+}
+
+/// Two are equal exactly where each field is.
+pub fn is_compared_by_its_fields()
+    ensures { (x y : PublicMessage) →
+        ⟦<PublicMessage as PartialEq>⟧.eq x y
+        ≡ (⟦<FramedContent as PartialEq>⟧.eq x.content y.content
+        && (⟦<FramedContentAuthData as PartialEq>⟧.eq x.auth y.auth
+        && ⟦<Option<MAC> as PartialEq>⟧.eq x.membership_tag y.membership_tag)) }
+{}

@@ -1,0 +1,99 @@
+//! [`SenderData`].
+ghost use Rattle.std.specs.Prelude.{◌≡◌, ◌&&◌};
+ghost use Rattle.mls.specs.SenderData.{sender_data_format, sender_data_meets, sender_data_plain};
+ghost use Rattle.mls.specs.declared.sender_data.SenderData.{SenderData};
+
+use std::alloc::Global;
+use tls_codec::{Deserialize, DeserializeBytes, Error, Lent, Serialize, Sink, Size, Source};
+
+/// `SenderData` (RFC 9420, section 6.3.2).
+#[derive(PartialEq, Eq, Debug, Clone, Drop)]
+pub struct SenderData {
+    /// `uint32 leaf_index;`
+    pub leaf_index: u32,
+    /// `uint32 generation;`
+    pub generation: u32,
+    /// `opaque reuse_guard[4];`
+    pub reuse_guard: [u8; 4],
+}
+
+impl Size for SenderData {
+    ghost plain = { sender_data_plain };
+
+    ghost format = { sender_data_format };
+
+    fn tls_serialized_len(&self) -> usize {
+        (
+            Lent(&self.leaf_index),
+            Lent(&self.generation),
+            Lent(&self.reuse_guard),
+        )
+            .tls_serialized_len()
+    }
+
+    ghost lawful = { sender_data_meets };
+}
+
+impl Serialize for SenderData {
+    fn tls_serialize<W: Sink>(&self, writer: &mut W) -> Result<usize, Error> {
+        (
+            Lent(&self.leaf_index),
+            Lent(&self.generation),
+            Lent(&self.reuse_guard),
+        )
+            .tls_serialize(writer)
+    }
+
+    fn tls_serialize_into(&self, out: &mut Vec<u8>) -> Result<usize, Error> {
+        (
+            Lent(&self.leaf_index),
+            Lent(&self.generation),
+            Lent(&self.reuse_guard),
+        )
+            .tls_serialize_into(out)
+    }
+}
+
+impl Deserialize for SenderData {
+    ghost names = { ⟦<(u32, u32, [u8; 4]) as Deserialize>⟧.names };
+
+    fn tls_deserialize<R: Source>(alloc: Global, src: &mut R) -> Result<SenderData, Error> {
+        let (leaf_index, generation, reuse_guard) = <(u32, u32, [u8; 4])>::tls_deserialize(
+            alloc, src,
+        )?;
+        Ok(SenderData {
+            leaf_index,
+            generation,
+            reuse_guard,
+        })
+    }
+}
+
+impl DeserializeBytes for SenderData {
+    ghost names = { ⟦<(u32, u32, [u8; 4]) as DeserializeBytes>⟧.names };
+
+    fn tls_deserialize_bytes(alloc: Global, whole: &[u8]) -> Result<(SenderData, &[u8]), Error> {
+        let ((leaf_index, generation, reuse_guard), rest) = <(
+            u32,
+            u32,
+            [u8; 4],
+        )>::tls_deserialize_bytes(alloc, whole)?;
+        Ok((
+            SenderData {
+                leaf_index,
+                generation,
+                reuse_guard,
+            },
+            rest,
+        ))
+    }
+}
+
+/// Two are equal exactly where each field is.
+pub fn is_compared_by_its_fields()
+    ensures { (x y : SenderData) →
+        ⟦<SenderData as PartialEq>⟧.eq x y
+        ≡ (⟦<u32 as PartialEq>⟧.eq x.leaf_index y.leaf_index
+        && (⟦<u32 as PartialEq>⟧.eq x.generation y.generation
+        && ⟦<[u8; 4] as PartialEq>⟧.eq x.reuse_guard y.reuse_guard)) }
+{}

@@ -1,0 +1,226 @@
+//! [`WireFormatData`].
+ghost use Rattle.std.specs.Prelude.{◌≡◌, IsTrue};
+ghost use Rattle.tls_codec.specs.OwnMessages.{no_variant_names, no_variant_source_names, tagged_names, tagged_source_names, variant_names, variant_source_names};
+ghost use Rattle.mls.specs.WireFormatData.{wire_format_data_format, wire_format_data_meets, wire_format_data_plain, wire_format_data_tag};
+ghost use Rattle.mls.specs.declared.wire_format_data.WireFormatData.{WireFormatData};
+
+use crate::{PrivateMessage, PublicMessage};
+use mls_leaf::KeyPackage;
+use mls_proposals::{GroupInfo, Welcome};
+use std::alloc::Global;
+use tls_codec::{
+    Deserialize, DeserializeBytes, Error, Lent, Serialize, Sink, Size, Source, unknown_value,
+};
+
+const MLS_PUBLIC_MESSAGE: u16 = 1;
+
+const MLS_PRIVATE_MESSAGE: u16 = 2;
+
+const MLS_WELCOME: u16 = 3;
+
+const MLS_GROUP_INFO: u16 = 4;
+
+const MLS_KEY_PACKAGE: u16 = 5;
+
+/// `WireFormat wire_format` of `MLSMessage` (RFC 9420, section 6), and what comes after
+/// each.
+#[derive(PartialEq, Eq, Debug, Clone, Drop)]
+pub enum WireFormatData {
+    /// `case mls_public_message: PublicMessage public_message;`
+    MlsPublicMessage(PublicMessage),
+    /// `case mls_private_message: PrivateMessage private_message;`
+    MlsPrivateMessage(PrivateMessage),
+    /// `case mls_welcome: Welcome welcome;`
+    MlsWelcome(Welcome),
+    /// `case mls_group_info: GroupInfo group_info;`
+    MlsGroupInfo(GroupInfo),
+    /// `case mls_key_package: KeyPackage key_package;`
+    MlsKeyPackage(KeyPackage),
+}
+
+impl Size for WireFormatData {
+    ghost plain = { wire_format_data_plain };
+
+    ghost format = { wire_format_data_format };
+
+    fn tls_serialized_len(&self) -> usize {
+        match self {
+            WireFormatData::MlsPublicMessage(public_message) => (
+                MLS_PUBLIC_MESSAGE,
+                Lent(public_message),
+            ).tls_serialized_len(),
+            WireFormatData::MlsPrivateMessage(private_message) => (
+                MLS_PRIVATE_MESSAGE,
+                Lent(private_message),
+            ).tls_serialized_len(),
+            WireFormatData::MlsWelcome(welcome) => (
+                MLS_WELCOME,
+                Lent(welcome),
+            ).tls_serialized_len(),
+            WireFormatData::MlsGroupInfo(group_info) => (
+                MLS_GROUP_INFO,
+                Lent(group_info),
+            ).tls_serialized_len(),
+            WireFormatData::MlsKeyPackage(key_package) => (
+                MLS_KEY_PACKAGE,
+                Lent(key_package),
+            ).tls_serialized_len(),
+        }
+    }
+
+    ghost lawful = { wire_format_data_meets };
+}
+
+impl Serialize for WireFormatData {
+    fn tls_serialize<W: Sink>(&self, writer: &mut W) -> Result<usize, Error> {
+        match self {
+            WireFormatData::MlsPublicMessage(public_message) => (
+                MLS_PUBLIC_MESSAGE,
+                Lent(public_message),
+            ).tls_serialize(writer),
+            WireFormatData::MlsPrivateMessage(private_message) => (
+                MLS_PRIVATE_MESSAGE,
+                Lent(private_message),
+            ).tls_serialize(writer),
+            WireFormatData::MlsWelcome(welcome) => (MLS_WELCOME, Lent(welcome)).tls_serialize(
+                writer,
+            ),
+            WireFormatData::MlsGroupInfo(group_info) => (
+                MLS_GROUP_INFO,
+                Lent(group_info),
+            ).tls_serialize(writer),
+            WireFormatData::MlsKeyPackage(key_package) => (
+                MLS_KEY_PACKAGE,
+                Lent(key_package),
+            ).tls_serialize(writer),
+        }
+    }
+
+    fn tls_serialize_into(&self, out: &mut Vec<u8>) -> Result<usize, Error> {
+        match self {
+            WireFormatData::MlsPublicMessage(public_message) => (
+                MLS_PUBLIC_MESSAGE,
+                Lent(public_message),
+            ).tls_serialize_into(out),
+            WireFormatData::MlsPrivateMessage(private_message) => (
+                MLS_PRIVATE_MESSAGE,
+                Lent(private_message),
+            ).tls_serialize_into(out),
+            WireFormatData::MlsWelcome(welcome) => (MLS_WELCOME, Lent(welcome)).tls_serialize_into(
+                out,
+            ),
+            WireFormatData::MlsGroupInfo(group_info) => (
+                MLS_GROUP_INFO,
+                Lent(group_info),
+            ).tls_serialize_into(out),
+            WireFormatData::MlsKeyPackage(key_package) => (
+                MLS_KEY_PACKAGE,
+                Lent(key_package),
+            ).tls_serialize_into(out),
+        }
+    }
+}
+
+impl Deserialize for WireFormatData {
+    ghost names = { tagged_source_names 2
+        (variant_source_names 1 ⟦<PublicMessage as Deserialize>⟧.names
+        (variant_source_names 2 ⟦<PrivateMessage as Deserialize>⟧.names
+        (variant_source_names 3 ⟦<Welcome as Deserialize>⟧.names
+        (variant_source_names 4 ⟦<GroupInfo as Deserialize>⟧.names
+        (variant_source_names 5 ⟦<KeyPackage as Deserialize>⟧.names
+        no_variant_source_names))))) };
+
+    fn tls_deserialize<R: Source>(alloc: Global, src: &mut R) -> Result<WireFormatData, Error> {
+        let tag = u16::tls_deserialize(alloc, src)?;
+        match tag {
+            MLS_PUBLIC_MESSAGE => {
+                let public_message = PublicMessage::tls_deserialize(alloc, src)?;
+                Ok(WireFormatData::MlsPublicMessage(public_message))
+            }
+            MLS_PRIVATE_MESSAGE => {
+                let private_message = PrivateMessage::tls_deserialize(alloc, src)?;
+                Ok(WireFormatData::MlsPrivateMessage(private_message))
+            }
+            MLS_WELCOME => {
+                let welcome = Welcome::tls_deserialize(alloc, src)?;
+                Ok(WireFormatData::MlsWelcome(welcome))
+            }
+            MLS_GROUP_INFO => {
+                let group_info = GroupInfo::tls_deserialize(alloc, src)?;
+                Ok(WireFormatData::MlsGroupInfo(group_info))
+            }
+            MLS_KEY_PACKAGE => {
+                let key_package = KeyPackage::tls_deserialize(alloc, src)?;
+                Ok(WireFormatData::MlsKeyPackage(key_package))
+            }
+            _ => Err(unknown_value(u64::from(tag))),
+        }
+    }
+}
+
+impl DeserializeBytes for WireFormatData {
+    ghost names = { tagged_names 2
+        (variant_names 1 ⟦<PublicMessage as DeserializeBytes>⟧.names
+        (variant_names 2 ⟦<PrivateMessage as DeserializeBytes>⟧.names
+        (variant_names 3 ⟦<Welcome as DeserializeBytes>⟧.names
+        (variant_names 4 ⟦<GroupInfo as DeserializeBytes>⟧.names
+        (variant_names 5 ⟦<KeyPackage as DeserializeBytes>⟧.names
+        no_variant_names))))) };
+
+    fn tls_deserialize_bytes(
+        alloc: Global,
+        whole: &[u8],
+    ) -> Result<(WireFormatData, &[u8]), Error> {
+        let (tag, rest) = u16::tls_deserialize_bytes(alloc, whole)?;
+        match tag {
+            MLS_PUBLIC_MESSAGE => {
+                let (public_message, rest) = PublicMessage::tls_deserialize_bytes(alloc, rest)?;
+                Ok((WireFormatData::MlsPublicMessage(public_message), rest))
+            }
+            MLS_PRIVATE_MESSAGE => {
+                let (private_message, rest) = PrivateMessage::tls_deserialize_bytes(alloc, rest)?;
+                Ok((WireFormatData::MlsPrivateMessage(private_message), rest))
+            }
+            MLS_WELCOME => {
+                let (welcome, rest) = Welcome::tls_deserialize_bytes(alloc, rest)?;
+                Ok((WireFormatData::MlsWelcome(welcome), rest))
+            }
+            MLS_GROUP_INFO => {
+                let (group_info, rest) = GroupInfo::tls_deserialize_bytes(alloc, rest)?;
+                Ok((WireFormatData::MlsGroupInfo(group_info), rest))
+            }
+            MLS_KEY_PACKAGE => {
+                let (key_package, rest) = KeyPackage::tls_deserialize_bytes(alloc, rest)?;
+                Ok((WireFormatData::MlsKeyPackage(key_package), rest))
+            }
+            _ => Err(unknown_value(u64::from(tag))),
+        }
+    }
+}
+
+/// Two are equal exactly where they are of one case, and each field is.
+pub fn is_compared_by_its_case()
+    ensures tag { (x y : WireFormatData) →
+        IsTrue (⟦<WireFormatData as PartialEq>⟧.eq x y)
+        → wire_format_data_tag x ≡ wire_format_data_tag y }
+    ensures case_1 { (a0 b0 : _) →
+        ⟦<WireFormatData as PartialEq>⟧.eq (WireFormatData.MlsPublicMessage a0)
+        (WireFormatData.MlsPublicMessage b0)
+        ≡ ⟦<PublicMessage as PartialEq>⟧.eq a0 b0 }
+    ensures case_2 { (a0 b0 : _) →
+        ⟦<WireFormatData as PartialEq>⟧.eq (WireFormatData.MlsPrivateMessage a0)
+        (WireFormatData.MlsPrivateMessage b0)
+        ≡ ⟦<PrivateMessage as PartialEq>⟧.eq a0 b0 }
+    ensures case_3 { (a0 b0 : _) →
+        ⟦<WireFormatData as PartialEq>⟧.eq (WireFormatData.MlsWelcome a0)
+        (WireFormatData.MlsWelcome b0)
+        ≡ ⟦<Welcome as PartialEq>⟧.eq a0 b0 }
+    ensures case_4 { (a0 b0 : _) →
+        ⟦<WireFormatData as PartialEq>⟧.eq (WireFormatData.MlsGroupInfo a0)
+        (WireFormatData.MlsGroupInfo b0)
+        ≡ ⟦<GroupInfo as PartialEq>⟧.eq a0 b0 }
+    ensures case_5 { (a0 b0 : _) →
+        ⟦<WireFormatData as PartialEq>⟧.eq (WireFormatData.MlsKeyPackage a0)
+        (WireFormatData.MlsKeyPackage b0)
+        ≡ ⟦<KeyPackage as PartialEq>⟧.eq a0 b0 }
+{}

@@ -1,8 +1,0 @@
-use Rattle.tls_codec.specs.OwnMessages.{u8_meets}
-use Rattle.tls_codec.proofs.OwnMessages.{value_appends}
-use Rattle.mls_framing.specs.SenderType.{sender_type_has, sender_type_known}
-use Rattle.mls_framing.proofs.sender_type.SenderTypeSerialize.tls_serialize_into.Goals as goal
-
-pub returns-clause-appends : goal.returns-clause-appends
-returns-clause-appends c = value_appends sender_type_has u8_meets (sender_type_known c.args.self.now) c.code.ensures _ _ _
-    c.tls_serialize_into.ensures.appends

@@ -1,0 +1,73 @@
+//! What each call makes of a value or of bytes in a context.
+use crate::rows::{done_at, same_at};
+use std::alloc::Global;
+use std::fmt::Debug;
+use std::test::Fail;
+use tls_codec::{DeserializeBytesFor, DeserializeFor, Error, SerializeFor, Size, expect_end};
+use tls_codec_vectors::Drip;
+
+/// Each decoder reads the same value from the bytes, to the last one, and each encoder writes it as them.
+pub fn opens_in<C: Size, T>(alloc: Global, row: &str, context: &C, bytes: &[u8]) -> Result<(), Fail>
+where
+    T: SerializeFor<C> + DeserializeFor<C> + DeserializeBytesFor<C> + Eq + Debug + Clone,
+{
+    let split = T::tls_deserialize_exact_bytes_for(context, alloc, bytes);
+    let value = done_at(row, split)?;
+    let read = T::tls_deserialize_exact_for(context, alloc, bytes);
+    same_at(row, &done_at(row, read)?, &value)?;
+    let mut source = Drip::new(bytes);
+    let dripped = T::tls_deserialize_for(context, alloc, &mut source);
+    same_at(row, &done_at(row, dripped)?, &value)?;
+    done_at(row, expect_end(&mut source))?;
+    is_written_in(alloc, row, context, &value, bytes)
+}
+
+fn is_written_in<C: Size, T: SerializeFor<C>>(
+    alloc: Global,
+    row: &str,
+    context: &C,
+    value: &T,
+    bytes: &[u8],
+) -> Result<(), Fail> {
+    same_at(row, value.tls_serialized_len_for(context), bytes.len())?;
+    let detached = done_at(row, value.tls_serialize_detached_for(context, alloc))?;
+    same_at(row, detached.as_slice(), bytes)?;
+    let mut received = Vec::new(alloc);
+    let count = done_at(row, value.tls_serialize_for(context, &mut received))?;
+    same_at(row, count, bytes.len())?;
+    same_at(row, received.as_slice(), bytes)?;
+    let count = done_at(row, value.tls_serialize_into_for(context, &mut received))?;
+    same_at(row, count, bytes.len())?;
+    same_at(row, received.get(bytes.len()..), Some(bytes))?;
+    Ok(())
+}
+
+/// No encoder writes the value in a context that asks for another one.
+pub fn is_misfit<C: Size, T: SerializeFor<C>>(
+    alloc: Global,
+    row: &str,
+    context: &C,
+    value: &T,
+) -> Result<(), Fail> {
+    let misfit = Some(Error::EncodingError("value does not fit its context"));
+    let mut out = Vec::new(alloc);
+    let appended = value.tls_serialize_into_for(context, &mut out).err();
+    same_at(row, appended, misfit)?;
+    same_at(row, out.len(), 0)?;
+    let sent = value.tls_serialize_for(context, &mut out).err();
+    same_at(row, sent, misfit)
+}
+
+/// Each decoder refuses the bytes in a context with this error.
+pub fn is_refused_in<C: Size, T: DeserializeFor<C> + DeserializeBytesFor<C>>(
+    alloc: Global,
+    row: &str,
+    context: &C,
+    bytes: &[u8],
+    error: Error,
+) -> Result<(), Fail> {
+    let split = T::tls_deserialize_exact_bytes_for(context, alloc, bytes).err();
+    same_at(row, split, Some(error))?;
+    let read = T::tls_deserialize_exact_for(context, alloc, bytes).err();
+    same_at(row, read, Some(error))
+}

@@ -1,0 +1,28 @@
+//! Comparisons that name the row at which they fail.
+use std::fmt::Debug;
+use std::test::Fail;
+use tls_codec::Error;
+
+/// Fails unless both are equal.
+pub fn same<T: PartialEq + Debug + Drop>(found: T, expected: T) -> Result<(), Fail> {
+    if found == expected {
+        return Ok(());
+    }
+    Err(Fail::new(format_args!("{found:?} in place of {expected:?}")))
+}
+
+/// The same at one of several rows.
+pub fn same_at<T: PartialEq + Debug + Drop>(row: &str, found: T, expected: T) -> Result<(), Fail> {
+    if found == expected {
+        return Ok(());
+    }
+    Err(Fail::new(format_args!("{found:?} in place of {expected:?} at {row}")))
+}
+
+/// What a call returned at this row. Fails if that is an error.
+pub fn done_at<T: Drop>(row: &str, done: Result<T, Error>) -> Result<T, Fail> {
+    match done {
+        Ok(value) => Ok(value),
+        Err(error) => Err(Fail::new(format_args!("{error:?} at {row}"))),
+    }
+}
