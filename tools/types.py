@@ -4,7 +4,8 @@
 Each struct that `crates/tls_codec/src/lib.rt` exports, and that has an `impl Size`, has a line of `Means` in `types.rt`. Each
 that has a decoder has a line of names for it, and each that has `PartialEq` a line in `equality.rt`. A family such as `TlsVecU8`
 stands under the generic type that it names. Types that a context decides stand in `contexts.rt`, and are held to the traits in a context
-too: such a type has no format but one for each context, so its line is one of `SameFormat` and not of `Means`.
+too: such a type has no format but one for each context, so its line is one of `SameFormat` and not of `Means`. Each that has a decoder
+from a slice has an `impl Validate` in `tls_codec_validate`.
 Prints what is missing; the last line is 'N passed, N failed', a type each.
 """
 import pathlib
@@ -19,6 +20,9 @@ NAME = re.compile(r"[A-Z]\w*")
 IMPL = re.compile(r"^impl(?:<[^{]*?>)? (\w+)(?:<[CT]>)?\s+for &?(?:'a )?(\w+)", re.M)
 DERIVE = re.compile(r"#\[derive\(([^)]*)\)\]\n(?:#\[[^\n]*\]\n)*pub struct (\w+)")
 STRUCT = re.compile(r"^pub struct (\w+)", re.M)
+
+# what the value of its first part decides can't be told without making that value
+NOT_VALIDATED = {"Then"}
 
 
 def exported():
@@ -59,17 +63,24 @@ def missing(name, traits, types, equality):
             yield f"{where}: no line for {name} as {trait}"
 
 
+def not_validated(name, traits, validated):
+    """What `tls_codec_validate` lacks of a type with these traits."""
+    if "DeserializeBytes" in traits and name not in NOT_VALIDATED and "Validate" not in validated.get(name, set()):
+        yield f"tls_codec_validate: no Validate for {name}"
+
+
 def main():
     types, contexts, equality = ((TABLE / page).read_text() for page in ("types.rt", "contexts.rt", "equality.rt"))
     types += contexts
     names = list(exported())
     by_crate = {crate: traits_of(crate) for crate in {crate for crate, _ in names}}
+    validated = traits_of("tls_codec_validate")
     passed, failed = 0, 0
     for crate, name in names:
         # (an impl for a type of wire stands in base)
         traits = by_crate[crate].get(name, set()) | by_crate["tls_codec_base"].get(name, set())
         if traits & {"Size", "SizeFor"}:
-            lacks = list(missing(name, traits, types, equality))
+            lacks = [*missing(name, traits, types, equality), *not_validated(name, traits, validated)]
             print("".join(f"{line}\n" for line in lacks), end="")
             passed, failed = passed + (not lacks), failed + bool(lacks)
     print(f"{passed} passed, {failed} failed")

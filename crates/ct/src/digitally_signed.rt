@@ -8,6 +8,7 @@ use std::alloc::Global;
 use tls_codec::{
     Deserialize, DeserializeBytes, Error, Lent, Serialize, Sink, Size, Source, TlsByteVecU16,
 };
+use tls_codec_cases::append_as;
 
 /// `DigitallySigned` (RFC 5246, section 4.7).
 #[derive(PartialEq, Eq, Debug, Clone, Drop)]
@@ -17,6 +18,8 @@ pub struct DigitallySigned {
     /// `opaque signature<0..2^16-1>;`
     pub signature: TlsByteVecU16,
 }
+
+type Parts = (SignatureAndHashAlgorithm, TlsByteVecU16);
 
 impl Size for DigitallySigned {
     ghost plain = { digitally_signed_plain };
@@ -36,17 +39,15 @@ impl Serialize for DigitallySigned {
     }
 
     fn tls_serialize_into(&self, out: &mut Vec<u8>) -> Result<usize, Error> {
-        (Lent(&self.algorithm), Lent(&self.signature)).tls_serialize_into(out)
+        append_as(self, &(Lent(&self.algorithm), Lent(&self.signature)), out)
     }
 }
 
 impl Deserialize for DigitallySigned {
-    ghost names = { ⟦<(SignatureAndHashAlgorithm, TlsByteVecU16) as Deserialize>⟧.names };
+    ghost names = { ⟦<Parts as Deserialize>⟧.names };
 
     fn tls_deserialize<R: Source>(alloc: Global, src: &mut R) -> Result<DigitallySigned, Error> {
-        let (algorithm, signature) = <(SignatureAndHashAlgorithm, TlsByteVecU16)>::tls_deserialize(
-            alloc, src,
-        )?;
+        let (algorithm, signature) = <Parts>::tls_deserialize(alloc, src)?;
         Ok(DigitallySigned {
             algorithm,
             signature,
@@ -55,16 +56,13 @@ impl Deserialize for DigitallySigned {
 }
 
 impl DeserializeBytes for DigitallySigned {
-    ghost names = { ⟦<(SignatureAndHashAlgorithm, TlsByteVecU16) as DeserializeBytes>⟧.names };
+    ghost names = { ⟦<Parts as DeserializeBytes>⟧.names };
 
     fn tls_deserialize_bytes(
         alloc: Global,
         whole: &[u8],
     ) -> Result<(DigitallySigned, &[u8]), Error> {
-        let ((algorithm, signature), rest) = <(
-            SignatureAndHashAlgorithm,
-            TlsByteVecU16,
-        )>::tls_deserialize_bytes(alloc, whole)?;
+        let ((algorithm, signature), rest) = <Parts>::tls_deserialize_bytes(alloc, whole)?;
         Ok((
             DigitallySigned {
                 algorithm,

@@ -1,7 +1,8 @@
 //! [`HashAlgorithm`].
 ghost use Rattle.std.specs.Prelude.{◌≡◌, Some, nat_eq, option_map};
 ghost use Rattle.std.specs.Ordering.{nat_cmp};
-ghost use Rattle.ct.specs.HashAlgorithm.{hash_algorithm_format, hash_algorithm_meets, hash_algorithm_name, hash_algorithm_plain, hash_algorithm_text};
+ghost use Rattle.tls_codec.specs.Registries.{listed_name, name_or_number};
+ghost use Rattle.ct.specs.HashAlgorithm.{hash_algorithm_format, hash_algorithm_meets, hash_algorithm_names, hash_algorithm_plain};
 ghost use Rattle.ct.specs.declared.hash_algorithm.HashAlgorithm.{HashAlgorithm};
 
 use std::alloc::Global;
@@ -36,7 +37,8 @@ impl HashAlgorithm {
 
     /// Its name in the text, if it has one.
     pub fn name(&self) -> Option<&'static str>
-        ensures { option_map (λ name. name.now) result ≡ hash_algorithm_name self.now.0 }
+        ensures { option_map (λ name. name.now) result
+            ≡ listed_name hash_algorithm_names self.now.0 }
     {
         match self.0 {
             0 => Some("none"),
@@ -53,9 +55,9 @@ impl HashAlgorithm {
 
 /// Its name, or else its number in hexadecimal, two digits a byte. A width pads names alone.
 impl fmt::Display for HashAlgorithm {
-    ghost output = { λ v. Some (hash_algorithm_text v.0) };
+    ghost output = { λ v. Some (name_or_number hash_algorithm_names 2 v.0) };
 
-    #[tactic(auto, using(crate::specs::HashAlgorithm::hash_algorithm_printed))]
+    #[tactic(auto, using(tls_codec::specs::Registries::hexadecimal_digits))]
     fn fmt<W: fmt::Write>(&self, f: &mut fmt::Formatter<W>) -> fmt::Result {
         match self.name() {
             Some(name) => f.pad(name),

@@ -119,6 +119,36 @@ impl DeserializeBytes for LogEntry {
     }
 }
 
+impl LogEntry {
+    /// The tag of its case.
+    pub fn entry_type(&self) -> u16
+        ensures { result ≡ log_entry_tag self.now }
+    {
+        match self {
+            LogEntry::X509Entry(_) => 0,
+            LogEntry::PrecertEntry(_) => 1,
+        }
+    }
+}
+
+/// The case `x509_entry` with this content.
+impl From<X509ChainEntry> for LogEntry {
+    ghost from_gives = { λ content value. value ≡ LogEntry.X509Entry content };
+
+    fn from(content: X509ChainEntry) -> LogEntry {
+        LogEntry::X509Entry(content)
+    }
+}
+
+/// The case `precert_entry` with this content.
+impl From<PrecertChainEntry> for LogEntry {
+    ghost from_gives = { λ content value. value ≡ LogEntry.PrecertEntry content };
+
+    fn from(content: PrecertChainEntry) -> LogEntry {
+        LogEntry::PrecertEntry(content)
+    }
+}
+
 /// Two are equal exactly where they are of one case, and each field is.
 pub fn is_compared_by_its_case()
     ensures tag { (x y : LogEntry) →

@@ -119,6 +119,36 @@ impl DeserializeBytes for LogEntryTypeData {
     }
 }
 
+impl LogEntryTypeData {
+    /// The tag of its case.
+    pub fn entry_type(&self) -> u16
+        ensures { result ≡ log_entry_type_data_tag self.now }
+    {
+        match self {
+            LogEntryTypeData::X509Entry(_) => 0,
+            LogEntryTypeData::PrecertEntry(_) => 1,
+        }
+    }
+}
+
+/// The case `x509_entry` with this content.
+impl From<ASN1Cert> for LogEntryTypeData {
+    ghost from_gives = { λ content value. value ≡ LogEntryTypeData.X509Entry content };
+
+    fn from(content: ASN1Cert) -> LogEntryTypeData {
+        LogEntryTypeData::X509Entry(content)
+    }
+}
+
+/// The case `precert_entry` with this content.
+impl From<PreCert> for LogEntryTypeData {
+    ghost from_gives = { λ content value. value ≡ LogEntryTypeData.PrecertEntry content };
+
+    fn from(content: PreCert) -> LogEntryTypeData {
+        LogEntryTypeData::PrecertEntry(content)
+    }
+}
+
 /// Two are equal exactly where they are of one case, and each field is.
 pub fn is_compared_by_its_case()
     ensures tag { (x y : LogEntryTypeData) →

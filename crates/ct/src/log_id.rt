@@ -5,6 +5,7 @@ ghost use Rattle.ct.specs.declared.log_id.LogID.{LogID};
 
 use std::alloc::Global;
 use tls_codec::{Deserialize, DeserializeBytes, Error, Serialize, Sink, Size, Source};
+use tls_codec_cases::append_as;
 
 /// `LogID` (RFC 6962, section 3.2).
 #[derive(PartialEq, Eq, Debug, Clone, Drop)]
@@ -31,7 +32,7 @@ impl Serialize for LogID {
     }
 
     fn tls_serialize_into(&self, out: &mut Vec<u8>) -> Result<usize, Error> {
-        self.key_id.tls_serialize_into(out)
+        append_as(self, &self.key_id, out)
     }
 }
 

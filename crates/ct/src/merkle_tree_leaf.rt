@@ -6,6 +6,7 @@ ghost use Rattle.ct.specs.declared.merkle_tree_leaf.MerkleTreeLeaf.{MerkleTreeLe
 use crate::{MerkleLeafType, TimestampedEntry, Version};
 use std::alloc::Global;
 use tls_codec::{Deserialize, DeserializeBytes, Error, Lent, Serialize, Sink, Size, Source};
+use tls_codec_cases::append_as;
 
 /// `MerkleTreeLeaf` (RFC 6962, section 3.4).
 #[derive(PartialEq, Eq, Debug, Clone, Drop)]
@@ -17,6 +18,8 @@ pub struct MerkleTreeLeaf {
     /// `TimestampedEntry;`
     pub timestamped_entry: TimestampedEntry,
 }
+
+type Parts = (Version, MerkleLeafType, TimestampedEntry);
 
 impl Size for MerkleTreeLeaf {
     ghost plain = { merkle_tree_leaf_plain };
@@ -46,24 +49,23 @@ impl Serialize for MerkleTreeLeaf {
     }
 
     fn tls_serialize_into(&self, out: &mut Vec<u8>) -> Result<usize, Error> {
-        (
-            Lent(&self.version),
-            Lent(&self.leaf_type),
-            Lent(&self.timestamped_entry),
+        append_as(
+            self,
+            &(
+                Lent(&self.version),
+                Lent(&self.leaf_type),
+                Lent(&self.timestamped_entry),
+            ),
+            out,
         )
-            .tls_serialize_into(out)
     }
 }
 
 impl Deserialize for MerkleTreeLeaf {
-    ghost names = { ⟦<(Version, MerkleLeafType, TimestampedEntry) as Deserialize>⟧.names };
+    ghost names = { ⟦<Parts as Deserialize>⟧.names };
 
     fn tls_deserialize<R: Source>(alloc: Global, src: &mut R) -> Result<MerkleTreeLeaf, Error> {
-        let (version, leaf_type, timestamped_entry) = <(
-            Version,
-            MerkleLeafType,
-            TimestampedEntry,
-        )>::tls_deserialize(alloc, src)?;
+        let (version, leaf_type, timestamped_entry) = <Parts>::tls_deserialize(alloc, src)?;
         Ok(MerkleTreeLeaf {
             version,
             leaf_type,
@@ -73,17 +75,15 @@ impl Deserialize for MerkleTreeLeaf {
 }
 
 impl DeserializeBytes for MerkleTreeLeaf {
-    ghost names = { ⟦<(Version, MerkleLeafType, TimestampedEntry) as DeserializeBytes>⟧.names };
+    ghost names = { ⟦<Parts as DeserializeBytes>⟧.names };
 
     fn tls_deserialize_bytes(
         alloc: Global,
         whole: &[u8],
     ) -> Result<(MerkleTreeLeaf, &[u8]), Error> {
-        let ((version, leaf_type, timestamped_entry), rest) = <(
-            Version,
-            MerkleLeafType,
-            TimestampedEntry,
-        )>::tls_deserialize_bytes(alloc, whole)?;
+        let ((version, leaf_type, timestamped_entry), rest) = <Parts>::tls_deserialize_bytes(
+            alloc, whole,
+        )?;
         Ok((
             MerkleTreeLeaf {
                 version,

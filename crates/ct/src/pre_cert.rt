@@ -6,6 +6,7 @@ ghost use Rattle.ct.specs.declared.pre_cert.PreCert.{PreCert};
 use crate::TBSCertificate;
 use std::alloc::Global;
 use tls_codec::{Deserialize, DeserializeBytes, Error, Lent, Serialize, Sink, Size, Source};
+use tls_codec_cases::append_as;
 
 /// `PreCert` (RFC 6962, section 3.2).
 #[derive(PartialEq, Eq, Debug, Clone, Drop)]
@@ -15,6 +16,8 @@ pub struct PreCert {
     /// `TBSCertificate tbs_certificate;`
     pub tbs_certificate: TBSCertificate,
 }
+
+type Parts = ([u8; 32], TBSCertificate);
 
 impl Size for PreCert {
     ghost plain = { pre_cert_plain };
@@ -34,17 +37,19 @@ impl Serialize for PreCert {
     }
 
     fn tls_serialize_into(&self, out: &mut Vec<u8>) -> Result<usize, Error> {
-        (Lent(&self.issuer_key_hash), Lent(&self.tbs_certificate)).tls_serialize_into(out)
+        append_as(
+            self,
+            &(Lent(&self.issuer_key_hash), Lent(&self.tbs_certificate)),
+            out,
+        )
     }
 }
 
 impl Deserialize for PreCert {
-    ghost names = { ⟦<([u8; 32], TBSCertificate) as Deserialize>⟧.names };
+    ghost names = { ⟦<Parts as Deserialize>⟧.names };
 
     fn tls_deserialize<R: Source>(alloc: Global, src: &mut R) -> Result<PreCert, Error> {
-        let (issuer_key_hash, tbs_certificate) = <([u8; 32], TBSCertificate)>::tls_deserialize(
-            alloc, src,
-        )?;
+        let (issuer_key_hash, tbs_certificate) = <Parts>::tls_deserialize(alloc, src)?;
         Ok(PreCert {
             issuer_key_hash,
             tbs_certificate,
@@ -53,13 +58,12 @@ impl Deserialize for PreCert {
 }
 
 impl DeserializeBytes for PreCert {
-    ghost names = { ⟦<([u8; 32], TBSCertificate) as DeserializeBytes>⟧.names };
+    ghost names = { ⟦<Parts as DeserializeBytes>⟧.names };
 
     fn tls_deserialize_bytes(alloc: Global, whole: &[u8]) -> Result<(PreCert, &[u8]), Error> {
-        let ((issuer_key_hash, tbs_certificate), rest) = <(
-            [u8; 32],
-            TBSCertificate,
-        )>::tls_deserialize_bytes(alloc, whole)?;
+        let ((issuer_key_hash, tbs_certificate), rest) = <Parts>::tls_deserialize_bytes(
+            alloc, whole,
+        )?;
         Ok((
             PreCert {
                 issuer_key_hash,

@@ -8,6 +8,7 @@ use std::alloc::Global;
 use tls_codec::{
     Deserialize, DeserializeBytes, Error, Lent, Serialize, Sink, Size, Source, TlsVecU24,
 };
+use tls_codec_cases::append_as;
 
 /// `PrecertChainEntry` (RFC 6962, section 3.1).
 #[derive(PartialEq, Eq, Debug, Clone, Drop)]
@@ -17,6 +18,8 @@ pub struct PrecertChainEntry {
     /// `ASN.1Cert precertificate_chain<0..2^24-1>;`
     pub precertificate_chain: TlsVecU24<ASN1Cert>,
 }
+
+type Parts = (ASN1Cert, TlsVecU24<ASN1Cert>);
 
 impl Size for PrecertChainEntry {
     ghost plain = { precert_chain_entry_plain };
@@ -44,22 +47,22 @@ impl Serialize for PrecertChainEntry {
     }
 
     fn tls_serialize_into(&self, out: &mut Vec<u8>) -> Result<usize, Error> {
-        (
-            Lent(&self.pre_certificate),
-            Lent(&self.precertificate_chain),
+        append_as(
+            self,
+            &(
+                Lent(&self.pre_certificate),
+                Lent(&self.precertificate_chain),
+            ),
+            out,
         )
-            .tls_serialize_into(out)
     }
 }
 
 impl Deserialize for PrecertChainEntry {
-    ghost names = { ⟦<(ASN1Cert, TlsVecU24<ASN1Cert>) as Deserialize>⟧.names };
+    ghost names = { ⟦<Parts as Deserialize>⟧.names };
 
     fn tls_deserialize<R: Source>(alloc: Global, src: &mut R) -> Result<PrecertChainEntry, Error> {
-        let (pre_certificate, precertificate_chain) = <(
-            ASN1Cert,
-            TlsVecU24<ASN1Cert>,
-        )>::tls_deserialize(alloc, src)?;
+        let (pre_certificate, precertificate_chain) = <Parts>::tls_deserialize(alloc, src)?;
         Ok(PrecertChainEntry {
             pre_certificate,
             precertificate_chain,
@@ -68,16 +71,15 @@ impl Deserialize for PrecertChainEntry {
 }
 
 impl DeserializeBytes for PrecertChainEntry {
-    ghost names = { ⟦<(ASN1Cert, TlsVecU24<ASN1Cert>) as DeserializeBytes>⟧.names };
+    ghost names = { ⟦<Parts as DeserializeBytes>⟧.names };
 
     fn tls_deserialize_bytes(
         alloc: Global,
         whole: &[u8],
     ) -> Result<(PrecertChainEntry, &[u8]), Error> {
-        let ((pre_certificate, precertificate_chain), rest) = <(
-            ASN1Cert,
-            TlsVecU24<ASN1Cert>,
-        )>::tls_deserialize_bytes(alloc, whole)?;
+        let ((pre_certificate, precertificate_chain), rest) = <Parts>::tls_deserialize_bytes(
+            alloc, whole,
+        )?;
         Ok((
             PrecertChainEntry {
                 pre_certificate,

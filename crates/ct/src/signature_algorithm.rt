@@ -1,7 +1,8 @@
 //! [`SignatureAlgorithm`].
 ghost use Rattle.std.specs.Prelude.{◌≡◌, Some, nat_eq, option_map};
 ghost use Rattle.std.specs.Ordering.{nat_cmp};
-ghost use Rattle.ct.specs.SignatureAlgorithm.{signature_algorithm_format, signature_algorithm_meets, signature_algorithm_name, signature_algorithm_plain, signature_algorithm_text};
+ghost use Rattle.tls_codec.specs.Registries.{listed_name, name_or_number};
+ghost use Rattle.ct.specs.SignatureAlgorithm.{signature_algorithm_format, signature_algorithm_meets, signature_algorithm_names, signature_algorithm_plain};
 ghost use Rattle.ct.specs.declared.signature_algorithm.SignatureAlgorithm.{SignatureAlgorithm};
 
 use std::alloc::Global;
@@ -27,7 +28,8 @@ impl SignatureAlgorithm {
 
     /// Its name in the text, if it has one.
     pub fn name(&self) -> Option<&'static str>
-        ensures { option_map (λ name. name.now) result ≡ signature_algorithm_name self.now.0 }
+        ensures { option_map (λ name. name.now) result
+            ≡ listed_name signature_algorithm_names self.now.0 }
     {
         match self.0 {
             0 => Some("anonymous"),
@@ -41,9 +43,9 @@ impl SignatureAlgorithm {
 
 /// Its name, or else its number in hexadecimal, two digits a byte. A width pads names alone.
 impl fmt::Display for SignatureAlgorithm {
-    ghost output = { λ v. Some (signature_algorithm_text v.0) };
+    ghost output = { λ v. Some (name_or_number signature_algorithm_names 2 v.0) };
 
-    #[tactic(auto, using(crate::specs::SignatureAlgorithm::signature_algorithm_printed))]
+    #[tactic(auto, using(tls_codec::specs::Registries::hexadecimal_digits))]
     fn fmt<W: fmt::Write>(&self, f: &mut fmt::Formatter<W>) -> fmt::Result {
         match self.name() {
             Some(name) => f.pad(name),

@@ -6,6 +6,7 @@ ghost use Rattle.ct.specs.declared.signature_and_hash_algorithm.SignatureAndHash
 use crate::{HashAlgorithm, SignatureAlgorithm};
 use std::alloc::Global;
 use tls_codec::{Deserialize, DeserializeBytes, Error, Lent, Serialize, Sink, Size, Source};
+use tls_codec_cases::append_as;
 
 /// `SignatureAndHashAlgorithm` (RFC 5246, section 7.4.1.4.1).
 #[derive(PartialEq, Eq, Debug, Clone, Drop)]
@@ -15,6 +16,8 @@ pub struct SignatureAndHashAlgorithm {
     /// `SignatureAlgorithm signature;`
     pub signature: SignatureAlgorithm,
 }
+
+type Parts = (HashAlgorithm, SignatureAlgorithm);
 
 impl Size for SignatureAndHashAlgorithm {
     ghost plain = { signature_and_hash_algorithm_plain };
@@ -34,33 +37,30 @@ impl Serialize for SignatureAndHashAlgorithm {
     }
 
     fn tls_serialize_into(&self, out: &mut Vec<u8>) -> Result<usize, Error> {
-        (Lent(&self.hash), Lent(&self.signature)).tls_serialize_into(out)
+        append_as(self, &(Lent(&self.hash), Lent(&self.signature)), out)
     }
 }
 
 impl Deserialize for SignatureAndHashAlgorithm {
-    ghost names = { ⟦<(HashAlgorithm, SignatureAlgorithm) as Deserialize>⟧.names };
+    ghost names = { ⟦<Parts as Deserialize>⟧.names };
 
     fn tls_deserialize<R: Source>(
         alloc: Global,
         src: &mut R,
     ) -> Result<SignatureAndHashAlgorithm, Error> {
-        let (hash, signature) = <(HashAlgorithm, SignatureAlgorithm)>::tls_deserialize(alloc, src)?;
+        let (hash, signature) = <Parts>::tls_deserialize(alloc, src)?;
         Ok(SignatureAndHashAlgorithm { hash, signature })
     }
 }
 
 impl DeserializeBytes for SignatureAndHashAlgorithm {
-    ghost names = { ⟦<(HashAlgorithm, SignatureAlgorithm) as DeserializeBytes>⟧.names };
+    ghost names = { ⟦<Parts as DeserializeBytes>⟧.names };
 
     fn tls_deserialize_bytes(
         alloc: Global,
         whole: &[u8],
     ) -> Result<(SignatureAndHashAlgorithm, &[u8]), Error> {
-        let ((hash, signature), rest) = <(
-            HashAlgorithm,
-            SignatureAlgorithm,
-        )>::tls_deserialize_bytes(alloc, whole)?;
+        let ((hash, signature), rest) = <Parts>::tls_deserialize_bytes(alloc, whole)?;
         Ok((SignatureAndHashAlgorithm { hash, signature }, rest))
     }
 }

@@ -1,7 +1,8 @@
 //! [`SignatureType`].
 ghost use Rattle.std.specs.Prelude.{◌≡◌, Some, nat_eq, option_map};
 ghost use Rattle.std.specs.Ordering.{nat_cmp};
-ghost use Rattle.ct.specs.SignatureType.{signature_type_format, signature_type_meets, signature_type_name, signature_type_plain, signature_type_text};
+ghost use Rattle.tls_codec.specs.Registries.{listed_name, name_or_number};
+ghost use Rattle.ct.specs.SignatureType.{signature_type_format, signature_type_meets, signature_type_names, signature_type_plain};
 ghost use Rattle.ct.specs.declared.signature_type.SignatureType.{SignatureType};
 
 use std::alloc::Global;
@@ -21,7 +22,8 @@ impl SignatureType {
 
     /// Its name in the text, if it has one.
     pub fn name(&self) -> Option<&'static str>
-        ensures { option_map (λ name. name.now) result ≡ signature_type_name self.now.0 }
+        ensures { option_map (λ name. name.now) result
+            ≡ listed_name signature_type_names self.now.0 }
     {
         match self.0 {
             0 => Some("certificate_timestamp"),
@@ -33,9 +35,9 @@ impl SignatureType {
 
 /// Its name, or else its number in hexadecimal, two digits a byte. A width pads names alone.
 impl fmt::Display for SignatureType {
-    ghost output = { λ v. Some (signature_type_text v.0) };
+    ghost output = { λ v. Some (name_or_number signature_type_names 2 v.0) };
 
-    #[tactic(auto, using(crate::specs::SignatureType::signature_type_printed))]
+    #[tactic(auto, using(tls_codec::specs::Registries::hexadecimal_digits))]
     fn fmt<W: fmt::Write>(&self, f: &mut fmt::Formatter<W>) -> fmt::Result {
         match self.name() {
             Some(name) => f.pad(name),

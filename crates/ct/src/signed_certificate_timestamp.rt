@@ -8,6 +8,7 @@ use std::alloc::Global;
 use tls_codec::{
     Deserialize, DeserializeBytes, Error, Lent2, Lent3, Serialize, Sink, Size, Source,
 };
+use tls_codec_cases::append_as;
 
 /// `SignedCertificateTimestamp` (RFC 6962, section 3.2).
 #[derive(PartialEq, Eq, Debug, Clone, Drop)]
@@ -23,6 +24,8 @@ pub struct SignedCertificateTimestamp {
     /// `DigitallySigned signature;`
     pub signature: DigitallySigned,
 }
+
+type Parts = ((Version, LogID, u64), (CtExtensions, DigitallySigned));
 
 impl Size for SignedCertificateTimestamp {
     ghost plain = { signed_certificate_timestamp_plain };
@@ -50,25 +53,27 @@ impl Serialize for SignedCertificateTimestamp {
     }
 
     fn tls_serialize_into(&self, out: &mut Vec<u8>) -> Result<usize, Error> {
-        (
-            Lent3(&self.sct_version, &self.id, &self.timestamp),
-            Lent2(&self.extensions, &self.signature),
+        append_as(
+            self,
+            &(
+                Lent3(&self.sct_version, &self.id, &self.timestamp),
+                Lent2(&self.extensions, &self.signature),
+            ),
+            out,
         )
-            .tls_serialize_into(out)
     }
 }
 
 impl Deserialize for SignedCertificateTimestamp {
-    ghost names = { ⟦<((Version, LogID, u64), (CtExtensions, DigitallySigned)) as Deserialize>⟧.names };
+    ghost names = { ⟦<Parts as Deserialize>⟧.names };
 
     fn tls_deserialize<R: Source>(
         alloc: Global,
         src: &mut R,
     ) -> Result<SignedCertificateTimestamp, Error> {
-        let ((sct_version, id, timestamp), (extensions, signature)) = <(
-            (Version, LogID, u64),
-            (CtExtensions, DigitallySigned),
-        )>::tls_deserialize(alloc, src)?;
+        let ((sct_version, id, timestamp), (extensions, signature)) = <Parts>::tls_deserialize(
+            alloc, src,
+        )?;
         Ok(SignedCertificateTimestamp {
             sct_version,
             id,
@@ -80,16 +85,14 @@ impl Deserialize for SignedCertificateTimestamp {
 }
 
 impl DeserializeBytes for SignedCertificateTimestamp {
-    ghost names = { ⟦<((Version, LogID, u64), (CtExtensions, DigitallySigned)) as DeserializeBytes>⟧.names };
+    ghost names = { ⟦<Parts as DeserializeBytes>⟧.names };
 
     fn tls_deserialize_bytes(
         alloc: Global,
         whole: &[u8],
     ) -> Result<(SignedCertificateTimestamp, &[u8]), Error> {
-        let (((sct_version, id, timestamp), (extensions, signature)), rest) = <(
-            (Version, LogID, u64),
-            (CtExtensions, DigitallySigned),
-        )>::tls_deserialize_bytes(alloc, whole)?;
+        let (((sct_version, id, timestamp), (extensions, signature)), rest) =
+            <Parts>::tls_deserialize_bytes(alloc, whole)?;
         Ok((
             SignedCertificateTimestamp {
                 sct_version,

@@ -8,6 +8,7 @@ use std::alloc::Global;
 use tls_codec::{
     Deserialize, DeserializeBytes, Error, Serialize, Sink, Size, Source, TlsVec, Within,
 };
+use tls_codec_cases::append_as;
 
 /// `SignedCertificateTimestampList` (RFC 6962, section 3.3).
 #[derive(PartialEq, Eq, Debug, Clone, Drop)]
@@ -15,6 +16,8 @@ pub struct SignedCertificateTimestampList {
     /// `SerializedSCT sct_list<1..2^16-1>;`
     pub sct_list: TlsVec<Within<u16, 1, 65535>, SerializedSCT>,
 }
+
+type Parts = TlsVec<Within<u16, 1, 65535>, SerializedSCT>;
 
 impl Size for SignedCertificateTimestampList {
     ghost plain = { signed_certificate_timestamp_list_plain };
@@ -34,33 +37,30 @@ impl Serialize for SignedCertificateTimestampList {
     }
 
     fn tls_serialize_into(&self, out: &mut Vec<u8>) -> Result<usize, Error> {
-        self.sct_list.tls_serialize_into(out)
+        append_as(self, &self.sct_list, out)
     }
 }
 
 impl Deserialize for SignedCertificateTimestampList {
-    ghost names = { ⟦<TlsVec<Within<u16, 1, 65535>, SerializedSCT> as Deserialize>⟧.names };
+    ghost names = { ⟦<Parts as Deserialize>⟧.names };
 
     fn tls_deserialize<R: Source>(
         alloc: Global,
         src: &mut R,
     ) -> Result<SignedCertificateTimestampList, Error> {
-        let sct_list = <TlsVec<Within<u16, 1, 65535>, SerializedSCT>>::tls_deserialize(alloc, src)?;
+        let sct_list = <Parts>::tls_deserialize(alloc, src)?;
         Ok(SignedCertificateTimestampList { sct_list })
     }
 }
 
 impl DeserializeBytes for SignedCertificateTimestampList {
-    ghost names = { ⟦<TlsVec<Within<u16, 1, 65535>, SerializedSCT> as DeserializeBytes>⟧.names };
+    ghost names = { ⟦<Parts as DeserializeBytes>⟧.names };
 
     fn tls_deserialize_bytes(
         alloc: Global,
         whole: &[u8],
     ) -> Result<(SignedCertificateTimestampList, &[u8]), Error> {
-        let (sct_list, rest) = <TlsVec<
-            Within<u16, 1, 65535>,
-            SerializedSCT,
-        >>::tls_deserialize_bytes(alloc, whole)?;
+        let (sct_list, rest) = <Parts>::tls_deserialize_bytes(alloc, whole)?;
         Ok((SignedCertificateTimestampList { sct_list }, rest))
     }
 }

@@ -8,6 +8,7 @@ use std::alloc::Global;
 use tls_codec::{
     Deserialize, DeserializeBytes, Error, Lent2, Lent3, Serialize, Sink, Size, Source,
 };
+use tls_codec_cases::append_as;
 
 /// `SignedCertificateTimestampTBS` (RFC 6962, section 3.2).
 #[derive(PartialEq, Eq, Debug, Clone, Drop)]
@@ -23,6 +24,11 @@ pub struct SignedCertificateTimestampTBS {
     /// `CtExtensions extensions;`
     pub extensions: CtExtensions,
 }
+
+type Parts = (
+    (Version, SignatureTypeCertificateTimestamp, u64),
+    (LogEntryTypeData, CtExtensions),
+);
 
 impl Size for SignedCertificateTimestampTBS {
     ghost plain = { signed_certificate_timestamp_tbs_plain };
@@ -50,26 +56,26 @@ impl Serialize for SignedCertificateTimestampTBS {
     }
 
     fn tls_serialize_into(&self, out: &mut Vec<u8>) -> Result<usize, Error> {
-        (
-            Lent3(&self.sct_version, &self.signature_type, &self.timestamp),
-            Lent2(&self.signed_entry, &self.extensions),
+        append_as(
+            self,
+            &(
+                Lent3(&self.sct_version, &self.signature_type, &self.timestamp),
+                Lent2(&self.signed_entry, &self.extensions),
+            ),
+            out,
         )
-            .tls_serialize_into(out)
     }
 }
 
 impl Deserialize for SignedCertificateTimestampTBS {
-    ghost names = { ⟦<((Version, SignatureTypeCertificateTimestamp, u64),
-        (LogEntryTypeData, CtExtensions)) as Deserialize>⟧.names };
+    ghost names = { ⟦<Parts as Deserialize>⟧.names };
 
     fn tls_deserialize<R: Source>(
         alloc: Global,
         src: &mut R,
     ) -> Result<SignedCertificateTimestampTBS, Error> {
-        let ((sct_version, signature_type, timestamp), (signed_entry, extensions)) = <(
-            (Version, SignatureTypeCertificateTimestamp, u64),
-            (LogEntryTypeData, CtExtensions),
-        )>::tls_deserialize(alloc, src)?;
+        let ((sct_version, signature_type, timestamp), (signed_entry, extensions)) =
+            <Parts>::tls_deserialize(alloc, src)?;
         Ok(SignedCertificateTimestampTBS {
             sct_version,
             signature_type,
@@ -81,17 +87,14 @@ impl Deserialize for SignedCertificateTimestampTBS {
 }
 
 impl DeserializeBytes for SignedCertificateTimestampTBS {
-    ghost names = { ⟦<((Version, SignatureTypeCertificateTimestamp, u64),
-        (LogEntryTypeData, CtExtensions)) as DeserializeBytes>⟧.names };
+    ghost names = { ⟦<Parts as DeserializeBytes>⟧.names };
 
     fn tls_deserialize_bytes(
         alloc: Global,
         whole: &[u8],
     ) -> Result<(SignedCertificateTimestampTBS, &[u8]), Error> {
-        let (((sct_version, signature_type, timestamp), (signed_entry, extensions)), rest) = <(
-            (Version, SignatureTypeCertificateTimestamp, u64),
-            (LogEntryTypeData, CtExtensions),
-        )>::tls_deserialize_bytes(alloc, whole)?;
+        let (((sct_version, signature_type, timestamp), (signed_entry, extensions)), rest) =
+            <Parts>::tls_deserialize_bytes(alloc, whole)?;
         Ok((
             SignedCertificateTimestampTBS {
                 sct_version,

@@ -6,6 +6,7 @@ ghost use Rattle.ct.specs.declared.timestamped_entry.TimestampedEntry.{Timestamp
 use crate::{CtExtensions, TimestampedEntryLogEntryTypeData};
 use std::alloc::Global;
 use tls_codec::{Deserialize, DeserializeBytes, Error, Lent, Serialize, Sink, Size, Source};
+use tls_codec_cases::append_as;
 
 /// `TimestampedEntry` (RFC 6962, section 3.4).
 #[derive(PartialEq, Eq, Debug, Clone, Drop)]
@@ -17,6 +18,8 @@ pub struct TimestampedEntry {
     /// `CtExtensions extensions;`
     pub extensions: CtExtensions,
 }
+
+type Parts = (u64, TimestampedEntryLogEntryTypeData, CtExtensions);
 
 impl Size for TimestampedEntry {
     ghost plain = { timestamped_entry_plain };
@@ -46,24 +49,23 @@ impl Serialize for TimestampedEntry {
     }
 
     fn tls_serialize_into(&self, out: &mut Vec<u8>) -> Result<usize, Error> {
-        (
-            Lent(&self.timestamp),
-            Lent(&self.signed_entry),
-            Lent(&self.extensions),
+        append_as(
+            self,
+            &(
+                Lent(&self.timestamp),
+                Lent(&self.signed_entry),
+                Lent(&self.extensions),
+            ),
+            out,
         )
-            .tls_serialize_into(out)
     }
 }
 
 impl Deserialize for TimestampedEntry {
-    ghost names = { ⟦<(u64, TimestampedEntryLogEntryTypeData, CtExtensions) as Deserialize>⟧.names };
+    ghost names = { ⟦<Parts as Deserialize>⟧.names };
 
     fn tls_deserialize<R: Source>(alloc: Global, src: &mut R) -> Result<TimestampedEntry, Error> {
-        let (timestamp, signed_entry, extensions) = <(
-            u64,
-            TimestampedEntryLogEntryTypeData,
-            CtExtensions,
-        )>::tls_deserialize(alloc, src)?;
+        let (timestamp, signed_entry, extensions) = <Parts>::tls_deserialize(alloc, src)?;
         Ok(TimestampedEntry {
             timestamp,
             signed_entry,
@@ -73,17 +75,15 @@ impl Deserialize for TimestampedEntry {
 }
 
 impl DeserializeBytes for TimestampedEntry {
-    ghost names = { ⟦<(u64, TimestampedEntryLogEntryTypeData, CtExtensions) as DeserializeBytes>⟧.names };
+    ghost names = { ⟦<Parts as DeserializeBytes>⟧.names };
 
     fn tls_deserialize_bytes(
         alloc: Global,
         whole: &[u8],
     ) -> Result<(TimestampedEntry, &[u8]), Error> {
-        let ((timestamp, signed_entry, extensions), rest) = <(
-            u64,
-            TimestampedEntryLogEntryTypeData,
-            CtExtensions,
-        )>::tls_deserialize_bytes(alloc, whole)?;
+        let ((timestamp, signed_entry, extensions), rest) = <Parts>::tls_deserialize_bytes(
+            alloc, whole,
+        )?;
         Ok((
             TimestampedEntry {
                 timestamp,

@@ -129,6 +129,38 @@ impl DeserializeBytes for TimestampedEntryLogEntryTypeData {
     }
 }
 
+impl TimestampedEntryLogEntryTypeData {
+    /// The tag of its case.
+    pub fn entry_type(&self) -> u16
+        ensures { result ≡ timestamped_entry_log_entry_type_data_tag self.now }
+    {
+        match self {
+            TimestampedEntryLogEntryTypeData::X509Entry(_) => 0,
+            TimestampedEntryLogEntryTypeData::PrecertEntry(_) => 1,
+        }
+    }
+}
+
+/// The case `x509_entry` with this content.
+impl From<ASN1Cert> for TimestampedEntryLogEntryTypeData {
+    ghost from_gives = { λ content value. value ≡ TimestampedEntryLogEntryTypeData.X509Entry
+        content };
+
+    fn from(content: ASN1Cert) -> TimestampedEntryLogEntryTypeData {
+        TimestampedEntryLogEntryTypeData::X509Entry(content)
+    }
+}
+
+/// The case `precert_entry` with this content.
+impl From<PreCert> for TimestampedEntryLogEntryTypeData {
+    ghost from_gives = { λ content value. value ≡ TimestampedEntryLogEntryTypeData.PrecertEntry
+        content };
+
+    fn from(content: PreCert) -> TimestampedEntryLogEntryTypeData {
+        TimestampedEntryLogEntryTypeData::PrecertEntry(content)
+    }
+}
+
 /// Two are equal exactly where they are of one case, and each field is.
 pub fn is_compared_by_its_case()
     ensures tag { (x y : TimestampedEntryLogEntryTypeData) →

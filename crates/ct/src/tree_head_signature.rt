@@ -8,6 +8,7 @@ use std::alloc::Global;
 use tls_codec::{
     Deserialize, DeserializeBytes, Error, Lent2, Lent3, Serialize, Sink, Size, Source,
 };
+use tls_codec_cases::append_as;
 
 /// `TreeHeadSignature` (RFC 6962, section 3.5).
 #[derive(PartialEq, Eq, Debug, Clone, Drop)]
@@ -23,6 +24,8 @@ pub struct TreeHeadSignature {
     /// `opaque sha256_root_hash[32];`
     pub sha256_root_hash: [u8; 32],
 }
+
+type Parts = ((Version, SignatureTypeTreeHash, u64), (u64, [u8; 32]));
 
 impl Size for TreeHeadSignature {
     ghost plain = { tree_head_signature_plain };
@@ -50,22 +53,23 @@ impl Serialize for TreeHeadSignature {
     }
 
     fn tls_serialize_into(&self, out: &mut Vec<u8>) -> Result<usize, Error> {
-        (
-            Lent3(&self.version, &self.signature_type, &self.timestamp),
-            Lent2(&self.tree_size, &self.sha256_root_hash),
+        append_as(
+            self,
+            &(
+                Lent3(&self.version, &self.signature_type, &self.timestamp),
+                Lent2(&self.tree_size, &self.sha256_root_hash),
+            ),
+            out,
         )
-            .tls_serialize_into(out)
     }
 }
 
 impl Deserialize for TreeHeadSignature {
-    ghost names = { ⟦<((Version, SignatureTypeTreeHash, u64), (u64, [u8; 32])) as Deserialize>⟧.names };
+    ghost names = { ⟦<Parts as Deserialize>⟧.names };
 
     fn tls_deserialize<R: Source>(alloc: Global, src: &mut R) -> Result<TreeHeadSignature, Error> {
-        let ((version, signature_type, timestamp), (tree_size, sha256_root_hash)) = <(
-            (Version, SignatureTypeTreeHash, u64),
-            (u64, [u8; 32]),
-        )>::tls_deserialize(alloc, src)?;
+        let ((version, signature_type, timestamp), (tree_size, sha256_root_hash)) =
+            <Parts>::tls_deserialize(alloc, src)?;
         Ok(TreeHeadSignature {
             version,
             signature_type,
@@ -77,16 +81,14 @@ impl Deserialize for TreeHeadSignature {
 }
 
 impl DeserializeBytes for TreeHeadSignature {
-    ghost names = { ⟦<((Version, SignatureTypeTreeHash, u64), (u64, [u8; 32])) as DeserializeBytes>⟧.names };
+    ghost names = { ⟦<Parts as DeserializeBytes>⟧.names };
 
     fn tls_deserialize_bytes(
         alloc: Global,
         whole: &[u8],
     ) -> Result<(TreeHeadSignature, &[u8]), Error> {
-        let (((version, signature_type, timestamp), (tree_size, sha256_root_hash)), rest) = <(
-            (Version, SignatureTypeTreeHash, u64),
-            (u64, [u8; 32]),
-        )>::tls_deserialize_bytes(alloc, whole)?;
+        let (((version, signature_type, timestamp), (tree_size, sha256_root_hash)), rest) =
+            <Parts>::tls_deserialize_bytes(alloc, whole)?;
         Ok((
             TreeHeadSignature {
                 version,

@@ -8,6 +8,7 @@ use std::alloc::Global;
 use tls_codec::{
     Deserialize, DeserializeBytes, Error, Lent, Serialize, Sink, Size, Source, TlsVecU24,
 };
+use tls_codec_cases::append_as;
 
 /// `X509ChainEntry` (RFC 6962, section 3.1).
 #[derive(PartialEq, Eq, Debug, Clone, Drop)]
@@ -17,6 +18,8 @@ pub struct X509ChainEntry {
     /// `ASN.1Cert certificate_chain<0..2^24-1>;`
     pub certificate_chain: TlsVecU24<ASN1Cert>,
 }
+
+type Parts = (ASN1Cert, TlsVecU24<ASN1Cert>);
 
 impl Size for X509ChainEntry {
     ghost plain = { x509_chain_entry_plain };
@@ -36,18 +39,19 @@ impl Serialize for X509ChainEntry {
     }
 
     fn tls_serialize_into(&self, out: &mut Vec<u8>) -> Result<usize, Error> {
-        (Lent(&self.leaf_certificate), Lent(&self.certificate_chain)).tls_serialize_into(out)
+        append_as(
+            self,
+            &(Lent(&self.leaf_certificate), Lent(&self.certificate_chain)),
+            out,
+        )
     }
 }
 
 impl Deserialize for X509ChainEntry {
-    ghost names = { ⟦<(ASN1Cert, TlsVecU24<ASN1Cert>) as Deserialize>⟧.names };
+    ghost names = { ⟦<Parts as Deserialize>⟧.names };
 
     fn tls_deserialize<R: Source>(alloc: Global, src: &mut R) -> Result<X509ChainEntry, Error> {
-        let (leaf_certificate, certificate_chain) = <(
-            ASN1Cert,
-            TlsVecU24<ASN1Cert>,
-        )>::tls_deserialize(alloc, src)?;
+        let (leaf_certificate, certificate_chain) = <Parts>::tls_deserialize(alloc, src)?;
         Ok(X509ChainEntry {
             leaf_certificate,
             certificate_chain,
@@ -56,16 +60,15 @@ impl Deserialize for X509ChainEntry {
 }
 
 impl DeserializeBytes for X509ChainEntry {
-    ghost names = { ⟦<(ASN1Cert, TlsVecU24<ASN1Cert>) as DeserializeBytes>⟧.names };
+    ghost names = { ⟦<Parts as DeserializeBytes>⟧.names };
 
     fn tls_deserialize_bytes(
         alloc: Global,
         whole: &[u8],
     ) -> Result<(X509ChainEntry, &[u8]), Error> {
-        let ((leaf_certificate, certificate_chain), rest) = <(
-            ASN1Cert,
-            TlsVecU24<ASN1Cert>,
-        )>::tls_deserialize_bytes(alloc, whole)?;
+        let ((leaf_certificate, certificate_chain), rest) = <Parts>::tls_deserialize_bytes(
+            alloc, whole,
+        )?;
         Ok((
             X509ChainEntry {
                 leaf_certificate,

@@ -1,4 +1,5 @@
 pub mod Bearer
+pub mod Beat
 pub mod BodyKind
 pub mod BodyKindData
 pub mod Bounded
@@ -18,6 +19,7 @@ pub mod Header
 pub mod Identity
 pub mod KindBody
 pub mod Level
+pub mod Line
 pub mod Lists
 pub mod MagicX0102
 pub mod NameType
@@ -26,10 +28,12 @@ pub mod NameTypeHostName
 pub mod Named
 pub mod NodeTBS
 pub mod NodeTBSOrigin
+pub mod Pixel
 pub mod Point
 pub mod ServerName
 pub mod SessionTicket
 pub mod SizedType
+pub mod ThreeData
 pub mod Trees
 pub mod VersionData
 pub mod VersionXfefd

@@ -1,8 +1,5 @@
 -- NameType: what it stands for, its format and its law.
-use Rattle.std.proofs.Common.{append-nil, arith}
-use Rattle.std.specs.Prelude.{◌≡◌, ◌==◌, ◌-◌, ◌^◌, ◌∷◌, ◌++◌, ℕ, false, refl, List, [], codes, length, replicate, Option, option_map, unwrap_or}
-use Rattle.std.specs.List.{find}
-use Rattle.std.specs.Fmt.{char_count, digits, format_spec, padded_integral}
+use Rattle.std.specs.Prelude.{◌∷◌, ℕ, List, [], codes}
 use Rattle.tls_codec.specs.OwnMessages.{Tree, Number, Format, number_format, MeetsLaws, u8_meets}
 use Rattle.messages_of_each_shape.specs.declared.name_type.NameType.{NameType}
 
@@ -20,29 +17,6 @@ abbrev pub name_type_names : List (ℕ × List ℕ)
 name_type_names =
     (0, codes "host_name") ∷
     []
-
--- the name of a number
-abbrev pub name_type_name : ℕ → Option (List ℕ)
-name_type_name n =
-    option_map (λ (entry : ℕ × List ℕ). entry.1)
-    (find (λ (entry : ℕ × List ℕ). n == entry.0) name_type_names)
-
--- a number in hexadecimal, with zeros up to 2 digits
-abbrev pub name_type_hex : ℕ → List ℕ
-name_type_hex n = let hex = digits 16 false n in replicate (2 - length hex) 48 ++ hex
-
--- what is printed
-abbrev pub name_type_text : ℕ → List ℕ
-name_type_text n = unwrap_or (name_type_name n) (codes "0x" ++ name_type_hex n)
-
--- the hexadecimal digits, as std says it of `{:02x}`
-pub name_type_printed : (hex : List ℕ)
-    → padded_integral (format_spec 32 0 4 2 (2 ^ 64 - 1)) false [] hex
-    ≡ replicate (2 - length hex) 48 ++ hex
-unfolding padded_integral char_count
-name_type_printed hex =
-    let short : 2 - length hex - 0 - 0 ≡ 2 - length hex = omega arith in
-    rw (short, append-nil hex) refl
 
 -- the number of a value, by what it stands for
 abbrev pub name_type_selected : Tree → ℕ

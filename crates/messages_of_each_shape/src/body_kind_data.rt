@@ -104,6 +104,24 @@ impl DeserializeBytesFor<BodyKind> for BodyKindData {
     }
 }
 
+/// The case `chat` with this content.
+impl From<u16> for BodyKindData {
+    ghost from_gives = { λ content value. value ≡ BodyKindData.Chat content };
+
+    fn from(content: u16) -> BodyKindData {
+        BodyKindData::Chat(content)
+    }
+}
+
+/// The case `file` with this content.
+impl From<VLBytes> for BodyKindData {
+    ghost from_gives = { λ content value. value ≡ BodyKindData.File content };
+
+    fn from(content: VLBytes) -> BodyKindData {
+        BodyKindData::File(content)
+    }
+}
+
 /// Two are equal exactly where they are of one case, and each field is.
 pub fn is_compared_by_its_case()
     ensures tag { (x y : BodyKindData) →

@@ -8,6 +8,7 @@ use tls_codec::{
     Deserialize, DeserializeBytes, Error, Lent, Serialize, Sink, Size, Source, TlsByteVec, TlsVec,
     Within,
 };
+use tls_codec_cases::append_as;
 
 /// `Bounded`.
 ///
@@ -19,6 +20,11 @@ pub struct Bounded {
     /// `uint16 suites<2..65534>;`
     pub suites: TlsVec<Within<u16, 2, 65534>, u16>,
 }
+
+type Parts = (
+    TlsByteVec<Within<u8, 0, 32>>,
+    TlsVec<Within<u16, 2, 65534>, u16>,
+);
 
 impl Size for Bounded {
     ghost plain = { bounded_plain };
@@ -38,32 +44,24 @@ impl Serialize for Bounded {
     }
 
     fn tls_serialize_into(&self, out: &mut Vec<u8>) -> Result<usize, Error> {
-        (Lent(&self.session), Lent(&self.suites)).tls_serialize_into(out)
+        append_as(self, &(Lent(&self.session), Lent(&self.suites)), out)
     }
 }
 
 impl Deserialize for Bounded {
-    ghost names = { ⟦<(TlsByteVec<Within<u8, 0, 32>>,
-        TlsVec<Within<u16, 2, 65534>, u16>) as Deserialize>⟧.names };
+    ghost names = { ⟦<Parts as Deserialize>⟧.names };
 
     fn tls_deserialize<R: Source>(alloc: Global, src: &mut R) -> Result<Bounded, Error> {
-        let (session, suites) = <(
-            TlsByteVec<Within<u8, 0, 32>>,
-            TlsVec<Within<u16, 2, 65534>, u16>,
-        )>::tls_deserialize(alloc, src)?;
+        let (session, suites) = <Parts>::tls_deserialize(alloc, src)?;
         Ok(Bounded { session, suites })
     }
 }
 
 impl DeserializeBytes for Bounded {
-    ghost names = { ⟦<(TlsByteVec<Within<u8, 0, 32>>,
-        TlsVec<Within<u16, 2, 65534>, u16>) as DeserializeBytes>⟧.names };
+    ghost names = { ⟦<Parts as DeserializeBytes>⟧.names };
 
     fn tls_deserialize_bytes(alloc: Global, whole: &[u8]) -> Result<(Bounded, &[u8]), Error> {
-        let ((session, suites), rest) = <(
-            TlsByteVec<Within<u8, 0, 32>>,
-            TlsVec<Within<u16, 2, 65534>, u16>,
-        )>::tls_deserialize_bytes(alloc, whole)?;
+        let ((session, suites), rest) = <Parts>::tls_deserialize_bytes(alloc, whole)?;
         Ok((Bounded { session, suites }, rest))
     }
 }

@@ -118,6 +118,15 @@ impl DeserializeBytesFor<u16> for ByVersion {
     }
 }
 
+/// The case `case_1` with this content.
+impl From<u8> for ByVersion {
+    ghost from_gives = { λ content value. value ≡ ByVersion.Case1 content };
+
+    fn from(content: u8) -> ByVersion {
+        ByVersion::Case1(content)
+    }
+}
+
 /// Two are equal exactly where they are of one case, and each field is.
 pub fn is_compared_by_its_case()
     ensures tag { (x y : ByVersion) →

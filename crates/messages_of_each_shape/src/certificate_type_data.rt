@@ -110,6 +110,24 @@ impl DeserializeBytesFor<CertificateType> for CertificateTypeData {
     }
 }
 
+/// The case `X509` with this content.
+impl From<TlsByteVec<Within<U24, 1, 16777215>>> for CertificateTypeData {
+    ghost from_gives = { λ content value. value ≡ CertificateTypeData.X509 content };
+
+    fn from(content: TlsByteVec<Within<U24, 1, 16777215>>) -> CertificateTypeData {
+        CertificateTypeData::X509(content)
+    }
+}
+
+/// The case `RawPublicKey` with this content.
+impl From<VLBytes> for CertificateTypeData {
+    ghost from_gives = { λ content value. value ≡ CertificateTypeData.RawPublicKey content };
+
+    fn from(content: VLBytes) -> CertificateTypeData {
+        CertificateTypeData::RawPublicKey(content)
+    }
+}
+
 /// Two are equal exactly where they are of one case, and each field is.
 pub fn is_compared_by_its_case()
     ensures tag { (x y : CertificateTypeData) →

@@ -126,6 +126,24 @@ impl DeserializeBytesFor<ClientOrServerExtension> for ClientCertTypeExtension {
     }
 }
 
+/// The case `client` with this content.
+impl From<TlsVec<Within<u8, 1, 255>, CertificateType>> for ClientCertTypeExtension {
+    ghost from_gives = { λ content value. value ≡ ClientCertTypeExtension.Client content };
+
+    fn from(content: TlsVec<Within<u8, 1, 255>, CertificateType>) -> ClientCertTypeExtension {
+        ClientCertTypeExtension::Client(content)
+    }
+}
+
+/// The case `server` with this content.
+impl From<CertificateType> for ClientCertTypeExtension {
+    ghost from_gives = { λ content value. value ≡ ClientCertTypeExtension.Server content };
+
+    fn from(content: CertificateType) -> ClientCertTypeExtension {
+        ClientCertTypeExtension::Server(content)
+    }
+}
+
 /// Two are equal exactly where they are of one case, and each field is.
 pub fn is_compared_by_its_case()
     ensures tag { (x y : ClientCertTypeExtension) →

@@ -182,6 +182,18 @@ impl DeserializeBytes for ContentTypeData {
     }
 }
 
+impl ContentTypeData {
+    /// The tag of its case.
+    pub fn content_type(&self) -> u8
+        ensures { result ≡ content_type_data_tag self.now }
+    {
+        match self {
+            ContentTypeData::Application { .. } => 1,
+            ContentTypeData::Proposal { .. } => 2,
+        }
+    }
+}
+
 /// Two are equal exactly where they are of one case, and each field is.
 pub fn is_compared_by_its_case()
     ensures tag { (x y : ContentTypeData) →

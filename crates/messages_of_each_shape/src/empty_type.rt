@@ -1,7 +1,8 @@
 //! [`EmptyType`].
 ghost use Rattle.std.specs.Prelude.{◌≡◌, Some, nat_eq, option_map};
 ghost use Rattle.std.specs.Ordering.{nat_cmp};
-ghost use Rattle.messages_of_each_shape.specs.EmptyType.{empty_type_format, empty_type_meets, empty_type_name, empty_type_plain, empty_type_text};
+ghost use Rattle.tls_codec.specs.Registries.{listed_name, name_or_number};
+ghost use Rattle.messages_of_each_shape.specs.EmptyType.{empty_type_format, empty_type_meets, empty_type_names, empty_type_plain};
 ghost use Rattle.messages_of_each_shape.specs.declared.empty_type.EmptyType.{EmptyType};
 
 use std::alloc::Global;
@@ -15,7 +16,7 @@ pub struct EmptyType(pub u8);
 impl EmptyType {
     /// Its name in the text, if it has one.
     pub fn name(&self) -> Option<&'static str>
-        ensures { option_map (λ name. name.now) result ≡ empty_type_name self.now.0 }
+        ensures { option_map (λ name. name.now) result ≡ listed_name empty_type_names self.now.0 }
     {
         match self.0 {
             _ => None,
@@ -25,9 +26,9 @@ impl EmptyType {
 
 /// Its name, or else its number in hexadecimal, two digits a byte. A width pads names alone.
 impl fmt::Display for EmptyType {
-    ghost output = { λ v. Some (empty_type_text v.0) };
+    ghost output = { λ v. Some (name_or_number empty_type_names 2 v.0) };
 
-    #[tactic(auto, using(crate::specs::EmptyType::empty_type_printed))]
+    #[tactic(auto, using(tls_codec::specs::Registries::hexadecimal_digits))]
     fn fmt<W: fmt::Write>(&self, f: &mut fmt::Formatter<W>) -> fmt::Result {
         match self.name() {
             Some(name) => f.pad(name),

@@ -21,6 +21,8 @@ pub struct Entries {
     pub entries: TlsVecU24<Entry>,
 }
 
+type Parts = (Always<u8>, TlsVecU24<Entry>);
+
 impl SizeFor<CertificateType> for Entries {
     ghost plain = { entries_plain };
 
@@ -53,36 +55,28 @@ impl SerializeFor<CertificateType> for Entries {
 }
 
 impl DeserializeFor<CertificateType> for Entries {
-    ghost names = { ⟦<(Always<u8>, TlsVecU24<Entry>) as DeserializeFor<CertificateType>>⟧.names };
+    ghost names = { ⟦<Parts as DeserializeFor<CertificateType>>⟧.names };
 
     fn tls_deserialize_for<R: Source>(
         certificate_type: &CertificateType,
         alloc: Global,
         src: &mut R,
     ) -> Result<Entries, Error> {
-        let parts = <(Always<u8>, TlsVecU24<Entry>)>::tls_deserialize_for(
-            certificate_type,
-            alloc,
-            src,
-        )?;
+        let parts = <Parts>::tls_deserialize_for(certificate_type, alloc, src)?;
         let (Always(count), entries) = parts;
         Ok(Entries { count, entries })
     }
 }
 
 impl DeserializeBytesFor<CertificateType> for Entries {
-    ghost names = { ⟦<(Always<u8>, TlsVecU24<Entry>) as DeserializeBytesFor<CertificateType>>⟧.names };
+    ghost names = { ⟦<Parts as DeserializeBytesFor<CertificateType>>⟧.names };
 
     fn tls_deserialize_bytes_for<'a>(
         certificate_type: &CertificateType,
         alloc: Global,
         whole: &'a [u8],
     ) -> Result<(Entries, &'a [u8]), Error> {
-        let (parts, rest) = <(Always<u8>, TlsVecU24<Entry>)>::tls_deserialize_bytes_for(
-            certificate_type,
-            alloc,
-            whole,
-        )?;
+        let (parts, rest) = <Parts>::tls_deserialize_bytes_for(certificate_type, alloc, whole)?;
         let (Always(count), entries) = parts;
         Ok((Entries { count, entries }, rest))
     }

@@ -24,6 +24,11 @@ pub struct Entry {
     pub last: VLBytes,
 }
 
+type Parts = (
+    (Always<u8>, CertificateTypeData),
+    (Always<u16>, Always<VLBytes>),
+);
+
 impl SizeFor<CertificateType> for Entry {
     ghost plain = { entry_plain };
 
@@ -76,18 +81,14 @@ impl SerializeFor<CertificateType> for Entry {
 }
 
 impl DeserializeFor<CertificateType> for Entry {
-    ghost names = { ⟦<((Always<u8>, CertificateTypeData),
-        (Always<u16>, Always<VLBytes>)) as DeserializeFor<CertificateType>>⟧.names };
+    ghost names = { ⟦<Parts as DeserializeFor<CertificateType>>⟧.names };
 
     fn tls_deserialize_for<R: Source>(
         certificate_type: &CertificateType,
         alloc: Global,
         src: &mut R,
     ) -> Result<Entry, Error> {
-        let parts = <(
-            (Always<u8>, CertificateTypeData),
-            (Always<u16>, Always<VLBytes>),
-        )>::tls_deserialize_for(certificate_type, alloc, src)?;
+        let parts = <Parts>::tls_deserialize_for(certificate_type, alloc, src)?;
         let (parts_0, parts_1) = parts;
         let (Always(first), body) = parts_0;
         let (Always(second), Always(last)) = parts_1;
@@ -101,18 +102,14 @@ impl DeserializeFor<CertificateType> for Entry {
 }
 
 impl DeserializeBytesFor<CertificateType> for Entry {
-    ghost names = { ⟦<((Always<u8>, CertificateTypeData),
-        (Always<u16>, Always<VLBytes>)) as DeserializeBytesFor<CertificateType>>⟧.names };
+    ghost names = { ⟦<Parts as DeserializeBytesFor<CertificateType>>⟧.names };
 
     fn tls_deserialize_bytes_for<'a>(
         certificate_type: &CertificateType,
         alloc: Global,
         whole: &'a [u8],
     ) -> Result<(Entry, &'a [u8]), Error> {
-        let (parts, rest) = <(
-            (Always<u8>, CertificateTypeData),
-            (Always<u16>, Always<VLBytes>),
-        )>::tls_deserialize_bytes_for(certificate_type, alloc, whole)?;
+        let (parts, rest) = <Parts>::tls_deserialize_bytes_for(certificate_type, alloc, whole)?;
         let (parts_0, parts_1) = parts;
         let (Always(first), body) = parts_0;
         let (Always(second), Always(last)) = parts_1;

@@ -8,6 +8,7 @@ use std::alloc::Global;
 use tls_codec::{
     Deserialize, DeserializeBytes, Error, Lent, Serialize, Sink, Size, Source, VLBytes,
 };
+use tls_codec_cases::append_as;
 
 /// `Framed`.
 #[derive(PartialEq, Eq, Debug, Clone, Drop)]
@@ -19,6 +20,8 @@ pub struct Framed {
     /// `opaque signature<V>;`
     pub signature: VLBytes,
 }
+
+type Parts = (u32, ContentTypeData, VLBytes);
 
 impl Size for Framed {
     ghost plain = { framed_plain };
@@ -48,22 +51,23 @@ impl Serialize for Framed {
     }
 
     fn tls_serialize_into(&self, out: &mut Vec<u8>) -> Result<usize, Error> {
-        (
-            Lent(&self.epoch),
-            Lent(&self.content_type),
-            Lent(&self.signature),
+        append_as(
+            self,
+            &(
+                Lent(&self.epoch),
+                Lent(&self.content_type),
+                Lent(&self.signature),
+            ),
+            out,
         )
-            .tls_serialize_into(out)
     }
 }
 
 impl Deserialize for Framed {
-    ghost names = { ⟦<(u32, ContentTypeData, VLBytes) as Deserialize>⟧.names };
+    ghost names = { ⟦<Parts as Deserialize>⟧.names };
 
     fn tls_deserialize<R: Source>(alloc: Global, src: &mut R) -> Result<Framed, Error> {
-        let (epoch, content_type, signature) = <(u32, ContentTypeData, VLBytes)>::tls_deserialize(
-            alloc, src,
-        )?;
+        let (epoch, content_type, signature) = <Parts>::tls_deserialize(alloc, src)?;
         Ok(Framed {
             epoch,
             content_type,
@@ -73,14 +77,12 @@ impl Deserialize for Framed {
 }
 
 impl DeserializeBytes for Framed {
-    ghost names = { ⟦<(u32, ContentTypeData, VLBytes) as DeserializeBytes>⟧.names };
+    ghost names = { ⟦<Parts as DeserializeBytes>⟧.names };
 
     fn tls_deserialize_bytes(alloc: Global, whole: &[u8]) -> Result<(Framed, &[u8]), Error> {
-        let ((epoch, content_type, signature), rest) = <(
-            u32,
-            ContentTypeData,
-            VLBytes,
-        )>::tls_deserialize_bytes(alloc, whole)?;
+        let ((epoch, content_type, signature), rest) = <Parts>::tls_deserialize_bytes(
+            alloc, whole,
+        )?;
         Ok((
             Framed {
                 epoch,

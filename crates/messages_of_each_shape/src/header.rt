@@ -8,7 +8,7 @@ use std::alloc::Global;
 use tls_codec::{
     Deserialize, DeserializeBytes, Error, Lent, Serialize, Sink, Size, Source, VLBytes,
 };
-use tls_codec_cases::Holds;
+use tls_codec_cases::{Holds, append_as};
 
 /// `Header`.
 ///
@@ -20,6 +20,8 @@ pub struct Header {
     /// `opaque rest<V>;`
     pub rest_: VLBytes,
 }
+
+type Parts = (u16, VLBytes);
 
 impl Size for Header {
     ghost plain = { header_plain };
@@ -39,24 +41,24 @@ impl Serialize for Header {
     }
 
     fn tls_serialize_into(&self, out: &mut Vec<u8>) -> Result<usize, Error> {
-        (Lent(&self.version), Lent(&self.rest_)).tls_serialize_into(out)
+        append_as(self, &(Lent(&self.version), Lent(&self.rest_)), out)
     }
 }
 
 impl Deserialize for Header {
-    ghost names = { ⟦<(u16, VLBytes) as Deserialize>⟧.names };
+    ghost names = { ⟦<Parts as Deserialize>⟧.names };
 
     fn tls_deserialize<R: Source>(alloc: Global, src: &mut R) -> Result<Header, Error> {
-        let (version, rest_) = <(u16, VLBytes)>::tls_deserialize(alloc, src)?;
+        let (version, rest_) = <Parts>::tls_deserialize(alloc, src)?;
         Ok(Header { version, rest_ })
     }
 }
 
 impl DeserializeBytes for Header {
-    ghost names = { ⟦<(u16, VLBytes) as DeserializeBytes>⟧.names };
+    ghost names = { ⟦<Parts as DeserializeBytes>⟧.names };
 
     fn tls_deserialize_bytes(alloc: Global, whole: &[u8]) -> Result<(Header, &[u8]), Error> {
-        let ((version, rest_), rest) = <(u16, VLBytes)>::tls_deserialize_bytes(alloc, whole)?;
+        let ((version, rest_), rest) = <Parts>::tls_deserialize_bytes(alloc, whole)?;
         Ok((Header { version, rest_ }, rest))
     }
 }

@@ -144,6 +144,18 @@ impl DeserializeBytes for Identity {
     }
 }
 
+impl Identity {
+    /// The tag of its case.
+    pub fn identity_type(&self) -> u16
+        ensures { result ≡ identity_tag self.now }
+    {
+        match self {
+            Identity::Full { .. } => 4,
+            Identity::Anonymous => 5,
+        }
+    }
+}
+
 /// Two are equal exactly where they are of one case, and each field is.
 pub fn is_compared_by_its_case()
     ensures tag { (x y : Identity) →

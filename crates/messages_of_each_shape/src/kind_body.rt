@@ -19,6 +19,8 @@ pub struct KindBody {
     pub body: BodyKindData,
 }
 
+type Parts = (Always<u8>, BodyKindData);
+
 impl SizeFor<BodyKind> for KindBody {
     ghost plain = { kind_body_plain };
 
@@ -51,30 +53,28 @@ impl SerializeFor<BodyKind> for KindBody {
 }
 
 impl DeserializeFor<BodyKind> for KindBody {
-    ghost names = { ⟦<(Always<u8>, BodyKindData) as DeserializeFor<BodyKind>>⟧.names };
+    ghost names = { ⟦<Parts as DeserializeFor<BodyKind>>⟧.names };
 
     fn tls_deserialize_for<R: Source>(
         body_kind: &BodyKind,
         alloc: Global,
         src: &mut R,
     ) -> Result<KindBody, Error> {
-        let parts = <(Always<u8>, BodyKindData)>::tls_deserialize_for(body_kind, alloc, src)?;
+        let parts = <Parts>::tls_deserialize_for(body_kind, alloc, src)?;
         let (Always(first), body) = parts;
         Ok(KindBody { first, body })
     }
 }
 
 impl DeserializeBytesFor<BodyKind> for KindBody {
-    ghost names = { ⟦<(Always<u8>, BodyKindData) as DeserializeBytesFor<BodyKind>>⟧.names };
+    ghost names = { ⟦<Parts as DeserializeBytesFor<BodyKind>>⟧.names };
 
     fn tls_deserialize_bytes_for<'a>(
         body_kind: &BodyKind,
         alloc: Global,
         whole: &'a [u8],
     ) -> Result<(KindBody, &'a [u8]), Error> {
-        let (parts, rest) = <(Always<u8>, BodyKindData)>::tls_deserialize_bytes_for(
-            body_kind, alloc, whole,
-        )?;
+        let (parts, rest) = <Parts>::tls_deserialize_bytes_for(body_kind, alloc, whole)?;
         let (Always(first), body) = parts;
         Ok((KindBody { first, body }, rest))
     }

@@ -9,6 +9,7 @@ use tls_codec::{
     Deserialize, DeserializeBytes, Error, Lent2, Lent3, Serialize, Sink, Size, Source, TlsVecU8,
     TlsVecU16, TlsVecU24, TlsVecU32,
 };
+use tls_codec_cases::append_as;
 
 /// `Lists`.
 ///
@@ -32,6 +33,12 @@ pub struct Lists {
     /// `Row row;`
     pub row: Row,
 }
+
+type Parts = (
+    (TlsVecU8<u16>, TlsVecU16<Level>, TlsVecU24<Key>),
+    (TlsVecU32<Identity>, Vec<Row>, ExtensionType),
+    (Vec<NameType>, Row),
+);
 
 impl Size for Lists {
     ghost plain = { lists_plain };
@@ -61,26 +68,24 @@ impl Serialize for Lists {
     }
 
     fn tls_serialize_into(&self, out: &mut Vec<u8>) -> Result<usize, Error> {
-        (
-            Lent3(&self.octets, &self.levels, &self.keys),
-            Lent3(&self.identities, &self.rows, &self.kind),
-            Lent2(&self.names, &self.row),
+        append_as(
+            self,
+            &(
+                Lent3(&self.octets, &self.levels, &self.keys),
+                Lent3(&self.identities, &self.rows, &self.kind),
+                Lent2(&self.names, &self.row),
+            ),
+            out,
         )
-            .tls_serialize_into(out)
     }
 }
 
 impl Deserialize for Lists {
-    ghost names = { ⟦<((TlsVecU8<u16>, TlsVecU16<Level>, TlsVecU24<Key>),
-        (TlsVecU32<Identity>, Vec<Row>, ExtensionType),
-        (Vec<NameType>, Row)) as Deserialize>⟧.names };
+    ghost names = { ⟦<Parts as Deserialize>⟧.names };
 
     fn tls_deserialize<R: Source>(alloc: Global, src: &mut R) -> Result<Lists, Error> {
-        let ((octets, levels, keys), (identities, rows, kind), (names, row)) = <(
-            (TlsVecU8<u16>, TlsVecU16<Level>, TlsVecU24<Key>),
-            (TlsVecU32<Identity>, Vec<Row>, ExtensionType),
-            (Vec<NameType>, Row),
-        )>::tls_deserialize(alloc, src)?;
+        let ((octets, levels, keys), (identities, rows, kind), (names, row)) =
+            <Parts>::tls_deserialize(alloc, src)?;
         Ok(Lists {
             octets,
             levels,
@@ -95,16 +100,11 @@ impl Deserialize for Lists {
 }
 
 impl DeserializeBytes for Lists {
-    ghost names = { ⟦<((TlsVecU8<u16>, TlsVecU16<Level>, TlsVecU24<Key>),
-        (TlsVecU32<Identity>, Vec<Row>, ExtensionType),
-        (Vec<NameType>, Row)) as DeserializeBytes>⟧.names };
+    ghost names = { ⟦<Parts as DeserializeBytes>⟧.names };
 
     fn tls_deserialize_bytes(alloc: Global, whole: &[u8]) -> Result<(Lists, &[u8]), Error> {
-        let (((octets, levels, keys), (identities, rows, kind), (names, row)), rest) = <(
-            (TlsVecU8<u16>, TlsVecU16<Level>, TlsVecU24<Key>),
-            (TlsVecU32<Identity>, Vec<Row>, ExtensionType),
-            (Vec<NameType>, Row),
-        )>::tls_deserialize_bytes(alloc, whole)?;
+        let (((octets, levels, keys), (identities, rows, kind), (names, row)), rest) =
+            <Parts>::tls_deserialize_bytes(alloc, whole)?;
         Ok((
             Lists {
                 octets,

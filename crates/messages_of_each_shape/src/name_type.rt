@@ -1,7 +1,8 @@
 //! [`NameType`].
 ghost use Rattle.std.specs.Prelude.{◌≡◌, Some, nat_eq, option_map};
 ghost use Rattle.std.specs.Ordering.{nat_cmp};
-ghost use Rattle.messages_of_each_shape.specs.NameType.{name_type_format, name_type_meets, name_type_name, name_type_plain, name_type_text, name_type_selected};
+ghost use Rattle.tls_codec.specs.Registries.{listed_name, name_or_number};
+ghost use Rattle.messages_of_each_shape.specs.NameType.{name_type_format, name_type_meets, name_type_names, name_type_plain, name_type_selected};
 ghost use Rattle.messages_of_each_shape.specs.declared.name_type.NameType.{NameType};
 
 use std::alloc::Global;
@@ -21,7 +22,7 @@ impl NameType {
 
     /// Its name in the text, if it has one.
     pub fn name(&self) -> Option<&'static str>
-        ensures { option_map (λ name. name.now) result ≡ name_type_name self.now.0 }
+        ensures { option_map (λ name. name.now) result ≡ listed_name name_type_names self.now.0 }
     {
         match self.0 {
             0 => Some("host_name"),
@@ -32,9 +33,9 @@ impl NameType {
 
 /// Its name, or else its number in hexadecimal, two digits a byte. A width pads names alone.
 impl fmt::Display for NameType {
-    ghost output = { λ v. Some (name_type_text v.0) };
+    ghost output = { λ v. Some (name_or_number name_type_names 2 v.0) };
 
-    #[tactic(auto, using(crate::specs::NameType::name_type_printed))]
+    #[tactic(auto, using(tls_codec::specs::Registries::hexadecimal_digits))]
     fn fmt<W: fmt::Write>(&self, f: &mut fmt::Formatter<W>) -> fmt::Result {
         match self.name() {
             Some(name) => f.pad(name),

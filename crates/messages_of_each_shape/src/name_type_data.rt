@@ -104,6 +104,24 @@ impl DeserializeBytesFor<NameType> for NameTypeData {
     }
 }
 
+/// The case `host_name` with this content.
+impl From<u8> for NameTypeData {
+    ghost from_gives = { λ content value. value ≡ NameTypeData.HostName content };
+
+    fn from(content: u8) -> NameTypeData {
+        NameTypeData::HostName(content)
+    }
+}
+
+/// The case `case_7` with this content.
+impl From<Key> for NameTypeData {
+    ghost from_gives = { λ content value. value ≡ NameTypeData.Case7 content };
+
+    fn from(content: Key) -> NameTypeData {
+        NameTypeData::Case7(content)
+    }
+}
+
 /// Two are equal exactly where they are of one case, and each field is.
 pub fn is_compared_by_its_case()
     ensures tag { (x y : NameTypeData) →

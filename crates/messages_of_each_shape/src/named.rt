@@ -7,7 +7,7 @@ ghost use Rattle.messages_of_each_shape.specs.Named.{named_name_type};
 use crate::NameType;
 use std::alloc::Global;
 use tls_codec::{Deserialize, DeserializeBytes, Error, Lent, Serialize, Sink, Size, Source};
-use tls_codec_cases::Holds;
+use tls_codec_cases::{Holds, append_as};
 
 /// `Named`.
 #[derive(PartialEq, Eq, Debug, Clone, Drop)]
@@ -17,6 +17,8 @@ pub struct Named {
     /// `NameType name_type;`
     pub name_type: NameType,
 }
+
+type Parts = (u8, NameType);
 
 impl Size for Named {
     ghost plain = { named_plain };
@@ -36,24 +38,24 @@ impl Serialize for Named {
     }
 
     fn tls_serialize_into(&self, out: &mut Vec<u8>) -> Result<usize, Error> {
-        (Lent(&self.before), Lent(&self.name_type)).tls_serialize_into(out)
+        append_as(self, &(Lent(&self.before), Lent(&self.name_type)), out)
     }
 }
 
 impl Deserialize for Named {
-    ghost names = { ⟦<(u8, NameType) as Deserialize>⟧.names };
+    ghost names = { ⟦<Parts as Deserialize>⟧.names };
 
     fn tls_deserialize<R: Source>(alloc: Global, src: &mut R) -> Result<Named, Error> {
-        let (before, name_type) = <(u8, NameType)>::tls_deserialize(alloc, src)?;
+        let (before, name_type) = <Parts>::tls_deserialize(alloc, src)?;
         Ok(Named { before, name_type })
     }
 }
 
 impl DeserializeBytes for Named {
-    ghost names = { ⟦<(u8, NameType) as DeserializeBytes>⟧.names };
+    ghost names = { ⟦<Parts as DeserializeBytes>⟧.names };
 
     fn tls_deserialize_bytes(alloc: Global, whole: &[u8]) -> Result<(Named, &[u8]), Error> {
-        let ((before, name_type), rest) = <(u8, NameType)>::tls_deserialize_bytes(alloc, whole)?;
+        let ((before, name_type), rest) = <Parts>::tls_deserialize_bytes(alloc, whole)?;
         Ok((Named { before, name_type }, rest))
     }
 }

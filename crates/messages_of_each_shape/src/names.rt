@@ -1,5 +1,7 @@
 //! Other names of types.
+use crate::BodyKind;
 use tls_codec::{TlsByteVec, VLBytes, Within};
+use tls_codec_cases::InnerPlaintext;
 
 /// `opaque Key<V>;`.
 pub type Key = VLBytes;
@@ -18,3 +20,12 @@ pub type ASN1Cert = VLBytes;
 
 /// `optional<Row> ratchet_tree<V>;`.
 pub type RatchetTree = Vec<Option<Row>>;
+
+/// `Inner`.
+///
+/// Its content ends at `BodyKind type;`, the last byte that isn't zero. Zeros go to the
+/// end, `uint8 zeros[length_of_padding];`: it is read of all that there is.
+pub type Inner = InnerPlaintext<BodyKind>;
+
+/// `opaque Datum[3];`.
+pub type Datum = [u8; 3];

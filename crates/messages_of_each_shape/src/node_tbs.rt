@@ -5,6 +5,7 @@ ghost use Rattle.messages_of_each_shape.specs.declared.node_tbs.NodeTBS.{NodeTBS
 
 use crate::{Key, NodeTBSOrigin};
 use tls_codec::{Error, Lent, Serialize, Sink, Size};
+use tls_codec_cases::append_as;
 
 /// `NodeTBS`.
 ///
@@ -37,7 +38,11 @@ impl Serialize for NodeTBS<'_> {
     }
 
     fn tls_serialize_into(&self, out: &mut Vec<u8>) -> Result<usize, Error> {
-        (Lent(self.key), self.node_source, Lent(self.last)).tls_serialize_into(out)
+        append_as(
+            self,
+            &(Lent(self.key), self.node_source, Lent(self.last)),
+            out,
+        )
     }
 }
 

@@ -3,11 +3,14 @@ ghost use Rattle.std.specs.Prelude.{◌≡◌, ◌&&◌, IsTrue, true};
 ghost use Rattle.messages_of_each_shape.specs.NodeTBSOrigin.{node_tbs_origin_format, node_tbs_origin_meets, node_tbs_origin_plain, node_tbs_origin_tag};
 ghost use Rattle.messages_of_each_shape.specs.declared.node_tbs_origin.NodeTBSOrigin.{NodeTBSOrigin};
 
+use crate::Key;
 use tls_codec::{Error, Lent, Serialize, Sink, Size, VLBytes};
 
 const UPDATE: u8 = 2;
 
 const COMMIT: u8 = 3;
+
+const EXTERNAL: u8 = 4;
 
 /// `NodeSource node_source` of `NodeTBS`, and what comes after each.
 ///
@@ -23,6 +26,8 @@ pub enum NodeTBSOrigin<'a> {
         /// `uint8 level;`
         level: &'a u8,
     },
+    /// `case external: Key signature_key;`
+    External(&'a Key),
 }
 
 impl Size for NodeTBSOrigin<'_> {
@@ -37,6 +42,10 @@ impl Size for NodeTBSOrigin<'_> {
                 COMMIT,
                 Lent(parent_hash),
                 Lent(level),
+            ).tls_serialized_len(),
+            NodeTBSOrigin::External(signature_key) => (
+                EXTERNAL,
+                Lent(signature_key),
             ).tls_serialized_len(),
         }
     }
@@ -53,6 +62,9 @@ impl Serialize for NodeTBSOrigin<'_> {
                 Lent(parent_hash),
                 Lent(level),
             ).tls_serialize(writer),
+            NodeTBSOrigin::External(signature_key) => (EXTERNAL, Lent(signature_key)).tls_serialize(
+                writer,
+            ),
         }
     }
 
@@ -64,7 +76,33 @@ impl Serialize for NodeTBSOrigin<'_> {
                 Lent(parent_hash),
                 Lent(level),
             ).tls_serialize_into(out),
+            NodeTBSOrigin::External(signature_key) => (
+                EXTERNAL,
+                Lent(signature_key),
+            ).tls_serialize_into(out),
         }
+    }
+}
+
+impl NodeTBSOrigin<'_> {
+    /// The tag of its case.
+    pub fn node_source(&self) -> u8
+        ensures { result ≡ node_tbs_origin_tag self.now }
+    {
+        match self {
+            NodeTBSOrigin::Update => 2,
+            NodeTBSOrigin::Commit { .. } => 3,
+            NodeTBSOrigin::External(_) => 4,
+        }
+    }
+}
+
+/// The case `external` with this content.
+impl<'a> From<&'a Key> for NodeTBSOrigin<'a> {
+    ghost from_gives = { λ content value. value ≡ NodeTBSOrigin.External content };
+
+    fn from(content: &'a Key) -> NodeTBSOrigin<'a> {
+        NodeTBSOrigin::External(content)
     }
 }
 
@@ -80,4 +118,8 @@ pub fn is_compared_by_its_case()
         (NodeTBSOrigin.Commit b0 b1)
         ≡ (⟦<VLBytes as PartialEq>⟧.eq a0.now b0.now
         && ⟦<u8 as PartialEq>⟧.eq a1.now b1.now) }
+    ensures case_4 { (a0 b0 : _) →
+        ⟦<NodeTBSOrigin<'static> as PartialEq>⟧.eq (NodeTBSOrigin.External a0)
+        (NodeTBSOrigin.External b0)
+        ≡ ⟦<Key as PartialEq>⟧.eq a0.now b0.now }
 {}

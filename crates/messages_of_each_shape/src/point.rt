@@ -8,6 +8,7 @@ use std::alloc::Global;
 use tls_codec::{
     Deserialize, DeserializeBytes, Error, Lent, Serialize, Sink, Size, Source, VLBytes,
 };
+use tls_codec_cases::append_as;
 
 /// `Point`.
 #[derive(PartialEq, Eq, Debug, Clone, Drop)]
@@ -19,6 +20,8 @@ pub struct Point {
     /// `opaque y<V>;`
     pub y: VLBytes,
 }
+
+type Parts = (FormX04, VLBytes, VLBytes);
 
 impl Size for Point {
     ghost plain = { point_plain };
@@ -38,26 +41,24 @@ impl Serialize for Point {
     }
 
     fn tls_serialize_into(&self, out: &mut Vec<u8>) -> Result<usize, Error> {
-        (Lent(&self.form), Lent(&self.x), Lent(&self.y)).tls_serialize_into(out)
+        append_as(self, &(Lent(&self.form), Lent(&self.x), Lent(&self.y)), out)
     }
 }
 
 impl Deserialize for Point {
-    ghost names = { ⟦<(FormX04, VLBytes, VLBytes) as Deserialize>⟧.names };
+    ghost names = { ⟦<Parts as Deserialize>⟧.names };
 
     fn tls_deserialize<R: Source>(alloc: Global, src: &mut R) -> Result<Point, Error> {
-        let (form, x, y) = <(FormX04, VLBytes, VLBytes)>::tls_deserialize(alloc, src)?;
+        let (form, x, y) = <Parts>::tls_deserialize(alloc, src)?;
         Ok(Point { form, x, y })
     }
 }
 
 impl DeserializeBytes for Point {
-    ghost names = { ⟦<(FormX04, VLBytes, VLBytes) as DeserializeBytes>⟧.names };
+    ghost names = { ⟦<Parts as DeserializeBytes>⟧.names };
 
     fn tls_deserialize_bytes(alloc: Global, whole: &[u8]) -> Result<(Point, &[u8]), Error> {
-        let ((form, x, y), rest) = <(FormX04, VLBytes, VLBytes)>::tls_deserialize_bytes(
-            alloc, whole,
-        )?;
+        let ((form, x, y), rest) = <Parts>::tls_deserialize_bytes(alloc, whole)?;
         Ok((Point { form, x, y }, rest))
     }
 }

@@ -6,6 +6,7 @@ ghost use Rattle.messages_of_each_shape.specs.declared.server_name.ServerName.{S
 use crate::{HostName, NameTypeHostName};
 use std::alloc::Global;
 use tls_codec::{Deserialize, DeserializeBytes, Error, Lent, Serialize, Sink, Size, Source};
+use tls_codec_cases::append_as;
 
 /// `ServerName`.
 #[derive(PartialEq, Eq, Debug, Clone, Drop)]
@@ -15,6 +16,8 @@ pub struct ServerName {
     /// `HostName;`
     pub name: HostName,
 }
+
+type Parts = (NameTypeHostName, HostName);
 
 impl Size for ServerName {
     ghost plain = { server_name_plain };
@@ -34,26 +37,24 @@ impl Serialize for ServerName {
     }
 
     fn tls_serialize_into(&self, out: &mut Vec<u8>) -> Result<usize, Error> {
-        (Lent(&self.name_type), Lent(&self.name)).tls_serialize_into(out)
+        append_as(self, &(Lent(&self.name_type), Lent(&self.name)), out)
     }
 }
 
 impl Deserialize for ServerName {
-    ghost names = { ⟦<(NameTypeHostName, HostName) as Deserialize>⟧.names };
+    ghost names = { ⟦<Parts as Deserialize>⟧.names };
 
     fn tls_deserialize<R: Source>(alloc: Global, src: &mut R) -> Result<ServerName, Error> {
-        let (name_type, name) = <(NameTypeHostName, HostName)>::tls_deserialize(alloc, src)?;
+        let (name_type, name) = <Parts>::tls_deserialize(alloc, src)?;
         Ok(ServerName { name_type, name })
     }
 }
 
 impl DeserializeBytes for ServerName {
-    ghost names = { ⟦<(NameTypeHostName, HostName) as DeserializeBytes>⟧.names };
+    ghost names = { ⟦<Parts as DeserializeBytes>⟧.names };
 
     fn tls_deserialize_bytes(alloc: Global, whole: &[u8]) -> Result<(ServerName, &[u8]), Error> {
-        let ((name_type, name), rest) = <(NameTypeHostName, HostName)>::tls_deserialize_bytes(
-            alloc, whole,
-        )?;
+        let ((name_type, name), rest) = <Parts>::tls_deserialize_bytes(alloc, whole)?;
         Ok((ServerName { name_type, name }, rest))
     }
 }

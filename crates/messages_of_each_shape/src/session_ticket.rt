@@ -8,6 +8,7 @@ use std::alloc::Global;
 use tls_codec::{
     Deserialize, DeserializeBytes, Error, Lent2, Lent3, Serialize, Sink, Size, Source,
 };
+use tls_codec_cases::append_as;
 
 /// `session_ticket`.
 #[derive(PartialEq, Eq, Debug, Clone, Drop)]
@@ -23,6 +24,8 @@ pub struct SessionTicket {
     /// `uint16_t wide;`
     pub wide: u16,
 }
+
+type Parts = ((ASN1Cert, EmptyType, VersionXfefd), (MagicX0102, u16));
 
 impl Size for SessionTicket {
     ghost plain = { session_ticket_plain };
@@ -50,22 +53,22 @@ impl Serialize for SessionTicket {
     }
 
     fn tls_serialize_into(&self, out: &mut Vec<u8>) -> Result<usize, Error> {
-        (
-            Lent3(&self.a_1, &self.kind, &self.version),
-            Lent2(&self.magic, &self.wide),
+        append_as(
+            self,
+            &(
+                Lent3(&self.a_1, &self.kind, &self.version),
+                Lent2(&self.magic, &self.wide),
+            ),
+            out,
         )
-            .tls_serialize_into(out)
     }
 }
 
 impl Deserialize for SessionTicket {
-    ghost names = { ⟦<((ASN1Cert, EmptyType, VersionXfefd), (MagicX0102, u16)) as Deserialize>⟧.names };
+    ghost names = { ⟦<Parts as Deserialize>⟧.names };
 
     fn tls_deserialize<R: Source>(alloc: Global, src: &mut R) -> Result<SessionTicket, Error> {
-        let ((a_1, kind, version), (magic, wide)) = <(
-            (ASN1Cert, EmptyType, VersionXfefd),
-            (MagicX0102, u16),
-        )>::tls_deserialize(alloc, src)?;
+        let ((a_1, kind, version), (magic, wide)) = <Parts>::tls_deserialize(alloc, src)?;
         Ok(SessionTicket {
             a_1,
             kind,
@@ -77,13 +80,12 @@ impl Deserialize for SessionTicket {
 }
 
 impl DeserializeBytes for SessionTicket {
-    ghost names = { ⟦<((ASN1Cert, EmptyType, VersionXfefd), (MagicX0102, u16)) as DeserializeBytes>⟧.names };
+    ghost names = { ⟦<Parts as DeserializeBytes>⟧.names };
 
     fn tls_deserialize_bytes(alloc: Global, whole: &[u8]) -> Result<(SessionTicket, &[u8]), Error> {
-        let (((a_1, kind, version), (magic, wide)), rest) = <(
-            (ASN1Cert, EmptyType, VersionXfefd),
-            (MagicX0102, u16),
-        )>::tls_deserialize_bytes(alloc, whole)?;
+        let (((a_1, kind, version), (magic, wide)), rest) = <Parts>::tls_deserialize_bytes(
+            alloc, whole,
+        )?;
         Ok((
             SessionTicket {
                 a_1,

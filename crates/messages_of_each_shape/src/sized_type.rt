@@ -6,6 +6,7 @@ ghost use Rattle.messages_of_each_shape.specs.declared.sized_type.SizedType.{Siz
 use crate::VersionData;
 use std::alloc::Global;
 use tls_codec::{Deserialize, DeserializeBytes, Error, Lent, Serialize, Sink, Size, Source};
+use tls_codec_cases::append_as;
 
 /// `Sized`.
 #[derive(PartialEq, Eq, Debug, Clone, Drop)]
@@ -17,6 +18,8 @@ pub struct SizedType {
     /// `uint8 after;`
     pub after: u8,
 }
+
+type Parts = (u8, VersionData, u8);
 
 impl Size for SizedType {
     ghost plain = { sized_type_plain };
@@ -36,15 +39,19 @@ impl Serialize for SizedType {
     }
 
     fn tls_serialize_into(&self, out: &mut Vec<u8>) -> Result<usize, Error> {
-        (Lent(&self.before), Lent(&self.contents), Lent(&self.after)).tls_serialize_into(out)
+        append_as(
+            self,
+            &(Lent(&self.before), Lent(&self.contents), Lent(&self.after)),
+            out,
+        )
     }
 }
 
 impl Deserialize for SizedType {
-    ghost names = { ⟦<(u8, VersionData, u8) as Deserialize>⟧.names };
+    ghost names = { ⟦<Parts as Deserialize>⟧.names };
 
     fn tls_deserialize<R: Source>(alloc: Global, src: &mut R) -> Result<SizedType, Error> {
-        let (before, contents, after) = <(u8, VersionData, u8)>::tls_deserialize(alloc, src)?;
+        let (before, contents, after) = <Parts>::tls_deserialize(alloc, src)?;
         Ok(SizedType {
             before,
             contents,
@@ -54,12 +61,10 @@ impl Deserialize for SizedType {
 }
 
 impl DeserializeBytes for SizedType {
-    ghost names = { ⟦<(u8, VersionData, u8) as DeserializeBytes>⟧.names };
+    ghost names = { ⟦<Parts as DeserializeBytes>⟧.names };
 
     fn tls_deserialize_bytes(alloc: Global, whole: &[u8]) -> Result<(SizedType, &[u8]), Error> {
-        let ((before, contents, after), rest) = <(u8, VersionData, u8)>::tls_deserialize_bytes(
-            alloc, whole,
-        )?;
+        let ((before, contents, after), rest) = <Parts>::tls_deserialize_bytes(alloc, whole)?;
         Ok((
             SizedType {
                 before,

@@ -6,6 +6,7 @@ ghost use Rattle.messages_of_each_shape.specs.declared.trees.Trees.{Trees};
 use crate::RatchetTree;
 use std::alloc::Global;
 use tls_codec::{Deserialize, DeserializeBytes, Error, Serialize, Sink, Size, Source};
+use tls_codec_cases::append_as;
 
 /// `Trees`.
 #[derive(PartialEq, Eq, Debug, Clone, Drop)]
@@ -32,7 +33,7 @@ impl Serialize for Trees {
     }
 
     fn tls_serialize_into(&self, out: &mut Vec<u8>) -> Result<usize, Error> {
-        self.tree.tls_serialize_into(out)
+        append_as(self, &self.tree, out)
     }
 }
 

@@ -117,6 +117,28 @@ impl DeserializeBytes for VersionData {
     }
 }
 
+impl VersionData {
+    /// The tag of its case.
+    pub fn version(&self) -> u16
+        ensures { result ≡ version_data_tag self.now }
+    {
+        match self {
+            VersionData::Case7 { .. } => 7,
+            VersionData::Case9 => 9,
+            VersionData::Case11(_) => 11,
+        }
+    }
+}
+
+/// The case `case_11` with this content.
+impl From<Key> for VersionData {
+    ghost from_gives = { λ content value. value ≡ VersionData.Case11 content };
+
+    fn from(content: Key) -> VersionData {
+        VersionData::Case11(content)
+    }
+}
+
 /// Two are equal exactly where they are of one case, and each field is.
 pub fn is_compared_by_its_case()
     ensures tag { (x y : VersionData) →

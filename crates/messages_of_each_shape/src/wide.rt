@@ -9,6 +9,7 @@ use tls_codec::{
     Deserialize, DeserializeBytes, Error, Lent4, Serialize, Sink, Size, Source, TlsByteVecU8,
     TlsByteVecU16, TlsByteVecU24, TlsByteVecU32, TlsVecU16, U24,
 };
+use tls_codec_cases::append_as;
 
 /// `Wide`.
 ///
@@ -41,6 +42,12 @@ pub struct Wide {
     pub l: Option<u16>,
 }
 
+type Parts = (
+    ((u8, U24), (u32, u64)),
+    (([u8; 16], TlsByteVecU8), (TlsByteVecU16, TlsByteVecU24)),
+    ((TlsByteVecU32, TlsVecU16<Key>), (String, Option<u16>)),
+);
+
 impl Size for Wide {
     ghost plain = { wide_plain };
 
@@ -69,26 +76,25 @@ impl Serialize for Wide {
     }
 
     fn tls_serialize_into(&self, out: &mut Vec<u8>) -> Result<usize, Error> {
-        (
-            Lent4(&self.a, &self.b, &self.c, &self.d),
-            Lent4(&self.e, &self.f, &self.g, &self.h),
-            Lent4(&self.i, &self.j, &self.k, &self.l),
+        append_as(
+            self,
+            &(
+                Lent4(&self.a, &self.b, &self.c, &self.d),
+                Lent4(&self.e, &self.f, &self.g, &self.h),
+                Lent4(&self.i, &self.j, &self.k, &self.l),
+            ),
+            out,
         )
-            .tls_serialize_into(out)
     }
 }
 
 impl Deserialize for Wide {
-    ghost names = { ⟦<(((u8, U24), (u32, u64)), (([u8; 16], TlsByteVecU8),
-        (TlsByteVecU16, TlsByteVecU24)), ((TlsByteVecU32, TlsVecU16<Key>),
-        (String, Option<u16>))) as Deserialize>⟧.names };
+    ghost names = { ⟦<Parts as Deserialize>⟧.names };
 
     fn tls_deserialize<R: Source>(alloc: Global, src: &mut R) -> Result<Wide, Error> {
-        let (((a, b), (c, d)), ((e, f), (g, h)), ((i, j), (k, l))) = <(
-            ((u8, U24), (u32, u64)),
-            (([u8; 16], TlsByteVecU8), (TlsByteVecU16, TlsByteVecU24)),
-            ((TlsByteVecU32, TlsVecU16<Key>), (String, Option<u16>)),
-        )>::tls_deserialize(alloc, src)?;
+        let (((a, b), (c, d)), ((e, f), (g, h)), ((i, j), (k, l))) = <Parts>::tls_deserialize(
+            alloc, src,
+        )?;
         Ok(Wide {
             a,
             b,
@@ -107,16 +113,11 @@ impl Deserialize for Wide {
 }
 
 impl DeserializeBytes for Wide {
-    ghost names = { ⟦<(((u8, U24), (u32, u64)), (([u8; 16], TlsByteVecU8),
-        (TlsByteVecU16, TlsByteVecU24)), ((TlsByteVecU32, TlsVecU16<Key>),
-        (String, Option<u16>))) as DeserializeBytes>⟧.names };
+    ghost names = { ⟦<Parts as DeserializeBytes>⟧.names };
 
     fn tls_deserialize_bytes(alloc: Global, whole: &[u8]) -> Result<(Wide, &[u8]), Error> {
-        let ((((a, b), (c, d)), ((e, f), (g, h)), ((i, j), (k, l))), rest) = <(
-            ((u8, U24), (u32, u64)),
-            (([u8; 16], TlsByteVecU8), (TlsByteVecU16, TlsByteVecU24)),
-            ((TlsByteVecU32, TlsVecU16<Key>), (String, Option<u16>)),
-        )>::tls_deserialize_bytes(alloc, whole)?;
+        let ((((a, b), (c, d)), ((e, f), (g, h)), ((i, j), (k, l))), rest) =
+            <Parts>::tls_deserialize_bytes(alloc, whole)?;
         Ok((
             Wide {
                 a,

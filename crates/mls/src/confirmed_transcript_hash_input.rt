@@ -5,6 +5,7 @@ ghost use Rattle.mls.specs.declared.confirmed_transcript_hash_input.ConfirmedTra
 
 use crate::{FramedContent, WireFormat};
 use tls_codec::{Error, Lent, Serialize, Sink, Size, VLBytes};
+use tls_codec_cases::append_as;
 
 /// `ConfirmedTranscriptHashInput` (RFC 9420, section 8.2).
 ///
@@ -47,12 +48,15 @@ impl Serialize for ConfirmedTranscriptHashInput<'_> {
     }
 
     fn tls_serialize_into(&self, out: &mut Vec<u8>) -> Result<usize, Error> {
-        (
-            Lent(self.wire_format),
-            Lent(self.content),
-            Lent(self.signature),
+        append_as(
+            self,
+            &(
+                Lent(self.wire_format),
+                Lent(self.content),
+                Lent(self.signature),
+            ),
+            out,
         )
-            .tls_serialize_into(out)
     }
 }
 

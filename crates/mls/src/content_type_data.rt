@@ -1,5 +1,6 @@
 //! [`ContentTypeData`].
 ghost use Rattle.std.specs.Prelude.{◌≡◌, IsTrue};
+ghost use Rattle.mls.specs.ContentType.{content_type_code};
 ghost use Rattle.tls_codec.specs.OwnMessages.{no_variant_names, no_variant_source_names, tagged_names, tagged_source_names, variant_names, variant_source_names};
 ghost use Rattle.mls.specs.ContentTypeData.{content_type_data_format, content_type_data_meets, content_type_data_plain, content_type_data_tag};
 ghost use Rattle.mls.specs.declared.content_type_data.ContentTypeData.{ContentTypeData};
@@ -138,11 +139,47 @@ impl Holds<ContentType> for ContentTypeData {
     ghost held = { content_type_data_content_type };
 
     fn held(&self) -> ContentType {
+        self.content_type()
+    }
+}
+
+impl ContentTypeData {
+    /// The tag of its case.
+    pub fn content_type(&self) -> ContentType
+        ensures { content_type_code result ≡ content_type_data_tag self.now }
+    {
         match self {
             ContentTypeData::Application(_) => ContentType::Application,
             ContentTypeData::Proposal(_) => ContentType::Proposal,
             ContentTypeData::Commit(_) => ContentType::Commit,
         }
+    }
+}
+
+/// The case `application` with this content.
+impl From<VLBytes> for ContentTypeData {
+    ghost from_gives = { λ content value. value ≡ ContentTypeData.Application content };
+
+    fn from(content: VLBytes) -> ContentTypeData {
+        ContentTypeData::Application(content)
+    }
+}
+
+/// The case `proposal` with this content.
+impl From<Proposal> for ContentTypeData {
+    ghost from_gives = { λ content value. value ≡ ContentTypeData.Proposal content };
+
+    fn from(content: Proposal) -> ContentTypeData {
+        ContentTypeData::Proposal(content)
+    }
+}
+
+/// The case `commit` with this content.
+impl From<Commit> for ContentTypeData {
+    ghost from_gives = { λ content value. value ≡ ContentTypeData.Commit content };
+
+    fn from(content: Commit) -> ContentTypeData {
+        ContentTypeData::Commit(content)
     }
 }
 

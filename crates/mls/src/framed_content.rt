@@ -10,7 +10,7 @@ use std::alloc::Global;
 use tls_codec::{
     Deserialize, DeserializeBytes, Error, Lent2, Lent3, Serialize, Sink, Size, Source, VLBytes,
 };
-use tls_codec_cases::Holds;
+use tls_codec_cases::{Holds, append_as};
 
 /// `FramedContent` (RFC 9420, section 6).
 #[derive(PartialEq, Eq, Debug, Clone, Drop)]
@@ -26,6 +26,8 @@ pub struct FramedContent {
     /// `ContentType content_type;`
     pub content_type: ContentTypeData,
 }
+
+type Parts = ((VLBytes, u64, Sender), (VLBytes, ContentTypeData));
 
 impl Size for FramedContent {
     ghost plain = { framed_content_plain };
@@ -53,22 +55,23 @@ impl Serialize for FramedContent {
     }
 
     fn tls_serialize_into(&self, out: &mut Vec<u8>) -> Result<usize, Error> {
-        (
-            Lent3(&self.group_id, &self.epoch, &self.sender),
-            Lent2(&self.authenticated_data, &self.content_type),
+        append_as(
+            self,
+            &(
+                Lent3(&self.group_id, &self.epoch, &self.sender),
+                Lent2(&self.authenticated_data, &self.content_type),
+            ),
+            out,
         )
-            .tls_serialize_into(out)
     }
 }
 
 impl Deserialize for FramedContent {
-    ghost names = { ⟦<((VLBytes, u64, Sender), (VLBytes, ContentTypeData)) as Deserialize>⟧.names };
+    ghost names = { ⟦<Parts as Deserialize>⟧.names };
 
     fn tls_deserialize<R: Source>(alloc: Global, src: &mut R) -> Result<FramedContent, Error> {
-        let ((group_id, epoch, sender), (authenticated_data, content_type)) = <(
-            (VLBytes, u64, Sender),
-            (VLBytes, ContentTypeData),
-        )>::tls_deserialize(alloc, src)?;
+        let ((group_id, epoch, sender), (authenticated_data, content_type)) =
+            <Parts>::tls_deserialize(alloc, src)?;
         Ok(FramedContent {
             group_id,
             epoch,
@@ -80,13 +83,11 @@ impl Deserialize for FramedContent {
 }
 
 impl DeserializeBytes for FramedContent {
-    ghost names = { ⟦<((VLBytes, u64, Sender), (VLBytes, ContentTypeData)) as DeserializeBytes>⟧.names };
+    ghost names = { ⟦<Parts as DeserializeBytes>⟧.names };
 
     fn tls_deserialize_bytes(alloc: Global, whole: &[u8]) -> Result<(FramedContent, &[u8]), Error> {
-        let (((group_id, epoch, sender), (authenticated_data, content_type)), rest) = <(
-            (VLBytes, u64, Sender),
-            (VLBytes, ContentTypeData),
-        )>::tls_deserialize_bytes(alloc, whole)?;
+        let (((group_id, epoch, sender), (authenticated_data, content_type)), rest) =
+            <Parts>::tls_deserialize_bytes(alloc, whole)?;
         Ok((
             FramedContent {
                 group_id,

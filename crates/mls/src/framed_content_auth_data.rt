@@ -24,6 +24,8 @@ pub struct FramedContentAuthData {
     pub confirmation_tag: Option<MAC>,
 }
 
+type Parts = (Always<VLBytes>, When<Is<3>, MAC>);
+
 impl SizeFor<ContentType> for FramedContentAuthData {
     ghost plain = { framed_content_auth_data_plain };
 
@@ -77,18 +79,14 @@ impl SerializeFor<ContentType> for FramedContentAuthData {
 }
 
 impl DeserializeFor<ContentType> for FramedContentAuthData {
-    ghost names = { ⟦<(Always<VLBytes>, When<Is<3>, MAC>) as DeserializeFor<ContentType>>⟧.names };
+    ghost names = { ⟦<Parts as DeserializeFor<ContentType>>⟧.names };
 
     fn tls_deserialize_for<R: Source>(
         content_type: &ContentType,
         alloc: Global,
         src: &mut R,
     ) -> Result<FramedContentAuthData, Error> {
-        let parts = <(Always<VLBytes>, When<Is<3>, MAC>)>::tls_deserialize_for(
-            content_type,
-            alloc,
-            src,
-        )?;
+        let parts = <Parts>::tls_deserialize_for(content_type, alloc, src)?;
         let (
             Always(signature),
             When {
@@ -104,18 +102,14 @@ impl DeserializeFor<ContentType> for FramedContentAuthData {
 }
 
 impl DeserializeBytesFor<ContentType> for FramedContentAuthData {
-    ghost names = { ⟦<(Always<VLBytes>, When<Is<3>, MAC>) as DeserializeBytesFor<ContentType>>⟧.names };
+    ghost names = { ⟦<Parts as DeserializeBytesFor<ContentType>>⟧.names };
 
     fn tls_deserialize_bytes_for<'a>(
         content_type: &ContentType,
         alloc: Global,
         whole: &'a [u8],
     ) -> Result<(FramedContentAuthData, &'a [u8]), Error> {
-        let (parts, rest) = <(Always<VLBytes>, When<Is<3>, MAC>)>::tls_deserialize_bytes_for(
-            content_type,
-            alloc,
-            whole,
-        )?;
+        let (parts, rest) = <Parts>::tls_deserialize_bytes_for(content_type, alloc, whole)?;
         let (
             Always(signature),
             When {

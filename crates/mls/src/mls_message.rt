@@ -7,6 +7,7 @@ use crate::WireFormatData;
 use mls_proposals::ProtocolVersionMls10;
 use std::alloc::Global;
 use tls_codec::{Deserialize, DeserializeBytes, Error, Lent, Serialize, Sink, Size, Source};
+use tls_codec_cases::append_as;
 
 /// `MLSMessage` (RFC 9420, section 6).
 #[derive(PartialEq, Eq, Debug, Clone, Drop)]
@@ -16,6 +17,8 @@ pub struct MLSMessage {
     /// `WireFormat wire_format;`
     pub wire_format: WireFormatData,
 }
+
+type Parts = (ProtocolVersionMls10, WireFormatData);
 
 impl Size for MLSMessage {
     ghost plain = { mls_message_plain };
@@ -35,17 +38,15 @@ impl Serialize for MLSMessage {
     }
 
     fn tls_serialize_into(&self, out: &mut Vec<u8>) -> Result<usize, Error> {
-        (Lent(&self.version), Lent(&self.wire_format)).tls_serialize_into(out)
+        append_as(self, &(Lent(&self.version), Lent(&self.wire_format)), out)
     }
 }
 
 impl Deserialize for MLSMessage {
-    ghost names = { ⟦<(ProtocolVersionMls10, WireFormatData) as Deserialize>⟧.names };
+    ghost names = { ⟦<Parts as Deserialize>⟧.names };
 
     fn tls_deserialize<R: Source>(alloc: Global, src: &mut R) -> Result<MLSMessage, Error> {
-        let (version, wire_format) = <(ProtocolVersionMls10, WireFormatData)>::tls_deserialize(
-            alloc, src,
-        )?;
+        let (version, wire_format) = <Parts>::tls_deserialize(alloc, src)?;
         Ok(MLSMessage {
             version,
             wire_format,
@@ -54,13 +55,10 @@ impl Deserialize for MLSMessage {
 }
 
 impl DeserializeBytes for MLSMessage {
-    ghost names = { ⟦<(ProtocolVersionMls10, WireFormatData) as DeserializeBytes>⟧.names };
+    ghost names = { ⟦<Parts as DeserializeBytes>⟧.names };
 
     fn tls_deserialize_bytes(alloc: Global, whole: &[u8]) -> Result<(MLSMessage, &[u8]), Error> {
-        let ((version, wire_format), rest) = <(
-            ProtocolVersionMls10,
-            WireFormatData,
-        )>::tls_deserialize_bytes(alloc, whole)?;
+        let ((version, wire_format), rest) = <Parts>::tls_deserialize_bytes(alloc, whole)?;
         Ok((
             MLSMessage {
                 version,

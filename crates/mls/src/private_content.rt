@@ -114,6 +114,33 @@ impl DeserializeBytesFor<ContentType> for PrivateContent {
     }
 }
 
+/// The case `application` with this content.
+impl From<VLBytes> for PrivateContent {
+    ghost from_gives = { λ content value. value ≡ PrivateContent.Application content };
+
+    fn from(content: VLBytes) -> PrivateContent {
+        PrivateContent::Application(content)
+    }
+}
+
+/// The case `proposal` with this content.
+impl From<Proposal> for PrivateContent {
+    ghost from_gives = { λ content value. value ≡ PrivateContent.Proposal content };
+
+    fn from(content: Proposal) -> PrivateContent {
+        PrivateContent::Proposal(content)
+    }
+}
+
+/// The case `commit` with this content.
+impl From<Commit> for PrivateContent {
+    ghost from_gives = { λ content value. value ≡ PrivateContent.Commit content };
+
+    fn from(content: Commit) -> PrivateContent {
+        PrivateContent::Commit(content)
+    }
+}
+
 /// Two are equal exactly where they are of one case, and each field is.
 pub fn is_compared_by_its_case()
     ensures tag { (x y : PrivateContent) →

@@ -5,6 +5,7 @@ ghost use Rattle.mls.specs.declared.private_content_aad.PrivateContentAAD.{Priva
 
 use crate::ContentType;
 use tls_codec::{Error, Lent2, Serialize, Sink, Size, VLBytes};
+use tls_codec_cases::append_as;
 
 /// `PrivateContentAAD` (RFC 9420, section 6.3.1).
 ///
@@ -47,11 +48,14 @@ impl Serialize for PrivateContentAAD<'_> {
     }
 
     fn tls_serialize_into(&self, out: &mut Vec<u8>) -> Result<usize, Error> {
-        (
-            Lent2(self.group_id, self.epoch),
-            Lent2(self.content_type, self.authenticated_data),
+        append_as(
+            self,
+            &(
+                Lent2(self.group_id, self.epoch),
+                Lent2(self.content_type, self.authenticated_data),
+            ),
+            out,
         )
-            .tls_serialize_into(out)
     }
 }
 

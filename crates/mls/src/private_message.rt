@@ -8,6 +8,7 @@ use std::alloc::Global;
 use tls_codec::{
     Deserialize, DeserializeBytes, Error, Lent3, Serialize, Sink, Size, Source, VLBytes,
 };
+use tls_codec_cases::append_as;
 
 /// `PrivateMessage` (RFC 9420, section 6.3).
 #[derive(PartialEq, Eq, Debug, Clone, Drop)]
@@ -25,6 +26,8 @@ pub struct PrivateMessage {
     /// `opaque ciphertext<V>;`
     pub ciphertext: VLBytes,
 }
+
+type Parts = ((VLBytes, u64, ContentType), (VLBytes, VLBytes, VLBytes));
 
 impl Size for PrivateMessage {
     ghost plain = { private_message_plain };
@@ -60,28 +63,29 @@ impl Serialize for PrivateMessage {
     }
 
     fn tls_serialize_into(&self, out: &mut Vec<u8>) -> Result<usize, Error> {
-        (
-            Lent3(&self.group_id, &self.epoch, &self.content_type),
-            Lent3(
-                &self.authenticated_data,
-                &self.encrypted_sender_data,
-                &self.ciphertext,
+        append_as(
+            self,
+            &(
+                Lent3(&self.group_id, &self.epoch, &self.content_type),
+                Lent3(
+                    &self.authenticated_data,
+                    &self.encrypted_sender_data,
+                    &self.ciphertext,
+                ),
             ),
+            out,
         )
-            .tls_serialize_into(out)
     }
 }
 
 impl Deserialize for PrivateMessage {
-    ghost names = { ⟦<((VLBytes, u64, ContentType), (VLBytes, VLBytes, VLBytes)) as Deserialize>⟧.names };
+    ghost names = { ⟦<Parts as Deserialize>⟧.names };
 
     fn tls_deserialize<R: Source>(alloc: Global, src: &mut R) -> Result<PrivateMessage, Error> {
         let (
             (group_id, epoch, content_type),
             (authenticated_data, encrypted_sender_data, ciphertext),
-        ) = <((VLBytes, u64, ContentType), (VLBytes, VLBytes, VLBytes))>::tls_deserialize(
-            alloc, src,
-        )?;
+        ) = <Parts>::tls_deserialize(alloc, src)?;
         Ok(PrivateMessage {
             group_id,
             epoch,
@@ -94,7 +98,7 @@ impl Deserialize for PrivateMessage {
 }
 
 impl DeserializeBytes for PrivateMessage {
-    ghost names = { ⟦<((VLBytes, u64, ContentType), (VLBytes, VLBytes, VLBytes)) as DeserializeBytes>⟧.names };
+    ghost names = { ⟦<Parts as DeserializeBytes>⟧.names };
 
     fn tls_deserialize_bytes(
         alloc: Global,
@@ -106,9 +110,7 @@ impl DeserializeBytes for PrivateMessage {
                 (authenticated_data, encrypted_sender_data, ciphertext),
             ),
             rest,
-        ) = <((VLBytes, u64, ContentType), (VLBytes, VLBytes, VLBytes))>::tls_deserialize_bytes(
-            alloc, whole,
-        )?;
+        ) = <Parts>::tls_deserialize_bytes(alloc, whole)?;
         Ok((
             PrivateMessage {
                 group_id,

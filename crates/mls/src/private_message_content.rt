@@ -21,6 +21,8 @@ pub struct PrivateMessageContent {
     pub auth: FramedContentAuthData,
 }
 
+type Parts = (PrivateContent, FramedContentAuthData);
+
 impl SizeFor<ContentType> for PrivateMessageContent {
     ghost plain = { private_message_content_plain };
 
@@ -53,36 +55,28 @@ impl SerializeFor<ContentType> for PrivateMessageContent {
 }
 
 impl DeserializeFor<ContentType> for PrivateMessageContent {
-    ghost names = { ⟦<(PrivateContent, FramedContentAuthData) as DeserializeFor<ContentType>>⟧.names };
+    ghost names = { ⟦<Parts as DeserializeFor<ContentType>>⟧.names };
 
     fn tls_deserialize_for<R: Source>(
         content_type: &ContentType,
         alloc: Global,
         src: &mut R,
     ) -> Result<PrivateMessageContent, Error> {
-        let parts = <(PrivateContent, FramedContentAuthData)>::tls_deserialize_for(
-            content_type,
-            alloc,
-            src,
-        )?;
+        let parts = <Parts>::tls_deserialize_for(content_type, alloc, src)?;
         let (content, auth) = parts;
         Ok(PrivateMessageContent { content, auth })
     }
 }
 
 impl DeserializeBytesFor<ContentType> for PrivateMessageContent {
-    ghost names = { ⟦<(PrivateContent, FramedContentAuthData) as DeserializeBytesFor<ContentType>>⟧.names };
+    ghost names = { ⟦<Parts as DeserializeBytesFor<ContentType>>⟧.names };
 
     fn tls_deserialize_bytes_for<'a>(
         content_type: &ContentType,
         alloc: Global,
         whole: &'a [u8],
     ) -> Result<(PrivateMessageContent, &'a [u8]), Error> {
-        let (parts, rest) = <(PrivateContent, FramedContentAuthData)>::tls_deserialize_bytes_for(
-            content_type,
-            alloc,
-            whole,
-        )?;
+        let (parts, rest) = <Parts>::tls_deserialize_bytes_for(content_type, alloc, whole)?;
         let (content, auth) = parts;
         Ok((PrivateMessageContent { content, auth }, rest))
     }

@@ -1,5 +1,6 @@
 //! [`Sender`].
 ghost use Rattle.std.specs.Prelude.{◌≡◌, IsTrue, true};
+ghost use Rattle.mls.specs.SenderType.{sender_type_code};
 ghost use Rattle.tls_codec.specs.OwnMessages.{no_variant_names, no_variant_source_names, nothing_names, nothing_source_names, tagged_names, tagged_source_names, variant_names, variant_source_names};
 ghost use Rattle.mls.specs.Sender.{sender_format, sender_meets, sender_plain, sender_tag};
 ghost use Rattle.mls.specs.declared.sender.Sender.{Sender};
@@ -128,6 +129,15 @@ impl Holds<SenderType> for Sender {
     ghost held = { sender_sender_type };
 
     fn held(&self) -> SenderType {
+        self.sender_type()
+    }
+}
+
+impl Sender {
+    /// The tag of its case.
+    pub fn sender_type(&self) -> SenderType
+        ensures { sender_type_code result ≡ sender_tag self.now }
+    {
         match self {
             Sender::Member(_) => SenderType::Member,
             Sender::External(_) => SenderType::External,

@@ -5,6 +5,7 @@ ghost use Rattle.mls.specs.declared.sender_data.SenderData.{SenderData};
 
 use std::alloc::Global;
 use tls_codec::{Deserialize, DeserializeBytes, Error, Lent, Serialize, Sink, Size, Source};
+use tls_codec_cases::append_as;
 
 /// `SenderData` (RFC 9420, section 6.3.2).
 #[derive(PartialEq, Eq, Debug, Clone, Drop)]
@@ -16,6 +17,8 @@ pub struct SenderData {
     /// `opaque reuse_guard[4];`
     pub reuse_guard: [u8; 4],
 }
+
+type Parts = (u32, u32, [u8; 4]);
 
 impl Size for SenderData {
     ghost plain = { sender_data_plain };
@@ -45,22 +48,23 @@ impl Serialize for SenderData {
     }
 
     fn tls_serialize_into(&self, out: &mut Vec<u8>) -> Result<usize, Error> {
-        (
-            Lent(&self.leaf_index),
-            Lent(&self.generation),
-            Lent(&self.reuse_guard),
+        append_as(
+            self,
+            &(
+                Lent(&self.leaf_index),
+                Lent(&self.generation),
+                Lent(&self.reuse_guard),
+            ),
+            out,
         )
-            .tls_serialize_into(out)
     }
 }
 
 impl Deserialize for SenderData {
-    ghost names = { ⟦<(u32, u32, [u8; 4]) as Deserialize>⟧.names };
+    ghost names = { ⟦<Parts as Deserialize>⟧.names };
 
     fn tls_deserialize<R: Source>(alloc: Global, src: &mut R) -> Result<SenderData, Error> {
-        let (leaf_index, generation, reuse_guard) = <(u32, u32, [u8; 4])>::tls_deserialize(
-            alloc, src,
-        )?;
+        let (leaf_index, generation, reuse_guard) = <Parts>::tls_deserialize(alloc, src)?;
         Ok(SenderData {
             leaf_index,
             generation,
@@ -70,14 +74,12 @@ impl Deserialize for SenderData {
 }
 
 impl DeserializeBytes for SenderData {
-    ghost names = { ⟦<(u32, u32, [u8; 4]) as DeserializeBytes>⟧.names };
+    ghost names = { ⟦<Parts as DeserializeBytes>⟧.names };
 
     fn tls_deserialize_bytes(alloc: Global, whole: &[u8]) -> Result<(SenderData, &[u8]), Error> {
-        let ((leaf_index, generation, reuse_guard), rest) = <(
-            u32,
-            u32,
-            [u8; 4],
-        )>::tls_deserialize_bytes(alloc, whole)?;
+        let ((leaf_index, generation, reuse_guard), rest) = <Parts>::tls_deserialize_bytes(
+            alloc, whole,
+        )?;
         Ok((
             SenderData {
                 leaf_index,

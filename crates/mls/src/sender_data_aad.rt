@@ -5,6 +5,7 @@ ghost use Rattle.mls.specs.declared.sender_data_aad.SenderDataAAD.{SenderDataAAD
 
 use crate::ContentType;
 use tls_codec::{Error, Lent, Serialize, Sink, Size, VLBytes};
+use tls_codec_cases::append_as;
 
 /// `SenderDataAAD` (RFC 9420, section 6.3.2).
 ///
@@ -47,12 +48,15 @@ impl Serialize for SenderDataAAD<'_> {
     }
 
     fn tls_serialize_into(&self, out: &mut Vec<u8>) -> Result<usize, Error> {
-        (
-            Lent(self.group_id),
-            Lent(self.epoch),
-            Lent(self.content_type),
+        append_as(
+            self,
+            &(
+                Lent(self.group_id),
+                Lent(self.epoch),
+                Lent(self.content_type),
+            ),
+            out,
         )
-            .tls_serialize_into(out)
     }
 }
 

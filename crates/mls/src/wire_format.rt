@@ -1,7 +1,8 @@
 //! [`WireFormat`].
 ghost use Rattle.std.specs.Prelude.{◌≡◌, Some, nat_eq, option_map};
 ghost use Rattle.std.specs.Ordering.{nat_cmp};
-ghost use Rattle.mls.specs.WireFormat.{wire_format_format, wire_format_meets, wire_format_name, wire_format_plain, wire_format_text};
+ghost use Rattle.tls_codec.specs.Registries.{listed_name, name_or_number};
+ghost use Rattle.mls.specs.WireFormat.{wire_format_format, wire_format_meets, wire_format_names, wire_format_plain};
 ghost use Rattle.mls.specs.declared.wire_format.WireFormat.{WireFormat};
 
 use std::alloc::Global;
@@ -30,7 +31,7 @@ impl WireFormat {
 
     /// Its name in the text, if it has one.
     pub fn name(&self) -> Option<&'static str>
-        ensures { option_map (λ name. name.now) result ≡ wire_format_name self.now.0 }
+        ensures { option_map (λ name. name.now) result ≡ listed_name wire_format_names self.now.0 }
     {
         match self.0 {
             1 => Some("mls_public_message"),
@@ -45,9 +46,9 @@ impl WireFormat {
 
 /// Its name, or else its number in hexadecimal, two digits a byte. A width pads names alone.
 impl fmt::Display for WireFormat {
-    ghost output = { λ v. Some (wire_format_text v.0) };
+    ghost output = { λ v. Some (name_or_number wire_format_names 4 v.0) };
 
-    #[tactic(auto, using(crate::specs::WireFormat::wire_format_printed))]
+    #[tactic(auto, using(tls_codec::specs::Registries::hexadecimal_digits))]
     fn fmt<W: fmt::Write>(&self, f: &mut fmt::Formatter<W>) -> fmt::Result {
         match self.name() {
             Some(name) => f.pad(name),

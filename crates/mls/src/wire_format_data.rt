@@ -4,7 +4,7 @@ ghost use Rattle.tls_codec.specs.OwnMessages.{no_variant_names, no_variant_sourc
 ghost use Rattle.mls.specs.WireFormatData.{wire_format_data_format, wire_format_data_meets, wire_format_data_plain, wire_format_data_tag};
 ghost use Rattle.mls.specs.declared.wire_format_data.WireFormatData.{WireFormatData};
 
-use crate::{PrivateMessage, PublicMessage};
+use crate::{PrivateMessage, PublicMessage, WireFormat};
 use mls_leaf::KeyPackage;
 use mls_proposals::{GroupInfo, Welcome};
 use std::alloc::Global;
@@ -195,6 +195,66 @@ impl DeserializeBytes for WireFormatData {
             }
             _ => Err(unknown_value(u64::from(tag))),
         }
+    }
+}
+
+impl WireFormatData {
+    /// The tag of its case.
+    pub fn wire_format(&self) -> WireFormat
+        ensures { result.0 ≡ wire_format_data_tag self.now }
+    {
+        match self {
+            WireFormatData::MlsPublicMessage(_) => WireFormat(1),
+            WireFormatData::MlsPrivateMessage(_) => WireFormat(2),
+            WireFormatData::MlsWelcome(_) => WireFormat(3),
+            WireFormatData::MlsGroupInfo(_) => WireFormat(4),
+            WireFormatData::MlsKeyPackage(_) => WireFormat(5),
+        }
+    }
+}
+
+/// The case `mls_public_message` with this content.
+impl From<PublicMessage> for WireFormatData {
+    ghost from_gives = { λ content value. value ≡ WireFormatData.MlsPublicMessage content };
+
+    fn from(content: PublicMessage) -> WireFormatData {
+        WireFormatData::MlsPublicMessage(content)
+    }
+}
+
+/// The case `mls_private_message` with this content.
+impl From<PrivateMessage> for WireFormatData {
+    ghost from_gives = { λ content value. value ≡ WireFormatData.MlsPrivateMessage content };
+
+    fn from(content: PrivateMessage) -> WireFormatData {
+        WireFormatData::MlsPrivateMessage(content)
+    }
+}
+
+/// The case `mls_welcome` with this content.
+impl From<Welcome> for WireFormatData {
+    ghost from_gives = { λ content value. value ≡ WireFormatData.MlsWelcome content };
+
+    fn from(content: Welcome) -> WireFormatData {
+        WireFormatData::MlsWelcome(content)
+    }
+}
+
+/// The case `mls_group_info` with this content.
+impl From<GroupInfo> for WireFormatData {
+    ghost from_gives = { λ content value. value ≡ WireFormatData.MlsGroupInfo content };
+
+    fn from(content: GroupInfo) -> WireFormatData {
+        WireFormatData::MlsGroupInfo(content)
+    }
+}
+
+/// The case `mls_key_package` with this content.
+impl From<KeyPackage> for WireFormatData {
+    ghost from_gives = { λ content value. value ≡ WireFormatData.MlsKeyPackage content };
+
+    fn from(content: KeyPackage) -> WireFormatData {
+        WireFormatData::MlsKeyPackage(content)
     }
 }
 

@@ -8,6 +8,7 @@ use std::alloc::Global;
 use tls_codec::{
     Deserialize, DeserializeBytes, Error, Lent2, Lent3, Serialize, Sink, Size, Source,
 };
+use tls_codec_cases::append_as;
 
 /// `Capabilities` (RFC 9420, section 7.2).
 #[derive(PartialEq, Eq, Debug, Clone, Drop)]
@@ -23,6 +24,11 @@ pub struct Capabilities {
     /// `CredentialType credentials<V>;`
     pub credentials: Vec<CredentialType>,
 }
+
+type Parts = (
+    (Vec<ProtocolVersion>, Vec<CipherSuite>, Vec<ExtensionType>),
+    (Vec<ProposalType>, Vec<CredentialType>),
+);
 
 impl Size for Capabilities {
     ghost plain = { capabilities_plain };
@@ -50,23 +56,23 @@ impl Serialize for Capabilities {
     }
 
     fn tls_serialize_into(&self, out: &mut Vec<u8>) -> Result<usize, Error> {
-        (
-            Lent3(&self.versions, &self.cipher_suites, &self.extensions),
-            Lent2(&self.proposals, &self.credentials),
+        append_as(
+            self,
+            &(
+                Lent3(&self.versions, &self.cipher_suites, &self.extensions),
+                Lent2(&self.proposals, &self.credentials),
+            ),
+            out,
         )
-            .tls_serialize_into(out)
     }
 }
 
 impl Deserialize for Capabilities {
-    ghost names = { ⟦<((Vec<ProtocolVersion>, Vec<CipherSuite>, Vec<ExtensionType>),
-        (Vec<ProposalType>, Vec<CredentialType>)) as Deserialize>⟧.names };
+    ghost names = { ⟦<Parts as Deserialize>⟧.names };
 
     fn tls_deserialize<R: Source>(alloc: Global, src: &mut R) -> Result<Capabilities, Error> {
-        let ((versions, cipher_suites, extensions), (proposals, credentials)) = <(
-            (Vec<ProtocolVersion>, Vec<CipherSuite>, Vec<ExtensionType>),
-            (Vec<ProposalType>, Vec<CredentialType>),
-        )>::tls_deserialize(alloc, src)?;
+        let ((versions, cipher_suites, extensions), (proposals, credentials)) =
+            <Parts>::tls_deserialize(alloc, src)?;
         Ok(Capabilities {
             versions,
             cipher_suites,
@@ -78,14 +84,11 @@ impl Deserialize for Capabilities {
 }
 
 impl DeserializeBytes for Capabilities {
-    ghost names = { ⟦<((Vec<ProtocolVersion>, Vec<CipherSuite>, Vec<ExtensionType>),
-        (Vec<ProposalType>, Vec<CredentialType>)) as DeserializeBytes>⟧.names };
+    ghost names = { ⟦<Parts as DeserializeBytes>⟧.names };
 
     fn tls_deserialize_bytes(alloc: Global, whole: &[u8]) -> Result<(Capabilities, &[u8]), Error> {
-        let (((versions, cipher_suites, extensions), (proposals, credentials)), rest) = <(
-            (Vec<ProtocolVersion>, Vec<CipherSuite>, Vec<ExtensionType>),
-            (Vec<ProposalType>, Vec<CredentialType>),
-        )>::tls_deserialize_bytes(alloc, whole)?;
+        let (((versions, cipher_suites, extensions), (proposals, credentials)), rest) =
+            <Parts>::tls_deserialize_bytes(alloc, whole)?;
         Ok((
             Capabilities {
                 versions,

@@ -5,6 +5,7 @@ ghost use Rattle.mls_leaf.specs.declared.certificate.Certificate.{Certificate};
 
 use std::alloc::Global;
 use tls_codec::{Deserialize, DeserializeBytes, Error, Serialize, Sink, Size, Source, VLBytes};
+use tls_codec_cases::append_as;
 
 /// `Certificate` (RFC 9420, section 5.3).
 #[derive(PartialEq, Eq, Debug, Clone, Drop)]
@@ -31,7 +32,7 @@ impl Serialize for Certificate {
     }
 
     fn tls_serialize_into(&self, out: &mut Vec<u8>) -> Result<usize, Error> {
-        self.cert_data.tls_serialize_into(out)
+        append_as(self, &self.cert_data, out)
     }
 }
 

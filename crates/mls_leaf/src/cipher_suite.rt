@@ -1,7 +1,8 @@
 //! [`CipherSuite`].
 ghost use Rattle.std.specs.Prelude.{◌≡◌, Some, nat_eq, option_map};
 ghost use Rattle.std.specs.Ordering.{nat_cmp};
-ghost use Rattle.mls_leaf.specs.CipherSuite.{cipher_suite_format, cipher_suite_meets, cipher_suite_name, cipher_suite_plain, cipher_suite_text};
+ghost use Rattle.tls_codec.specs.Registries.{listed_name, name_or_number};
+ghost use Rattle.mls_leaf.specs.CipherSuite.{cipher_suite_format, cipher_suite_meets, cipher_suite_names, cipher_suite_plain};
 ghost use Rattle.mls_leaf.specs.declared.cipher_suite.CipherSuite.{CipherSuite};
 
 use std::alloc::Global;
@@ -36,7 +37,7 @@ impl CipherSuite {
 
     /// Its name in the text, if it has one.
     pub fn name(&self) -> Option<&'static str>
-        ensures { option_map (λ name. name.now) result ≡ cipher_suite_name self.now.0 }
+        ensures { option_map (λ name. name.now) result ≡ listed_name cipher_suite_names self.now.0 }
     {
         match self.0 {
             1 => Some("MLS_128_DHKEMX25519_AES128GCM_SHA256_Ed25519"),
@@ -53,9 +54,9 @@ impl CipherSuite {
 
 /// Its name, or else its number in hexadecimal, two digits a byte. A width pads names alone.
 impl fmt::Display for CipherSuite {
-    ghost output = { λ v. Some (cipher_suite_text v.0) };
+    ghost output = { λ v. Some (name_or_number cipher_suite_names 4 v.0) };
 
-    #[tactic(auto, using(crate::specs::CipherSuite::cipher_suite_printed))]
+    #[tactic(auto, using(tls_codec::specs::Registries::hexadecimal_digits))]
     fn fmt<W: fmt::Write>(&self, f: &mut fmt::Formatter<W>) -> fmt::Result {
         match self.name() {
             Some(name) => f.pad(name),

@@ -4,7 +4,7 @@ ghost use Rattle.tls_codec.specs.OwnMessages.{no_variant_names, no_variant_sourc
 ghost use Rattle.mls_leaf.specs.Credential.{credential_format, credential_meets, credential_plain, credential_tag};
 ghost use Rattle.mls_leaf.specs.declared.credential.Credential.{Credential};
 
-use crate::Certificate;
+use crate::{Certificate, CredentialType};
 use std::alloc::Global;
 use tls_codec::{
     Deserialize, DeserializeBytes, Error, Lent, Serialize, Sink, Size, Source, VLBytes,
@@ -97,6 +97,36 @@ impl DeserializeBytes for Credential {
             }
             _ => Err(unknown_value(u64::from(tag))),
         }
+    }
+}
+
+impl Credential {
+    /// The tag of its case.
+    pub fn credential_type(&self) -> CredentialType
+        ensures { result.0 ≡ credential_tag self.now }
+    {
+        match self {
+            Credential::Basic(_) => CredentialType(1),
+            Credential::X509(_) => CredentialType(2),
+        }
+    }
+}
+
+/// The case `basic` with this content.
+impl From<VLBytes> for Credential {
+    ghost from_gives = { λ content value. value ≡ Credential.Basic content };
+
+    fn from(content: VLBytes) -> Credential {
+        Credential::Basic(content)
+    }
+}
+
+/// The case `x509` with this content.
+impl From<Vec<Certificate>> for Credential {
+    ghost from_gives = { λ content value. value ≡ Credential.X509 content };
+
+    fn from(content: Vec<Certificate>) -> Credential {
+        Credential::X509(content)
     }
 }
 

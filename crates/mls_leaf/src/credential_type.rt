@@ -1,7 +1,8 @@
 //! [`CredentialType`].
 ghost use Rattle.std.specs.Prelude.{◌≡◌, Some, nat_eq, option_map};
 ghost use Rattle.std.specs.Ordering.{nat_cmp};
-ghost use Rattle.mls_leaf.specs.CredentialType.{credential_type_format, credential_type_meets, credential_type_name, credential_type_plain, credential_type_text};
+ghost use Rattle.tls_codec.specs.Registries.{listed_name, name_or_number};
+ghost use Rattle.mls_leaf.specs.CredentialType.{credential_type_format, credential_type_meets, credential_type_names, credential_type_plain};
 ghost use Rattle.mls_leaf.specs.declared.credential_type.CredentialType.{CredentialType};
 
 use std::alloc::Global;
@@ -21,7 +22,8 @@ impl CredentialType {
 
     /// Its name in the text, if it has one.
     pub fn name(&self) -> Option<&'static str>
-        ensures { option_map (λ name. name.now) result ≡ credential_type_name self.now.0 }
+        ensures { option_map (λ name. name.now) result
+            ≡ listed_name credential_type_names self.now.0 }
     {
         match self.0 {
             1 => Some("basic"),
@@ -33,9 +35,9 @@ impl CredentialType {
 
 /// Its name, or else its number in hexadecimal, two digits a byte. A width pads names alone.
 impl fmt::Display for CredentialType {
-    ghost output = { λ v. Some (credential_type_text v.0) };
+    ghost output = { λ v. Some (name_or_number credential_type_names 4 v.0) };
 
-    #[tactic(auto, using(crate::specs::CredentialType::credential_type_printed))]
+    #[tactic(auto, using(tls_codec::specs::Registries::hexadecimal_digits))]
     fn fmt<W: fmt::Write>(&self, f: &mut fmt::Formatter<W>) -> fmt::Result {
         match self.name() {
             Some(name) => f.pad(name),

@@ -4,6 +4,7 @@ ghost use Rattle.mls_leaf.specs.EncryptContext.{encrypt_context_format, encrypt_
 ghost use Rattle.mls_leaf.specs.declared.encrypt_context.EncryptContext.{EncryptContext};
 
 use tls_codec::{Error, Lent, Serialize, Sink, Size, VLBytes};
+use tls_codec_cases::append_as;
 
 /// `EncryptContext` (RFC 9420, section 5.1.3).
 ///
@@ -34,7 +35,7 @@ impl Serialize for EncryptContext<'_> {
     }
 
     fn tls_serialize_into(&self, out: &mut Vec<u8>) -> Result<usize, Error> {
-        (Lent(self.label), Lent(self.context)).tls_serialize_into(out)
+        append_as(self, &(Lent(self.label), Lent(self.context)), out)
     }
 }
 

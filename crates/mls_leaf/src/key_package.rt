@@ -8,6 +8,7 @@ use std::alloc::Global;
 use tls_codec::{
     Deserialize, DeserializeBytes, Error, Lent3, Serialize, Sink, Size, Source, VLBytes,
 };
+use tls_codec_cases::append_as;
 
 /// `KeyPackage` (RFC 9420, section 10).
 #[derive(PartialEq, Eq, Debug, Clone, Drop)]
@@ -26,6 +27,11 @@ pub struct KeyPackage {
     /// SignWithLabel(., "KeyPackageTBS", KeyPackageTBS)
     pub signature: VLBytes,
 }
+
+type Parts = (
+    (ProtocolVersion, CipherSuite, HPKEPublicKey),
+    (LeafNode, Vec<Extension>, VLBytes),
+);
 
 impl Size for KeyPackage {
     ghost plain = { key_package_plain };
@@ -53,23 +59,23 @@ impl Serialize for KeyPackage {
     }
 
     fn tls_serialize_into(&self, out: &mut Vec<u8>) -> Result<usize, Error> {
-        (
-            Lent3(&self.version, &self.cipher_suite, &self.init_key),
-            Lent3(&self.leaf_node, &self.extensions, &self.signature),
+        append_as(
+            self,
+            &(
+                Lent3(&self.version, &self.cipher_suite, &self.init_key),
+                Lent3(&self.leaf_node, &self.extensions, &self.signature),
+            ),
+            out,
         )
-            .tls_serialize_into(out)
     }
 }
 
 impl Deserialize for KeyPackage {
-    ghost names = { ⟦<((ProtocolVersion, CipherSuite, HPKEPublicKey),
-        (LeafNode, Vec<Extension>, VLBytes)) as Deserialize>⟧.names };
+    ghost names = { ⟦<Parts as Deserialize>⟧.names };
 
     fn tls_deserialize<R: Source>(alloc: Global, src: &mut R) -> Result<KeyPackage, Error> {
-        let ((version, cipher_suite, init_key), (leaf_node, extensions, signature)) = <(
-            (ProtocolVersion, CipherSuite, HPKEPublicKey),
-            (LeafNode, Vec<Extension>, VLBytes),
-        )>::tls_deserialize(alloc, src)?;
+        let ((version, cipher_suite, init_key), (leaf_node, extensions, signature)) =
+            <Parts>::tls_deserialize(alloc, src)?;
         Ok(KeyPackage {
             version,
             cipher_suite,
@@ -82,14 +88,11 @@ impl Deserialize for KeyPackage {
 }
 
 impl DeserializeBytes for KeyPackage {
-    ghost names = { ⟦<((ProtocolVersion, CipherSuite, HPKEPublicKey),
-        (LeafNode, Vec<Extension>, VLBytes)) as DeserializeBytes>⟧.names };
+    ghost names = { ⟦<Parts as DeserializeBytes>⟧.names };
 
     fn tls_deserialize_bytes(alloc: Global, whole: &[u8]) -> Result<(KeyPackage, &[u8]), Error> {
-        let (((version, cipher_suite, init_key), (leaf_node, extensions, signature)), rest) = <(
-            (ProtocolVersion, CipherSuite, HPKEPublicKey),
-            (LeafNode, Vec<Extension>, VLBytes),
-        )>::tls_deserialize_bytes(alloc, whole)?;
+        let (((version, cipher_suite, init_key), (leaf_node, extensions, signature)), rest) =
+            <Parts>::tls_deserialize_bytes(alloc, whole)?;
         Ok((
             KeyPackage {
                 version,

@@ -3,8 +3,9 @@ ghost use Rattle.std.specs.Prelude.{◌≡◌, ◌&&◌};
 ghost use Rattle.mls_leaf.specs.KeyPackageTBS.{key_package_tbs_format, key_package_tbs_meets, key_package_tbs_plain};
 ghost use Rattle.mls_leaf.specs.declared.key_package_tbs.KeyPackageTBS.{KeyPackageTBS};
 
-use crate::{CipherSuite, Extension, HPKEPublicKey, LeafNode, ProtocolVersion};
+use crate::{CipherSuite, Extension, HPKEPublicKey, KeyPackage, LeafNode, ProtocolVersion};
 use tls_codec::{Error, Lent2, Lent3, Serialize, Sink, Size};
+use tls_codec_cases::append_as;
 
 /// `KeyPackageTBS` (RFC 9420, section 10).
 ///
@@ -49,11 +50,34 @@ impl Serialize for KeyPackageTBS<'_> {
     }
 
     fn tls_serialize_into(&self, out: &mut Vec<u8>) -> Result<usize, Error> {
-        (
-            Lent3(self.version, self.cipher_suite, self.init_key),
-            Lent2(self.leaf_node, self.extensions),
+        append_as(
+            self,
+            &(
+                Lent3(self.version, self.cipher_suite, self.init_key),
+                Lent2(self.leaf_node, self.extensions),
+            ),
+            out,
         )
-            .tls_serialize_into(out)
+    }
+}
+
+/// What is signed of a `KeyPackage`.
+impl<'a> From<&'a KeyPackage> for KeyPackageTBS<'a> {
+    ghost from_gives = { λ whole lent.
+        (lent.version.now ≡ whole.now.version)
+        × (lent.cipher_suite.now ≡ whole.now.cipher_suite)
+        × (lent.init_key.now ≡ whole.now.init_key)
+        × (lent.leaf_node.now ≡ whole.now.leaf_node)
+        × (lent.extensions.now ≡ whole.now.extensions) };
+
+    fn from(whole: &'a KeyPackage) -> KeyPackageTBS<'a> {
+        KeyPackageTBS {
+            version: &whole.version,
+            cipher_suite: &whole.cipher_suite,
+            init_key: &whole.init_key,
+            leaf_node: &whole.leaf_node,
+            extensions: &whole.extensions,
+        }
     }
 }
 

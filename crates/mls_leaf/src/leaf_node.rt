@@ -10,6 +10,7 @@ use std::alloc::Global;
 use tls_codec::{
     Deserialize, DeserializeBytes, Error, Lent2, Lent3, Serialize, Sink, Size, Source, VLBytes,
 };
+use tls_codec_cases::append_as;
 
 /// `LeafNode` (RFC 9420, section 7.2).
 #[derive(PartialEq, Eq, Debug, Clone, Drop)]
@@ -30,6 +31,12 @@ pub struct LeafNode {
     /// SignWithLabel(., "LeafNodeTBS", LeafNodeTBS)
     pub signature: VLBytes,
 }
+
+type Parts = (
+    (HPKEPublicKey, SignaturePublicKey, Credential),
+    (Capabilities, LeafNodeOrigin),
+    (Vec<Extension>, VLBytes),
+);
 
 impl Size for LeafNode {
     ghost plain = { leaf_node_plain };
@@ -59,29 +66,27 @@ impl Serialize for LeafNode {
     }
 
     fn tls_serialize_into(&self, out: &mut Vec<u8>) -> Result<usize, Error> {
-        (
-            Lent3(&self.encryption_key, &self.signature_key, &self.credential),
-            Lent2(&self.capabilities, &self.leaf_node_source),
-            Lent2(&self.extensions, &self.signature),
+        append_as(
+            self,
+            &(
+                Lent3(&self.encryption_key, &self.signature_key, &self.credential),
+                Lent2(&self.capabilities, &self.leaf_node_source),
+                Lent2(&self.extensions, &self.signature),
+            ),
+            out,
         )
-            .tls_serialize_into(out)
     }
 }
 
 impl Deserialize for LeafNode {
-    ghost names = { ⟦<((HPKEPublicKey, SignaturePublicKey, Credential),
-        (Capabilities, LeafNodeOrigin), (Vec<Extension>, VLBytes)) as Deserialize>⟧.names };
+    ghost names = { ⟦<Parts as Deserialize>⟧.names };
 
     fn tls_deserialize<R: Source>(alloc: Global, src: &mut R) -> Result<LeafNode, Error> {
         let (
             (encryption_key, signature_key, credential),
             (capabilities, leaf_node_source),
             (extensions, signature),
-        ) = <(
-            (HPKEPublicKey, SignaturePublicKey, Credential),
-            (Capabilities, LeafNodeOrigin),
-            (Vec<Extension>, VLBytes),
-        )>::tls_deserialize(alloc, src)?;
+        ) = <Parts>::tls_deserialize(alloc, src)?;
         Ok(LeafNode {
             encryption_key,
             signature_key,
@@ -95,8 +100,7 @@ impl Deserialize for LeafNode {
 }
 
 impl DeserializeBytes for LeafNode {
-    ghost names = { ⟦<((HPKEPublicKey, SignaturePublicKey, Credential),
-        (Capabilities, LeafNodeOrigin), (Vec<Extension>, VLBytes)) as DeserializeBytes>⟧.names };
+    ghost names = { ⟦<Parts as DeserializeBytes>⟧.names };
 
     fn tls_deserialize_bytes(alloc: Global, whole: &[u8]) -> Result<(LeafNode, &[u8]), Error> {
         let (
@@ -106,11 +110,7 @@ impl DeserializeBytes for LeafNode {
                 (extensions, signature),
             ),
             rest,
-        ) = <(
-            (HPKEPublicKey, SignaturePublicKey, Credential),
-            (Capabilities, LeafNodeOrigin),
-            (Vec<Extension>, VLBytes),
-        )>::tls_deserialize_bytes(alloc, whole)?;
+        ) = <Parts>::tls_deserialize_bytes(alloc, whole)?;
         Ok((
             LeafNode {
                 encryption_key,

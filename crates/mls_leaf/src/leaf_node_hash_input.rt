@@ -6,6 +6,7 @@ ghost use Rattle.mls_leaf.specs.declared.leaf_node_hash_input.LeafNodeHashInput.
 use crate::LeafNode;
 use std::alloc::Global;
 use tls_codec::{Deserialize, DeserializeBytes, Error, Lent, Serialize, Sink, Size, Source};
+use tls_codec_cases::append_as;
 
 /// `LeafNodeHashInput` (RFC 9420, section 7.8).
 #[derive(PartialEq, Eq, Debug, Clone, Drop)]
@@ -15,6 +16,8 @@ pub struct LeafNodeHashInput {
     /// `optional<LeafNode> leaf_node;`
     pub leaf_node: Option<LeafNode>,
 }
+
+type Parts = (u32, Option<LeafNode>);
 
 impl Size for LeafNodeHashInput {
     ghost plain = { leaf_node_hash_input_plain };
@@ -34,15 +37,15 @@ impl Serialize for LeafNodeHashInput {
     }
 
     fn tls_serialize_into(&self, out: &mut Vec<u8>) -> Result<usize, Error> {
-        (Lent(&self.leaf_index), Lent(&self.leaf_node)).tls_serialize_into(out)
+        append_as(self, &(Lent(&self.leaf_index), Lent(&self.leaf_node)), out)
     }
 }
 
 impl Deserialize for LeafNodeHashInput {
-    ghost names = { ⟦<(u32, Option<LeafNode>) as Deserialize>⟧.names };
+    ghost names = { ⟦<Parts as Deserialize>⟧.names };
 
     fn tls_deserialize<R: Source>(alloc: Global, src: &mut R) -> Result<LeafNodeHashInput, Error> {
-        let (leaf_index, leaf_node) = <(u32, Option<LeafNode>)>::tls_deserialize(alloc, src)?;
+        let (leaf_index, leaf_node) = <Parts>::tls_deserialize(alloc, src)?;
         Ok(LeafNodeHashInput {
             leaf_index,
             leaf_node,
@@ -51,15 +54,13 @@ impl Deserialize for LeafNodeHashInput {
 }
 
 impl DeserializeBytes for LeafNodeHashInput {
-    ghost names = { ⟦<(u32, Option<LeafNode>) as DeserializeBytes>⟧.names };
+    ghost names = { ⟦<Parts as DeserializeBytes>⟧.names };
 
     fn tls_deserialize_bytes(
         alloc: Global,
         whole: &[u8],
     ) -> Result<(LeafNodeHashInput, &[u8]), Error> {
-        let ((leaf_index, leaf_node), rest) = <(u32, Option<LeafNode>)>::tls_deserialize_bytes(
-            alloc, whole,
-        )?;
+        let ((leaf_index, leaf_node), rest) = <Parts>::tls_deserialize_bytes(alloc, whole)?;
         Ok((
             LeafNodeHashInput {
                 leaf_index,

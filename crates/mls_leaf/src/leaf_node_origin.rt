@@ -126,6 +126,37 @@ impl DeserializeBytes for LeafNodeOrigin {
     }
 }
 
+impl LeafNodeOrigin {
+    /// The tag of its case.
+    pub fn leaf_node_source(&self) -> u8
+        ensures { result ≡ leaf_node_origin_tag self.now }
+    {
+        match self {
+            LeafNodeOrigin::KeyPackage(_) => 1,
+            LeafNodeOrigin::Update => 2,
+            LeafNodeOrigin::Commit(_) => 3,
+        }
+    }
+}
+
+/// The case `key_package` with this content.
+impl From<Lifetime> for LeafNodeOrigin {
+    ghost from_gives = { λ content value. value ≡ LeafNodeOrigin.KeyPackage content };
+
+    fn from(content: Lifetime) -> LeafNodeOrigin {
+        LeafNodeOrigin::KeyPackage(content)
+    }
+}
+
+/// The case `commit` with this content.
+impl From<VLBytes> for LeafNodeOrigin {
+    ghost from_gives = { λ content value. value ≡ LeafNodeOrigin.Commit content };
+
+    fn from(content: VLBytes) -> LeafNodeOrigin {
+        LeafNodeOrigin::Commit(content)
+    }
+}
+
 /// Two are equal exactly where they are of one case, and each field is.
 pub fn is_compared_by_its_case()
     ensures tag { (x y : LeafNodeOrigin) →

@@ -5,6 +5,7 @@ ghost use Rattle.mls_leaf.specs.declared.leaf_node_tbs.LeafNodeTBS.{LeafNodeTBS}
 
 use crate::{Capabilities, Credential, HPKEPublicKey, LeafNodeTBSOrigin, SignaturePublicKey};
 use tls_codec::{Error, Lent4, Serialize, Sink, Size};
+use tls_codec_cases::append_as;
 
 /// `LeafNodeTBS` (RFC 9420, section 7.2).
 ///
@@ -62,16 +63,19 @@ impl Serialize for LeafNodeTBS<'_> {
     }
 
     fn tls_serialize_into(&self, out: &mut Vec<u8>) -> Result<usize, Error> {
-        (
-            Lent4(
-                self.encryption_key,
-                self.signature_key,
-                self.credential,
-                self.capabilities,
+        append_as(
+            self,
+            &(
+                Lent4(
+                    self.encryption_key,
+                    self.signature_key,
+                    self.credential,
+                    self.capabilities,
+                ),
+                self.leaf_node_source,
             ),
-            self.leaf_node_source,
+            out,
         )
-            .tls_serialize_into(out)
     }
 }
 

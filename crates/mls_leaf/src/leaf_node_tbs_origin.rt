@@ -132,6 +132,19 @@ impl Serialize for LeafNodeTBSOrigin<'_> {
     }
 }
 
+impl LeafNodeTBSOrigin<'_> {
+    /// The tag of its case.
+    pub fn leaf_node_source(&self) -> u8
+        ensures { result ≡ leaf_node_tbs_origin_tag self.now }
+    {
+        match self {
+            LeafNodeTBSOrigin::KeyPackage { .. } => 1,
+            LeafNodeTBSOrigin::Update { .. } => 2,
+            LeafNodeTBSOrigin::Commit { .. } => 3,
+        }
+    }
+}
+
 /// Two are equal exactly where they are of one case, and each field is.
 pub fn is_compared_by_its_case()
     ensures tag { (x y : LeafNodeTBSOrigin) →

@@ -5,6 +5,7 @@ ghost use Rattle.mls_leaf.specs.declared.lifetime.Lifetime.{Lifetime};
 
 use std::alloc::Global;
 use tls_codec::{Deserialize, DeserializeBytes, Error, Lent, Serialize, Sink, Size, Source};
+use tls_codec_cases::append_as;
 
 /// `Lifetime` (RFC 9420, section 7.2).
 #[derive(PartialEq, Eq, Debug, Clone, Drop)]
@@ -14,6 +15,8 @@ pub struct Lifetime {
     /// `uint64 not_after;`
     pub not_after: u64,
 }
+
+type Parts = (u64, u64);
 
 impl Size for Lifetime {
     ghost plain = { lifetime_plain };
@@ -33,15 +36,15 @@ impl Serialize for Lifetime {
     }
 
     fn tls_serialize_into(&self, out: &mut Vec<u8>) -> Result<usize, Error> {
-        (Lent(&self.not_before), Lent(&self.not_after)).tls_serialize_into(out)
+        append_as(self, &(Lent(&self.not_before), Lent(&self.not_after)), out)
     }
 }
 
 impl Deserialize for Lifetime {
-    ghost names = { ⟦<(u64, u64) as Deserialize>⟧.names };
+    ghost names = { ⟦<Parts as Deserialize>⟧.names };
 
     fn tls_deserialize<R: Source>(alloc: Global, src: &mut R) -> Result<Lifetime, Error> {
-        let (not_before, not_after) = <(u64, u64)>::tls_deserialize(alloc, src)?;
+        let (not_before, not_after) = <Parts>::tls_deserialize(alloc, src)?;
         Ok(Lifetime {
             not_before,
             not_after,
@@ -50,10 +53,10 @@ impl Deserialize for Lifetime {
 }
 
 impl DeserializeBytes for Lifetime {
-    ghost names = { ⟦<(u64, u64) as DeserializeBytes>⟧.names };
+    ghost names = { ⟦<Parts as DeserializeBytes>⟧.names };
 
     fn tls_deserialize_bytes(alloc: Global, whole: &[u8]) -> Result<(Lifetime, &[u8]), Error> {
-        let ((not_before, not_after), rest) = <(u64, u64)>::tls_deserialize_bytes(alloc, whole)?;
+        let ((not_before, not_after), rest) = <Parts>::tls_deserialize_bytes(alloc, whole)?;
         Ok((
             Lifetime {
                 not_before,

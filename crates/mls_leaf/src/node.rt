@@ -98,6 +98,36 @@ impl DeserializeBytes for Node {
     }
 }
 
+impl Node {
+    /// The tag of its case.
+    pub fn node_type(&self) -> u8
+        ensures { result ≡ node_tag self.now }
+    {
+        match self {
+            Node::Leaf(_) => 1,
+            Node::Parent(_) => 2,
+        }
+    }
+}
+
+/// The case `leaf` with this content.
+impl From<LeafNode> for Node {
+    ghost from_gives = { λ content value. value ≡ Node.Leaf content };
+
+    fn from(content: LeafNode) -> Node {
+        Node::Leaf(content)
+    }
+}
+
+/// The case `parent` with this content.
+impl From<ParentNode> for Node {
+    ghost from_gives = { λ content value. value ≡ Node.Parent content };
+
+    fn from(content: ParentNode) -> Node {
+        Node::Parent(content)
+    }
+}
+
 /// Two are equal exactly where they are of one case, and each field is.
 pub fn is_compared_by_its_case()
     ensures tag { (x y : Node) →

@@ -5,6 +5,7 @@ ghost use Rattle.mls_leaf.specs.declared.parent_hash_input.ParentHashInput.{Pare
 
 use crate::HPKEPublicKey;
 use tls_codec::{Error, Lent, Serialize, Sink, Size, VLBytes};
+use tls_codec_cases::append_as;
 
 /// `ParentHashInput` (RFC 9420, section 7.9).
 ///
@@ -47,12 +48,15 @@ impl Serialize for ParentHashInput<'_> {
     }
 
     fn tls_serialize_into(&self, out: &mut Vec<u8>) -> Result<usize, Error> {
-        (
-            Lent(self.encryption_key),
-            Lent(self.parent_hash),
-            Lent(self.original_sibling_tree_hash),
+        append_as(
+            self,
+            &(
+                Lent(self.encryption_key),
+                Lent(self.parent_hash),
+                Lent(self.original_sibling_tree_hash),
+            ),
+            out,
         )
-            .tls_serialize_into(out)
     }
 }
 

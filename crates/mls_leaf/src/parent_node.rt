@@ -8,6 +8,7 @@ use std::alloc::Global;
 use tls_codec::{
     Deserialize, DeserializeBytes, Error, Lent, Serialize, Sink, Size, Source, VLBytes,
 };
+use tls_codec_cases::append_as;
 
 /// `ParentNode` (RFC 9420, section 7.1).
 #[derive(PartialEq, Eq, Debug, Clone, Drop)]
@@ -19,6 +20,8 @@ pub struct ParentNode {
     /// `uint32 unmerged_leaves<V>;`
     pub unmerged_leaves: Vec<u32>,
 }
+
+type Parts = (HPKEPublicKey, VLBytes, Vec<u32>);
 
 impl Size for ParentNode {
     ghost plain = { parent_node_plain };
@@ -48,24 +51,23 @@ impl Serialize for ParentNode {
     }
 
     fn tls_serialize_into(&self, out: &mut Vec<u8>) -> Result<usize, Error> {
-        (
-            Lent(&self.encryption_key),
-            Lent(&self.parent_hash),
-            Lent(&self.unmerged_leaves),
+        append_as(
+            self,
+            &(
+                Lent(&self.encryption_key),
+                Lent(&self.parent_hash),
+                Lent(&self.unmerged_leaves),
+            ),
+            out,
         )
-            .tls_serialize_into(out)
     }
 }
 
 impl Deserialize for ParentNode {
-    ghost names = { ⟦<(HPKEPublicKey, VLBytes, Vec<u32>) as Deserialize>⟧.names };
+    ghost names = { ⟦<Parts as Deserialize>⟧.names };
 
     fn tls_deserialize<R: Source>(alloc: Global, src: &mut R) -> Result<ParentNode, Error> {
-        let (encryption_key, parent_hash, unmerged_leaves) = <(
-            HPKEPublicKey,
-            VLBytes,
-            Vec<u32>,
-        )>::tls_deserialize(alloc, src)?;
+        let (encryption_key, parent_hash, unmerged_leaves) = <Parts>::tls_deserialize(alloc, src)?;
         Ok(ParentNode {
             encryption_key,
             parent_hash,
@@ -75,14 +77,12 @@ impl Deserialize for ParentNode {
 }
 
 impl DeserializeBytes for ParentNode {
-    ghost names = { ⟦<(HPKEPublicKey, VLBytes, Vec<u32>) as DeserializeBytes>⟧.names };
+    ghost names = { ⟦<Parts as DeserializeBytes>⟧.names };
 
     fn tls_deserialize_bytes(alloc: Global, whole: &[u8]) -> Result<(ParentNode, &[u8]), Error> {
-        let ((encryption_key, parent_hash, unmerged_leaves), rest) = <(
-            HPKEPublicKey,
-            VLBytes,
-            Vec<u32>,
-        )>::tls_deserialize_bytes(alloc, whole)?;
+        let ((encryption_key, parent_hash, unmerged_leaves), rest) = <Parts>::tls_deserialize_bytes(
+            alloc, whole,
+        )?;
         Ok((
             ParentNode {
                 encryption_key,

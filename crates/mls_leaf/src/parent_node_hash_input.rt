@@ -8,6 +8,7 @@ use std::alloc::Global;
 use tls_codec::{
     Deserialize, DeserializeBytes, Error, Lent, Serialize, Sink, Size, Source, VLBytes,
 };
+use tls_codec_cases::append_as;
 
 /// `ParentNodeHashInput` (RFC 9420, section 7.8).
 #[derive(PartialEq, Eq, Debug, Clone, Drop)]
@@ -19,6 +20,8 @@ pub struct ParentNodeHashInput {
     /// `opaque right_hash<V>;`
     pub right_hash: VLBytes,
 }
+
+type Parts = (Option<ParentNode>, VLBytes, VLBytes);
 
 impl Size for ParentNodeHashInput {
     ghost plain = { parent_node_hash_input_plain };
@@ -48,27 +51,26 @@ impl Serialize for ParentNodeHashInput {
     }
 
     fn tls_serialize_into(&self, out: &mut Vec<u8>) -> Result<usize, Error> {
-        (
-            Lent(&self.parent_node),
-            Lent(&self.left_hash),
-            Lent(&self.right_hash),
+        append_as(
+            self,
+            &(
+                Lent(&self.parent_node),
+                Lent(&self.left_hash),
+                Lent(&self.right_hash),
+            ),
+            out,
         )
-            .tls_serialize_into(out)
     }
 }
 
 impl Deserialize for ParentNodeHashInput {
-    ghost names = { ⟦<(Option<ParentNode>, VLBytes, VLBytes) as Deserialize>⟧.names };
+    ghost names = { ⟦<Parts as Deserialize>⟧.names };
 
     fn tls_deserialize<R: Source>(
         alloc: Global,
         src: &mut R,
     ) -> Result<ParentNodeHashInput, Error> {
-        let (parent_node, left_hash, right_hash) = <(
-            Option<ParentNode>,
-            VLBytes,
-            VLBytes,
-        )>::tls_deserialize(alloc, src)?;
+        let (parent_node, left_hash, right_hash) = <Parts>::tls_deserialize(alloc, src)?;
         Ok(ParentNodeHashInput {
             parent_node,
             left_hash,
@@ -78,17 +80,15 @@ impl Deserialize for ParentNodeHashInput {
 }
 
 impl DeserializeBytes for ParentNodeHashInput {
-    ghost names = { ⟦<(Option<ParentNode>, VLBytes, VLBytes) as DeserializeBytes>⟧.names };
+    ghost names = { ⟦<Parts as DeserializeBytes>⟧.names };
 
     fn tls_deserialize_bytes(
         alloc: Global,
         whole: &[u8],
     ) -> Result<(ParentNodeHashInput, &[u8]), Error> {
-        let ((parent_node, left_hash, right_hash), rest) = <(
-            Option<ParentNode>,
-            VLBytes,
-            VLBytes,
-        )>::tls_deserialize_bytes(alloc, whole)?;
+        let ((parent_node, left_hash, right_hash), rest) = <Parts>::tls_deserialize_bytes(
+            alloc, whole,
+        )?;
         Ok((
             ParentNodeHashInput {
                 parent_node,

@@ -1,7 +1,8 @@
 //! [`ProposalType`].
 ghost use Rattle.std.specs.Prelude.{◌≡◌, Some, nat_eq, option_map};
 ghost use Rattle.std.specs.Ordering.{nat_cmp};
-ghost use Rattle.mls_leaf.specs.ProposalType.{proposal_type_format, proposal_type_meets, proposal_type_name, proposal_type_plain, proposal_type_text};
+ghost use Rattle.tls_codec.specs.Registries.{listed_name, name_or_number};
+ghost use Rattle.mls_leaf.specs.ProposalType.{proposal_type_format, proposal_type_meets, proposal_type_names, proposal_type_plain};
 ghost use Rattle.mls_leaf.specs.declared.proposal_type.ProposalType.{ProposalType};
 
 use std::alloc::Global;
@@ -36,7 +37,8 @@ impl ProposalType {
 
     /// Its name in the text, if it has one.
     pub fn name(&self) -> Option<&'static str>
-        ensures { option_map (λ name. name.now) result ≡ proposal_type_name self.now.0 }
+        ensures { option_map (λ name. name.now) result
+            ≡ listed_name proposal_type_names self.now.0 }
     {
         match self.0 {
             1 => Some("add"),
@@ -53,9 +55,9 @@ impl ProposalType {
 
 /// Its name, or else its number in hexadecimal, two digits a byte. A width pads names alone.
 impl fmt::Display for ProposalType {
-    ghost output = { λ v. Some (proposal_type_text v.0) };
+    ghost output = { λ v. Some (name_or_number proposal_type_names 4 v.0) };
 
-    #[tactic(auto, using(crate::specs::ProposalType::proposal_type_printed))]
+    #[tactic(auto, using(tls_codec::specs::Registries::hexadecimal_digits))]
     fn fmt<W: fmt::Write>(&self, f: &mut fmt::Formatter<W>) -> fmt::Result {
         match self.name() {
             Some(name) => f.pad(name),

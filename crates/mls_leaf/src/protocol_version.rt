@@ -1,7 +1,8 @@
 //! [`ProtocolVersion`].
 ghost use Rattle.std.specs.Prelude.{◌≡◌, Some, nat_eq, option_map};
 ghost use Rattle.std.specs.Ordering.{nat_cmp};
-ghost use Rattle.mls_leaf.specs.ProtocolVersion.{protocol_version_format, protocol_version_meets, protocol_version_name, protocol_version_plain, protocol_version_text};
+ghost use Rattle.tls_codec.specs.Registries.{listed_name, name_or_number};
+ghost use Rattle.mls_leaf.specs.ProtocolVersion.{protocol_version_format, protocol_version_meets, protocol_version_names, protocol_version_plain};
 ghost use Rattle.mls_leaf.specs.declared.protocol_version.ProtocolVersion.{ProtocolVersion};
 
 use std::alloc::Global;
@@ -18,7 +19,8 @@ impl ProtocolVersion {
 
     /// Its name in the text, if it has one.
     pub fn name(&self) -> Option<&'static str>
-        ensures { option_map (λ name. name.now) result ≡ protocol_version_name self.now.0 }
+        ensures { option_map (λ name. name.now) result
+            ≡ listed_name protocol_version_names self.now.0 }
     {
         match self.0 {
             1 => Some("mls10"),
@@ -29,9 +31,9 @@ impl ProtocolVersion {
 
 /// Its name, or else its number in hexadecimal, two digits a byte. A width pads names alone.
 impl fmt::Display for ProtocolVersion {
-    ghost output = { λ v. Some (protocol_version_text v.0) };
+    ghost output = { λ v. Some (name_or_number protocol_version_names 4 v.0) };
 
-    #[tactic(auto, using(crate::specs::ProtocolVersion::protocol_version_printed))]
+    #[tactic(auto, using(tls_codec::specs::Registries::hexadecimal_digits))]
     fn fmt<W: fmt::Write>(&self, f: &mut fmt::Formatter<W>) -> fmt::Result {
         match self.name() {
             Some(name) => f.pad(name),

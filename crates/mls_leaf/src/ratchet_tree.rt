@@ -6,6 +6,7 @@ ghost use Rattle.mls_leaf.specs.declared.ratchet_tree.RatchetTree.{RatchetTree};
 use crate::Node;
 use std::alloc::Global;
 use tls_codec::{Deserialize, DeserializeBytes, Error, Serialize, Sink, Size, Source};
+use tls_codec_cases::append_as;
 
 /// `RatchetTree` (RFC 9420, section 12.4.3.3).
 #[derive(PartialEq, Eq, Debug, Clone, Drop)]
@@ -32,7 +33,7 @@ impl Serialize for RatchetTree {
     }
 
     fn tls_serialize_into(&self, out: &mut Vec<u8>) -> Result<usize, Error> {
-        self.ratchet_tree.tls_serialize_into(out)
+        append_as(self, &self.ratchet_tree, out)
     }
 }
 

@@ -4,6 +4,7 @@ ghost use Rattle.mls_leaf.specs.SignContent.{sign_content_format, sign_content_m
 ghost use Rattle.mls_leaf.specs.declared.sign_content.SignContent.{SignContent};
 
 use tls_codec::{Error, Lent, Serialize, Sink, Size, VLBytes};
+use tls_codec_cases::append_as;
 
 /// `SignContent` (RFC 9420, section 5.1.2).
 ///
@@ -34,7 +35,7 @@ impl Serialize for SignContent<'_> {
     }
 
     fn tls_serialize_into(&self, out: &mut Vec<u8>) -> Result<usize, Error> {
-        (Lent(self.label), Lent(self.content)).tls_serialize_into(out)
+        append_as(self, &(Lent(self.label), Lent(self.content)), out)
     }
 }
 

@@ -101,6 +101,36 @@ impl DeserializeBytes for TreeHashInput {
     }
 }
 
+impl TreeHashInput {
+    /// The tag of its case.
+    pub fn node_type(&self) -> u8
+        ensures { result ≡ tree_hash_input_tag self.now }
+    {
+        match self {
+            TreeHashInput::Leaf(_) => 1,
+            TreeHashInput::Parent(_) => 2,
+        }
+    }
+}
+
+/// The case `leaf` with this content.
+impl From<LeafNodeHashInput> for TreeHashInput {
+    ghost from_gives = { λ content value. value ≡ TreeHashInput.Leaf content };
+
+    fn from(content: LeafNodeHashInput) -> TreeHashInput {
+        TreeHashInput::Leaf(content)
+    }
+}
+
+/// The case `parent` with this content.
+impl From<ParentNodeHashInput> for TreeHashInput {
+    ghost from_gives = { λ content value. value ≡ TreeHashInput.Parent content };
+
+    fn from(content: ParentNodeHashInput) -> TreeHashInput {
+        TreeHashInput::Parent(content)
+    }
+}
+
 /// Two are equal exactly where they are of one case, and each field is.
 pub fn is_compared_by_its_case()
     ensures tag { (x y : TreeHashInput) →

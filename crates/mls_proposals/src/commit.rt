@@ -6,6 +6,7 @@ ghost use Rattle.mls_proposals.specs.declared.commit.Commit.{Commit};
 use crate::{ProposalOrRef, UpdatePath};
 use std::alloc::Global;
 use tls_codec::{Deserialize, DeserializeBytes, Error, Lent, Serialize, Sink, Size, Source};
+use tls_codec_cases::append_as;
 
 /// `Commit` (RFC 9420, section 12.4).
 #[derive(PartialEq, Eq, Debug, Clone, Drop)]
@@ -15,6 +16,8 @@ pub struct Commit {
     /// `optional<UpdatePath> path;`
     pub path: Option<UpdatePath>,
 }
+
+type Parts = (Vec<ProposalOrRef>, Option<UpdatePath>);
 
 impl Size for Commit {
     ghost plain = { commit_plain };
@@ -34,29 +37,24 @@ impl Serialize for Commit {
     }
 
     fn tls_serialize_into(&self, out: &mut Vec<u8>) -> Result<usize, Error> {
-        (Lent(&self.proposals), Lent(&self.path)).tls_serialize_into(out)
+        append_as(self, &(Lent(&self.proposals), Lent(&self.path)), out)
     }
 }
 
 impl Deserialize for Commit {
-    ghost names = { ⟦<(Vec<ProposalOrRef>, Option<UpdatePath>) as Deserialize>⟧.names };
+    ghost names = { ⟦<Parts as Deserialize>⟧.names };
 
     fn tls_deserialize<R: Source>(alloc: Global, src: &mut R) -> Result<Commit, Error> {
-        let (proposals, path) = <(Vec<ProposalOrRef>, Option<UpdatePath>)>::tls_deserialize(
-            alloc, src,
-        )?;
+        let (proposals, path) = <Parts>::tls_deserialize(alloc, src)?;
         Ok(Commit { proposals, path })
     }
 }
 
 impl DeserializeBytes for Commit {
-    ghost names = { ⟦<(Vec<ProposalOrRef>, Option<UpdatePath>) as DeserializeBytes>⟧.names };
+    ghost names = { ⟦<Parts as DeserializeBytes>⟧.names };
 
     fn tls_deserialize_bytes(alloc: Global, whole: &[u8]) -> Result<(Commit, &[u8]), Error> {
-        let ((proposals, path), rest) = <(
-            Vec<ProposalOrRef>,
-            Option<UpdatePath>,
-        )>::tls_deserialize_bytes(alloc, whole)?;
+        let ((proposals, path), rest) = <Parts>::tls_deserialize_bytes(alloc, whole)?;
         Ok((Commit { proposals, path }, rest))
     }
 }

@@ -6,6 +6,7 @@ ghost use Rattle.mls_proposals.specs.declared.encrypted_group_secrets.EncryptedG
 use crate::{HPKECiphertext, KeyPackageRef};
 use std::alloc::Global;
 use tls_codec::{Deserialize, DeserializeBytes, Error, Lent, Serialize, Sink, Size, Source};
+use tls_codec_cases::append_as;
 
 /// `EncryptedGroupSecrets` (RFC 9420, section 12.4.3.1).
 #[derive(PartialEq, Eq, Debug, Clone, Drop)]
@@ -15,6 +16,8 @@ pub struct EncryptedGroupSecrets {
     /// `HPKECiphertext encrypted_group_secrets;`
     pub encrypted_group_secrets: HPKECiphertext,
 }
+
+type Parts = (KeyPackageRef, HPKECiphertext);
 
 impl Size for EncryptedGroupSecrets {
     ghost plain = { encrypted_group_secrets_plain };
@@ -34,21 +37,22 @@ impl Serialize for EncryptedGroupSecrets {
     }
 
     fn tls_serialize_into(&self, out: &mut Vec<u8>) -> Result<usize, Error> {
-        (Lent(&self.new_member), Lent(&self.encrypted_group_secrets)).tls_serialize_into(out)
+        append_as(
+            self,
+            &(Lent(&self.new_member), Lent(&self.encrypted_group_secrets)),
+            out,
+        )
     }
 }
 
 impl Deserialize for EncryptedGroupSecrets {
-    ghost names = { ⟦<(KeyPackageRef, HPKECiphertext) as Deserialize>⟧.names };
+    ghost names = { ⟦<Parts as Deserialize>⟧.names };
 
     fn tls_deserialize<R: Source>(
         alloc: Global,
         src: &mut R,
     ) -> Result<EncryptedGroupSecrets, Error> {
-        let (new_member, encrypted_group_secrets) = <(
-            KeyPackageRef,
-            HPKECiphertext,
-        )>::tls_deserialize(alloc, src)?;
+        let (new_member, encrypted_group_secrets) = <Parts>::tls_deserialize(alloc, src)?;
         Ok(EncryptedGroupSecrets {
             new_member,
             encrypted_group_secrets,
@@ -57,16 +61,15 @@ impl Deserialize for EncryptedGroupSecrets {
 }
 
 impl DeserializeBytes for EncryptedGroupSecrets {
-    ghost names = { ⟦<(KeyPackageRef, HPKECiphertext) as DeserializeBytes>⟧.names };
+    ghost names = { ⟦<Parts as DeserializeBytes>⟧.names };
 
     fn tls_deserialize_bytes(
         alloc: Global,
         whole: &[u8],
     ) -> Result<(EncryptedGroupSecrets, &[u8]), Error> {
-        let ((new_member, encrypted_group_secrets), rest) = <(
-            KeyPackageRef,
-            HPKECiphertext,
-        )>::tls_deserialize_bytes(alloc, whole)?;
+        let ((new_member, encrypted_group_secrets), rest) = <Parts>::tls_deserialize_bytes(
+            alloc, whole,
+        )?;
         Ok((
             EncryptedGroupSecrets {
                 new_member,

@@ -5,6 +5,7 @@ ghost use Rattle.mls_proposals.specs.declared.external_init.ExternalInit.{Extern
 
 use std::alloc::Global;
 use tls_codec::{Deserialize, DeserializeBytes, Error, Serialize, Sink, Size, Source, VLBytes};
+use tls_codec_cases::append_as;
 
 /// `ExternalInit` (RFC 9420, section 12.1.6).
 #[derive(PartialEq, Eq, Debug, Clone, Drop)]
@@ -31,7 +32,7 @@ impl Serialize for ExternalInit {
     }
 
     fn tls_serialize_into(&self, out: &mut Vec<u8>) -> Result<usize, Error> {
-        self.kem_output.tls_serialize_into(out)
+        append_as(self, &self.kem_output, out)
     }
 }
 

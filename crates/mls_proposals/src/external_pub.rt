@@ -6,6 +6,7 @@ ghost use Rattle.mls_proposals.specs.declared.external_pub.ExternalPub.{External
 use mls_leaf::HPKEPublicKey;
 use std::alloc::Global;
 use tls_codec::{Deserialize, DeserializeBytes, Error, Serialize, Sink, Size, Source};
+use tls_codec_cases::append_as;
 
 /// `ExternalPub` (RFC 9420, section 12.4.3.2).
 #[derive(PartialEq, Eq, Debug, Clone, Drop)]
@@ -32,7 +33,7 @@ impl Serialize for ExternalPub {
     }
 
     fn tls_serialize_into(&self, out: &mut Vec<u8>) -> Result<usize, Error> {
-        self.external_pub.tls_serialize_into(out)
+        append_as(self, &self.external_pub, out)
     }
 }
 

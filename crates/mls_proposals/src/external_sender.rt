@@ -6,6 +6,7 @@ ghost use Rattle.mls_proposals.specs.declared.external_sender.ExternalSender.{Ex
 use mls_leaf::{Credential, SignaturePublicKey};
 use std::alloc::Global;
 use tls_codec::{Deserialize, DeserializeBytes, Error, Lent, Serialize, Sink, Size, Source};
+use tls_codec_cases::append_as;
 
 /// `ExternalSender` (RFC 9420, section 12.1.8.1).
 #[derive(PartialEq, Eq, Debug, Clone, Drop)]
@@ -15,6 +16,8 @@ pub struct ExternalSender {
     /// `Credential credential;`
     pub credential: Credential,
 }
+
+type Parts = (SignaturePublicKey, Credential);
 
 impl Size for ExternalSender {
     ghost plain = { external_sender_plain };
@@ -34,17 +37,19 @@ impl Serialize for ExternalSender {
     }
 
     fn tls_serialize_into(&self, out: &mut Vec<u8>) -> Result<usize, Error> {
-        (Lent(&self.signature_key), Lent(&self.credential)).tls_serialize_into(out)
+        append_as(
+            self,
+            &(Lent(&self.signature_key), Lent(&self.credential)),
+            out,
+        )
     }
 }
 
 impl Deserialize for ExternalSender {
-    ghost names = { ⟦<(SignaturePublicKey, Credential) as Deserialize>⟧.names };
+    ghost names = { ⟦<Parts as Deserialize>⟧.names };
 
     fn tls_deserialize<R: Source>(alloc: Global, src: &mut R) -> Result<ExternalSender, Error> {
-        let (signature_key, credential) = <(SignaturePublicKey, Credential)>::tls_deserialize(
-            alloc, src,
-        )?;
+        let (signature_key, credential) = <Parts>::tls_deserialize(alloc, src)?;
         Ok(ExternalSender {
             signature_key,
             credential,
@@ -53,16 +58,13 @@ impl Deserialize for ExternalSender {
 }
 
 impl DeserializeBytes for ExternalSender {
-    ghost names = { ⟦<(SignaturePublicKey, Credential) as DeserializeBytes>⟧.names };
+    ghost names = { ⟦<Parts as DeserializeBytes>⟧.names };
 
     fn tls_deserialize_bytes(
         alloc: Global,
         whole: &[u8],
     ) -> Result<(ExternalSender, &[u8]), Error> {
-        let ((signature_key, credential), rest) = <(
-            SignaturePublicKey,
-            Credential,
-        )>::tls_deserialize_bytes(alloc, whole)?;
+        let ((signature_key, credential), rest) = <Parts>::tls_deserialize_bytes(alloc, whole)?;
         Ok((
             ExternalSender {
                 signature_key,

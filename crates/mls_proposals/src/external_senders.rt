@@ -6,6 +6,7 @@ ghost use Rattle.mls_proposals.specs.declared.external_senders.ExternalSenders.{
 use crate::ExternalSender;
 use std::alloc::Global;
 use tls_codec::{Deserialize, DeserializeBytes, Error, Serialize, Sink, Size, Source};
+use tls_codec_cases::append_as;
 
 /// `ExternalSenders` (RFC 9420, section 12.1.8.1).
 #[derive(PartialEq, Eq, Debug, Clone, Drop)]
@@ -32,7 +33,7 @@ impl Serialize for ExternalSenders {
     }
 
     fn tls_serialize_into(&self, out: &mut Vec<u8>) -> Result<usize, Error> {
-        self.external_senders.tls_serialize_into(out)
+        append_as(self, &self.external_senders, out)
     }
 }
 

@@ -9,6 +9,7 @@ use std::alloc::Global;
 use tls_codec::{
     Deserialize, DeserializeBytes, Error, Lent2, Lent3, Serialize, Sink, Size, Source, VLBytes,
 };
+use tls_codec_cases::append_as;
 
 /// `GroupContext` (RFC 9420, section 8.1).
 #[derive(PartialEq, Eq, Debug, Clone, Drop)]
@@ -28,6 +29,12 @@ pub struct GroupContext {
     /// `Extension extensions<V>;`
     pub extensions: Vec<Extension>,
 }
+
+type Parts = (
+    (ProtocolVersionMls10, CipherSuite, VLBytes),
+    (u64, VLBytes),
+    (VLBytes, Vec<Extension>),
+);
 
 impl Size for GroupContext {
     ghost plain = { group_context_plain };
@@ -57,29 +64,27 @@ impl Serialize for GroupContext {
     }
 
     fn tls_serialize_into(&self, out: &mut Vec<u8>) -> Result<usize, Error> {
-        (
-            Lent3(&self.version, &self.cipher_suite, &self.group_id),
-            Lent2(&self.epoch, &self.tree_hash),
-            Lent2(&self.confirmed_transcript_hash, &self.extensions),
+        append_as(
+            self,
+            &(
+                Lent3(&self.version, &self.cipher_suite, &self.group_id),
+                Lent2(&self.epoch, &self.tree_hash),
+                Lent2(&self.confirmed_transcript_hash, &self.extensions),
+            ),
+            out,
         )
-            .tls_serialize_into(out)
     }
 }
 
 impl Deserialize for GroupContext {
-    ghost names = { ⟦<((ProtocolVersionMls10, CipherSuite, VLBytes), (u64, VLBytes),
-        (VLBytes, Vec<Extension>)) as Deserialize>⟧.names };
+    ghost names = { ⟦<Parts as Deserialize>⟧.names };
 
     fn tls_deserialize<R: Source>(alloc: Global, src: &mut R) -> Result<GroupContext, Error> {
         let (
             (version, cipher_suite, group_id),
             (epoch, tree_hash),
             (confirmed_transcript_hash, extensions),
-        ) = <(
-            (ProtocolVersionMls10, CipherSuite, VLBytes),
-            (u64, VLBytes),
-            (VLBytes, Vec<Extension>),
-        )>::tls_deserialize(alloc, src)?;
+        ) = <Parts>::tls_deserialize(alloc, src)?;
         Ok(GroupContext {
             version,
             cipher_suite,
@@ -93,8 +98,7 @@ impl Deserialize for GroupContext {
 }
 
 impl DeserializeBytes for GroupContext {
-    ghost names = { ⟦<((ProtocolVersionMls10, CipherSuite, VLBytes), (u64, VLBytes),
-        (VLBytes, Vec<Extension>)) as DeserializeBytes>⟧.names };
+    ghost names = { ⟦<Parts as DeserializeBytes>⟧.names };
 
     fn tls_deserialize_bytes(alloc: Global, whole: &[u8]) -> Result<(GroupContext, &[u8]), Error> {
         let (
@@ -104,11 +108,7 @@ impl DeserializeBytes for GroupContext {
                 (confirmed_transcript_hash, extensions),
             ),
             rest,
-        ) = <(
-            (ProtocolVersionMls10, CipherSuite, VLBytes),
-            (u64, VLBytes),
-            (VLBytes, Vec<Extension>),
-        )>::tls_deserialize_bytes(alloc, whole)?;
+        ) = <Parts>::tls_deserialize_bytes(alloc, whole)?;
         Ok((
             GroupContext {
                 version,

@@ -6,6 +6,7 @@ ghost use Rattle.mls_proposals.specs.declared.group_context_extensions.GroupCont
 use mls_leaf::Extension;
 use std::alloc::Global;
 use tls_codec::{Deserialize, DeserializeBytes, Error, Serialize, Sink, Size, Source};
+use tls_codec_cases::append_as;
 
 /// `GroupContextExtensions` (RFC 9420, section 12.1.7).
 #[derive(PartialEq, Eq, Debug, Clone, Drop)]
@@ -32,7 +33,7 @@ impl Serialize for GroupContextExtensions {
     }
 
     fn tls_serialize_into(&self, out: &mut Vec<u8>) -> Result<usize, Error> {
-        self.extensions.tls_serialize_into(out)
+        append_as(self, &self.extensions, out)
     }
 }
 

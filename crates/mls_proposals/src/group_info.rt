@@ -9,6 +9,7 @@ use std::alloc::Global;
 use tls_codec::{
     Deserialize, DeserializeBytes, Error, Lent2, Lent3, Serialize, Sink, Size, Source, VLBytes,
 };
+use tls_codec_cases::append_as;
 
 /// `GroupInfo` (RFC 9420, section 12.4.3).
 #[derive(PartialEq, Eq, Debug, Clone, Drop)]
@@ -25,6 +26,8 @@ pub struct GroupInfo {
     /// SignWithLabel(., "GroupInfoTBS", GroupInfoTBS)
     pub signature: VLBytes,
 }
+
+type Parts = ((GroupContext, Vec<Extension>, MAC), (u32, VLBytes));
 
 impl Size for GroupInfo {
     ghost plain = { group_info_plain };
@@ -60,26 +63,27 @@ impl Serialize for GroupInfo {
     }
 
     fn tls_serialize_into(&self, out: &mut Vec<u8>) -> Result<usize, Error> {
-        (
-            Lent3(
-                &self.group_context,
-                &self.extensions,
-                &self.confirmation_tag,
+        append_as(
+            self,
+            &(
+                Lent3(
+                    &self.group_context,
+                    &self.extensions,
+                    &self.confirmation_tag,
+                ),
+                Lent2(&self.signer, &self.signature),
             ),
-            Lent2(&self.signer, &self.signature),
+            out,
         )
-            .tls_serialize_into(out)
     }
 }
 
 impl Deserialize for GroupInfo {
-    ghost names = { ⟦<((GroupContext, Vec<Extension>, MAC), (u32, VLBytes)) as Deserialize>⟧.names };
+    ghost names = { ⟦<Parts as Deserialize>⟧.names };
 
     fn tls_deserialize<R: Source>(alloc: Global, src: &mut R) -> Result<GroupInfo, Error> {
-        let ((group_context, extensions, confirmation_tag), (signer, signature)) = <(
-            (GroupContext, Vec<Extension>, MAC),
-            (u32, VLBytes),
-        )>::tls_deserialize(alloc, src)?;
+        let ((group_context, extensions, confirmation_tag), (signer, signature)) =
+            <Parts>::tls_deserialize(alloc, src)?;
         Ok(GroupInfo {
             group_context,
             extensions,
@@ -91,13 +95,11 @@ impl Deserialize for GroupInfo {
 }
 
 impl DeserializeBytes for GroupInfo {
-    ghost names = { ⟦<((GroupContext, Vec<Extension>, MAC), (u32, VLBytes)) as DeserializeBytes>⟧.names };
+    ghost names = { ⟦<Parts as DeserializeBytes>⟧.names };
 
     fn tls_deserialize_bytes(alloc: Global, whole: &[u8]) -> Result<(GroupInfo, &[u8]), Error> {
-        let (((group_context, extensions, confirmation_tag), (signer, signature)), rest) = <(
-            (GroupContext, Vec<Extension>, MAC),
-            (u32, VLBytes),
-        )>::tls_deserialize_bytes(alloc, whole)?;
+        let (((group_context, extensions, confirmation_tag), (signer, signature)), rest) =
+            <Parts>::tls_deserialize_bytes(alloc, whole)?;
         Ok((
             GroupInfo {
                 group_context,

@@ -3,9 +3,10 @@ ghost use Rattle.std.specs.Prelude.{◌≡◌, ◌&&◌};
 ghost use Rattle.mls_proposals.specs.GroupInfoTBS.{group_info_tbs_format, group_info_tbs_meets, group_info_tbs_plain};
 ghost use Rattle.mls_proposals.specs.declared.group_info_tbs.GroupInfoTBS.{GroupInfoTBS};
 
-use crate::{GroupContext, MAC};
+use crate::{GroupContext, GroupInfo, MAC};
 use mls_leaf::Extension;
 use tls_codec::{Error, Lent2, Serialize, Sink, Size};
+use tls_codec_cases::append_as;
 
 /// `GroupInfoTBS` (RFC 9420, section 12.4.3).
 ///
@@ -48,11 +49,32 @@ impl Serialize for GroupInfoTBS<'_> {
     }
 
     fn tls_serialize_into(&self, out: &mut Vec<u8>) -> Result<usize, Error> {
-        (
-            Lent2(self.group_context, self.extensions),
-            Lent2(self.confirmation_tag, self.signer),
+        append_as(
+            self,
+            &(
+                Lent2(self.group_context, self.extensions),
+                Lent2(self.confirmation_tag, self.signer),
+            ),
+            out,
         )
-            .tls_serialize_into(out)
+    }
+}
+
+/// What is signed of a `GroupInfo`.
+impl<'a> From<&'a GroupInfo> for GroupInfoTBS<'a> {
+    ghost from_gives = { λ whole lent.
+        (lent.group_context.now ≡ whole.now.group_context)
+        × (lent.extensions.now ≡ whole.now.extensions)
+        × (lent.confirmation_tag.now ≡ whole.now.confirmation_tag)
+        × (lent.signer.now ≡ whole.now.signer) };
+
+    fn from(whole: &'a GroupInfo) -> GroupInfoTBS<'a> {
+        GroupInfoTBS {
+            group_context: &whole.group_context,
+            extensions: &whole.extensions,
+            confirmation_tag: &whole.confirmation_tag,
+            signer: &whole.signer,
+        }
     }
 }
 

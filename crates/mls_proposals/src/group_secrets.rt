@@ -8,6 +8,7 @@ use std::alloc::Global;
 use tls_codec::{
     Deserialize, DeserializeBytes, Error, Lent, Serialize, Sink, Size, Source, VLBytes,
 };
+use tls_codec_cases::append_as;
 
 /// `GroupSecrets` (RFC 9420, section 12.4.3.1).
 #[derive(PartialEq, Eq, Debug, Clone, Drop)]
@@ -19,6 +20,8 @@ pub struct GroupSecrets {
     /// `PreSharedKeyID psks<V>;`
     pub psks: Vec<PreSharedKeyID>,
 }
+
+type Parts = (VLBytes, Option<PathSecret>, Vec<PreSharedKeyID>);
 
 impl Size for GroupSecrets {
     ghost plain = { group_secrets_plain };
@@ -48,24 +51,23 @@ impl Serialize for GroupSecrets {
     }
 
     fn tls_serialize_into(&self, out: &mut Vec<u8>) -> Result<usize, Error> {
-        (
-            Lent(&self.joiner_secret),
-            Lent(&self.path_secret),
-            Lent(&self.psks),
+        append_as(
+            self,
+            &(
+                Lent(&self.joiner_secret),
+                Lent(&self.path_secret),
+                Lent(&self.psks),
+            ),
+            out,
         )
-            .tls_serialize_into(out)
     }
 }
 
 impl Deserialize for GroupSecrets {
-    ghost names = { ⟦<(VLBytes, Option<PathSecret>, Vec<PreSharedKeyID>) as Deserialize>⟧.names };
+    ghost names = { ⟦<Parts as Deserialize>⟧.names };
 
     fn tls_deserialize<R: Source>(alloc: Global, src: &mut R) -> Result<GroupSecrets, Error> {
-        let (joiner_secret, path_secret, psks) = <(
-            VLBytes,
-            Option<PathSecret>,
-            Vec<PreSharedKeyID>,
-        )>::tls_deserialize(alloc, src)?;
+        let (joiner_secret, path_secret, psks) = <Parts>::tls_deserialize(alloc, src)?;
         Ok(GroupSecrets {
             joiner_secret,
             path_secret,
@@ -75,14 +77,12 @@ impl Deserialize for GroupSecrets {
 }
 
 impl DeserializeBytes for GroupSecrets {
-    ghost names = { ⟦<(VLBytes, Option<PathSecret>, Vec<PreSharedKeyID>) as DeserializeBytes>⟧.names };
+    ghost names = { ⟦<Parts as DeserializeBytes>⟧.names };
 
     fn tls_deserialize_bytes(alloc: Global, whole: &[u8]) -> Result<(GroupSecrets, &[u8]), Error> {
-        let ((joiner_secret, path_secret, psks), rest) = <(
-            VLBytes,
-            Option<PathSecret>,
-            Vec<PreSharedKeyID>,
-        )>::tls_deserialize_bytes(alloc, whole)?;
+        let ((joiner_secret, path_secret, psks), rest) = <Parts>::tls_deserialize_bytes(
+            alloc, whole,
+        )?;
         Ok((
             GroupSecrets {
                 joiner_secret,

@@ -7,6 +7,7 @@ use std::alloc::Global;
 use tls_codec::{
     Deserialize, DeserializeBytes, Error, Lent, Serialize, Sink, Size, Source, VLBytes,
 };
+use tls_codec_cases::append_as;
 
 /// `HPKECiphertext` (RFC 9420, section 7.6).
 #[derive(PartialEq, Eq, Debug, Clone, Drop)]
@@ -16,6 +17,8 @@ pub struct HPKECiphertext {
     /// `opaque ciphertext<V>;`
     pub ciphertext: VLBytes,
 }
+
+type Parts = (VLBytes, VLBytes);
 
 impl Size for HPKECiphertext {
     ghost plain = { hpke_ciphertext_plain };
@@ -35,15 +38,15 @@ impl Serialize for HPKECiphertext {
     }
 
     fn tls_serialize_into(&self, out: &mut Vec<u8>) -> Result<usize, Error> {
-        (Lent(&self.kem_output), Lent(&self.ciphertext)).tls_serialize_into(out)
+        append_as(self, &(Lent(&self.kem_output), Lent(&self.ciphertext)), out)
     }
 }
 
 impl Deserialize for HPKECiphertext {
-    ghost names = { ⟦<(VLBytes, VLBytes) as Deserialize>⟧.names };
+    ghost names = { ⟦<Parts as Deserialize>⟧.names };
 
     fn tls_deserialize<R: Source>(alloc: Global, src: &mut R) -> Result<HPKECiphertext, Error> {
-        let (kem_output, ciphertext) = <(VLBytes, VLBytes)>::tls_deserialize(alloc, src)?;
+        let (kem_output, ciphertext) = <Parts>::tls_deserialize(alloc, src)?;
         Ok(HPKECiphertext {
             kem_output,
             ciphertext,
@@ -52,15 +55,13 @@ impl Deserialize for HPKECiphertext {
 }
 
 impl DeserializeBytes for HPKECiphertext {
-    ghost names = { ⟦<(VLBytes, VLBytes) as DeserializeBytes>⟧.names };
+    ghost names = { ⟦<Parts as DeserializeBytes>⟧.names };
 
     fn tls_deserialize_bytes(
         alloc: Global,
         whole: &[u8],
     ) -> Result<(HPKECiphertext, &[u8]), Error> {
-        let ((kem_output, ciphertext), rest) = <(VLBytes, VLBytes)>::tls_deserialize_bytes(
-            alloc, whole,
-        )?;
+        let ((kem_output, ciphertext), rest) = <Parts>::tls_deserialize_bytes(alloc, whole)?;
         Ok((
             HPKECiphertext {
                 kem_output,

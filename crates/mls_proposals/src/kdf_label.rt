@@ -4,6 +4,7 @@ ghost use Rattle.mls_proposals.specs.KDFLabel.{kdf_label_format, kdf_label_meets
 ghost use Rattle.mls_proposals.specs.declared.kdf_label.KDFLabel.{KDFLabel};
 
 use tls_codec::{Error, Lent, Serialize, Sink, Size, VLBytes};
+use tls_codec_cases::append_as;
 
 /// `KDFLabel` (RFC 9420, section 8).
 ///
@@ -36,7 +37,11 @@ impl Serialize for KDFLabel<'_> {
     }
 
     fn tls_serialize_into(&self, out: &mut Vec<u8>) -> Result<usize, Error> {
-        (Lent(self.length), Lent(self.label), Lent(self.context)).tls_serialize_into(out)
+        append_as(
+            self,
+            &(Lent(self.length), Lent(self.label), Lent(self.context)),
+            out,
+        )
     }
 }
 

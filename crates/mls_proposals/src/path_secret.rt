@@ -5,6 +5,7 @@ ghost use Rattle.mls_proposals.specs.declared.path_secret.PathSecret.{PathSecret
 
 use std::alloc::Global;
 use tls_codec::{Deserialize, DeserializeBytes, Error, Serialize, Sink, Size, Source, VLBytes};
+use tls_codec_cases::append_as;
 
 /// `PathSecret` (RFC 9420, section 12.4.3.1).
 #[derive(PartialEq, Eq, Debug, Clone, Drop)]
@@ -31,7 +32,7 @@ impl Serialize for PathSecret {
     }
 
     fn tls_serialize_into(&self, out: &mut Vec<u8>) -> Result<usize, Error> {
-        self.path_secret.tls_serialize_into(out)
+        append_as(self, &self.path_secret, out)
     }
 }
 

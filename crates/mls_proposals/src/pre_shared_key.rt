@@ -6,6 +6,7 @@ ghost use Rattle.mls_proposals.specs.declared.pre_shared_key.PreSharedKey.{PreSh
 use crate::PreSharedKeyID;
 use std::alloc::Global;
 use tls_codec::{Deserialize, DeserializeBytes, Error, Serialize, Sink, Size, Source};
+use tls_codec_cases::append_as;
 
 /// `PreSharedKey` (RFC 9420, section 12.1.4).
 #[derive(PartialEq, Eq, Debug, Clone, Drop)]
@@ -32,7 +33,7 @@ impl Serialize for PreSharedKey {
     }
 
     fn tls_serialize_into(&self, out: &mut Vec<u8>) -> Result<usize, Error> {
-        self.psk.tls_serialize_into(out)
+        append_as(self, &self.psk, out)
     }
 }
 

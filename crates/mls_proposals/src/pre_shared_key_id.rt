@@ -8,6 +8,7 @@ use std::alloc::Global;
 use tls_codec::{
     Deserialize, DeserializeBytes, Error, Lent, Serialize, Sink, Size, Source, VLBytes,
 };
+use tls_codec_cases::append_as;
 
 /// `PreSharedKeyID` (RFC 9420, section 8.4).
 #[derive(PartialEq, Eq, Debug, Clone, Drop)]
@@ -17,6 +18,8 @@ pub struct PreSharedKeyID {
     /// `opaque psk_nonce<V>;`
     pub psk_nonce: VLBytes,
 }
+
+type Parts = (PSKOrigin, VLBytes);
 
 impl Size for PreSharedKeyID {
     ghost plain = { pre_shared_key_id_plain };
@@ -36,29 +39,27 @@ impl Serialize for PreSharedKeyID {
     }
 
     fn tls_serialize_into(&self, out: &mut Vec<u8>) -> Result<usize, Error> {
-        (Lent(&self.psktype), Lent(&self.psk_nonce)).tls_serialize_into(out)
+        append_as(self, &(Lent(&self.psktype), Lent(&self.psk_nonce)), out)
     }
 }
 
 impl Deserialize for PreSharedKeyID {
-    ghost names = { ⟦<(PSKOrigin, VLBytes) as Deserialize>⟧.names };
+    ghost names = { ⟦<Parts as Deserialize>⟧.names };
 
     fn tls_deserialize<R: Source>(alloc: Global, src: &mut R) -> Result<PreSharedKeyID, Error> {
-        let (psktype, psk_nonce) = <(PSKOrigin, VLBytes)>::tls_deserialize(alloc, src)?;
+        let (psktype, psk_nonce) = <Parts>::tls_deserialize(alloc, src)?;
         Ok(PreSharedKeyID { psktype, psk_nonce })
     }
 }
 
 impl DeserializeBytes for PreSharedKeyID {
-    ghost names = { ⟦<(PSKOrigin, VLBytes) as DeserializeBytes>⟧.names };
+    ghost names = { ⟦<Parts as DeserializeBytes>⟧.names };
 
     fn tls_deserialize_bytes(
         alloc: Global,
         whole: &[u8],
     ) -> Result<(PreSharedKeyID, &[u8]), Error> {
-        let ((psktype, psk_nonce), rest) = <(PSKOrigin, VLBytes)>::tls_deserialize_bytes(
-            alloc, whole,
-        )?;
+        let ((psktype, psk_nonce), rest) = <Parts>::tls_deserialize_bytes(alloc, whole)?;
         Ok((PreSharedKeyID { psktype, psk_nonce }, rest))
     }
 }

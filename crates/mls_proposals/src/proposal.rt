@@ -5,6 +5,7 @@ ghost use Rattle.mls_proposals.specs.Proposal.{proposal_format, proposal_meets, 
 ghost use Rattle.mls_proposals.specs.declared.proposal.Proposal.{Proposal};
 
 use crate::{Add, ExternalInit, GroupContextExtensions, PreSharedKey, ReInit, Remove, Update};
+use mls_leaf::ProposalType;
 use std::alloc::Global;
 use tls_codec::{
     Deserialize, DeserializeBytes, Error, Lent, Serialize, Sink, Size, Source, unknown_value,
@@ -203,6 +204,86 @@ impl DeserializeBytes for Proposal {
             }
             _ => Err(unknown_value(u64::from(tag))),
         }
+    }
+}
+
+impl Proposal {
+    /// The tag of its case.
+    pub fn proposal_type(&self) -> ProposalType
+        ensures { result.0 ≡ proposal_tag self.now }
+    {
+        match self {
+            Proposal::Add(_) => ProposalType(1),
+            Proposal::Update(_) => ProposalType(2),
+            Proposal::Remove(_) => ProposalType(3),
+            Proposal::Psk(_) => ProposalType(4),
+            Proposal::Reinit(_) => ProposalType(5),
+            Proposal::ExternalInit(_) => ProposalType(6),
+            Proposal::GroupContextExtensions(_) => ProposalType(7),
+        }
+    }
+}
+
+/// The case `add` with this content.
+impl From<Add> for Proposal {
+    ghost from_gives = { λ content value. value ≡ Proposal.Add content };
+
+    fn from(content: Add) -> Proposal {
+        Proposal::Add(content)
+    }
+}
+
+/// The case `update` with this content.
+impl From<Update> for Proposal {
+    ghost from_gives = { λ content value. value ≡ Proposal.Update content };
+
+    fn from(content: Update) -> Proposal {
+        Proposal::Update(content)
+    }
+}
+
+/// The case `remove` with this content.
+impl From<Remove> for Proposal {
+    ghost from_gives = { λ content value. value ≡ Proposal.Remove content };
+
+    fn from(content: Remove) -> Proposal {
+        Proposal::Remove(content)
+    }
+}
+
+/// The case `psk` with this content.
+impl From<PreSharedKey> for Proposal {
+    ghost from_gives = { λ content value. value ≡ Proposal.Psk content };
+
+    fn from(content: PreSharedKey) -> Proposal {
+        Proposal::Psk(content)
+    }
+}
+
+/// The case `reinit` with this content.
+impl From<ReInit> for Proposal {
+    ghost from_gives = { λ content value. value ≡ Proposal.Reinit content };
+
+    fn from(content: ReInit) -> Proposal {
+        Proposal::Reinit(content)
+    }
+}
+
+/// The case `external_init` with this content.
+impl From<ExternalInit> for Proposal {
+    ghost from_gives = { λ content value. value ≡ Proposal.ExternalInit content };
+
+    fn from(content: ExternalInit) -> Proposal {
+        Proposal::ExternalInit(content)
+    }
+}
+
+/// The case `group_context_extensions` with this content.
+impl From<GroupContextExtensions> for Proposal {
+    ghost from_gives = { λ content value. value ≡ Proposal.GroupContextExtensions content };
+
+    fn from(content: GroupContextExtensions) -> Proposal {
+        Proposal::GroupContextExtensions(content)
     }
 }
 

@@ -106,6 +106,36 @@ impl DeserializeBytes for ProposalOrRef {
     }
 }
 
+impl ProposalOrRef {
+    /// The tag of its case.
+    pub fn kind(&self) -> u8
+        ensures { result ≡ proposal_or_ref_tag self.now }
+    {
+        match self {
+            ProposalOrRef::Proposal(_) => 1,
+            ProposalOrRef::Reference(_) => 2,
+        }
+    }
+}
+
+/// The case `proposal` with this content.
+impl From<Proposal> for ProposalOrRef {
+    ghost from_gives = { λ content value. value ≡ ProposalOrRef.Proposal content };
+
+    fn from(content: Proposal) -> ProposalOrRef {
+        ProposalOrRef::Proposal(content)
+    }
+}
+
+/// The case `reference` with this content.
+impl From<ProposalRef> for ProposalOrRef {
+    ghost from_gives = { λ content value. value ≡ ProposalOrRef.Reference content };
+
+    fn from(content: ProposalRef) -> ProposalOrRef {
+        ProposalOrRef::Reference(content)
+    }
+}
+
 /// Two are equal exactly where they are of one case, and each field is.
 pub fn is_compared_by_its_case()
     ensures tag { (x y : ProposalOrRef) →

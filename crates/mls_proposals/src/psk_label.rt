@@ -5,6 +5,7 @@ ghost use Rattle.mls_proposals.specs.declared.psk_label.PSKLabel.{PSKLabel};
 
 use crate::PreSharedKeyID;
 use tls_codec::{Error, Lent, Serialize, Sink, Size};
+use tls_codec_cases::append_as;
 
 /// `PSKLabel` (RFC 9420, section 8.4).
 ///
@@ -37,7 +38,11 @@ impl Serialize for PSKLabel<'_> {
     }
 
     fn tls_serialize_into(&self, out: &mut Vec<u8>) -> Result<usize, Error> {
-        (Lent(self.id), Lent(self.index), Lent(self.count)).tls_serialize_into(out)
+        append_as(
+            self,
+            &(Lent(self.id), Lent(self.index), Lent(self.count)),
+            out,
+        )
     }
 }
 

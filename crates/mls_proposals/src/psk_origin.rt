@@ -136,6 +136,27 @@ impl DeserializeBytes for PSKOrigin {
     }
 }
 
+impl PSKOrigin {
+    /// The tag of its case.
+    pub fn psktype(&self) -> u8
+        ensures { result ≡ psk_origin_tag self.now }
+    {
+        match self {
+            PSKOrigin::External(_) => 1,
+            PSKOrigin::Resumption { .. } => 2,
+        }
+    }
+}
+
+/// The case `external` with this content.
+impl From<VLBytes> for PSKOrigin {
+    ghost from_gives = { λ content value. value ≡ PSKOrigin.External content };
+
+    fn from(content: VLBytes) -> PSKOrigin {
+        PSKOrigin::External(content)
+    }
+}
+
 /// Two are equal exactly where they are of one case, and each field is.
 pub fn is_compared_by_its_case()
     ensures tag { (x y : PSKOrigin) →

@@ -8,6 +8,7 @@ use std::alloc::Global;
 use tls_codec::{
     Deserialize, DeserializeBytes, Error, Lent2, Serialize, Sink, Size, Source, VLBytes,
 };
+use tls_codec_cases::append_as;
 
 /// `ReInit` (RFC 9420, section 12.1.5).
 #[derive(PartialEq, Eq, Debug, Clone, Drop)]
@@ -21,6 +22,8 @@ pub struct ReInit {
     /// `Extension extensions<V>;`
     pub extensions: Vec<Extension>,
 }
+
+type Parts = ((VLBytes, ProtocolVersion), (CipherSuite, Vec<Extension>));
 
 impl Size for ReInit {
     ghost plain = { re_init_plain };
@@ -48,22 +51,24 @@ impl Serialize for ReInit {
     }
 
     fn tls_serialize_into(&self, out: &mut Vec<u8>) -> Result<usize, Error> {
-        (
-            Lent2(&self.group_id, &self.version),
-            Lent2(&self.cipher_suite, &self.extensions),
+        append_as(
+            self,
+            &(
+                Lent2(&self.group_id, &self.version),
+                Lent2(&self.cipher_suite, &self.extensions),
+            ),
+            out,
         )
-            .tls_serialize_into(out)
     }
 }
 
 impl Deserialize for ReInit {
-    ghost names = { ⟦<((VLBytes, ProtocolVersion), (CipherSuite, Vec<Extension>)) as Deserialize>⟧.names };
+    ghost names = { ⟦<Parts as Deserialize>⟧.names };
 
     fn tls_deserialize<R: Source>(alloc: Global, src: &mut R) -> Result<ReInit, Error> {
-        let ((group_id, version), (cipher_suite, extensions)) = <(
-            (VLBytes, ProtocolVersion),
-            (CipherSuite, Vec<Extension>),
-        )>::tls_deserialize(alloc, src)?;
+        let ((group_id, version), (cipher_suite, extensions)) = <Parts>::tls_deserialize(
+            alloc, src,
+        )?;
         Ok(ReInit {
             group_id,
             version,
@@ -74,13 +79,11 @@ impl Deserialize for ReInit {
 }
 
 impl DeserializeBytes for ReInit {
-    ghost names = { ⟦<((VLBytes, ProtocolVersion), (CipherSuite, Vec<Extension>)) as DeserializeBytes>⟧.names };
+    ghost names = { ⟦<Parts as DeserializeBytes>⟧.names };
 
     fn tls_deserialize_bytes(alloc: Global, whole: &[u8]) -> Result<(ReInit, &[u8]), Error> {
-        let (((group_id, version), (cipher_suite, extensions)), rest) = <(
-            (VLBytes, ProtocolVersion),
-            (CipherSuite, Vec<Extension>),
-        )>::tls_deserialize_bytes(alloc, whole)?;
+        let (((group_id, version), (cipher_suite, extensions)), rest) =
+            <Parts>::tls_deserialize_bytes(alloc, whole)?;
         Ok((
             ReInit {
                 group_id,

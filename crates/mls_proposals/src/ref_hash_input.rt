@@ -4,6 +4,7 @@ ghost use Rattle.mls_proposals.specs.RefHashInput.{ref_hash_input_format, ref_ha
 ghost use Rattle.mls_proposals.specs.declared.ref_hash_input.RefHashInput.{RefHashInput};
 
 use tls_codec::{Error, Lent, Serialize, Sink, Size, VLBytes};
+use tls_codec_cases::append_as;
 
 /// `RefHashInput` (RFC 9420, section 5.2).
 ///
@@ -34,7 +35,7 @@ impl Serialize for RefHashInput<'_> {
     }
 
     fn tls_serialize_into(&self, out: &mut Vec<u8>) -> Result<usize, Error> {
-        (Lent(self.label), Lent(self.value)).tls_serialize_into(out)
+        append_as(self, &(Lent(self.label), Lent(self.value)), out)
     }
 }
 

@@ -5,6 +5,7 @@ ghost use Rattle.mls_proposals.specs.declared.remove.Remove.{Remove};
 
 use std::alloc::Global;
 use tls_codec::{Deserialize, DeserializeBytes, Error, Serialize, Sink, Size, Source};
+use tls_codec_cases::append_as;
 
 /// `Remove` (RFC 9420, section 12.1.3).
 #[derive(PartialEq, Eq, Debug, Clone, Drop)]
@@ -31,7 +32,7 @@ impl Serialize for Remove {
     }
 
     fn tls_serialize_into(&self, out: &mut Vec<u8>) -> Result<usize, Error> {
-        self.removed.tls_serialize_into(out)
+        append_as(self, &self.removed, out)
     }
 }
 

@@ -6,6 +6,7 @@ ghost use Rattle.mls_proposals.specs.declared.required_capabilities.RequiredCapa
 use mls_leaf::{CredentialType, ExtensionType, ProposalType};
 use std::alloc::Global;
 use tls_codec::{Deserialize, DeserializeBytes, Error, Lent, Serialize, Sink, Size, Source};
+use tls_codec_cases::append_as;
 
 /// `RequiredCapabilities` (RFC 9420, section 11.1).
 #[derive(PartialEq, Eq, Debug, Clone, Drop)]
@@ -17,6 +18,8 @@ pub struct RequiredCapabilities {
     /// `CredentialType credential_types<V>;`
     pub credential_types: Vec<CredentialType>,
 }
+
+type Parts = (Vec<ExtensionType>, Vec<ProposalType>, Vec<CredentialType>);
 
 impl Size for RequiredCapabilities {
     ghost plain = { required_capabilities_plain };
@@ -46,27 +49,28 @@ impl Serialize for RequiredCapabilities {
     }
 
     fn tls_serialize_into(&self, out: &mut Vec<u8>) -> Result<usize, Error> {
-        (
-            Lent(&self.extension_types),
-            Lent(&self.proposal_types),
-            Lent(&self.credential_types),
+        append_as(
+            self,
+            &(
+                Lent(&self.extension_types),
+                Lent(&self.proposal_types),
+                Lent(&self.credential_types),
+            ),
+            out,
         )
-            .tls_serialize_into(out)
     }
 }
 
 impl Deserialize for RequiredCapabilities {
-    ghost names = { ⟦<(Vec<ExtensionType>, Vec<ProposalType>, Vec<CredentialType>) as Deserialize>⟧.names };
+    ghost names = { ⟦<Parts as Deserialize>⟧.names };
 
     fn tls_deserialize<R: Source>(
         alloc: Global,
         src: &mut R,
     ) -> Result<RequiredCapabilities, Error> {
-        let (extension_types, proposal_types, credential_types) = <(
-            Vec<ExtensionType>,
-            Vec<ProposalType>,
-            Vec<CredentialType>,
-        )>::tls_deserialize(alloc, src)?;
+        let (extension_types, proposal_types, credential_types) = <Parts>::tls_deserialize(
+            alloc, src,
+        )?;
         Ok(RequiredCapabilities {
             extension_types,
             proposal_types,
@@ -76,17 +80,14 @@ impl Deserialize for RequiredCapabilities {
 }
 
 impl DeserializeBytes for RequiredCapabilities {
-    ghost names = { ⟦<(Vec<ExtensionType>, Vec<ProposalType>, Vec<CredentialType>) as DeserializeBytes>⟧.names };
+    ghost names = { ⟦<Parts as DeserializeBytes>⟧.names };
 
     fn tls_deserialize_bytes(
         alloc: Global,
         whole: &[u8],
     ) -> Result<(RequiredCapabilities, &[u8]), Error> {
-        let ((extension_types, proposal_types, credential_types), rest) = <(
-            Vec<ExtensionType>,
-            Vec<ProposalType>,
-            Vec<CredentialType>,
-        )>::tls_deserialize_bytes(alloc, whole)?;
+        let ((extension_types, proposal_types, credential_types), rest) =
+            <Parts>::tls_deserialize_bytes(alloc, whole)?;
         Ok((
             RequiredCapabilities {
                 extension_types,

@@ -6,6 +6,7 @@ ghost use Rattle.mls_proposals.specs.declared.update.Update.{Update};
 use mls_leaf::LeafNode;
 use std::alloc::Global;
 use tls_codec::{Deserialize, DeserializeBytes, Error, Serialize, Sink, Size, Source};
+use tls_codec_cases::append_as;
 
 /// `Update` (RFC 9420, section 12.1.2).
 #[derive(PartialEq, Eq, Debug, Clone, Drop)]
@@ -32,7 +33,7 @@ impl Serialize for Update {
     }
 
     fn tls_serialize_into(&self, out: &mut Vec<u8>) -> Result<usize, Error> {
-        self.leaf_node.tls_serialize_into(out)
+        append_as(self, &self.leaf_node, out)
     }
 }
 

@@ -7,6 +7,7 @@ use crate::UpdatePathNode;
 use mls_leaf::LeafNode;
 use std::alloc::Global;
 use tls_codec::{Deserialize, DeserializeBytes, Error, Lent, Serialize, Sink, Size, Source};
+use tls_codec_cases::append_as;
 
 /// `UpdatePath` (RFC 9420, section 7.6).
 #[derive(PartialEq, Eq, Debug, Clone, Drop)]
@@ -16,6 +17,8 @@ pub struct UpdatePath {
     /// `UpdatePathNode nodes<V>;`
     pub nodes: Vec<UpdatePathNode>,
 }
+
+type Parts = (LeafNode, Vec<UpdatePathNode>);
 
 impl Size for UpdatePath {
     ghost plain = { update_path_plain };
@@ -35,26 +38,24 @@ impl Serialize for UpdatePath {
     }
 
     fn tls_serialize_into(&self, out: &mut Vec<u8>) -> Result<usize, Error> {
-        (Lent(&self.leaf_node), Lent(&self.nodes)).tls_serialize_into(out)
+        append_as(self, &(Lent(&self.leaf_node), Lent(&self.nodes)), out)
     }
 }
 
 impl Deserialize for UpdatePath {
-    ghost names = { ⟦<(LeafNode, Vec<UpdatePathNode>) as Deserialize>⟧.names };
+    ghost names = { ⟦<Parts as Deserialize>⟧.names };
 
     fn tls_deserialize<R: Source>(alloc: Global, src: &mut R) -> Result<UpdatePath, Error> {
-        let (leaf_node, nodes) = <(LeafNode, Vec<UpdatePathNode>)>::tls_deserialize(alloc, src)?;
+        let (leaf_node, nodes) = <Parts>::tls_deserialize(alloc, src)?;
         Ok(UpdatePath { leaf_node, nodes })
     }
 }
 
 impl DeserializeBytes for UpdatePath {
-    ghost names = { ⟦<(LeafNode, Vec<UpdatePathNode>) as DeserializeBytes>⟧.names };
+    ghost names = { ⟦<Parts as DeserializeBytes>⟧.names };
 
     fn tls_deserialize_bytes(alloc: Global, whole: &[u8]) -> Result<(UpdatePath, &[u8]), Error> {
-        let ((leaf_node, nodes), rest) = <(LeafNode, Vec<UpdatePathNode>)>::tls_deserialize_bytes(
-            alloc, whole,
-        )?;
+        let ((leaf_node, nodes), rest) = <Parts>::tls_deserialize_bytes(alloc, whole)?;
         Ok((UpdatePath { leaf_node, nodes }, rest))
     }
 }

@@ -7,6 +7,7 @@ use crate::HPKECiphertext;
 use mls_leaf::HPKEPublicKey;
 use std::alloc::Global;
 use tls_codec::{Deserialize, DeserializeBytes, Error, Lent, Serialize, Sink, Size, Source};
+use tls_codec_cases::append_as;
 
 /// `UpdatePathNode` (RFC 9420, section 7.6).
 #[derive(PartialEq, Eq, Debug, Clone, Drop)]
@@ -16,6 +17,8 @@ pub struct UpdatePathNode {
     /// `HPKECiphertext encrypted_path_secret<V>;`
     pub encrypted_path_secret: Vec<HPKECiphertext>,
 }
+
+type Parts = (HPKEPublicKey, Vec<HPKECiphertext>);
 
 impl Size for UpdatePathNode {
     ghost plain = { update_path_node_plain };
@@ -43,22 +46,22 @@ impl Serialize for UpdatePathNode {
     }
 
     fn tls_serialize_into(&self, out: &mut Vec<u8>) -> Result<usize, Error> {
-        (
-            Lent(&self.encryption_key),
-            Lent(&self.encrypted_path_secret),
+        append_as(
+            self,
+            &(
+                Lent(&self.encryption_key),
+                Lent(&self.encrypted_path_secret),
+            ),
+            out,
         )
-            .tls_serialize_into(out)
     }
 }
 
 impl Deserialize for UpdatePathNode {
-    ghost names = { ⟦<(HPKEPublicKey, Vec<HPKECiphertext>) as Deserialize>⟧.names };
+    ghost names = { ⟦<Parts as Deserialize>⟧.names };
 
     fn tls_deserialize<R: Source>(alloc: Global, src: &mut R) -> Result<UpdatePathNode, Error> {
-        let (encryption_key, encrypted_path_secret) = <(
-            HPKEPublicKey,
-            Vec<HPKECiphertext>,
-        )>::tls_deserialize(alloc, src)?;
+        let (encryption_key, encrypted_path_secret) = <Parts>::tls_deserialize(alloc, src)?;
         Ok(UpdatePathNode {
             encryption_key,
             encrypted_path_secret,
@@ -67,16 +70,15 @@ impl Deserialize for UpdatePathNode {
 }
 
 impl DeserializeBytes for UpdatePathNode {
-    ghost names = { ⟦<(HPKEPublicKey, Vec<HPKECiphertext>) as DeserializeBytes>⟧.names };
+    ghost names = { ⟦<Parts as DeserializeBytes>⟧.names };
 
     fn tls_deserialize_bytes(
         alloc: Global,
         whole: &[u8],
     ) -> Result<(UpdatePathNode, &[u8]), Error> {
-        let ((encryption_key, encrypted_path_secret), rest) = <(
-            HPKEPublicKey,
-            Vec<HPKECiphertext>,
-        )>::tls_deserialize_bytes(alloc, whole)?;
+        let ((encryption_key, encrypted_path_secret), rest) = <Parts>::tls_deserialize_bytes(
+            alloc, whole,
+        )?;
         Ok((
             UpdatePathNode {
                 encryption_key,

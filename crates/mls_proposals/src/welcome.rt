@@ -9,6 +9,7 @@ use std::alloc::Global;
 use tls_codec::{
     Deserialize, DeserializeBytes, Error, Lent, Serialize, Sink, Size, Source, VLBytes,
 };
+use tls_codec_cases::append_as;
 
 /// `Welcome` (RFC 9420, section 12.4.3.1).
 #[derive(PartialEq, Eq, Debug, Clone, Drop)]
@@ -20,6 +21,8 @@ pub struct Welcome {
     /// `opaque encrypted_group_info<V>;`
     pub encrypted_group_info: VLBytes,
 }
+
+type Parts = (CipherSuite, Vec<EncryptedGroupSecrets>, VLBytes);
 
 impl Size for Welcome {
     ghost plain = { welcome_plain };
@@ -49,24 +52,23 @@ impl Serialize for Welcome {
     }
 
     fn tls_serialize_into(&self, out: &mut Vec<u8>) -> Result<usize, Error> {
-        (
-            Lent(&self.cipher_suite),
-            Lent(&self.secrets),
-            Lent(&self.encrypted_group_info),
+        append_as(
+            self,
+            &(
+                Lent(&self.cipher_suite),
+                Lent(&self.secrets),
+                Lent(&self.encrypted_group_info),
+            ),
+            out,
         )
-            .tls_serialize_into(out)
     }
 }
 
 impl Deserialize for Welcome {
-    ghost names = { ⟦<(CipherSuite, Vec<EncryptedGroupSecrets>, VLBytes) as Deserialize>⟧.names };
+    ghost names = { ⟦<Parts as Deserialize>⟧.names };
 
     fn tls_deserialize<R: Source>(alloc: Global, src: &mut R) -> Result<Welcome, Error> {
-        let (cipher_suite, secrets, encrypted_group_info) = <(
-            CipherSuite,
-            Vec<EncryptedGroupSecrets>,
-            VLBytes,
-        )>::tls_deserialize(alloc, src)?;
+        let (cipher_suite, secrets, encrypted_group_info) = <Parts>::tls_deserialize(alloc, src)?;
         Ok(Welcome {
             cipher_suite,
             secrets,
@@ -76,14 +78,12 @@ impl Deserialize for Welcome {
 }
 
 impl DeserializeBytes for Welcome {
-    ghost names = { ⟦<(CipherSuite, Vec<EncryptedGroupSecrets>, VLBytes) as DeserializeBytes>⟧.names };
+    ghost names = { ⟦<Parts as DeserializeBytes>⟧.names };
 
     fn tls_deserialize_bytes(alloc: Global, whole: &[u8]) -> Result<(Welcome, &[u8]), Error> {
-        let ((cipher_suite, secrets, encrypted_group_info), rest) = <(
-            CipherSuite,
-            Vec<EncryptedGroupSecrets>,
-            VLBytes,
-        )>::tls_deserialize_bytes(alloc, whole)?;
+        let ((cipher_suite, secrets, encrypted_group_info), rest) = <Parts>::tls_deserialize_bytes(
+            alloc, whole,
+        )?;
         Ok((
             Welcome {
                 cipher_suite,

@@ -1,14 +1,17 @@
 //! Worked values and rejected bytes.
+mod arrays;
 mod each_call;
 mod elsewhere;
 mod held;
 mod in_context;
 mod mls_messages;
+mod of_cases;
 mod parts;
 mod private;
 mod selected;
 mod shapes;
 mod signed;
+mod to_end;
 
 use std::fmt::Debug;
 use std::process::Abort;

@@ -4,5 +4,6 @@ mod captures;
 mod extensions;
 mod handshakes;
 mod hellos;
+mod inner;
 mod names;
 mod records;

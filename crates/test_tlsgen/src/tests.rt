@@ -3,6 +3,7 @@ mod bad;
 mod comments;
 mod crates;
 mod elsewhere;
+mod framing;
 mod held;
 mod inputs;
 mod large;
@@ -15,6 +16,8 @@ mod printed;
 mod selects;
 mod shown;
 mod signed;
+mod unparsed;
+mod words;
 
 use shown::show;
 use std::alloc::Global;
@@ -48,7 +51,7 @@ fn expects(rt: &impl Abort, refusal: &Refusal, word: &str) {
 
 fn plan(alloc: Global, text: &str) -> Result<Plan, Trouble> {
     let file = parse(alloc, text)?;
-    plan_of(alloc, &[file]).map_err(|fault| fault.trouble)
+    plan_of(alloc, &mut [file]).map_err(|fault| fault.trouble)
 }
 
 fn made(rt: &impl Abort, alloc: Global, text: &str) -> Plan {
@@ -69,7 +72,7 @@ fn refusal(rt: &impl Abort, alloc: Global, text: &str) -> Refusal {
 
 #[test]
 fn worked_texts(rt: HostRuntime) -> Result<(), Fail> {
-    let mls = format!(in rt.alloc(); "{}{}", inputs::MLS, inputs::FRAMING_RFC)?;
+    let mls = format!(in rt.alloc(); "{}{}", inputs::MLS, framing::FRAMING_RFC)?;
     for (text, wanted) in [
         (inputs::SHAPES, plans::SHAPES),
         (inputs::ALERT, plans::ALERT),

@@ -31,6 +31,23 @@ pub fn decoded<T: Value>(alloc: Global, bytes: &[u8], out: &mut String) -> Resul
     }
 }
 
+// Validation says what the slice decoder says, or this is said.
+fn push_validated<T: Value>(
+    out: &mut String,
+    bytes: &[u8],
+    expected: Result<&[u8], Error>,
+) -> Result<(), AllocError> {
+    let whole = match expected {
+        Ok([]) => Ok(()),
+        Ok(_) => Err(Error::TrailingData),
+        Err(error) => Err(error),
+    };
+    if T::tls_validate_prefix(bytes) != expected || T::tls_validate(bytes) != whole {
+        out.push_str(", validation differs")?;
+    }
+    Ok(())
+}
+
 fn push_read<T: Value>(
     alloc: Global,
     out: &mut String,
@@ -47,6 +64,7 @@ fn push_read<T: Value>(
         T::tls_deserialize_exact_bytes(alloc, bytes),
         T::tls_deserialize_exact(alloc, bytes),
     )?;
+    push_validated::<T>(out, bytes, Ok(rest))?;
     out.push_str(", ")?;
     Encoded::of(alloc, value)?.push(alloc, value, out)
 }
@@ -84,7 +102,7 @@ pub fn push_refused(out: &mut String, by_slice: Error, by_reader: Error) -> Resu
     }
 }
 
-// The exact forms return the same errors, or this is said.
+// The exact forms and validation return the same errors, or this is said.
 fn push_exact_refused<T: Value>(
     alloc: Global,
     out: &mut String,
@@ -97,7 +115,7 @@ fn push_exact_refused<T: Value>(
     if one != Some(by_slice) || other != Some(by_reader) {
         out.push_str(", exact forms differ")?;
     }
-    Ok(())
+    push_validated::<T>(out, bytes, Err(by_slice))
 }
 
 // Sources that tell nothing give what the bytes in memory give, or this is said.

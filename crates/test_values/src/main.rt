@@ -6,7 +6,7 @@
 //!
 //! | Call | What is done |
 //! |---|---|
-//! | `value` | all decoders read a value of the type from the bytes, and all encoders write it ([`decoded`], [`encoded`]) |
+//! | `value` | all decoders read a value of the type from the bytes, validation says the same, and all encoders write it ([`decoded`], [`encoded`]) |
 //! | `elements N` | the list engines read elements of the type from the first `N` bytes ([`elements`]) |
 //! | `content` | all encoders write the list or byte vector that has these bytes in it |
 //!

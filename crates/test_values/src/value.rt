@@ -9,9 +9,10 @@ use crate::encoded::Encoded;
 use crate::notation::MANY;
 use std::alloc::{AllocError, Global};
 use tls_codec::{Deserialize, DeserializeBytes, Serialize, SerializeBytes};
+use tls_codec_validate::Validate;
 
 /// A type of rows.
-pub trait Value: Serialize + Deserialize + DeserializeBytes + PartialEq {
+pub trait Value: Serialize + Deserialize + Validate + PartialEq {
     /// Appends the value's text.
     fn show(&self, alloc: Global, out: &mut String) -> Result<(), AllocError>;
 

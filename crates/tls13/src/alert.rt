@@ -6,6 +6,7 @@ ghost use Rattle.tls13.specs.declared.alert.Alert.{Alert};
 use crate::{AlertDescription, AlertLevel};
 use std::alloc::Global;
 use tls_codec::{Deserialize, DeserializeBytes, Error, Lent, Serialize, Sink, Size, Source};
+use tls_codec_cases::append_as;
 
 /// `Alert` (RFC 8446, appendix B.2).
 #[derive(PartialEq, Eq, Debug, Clone, Drop)]
@@ -15,6 +16,8 @@ pub struct Alert {
     /// `AlertDescription description;`
     pub description: AlertDescription,
 }
+
+type Parts = (AlertLevel, AlertDescription);
 
 impl Size for Alert {
     ghost plain = { alert_plain };
@@ -34,26 +37,24 @@ impl Serialize for Alert {
     }
 
     fn tls_serialize_into(&self, out: &mut Vec<u8>) -> Result<usize, Error> {
-        (Lent(&self.level), Lent(&self.description)).tls_serialize_into(out)
+        append_as(self, &(Lent(&self.level), Lent(&self.description)), out)
     }
 }
 
 impl Deserialize for Alert {
-    ghost names = { ⟦<(AlertLevel, AlertDescription) as Deserialize>⟧.names };
+    ghost names = { ⟦<Parts as Deserialize>⟧.names };
 
     fn tls_deserialize<R: Source>(alloc: Global, src: &mut R) -> Result<Alert, Error> {
-        let (level, description) = <(AlertLevel, AlertDescription)>::tls_deserialize(alloc, src)?;
+        let (level, description) = <Parts>::tls_deserialize(alloc, src)?;
         Ok(Alert { level, description })
     }
 }
 
 impl DeserializeBytes for Alert {
-    ghost names = { ⟦<(AlertLevel, AlertDescription) as DeserializeBytes>⟧.names };
+    ghost names = { ⟦<Parts as DeserializeBytes>⟧.names };
 
     fn tls_deserialize_bytes(alloc: Global, whole: &[u8]) -> Result<(Alert, &[u8]), Error> {
-        let ((level, description), rest) = <(AlertLevel, AlertDescription)>::tls_deserialize_bytes(
-            alloc, whole,
-        )?;
+        let ((level, description), rest) = <Parts>::tls_deserialize_bytes(alloc, whole)?;
         Ok((Alert { level, description }, rest))
     }
 }

@@ -1,7 +1,8 @@
 //! [`AlertDescription`].
 ghost use Rattle.std.specs.Prelude.{◌≡◌, Some, nat_eq, option_map};
 ghost use Rattle.std.specs.Ordering.{nat_cmp};
-ghost use Rattle.tls13.specs.AlertDescription.{alert_description_format, alert_description_meets, alert_description_name, alert_description_plain, alert_description_text};
+ghost use Rattle.tls_codec.specs.Registries.{listed_name, name_or_number};
+ghost use Rattle.tls13.specs.AlertDescription.{alert_description_format, alert_description_meets, alert_description_names, alert_description_plain};
 ghost use Rattle.tls13.specs.declared.alert_description.AlertDescription.{AlertDescription};
 
 use std::alloc::Global;
@@ -117,7 +118,8 @@ impl AlertDescription {
 
     /// Its name in the text, if it has one.
     pub fn name(&self) -> Option<&'static str>
-        ensures { option_map (λ name. name.now) result ≡ alert_description_name self.now.0 }
+        ensures { option_map (λ name. name.now) result
+            ≡ listed_name alert_description_names self.now.0 }
     {
         match self.0 {
             0 => Some("close_notify"),
@@ -161,9 +163,9 @@ impl AlertDescription {
 
 /// Its name, or else its number in hexadecimal, two digits a byte. A width pads names alone.
 impl fmt::Display for AlertDescription {
-    ghost output = { λ v. Some (alert_description_text v.0) };
+    ghost output = { λ v. Some (name_or_number alert_description_names 2 v.0) };
 
-    #[tactic(auto, using(crate::specs::AlertDescription::alert_description_printed))]
+    #[tactic(auto, using(tls_codec::specs::Registries::hexadecimal_digits))]
     fn fmt<W: fmt::Write>(&self, f: &mut fmt::Formatter<W>) -> fmt::Result {
         match self.name() {
             Some(name) => f.pad(name),

@@ -1,7 +1,8 @@
 //! [`AlertLevel`].
 ghost use Rattle.std.specs.Prelude.{◌≡◌, Some, nat_eq, option_map};
 ghost use Rattle.std.specs.Ordering.{nat_cmp};
-ghost use Rattle.tls13.specs.AlertLevel.{alert_level_format, alert_level_meets, alert_level_name, alert_level_plain, alert_level_text};
+ghost use Rattle.tls_codec.specs.Registries.{listed_name, name_or_number};
+ghost use Rattle.tls13.specs.AlertLevel.{alert_level_format, alert_level_meets, alert_level_names, alert_level_plain};
 ghost use Rattle.tls13.specs.declared.alert_level.AlertLevel.{AlertLevel};
 
 use std::alloc::Global;
@@ -21,7 +22,7 @@ impl AlertLevel {
 
     /// Its name in the text, if it has one.
     pub fn name(&self) -> Option<&'static str>
-        ensures { option_map (λ name. name.now) result ≡ alert_level_name self.now.0 }
+        ensures { option_map (λ name. name.now) result ≡ listed_name alert_level_names self.now.0 }
     {
         match self.0 {
             1 => Some("warning"),
@@ -33,9 +34,9 @@ impl AlertLevel {
 
 /// Its name, or else its number in hexadecimal, two digits a byte. A width pads names alone.
 impl fmt::Display for AlertLevel {
-    ghost output = { λ v. Some (alert_level_text v.0) };
+    ghost output = { λ v. Some (name_or_number alert_level_names 2 v.0) };
 
-    #[tactic(auto, using(crate::specs::AlertLevel::alert_level_printed))]
+    #[tactic(auto, using(tls_codec::specs::Registries::hexadecimal_digits))]
     fn fmt<W: fmt::Write>(&self, f: &mut fmt::Formatter<W>) -> fmt::Result {
         match self.name() {
             Some(name) => f.pad(name),

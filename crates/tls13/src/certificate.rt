@@ -9,6 +9,7 @@ use tls_codec::{
     Deserialize, DeserializeBytes, Error, Lent, Serialize, Sink, Size, Source, TlsByteVecU8,
     TlsVecU24,
 };
+use tls_codec_cases::append_as;
 
 /// `Certificate` (RFC 8446, appendix B.3.3).
 #[derive(PartialEq, Eq, Debug, Clone, Drop)]
@@ -18,6 +19,8 @@ pub struct Certificate {
     /// `CertificateEntry certificate_list<0..2^24-1>;`
     pub certificate_list: TlsVecU24<CertificateEntry>,
 }
+
+type Parts = (TlsByteVecU8, TlsVecU24<CertificateEntry>);
 
 impl Size for Certificate {
     ghost plain = { certificate_plain };
@@ -45,22 +48,22 @@ impl Serialize for Certificate {
     }
 
     fn tls_serialize_into(&self, out: &mut Vec<u8>) -> Result<usize, Error> {
-        (
-            Lent(&self.certificate_request_context),
-            Lent(&self.certificate_list),
+        append_as(
+            self,
+            &(
+                Lent(&self.certificate_request_context),
+                Lent(&self.certificate_list),
+            ),
+            out,
         )
-            .tls_serialize_into(out)
     }
 }
 
 impl Deserialize for Certificate {
-    ghost names = { ⟦<(TlsByteVecU8, TlsVecU24<CertificateEntry>) as Deserialize>⟧.names };
+    ghost names = { ⟦<Parts as Deserialize>⟧.names };
 
     fn tls_deserialize<R: Source>(alloc: Global, src: &mut R) -> Result<Certificate, Error> {
-        let (certificate_request_context, certificate_list) = <(
-            TlsByteVecU8,
-            TlsVecU24<CertificateEntry>,
-        )>::tls_deserialize(alloc, src)?;
+        let (certificate_request_context, certificate_list) = <Parts>::tls_deserialize(alloc, src)?;
         Ok(Certificate {
             certificate_request_context,
             certificate_list,
@@ -69,13 +72,11 @@ impl Deserialize for Certificate {
 }
 
 impl DeserializeBytes for Certificate {
-    ghost names = { ⟦<(TlsByteVecU8, TlsVecU24<CertificateEntry>) as DeserializeBytes>⟧.names };
+    ghost names = { ⟦<Parts as DeserializeBytes>⟧.names };
 
     fn tls_deserialize_bytes(alloc: Global, whole: &[u8]) -> Result<(Certificate, &[u8]), Error> {
-        let ((certificate_request_context, certificate_list), rest) = <(
-            TlsByteVecU8,
-            TlsVecU24<CertificateEntry>,
-        )>::tls_deserialize_bytes(alloc, whole)?;
+        let ((certificate_request_context, certificate_list), rest) =
+            <Parts>::tls_deserialize_bytes(alloc, whole)?;
         Ok((
             Certificate {
                 certificate_request_context,

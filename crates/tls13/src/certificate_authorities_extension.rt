@@ -8,6 +8,7 @@ use std::alloc::Global;
 use tls_codec::{
     Deserialize, DeserializeBytes, Error, Serialize, Sink, Size, Source, TlsVec, Within,
 };
+use tls_codec_cases::append_as;
 
 /// `CertificateAuthoritiesExtension` (RFC 8446, appendix B.3.2).
 #[derive(PartialEq, Eq, Debug, Clone, Drop)]
@@ -15,6 +16,8 @@ pub struct CertificateAuthoritiesExtension {
     /// `DistinguishedName authorities<3..2^16-1>;`
     pub authorities: TlsVec<Within<u16, 3, 65535>, DistinguishedName>,
 }
+
+type Parts = TlsVec<Within<u16, 3, 65535>, DistinguishedName>;
 
 impl Size for CertificateAuthoritiesExtension {
     ghost plain = { certificate_authorities_extension_plain };
@@ -34,35 +37,30 @@ impl Serialize for CertificateAuthoritiesExtension {
     }
 
     fn tls_serialize_into(&self, out: &mut Vec<u8>) -> Result<usize, Error> {
-        self.authorities.tls_serialize_into(out)
+        append_as(self, &self.authorities, out)
     }
 }
 
 impl Deserialize for CertificateAuthoritiesExtension {
-    ghost names = { ⟦<TlsVec<Within<u16, 3, 65535>, DistinguishedName> as Deserialize>⟧.names };
+    ghost names = { ⟦<Parts as Deserialize>⟧.names };
 
     fn tls_deserialize<R: Source>(
         alloc: Global,
         src: &mut R,
     ) -> Result<CertificateAuthoritiesExtension, Error> {
-        let authorities = <TlsVec<Within<u16, 3, 65535>, DistinguishedName>>::tls_deserialize(
-            alloc, src,
-        )?;
+        let authorities = <Parts>::tls_deserialize(alloc, src)?;
         Ok(CertificateAuthoritiesExtension { authorities })
     }
 }
 
 impl DeserializeBytes for CertificateAuthoritiesExtension {
-    ghost names = { ⟦<TlsVec<Within<u16, 3, 65535>, DistinguishedName> as DeserializeBytes>⟧.names };
+    ghost names = { ⟦<Parts as DeserializeBytes>⟧.names };
 
     fn tls_deserialize_bytes(
         alloc: Global,
         whole: &[u8],
     ) -> Result<(CertificateAuthoritiesExtension, &[u8]), Error> {
-        let (authorities, rest) = <TlsVec<
-            Within<u16, 3, 65535>,
-            DistinguishedName,
-        >>::tls_deserialize_bytes(alloc, whole)?;
+        let (authorities, rest) = <Parts>::tls_deserialize_bytes(alloc, whole)?;
         Ok((CertificateAuthoritiesExtension { authorities }, rest))
     }
 }

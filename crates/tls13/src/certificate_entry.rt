@@ -9,6 +9,7 @@ use tls_codec::{
     Deserialize, DeserializeBytes, Error, Lent, Serialize, Sink, Size, Source, TlsByteVec,
     TlsVecU16, U24, Within,
 };
+use tls_codec_cases::append_as;
 
 /// `CertificateEntry` (RFC 8446, appendix B.3.3).
 #[derive(PartialEq, Eq, Debug, Clone, Drop)]
@@ -18,6 +19,8 @@ pub struct CertificateEntry {
     /// `Extension extensions<0..2^16-1>;`
     pub extensions: TlsVecU16<Extension>,
 }
+
+type Parts = (TlsByteVec<Within<U24, 1, 16777215>>, TlsVecU16<Extension>);
 
 impl Size for CertificateEntry {
     ghost plain = { certificate_entry_plain };
@@ -37,18 +40,15 @@ impl Serialize for CertificateEntry {
     }
 
     fn tls_serialize_into(&self, out: &mut Vec<u8>) -> Result<usize, Error> {
-        (Lent(&self.cert_data), Lent(&self.extensions)).tls_serialize_into(out)
+        append_as(self, &(Lent(&self.cert_data), Lent(&self.extensions)), out)
     }
 }
 
 impl Deserialize for CertificateEntry {
-    ghost names = { ⟦<(TlsByteVec<Within<U24, 1, 16777215>>, TlsVecU16<Extension>) as Deserialize>⟧.names };
+    ghost names = { ⟦<Parts as Deserialize>⟧.names };
 
     fn tls_deserialize<R: Source>(alloc: Global, src: &mut R) -> Result<CertificateEntry, Error> {
-        let (cert_data, extensions) = <(
-            TlsByteVec<Within<U24, 1, 16777215>>,
-            TlsVecU16<Extension>,
-        )>::tls_deserialize(alloc, src)?;
+        let (cert_data, extensions) = <Parts>::tls_deserialize(alloc, src)?;
         Ok(CertificateEntry {
             cert_data,
             extensions,
@@ -57,16 +57,13 @@ impl Deserialize for CertificateEntry {
 }
 
 impl DeserializeBytes for CertificateEntry {
-    ghost names = { ⟦<(TlsByteVec<Within<U24, 1, 16777215>>, TlsVecU16<Extension>) as DeserializeBytes>⟧.names };
+    ghost names = { ⟦<Parts as DeserializeBytes>⟧.names };
 
     fn tls_deserialize_bytes(
         alloc: Global,
         whole: &[u8],
     ) -> Result<(CertificateEntry, &[u8]), Error> {
-        let ((cert_data, extensions), rest) = <(
-            TlsByteVec<Within<U24, 1, 16777215>>,
-            TlsVecU16<Extension>,
-        )>::tls_deserialize_bytes(alloc, whole)?;
+        let ((cert_data, extensions), rest) = <Parts>::tls_deserialize_bytes(alloc, whole)?;
         Ok((
             CertificateEntry {
                 cert_data,

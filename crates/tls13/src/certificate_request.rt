@@ -9,6 +9,7 @@ use tls_codec::{
     Deserialize, DeserializeBytes, Error, Lent, Serialize, Sink, Size, Source, TlsByteVecU8,
     TlsVec, Within,
 };
+use tls_codec_cases::append_as;
 
 /// `CertificateRequest` (RFC 8446, appendix B.3.2).
 #[derive(PartialEq, Eq, Debug, Clone, Drop)]
@@ -18,6 +19,8 @@ pub struct CertificateRequest {
     /// `Extension extensions<2..2^16-1>;`
     pub extensions: TlsVec<Within<u16, 2, 65535>, Extension>,
 }
+
+type Parts = (TlsByteVecU8, TlsVec<Within<u16, 2, 65535>, Extension>);
 
 impl Size for CertificateRequest {
     ghost plain = { certificate_request_plain };
@@ -45,22 +48,22 @@ impl Serialize for CertificateRequest {
     }
 
     fn tls_serialize_into(&self, out: &mut Vec<u8>) -> Result<usize, Error> {
-        (
-            Lent(&self.certificate_request_context),
-            Lent(&self.extensions),
+        append_as(
+            self,
+            &(
+                Lent(&self.certificate_request_context),
+                Lent(&self.extensions),
+            ),
+            out,
         )
-            .tls_serialize_into(out)
     }
 }
 
 impl Deserialize for CertificateRequest {
-    ghost names = { ⟦<(TlsByteVecU8, TlsVec<Within<u16, 2, 65535>, Extension>) as Deserialize>⟧.names };
+    ghost names = { ⟦<Parts as Deserialize>⟧.names };
 
     fn tls_deserialize<R: Source>(alloc: Global, src: &mut R) -> Result<CertificateRequest, Error> {
-        let (certificate_request_context, extensions) = <(
-            TlsByteVecU8,
-            TlsVec<Within<u16, 2, 65535>, Extension>,
-        )>::tls_deserialize(alloc, src)?;
+        let (certificate_request_context, extensions) = <Parts>::tls_deserialize(alloc, src)?;
         Ok(CertificateRequest {
             certificate_request_context,
             extensions,
@@ -69,16 +72,15 @@ impl Deserialize for CertificateRequest {
 }
 
 impl DeserializeBytes for CertificateRequest {
-    ghost names = { ⟦<(TlsByteVecU8, TlsVec<Within<u16, 2, 65535>, Extension>) as DeserializeBytes>⟧.names };
+    ghost names = { ⟦<Parts as DeserializeBytes>⟧.names };
 
     fn tls_deserialize_bytes(
         alloc: Global,
         whole: &[u8],
     ) -> Result<(CertificateRequest, &[u8]), Error> {
-        let ((certificate_request_context, extensions), rest) = <(
-            TlsByteVecU8,
-            TlsVec<Within<u16, 2, 65535>, Extension>,
-        )>::tls_deserialize_bytes(alloc, whole)?;
+        let ((certificate_request_context, extensions), rest) = <Parts>::tls_deserialize_bytes(
+            alloc, whole,
+        )?;
         Ok((
             CertificateRequest {
                 certificate_request_context,

@@ -8,6 +8,7 @@ use std::alloc::Global;
 use tls_codec::{
     Deserialize, DeserializeBytes, Error, Lent, Serialize, Sink, Size, Source, TlsByteVecU16,
 };
+use tls_codec_cases::append_as;
 
 /// `CertificateVerify` (RFC 8446, appendix B.3.3).
 #[derive(PartialEq, Eq, Debug, Clone, Drop)]
@@ -17,6 +18,8 @@ pub struct CertificateVerify {
     /// `opaque signature<0..2^16-1>;`
     pub signature: TlsByteVecU16,
 }
+
+type Parts = (SignatureScheme, TlsByteVecU16);
 
 impl Size for CertificateVerify {
     ghost plain = { certificate_verify_plain };
@@ -36,17 +39,15 @@ impl Serialize for CertificateVerify {
     }
 
     fn tls_serialize_into(&self, out: &mut Vec<u8>) -> Result<usize, Error> {
-        (Lent(&self.algorithm), Lent(&self.signature)).tls_serialize_into(out)
+        append_as(self, &(Lent(&self.algorithm), Lent(&self.signature)), out)
     }
 }
 
 impl Deserialize for CertificateVerify {
-    ghost names = { ⟦<(SignatureScheme, TlsByteVecU16) as Deserialize>⟧.names };
+    ghost names = { ⟦<Parts as Deserialize>⟧.names };
 
     fn tls_deserialize<R: Source>(alloc: Global, src: &mut R) -> Result<CertificateVerify, Error> {
-        let (algorithm, signature) = <(SignatureScheme, TlsByteVecU16)>::tls_deserialize(
-            alloc, src,
-        )?;
+        let (algorithm, signature) = <Parts>::tls_deserialize(alloc, src)?;
         Ok(CertificateVerify {
             algorithm,
             signature,
@@ -55,16 +56,13 @@ impl Deserialize for CertificateVerify {
 }
 
 impl DeserializeBytes for CertificateVerify {
-    ghost names = { ⟦<(SignatureScheme, TlsByteVecU16) as DeserializeBytes>⟧.names };
+    ghost names = { ⟦<Parts as DeserializeBytes>⟧.names };
 
     fn tls_deserialize_bytes(
         alloc: Global,
         whole: &[u8],
     ) -> Result<(CertificateVerify, &[u8]), Error> {
-        let ((algorithm, signature), rest) = <(
-            SignatureScheme,
-            TlsByteVecU16,
-        )>::tls_deserialize_bytes(alloc, whole)?;
+        let ((algorithm, signature), rest) = <Parts>::tls_deserialize_bytes(alloc, whole)?;
         Ok((
             CertificateVerify {
                 algorithm,

@@ -9,6 +9,7 @@ use tls_codec::{
     Deserialize, DeserializeBytes, Error, Lent3, Serialize, Sink, Size, Source, TlsByteVec, TlsVec,
     Within,
 };
+use tls_codec_cases::append_as;
 
 /// `ClientHello` (RFC 8446, appendix B.3.1).
 #[derive(PartialEq, Eq, Debug, Clone, Drop)]
@@ -27,6 +28,15 @@ pub struct ClientHello {
     /// `Extension extensions<8..2^16-1>;`
     pub extensions: TlsVec<Within<u16, 8, 65535>, Extension>,
 }
+
+type Parts = (
+    (ProtocolVersionX0303, Random, TlsByteVec<Within<u8, 0, 32>>),
+    (
+        TlsVec<Within<u16, 2, 65534>, CipherSuite>,
+        TlsByteVec<Within<u8, 1, 255>>,
+        TlsVec<Within<u16, 8, 65535>, Extension>,
+    ),
+);
 
 impl Size for ClientHello {
     ghost plain = { client_hello_plain };
@@ -62,35 +72,29 @@ impl Serialize for ClientHello {
     }
 
     fn tls_serialize_into(&self, out: &mut Vec<u8>) -> Result<usize, Error> {
-        (
-            Lent3(&self.legacy_version, &self.random, &self.legacy_session_id),
-            Lent3(
-                &self.cipher_suites,
-                &self.legacy_compression_methods,
-                &self.extensions,
+        append_as(
+            self,
+            &(
+                Lent3(&self.legacy_version, &self.random, &self.legacy_session_id),
+                Lent3(
+                    &self.cipher_suites,
+                    &self.legacy_compression_methods,
+                    &self.extensions,
+                ),
             ),
+            out,
         )
-            .tls_serialize_into(out)
     }
 }
 
 impl Deserialize for ClientHello {
-    ghost names = { ⟦<((ProtocolVersionX0303, Random, TlsByteVec<Within<u8, 0, 32>>),
-        (TlsVec<Within<u16, 2, 65534>, CipherSuite>, TlsByteVec<Within<u8, 1, 255>>,
-        TlsVec<Within<u16, 8, 65535>, Extension>)) as Deserialize>⟧.names };
+    ghost names = { ⟦<Parts as Deserialize>⟧.names };
 
     fn tls_deserialize<R: Source>(alloc: Global, src: &mut R) -> Result<ClientHello, Error> {
         let (
             (legacy_version, random, legacy_session_id),
             (cipher_suites, legacy_compression_methods, extensions),
-        ) = <(
-            (ProtocolVersionX0303, Random, TlsByteVec<Within<u8, 0, 32>>),
-            (
-                TlsVec<Within<u16, 2, 65534>, CipherSuite>,
-                TlsByteVec<Within<u8, 1, 255>>,
-                TlsVec<Within<u16, 8, 65535>, Extension>,
-            ),
-        )>::tls_deserialize(alloc, src)?;
+        ) = <Parts>::tls_deserialize(alloc, src)?;
         Ok(ClientHello {
             legacy_version,
             random,
@@ -103,9 +107,7 @@ impl Deserialize for ClientHello {
 }
 
 impl DeserializeBytes for ClientHello {
-    ghost names = { ⟦<((ProtocolVersionX0303, Random, TlsByteVec<Within<u8, 0, 32>>),
-        (TlsVec<Within<u16, 2, 65534>, CipherSuite>, TlsByteVec<Within<u8, 1, 255>>,
-        TlsVec<Within<u16, 8, 65535>, Extension>)) as DeserializeBytes>⟧.names };
+    ghost names = { ⟦<Parts as DeserializeBytes>⟧.names };
 
     fn tls_deserialize_bytes(alloc: Global, whole: &[u8]) -> Result<(ClientHello, &[u8]), Error> {
         let (
@@ -114,14 +116,7 @@ impl DeserializeBytes for ClientHello {
                 (cipher_suites, legacy_compression_methods, extensions),
             ),
             rest,
-        ) = <(
-            (ProtocolVersionX0303, Random, TlsByteVec<Within<u8, 0, 32>>),
-            (
-                TlsVec<Within<u16, 2, 65534>, CipherSuite>,
-                TlsByteVec<Within<u8, 1, 255>>,
-                TlsVec<Within<u16, 8, 65535>, Extension>,
-            ),
-        )>::tls_deserialize_bytes(alloc, whole)?;
+        ) = <Parts>::tls_deserialize_bytes(alloc, whole)?;
         Ok((
             ClientHello {
                 legacy_version,

@@ -1,7 +1,8 @@
 //! [`ContentType`].
 ghost use Rattle.std.specs.Prelude.{◌≡◌, Some, nat_eq, option_map};
 ghost use Rattle.std.specs.Ordering.{nat_cmp};
-ghost use Rattle.tls13.specs.ContentType.{content_type_format, content_type_meets, content_type_name, content_type_plain, content_type_text};
+ghost use Rattle.tls_codec.specs.Registries.{listed_name, name_or_number};
+ghost use Rattle.tls13.specs.ContentType.{content_type_format, content_type_meets, content_type_names, content_type_plain};
 ghost use Rattle.tls13.specs.declared.content_type.ContentType.{ContentType};
 
 use std::alloc::Global;
@@ -34,7 +35,7 @@ impl ContentType {
 
     /// Its name in the text, if it has one.
     pub fn name(&self) -> Option<&'static str>
-        ensures { option_map (λ name. name.now) result ≡ content_type_name self.now.0 }
+        ensures { option_map (λ name. name.now) result ≡ listed_name content_type_names self.now.0 }
     {
         match self.0 {
             0 => Some("invalid"),
@@ -50,9 +51,9 @@ impl ContentType {
 
 /// Its name, or else its number in hexadecimal, two digits a byte. A width pads names alone.
 impl fmt::Display for ContentType {
-    ghost output = { λ v. Some (content_type_text v.0) };
+    ghost output = { λ v. Some (name_or_number content_type_names 2 v.0) };
 
-    #[tactic(auto, using(crate::specs::ContentType::content_type_printed))]
+    #[tactic(auto, using(tls_codec::specs::Registries::hexadecimal_digits))]
     fn fmt<W: fmt::Write>(&self, f: &mut fmt::Formatter<W>) -> fmt::Result {
         match self.name() {
             Some(name) => f.pad(name),

@@ -7,6 +7,7 @@ use std::alloc::Global;
 use tls_codec::{
     Deserialize, DeserializeBytes, Error, Serialize, Sink, Size, Source, TlsByteVec, Within,
 };
+use tls_codec_cases::append_as;
 
 /// `Cookie` (RFC 8446, appendix B.3.1.2).
 #[derive(PartialEq, Eq, Debug, Clone, Drop)]
@@ -33,7 +34,7 @@ impl Serialize for Cookie {
     }
 
     fn tls_serialize_into(&self, out: &mut Vec<u8>) -> Result<usize, Error> {
-        self.cookie.tls_serialize_into(out)
+        append_as(self, &self.cookie, out)
     }
 }
 

@@ -114,6 +114,15 @@ impl DeserializeBytesFor<HandshakeType> for EarlyDataIndication {
     }
 }
 
+/// The case `new_session_ticket` with this content.
+impl From<u32> for EarlyDataIndication {
+    ghost from_gives = { λ content value. value ≡ EarlyDataIndication.NewSessionTicket content };
+
+    fn from(content: u32) -> EarlyDataIndication {
+        EarlyDataIndication::NewSessionTicket(content)
+    }
+}
+
 /// Two are equal exactly where they are of one case, and each field is.
 pub fn is_compared_by_its_case()
     ensures tag { (x y : EarlyDataIndication) →

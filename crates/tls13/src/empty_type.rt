@@ -5,6 +5,7 @@ ghost use Rattle.tls13.specs.declared.empty_type.EmptyType.{EmptyType};
 
 use std::alloc::Global;
 use tls_codec::{Deserialize, DeserializeBytes, Error, Serialize, Sink, Size, Source};
+use tls_codec_cases::append_as;
 
 /// `Empty` (RFC 8446, appendix B.3.1).
 #[derive(PartialEq, Eq, Debug, Clone, Drop)]
@@ -28,7 +29,7 @@ impl Serialize for EmptyType {
     }
 
     fn tls_serialize_into(&self, out: &mut Vec<u8>) -> Result<usize, Error> {
-        ().tls_serialize_into(out)
+        append_as(self, &(), out)
     }
 }
 

@@ -6,6 +6,7 @@ ghost use Rattle.tls13.specs.declared.encrypted_extensions.EncryptedExtensions.{
 use crate::Extension;
 use std::alloc::Global;
 use tls_codec::{Deserialize, DeserializeBytes, Error, Serialize, Sink, Size, Source, TlsVecU16};
+use tls_codec_cases::append_as;
 
 /// `EncryptedExtensions` (RFC 8446, appendix B.3.2).
 #[derive(PartialEq, Eq, Debug, Clone, Drop)]
@@ -32,7 +33,7 @@ impl Serialize for EncryptedExtensions {
     }
 
     fn tls_serialize_into(&self, out: &mut Vec<u8>) -> Result<usize, Error> {
-        self.extensions.tls_serialize_into(out)
+        append_as(self, &self.extensions, out)
     }
 }
 

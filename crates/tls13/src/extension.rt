@@ -8,6 +8,7 @@ use std::alloc::Global;
 use tls_codec::{
     Deserialize, DeserializeBytes, Error, Lent, Serialize, Sink, Size, Source, TlsByteVecU16,
 };
+use tls_codec_cases::append_as;
 
 /// `Extension` (RFC 8446, appendix B.3.1).
 #[derive(PartialEq, Eq, Debug, Clone, Drop)]
@@ -17,6 +18,8 @@ pub struct Extension {
     /// `opaque extension_data<0..2^16-1>;`
     pub extension_data: TlsByteVecU16,
 }
+
+type Parts = (ExtensionType, TlsByteVecU16);
 
 impl Size for Extension {
     ghost plain = { extension_plain };
@@ -36,17 +39,19 @@ impl Serialize for Extension {
     }
 
     fn tls_serialize_into(&self, out: &mut Vec<u8>) -> Result<usize, Error> {
-        (Lent(&self.extension_type), Lent(&self.extension_data)).tls_serialize_into(out)
+        append_as(
+            self,
+            &(Lent(&self.extension_type), Lent(&self.extension_data)),
+            out,
+        )
     }
 }
 
 impl Deserialize for Extension {
-    ghost names = { ⟦<(ExtensionType, TlsByteVecU16) as Deserialize>⟧.names };
+    ghost names = { ⟦<Parts as Deserialize>⟧.names };
 
     fn tls_deserialize<R: Source>(alloc: Global, src: &mut R) -> Result<Extension, Error> {
-        let (extension_type, extension_data) = <(ExtensionType, TlsByteVecU16)>::tls_deserialize(
-            alloc, src,
-        )?;
+        let (extension_type, extension_data) = <Parts>::tls_deserialize(alloc, src)?;
         Ok(Extension {
             extension_type,
             extension_data,
@@ -55,13 +60,12 @@ impl Deserialize for Extension {
 }
 
 impl DeserializeBytes for Extension {
-    ghost names = { ⟦<(ExtensionType, TlsByteVecU16) as DeserializeBytes>⟧.names };
+    ghost names = { ⟦<Parts as DeserializeBytes>⟧.names };
 
     fn tls_deserialize_bytes(alloc: Global, whole: &[u8]) -> Result<(Extension, &[u8]), Error> {
-        let ((extension_type, extension_data), rest) = <(
-            ExtensionType,
-            TlsByteVecU16,
-        )>::tls_deserialize_bytes(alloc, whole)?;
+        let ((extension_type, extension_data), rest) = <Parts>::tls_deserialize_bytes(
+            alloc, whole,
+        )?;
         Ok((
             Extension {
                 extension_type,

@@ -1,7 +1,8 @@
 //! [`ExtensionType`].
 ghost use Rattle.std.specs.Prelude.{◌≡◌, Some, nat_eq, option_map};
 ghost use Rattle.std.specs.Ordering.{nat_cmp};
-ghost use Rattle.tls13.specs.ExtensionType.{extension_type_format, extension_type_meets, extension_type_name, extension_type_plain, extension_type_text};
+ghost use Rattle.tls_codec.specs.Registries.{listed_name, name_or_number};
+ghost use Rattle.tls13.specs.ExtensionType.{extension_type_format, extension_type_meets, extension_type_names, extension_type_plain};
 ghost use Rattle.tls13.specs.declared.extension_type.ExtensionType.{ExtensionType};
 
 use std::alloc::Global;
@@ -103,7 +104,8 @@ impl ExtensionType {
 
     /// Its name in the text, if it has one.
     pub fn name(&self) -> Option<&'static str>
-        ensures { option_map (λ name. name.now) result ≡ extension_type_name self.now.0 }
+        ensures { option_map (λ name. name.now) result
+            ≡ listed_name extension_type_names self.now.0 }
     {
         match self.0 {
             0 => Some("server_name"),
@@ -135,9 +137,9 @@ impl ExtensionType {
 
 /// Its name, or else its number in hexadecimal, two digits a byte. A width pads names alone.
 impl fmt::Display for ExtensionType {
-    ghost output = { λ v. Some (extension_type_text v.0) };
+    ghost output = { λ v. Some (name_or_number extension_type_names 4 v.0) };
 
-    #[tactic(auto, using(crate::specs::ExtensionType::extension_type_printed))]
+    #[tactic(auto, using(tls_codec::specs::Registries::hexadecimal_digits))]
     fn fmt<W: fmt::Write>(&self, f: &mut fmt::Formatter<W>) -> fmt::Result {
         match self.name() {
             Some(name) => f.pad(name),

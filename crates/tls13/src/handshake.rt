@@ -1,11 +1,12 @@
 //! [`Handshake`].
 ghost use Rattle.std.specs.Prelude.{◌≡◌, IsTrue};
+ghost use Rattle.tls13.specs.HandshakeType.{handshake_type_code};
 ghost use Rattle.tls13.specs.Handshake.{handshake_format, handshake_meets, handshake_plain, handshake_tag};
 ghost use Rattle.tls13.specs.declared.handshake.Handshake.{Handshake};
 
 use crate::{
     Certificate, CertificateRequest, CertificateVerify, ClientHello, EncryptedExtensions,
-    EndOfEarlyData, KeyUpdate, NewSessionTicket, ServerHello,
+    EndOfEarlyData, HandshakeType, KeyUpdate, NewSessionTicket, ServerHello,
 };
 use std::alloc::Global;
 use std::marker::PhantomData;
@@ -203,6 +204,116 @@ impl DeserializeBytes for Handshake {
     fn tls_deserialize_bytes(alloc: Global, whole: &[u8]) -> Result<(Handshake, &[u8]), Error> {
         let (cases, rest) = <Cases>::tls_deserialize_bytes(alloc, whole)?;
         Ok((Handshake::of(cases), rest))
+    }
+}
+
+impl Handshake {
+    /// The tag of its case.
+    pub fn msg_type(&self) -> HandshakeType
+        ensures { handshake_type_code result ≡ handshake_tag self.now }
+    {
+        match self {
+            Handshake::ClientHello(_) => HandshakeType::ClientHello,
+            Handshake::ServerHello(_) => HandshakeType::ServerHello,
+            Handshake::EndOfEarlyData(_) => HandshakeType::EndOfEarlyData,
+            Handshake::EncryptedExtensions(_) => HandshakeType::EncryptedExtensions,
+            Handshake::CertificateRequest(_) => HandshakeType::CertificateRequest,
+            Handshake::Certificate(_) => HandshakeType::Certificate,
+            Handshake::CertificateVerify(_) => HandshakeType::CertificateVerify,
+            Handshake::Finished(_) => HandshakeType::Finished,
+            Handshake::NewSessionTicket(_) => HandshakeType::NewSessionTicket,
+            Handshake::KeyUpdate(_) => HandshakeType::KeyUpdate,
+        }
+    }
+}
+
+/// The case `client_hello` with this content.
+impl From<ClientHello> for Handshake {
+    ghost from_gives = { λ content value. value ≡ Handshake.ClientHello content };
+
+    fn from(content: ClientHello) -> Handshake {
+        Handshake::ClientHello(content)
+    }
+}
+
+/// The case `server_hello` with this content.
+impl From<ServerHello> for Handshake {
+    ghost from_gives = { λ content value. value ≡ Handshake.ServerHello content };
+
+    fn from(content: ServerHello) -> Handshake {
+        Handshake::ServerHello(content)
+    }
+}
+
+/// The case `end_of_early_data` with this content.
+impl From<EndOfEarlyData> for Handshake {
+    ghost from_gives = { λ content value. value ≡ Handshake.EndOfEarlyData content };
+
+    fn from(content: EndOfEarlyData) -> Handshake {
+        Handshake::EndOfEarlyData(content)
+    }
+}
+
+/// The case `encrypted_extensions` with this content.
+impl From<EncryptedExtensions> for Handshake {
+    ghost from_gives = { λ content value. value ≡ Handshake.EncryptedExtensions content };
+
+    fn from(content: EncryptedExtensions) -> Handshake {
+        Handshake::EncryptedExtensions(content)
+    }
+}
+
+/// The case `certificate_request` with this content.
+impl From<CertificateRequest> for Handshake {
+    ghost from_gives = { λ content value. value ≡ Handshake.CertificateRequest content };
+
+    fn from(content: CertificateRequest) -> Handshake {
+        Handshake::CertificateRequest(content)
+    }
+}
+
+/// The case `certificate` with this content.
+impl From<Certificate> for Handshake {
+    ghost from_gives = { λ content value. value ≡ Handshake.Certificate content };
+
+    fn from(content: Certificate) -> Handshake {
+        Handshake::Certificate(content)
+    }
+}
+
+/// The case `certificate_verify` with this content.
+impl From<CertificateVerify> for Handshake {
+    ghost from_gives = { λ content value. value ≡ Handshake.CertificateVerify content };
+
+    fn from(content: CertificateVerify) -> Handshake {
+        Handshake::CertificateVerify(content)
+    }
+}
+
+/// The case `finished` with this content.
+impl From<TlsByteVecU24> for Handshake {
+    ghost from_gives = { λ content value. value ≡ Handshake.Finished content };
+
+    fn from(content: TlsByteVecU24) -> Handshake {
+        Handshake::Finished(content)
+    }
+}
+
+/// The case `new_session_ticket` with this content.
+impl From<NewSessionTicket> for Handshake {
+    ghost from_gives = { λ content value. value ≡ Handshake.NewSessionTicket content };
+
+    fn from(content: NewSessionTicket) -> Handshake {
+        Handshake::NewSessionTicket(content)
+    }
+}
+
+/// The case `key_update` with this content.
+impl From<KeyUpdate> for Handshake {
+    ghost from_gives = { λ content value. value ≡ Handshake.KeyUpdate content };
+
+    fn from(content: KeyUpdate) -> Handshake {
+        Handshake::KeyUpdate(content)
     }
 }
 

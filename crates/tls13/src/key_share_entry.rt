@@ -8,6 +8,7 @@ use std::alloc::Global;
 use tls_codec::{
     Deserialize, DeserializeBytes, Error, Lent, Serialize, Sink, Size, Source, TlsByteVec, Within,
 };
+use tls_codec_cases::append_as;
 
 /// `KeyShareEntry` (RFC 8446, appendix B.3.1).
 #[derive(PartialEq, Eq, Debug, Clone, Drop)]
@@ -17,6 +18,8 @@ pub struct KeyShareEntry {
     /// `opaque key_exchange<1..2^16-1>;`
     pub key_exchange: TlsByteVec<Within<u16, 1, 65535>>,
 }
+
+type Parts = (NamedGroup, TlsByteVec<Within<u16, 1, 65535>>);
 
 impl Size for KeyShareEntry {
     ghost plain = { key_share_entry_plain };
@@ -36,18 +39,15 @@ impl Serialize for KeyShareEntry {
     }
 
     fn tls_serialize_into(&self, out: &mut Vec<u8>) -> Result<usize, Error> {
-        (Lent(&self.group), Lent(&self.key_exchange)).tls_serialize_into(out)
+        append_as(self, &(Lent(&self.group), Lent(&self.key_exchange)), out)
     }
 }
 
 impl Deserialize for KeyShareEntry {
-    ghost names = { ⟦<(NamedGroup, TlsByteVec<Within<u16, 1, 65535>>) as Deserialize>⟧.names };
+    ghost names = { ⟦<Parts as Deserialize>⟧.names };
 
     fn tls_deserialize<R: Source>(alloc: Global, src: &mut R) -> Result<KeyShareEntry, Error> {
-        let (group, key_exchange) = <(
-            NamedGroup,
-            TlsByteVec<Within<u16, 1, 65535>>,
-        )>::tls_deserialize(alloc, src)?;
+        let (group, key_exchange) = <Parts>::tls_deserialize(alloc, src)?;
         Ok(KeyShareEntry {
             group,
             key_exchange,
@@ -56,13 +56,10 @@ impl Deserialize for KeyShareEntry {
 }
 
 impl DeserializeBytes for KeyShareEntry {
-    ghost names = { ⟦<(NamedGroup, TlsByteVec<Within<u16, 1, 65535>>) as DeserializeBytes>⟧.names };
+    ghost names = { ⟦<Parts as DeserializeBytes>⟧.names };
 
     fn tls_deserialize_bytes(alloc: Global, whole: &[u8]) -> Result<(KeyShareEntry, &[u8]), Error> {
-        let ((group, key_exchange), rest) = <(
-            NamedGroup,
-            TlsByteVec<Within<u16, 1, 65535>>,
-        )>::tls_deserialize_bytes(alloc, whole)?;
+        let ((group, key_exchange), rest) = <Parts>::tls_deserialize_bytes(alloc, whole)?;
         Ok((
             KeyShareEntry {
                 group,

@@ -6,6 +6,7 @@ ghost use Rattle.tls13.specs.declared.key_share_hello_retry_request.KeyShareHell
 use crate::NamedGroup;
 use std::alloc::Global;
 use tls_codec::{Deserialize, DeserializeBytes, Error, Serialize, Sink, Size, Source};
+use tls_codec_cases::append_as;
 
 /// `KeyShareHelloRetryRequest` (RFC 8446, appendix B.3.1).
 #[derive(PartialEq, Eq, Debug, Clone, Drop)]
@@ -32,7 +33,7 @@ impl Serialize for KeyShareHelloRetryRequest {
     }
 
     fn tls_serialize_into(&self, out: &mut Vec<u8>) -> Result<usize, Error> {
-        self.selected_group.tls_serialize_into(out)
+        append_as(self, &self.selected_group, out)
     }
 }
 

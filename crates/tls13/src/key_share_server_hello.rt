@@ -6,6 +6,7 @@ ghost use Rattle.tls13.specs.declared.key_share_server_hello.KeyShareServerHello
 use crate::KeyShareEntry;
 use std::alloc::Global;
 use tls_codec::{Deserialize, DeserializeBytes, Error, Serialize, Sink, Size, Source};
+use tls_codec_cases::append_as;
 
 /// `KeyShareServerHello` (RFC 8446, appendix B.3.1).
 #[derive(PartialEq, Eq, Debug, Clone, Drop)]
@@ -32,7 +33,7 @@ impl Serialize for KeyShareServerHello {
     }
 
     fn tls_serialize_into(&self, out: &mut Vec<u8>) -> Result<usize, Error> {
-        self.server_share.tls_serialize_into(out)
+        append_as(self, &self.server_share, out)
     }
 }
 

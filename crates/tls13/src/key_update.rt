@@ -6,6 +6,7 @@ ghost use Rattle.tls13.specs.declared.key_update.KeyUpdate.{KeyUpdate};
 use crate::KeyUpdateRequest;
 use std::alloc::Global;
 use tls_codec::{Deserialize, DeserializeBytes, Error, Serialize, Sink, Size, Source};
+use tls_codec_cases::append_as;
 
 /// `KeyUpdate` (RFC 8446, appendix B.3.5).
 #[derive(PartialEq, Eq, Debug, Clone, Drop)]
@@ -32,7 +33,7 @@ impl Serialize for KeyUpdate {
     }
 
     fn tls_serialize_into(&self, out: &mut Vec<u8>) -> Result<usize, Error> {
-        self.request_update.tls_serialize_into(out)
+        append_as(self, &self.request_update, out)
     }
 }
 

@@ -79,7 +79,9 @@ pub use key_update_request::KeyUpdateRequest;
 pub use legacy_compression_method_x00::LegacyCompressionMethodX00;
 pub use named_group::NamedGroup;
 pub use named_group_list::NamedGroupList;
-pub use names::{CipherSuite, DistinguishedName, ProtocolVersion, PskBinderEntry, Random};
+pub use names::{
+    CipherSuite, DistinguishedName, ProtocolVersion, PskBinderEntry, Random, TLSInnerPlaintext,
+};
 pub use new_session_ticket::NewSessionTicket;
 pub use offered_psks::OfferedPsks;
 pub use oid_filter::OIDFilter;

@@ -1,7 +1,8 @@
 //! [`NamedGroup`].
 ghost use Rattle.std.specs.Prelude.{◌≡◌, Some, nat_eq, option_map};
 ghost use Rattle.std.specs.Ordering.{nat_cmp};
-ghost use Rattle.tls13.specs.NamedGroup.{named_group_format, named_group_meets, named_group_name, named_group_plain, named_group_text};
+ghost use Rattle.tls_codec.specs.Registries.{listed_name, name_or_number};
+ghost use Rattle.tls13.specs.NamedGroup.{named_group_format, named_group_meets, named_group_names, named_group_plain};
 ghost use Rattle.tls13.specs.declared.named_group.NamedGroup.{NamedGroup};
 
 use std::alloc::Global;
@@ -49,7 +50,7 @@ impl NamedGroup {
 
     /// Its name in the text, if it has one.
     pub fn name(&self) -> Option<&'static str>
-        ensures { option_map (λ name. name.now) result ≡ named_group_name self.now.0 }
+        ensures { option_map (λ name. name.now) result ≡ listed_name named_group_names self.now.0 }
     {
         match self.0 {
             0 => Some("unallocated_RESERVED"),
@@ -70,9 +71,9 @@ impl NamedGroup {
 
 /// Its name, or else its number in hexadecimal, two digits a byte. A width pads names alone.
 impl fmt::Display for NamedGroup {
-    ghost output = { λ v. Some (named_group_text v.0) };
+    ghost output = { λ v. Some (name_or_number named_group_names 4 v.0) };
 
-    #[tactic(auto, using(crate::specs::NamedGroup::named_group_printed))]
+    #[tactic(auto, using(tls_codec::specs::Registries::hexadecimal_digits))]
     fn fmt<W: fmt::Write>(&self, f: &mut fmt::Formatter<W>) -> fmt::Result {
         match self.name() {
             Some(name) => f.pad(name),

@@ -8,6 +8,7 @@ use std::alloc::Global;
 use tls_codec::{
     Deserialize, DeserializeBytes, Error, Serialize, Sink, Size, Source, TlsVec, Within,
 };
+use tls_codec_cases::append_as;
 
 /// `NamedGroupList` (RFC 8446, appendix B.3.1.4).
 #[derive(PartialEq, Eq, Debug, Clone, Drop)]
@@ -15,6 +16,8 @@ pub struct NamedGroupList {
     /// `NamedGroup named_group_list<2..2^16-1>;`
     pub named_group_list: TlsVec<Within<u16, 2, 65535>, NamedGroup>,
 }
+
+type Parts = TlsVec<Within<u16, 2, 65535>, NamedGroup>;
 
 impl Size for NamedGroupList {
     ghost plain = { named_group_list_plain };
@@ -34,32 +37,27 @@ impl Serialize for NamedGroupList {
     }
 
     fn tls_serialize_into(&self, out: &mut Vec<u8>) -> Result<usize, Error> {
-        self.named_group_list.tls_serialize_into(out)
+        append_as(self, &self.named_group_list, out)
     }
 }
 
 impl Deserialize for NamedGroupList {
-    ghost names = { ⟦<TlsVec<Within<u16, 2, 65535>, NamedGroup> as Deserialize>⟧.names };
+    ghost names = { ⟦<Parts as Deserialize>⟧.names };
 
     fn tls_deserialize<R: Source>(alloc: Global, src: &mut R) -> Result<NamedGroupList, Error> {
-        let named_group_list = <TlsVec<Within<u16, 2, 65535>, NamedGroup>>::tls_deserialize(
-            alloc, src,
-        )?;
+        let named_group_list = <Parts>::tls_deserialize(alloc, src)?;
         Ok(NamedGroupList { named_group_list })
     }
 }
 
 impl DeserializeBytes for NamedGroupList {
-    ghost names = { ⟦<TlsVec<Within<u16, 2, 65535>, NamedGroup> as DeserializeBytes>⟧.names };
+    ghost names = { ⟦<Parts as DeserializeBytes>⟧.names };
 
     fn tls_deserialize_bytes(
         alloc: Global,
         whole: &[u8],
     ) -> Result<(NamedGroupList, &[u8]), Error> {
-        let (named_group_list, rest) = <TlsVec<
-            Within<u16, 2, 65535>,
-            NamedGroup,
-        >>::tls_deserialize_bytes(alloc, whole)?;
+        let (named_group_list, rest) = <Parts>::tls_deserialize_bytes(alloc, whole)?;
         Ok((NamedGroupList { named_group_list }, rest))
     }
 }

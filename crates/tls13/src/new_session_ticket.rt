@@ -9,6 +9,7 @@ use tls_codec::{
     Deserialize, DeserializeBytes, Error, Lent2, Lent3, Serialize, Sink, Size, Source, TlsByteVec,
     TlsByteVecU8, TlsVec, Within,
 };
+use tls_codec_cases::append_as;
 
 /// `NewSessionTicket` (RFC 8446, appendix B.3.4).
 #[derive(PartialEq, Eq, Debug, Clone, Drop)]
@@ -24,6 +25,14 @@ pub struct NewSessionTicket {
     /// `Extension extensions<0..65534>;`
     pub extensions: TlsVec<Within<u16, 0, 65534>, Extension>,
 }
+
+type Parts = (
+    (u32, u32, TlsByteVecU8),
+    (
+        TlsByteVec<Within<u16, 1, 65535>>,
+        TlsVec<Within<u16, 0, 65534>, Extension>,
+    ),
+);
 
 impl Size for NewSessionTicket {
     ghost plain = { new_session_ticket_plain };
@@ -59,30 +68,27 @@ impl Serialize for NewSessionTicket {
     }
 
     fn tls_serialize_into(&self, out: &mut Vec<u8>) -> Result<usize, Error> {
-        (
-            Lent3(
-                &self.ticket_lifetime,
-                &self.ticket_age_add,
-                &self.ticket_nonce,
+        append_as(
+            self,
+            &(
+                Lent3(
+                    &self.ticket_lifetime,
+                    &self.ticket_age_add,
+                    &self.ticket_nonce,
+                ),
+                Lent2(&self.ticket, &self.extensions),
             ),
-            Lent2(&self.ticket, &self.extensions),
+            out,
         )
-            .tls_serialize_into(out)
     }
 }
 
 impl Deserialize for NewSessionTicket {
-    ghost names = { ⟦<((u32, u32, TlsByteVecU8), (TlsByteVec<Within<u16, 1, 65535>>,
-        TlsVec<Within<u16, 0, 65534>, Extension>)) as Deserialize>⟧.names };
+    ghost names = { ⟦<Parts as Deserialize>⟧.names };
 
     fn tls_deserialize<R: Source>(alloc: Global, src: &mut R) -> Result<NewSessionTicket, Error> {
-        let ((ticket_lifetime, ticket_age_add, ticket_nonce), (ticket, extensions)) = <(
-            (u32, u32, TlsByteVecU8),
-            (
-                TlsByteVec<Within<u16, 1, 65535>>,
-                TlsVec<Within<u16, 0, 65534>, Extension>,
-            ),
-        )>::tls_deserialize(alloc, src)?;
+        let ((ticket_lifetime, ticket_age_add, ticket_nonce), (ticket, extensions)) =
+            <Parts>::tls_deserialize(alloc, src)?;
         Ok(NewSessionTicket {
             ticket_lifetime,
             ticket_age_add,
@@ -94,20 +100,14 @@ impl Deserialize for NewSessionTicket {
 }
 
 impl DeserializeBytes for NewSessionTicket {
-    ghost names = { ⟦<((u32, u32, TlsByteVecU8), (TlsByteVec<Within<u16, 1, 65535>>,
-        TlsVec<Within<u16, 0, 65534>, Extension>)) as DeserializeBytes>⟧.names };
+    ghost names = { ⟦<Parts as DeserializeBytes>⟧.names };
 
     fn tls_deserialize_bytes(
         alloc: Global,
         whole: &[u8],
     ) -> Result<(NewSessionTicket, &[u8]), Error> {
-        let (((ticket_lifetime, ticket_age_add, ticket_nonce), (ticket, extensions)), rest) = <(
-            (u32, u32, TlsByteVecU8),
-            (
-                TlsByteVec<Within<u16, 1, 65535>>,
-                TlsVec<Within<u16, 0, 65534>, Extension>,
-            ),
-        )>::tls_deserialize_bytes(alloc, whole)?;
+        let (((ticket_lifetime, ticket_age_add, ticket_nonce), (ticket, extensions)), rest) =
+            <Parts>::tls_deserialize_bytes(alloc, whole)?;
         Ok((
             NewSessionTicket {
                 ticket_lifetime,

@@ -8,6 +8,7 @@ use std::alloc::Global;
 use tls_codec::{
     Deserialize, DeserializeBytes, Error, Lent, Serialize, Sink, Size, Source, TlsVec, Within,
 };
+use tls_codec_cases::append_as;
 
 /// `OfferedPsks` (RFC 8446, appendix B.3.1).
 #[derive(PartialEq, Eq, Debug, Clone, Drop)]
@@ -17,6 +18,11 @@ pub struct OfferedPsks {
     /// `PskBinderEntry binders<33..2^16-1>;`
     pub binders: TlsVec<Within<u16, 33, 65535>, PskBinderEntry>,
 }
+
+type Parts = (
+    TlsVec<Within<u16, 7, 65535>, PskIdentity>,
+    TlsVec<Within<u16, 33, 65535>, PskBinderEntry>,
+);
 
 impl Size for OfferedPsks {
     ghost plain = { offered_psks_plain };
@@ -36,19 +42,15 @@ impl Serialize for OfferedPsks {
     }
 
     fn tls_serialize_into(&self, out: &mut Vec<u8>) -> Result<usize, Error> {
-        (Lent(&self.identities), Lent(&self.binders)).tls_serialize_into(out)
+        append_as(self, &(Lent(&self.identities), Lent(&self.binders)), out)
     }
 }
 
 impl Deserialize for OfferedPsks {
-    ghost names = { ⟦<(TlsVec<Within<u16, 7, 65535>, PskIdentity>,
-        TlsVec<Within<u16, 33, 65535>, PskBinderEntry>) as Deserialize>⟧.names };
+    ghost names = { ⟦<Parts as Deserialize>⟧.names };
 
     fn tls_deserialize<R: Source>(alloc: Global, src: &mut R) -> Result<OfferedPsks, Error> {
-        let (identities, binders) = <(
-            TlsVec<Within<u16, 7, 65535>, PskIdentity>,
-            TlsVec<Within<u16, 33, 65535>, PskBinderEntry>,
-        )>::tls_deserialize(alloc, src)?;
+        let (identities, binders) = <Parts>::tls_deserialize(alloc, src)?;
         Ok(OfferedPsks {
             identities,
             binders,
@@ -57,14 +59,10 @@ impl Deserialize for OfferedPsks {
 }
 
 impl DeserializeBytes for OfferedPsks {
-    ghost names = { ⟦<(TlsVec<Within<u16, 7, 65535>, PskIdentity>,
-        TlsVec<Within<u16, 33, 65535>, PskBinderEntry>) as DeserializeBytes>⟧.names };
+    ghost names = { ⟦<Parts as DeserializeBytes>⟧.names };
 
     fn tls_deserialize_bytes(alloc: Global, whole: &[u8]) -> Result<(OfferedPsks, &[u8]), Error> {
-        let ((identities, binders), rest) = <(
-            TlsVec<Within<u16, 7, 65535>, PskIdentity>,
-            TlsVec<Within<u16, 33, 65535>, PskBinderEntry>,
-        )>::tls_deserialize_bytes(alloc, whole)?;
+        let ((identities, binders), rest) = <Parts>::tls_deserialize_bytes(alloc, whole)?;
         Ok((
             OfferedPsks {
                 identities,

@@ -8,6 +8,7 @@ use tls_codec::{
     Deserialize, DeserializeBytes, Error, Lent, Serialize, Sink, Size, Source, TlsByteVec,
     TlsByteVecU16, Within,
 };
+use tls_codec_cases::append_as;
 
 /// `OIDFilter` (RFC 8446, appendix B.3.2).
 #[derive(PartialEq, Eq, Debug, Clone, Drop)]
@@ -17,6 +18,8 @@ pub struct OIDFilter {
     /// `opaque certificate_extension_values<0..2^16-1>;`
     pub certificate_extension_values: TlsByteVecU16,
 }
+
+type Parts = (TlsByteVec<Within<u8, 1, 255>>, TlsByteVecU16);
 
 impl Size for OIDFilter {
     ghost plain = { oid_filter_plain };
@@ -44,22 +47,24 @@ impl Serialize for OIDFilter {
     }
 
     fn tls_serialize_into(&self, out: &mut Vec<u8>) -> Result<usize, Error> {
-        (
-            Lent(&self.certificate_extension_oid),
-            Lent(&self.certificate_extension_values),
+        append_as(
+            self,
+            &(
+                Lent(&self.certificate_extension_oid),
+                Lent(&self.certificate_extension_values),
+            ),
+            out,
         )
-            .tls_serialize_into(out)
     }
 }
 
 impl Deserialize for OIDFilter {
-    ghost names = { ⟦<(TlsByteVec<Within<u8, 1, 255>>, TlsByteVecU16) as Deserialize>⟧.names };
+    ghost names = { ⟦<Parts as Deserialize>⟧.names };
 
     fn tls_deserialize<R: Source>(alloc: Global, src: &mut R) -> Result<OIDFilter, Error> {
-        let (certificate_extension_oid, certificate_extension_values) = <(
-            TlsByteVec<Within<u8, 1, 255>>,
-            TlsByteVecU16,
-        )>::tls_deserialize(alloc, src)?;
+        let (certificate_extension_oid, certificate_extension_values) = <Parts>::tls_deserialize(
+            alloc, src,
+        )?;
         Ok(OIDFilter {
             certificate_extension_oid,
             certificate_extension_values,
@@ -68,13 +73,11 @@ impl Deserialize for OIDFilter {
 }
 
 impl DeserializeBytes for OIDFilter {
-    ghost names = { ⟦<(TlsByteVec<Within<u8, 1, 255>>, TlsByteVecU16) as DeserializeBytes>⟧.names };
+    ghost names = { ⟦<Parts as DeserializeBytes>⟧.names };
 
     fn tls_deserialize_bytes(alloc: Global, whole: &[u8]) -> Result<(OIDFilter, &[u8]), Error> {
-        let ((certificate_extension_oid, certificate_extension_values), rest) = <(
-            TlsByteVec<Within<u8, 1, 255>>,
-            TlsByteVecU16,
-        )>::tls_deserialize_bytes(alloc, whole)?;
+        let ((certificate_extension_oid, certificate_extension_values), rest) =
+            <Parts>::tls_deserialize_bytes(alloc, whole)?;
         Ok((
             OIDFilter {
                 certificate_extension_oid,

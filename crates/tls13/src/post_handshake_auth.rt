@@ -5,6 +5,7 @@ ghost use Rattle.tls13.specs.declared.post_handshake_auth.PostHandshakeAuth.{Pos
 
 use std::alloc::Global;
 use tls_codec::{Deserialize, DeserializeBytes, Error, Serialize, Sink, Size, Source};
+use tls_codec_cases::append_as;
 
 /// `PostHandshakeAuth` (RFC 8446, appendix B.3.2).
 #[derive(PartialEq, Eq, Debug, Clone, Drop)]
@@ -28,7 +29,7 @@ impl Serialize for PostHandshakeAuth {
     }
 
     fn tls_serialize_into(&self, out: &mut Vec<u8>) -> Result<usize, Error> {
-        ().tls_serialize_into(out)
+        append_as(self, &(), out)
     }
 }
 

@@ -108,6 +108,24 @@ impl DeserializeBytesFor<HandshakeType> for PreSharedKeyExtension {
     }
 }
 
+/// The case `client_hello` with this content.
+impl From<OfferedPsks> for PreSharedKeyExtension {
+    ghost from_gives = { λ content value. value ≡ PreSharedKeyExtension.ClientHello content };
+
+    fn from(content: OfferedPsks) -> PreSharedKeyExtension {
+        PreSharedKeyExtension::ClientHello(content)
+    }
+}
+
+/// The case `server_hello` with this content.
+impl From<u16> for PreSharedKeyExtension {
+    ghost from_gives = { λ content value. value ≡ PreSharedKeyExtension.ServerHello content };
+
+    fn from(content: u16) -> PreSharedKeyExtension {
+        PreSharedKeyExtension::ServerHello(content)
+    }
+}
+
 /// Two are equal exactly where they are of one case, and each field is.
 pub fn is_compared_by_its_case()
     ensures tag { (x y : PreSharedKeyExtension) →

@@ -7,6 +7,7 @@ use std::alloc::Global;
 use tls_codec::{
     Deserialize, DeserializeBytes, Error, Lent, Serialize, Sink, Size, Source, TlsByteVec, Within,
 };
+use tls_codec_cases::append_as;
 
 /// `PskIdentity` (RFC 8446, appendix B.3.1).
 #[derive(PartialEq, Eq, Debug, Clone, Drop)]
@@ -16,6 +17,8 @@ pub struct PskIdentity {
     /// `uint32 obfuscated_ticket_age;`
     pub obfuscated_ticket_age: u32,
 }
+
+type Parts = (TlsByteVec<Within<u16, 1, 65535>>, u32);
 
 impl Size for PskIdentity {
     ghost plain = { psk_identity_plain };
@@ -35,18 +38,19 @@ impl Serialize for PskIdentity {
     }
 
     fn tls_serialize_into(&self, out: &mut Vec<u8>) -> Result<usize, Error> {
-        (Lent(&self.identity), Lent(&self.obfuscated_ticket_age)).tls_serialize_into(out)
+        append_as(
+            self,
+            &(Lent(&self.identity), Lent(&self.obfuscated_ticket_age)),
+            out,
+        )
     }
 }
 
 impl Deserialize for PskIdentity {
-    ghost names = { ⟦<(TlsByteVec<Within<u16, 1, 65535>>, u32) as Deserialize>⟧.names };
+    ghost names = { ⟦<Parts as Deserialize>⟧.names };
 
     fn tls_deserialize<R: Source>(alloc: Global, src: &mut R) -> Result<PskIdentity, Error> {
-        let (identity, obfuscated_ticket_age) = <(
-            TlsByteVec<Within<u16, 1, 65535>>,
-            u32,
-        )>::tls_deserialize(alloc, src)?;
+        let (identity, obfuscated_ticket_age) = <Parts>::tls_deserialize(alloc, src)?;
         Ok(PskIdentity {
             identity,
             obfuscated_ticket_age,
@@ -55,13 +59,12 @@ impl Deserialize for PskIdentity {
 }
 
 impl DeserializeBytes for PskIdentity {
-    ghost names = { ⟦<(TlsByteVec<Within<u16, 1, 65535>>, u32) as DeserializeBytes>⟧.names };
+    ghost names = { ⟦<Parts as DeserializeBytes>⟧.names };
 
     fn tls_deserialize_bytes(alloc: Global, whole: &[u8]) -> Result<(PskIdentity, &[u8]), Error> {
-        let ((identity, obfuscated_ticket_age), rest) = <(
-            TlsByteVec<Within<u16, 1, 65535>>,
-            u32,
-        )>::tls_deserialize_bytes(alloc, whole)?;
+        let ((identity, obfuscated_ticket_age), rest) = <Parts>::tls_deserialize_bytes(
+            alloc, whole,
+        )?;
         Ok((
             PskIdentity {
                 identity,

@@ -1,7 +1,8 @@
 //! [`PskKeyExchangeMode`].
 ghost use Rattle.std.specs.Prelude.{◌≡◌, Some, nat_eq, option_map};
 ghost use Rattle.std.specs.Ordering.{nat_cmp};
-ghost use Rattle.tls13.specs.PskKeyExchangeMode.{psk_key_exchange_mode_format, psk_key_exchange_mode_meets, psk_key_exchange_mode_name, psk_key_exchange_mode_plain, psk_key_exchange_mode_text};
+ghost use Rattle.tls_codec.specs.Registries.{listed_name, name_or_number};
+ghost use Rattle.tls13.specs.PskKeyExchangeMode.{psk_key_exchange_mode_format, psk_key_exchange_mode_meets, psk_key_exchange_mode_names, psk_key_exchange_mode_plain};
 ghost use Rattle.tls13.specs.declared.psk_key_exchange_mode.PskKeyExchangeMode.{PskKeyExchangeMode};
 
 use std::alloc::Global;
@@ -21,7 +22,8 @@ impl PskKeyExchangeMode {
 
     /// Its name in the text, if it has one.
     pub fn name(&self) -> Option<&'static str>
-        ensures { option_map (λ name. name.now) result ≡ psk_key_exchange_mode_name self.now.0 }
+        ensures { option_map (λ name. name.now) result
+            ≡ listed_name psk_key_exchange_mode_names self.now.0 }
     {
         match self.0 {
             0 => Some("psk_ke"),
@@ -33,9 +35,9 @@ impl PskKeyExchangeMode {
 
 /// Its name, or else its number in hexadecimal, two digits a byte. A width pads names alone.
 impl fmt::Display for PskKeyExchangeMode {
-    ghost output = { λ v. Some (psk_key_exchange_mode_text v.0) };
+    ghost output = { λ v. Some (name_or_number psk_key_exchange_mode_names 2 v.0) };
 
-    #[tactic(auto, using(crate::specs::PskKeyExchangeMode::psk_key_exchange_mode_printed))]
+    #[tactic(auto, using(tls_codec::specs::Registries::hexadecimal_digits))]
     fn fmt<W: fmt::Write>(&self, f: &mut fmt::Formatter<W>) -> fmt::Result {
         match self.name() {
             Some(name) => f.pad(name),

@@ -8,6 +8,7 @@ use std::alloc::Global;
 use tls_codec::{
     Deserialize, DeserializeBytes, Error, Serialize, Sink, Size, Source, TlsVec, Within,
 };
+use tls_codec_cases::append_as;
 
 /// `PskKeyExchangeModes` (RFC 8446, appendix B.3.1).
 #[derive(PartialEq, Eq, Debug, Clone, Drop)]
@@ -15,6 +16,8 @@ pub struct PskKeyExchangeModes {
     /// `PskKeyExchangeMode ke_modes<1..2^8-1>;`
     pub ke_modes: TlsVec<Within<u8, 1, 255>, PskKeyExchangeMode>,
 }
+
+type Parts = TlsVec<Within<u8, 1, 255>, PskKeyExchangeMode>;
 
 impl Size for PskKeyExchangeModes {
     ghost plain = { psk_key_exchange_modes_plain };
@@ -34,35 +37,30 @@ impl Serialize for PskKeyExchangeModes {
     }
 
     fn tls_serialize_into(&self, out: &mut Vec<u8>) -> Result<usize, Error> {
-        self.ke_modes.tls_serialize_into(out)
+        append_as(self, &self.ke_modes, out)
     }
 }
 
 impl Deserialize for PskKeyExchangeModes {
-    ghost names = { ⟦<TlsVec<Within<u8, 1, 255>, PskKeyExchangeMode> as Deserialize>⟧.names };
+    ghost names = { ⟦<Parts as Deserialize>⟧.names };
 
     fn tls_deserialize<R: Source>(
         alloc: Global,
         src: &mut R,
     ) -> Result<PskKeyExchangeModes, Error> {
-        let ke_modes = <TlsVec<Within<u8, 1, 255>, PskKeyExchangeMode>>::tls_deserialize(
-            alloc, src,
-        )?;
+        let ke_modes = <Parts>::tls_deserialize(alloc, src)?;
         Ok(PskKeyExchangeModes { ke_modes })
     }
 }
 
 impl DeserializeBytes for PskKeyExchangeModes {
-    ghost names = { ⟦<TlsVec<Within<u8, 1, 255>, PskKeyExchangeMode> as DeserializeBytes>⟧.names };
+    ghost names = { ⟦<Parts as DeserializeBytes>⟧.names };
 
     fn tls_deserialize_bytes(
         alloc: Global,
         whole: &[u8],
     ) -> Result<(PskKeyExchangeModes, &[u8]), Error> {
-        let (ke_modes, rest) = <TlsVec<
-            Within<u8, 1, 255>,
-            PskKeyExchangeMode,
-        >>::tls_deserialize_bytes(alloc, whole)?;
+        let (ke_modes, rest) = <Parts>::tls_deserialize_bytes(alloc, whole)?;
         Ok((PskKeyExchangeModes { ke_modes }, rest))
     }
 }

@@ -9,6 +9,7 @@ use tls_codec::{
     Deserialize, DeserializeBytes, Error, Lent3, Serialize, Sink, Size, Source, TlsByteVec, TlsVec,
     Within,
 };
+use tls_codec_cases::append_as;
 
 /// `ServerHello` (RFC 8446, appendix B.3.1).
 #[derive(PartialEq, Eq, Debug, Clone, Drop)]
@@ -27,6 +28,15 @@ pub struct ServerHello {
     /// `Extension extensions<6..2^16-1>;`
     pub extensions: TlsVec<Within<u16, 6, 65535>, Extension>,
 }
+
+type Parts = (
+    (ProtocolVersionX0303, Random, TlsByteVec<Within<u8, 0, 32>>),
+    (
+        CipherSuite,
+        LegacyCompressionMethodX00,
+        TlsVec<Within<u16, 6, 65535>, Extension>,
+    ),
+);
 
 impl Size for ServerHello {
     ghost plain = { server_hello_plain };
@@ -70,39 +80,33 @@ impl Serialize for ServerHello {
     }
 
     fn tls_serialize_into(&self, out: &mut Vec<u8>) -> Result<usize, Error> {
-        (
-            Lent3(
-                &self.legacy_version,
-                &self.random,
-                &self.legacy_session_id_echo,
+        append_as(
+            self,
+            &(
+                Lent3(
+                    &self.legacy_version,
+                    &self.random,
+                    &self.legacy_session_id_echo,
+                ),
+                Lent3(
+                    &self.cipher_suite,
+                    &self.legacy_compression_method,
+                    &self.extensions,
+                ),
             ),
-            Lent3(
-                &self.cipher_suite,
-                &self.legacy_compression_method,
-                &self.extensions,
-            ),
+            out,
         )
-            .tls_serialize_into(out)
     }
 }
 
 impl Deserialize for ServerHello {
-    ghost names = { ⟦<((ProtocolVersionX0303, Random, TlsByteVec<Within<u8, 0, 32>>),
-        (CipherSuite, LegacyCompressionMethodX00, TlsVec<Within<u16, 6, 65535>,
-        Extension>)) as Deserialize>⟧.names };
+    ghost names = { ⟦<Parts as Deserialize>⟧.names };
 
     fn tls_deserialize<R: Source>(alloc: Global, src: &mut R) -> Result<ServerHello, Error> {
         let (
             (legacy_version, random, legacy_session_id_echo),
             (cipher_suite, legacy_compression_method, extensions),
-        ) = <(
-            (ProtocolVersionX0303, Random, TlsByteVec<Within<u8, 0, 32>>),
-            (
-                CipherSuite,
-                LegacyCompressionMethodX00,
-                TlsVec<Within<u16, 6, 65535>, Extension>,
-            ),
-        )>::tls_deserialize(alloc, src)?;
+        ) = <Parts>::tls_deserialize(alloc, src)?;
         Ok(ServerHello {
             legacy_version,
             random,
@@ -115,19 +119,10 @@ impl Deserialize for ServerHello {
 }
 
 impl DeserializeBytes for ServerHello {
-    ghost names = { ⟦<((ProtocolVersionX0303, Random, TlsByteVec<Within<u8, 0, 32>>),
-        (CipherSuite, LegacyCompressionMethodX00, TlsVec<Within<u16, 6, 65535>,
-        Extension>)) as DeserializeBytes>⟧.names };
+    ghost names = { ⟦<Parts as DeserializeBytes>⟧.names };
 
     fn tls_deserialize_bytes(alloc: Global, whole: &[u8]) -> Result<(ServerHello, &[u8]), Error> {
-        let (parts, rest) = <(
-            (ProtocolVersionX0303, Random, TlsByteVec<Within<u8, 0, 32>>),
-            (
-                CipherSuite,
-                LegacyCompressionMethodX00,
-                TlsVec<Within<u16, 6, 65535>, Extension>,
-            ),
-        )>::tls_deserialize_bytes(alloc, whole)?;
+        let (parts, rest) = <Parts>::tls_deserialize_bytes(alloc, whole)?;
         let (parts_0, parts_1) = parts;
         let (legacy_version, random, legacy_session_id_echo) = parts_0;
         let (cipher_suite, legacy_compression_method, extensions) = parts_1;

@@ -1,7 +1,8 @@
 //! [`SignatureScheme`].
 ghost use Rattle.std.specs.Prelude.{◌≡◌, Some, nat_eq, option_map};
 ghost use Rattle.std.specs.Ordering.{nat_cmp};
-ghost use Rattle.tls13.specs.SignatureScheme.{signature_scheme_format, signature_scheme_meets, signature_scheme_name, signature_scheme_plain, signature_scheme_text};
+ghost use Rattle.tls_codec.specs.Registries.{listed_name, name_or_number};
+ghost use Rattle.tls13.specs.SignatureScheme.{signature_scheme_format, signature_scheme_meets, signature_scheme_names, signature_scheme_plain};
 ghost use Rattle.tls13.specs.declared.signature_scheme.SignatureScheme.{SignatureScheme};
 
 use std::alloc::Global;
@@ -81,7 +82,8 @@ impl SignatureScheme {
 
     /// Its name in the text, if it has one.
     pub fn name(&self) -> Option<&'static str>
-        ensures { option_map (λ name. name.now) result ≡ signature_scheme_name self.now.0 }
+        ensures { option_map (λ name. name.now) result
+            ≡ listed_name signature_scheme_names self.now.0 }
     {
         match self.0 {
             1025 => Some("rsa_pkcs1_sha256"),
@@ -111,9 +113,9 @@ impl SignatureScheme {
 
 /// Its name, or else its number in hexadecimal, two digits a byte. A width pads names alone.
 impl fmt::Display for SignatureScheme {
-    ghost output = { λ v. Some (signature_scheme_text v.0) };
+    ghost output = { λ v. Some (name_or_number signature_scheme_names 4 v.0) };
 
-    #[tactic(auto, using(crate::specs::SignatureScheme::signature_scheme_printed))]
+    #[tactic(auto, using(tls_codec::specs::Registries::hexadecimal_digits))]
     fn fmt<W: fmt::Write>(&self, f: &mut fmt::Formatter<W>) -> fmt::Result {
         match self.name() {
             Some(name) => f.pad(name),

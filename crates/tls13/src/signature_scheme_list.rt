@@ -8,6 +8,7 @@ use std::alloc::Global;
 use tls_codec::{
     Deserialize, DeserializeBytes, Error, Serialize, Sink, Size, Source, TlsVec, Within,
 };
+use tls_codec_cases::append_as;
 
 /// `SignatureSchemeList` (RFC 8446, appendix B.3.1.3).
 #[derive(PartialEq, Eq, Debug, Clone, Drop)]
@@ -15,6 +16,8 @@ pub struct SignatureSchemeList {
     /// `SignatureScheme supported_signature_algorithms<2..65534>;`
     pub supported_signature_algorithms: TlsVec<Within<u16, 2, 65534>, SignatureScheme>,
 }
+
+type Parts = TlsVec<Within<u16, 2, 65534>, SignatureScheme>;
 
 impl Size for SignatureSchemeList {
     ghost plain = { signature_scheme_list_plain };
@@ -34,21 +37,18 @@ impl Serialize for SignatureSchemeList {
     }
 
     fn tls_serialize_into(&self, out: &mut Vec<u8>) -> Result<usize, Error> {
-        self.supported_signature_algorithms.tls_serialize_into(out)
+        append_as(self, &self.supported_signature_algorithms, out)
     }
 }
 
 impl Deserialize for SignatureSchemeList {
-    ghost names = { ⟦<TlsVec<Within<u16, 2, 65534>, SignatureScheme> as Deserialize>⟧.names };
+    ghost names = { ⟦<Parts as Deserialize>⟧.names };
 
     fn tls_deserialize<R: Source>(
         alloc: Global,
         src: &mut R,
     ) -> Result<SignatureSchemeList, Error> {
-        let supported_signature_algorithms = <TlsVec<
-            Within<u16, 2, 65534>,
-            SignatureScheme,
-        >>::tls_deserialize(alloc, src)?;
+        let supported_signature_algorithms = <Parts>::tls_deserialize(alloc, src)?;
         Ok(SignatureSchemeList {
             supported_signature_algorithms,
         })
@@ -56,16 +56,13 @@ impl Deserialize for SignatureSchemeList {
 }
 
 impl DeserializeBytes for SignatureSchemeList {
-    ghost names = { ⟦<TlsVec<Within<u16, 2, 65534>, SignatureScheme> as DeserializeBytes>⟧.names };
+    ghost names = { ⟦<Parts as DeserializeBytes>⟧.names };
 
     fn tls_deserialize_bytes(
         alloc: Global,
         whole: &[u8],
     ) -> Result<(SignatureSchemeList, &[u8]), Error> {
-        let (supported_signature_algorithms, rest) = <TlsVec<
-            Within<u16, 2, 65534>,
-            SignatureScheme,
-        >>::tls_deserialize_bytes(alloc, whole)?;
+        let (supported_signature_algorithms, rest) = <Parts>::tls_deserialize_bytes(alloc, whole)?;
         Ok((
             SignatureSchemeList {
                 supported_signature_algorithms,

@@ -116,6 +116,24 @@ impl DeserializeBytesFor<HandshakeType> for SupportedVersions {
     }
 }
 
+/// The case `client_hello` with this content.
+impl From<TlsVec<Within<u8, 2, 254>, ProtocolVersion>> for SupportedVersions {
+    ghost from_gives = { λ content value. value ≡ SupportedVersions.ClientHello content };
+
+    fn from(content: TlsVec<Within<u8, 2, 254>, ProtocolVersion>) -> SupportedVersions {
+        SupportedVersions::ClientHello(content)
+    }
+}
+
+/// The case `server_hello` with this content.
+impl From<ProtocolVersion> for SupportedVersions {
+    ghost from_gives = { λ content value. value ≡ SupportedVersions.ServerHello content };
+
+    fn from(content: ProtocolVersion) -> SupportedVersions {
+        SupportedVersions::ServerHello(content)
+    }
+}
+
 /// Two are equal exactly where they are of one case, and each field is.
 pub fn is_compared_by_its_case()
     ensures tag { (x y : SupportedVersions) →

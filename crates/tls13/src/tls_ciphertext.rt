@@ -8,6 +8,7 @@ use std::alloc::Global;
 use tls_codec::{
     Deserialize, DeserializeBytes, Error, Lent, Serialize, Sink, Size, Source, TlsByteVecU16,
 };
+use tls_codec_cases::append_as;
 
 /// `TLSCiphertext` (RFC 8446, appendix B.1).
 #[derive(PartialEq, Eq, Debug, Clone, Drop)]
@@ -21,6 +22,12 @@ pub struct TLSCiphertext {
     /// `opaque encrypted_record[TLSCiphertext.length];`
     pub encrypted_record: TlsByteVecU16,
 }
+
+type Parts = (
+    ContentTypeApplicationData,
+    ProtocolVersionX0303,
+    TlsByteVecU16,
+);
 
 impl Size for TLSCiphertext {
     ghost plain = { tls_ciphertext_plain };
@@ -50,25 +57,25 @@ impl Serialize for TLSCiphertext {
     }
 
     fn tls_serialize_into(&self, out: &mut Vec<u8>) -> Result<usize, Error> {
-        (
-            Lent(&self.opaque_type),
-            Lent(&self.legacy_record_version),
-            Lent(&self.encrypted_record),
+        append_as(
+            self,
+            &(
+                Lent(&self.opaque_type),
+                Lent(&self.legacy_record_version),
+                Lent(&self.encrypted_record),
+            ),
+            out,
         )
-            .tls_serialize_into(out)
     }
 }
 
 impl Deserialize for TLSCiphertext {
-    ghost names = { ⟦<(ContentTypeApplicationData, ProtocolVersionX0303,
-        TlsByteVecU16) as Deserialize>⟧.names };
+    ghost names = { ⟦<Parts as Deserialize>⟧.names };
 
     fn tls_deserialize<R: Source>(alloc: Global, src: &mut R) -> Result<TLSCiphertext, Error> {
-        let (opaque_type, legacy_record_version, encrypted_record) = <(
-            ContentTypeApplicationData,
-            ProtocolVersionX0303,
-            TlsByteVecU16,
-        )>::tls_deserialize(alloc, src)?;
+        let (opaque_type, legacy_record_version, encrypted_record) = <Parts>::tls_deserialize(
+            alloc, src,
+        )?;
         Ok(TLSCiphertext {
             opaque_type,
             legacy_record_version,
@@ -78,15 +85,11 @@ impl Deserialize for TLSCiphertext {
 }
 
 impl DeserializeBytes for TLSCiphertext {
-    ghost names = { ⟦<(ContentTypeApplicationData, ProtocolVersionX0303,
-        TlsByteVecU16) as DeserializeBytes>⟧.names };
+    ghost names = { ⟦<Parts as DeserializeBytes>⟧.names };
 
     fn tls_deserialize_bytes(alloc: Global, whole: &[u8]) -> Result<(TLSCiphertext, &[u8]), Error> {
-        let ((opaque_type, legacy_record_version, encrypted_record), rest) = <(
-            ContentTypeApplicationData,
-            ProtocolVersionX0303,
-            TlsByteVecU16,
-        )>::tls_deserialize_bytes(alloc, whole)?;
+        let ((opaque_type, legacy_record_version, encrypted_record), rest) =
+            <Parts>::tls_deserialize_bytes(alloc, whole)?;
         Ok((
             TLSCiphertext {
                 opaque_type,

@@ -8,6 +8,7 @@ use std::alloc::Global;
 use tls_codec::{
     Deserialize, DeserializeBytes, Error, Lent, Serialize, Sink, Size, Source, TlsByteVecU16,
 };
+use tls_codec_cases::append_as;
 
 /// `TLSPlaintext` (RFC 8446, appendix B.1).
 #[derive(PartialEq, Eq, Debug, Clone, Drop)]
@@ -19,6 +20,8 @@ pub struct TLSPlaintext {
     /// `opaque fragment[TLSPlaintext.length];`
     pub fragment: TlsByteVecU16,
 }
+
+type Parts = (ContentType, ProtocolVersion, TlsByteVecU16);
 
 impl Size for TLSPlaintext {
     ghost plain = { tls_plaintext_plain };
@@ -48,24 +51,23 @@ impl Serialize for TLSPlaintext {
     }
 
     fn tls_serialize_into(&self, out: &mut Vec<u8>) -> Result<usize, Error> {
-        (
-            Lent(&self.kind),
-            Lent(&self.legacy_record_version),
-            Lent(&self.fragment),
+        append_as(
+            self,
+            &(
+                Lent(&self.kind),
+                Lent(&self.legacy_record_version),
+                Lent(&self.fragment),
+            ),
+            out,
         )
-            .tls_serialize_into(out)
     }
 }
 
 impl Deserialize for TLSPlaintext {
-    ghost names = { ⟦<(ContentType, ProtocolVersion, TlsByteVecU16) as Deserialize>⟧.names };
+    ghost names = { ⟦<Parts as Deserialize>⟧.names };
 
     fn tls_deserialize<R: Source>(alloc: Global, src: &mut R) -> Result<TLSPlaintext, Error> {
-        let (kind, legacy_record_version, fragment) = <(
-            ContentType,
-            ProtocolVersion,
-            TlsByteVecU16,
-        )>::tls_deserialize(alloc, src)?;
+        let (kind, legacy_record_version, fragment) = <Parts>::tls_deserialize(alloc, src)?;
         Ok(TLSPlaintext {
             kind,
             legacy_record_version,
@@ -75,14 +77,12 @@ impl Deserialize for TLSPlaintext {
 }
 
 impl DeserializeBytes for TLSPlaintext {
-    ghost names = { ⟦<(ContentType, ProtocolVersion, TlsByteVecU16) as DeserializeBytes>⟧.names };
+    ghost names = { ⟦<Parts as DeserializeBytes>⟧.names };
 
     fn tls_deserialize_bytes(alloc: Global, whole: &[u8]) -> Result<(TLSPlaintext, &[u8]), Error> {
-        let ((kind, legacy_record_version, fragment), rest) = <(
-            ContentType,
-            ProtocolVersion,
-            TlsByteVecU16,
-        )>::tls_deserialize_bytes(alloc, whole)?;
+        let ((kind, legacy_record_version, fragment), rest) = <Parts>::tls_deserialize_bytes(
+            alloc, whole,
+        )?;
         Ok((
             TLSPlaintext {
                 kind,

@@ -5,4 +5,5 @@ pub mod Contents
 pub mod Calls
 pub mod Devices
 pub mod Errors
+pub mod Registries
 pub mod Spellings

@@ -22,7 +22,8 @@
 //! - Parts that an earlier field or another struct decides: the traits [`SizeFor`], [`SerializeFor`],
 //!   [`DeserializeFor`] and [`DeserializeBytesFor`] of a type in a context; [`Then`], a first part and what it decides;
 //!   [`When`], a part that is there or not, by a [`Condition`]; and [`context`] for the rest.
-//! - [`unknown_value`]: the refusal of a tag that an enum of your own doesn't have.
+//! - [`unknown_value`]: the refusal of a tag that an enum of your own doesn't have. [`first_room`]: room for
+//!   a whole encoding at once.
 //! - [`laws`]: what holds of the spellings of every type with the traits. [`refusals`]: where two errors come
 //!   from.
 #![tactic(auto)]
@@ -35,7 +36,7 @@ pub use tls_codec_base::{
     Always, Condition, Deserialize, DeserializeBytes, DeserializeBytesFor, DeserializeFor,
     LengthField, Lent, Lent2, Lent3, Lent4, Lent5, Lent6, Lent7, Lent8, Lent9, LentIn, LentThen,
     LentThen2, LentWhen, Serialize, SerializeBytes, SerializeFor, Size, SizeFor, Then, When,
-    Within, context, deserialize_to_end, laws, lists, refusals, unknown_value,
+    Within, context, deserialize_to_end, first_room, laws, lists, refusals, unknown_value,
 };
 pub use tls_codec_bytes::{TlsByteVec, TlsByteVecU8, TlsByteVecU16, TlsByteVecU24, TlsByteVecU32};
 pub use tls_codec_secret::{

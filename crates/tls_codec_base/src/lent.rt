@@ -25,6 +25,7 @@ impl<'a, T: Serialize> Serialize for Lent<'a, T> {
         self.0.tls_serialize(writer)
     }
 
+    #[inline(always)]
     fn tls_serialize_into(&self, out: &mut Vec<u8>) -> Result<usize, Error> {
         self.0.tls_serialize_into(out)
     }

@@ -33,6 +33,7 @@ impl<'a, A: Serialize, B: Serialize> Serialize for Lent2<'a, A, B> {
         (Lent(self.0), Lent(self.1)).tls_serialize(writer)
     }
 
+    #[inline(always)]
     fn tls_serialize_into(&self, out: &mut Vec<u8>) -> Result<usize, Error> {
         (Lent(self.0), Lent(self.1)).tls_serialize_into(out)
     }
@@ -59,6 +60,7 @@ impl<'a, A: Serialize, B: Serialize, C: Serialize> Serialize for Lent3<'a, A, B,
         (Lent(self.0), Lent(self.1), Lent(self.2)).tls_serialize(writer)
     }
 
+    #[inline(always)]
     fn tls_serialize_into(&self, out: &mut Vec<u8>) -> Result<usize, Error> {
         (Lent(self.0), Lent(self.1), Lent(self.2)).tls_serialize_into(out)
     }
@@ -87,6 +89,7 @@ impl<'a, A: Serialize, B: Serialize, C: Serialize, D: Serialize> Serialize
         (Lent2(self.0, self.1), Lent2(self.2, self.3)).tls_serialize(writer)
     }
 
+    #[inline(always)]
     fn tls_serialize_into(&self, out: &mut Vec<u8>) -> Result<usize, Error> {
         (Lent2(self.0, self.1), Lent2(self.2, self.3)).tls_serialize_into(out)
     }
@@ -118,6 +121,7 @@ impl<'a, A: Serialize, B: Serialize, C: Serialize, D: Serialize, E: Serialize> S
         (Lent3(self.0, self.1, self.2), Lent2(self.3, self.4)).tls_serialize(writer)
     }
 
+    #[inline(always)]
     fn tls_serialize_into(&self, out: &mut Vec<u8>) -> Result<usize, Error> {
         (Lent3(self.0, self.1, self.2), Lent2(self.3, self.4)).tls_serialize_into(out)
     }
@@ -164,6 +168,7 @@ impl<
         (Lent3(self.0, self.1, self.2), Lent3(self.3, self.4, self.5)).tls_serialize(writer)
     }
 
+    #[inline(always)]
     fn tls_serialize_into(&self, out: &mut Vec<u8>) -> Result<usize, Error> {
         (Lent3(self.0, self.1, self.2), Lent3(self.3, self.4, self.5)).tls_serialize_into(out)
     }
@@ -223,6 +228,7 @@ impl<
             .tls_serialize(writer)
     }
 
+    #[inline(always)]
     fn tls_serialize_into(&self, out: &mut Vec<u8>) -> Result<usize, Error> {
         (
             Lent3(self.0, self.1, self.2),
@@ -289,6 +295,7 @@ impl<
             .tls_serialize(writer)
     }
 
+    #[inline(always)]
     fn tls_serialize_into(&self, out: &mut Vec<u8>) -> Result<usize, Error> {
         (
             Lent3(self.0, self.1, self.2),
@@ -357,6 +364,7 @@ impl<
             .tls_serialize(writer)
     }
 
+    #[inline(always)]
     fn tls_serialize_into(&self, out: &mut Vec<u8>) -> Result<usize, Error> {
         (
             Lent3(self.0, self.1, self.2),

@@ -17,7 +17,8 @@
 //! - [`context`]: parts that something read earlier decides, with four traits of their own.
 //! - [`tags`]: [`unknown_value`], the refusal of a tag that an enum of your own doesn't have.
 //! - [`lists`]: the engines that every list goes through. [`vectors`]: `Vec<T>` and `&[T]`.
-//! - [`ends`]: [`deserialize_to_end`], a value and the end of its source.
+//! - [`ends`]: [`deserialize_to_end`], a value and the end of its source. [`rooms`]: [`first_room`], room
+//!   for a whole encoding.
 //! - [`texts`]: `String` and `&str`, by [`opaque`], bytes after their length.
 //! - [`laws`]: what is lawful if its parts are. [`refusals`]: where `TrailingData` and `InvalidVectorLength`
 //!   come from. Both do nothing when they run.
@@ -36,6 +37,7 @@ pub mod numbers;
 pub mod options;
 pub mod products;
 pub mod refusals;
+pub mod rooms;
 pub mod tags;
 pub mod texts;
 pub mod traits;
@@ -49,6 +51,7 @@ pub use context::{
 pub use ends::deserialize_to_end;
 pub use lent::Lent;
 pub use lents::{Lent2, Lent3, Lent4, Lent5, Lent6, Lent7, Lent8, Lent9};
+pub use rooms::first_room;
 pub use tags::unknown_value;
 pub use tls_codec_grammar::{LengthField, Within, opaque};
 pub use traits::{Deserialize, DeserializeBytes, Serialize, SerializeBytes, Size};

@@ -5,5 +5,9 @@ pub mod Others
 pub mod Elses
 pub mod Chosen
 pub mod Enclosed
+pub mod Exactly
 pub mod Held
 pub mod Padded
+pub mod Followed
+pub mod Inner
+pub mod InnerLaws

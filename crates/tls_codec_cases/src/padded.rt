@@ -91,7 +91,7 @@ fn are_zeros(bytes: &[u8]) -> bool
 }
 
 // Appends as many zeros. `InvalidVectorLength`: more than a vector can hold.
-fn append_zeros(count: usize, out: &mut Vec<u8>) -> Result<usize, Error>
+pub(crate) fn append_zeros(count: usize, out: &mut Vec<u8>) -> Result<usize, Error>
     ensures appends { AppendsForm zeros_format (Number count) out.old.items out.new.items result }
 {
     match out.len().checked_add(count) {

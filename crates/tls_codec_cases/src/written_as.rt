@@ -2,11 +2,12 @@
 //!
 //! Their signatures don't name [`Error`], which has a text that is `'static`: the borrow checker covers no
 //! type argument of several lifetimes in a call whose signature does.
-ghost use Rattle.std.specs.Prelude.{◌≡◌, ℕ, Result};
+ghost use Rattle.std.specs.Prelude.{◌≡◌, ◌⊎◌, ℕ, IsErrAnd, Result};
 ghost use Rattle.tls_codec_wire.specs.declared.error.Error.{Error};
+ghost use Rattle.tls_codec_wire.specs.declared.error.Error.TheVariants.{OutOfMemory};
 ghost use Rattle.tls_codec_grammar.specs.Encoding.{AppendsForm, Writes};
 
-use tls_codec_base::{Serialize, SerializeFor, Size, SizeFor};
+use tls_codec_base::{Serialize, SerializeFor, Size, SizeFor, first_room};
 use tls_codec_wire::{Error, Sink};
 
 /// What encoders return in place of an error: [`Error`] alone.
@@ -40,7 +41,8 @@ pub fn write_as<S: Size, T: Serialize, W: Sink, E: Raised>(
     E::raise(cases.tls_serialize(writer))
 }
 
-/// Appends a value as its borrowed cases, which stand for the same.
+/// Appends a value as its borrowed cases, which stand for the same. A vector without room gets room for
+/// all of it at once.
 #[inline(always)]
 pub fn append_as<S: Size, T: Serialize, E: Raised>(
     _whole: &S,
@@ -48,9 +50,15 @@ pub fn append_as<S: Size, T: Serialize, E: Raised>(
     out: &mut Vec<u8>,
 ) -> Result<usize, E>
     requires { T.plain cases.now ≡ S.plain _whole.now }
-    ensures { AppendsForm T.format (S.plain _whole.now) out.old.items out.new.items
+    ensures appends { AppendsForm T.format (S.plain _whole.now) out.old.items out.new.items
         (E.told result) }
+    ensures out_of_bounds { T.format.out_of_bounds (S.plain _whole.now)
+        → IsErrAnd (E.told result)
+        (λ e. (e ≡ OutOfMemory) ⊎ T.format.refuses (S.plain _whole.now) e) }
 {
+    if first_room(cases, out).is_err() {
+        return E::raise(Err(Error::OutOfMemory));
+    }
     E::raise(cases.tls_serialize_into(out))
 }
 

@@ -5,6 +5,7 @@ use std::alloc::Global;
 use tls_codec::{
     Deserialize, DeserializeBytes, Error, Lent, Serialize, Sink, Size, Source, VLBytes,
 };
+use tls_codec_validate::Validate;
 
 /// A code of two bytes, and then a name after a variable-length length.
 ///
@@ -58,5 +59,11 @@ impl DeserializeBytes for Leaf {
     fn tls_deserialize_bytes(alloc: Global, whole: &[u8]) -> Result<(Leaf, &[u8]), Error> {
         let ((code, name), rest) = <(u16, VLBytes)>::tls_deserialize_bytes(alloc, whole)?;
         Ok((Leaf { code, name }, rest))
+    }
+}
+
+impl Validate for Leaf {
+    fn tls_validate_prefix(whole: &[u8]) -> Result<&[u8], Error> {
+        <(u16, VLBytes)>::tls_validate_prefix(whole)
     }
 }

@@ -7,6 +7,7 @@ use tls_codec::{
     Deserialize, DeserializeBytes, Error, Lent, Serialize, Sink, Size, Source, TlsByteVecU8,
     TlsVecU16,
 };
+use tls_codec_validate::Validate;
 
 /// An identity of at most 255 bytes, leaves of at most 65,535 bytes together, and perhaps a last step,
 /// in a row.
@@ -64,5 +65,11 @@ impl DeserializeBytes for Log {
             Option<Step>,
         )>::tls_deserialize_bytes(alloc, whole)?;
         Ok((Log { id, leaves, last }, rest))
+    }
+}
+
+impl Validate for Log {
+    fn tls_validate_prefix(whole: &[u8]) -> Result<&[u8], Error> {
+        <(TlsByteVecU8, TlsVecU16<Leaf>, Option<Step>)>::tls_validate_prefix(whole)
     }
 }

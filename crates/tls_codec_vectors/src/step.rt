@@ -5,6 +5,7 @@ ghost use Rattle.tls_codec.specs.OwnMessages.{no_variant_names, no_variant_sourc
 
 use std::alloc::Global;
 use tls_codec::{Deserialize, DeserializeBytes, Error, Lent, Serialize, Sink, Size, Source};
+use tls_codec_validate::{Validate, tags};
 
 const PING: u8 = 0;
 
@@ -113,6 +114,24 @@ impl DeserializeBytes for Step {
             JUMP => {
                 let (to, rest) = u32::tls_deserialize_bytes(alloc, rest)?;
                 Ok((Step::Jump(to), rest))
+            }
+            _ => Err(unknown(tag)),
+        }
+    }
+}
+
+impl Validate for Step {
+    fn tls_validate_prefix(whole: &[u8]) -> Result<&[u8], Error> {
+        let (tag, rest) = tags::split_u8(whole)?;
+        match tag {
+            PING => Ok(rest),
+            NOTE => {
+                let behind = String::tls_validate_prefix(rest)?;
+                Ok(behind)
+            }
+            JUMP => {
+                let behind = u32::tls_validate_prefix(rest)?;
+                Ok(behind)
             }
             _ => Err(unknown(tag)),
         }

@@ -24,9 +24,10 @@ use std::{env, fs};
 use texts::Texts;
 use tlsgen_emit::file::files_of;
 use tlsgen_emit::shows::file_of;
+use tlsgen_model::names::is_crate_name;
 use tlsgen_model::plan::Plan;
 use tlsgen_syntax::refusal::Trouble;
-use words::{command, is_crate_name};
+use words::command;
 
 // The status after a text that is rejected, and after words that aren't understood.
 const REFUSED: u8 = 2;
@@ -53,7 +54,7 @@ fn main(rt: HostRuntime) -> anyhow::Result<ExitCode> {
     if !add(&rt, &mut texts, input, matches.get_str("notes"))? {
         return Ok(ExitCode::from(REFUSED));
     }
-    let Some(plan) = plan(&rt, &texts)? else {
+    let Some(plan) = plan(&rt, &mut texts)? else {
         return Ok(ExitCode::from(REFUSED));
     };
     let written = if matches.get_flag("show") {
@@ -172,11 +173,15 @@ fn without_mark(text: &str) -> &str {
 }
 
 /// The plan of the crate, or prints why a text is rejected.
-fn plan<R: Eprint + AllocGlobal>(rt: &R, texts: &Texts) -> anyhow::Result<Option<Plan>> {
+fn plan<R: Eprint + AllocGlobal>(rt: &R, texts: &mut Texts) -> anyhow::Result<Option<Plan>> {
     match texts.plan(rt.alloc()) {
         Ok(plan) => Ok(Some(plan)),
         Err(fault) => {
+            let homes = texts.homes(rt.alloc(), &fault)?;
             print_trouble(rt, texts.path(&fault), fault.trouble)?;
+            if !homes.is_empty() {
+                eprintln!(rt; "of other crates, this name is in: {homes}")?;
+            }
             Ok(None)
         }
     }

@@ -58,8 +58,22 @@ impl Texts {
     }
 
     /// The plan of the crate whose text was added last, over those before.
-    pub fn plan(&self, alloc: Global) -> Result<Plan, Fault> {
-        plan_of(alloc, &self.files)
+    pub fn plan(&mut self, alloc: Global) -> Result<Plan, Fault> {
+        plan_of(alloc, &mut self.files)
+    }
+
+    /// The names of the crates that have what is refused, as `tls13, ct`.
+    pub fn homes(&self, alloc: Global, fault: &Fault) -> Result<String, AllocError> {
+        let mut names = String::new(alloc);
+        for home in &fault.homes {
+            if let Some(name) = self.crates.get(*home) {
+                if !names.is_empty() {
+                    names.push_str(", ")?;
+                }
+                names.push_str(name.as_str())?;
+            }
+        }
+        Ok(names)
     }
 
     /// The path of the text at fault, or of its notes.

@@ -2,21 +2,6 @@
 
 use clap::{Arg, ArgAction, Command};
 use std::alloc::{AllocError, Global};
-use tlsgen_model::words::is_module_word;
-
-/// Whether a crate can have this name: small letters, digits and `_`, with a letter first, and no word of Rust.
-pub fn is_crate_name(name: &str) -> bool {
-    let bytes = name.as_bytes();
-    bytes
-        .first()
-        .is_some_and(|first| first.is_ascii_lowercase())
-        && bytes.iter().all(|byte| is_of_name(*byte))
-        && !is_module_word(name)
-}
-
-fn is_of_name(byte: u8) -> bool {
-    byte.is_ascii_lowercase() || byte.is_ascii_digit() || byte == b'_'
-}
 
 /// The command line of the program: `INPUT --crate NAME [--notes FILE] [--with NAME=FILE].. [--show] [--to FOLDER | --compare FOLDER]`.
 pub fn command<'a>(alloc: Global) -> Result<Command<'a>, AllocError> {

@@ -6,6 +6,7 @@ use crate::template::Holes;
 use crate::types::{Names, Words};
 use crate::{breaks, imports};
 use std::alloc::{AllocError, Global};
+use std::collections::BTreeSet;
 use tlsgen_model::plan::{Alias, Plan};
 
 static ROOT: &str = "//! Messages, written by `tlsgen`.
@@ -17,8 +18,12 @@ static ALIAS: &str = "
 $doc$pub type $name$ = $rust$;
 ";
 
+static ENDING: &str = "
+$doc$pub type $name$ = InnerPlaintext<$rust$>;
+";
+
 /// The root: its modules, what they have by name, and what the other crates have.
-pub fn root(alloc: Global, names: &Names<'_>, plan: &Plan) -> Result<String, AllocError> {
+pub fn root<'a>(alloc: Global, names: &Names<'a>, plan: &'a Plan) -> Result<String, AllocError> {
     let uses = uses_by_path(alloc, names, plan)?;
     let mut out = String::from_str(alloc, ROOT)?;
     for (path, is_module, _) in &uses {
@@ -98,14 +103,18 @@ fn types_of(alloc: Global, plan: &Plan, home: usize) -> Result<Vec<&str>, AllocE
 /// The module of other names of types.
 pub fn aliases<'a>(alloc: Global, names: &Names<'a>, plan: &'a Plan) -> Result<String, AllocError> {
     let mut body = String::new(alloc);
-    let mut messages = Vec::new(alloc);
+    let mut named = BTreeSet::new(alloc);
     for alias in &plan.aliases {
         let words = names.words(alloc, &alias.of)?;
-        push_message(&mut messages, names, &words)?;
+        add_message(&mut named, names, &words)?;
         push_alias(alloc, &mut body, alias, words.texts)?;
     }
-    messages.sort()?;
-    let uses = imports::code(alloc, names, body.as_str(), messages.as_slice(), &[])?;
+    let mut messages = Vec::new(alloc);
+    for name in named {
+        messages.push(name)?;
+    }
+    let cases = ["InnerPlaintext"];
+    let uses = imports::code(alloc, names, body.as_str(), messages.as_slice(), &cases)?;
     format!(in alloc; "//! Other names of types.\n{uses}{body}")
 }
 
@@ -117,13 +126,13 @@ fn push_alias(
 ) -> Result<(), AllocError> {
     holes.set("doc", doc(alloc, alias.doc.as_str())?)?;
     holes.set_all(alloc, &[("name", alias.name.as_str())])?;
-    holes.push(alloc, out, ALIAS)
+    holes.push(alloc, out, if alias.ends { ENDING } else { ALIAS })
 }
 
-// Adds the message that a type has in it, or its other name in another crate, unless it is there. This crate's other
-// names are in the same module.
-fn push_message<'a>(
-    messages: &mut Vec<&'a str>,
+// Adds the message that a type has in it, or its other name in another crate. This crate's other names are in the same
+// module.
+fn add_message<'a>(
+    messages: &mut BTreeSet<&'a str>,
     names: &Names<'_>,
     words: &Words<'a>,
 ) -> Result<(), AllocError> {
@@ -131,8 +140,8 @@ fn push_message<'a>(
         return Ok(());
     };
     let is_elsewhere = words.cited == Some(named) || names.other_crate(named).is_some();
-    if is_elsewhere && !messages.as_slice().contains(&named) {
-        messages.push(named)?;
+    if is_elsewhere {
+        messages.insert(named)?;
     }
     Ok(())
 }

@@ -30,11 +30,11 @@ pub fn files_of(
 }
 
 // Adds the root, and the other names of types.
-fn push_first(
+fn push_first<'a>(
     alloc: Global,
     files: &mut Vec<Written>,
-    names: &Names<'_>,
-    plan: &Plan,
+    names: &Names<'a>,
+    plan: &'a Plan,
 ) -> Result<(), AllocError>
     ensures { OnOk result (paths_in files.new.items
         ≡ paths_in files.old.items ++ first_paths plan.now) }
@@ -46,11 +46,11 @@ fn push_first(
 
 // Adds the other names of types, if there are any.
 #[tactic(auto, using(crate::proofs::Aliases::no_aliases))]
-fn push_aliases(
+fn push_aliases<'a>(
     alloc: Global,
     files: &mut Vec<Written>,
-    names: &Names<'_>,
-    plan: &Plan,
+    names: &Names<'a>,
+    plan: &'a Plan,
 ) -> Result<(), AllocError>
     ensures { OnOk result (paths_in files.new.items
         ≡ paths_in files.old.items ++ paths_of_aliases plan.now.aliases.items) }
@@ -64,11 +64,11 @@ fn push_aliases(
 }
 
 // Adds the files of each message.
-fn push_messages(
+fn push_messages<'a>(
     alloc: Global,
     files: &mut Vec<Written>,
-    names: &Names<'_>,
-    messages: &[Message],
+    names: &Names<'a>,
+    messages: &'a [Message],
 ) -> Result<(), AllocError>
     ensures { OnOk result (paths_in files.new.items
         ≡ paths_in files.old.items ++ flat_map paths_of_message messages.now) }
@@ -80,11 +80,11 @@ fn push_messages(
 }
 
 // Adds the files of a message.
-fn push_files(
+fn push_files<'a>(
     alloc: Global,
     files: &mut Vec<Written>,
-    names: &Names<'_>,
-    message: &Message,
+    names: &Names<'a>,
+    message: &'a Message,
 ) -> Result<(), AllocError>
     ensures { OnOk result (paths_in files.new.items
         ≡ paths_in files.old.items ++ paths_of_message message.now) }

@@ -13,12 +13,12 @@ use crate::templates::{
     Templates, choices, opens, selectors, structs, structs_in_context, structs_on_tags,
     sums as templates, values,
 };
-use crate::types::{Names, length_field, set_width};
+use crate::types::{Names, length_field};
 use crate::uses::Uses;
 use crate::vocabulary::{
-    CASES_OF_SELECT, CASES_OF_STRUCT, CASES_OF_SUM, CASES_OF_THEN, HOLDS, SELECTOR,
+    CASES_OF_ROW, CASES_OF_SELECT, CASES_OF_STRUCT, CASES_OF_SUM, CASES_OF_THEN, HOLDS, SELECTOR,
 };
-use crate::{contexts, lines, sums, thens};
+use crate::{contexts, lines, sums, tags, thens, wholes};
 use std::alloc::{AllocError, Global};
 use tlsgen_model::plan::{Body, Member, Message, Variant};
 
@@ -162,28 +162,32 @@ impl<'a> Form<'a> {
             Body::Fields(members) => {
                 let is_in_context = message.context.is_some();
                 self.set_fields(alloc, names, is_in_context, members)?;
+                let uses = &mut self.uses;
+                wholes::set(alloc, names, &mut self.holes, uses, message, members)?;
             }
             Body::Values {
                 width,
                 is_open,
                 values,
             } => {
-                set_tag(alloc, &mut self.holes, *width)?;
+                tags::set_width_of(alloc, &mut self.holes, *width)?;
                 self.parts = values_of(alloc, &self.holes, *is_open, values)?;
                 self.set_selector(alloc, names, message)?;
             }
             Body::Choice { width, variants } => {
-                set_tag(alloc, &mut self.holes, *width)?;
+                tags::set_width_of(alloc, &mut self.holes, *width)?;
                 let (of, uses) = ((Owner::Variant, self.is_lent), &mut self.uses);
                 self.parts = cases_of(alloc, names, &self.holes, of, variants, uses)?;
+                self.set_tag_of_cases(alloc, names, message, variants)?;
             }
             Body::Sum {
                 width,
                 length,
                 variants,
             } => {
-                set_tag(alloc, &mut self.holes, *width)?;
+                tags::set_width_of(alloc, &mut self.holes, *width)?;
                 self.set_sum(alloc, names, *length, variants)?;
+                self.set_tag_of_cases(alloc, names, message, variants)?;
             }
         }
         Ok(())
@@ -207,14 +211,54 @@ impl<'a> Form<'a> {
         let (of, uses) = (Owner::of_struct(is_in_context), &mut self.uses);
         let row = Row::of(alloc, names, of, self.is_lent, members, uses)?;
         row.set(alloc, &mut self.holes)?;
+        self.set_read(alloc, members.len())?;
         if !is_in_context {
-            return Ok(());
+            return add_names(&mut self.cases, &CASES_OF_ROW);
         }
         add_names(&mut self.cases, &CASES_OF_STRUCT)?;
         if members.len() <= 3 {
             return self.holes.set_each(alloc, &structs_in_context::FEW);
         }
         self.holes.set_each(alloc, &structs_in_context::MANY)
+    }
+
+    // Sets the holes of what tells the tag of its cases.
+    fn set_tag_of_cases(
+        &mut self,
+        alloc: Global,
+        names: &Names<'a>,
+        message: &'a Message,
+        variants: &[Variant],
+    ) -> Result<(), AllocError>
+        ensures { self.new.kind ≡ self.old.kind }
+    {
+        let (parts, uses) = (self.parts.as_mut_slice(), &mut self.uses);
+        tags::set(
+            alloc,
+            names,
+            &mut self.holes,
+            parts,
+            uses,
+            message,
+            variants,
+        )
+    }
+
+    // Sets the holes of what a struct of so many fields is read as.
+    fn set_read(&mut self, alloc: Global, fields: usize) -> Result<(), AllocError>
+        ensures { self.new.kind ≡ self.old.kind }
+    {
+        if self.is_lent {
+            return self.holes.set_each(alloc, &structs::LENT);
+        }
+        let columns = self.holes.filled(alloc, "$types$")?.len();
+        let is_long = columns > structs::LONG;
+        let read = if fields > 1 || is_long {
+            &structs::IN_PARTS
+        } else {
+            &structs::ALONE
+        };
+        self.holes.set_each(alloc, read)
     }
 
     // Sets what it holds of others.
@@ -227,8 +271,7 @@ impl<'a> Form<'a> {
         ensures { self.new.kind ≡ self.old.kind }
     {
         add_names(&mut self.cases, &HOLDS)?;
-        let (parts, uses) = (self.parts.as_mut_slice(), &mut self.uses);
-        self.held = Held::of(alloc, names, message, parts, uses)?;
+        self.held = Held::of(alloc, names, message, &mut self.uses)?;
         Ok(())
     }
 
@@ -342,19 +385,3 @@ static NOT_LENT: [(&str, &str); 6] = [
     ("static", ""),
     ("matched", "self"),
 ];
-
-// The tag as a `u64`, and what makes a proof about that of one about the tag. A tag that is a `u64` needs none.
-static OF_TAG: [(&str, &str); 3] = [
-    ("u64", "u64::from(tag)"),
-    ("cast", "(rw c.from.ensures "),
-    ("end", ")"),
-];
-
-static OF_U64: [(&str, &str); 3] = [("u64", "tag"), ("cast", ""), ("end", "")];
-
-// Sets the holes `width`, `bits`, `digits`, and those of `OF_TAG`.
-fn set_tag(alloc: Global, holes: &mut Holes, width: usize) -> Result<(), AllocError> {
-    set_width(alloc, holes, width)?;
-    holes.set_number(alloc, "digits", (width as u64).saturating_mul(2))?;
-    holes.set_all(alloc, if width == 8 { &OF_U64 } else { &OF_TAG })
-}

@@ -2,14 +2,14 @@
 
 use crate::nesting::Nesting;
 use crate::owners::Owner;
-use crate::parts::Part;
+use crate::tags::TagKind;
 use crate::template::Holes;
 use crate::templates::holds as templates;
 use crate::types::{Names, par};
 use crate::uses::Uses;
-use crate::{contexts, thens};
+use crate::{contexts, tags, thens};
 use std::alloc::{AllocError, Global};
-use tlsgen_model::plan::{Body, Holder, Member, Message, Value, Variant};
+use tlsgen_model::plan::{Body, CaseTag, Holder, Member, Message};
 
 /// The texts of a message for what it holds.
 #[derive(Drop)]
@@ -30,20 +30,20 @@ impl Held {
         }
     }
 
-    /// Those of a message, whose cases have these holes.
+    /// Those of a message.
     pub fn of<'a>(
         alloc: Global,
         names: &Names<'a>,
         message: &'a Message,
-        parts: &mut [Part],
         uses: &mut Uses<'a>,
     ) -> Result<Held, AllocError> {
         let mut held = Held::none(alloc);
-        for holder in names.holders {
-            if holder.name == message.name {
-                let holes = holes_of(alloc, names, message, parts, uses, holder)?;
-                held.push(alloc, &holes)?;
-            }
+        let Some(holders) = names.holders(message.name.as_str()) else {
+            return Ok(held);
+        };
+        for holder in holders {
+            let holes = holes_of(alloc, names, message, uses, holder)?;
+            held.push(alloc, &holes)?;
         }
         Ok(held)
     }
@@ -61,7 +61,6 @@ fn holes_of<'a>(
     alloc: Global,
     names: &Names<'a>,
     message: &'a Message,
-    parts: &mut [Part],
     uses: &mut Uses<'a>,
     holder: &'a Holder,
 ) -> Result<Holes, AllocError> {
@@ -85,8 +84,10 @@ fn holes_of<'a>(
     holes.set("held", held)?;
     match &message.body {
         Body::Fields(members) => set_field(alloc, names, &mut holes, uses, members, holder)?,
-        Body::Choice { variants, .. } | Body::Sum { variants, .. } => {
-            set_cases(alloc, names, &mut holes, parts, variants, key)?;
+        Body::Choice { .. } | Body::Sum { .. } => {
+            if let Some(tag) = &message.tag {
+                set_cases(alloc, names, &mut holes, tag, key)?;
+            }
         }
         Body::Values { .. } => {}
     }
@@ -122,71 +123,22 @@ fn set_field<'a>(
     holes.set_each(alloc, &templates::HOLDS_TAG)
 }
 
-// Sets the holes of a tag in front of a message's cases.
+// Sets the holes of a tag in front of a message's cases, which its method tells.
 fn set_cases(
     alloc: Global,
     names: &Names<'_>,
     holes: &mut Holes,
-    parts: &mut [Part],
-    variants: &[Variant],
+    tag: &CaseTag,
     key: &str,
 ) -> Result<(), AllocError> {
-    let tag = tag_of(names, key);
-    for (part, variant) in parts.iter_mut().zip(variants) {
-        part.holes
-            .set("key_value", value_of(alloc, key, tag, variant.tag)?)?;
-    }
-    holes.set("holding", templates::CASES.filled(alloc, holes, parts)?)?;
+    holes.set_all(alloc, &[("tag", tag.name.as_str())])?;
     holes.set_each(
         alloc,
-        match tag {
-            Tag::Closed(_) => &templates::IS_CLOSED,
-            Tag::Open | Tag::Number => &templates::IS_OPEN,
+        match tags::kind_by_name(names, key) {
+            TagKind::Closed(_) => &templates::IS_CLOSED,
+            TagKind::Open | TagKind::Number => &templates::IS_OPEN,
         },
     )
-}
-
-// The type of a tag.
-#[derive(Clone, Copy)]
-enum Tag<'a> {
-    Closed(&'a [Value]),
-    Open,
-    Number,
-}
-
-fn tag_of<'a>(names: &Names<'a>, key: &str) -> Tag<'a> {
-    match names.own(key) {
-        Some(message) => match &message.body {
-            Body::Values {
-                is_open: false,
-                values,
-                ..
-            } => Tag::Closed(values),
-            _ => Tag::Open,
-        },
-        None => Tag::Number,
-    }
-}
-
-// The value of a tag that has this number.
-fn value_of(alloc: Global, key: &str, tag: Tag<'_>, number: u64) -> Result<String, AllocError> {
-    match tag {
-        Tag::Closed(values) => {
-            let name = name_of(values, number).unwrap_or("");
-            format!(in alloc; "{key}::{name}")
-        }
-        Tag::Open => format!(in alloc; "{key}({number})"),
-        Tag::Number => format!(in alloc; "{number}"),
-    }
-}
-
-fn name_of(values: &[Value], number: u64) -> Option<&str> {
-    for value in values {
-        if value.number == number {
-            return Some(value.name.as_str());
-        }
-    }
-    None
 }
 
 // The part of a tree for a field of a struct.

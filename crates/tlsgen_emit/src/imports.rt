@@ -2,21 +2,23 @@
 
 use crate::types::Names;
 use crate::vocabulary::{
-    CHOSEN, CLAUSES, CONTENTS, ENCLOSED, HELD, LAWS, LEMMAS, NAMES, PRELUDE, PRINTED, SUMS, WORDS,
+    CASES_OF_FIELDS, CHOSEN, CLAUSES, CONTENTS, ENCLOSED, EXACTLY, HELD, LAWS, LEMMAS, NAMES,
+    PRELUDE, SUMS, WORDS,
 };
 use std::alloc::{AllocError, Global};
+use std::collections::BTreeSet;
 
 /// The lines of a text and their words, other than those of its comments and the names of fields behind a dot.
 #[derive(Drop)]
 struct Text<'a> {
     lines: Vec<&'a str>,
-    words: Vec<&'a str>,
+    words: BTreeSet<&'a str>,
 }
 
 impl<'a> Text<'a> {
     fn of(alloc: Global, text: &'a str) -> Result<Text<'a>, AllocError> {
         let mut lines = Vec::new(alloc);
-        let mut words = Vec::new(alloc);
+        let mut words = BTreeSet::new(alloc);
         for line in text.lines() {
             if line.trim_start().starts_with("//") {
                 continue;
@@ -24,20 +26,19 @@ impl<'a> Text<'a> {
             lines.push(line)?;
             for word in line.split(is_between_paths) {
                 let own = word.split('.').next();
-                words.push(own.unwrap_or(word))?;
+                words.insert(own.unwrap_or(word))?;
             }
         }
         Ok(Text { lines, words })
     }
 
     // Whether it has a word, or the sign of an operator, as `◌≡◌`. Code has `Some` in clauses alone with a blank behind
-    // it, and a dash is in comments and in `→` of Rust too.
+    // it.
     fn has(&self, word: &str) -> bool {
         match word {
             "Some" => self.has_sign("Some ("),
-            "◌-◌" => self.has_sign(" - "),
             _ if word.contains(is_between_words) => self.has_sign(word.trim_matches('◌')),
-            _ => self.words.as_slice().contains(&word),
+            _ => self.words.contains(word),
         }
     }
 
@@ -53,6 +54,19 @@ impl<'a> Text<'a> {
                 used.push(*word)?;
             }
         }
+        Ok(used)
+    }
+
+    // Those of the names of the cases that it has, and of those for a type of a field, in their order.
+    fn cases(
+        &self,
+        alloc: Global,
+        cases: &[&'static str],
+    ) -> Result<Vec<&'static str>, AllocError> {
+        let mut used = self.used(alloc, cases)?;
+        let of_fields = self.used(alloc, &CASES_OF_FIELDS)?;
+        used.extend_from_slice(of_fields.as_slice())?;
+        used.sort()?;
         Ok(used)
     }
 
@@ -85,17 +99,13 @@ fn is_between_paths(c: char) -> bool {
 /// Adds the lines of a file of definitions, but those of its own message.
 pub fn push_definitions(alloc: Global, out: &mut String, text: &str) -> Result<(), AllocError> {
     let brought = [
-        (
-            "Rattle.std.proofs.Common",
-            ["append-nil", "arith"].as_slice(),
-        ),
+        ("Rattle.std.proofs.Common", ["arith"].as_slice()),
         ("Rattle.std.specs.Prelude", PRELUDE.as_slice()),
-        ("Rattle.std.specs.List", ["find"].as_slice()),
-        ("Rattle.std.specs.Fmt", PRINTED.as_slice()),
         ("Rattle.tls_codec.specs.OwnMessages", WORDS.as_slice()),
         ("Rattle.tls_codec.specs.Contents", CONTENTS.as_slice()),
         ("Rattle.tls_codec_cases.specs.Sums", SUMS.as_slice()),
         ("Rattle.tls_codec_cases.specs.Enclosed", ENCLOSED.as_slice()),
+        ("Rattle.tls_codec_cases.specs.Exactly", EXACTLY.as_slice()),
         ("Rattle.tls_codec_cases.specs.Chosen", CHOSEN.as_slice()),
         ("Rattle.tls_codec_cases.specs.Held", HELD.as_slice()),
     ];
@@ -167,7 +177,7 @@ pub fn code(
     lines.add(
         alloc,
         "tls_codec_cases",
-        text.used(alloc, cases)?.as_slice(),
+        text.cases(alloc, cases)?.as_slice(),
     )?;
     lines.into_text(alloc)
 }

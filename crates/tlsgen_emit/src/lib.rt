@@ -5,14 +5,16 @@
 //! - `code`, `specs` and `proofs`: the texts of `src/`, `specs/` and the answers, by `templates`; `imports`: which
 //!   lines of imports a text needs, by the `vocabulary`; `docs`: doc comments; `breaks`: where long lines are broken.
 //! - `forms`: a message as what stands for the holes of its templates; `template` and `lines` fill these. `parts`: its values
-//!   or cases; `sums`: cases that nest; `contexts`: what decides its parts; `thens`: fields on tags before them; `holds`: tags of others in it.
-//!   `uses`: the names that it brings in.
-//! - `types`: what stands for a type of the plan. `rows`, `fields`, `owners`, `nesting` and `joining`: fields in a row, as
-//!   tuples that nest.
+//!   or cases; `contents`: what cases are made of; `tags`: the tag in front of them; `sums`: cases that nest. `contexts`: what
+//!   decides its parts; `thens`: fields on tags before them; `holds`: tags of others in it; `wholes`: a lent struct of
+//!   another's fields. `uses`: the names that it brings in.
+//! - `types`: what stands for a type of the plan; `index`: messages by their names. `rows`, `fields`, `owners`, `nesting` and
+//!   `joining`: fields in a row, as tuples that nest.
 #![tactic(auto)]
 
 mod breaks;
 mod code;
+mod contents;
 mod contexts;
 mod docs;
 mod fields;
@@ -20,6 +22,7 @@ pub mod file;
 mod forms;
 mod holds;
 mod imports;
+mod index;
 mod joining;
 mod lines;
 mod nesting;
@@ -31,9 +34,11 @@ mod rows;
 pub mod shows;
 mod specs;
 mod sums;
+mod tags;
 mod template;
 mod templates;
 mod thens;
 mod types;
 mod uses;
 mod vocabulary;
+mod wholes;

@@ -1,5 +1,6 @@
 //! The values or the cases of a message.
 
+use crate::contents;
 use crate::docs::doc;
 use crate::owners::Owner;
 use crate::rows::Row;
@@ -64,6 +65,7 @@ pub fn cases_of<'a>(
         let row = Row::of(alloc, names, owner, is_lent, members, uses)?;
         parts.push(case(alloc, holes, at, variant, &row)?)?;
     }
+    contents::set(alloc, parts.as_mut_slice())?;
     Ok(parts)
 }
 

@@ -251,6 +251,9 @@ impl Row {
     // itself.
     fn lent(&self, alloc: Global) -> Result<String, AllocError> {
         match (self.owner, self.fields.as_slice()) {
+            (Owner::Struct, [only]) if self.is_lent && !only.is_lent => {
+                only.holes.filled(alloc, "Lent(self.$name$)")
+            }
             (Owner::Struct | Owner::StructInContext | Owner::Behind, [only]) => {
                 only.holes.filled(alloc, "self.$name$")
             }

@@ -2,6 +2,7 @@
 
 pub mod choices;
 pub mod choices_answers;
+pub mod contents;
 pub mod holds;
 pub mod opens;
 pub mod selectors;
@@ -10,8 +11,10 @@ pub mod structs;
 pub mod structs_in_context;
 pub mod structs_on_tags;
 pub mod sums;
+pub mod tags;
 pub mod types;
 pub mod values;
+pub mod wholes;
 
 use crate::lines::Lines;
 

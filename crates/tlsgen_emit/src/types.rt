@@ -2,15 +2,15 @@
 ghost use Rattle.std.specs.Prelude.{◌≡◌, IfOk, string_bytes};
 ghost use Rattle.tlsgen_emit.specs.Texts.{bracketed};
 
+use crate::index::Index;
 use crate::template::Holes;
 use crate::templates::types::{
-    ARRAY, BOUNDED_BYTES, BOUNDED_LIST, BYTES, FIXED_BYTES, FIXED_LIST, Kind, LIST, MESSAGE,
-    MESSAGE_IN_CONTEXT, NUMBER, NUMBER_OF_THREE_BYTES, OPTION, PRESENT, TEXT,
+    ARRAY, BOUNDED_BYTES, BOUNDED_LIST, BYTES, EXACT_LIST, FIXED_BYTES, FIXED_LIST, Kind, LIST,
+    MESSAGE, MESSAGE_IN_CONTEXT, NUMBER, NUMBER_OF_THREE_BYTES, OPTION, PRESENT, TEXT,
 };
 use std::alloc::{AllocError, Global};
-use tlsgen_model::plan::{
-    Body, Context, Decided, Element, Holder, Member, Message, Other, Plan, Shape, Type,
-};
+use std::collections::BTreeMap;
+use tlsgen_model::plan::{Body, Element, Holder, Message, Other, Plan, Shape, Type};
 
 /// A type in texts.
 #[derive(Drop)]
@@ -75,20 +75,11 @@ impl Kind {
 pub struct Names<'a> {
     /// The crate that is written.
     pub own: &'a str,
-    others: &'a [Other],
     /// The other crates, in their order.
     pub crates: &'a [String],
-    messages: &'a [Message],
-    /// The messages that hold a tag of others.
-    pub holders: &'a [Holder],
-    aliases: Vec<Named<'a>>,
-}
-
-// Another name of a type, and the words for the type.
-#[derive(Drop)]
-struct Named<'a> {
-    name: &'a str,
-    words: Words<'a>,
+    index: Index<'a>,
+    // The words for the type that another name is of.
+    aliases: BTreeMap<&'a str, Words<'a>>,
 }
 
 impl<'a> Names<'a> {
@@ -101,11 +92,9 @@ impl<'a> Names<'a> {
     ) -> Result<Names<'a>, AllocError> {
         let mut names = Names {
             own,
-            others: plan.others.as_slice(),
             crates,
-            messages: plan.messages.as_slice(),
-            holders: plan.holders.as_slice(),
-            aliases: Vec::new(alloc),
+            index: Index::of(alloc, plan)?,
+            aliases: BTreeMap::new(alloc),
         };
         names.add_aliases(alloc, plan)?;
         Ok(names)
@@ -126,7 +115,9 @@ impl<'a> Names<'a> {
 
     fn add_alias(&mut self, alloc: Global, name: &'a str, of: &'a Type) -> Result<(), AllocError> {
         let words = self.words(alloc, of)?;
-        self.aliases.push(Named { name, words })?;
+        if !self.aliases.contains_key(name) {
+            self.aliases.insert(name, words)?;
+        }
         Ok(())
     }
 
@@ -135,6 +126,9 @@ impl<'a> Names<'a> {
         match of.shape {
             Shape::One => self.item(alloc, of),
             Shape::Array(len) => self.alone(alloc, &ARRAY, of_len(alloc, len)?),
+            Shape::Exact(count) => {
+                EXACT_LIST.words_of(alloc, of_count(alloc, count)?, self.item(alloc, of)?)
+            }
             Shape::Variable => self.vector(alloc, of, Holes::new(alloc), &BYTES, &LIST),
             Shape::Bounded { width, least, most } => {
                 let holes = of_length(alloc, width, least, most)?;
@@ -234,22 +228,15 @@ impl<'a> Names<'a> {
     }
 
     fn alias(&self, alloc: Global, name: &'a str) -> Result<Words<'a>, AllocError> {
-        for alias in &self.aliases {
-            if alias.name == name {
-                return renamed(alloc, &alias.words, name);
-            }
+        match self.aliases.get(name) {
+            Some(words) => renamed(alloc, words, name),
+            None => self.message(alloc, name),
         }
-        self.message(alloc, name)
     }
 
     /// The message that another name of a type stands for.
     pub fn cited(&self, name: &str) -> Option<&'a str> {
-        for alias in &self.aliases {
-            if alias.name == name {
-                return alias.words.cited;
-            }
-        }
-        None
+        self.aliases.get(name)?.cited
     }
 
     /// The module of the message with this name.
@@ -299,9 +286,7 @@ impl<'a> Names<'a> {
     /// Whether the message with this name decides parts of others: it is the context of one, or a field before them is it
     /// or holds it.
     pub fn is_context(&self, name: &str) -> bool {
-        self.messages
-            .iter()
-            .any(|message| is_decided_by(message, name))
+        self.index.deciding.contains(name)
     }
 
     /// The other crate that has this name.
@@ -313,45 +298,16 @@ impl<'a> Names<'a> {
 
     /// The message of the plan with this name.
     pub fn own(&self, name: &str) -> Option<&'a Message> {
-        for message in self.messages {
-            if message.name.as_str() == name {
-                return Some(message);
-            }
-        }
-        None
+        self.index.messages.get(name).copied()
+    }
+
+    /// The tags of others that the message with this name holds, if it holds one.
+    pub fn holders(&self, name: &str) -> Option<&Vec<&'a Holder>> {
+        self.index.holders.get(name)
     }
 
     fn other(&self, name: &str) -> Option<&Other> {
-        for other in self.others {
-            if other.name.as_str() == name {
-                return Some(other);
-            }
-        }
-        None
-    }
-}
-
-// Whether a message, or a field of it, is decided by this.
-fn is_decided_by(message: &Message, name: &str) -> bool {
-    match (&message.context, &message.body) {
-        (
-            Some(
-                Context {
-                    of: Element::Message(of),
-                    ..
-                },
-            ),
-            _,
-        ) => of.as_str() == name,
-        (_, Body::Fields(members)) => members.iter().any(|member| is_on(member, name)),
-        _ => false,
-    }
-}
-
-fn is_on(member: &Member, name: &str) -> bool {
-    match &member.decided {
-        Decided::Before(before) => before.tag.as_str() == name,
-        _ => false,
+        self.index.others.get(name).copied()
     }
 }
 
@@ -371,6 +327,12 @@ fn renamed<'a>(alloc: Global, words: &Words<'a>, name: &'a str) -> Result<Words<
 fn of_len(alloc: Global, len: u64) -> Result<Holes, AllocError> {
     let mut holes = Holes::new(alloc);
     holes.set_number(alloc, "len", len)?;
+    Ok(holes)
+}
+
+fn of_count(alloc: Global, count: u64) -> Result<Holes, AllocError> {
+    let mut holes = Holes::new(alloc);
+    holes.set_number(alloc, "count", count)?;
     Ok(holes)
 }
 

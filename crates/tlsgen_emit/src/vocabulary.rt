@@ -1,32 +1,20 @@
 //! The words of std and of the codec that texts may take.
 
 /// What definitions take of std.
-pub static PRELUDE: [&str; 21] = [
+pub static PRELUDE: [&str; 12] = [
     "◌≡◌",
     "◌==◌",
     "◌||◌",
-    "◌-◌",
-    "◌^◌",
     "◌∷◌",
-    "◌++◌",
     "ℕ",
     "string_bytes",
     "Bool",
     "true",
-    "false",
     "refl",
     "List",
     "[]",
     "codes",
-    "length",
-    "replicate",
-    "Option",
-    "option_map",
-    "unwrap_or",
 ];
-
-/// What they take of its words for printed text.
-pub static PRINTED: [&str; 4] = ["char_count", "digits", "format_spec", "padded_integral"];
 
 /// What the clauses of code take of std.
 pub static CLAUSES: [&str; 10] = [
@@ -195,12 +183,19 @@ pub static SUMS: [&str; 2] = ["either_variants", "either_variants_meet"];
 
 pub static ENCLOSED: [&str; 2] = ["fixed_enclosed_format", "fixed_enclosed_meets"];
 
+pub static EXACTLY: [&str; 2] = ["exactly_list_format", "exactly_list_meets"];
+
 pub static CHOSEN: [&str; 1] = ["number_of"];
 
 pub static HELD: [&str; 4] = ["first_of", "second_of", "third_of", "rest_of"];
 
-/// What code takes of them: a sum behind a tag, one in a context, a struct in a context, a context, a struct
+/// What code takes of them for a type of a field, whichever message has it.
+pub static CASES_OF_FIELDS: [&str; 1] = ["Exactly"];
+
+/// What code takes of them: a struct, a sum behind a tag, one in a context, a struct in a context, a context, a struct
 /// with fields on a tag before them, and what holds a tag.
+pub static CASES_OF_ROW: [&str; 1] = ["append_as"];
+
 pub static CASES_OF_SUM: [&str; 6] = ["Case", "Enclosed", "Or", "Tagged", "append_as", "write_as"];
 
 pub static CASES_OF_SELECT: [&str; 5] = ["Case", "Chosen", "Or", "append_as_for", "write_as_for"];

@@ -1,5 +1,5 @@
 -- Lists whose elements have keys that differ.
-use Rattle.std.proofs.Common.{◌≡◌, List, [], ◌∷◌, ◌++◌, Bool, false, ◌||◌, refl, sym, ◌∙◌, ap, subst, map, nat_eq}
+use Rattle.std.proofs.Common.{◌≡◌, List, [], ◌∷◌, ◌++◌, Bool, false, ◌||◌, refl, sym, ◌∙◌, ap, subst, map, nat_eq, true, cond}
 use Rattle.std.specs.Cmp.{IsEquivalence, nat_eq_equiv}
 use Rattle.std.specs.List.{IsDistinct, list_any}
 use Rattle.std.specs.String.{string_eq, string_eq_equiv}
@@ -63,3 +63,12 @@ variant_names_push = keys_push string_eq_equiv (λ x. x.name)
 
 pub modules_push : (xs : List Message) (x : Message) → HaveModules xs → list_any (λ y. string_eq x.module y.module) xs ≡ false → HaveModules (xs ++ x ∷ [])
 modules_push = keys_push string_eq_equiv (λ x. x.module)
+
+-- one more, if there is memory for it
+pub modules_more : (xs after : List Message) (x : Message) (is_added : Bool) → HaveModules xs → list_any (λ y. string_eq x.module y.module) xs ≡ false → after ≡ cond is_added (xs ++ x ∷ []) xs → HaveModules after
+modules_more xs after x true distinct none is =
+    let P : List Message → Type 0 = HaveModules in
+    subst P (sym is) (modules_push xs x distinct none)
+modules_more xs after x false distinct none is =
+    let P : List Message → Type 0 = HaveModules in
+    subst P (sym is) distinct

@@ -1,4 +1,5 @@
 mod Layouts
+pub mod Covered
 pub mod Fits
 pub mod Kept
 pub mod Keys

@@ -1,7 +1,10 @@
 -- When an element is appended to a list, and why it isn't.
 use Rattle.std.specs.Prelude.{◌≡◌, ℕ, List, [], ◌∷◌, ◌++◌, ◌<◌, ◌≤◌, ◌^◌, ◌&&◌, Bool, true, false, not, Option, Some, None, IsTrue, length, nat_eq}
 use Rattle.std.specs.List.{list_any}
-use Rattle.std.specs.String.{string_eq}
+use Rattle.std.specs.BTreeSet.{BTreeSet, contains}
+use Rattle.std.specs.Coded.{Π_prop}
+use Rattle.std.specs.String.{string_cmp, string_eq}
+use Rattle.std.proofs.Props.{props}
 use Rattle.std.specs.declared.alloc.Global.{Global}
 use Rattle.std.specs.declared.string.String.{String}
 use Rattle.tlsgen_model.specs.declared.lists.Unfit.{Unfit}
@@ -24,10 +27,17 @@ has_name_of members member = list_any (λ other. string_eq member.name other.nam
 abbrev pub has_module_of : List Message → Message → Bool
 has_module_of messages message = list_any (λ other. string_eq message.module other.module) messages
 
+-- a module that isn't in a set is that of no message
+abbrev pub Covers : BTreeSet (String Global) → List Message → Type 0
+Covers modules messages = (name : String Global) → contains string_cmp modules name ≡ false → list_any (λ other. string_eq name other.module) messages ≡ false
+
+-- there is one proof of it at most
+pub Covers-prop : (modules : BTreeSet (String Global)) (messages : List Message) → IsProp (Covers modules messages)
+Covers-prop modules messages = Π_prop (λ name. Π_prop (λ _. Prim.hlevel props))
+
 -- it is of this crate, and has none of these names
-abbrev pub stays : (home : ℕ) → (names : List (String Global)) → Message → Bool
-stays home names message =
-    nat_eq message.home home && not (list_any (λ name. string_eq name message.name) names)
+abbrev pub stays : (home : ℕ) → (names : BTreeSet (String Global)) → Message → Bool
+stays home names message = nat_eq message.home home && not (contains string_cmp names message.name)
 
 -- appended, or refused for a reason that holds, and the list is as it was
 abbrev pub Takes : {X : Type 0} → (Refuses : Unfit → Type 0) → (old new : List X) → X → Option Unfit → Type 0

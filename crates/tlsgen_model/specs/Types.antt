@@ -4,7 +4,7 @@ use Rattle.tlsgen_model.specs.declared.plan.«Type».{«Type» as FieldType}
 use Rattle.tlsgen_model.specs.declared.plan.Element.{Element}
 use Rattle.tlsgen_model.specs.declared.plan.Element.TheVariants.{Integer, Opaque, Text, Message, Alias}
 use Rattle.tlsgen_model.specs.declared.plan.Shape.{Shape}
-use Rattle.tlsgen_model.specs.declared.plan.Shape.TheVariants.{One, Array, Variable, Bounded}
+use Rattle.tlsgen_model.specs.declared.plan.Shape.TheVariants.{One, Array, Exact, Variable, Bounded}
 
 abbrev pub is_integer_width : ℕ → Bool
 is_integer_width width = (width == 1) || (width == 2) || (width == 3) || (width == 4) || (width == 8)
@@ -13,6 +13,7 @@ is_integer_width width = (width == 1) || (width == 2) || (width == 3) || (width 
 abbrev pub is_shape : Shape → Bool
 is_shape One = true
 is_shape (Array count) = nat_lt 0 count && nat_le count 65535
+is_shape (Exact count) = nat_lt 0 count && nat_le count 65535
 is_shape Variable = true
 is_shape (Bounded width least most) =
     nat_lt 0 width && nat_le width 4 && nat_le least most && nat_lt most (256 ^ width)
@@ -20,23 +21,27 @@ is_shape (Bounded width least most) =
 abbrev pub is_one : Shape → Bool
 is_one One = true
 is_one (Array _) = false
+is_one (Exact _) = false
 is_one Variable = false
 is_one (Bounded _ _ _) = false
 
--- an array, or behind a length
+-- so many bytes, or behind a length
 abbrev pub is_vector : Shape → Bool
 is_vector One = false
 is_vector (Array _) = true
+is_vector (Exact _) = true
 is_vector Variable = true
 is_vector (Bounded _ _ _) = true
 
+-- no array of bytes
 abbrev pub is_no_array : Shape → Bool
 is_no_array One = true
 is_no_array (Array _) = false
+is_no_array (Exact _) = true
 is_no_array Variable = true
 is_no_array (Bounded _ _ _) = true
 
--- which element is in which shape: bytes in a vector, text alone, and in an array bytes alone
+-- which element is in which shape: bytes in a vector, text alone, and in an array of bytes bytes alone
 abbrev pub can_be : Element → Bool → Shape → Bool
 can_be (Integer width) _ shape = is_integer_width width && is_no_array shape
 can_be Opaque true _ = false

@@ -3,27 +3,32 @@ ghost use Rattle.std.specs.Prelude.{◌≡◌, [], IfOk};
 ghost use Rattle.std.specs.List.{filter, list_any};
 ghost use Rattle.std.specs.String.{string_eq};
 ghost use Rattle.std.proofs.Props.{props};
-ghost use Rattle.tlsgen_model.specs.Taking.{AppendsUnless, has_module_of, stays};
+ghost use Rattle.tlsgen_model.specs.Taking.{AppendsUnless, Covers, Covers-prop, has_module_of, stays};
 ghost use Rattle.tlsgen_model.specs.Writable.{AreWritable, AreWritable-prop, HaveModules, IsWritable};
 
 use crate::plan::Message;
 use std::alloc::{AllocError, Global};
+use std::collections::BTreeSet;
 
 /// Messages, each of which can be written, with a module that no other has.
 #[derive(Drop)]
 pub struct Messages {
     messages: Vec<Message>,
+    /// Their modules, and maybe one that isn't.
+    modules: BTreeSet<String>,
     ghost writable: { AreWritable messages.items } by { AreWritable-prop messages.items },
     ghost differ: { HaveModules messages.items } by { Prim.hlevel props },
+    ghost covers: { Covers modules messages.items } by { Covers-prop modules messages.items },
 }
 
 impl Messages {
-    #[tactic(auto, using(crate::proofs::Keys::modules_none))]
+    #[tactic(auto, using(crate::proofs::Keys::modules_none, crate::proofs::Covered::covers_none))]
     pub fn new(alloc: Global) -> Messages
         ensures { result.messages.items ≡ [] }
     {
         Messages {
             messages: Vec::new(alloc),
+            modules: BTreeSet::new(alloc),
         }
     }
 
@@ -37,7 +42,7 @@ impl Messages {
     pub fn has_module(&self, name: &String) -> bool
         ensures { result ≡ list_any (λ other. string_eq name.now other.module) self.now.messages.items }
     {
-        self.messages.iter().any(|other| *name == other.module)
+        self.modules.contains(name) && self.messages.iter().any(|other| *name == other.module)
     }
 
     /// Appends a message, or gives it back if another has its module.
@@ -50,13 +55,14 @@ impl Messages {
         if self.has_module(&message.module) {
             return Ok(Some(message));
         }
+        self.modules.insert(message.module.clone()?)?;
         self.messages.push(message)?;
         Ok(None)
     }
 
     /// The messages of a crate but those that have one of some names.
     #[tactic(auto, using(crate::proofs::Kept::kept_all, crate::proofs::Kept::kept_modules))]
-    pub fn into_messages_but(self, home: usize, names: &[String]) -> Vec<Message>
+    pub fn into_messages_but(self, home: usize, names: &BTreeSet<String>) -> Vec<Message>
         ensures kept { result.items ≡ filter (stays home names.now) self.messages.items }
         ensures writable { AreWritable result.items }
         ensures differ { HaveModules result.items }

@@ -2,8 +2,24 @@
 ghost use Rattle.std.specs.Prelude.{◌↔◌, IfOk, IsTrue, string_bytes};
 ghost use Rattle.tlsgen_model.specs.Names.{BeginsWithLetter};
 
-use crate::words::{is_variant_word, is_word};
+use crate::words::{is_crate_word, is_module_word, is_variant_word, is_word};
 use std::alloc::{AllocError, Global};
+
+/// Whether a crate can have this name: small letters, digits and `_`, with a letter first, no word of Rust, and no crate
+/// that a written one is over.
+pub fn is_crate_name(name: &str) -> bool {
+    let bytes = name.as_bytes();
+    bytes
+        .first()
+        .is_some_and(|first| first.is_ascii_lowercase())
+        && bytes.iter().all(|byte| is_of_crate(*byte))
+        && !is_module_word(name)
+        && !is_crate_word(name)
+}
+
+fn is_of_crate(byte: u8) -> bool {
+    byte.is_ascii_lowercase() || byte.is_ascii_digit() || byte == b'_'
+}
 
 /// The module of a type: `leaf_node` for `LeafNode`.
 pub fn module_name(alloc: Global, name: &str) -> Result<String, AllocError>

@@ -29,6 +29,8 @@ pub struct Other {
 pub struct Alias {
     pub name: String,
     pub of: Type,
+    /// The type is the last byte that isn't zero, behind what it is the type of: `pub type Inner = InnerPlaintext<ContentType>;`.
+    pub ends: bool,
     /// Which crate has it: after the others the one that is written.
     pub home: usize,
     /// What its doc comment says: the line of the file, as `opaque MAC<V>;`, its section and what comments say of it.
@@ -49,7 +51,20 @@ pub struct Message {
     pub doc: String,
     /// What decides its parts, if that is in another struct.
     pub context: Option<Context>,
+    /// The tag in front of its cases, if it has one.
+    pub tag: Option<CaseTag>,
     pub body: Body,
+}
+
+/// A tag in front of a message's cases.
+#[derive(Drop)]
+pub struct CaseTag {
+    /// Its name in Rust, as `msg_type`.
+    pub name: String,
+    /// The name of its enum in Rust, as `HandshakeType`; none if it is a number.
+    pub of: Option<String>,
+    /// That enum keeps numbers that have no name.
+    pub is_open: bool,
 }
 
 /// A tag in another struct, on which a message's selects are: the message is read and written in its context.
@@ -184,8 +199,10 @@ pub enum Element {
 #[derive(Clone, Copy)]
 pub enum Shape {
     One,
-    /// An array, by its bytes.
+    /// An array of bytes.
     Array(u64),
+    /// Of this many bytes together, without a length: an array of what isn't a byte.
+    Exact(u64),
     /// After a length of variable width.
     Variable,
     /// After a length of `width` bytes (1 to 4), which is neither below `least` nor above `most`.

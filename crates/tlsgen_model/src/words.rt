@@ -10,6 +10,11 @@ pub fn is_module_word(module: &str) -> bool {
     is_in(module, &RUST) || is_in(module, &MODULES)
 }
 
+/// Whether a written crate can't have this name, which one of those below it has.
+pub fn is_crate_word(name: &str) -> bool {
+    is_in(name, &CRATES)
+}
+
 /// Whether no type can have this name: it is a type or a trait of the library, or a word of the definitions.
 pub fn is_type_word(name: &str) -> bool {
     is_in(name, &TYPES) || is_in(name, &CONSTRUCTORS)
@@ -33,8 +38,10 @@ static RUST: [&str; 57] = [
     "ensures", "result", "str",
 ];
 
+static CRATES: [&str; 5] = ["alloc", "core", "std", "tls_codec", "tls_codec_cases"];
+
 // What antt reserves, its tactics, and the words of `OwnMessages`, of `Contents` and of the cases.
-static DEFINITIONS: [&str; 106] = [
+static DEFINITIONS: [&str; 108] = [
     "abbrev",
     "alone_appends",
     "alone_writes",
@@ -57,6 +64,8 @@ static DEFINITIONS: [&str; 106] = [
     "either_variants_meet",
     "elements_of",
     "elim",
+    "exactly_list_format",
+    "exactly_list_meets",
     "fcoe",
     "fields_format",
     "fields_meets",
@@ -144,9 +153,9 @@ static DEFINITIONS: [&str; 106] = [
 ];
 
 // What the decoders and the encoders call their own.
-static VARIABLES: [&str; 16] = [
-    "alloc", "code", "now", "old", "new", "out", "parts", "parts_0", "parts_1", "parts_2", "rest",
-    "src", "tag", "unknown", "whole", "writer",
+static VARIABLES: [&str; 18] = [
+    "alloc", "cases", "code", "now", "old", "new", "of", "out", "parts", "parts_0", "parts_1",
+    "parts_2", "rest", "src", "tag", "unknown", "whole", "writer",
 ];
 
 static MODULES: [&str; 9] = [
@@ -161,7 +170,7 @@ static MODULES: [&str; 9] = [
     "tls_codec_cases",
 ];
 
-static TYPES: [&str; 108] = [
+static TYPES: [&str; 109] = [
     "Abort",
     "AllocError",
     "AllocFailed",
@@ -185,6 +194,7 @@ static TYPES: [&str; 108] = [
     "Eq",
     "Err",
     "Error",
+    "Exactly",
     "Fail",
     "Fn",
     "FnMut",

@@ -5,12 +5,13 @@ ghost use Rattle.tlsgen_syntax.specs.declared.syntax.Label.TheVariants as labels
 ghost use Rattle.tlsgen_resolve.specs.Cases.{AppendsLabelled, HasValue, IsNumberOf};
 
 use crate::checks::{TOO_GREAT, enum_width, named, refused_number};
-use crate::items::{MOST_ITEMS, find, integer_width, is_single};
+use crate::items::{find, integer_width, is_single};
 use crate::refuse::{Budget, refused};
+use crate::scope::Scope;
 use std::alloc::Global;
 use tlsgen_model::width::Width;
 use tlsgen_syntax::refusal::{Place, Trouble};
-use tlsgen_syntax::syntax::{Case, Enum, Field, File, Item, Label, Name, Number, Select};
+use tlsgen_syntax::syntax::{Case, Enum, Field, Item, Label, Name, Number, Select};
 
 /// The type of a tag: a number of 1, 2, 4 or 8 bytes, which may have names.
 #[derive(Clone, Copy)]
@@ -30,7 +31,7 @@ pub struct Labelled<'a> {
 }
 
 /// The type of a field that is a tag: an integer, an enum, or another name of one.
-pub fn tag_of<'a>(alloc: Global, files: &'a [File], field: &'a Field) -> Result<Tag<'a>, Trouble> {
+pub fn tag_of<'a>(alloc: Global, files: Scope<'a>, field: &'a Field) -> Result<Tag<'a>, Trouble> {
     match find_tag(alloc, files, field)? {
         Some(tag) => Ok(tag),
         None => Err(refused(
@@ -45,32 +46,31 @@ pub fn tag_of<'a>(alloc: Global, files: &'a [File], field: &'a Field) -> Result<
 /// The type of a field, if it is an integer, an enum or another name of one, of 1, 2, 4 or 8 bytes.
 pub fn find_tag<'a>(
     alloc: Global,
-    files: &'a [File],
+    files: Scope<'a>,
     field: &'a Field,
 ) -> Result<Option<Tag<'a>>, Trouble> {
-    let mut current = field;
-    for _ in 0..=MOST_ITEMS {
-        if !is_single(current) {
-            break;
+    if !is_single(field) {
+        return Ok(None);
+    }
+    let last = files.last_alias(field.of.text.as_str()).unwrap_or(field);
+    if !is_single(last) {
+        return Ok(None);
+    }
+    let of = last.of.text.as_str();
+    match find(files, of) {
+        Some(Item::Enum(one)) => {
+            let width = enum_width(alloc, one)?;
+            Ok(Some(Tag {
+                width,
+                of: Some(one),
+            }))
         }
-        let of = current.of.text.as_str();
-        match find(files, of) {
-            Some(Item::Alias(next)) => current = next,
-            Some(Item::Enum(one)) => {
-                let width = enum_width(alloc, one)?;
-                return Ok(Some(Tag {
-                    width,
-                    of: Some(one),
-                }));
-            }
-            Some(Item::Struct(_)) => break,
-            None => {
-                let width = integer_width(of).and_then(Width::new);
-                return Ok(width.map(|width| Tag { width, of: None }));
-            }
+        Some(Item::Alias(_) | Item::Struct(_)) => Ok(None),
+        None => {
+            let width = integer_width(of).and_then(Width::new);
+            Ok(width.map(|width| Tag { width, of: None }))
         }
     }
-    Ok(None)
 }
 
 /// The cases of a select, one for each label. Rejects a label that the tag's type lacks.

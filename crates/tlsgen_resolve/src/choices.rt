@@ -5,6 +5,7 @@ ghost use Rattle.tlsgen_model.specs.Writable.{HaveNames, HaveTypes, IsWritable};
 use crate::cases::{Labelled, cases_of, find_case, tag_of};
 use crate::checks::{TOO_GREAT, check_letters};
 use crate::given::{Given, given_to};
+use crate::held::member_name;
 use crate::lent::lends;
 use crate::members::{ResolvedMember, copy, push_member};
 use crate::naming::{choice_doc, push_comment, type_name, underscored};
@@ -18,8 +19,8 @@ use crate::sequence::{IndexedField, Sequence, tag_of_select};
 use crate::types::declared;
 use tlsgen_model::lists::{CaseList, FieldList, Unfit};
 use tlsgen_model::names::{constant_name, field_name, module_name, variant_name};
-use tlsgen_model::plan::{Body, Decided, Element, Member, Message, Shape, Type, Variant};
-use tlsgen_syntax::refusal::{Place, Trouble};
+use tlsgen_model::plan::{Body, CaseTag, Decided, Element, Member, Message, Shape, Type, Variant};
+use tlsgen_syntax::refusal::Trouble;
 use tlsgen_syntax::syntax::{Field, Name, Select};
 
 impl<'a> Resolver<'a> {
@@ -53,7 +54,7 @@ impl<'a> Resolver<'a> {
         let mut doc = choice_doc(self.alloc, tag.field, sequence)?;
         push_comment(&mut doc, sequence.remark)?;
         push_padding(self.alloc, &mut doc, sequence)?;
-        self.push_choice(sequence, tag.field.name.place, name, doc, body)
+        self.push_choice(sequence, tag.field, name, doc, body)
     }
 
     /// Makes the message of a tag and its cases, which are a part of a struct. Returns the member of it.
@@ -68,7 +69,7 @@ impl<'a> Resolver<'a> {
         let body = self.choice_body(sequence, tag, segment, name.as_str())?;
         let member = self.choice_member(tag.field, given.of_field, name.clone()?)?;
         let doc = choice_doc(self.alloc, tag.field, sequence)?;
-        self.push_choice(sequence, tag.field.name.place, name, doc, body)?;
+        self.push_choice(sequence, tag.field, name, doc, body)?;
         Ok(member)
     }
 
@@ -130,7 +131,7 @@ impl<'a> Resolver<'a> {
     fn push_choice(
         &mut self,
         sequence: &Sequence<'_>,
-        place: Place,
+        tag: &'a Field,
         name: String,
         doc: String,
         body: Body,
@@ -144,10 +145,30 @@ impl<'a> Resolver<'a> {
             is_lent: lends(sequence, &body),
             doc,
             context: None,
+            tag: Some(self.tag_of_cases(tag)?),
             name,
             body,
         };
-        self.push(place, message)
+        self.push(tag.name.place, message)
+    }
+
+    // The tag in front of a message's cases.
+    fn tag_of_cases(&self, field: &'a Field) -> Result<CaseTag, Trouble> {
+        check_letters(self.alloc, &field.name)?;
+        let name = member_name(self.alloc, field)?;
+        let tag = tag_of(self.alloc, self.files, field)?;
+        let Some(one) = tag.of else {
+            return Ok(CaseTag {
+                name,
+                of: None,
+                is_open: false,
+            });
+        };
+        Ok(CaseTag {
+            name,
+            of: Some(type_name(self.alloc, one.name.text.as_str())?),
+            is_open: one.is_open,
+        })
     }
 
     // The member is called as its tag, or by the name that the select gives it.

@@ -6,16 +6,17 @@ ghost use Rattle.tlsgen_model.specs.Writable.{IsWritable};
 
 use crate::cases::{Tag, find_name, find_tag};
 use crate::checks::{TOO_GREAT, enum_width, named, refused_number};
-use crate::items::integer_width;
+use crate::items::has_bytes;
 use crate::naming::{base_name, type_name, underscored};
 use crate::refuse::refused;
+use crate::scope::Scope;
 use std::alloc::{AllocError, Global};
 use tlsgen_model::lists::ValueList;
 use tlsgen_model::names::{constant_name, variant_name};
 use tlsgen_model::plan::{Body, Value};
 use tlsgen_model::width::Width;
 use tlsgen_syntax::refusal::Trouble;
-use tlsgen_syntax::syntax::{Constant, Enum, Field, File, Name, Number, Vector};
+use tlsgen_syntax::syntax::{Constant, Enum, Field, Name, Number, Vector};
 
 const NO_CONSTANT: &str =
     "no constant: the field is no single number or enum of 1, 2, 4 or 8 bytes, and no array of as many";
@@ -38,7 +39,7 @@ pub struct Fixed {
 /// What a field always is. Rejects a constant that the field's type doesn't have.
 pub fn fixed_of(
     alloc: Global,
-    files: &[File],
+    files: Scope<'_>,
     field: &Field,
     constant: &Constant,
 ) -> Result<Fixed, Trouble> {
@@ -52,7 +53,7 @@ pub fn fixed_of(
 // A value of the field's enum.
 fn named_constant(
     alloc: Global,
-    files: &[File],
+    files: Scope<'_>,
     field: &Field,
     name: &Name,
 ) -> Result<Fixed, Trouble> {
@@ -133,7 +134,7 @@ fn has_one_value(one: &Enum) -> bool {
 // A number, also the one of an enum's value.
 fn numbered_constant(
     alloc: Global,
-    files: &[File],
+    files: Scope<'_>,
     field: &Field,
     number: Number,
 ) -> Result<Fixed, Trouble> {
@@ -155,7 +156,7 @@ fn numbered_constant(
 // The bytes of a number, or of an array of bytes.
 fn constant_of_bytes(
     alloc: Global,
-    files: &[File],
+    files: Scope<'_>,
     field: &Field,
     elements: &[Number],
 ) -> Result<Fixed, Trouble> {
@@ -190,9 +191,7 @@ fn array_width(field: &Field) -> Option<Width> {
     let Vector::Array(count) = field.vector else {
         return None;
     };
-    let is_bytes = field.of.text.as_str() == "opaque"
-        || integer_width(field.of.text.as_str()) == Some(1);
-    if field.is_optional || !is_bytes {
+    if !has_bytes(field) {
         return None;
     }
     Width::new(usize::try_from(count.value).ok()?)

@@ -4,15 +4,16 @@
 use crate::cases::{Tag, find_tag};
 use crate::checks::enum_width;
 use crate::holders::{Site, giver_of, site_of};
-use crate::items::{find_struct, item_name};
+use crate::items::find_struct;
 use crate::naming::{type_name, underscored};
 use crate::refuse::refused;
-use crate::sequence::{IndexedField, Piece, Sequence, known};
+use crate::scope::Scope;
+use crate::sequence::{IndexedField, Known, Piece, Sequence, sequence_named};
 use std::alloc::{AllocError, Global};
-use tlsgen_model::names::{field_name, module_name};
+use tlsgen_model::names::field_name;
 use tlsgen_model::plan::{Context, Element};
 use tlsgen_syntax::refusal::Trouble;
-use tlsgen_syntax::syntax::{Field, File, Item, Name, Part, Select, Struct};
+use tlsgen_syntax::syntax::{Field, Item, Name, Part, Select, Struct};
 
 /// A tag that isn't in the struct: its name, and its type.
 #[derive(Clone, Copy)]
@@ -81,7 +82,7 @@ impl<'a> OuterTag<'a> {
 /// name, an enum of that name, also in small letters: `certificate_type` for `CertificateType`.
 pub fn outer_tag<'a>(
     alloc: Global,
-    files: &'a [File],
+    files: Scope<'a>,
     select: &'a Select,
 ) -> Result<OuterTag<'a>, Trouble> {
     let Some((name, words)) = select.path.split_last() else {
@@ -109,7 +110,7 @@ pub fn outer_tag<'a>(
 }
 
 // The struct at the end of a path that begins with a struct's name, through fields.
-fn struct_on_path<'a>(files: &'a [File], words: &[Name]) -> Option<&'a Struct> {
+fn struct_on_path<'a>(files: Scope<'a>, words: &[Name]) -> Option<&'a Struct> {
     let (head, fields) = words.split_first()?;
     let mut one = find_struct(files, head.text.as_str())?;
     for word in fields {
@@ -121,7 +122,7 @@ fn struct_on_path<'a>(files: &'a [File], words: &[Name]) -> Option<&'a Struct> {
 
 fn tag_in<'a>(
     alloc: Global,
-    files: &'a [File],
+    files: Scope<'a>,
     one: &'a Struct,
     name: &Name,
 ) -> Result<Option<Tag<'a>>, Trouble> {
@@ -138,38 +139,23 @@ fn field_of<'a>(one: &'a Struct, name: &Name) -> Option<&'a Field> {
     })
 }
 
-fn enum_tag<'a>(alloc: Global, files: &'a [File], name: &Name) -> Result<Option<Tag<'a>>, Trouble> {
-    for file in files {
-        for item in &file.items {
-            if let Item::Enum(one) = item {
-                if is_called(alloc, item_name(item), name)? {
-                    let width = enum_width(alloc, one)?;
-                    return Ok(Some(Tag {
-                        width,
-                        of: Some(one),
-                    }));
-                }
-            }
-        }
-    }
-    Ok(None)
-}
-
-// Whether a name is an enum's, or that in small letters.
-fn is_called(alloc: Global, own: &Name, name: &Name) -> Result<bool, AllocError> {
-    if own.text == name.text {
-        return Ok(true);
-    }
-    let small = module_name(alloc, own.text.as_str())?;
-    Ok(small == name.text)
+fn enum_tag<'a>(alloc: Global, files: Scope<'a>, name: &Name) -> Result<Option<Tag<'a>>, Trouble> {
+    let Some(Item::Enum(one)) = files.find_enum(name.text.as_str()) else {
+        return Ok(None);
+    };
+    let width = enum_width(alloc, one)?;
+    Ok(Some(Tag {
+        width,
+        of: Some(one),
+    }))
 }
 
 /// The tag of the context that a struct is in, if it is in one: that of its selects, and of the types of its fields, but
 /// for those that a field before them has. Rejects two.
 pub fn context_of<'a>(
     alloc: Global,
-    files: &'a [File],
-    all: &[Sequence<'a>],
+    files: Scope<'a>,
+    all: &Known<'a>,
     sequence: &Sequence<'a>,
 ) -> Result<Option<OuterTag<'a>>, Trouble> {
     let mut context = None;
@@ -192,8 +178,8 @@ pub fn context_of<'a>(
 // The tag of a select at a position, if it is in another struct or said by the protocol alone.
 fn tag_elsewhere<'a>(
     alloc: Global,
-    files: &'a [File],
-    all: &[Sequence<'a>],
+    files: Scope<'a>,
+    all: &Known<'a>,
     sequence: &Sequence<'a>,
     at: usize,
     select: &'a Select,
@@ -217,7 +203,7 @@ fn with_select<'a>(
 
 fn with_cases<'a>(
     alloc: Global,
-    all: &[Sequence<'a>],
+    all: &Known<'a>,
     sequence: &Sequence<'a>,
     select: &Select,
     context: Option<OuterTag<'a>>,
@@ -231,7 +217,7 @@ fn with_cases<'a>(
 
 fn with_field<'a>(
     alloc: Global,
-    all: &[Sequence<'a>],
+    all: &Known<'a>,
     sequence: &Sequence<'a>,
     at: usize,
     field: &Field,
@@ -246,7 +232,7 @@ fn with_field<'a>(
 /// The field that has the tag which decides the parts of a field at a position.
 pub fn giver_of_field<'a>(
     alloc: Global,
-    all: &[Sequence<'a>],
+    all: &Known<'a>,
     sequence: &Sequence<'a>,
     at: usize,
     field: &Field,
@@ -259,7 +245,7 @@ pub fn giver_of_field<'a>(
 
 fn with_type<'a>(
     alloc: Global,
-    all: &[Sequence<'a>],
+    all: &Known<'a>,
     sequence: &Sequence<'a>,
     of: &Name,
     context: Option<OuterTag<'a>>,
@@ -300,6 +286,6 @@ fn with_tag<'a>(
 }
 
 /// The tag of the context that the struct of this name is in.
-pub fn context_of_type<'a>(all: &[Sequence<'a>], name: &str) -> Option<OuterTag<'a>> {
-    known(all, name)?.context
+pub fn context_of_type<'a>(all: &Known<'a>, name: &str) -> Option<OuterTag<'a>> {
+    sequence_named(all, name)?.context
 }

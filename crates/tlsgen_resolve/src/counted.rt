@@ -5,11 +5,12 @@ ghost use Rattle.std.specs.Prelude.{IfOk};
 ghost use Rattle.tlsgen_model.specs.Types.{IsType};
 
 use crate::items::{integer_width, is_single};
+use crate::scope::Scope;
 use crate::types::bounded_type;
 use std::alloc::Global;
 use tlsgen_model::plan::Type;
 use tlsgen_syntax::refusal::Trouble;
-use tlsgen_syntax::syntax::{Field, File, Name, Number, Part, Struct, Vector};
+use tlsgen_syntax::syntax::{Field, Name, Number, Part, Struct, Vector};
 
 /// The number just before a part of a struct, if the part is a field of as many bytes.
 pub fn length_before<'a>(one: &'a Struct, at: usize) -> Option<&'a Field> {
@@ -68,7 +69,7 @@ pub fn path_of_array(field: &Field) -> Option<&[Name]> {
 /// The type of a field of as many bytes as the number before it says.
 pub fn counted_type(
     alloc: Global,
-    files: &[File],
+    files: Scope<'_>,
     length: &Field,
     field: &Field,
 ) -> Result<Type, Trouble>

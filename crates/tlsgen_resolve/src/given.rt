@@ -2,9 +2,10 @@
 use crate::naming::is_of_field;
 use crate::notes::name_of_select;
 use crate::refuse::refused;
+use crate::scope::Scope;
 use std::alloc::Global;
 use tlsgen_syntax::refusal::Trouble;
-use tlsgen_syntax::syntax::{File, Name, Select};
+use tlsgen_syntax::syntax::{Name, Select};
 
 /// What a select is called: with a capital the type that it becomes, with a small letter the field.
 #[derive(Clone, Copy)]
@@ -14,7 +15,7 @@ pub struct Given<'a> {
 }
 
 /// The names of a select of a struct: the one behind it, or else those that notes give it.
-pub fn given_to<'a>(files: &'a [File], of: &str, select: &'a Select) -> Given<'a> {
+pub fn given_to<'a>(files: Scope<'a>, of: &str, select: &'a Select) -> Given<'a> {
     match &select.name {
         Some(name) if is_of_field(name) => Given {
             of_type: None,

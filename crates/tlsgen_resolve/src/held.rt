@@ -17,8 +17,6 @@ use tlsgen_syntax::syntax::{Field, Name};
 /// What became of a struct's field that is a tag of selects.
 #[derive(Drop)]
 pub struct PlacedTag {
-    /// The struct's name in the text.
-    pub of: String,
     /// The field's place in the text.
     pub place: Place,
     pub part: TagPart,
@@ -89,11 +87,18 @@ impl<'a> Resolver<'a> {
         tag: &Field,
         part: TagPart,
     ) -> Result<(), AllocError> {
-        self.placed.push(PlacedTag {
-            of: String::from_str(self.alloc, sequence.name)?,
+        let placed = PlacedTag {
             place: tag.name.place,
             part,
-        })?;
+        };
+        if let Some(own) = self.placed.get_mut(sequence.name) {
+            own.push(placed)?;
+            return Ok(());
+        }
+        let name = String::from_str(self.alloc, sequence.name)?;
+        let mut own = Vec::new(self.alloc);
+        own.push(placed)?;
+        self.placed.insert(name, own)?;
         Ok(())
     }
 
@@ -157,7 +162,7 @@ impl<'a> Resolver<'a> {
             }
             None => {}
         }
-        self.out.holders.push(Holder {
+        self.out.push_holder(Holder {
             name,
             tag: of.clone()?,
             member,
@@ -191,8 +196,8 @@ impl<'a> Resolver<'a> {
     }
 
     fn placed_tag(&self, one: &Holding<'a>) -> Option<&TagPart> {
-        for placed in &self.placed {
-            if placed.of.as_str() == one.name && is_same(placed.place, one.field.name.place) {
+        for placed in self.placed.get(one.name)? {
+            if is_same(placed.place, one.field.name.place) {
                 return Some(&placed.part);
             }
         }

@@ -3,10 +3,11 @@
 use crate::contexts::{OuterTag, outer_tag};
 use crate::items::is_single;
 use crate::refuse::refused;
-use crate::sequence::{IndexedField, Piece, Sequence, find_field, is_here};
+use crate::scope::Scope;
+use crate::sequence::{IndexedField, Known, Piece, Sequence, find_field, is_here};
 use std::alloc::{AllocError, Global};
 use tlsgen_syntax::refusal::Trouble;
-use tlsgen_syntax::syntax::{Field, File, Name, Select};
+use tlsgen_syntax::syntax::{Field, Name, Select};
 
 /// Where the tag of a select is.
 #[derive(Clone, Copy)]
@@ -29,8 +30,8 @@ pub struct Holding<'a> {
 /// Where the tag of a select at a position is.
 pub fn site_of<'a>(
     alloc: Global,
-    files: &'a [File],
-    all: &[Sequence<'a>],
+    files: Scope<'a>,
+    all: &Known<'a>,
     sequence: &Sequence<'a>,
     at: usize,
 ) -> Result<Site<'a>, Trouble> {
@@ -82,7 +83,7 @@ fn is_giver(field: &Field) -> bool {
 /// The field before a position that is the tag or holds it. Rejects two.
 pub fn giver_of<'a>(
     alloc: Global,
-    all: &[Sequence<'a>],
+    all: &Known<'a>,
     sequence: &Sequence<'a>,
     at: usize,
     tag: &OuterTag<'a>,
@@ -110,11 +111,11 @@ pub fn giver_of<'a>(
 /// The structs that hold a tag, each after those that it contains.
 pub fn holders_of<'a>(
     alloc: Global,
-    all: &[Sequence<'a>],
+    all: &Known<'a>,
     tag: &OuterTag<'a>,
 ) -> Result<Vec<Holding<'a>>, AllocError> {
     let mut holders = Vec::new(alloc);
-    for one in all {
+    for one in all.as_slice() {
         if let Some(field) = only_holding(&holders, one, tag) {
             holders.push(Holding {
                 name: one.name,

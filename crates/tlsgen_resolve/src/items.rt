@@ -2,10 +2,11 @@
 ghost use Rattle.std.specs.Prelude.{IfSome, IsTrue};
 ghost use Rattle.tlsgen_model.specs.Types.{is_integer_width};
 
-use tlsgen_syntax::syntax::{Field, File, Item, Name, Struct, Vector};
+use crate::scope::Scope;
+use tlsgen_syntax::syntax::{Field, Item, Name, Struct, Vector};
 
-/// The most items of all files: names are compared each with each.
-pub const MOST_ITEMS: usize = 1024;
+/// The most items of all files.
+pub const MOST_ITEMS: usize = 100_000;
 
 /// The name of an item.
 pub fn item_name(item: &Item) -> &Name {
@@ -16,26 +17,22 @@ pub fn item_name(item: &Item) -> &Name {
     }
 }
 
+/// The name of an item, which may be changed.
+pub fn item_name_mut(item: &mut Item) -> &mut Name {
+    match item {
+        Item::Enum(one) => &mut one.name,
+        Item::Struct(one) => &mut one.name,
+        Item::Alias(field) => &mut field.name,
+    }
+}
+
 /// The item of this name, in whichever file it is.
-pub fn find<'a>(files: &'a [File], name: &str) -> Option<&'a Item> {
-    files.iter().find_map(|file| find_in(file, name))
-}
-
-fn find_in<'a>(file: &'a File, name: &str) -> Option<&'a Item> {
-    file.items
-        .iter()
-        .find(|item| item_name(item).text.as_str() == name)
-}
-
-/// The position in a file of the item of this name.
-pub fn position(file: &File, name: &str) -> Option<usize> {
-    file.items
-        .iter()
-        .position(|item| item_name(item).text.as_str() == name)
+pub fn find<'a>(files: Scope<'a>, name: &str) -> Option<&'a Item> {
+    files.find(name)
 }
 
 /// The struct of this name.
-pub fn find_struct<'a>(files: &'a [File], name: &str) -> Option<&'a Struct> {
+pub fn find_struct<'a>(files: Scope<'a>, name: &str) -> Option<&'a Struct> {
     match find(files, name) {
         Some(Item::Struct(one)) => Some(one),
         _ => None,
@@ -45,6 +42,12 @@ pub fn find_struct<'a>(files: &'a [File], name: &str) -> Option<&'a Struct> {
 /// Whether a field is one of its type: no vector, and no option.
 pub fn is_single(field: &Field) -> bool {
     !field.is_optional && matches!(field.vector, Vector::One)
+}
+
+/// Whether a field is a byte, or has bytes in its vector.
+pub fn has_bytes(field: &Field) -> bool {
+    let of = field.of.text.as_str();
+    !field.is_optional && (of == "opaque" || integer_width(of) == Some(1))
 }
 
 /// How many bytes an integer of this name has.

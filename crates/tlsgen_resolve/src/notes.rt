@@ -1,28 +1,28 @@
 //! What the notes beside a text say: a length, a size or a tag that the RFC's prose gives.
 use crate::counted::{is_length, path_of_array};
+use crate::ending::ending_of;
 use crate::naming::is_of_field;
+use crate::padding::Padding;
 use crate::refuse::refused;
 use crate::resolver::Resolver;
+use crate::scope::Scope;
 use std::alloc::Global;
 use tlsgen_syntax::refusal::Trouble;
 use tlsgen_syntax::syntax::{
     Case, Field, File, Item, Label, Name, Note, Number, Part, Said, Select, Struct, Value,
 };
 
-// The notes of the file that is resolved.
-fn notes_of(files: &[File]) -> &[Note] {
-    match files.last() {
-        Some(file) => &file.notes,
-        None => &[],
-    }
-}
-
 /// The number that a note gives for a name between an array's brackets.
-pub fn number_of_path(files: &[File], path: &[Name]) -> Option<Number> {
-    notes_of(files).iter().find_map(|note| match note.said {
-        Said::Number(number) if are_same(&note.path, path) => Some(number),
-        _ => None,
-    })
+pub fn number_of_path(files: Scope<'_>, path: &[Name]) -> Option<Number> {
+    let first = path.first()?;
+    for at in files.notes(first.text.as_str()) {
+        let note = files.note(*at)?;
+        match note.said {
+            Said::Number(number) if are_same(&note.path, path) => return Some(number),
+            _ => {}
+        }
+    }
+    None
 }
 
 fn are_same(own: &[Name], path: &[Name]) -> bool {
@@ -33,12 +33,15 @@ fn are_same(own: &[Name], path: &[Name]) -> bool {
             .all(|(one, other)| one.text == other.text)
 }
 
-// What a note says of a name in a struct.
-fn said_of<'a>(files: &'a [File], of: &Name, name: &Name) -> Option<&'a Said> {
-    notes_of(files)
-        .iter()
-        .find(|note| is_of(&note.path, of, name) && !matches!(note.said, Said::Called(_)))
-        .map(|note| &note.said)
+/// What a note says of a name in a struct.
+pub fn said_of<'a>(files: Scope<'a>, of: &Name, name: &Name) -> Option<&'a Said> {
+    for at in files.notes(of.text.as_str()) {
+        let note = files.note(*at)?;
+        if is_of(&note.path, of, name) && !matches!(note.said, Said::Called(_)) {
+            return Some(&note.said);
+        }
+    }
+    None
 }
 
 fn is_of(path: &[Name], of: &Name, name: &Name) -> bool {
@@ -53,7 +56,7 @@ fn is_of_names(path: &[Name], of: &str, name: &Name) -> bool {
 }
 
 /// Whether a part of a struct is a number that counts the bytes of the select right behind it.
-pub fn counts_select(files: &[File], one: &Struct, at: usize) -> bool {
+pub fn counts_select(files: Scope<'_>, one: &Struct, at: usize) -> bool {
     let (Some(Part::Field(length)), Some(Part::Select(_))) = (
         one.parts.get(at),
         one.parts.get(at.saturating_add(1)),
@@ -64,7 +67,7 @@ pub fn counts_select(files: &[File], one: &Struct, at: usize) -> bool {
 }
 
 /// The one field of a struct, if it is bytes that fill what is left.
-pub fn filling_field<'a>(files: &[File], one: &'a Struct) -> Option<&'a Field> {
+pub fn filling_field<'a>(files: Scope<'_>, one: &'a Struct) -> Option<&'a Field> {
     let [part] = one.parts.as_slice() else {
         return None;
     };
@@ -79,38 +82,62 @@ pub fn filling_field<'a>(files: &[File], one: &'a Struct) -> Option<&'a Field> {
     }
 }
 
-/// The field of zeros at the end of a struct, if it has one.
-pub fn padding_of<'a>(files: &[File], one: &'a Struct) -> Option<&'a Field> {
-    match one.parts.last() {
-        Some(Part::Field(field)) if pads(files, one, field) => Some(field),
-        _ => None,
+/// The field at the end of a struct that goes to the end of what is read, if it has one.
+pub fn padding_of<'a>(files: Scope<'_>, one: &'a Struct) -> Option<Padding<'a>> {
+    if let Some(ending) = ending_of(files, one) {
+        return Some(Padding::BehindType(ending.zeros));
+    }
+    let Some(Part::Field(field)) = one.parts.last() else {
+        return None;
+    };
+    if !is_padding(files, one, field) {
+        return None;
+    }
+    match said_of(files, &one.name, &field.name) {
+        Some(Said::Pads) => Some(Padding::Zeros(field)),
+        _ => Some(Padding::Bytes(field)),
     }
 }
 
-/// Whether a field of a struct is zeros up to the end of what is read.
-pub fn pads(files: &[File], one: &Struct, field: &Field) -> bool {
-    matches!(said_of(files, &one.name, &field.name), Some(Said::Pads))
-        && matches!(field.of.text.as_str(), "opaque" | "uint8" | "uint8_t")
+/// Whether a field of a struct goes to the end of what is read.
+pub fn is_padding(files: Scope<'_>, one: &Struct, field: &Field) -> bool {
+    let goes_on = match said_of(files, &one.name, &field.name) {
+        Some(Said::Pads) => true,
+        Some(Said::Fills) => one.parts.len() > 1,
+        _ => false,
+    };
+    goes_on && is_sized_by_name(field)
+}
+
+/// Whether a field is bytes, as many as a name between its brackets says.
+pub fn is_sized_by_name(field: &Field) -> bool {
+    matches!(field.of.text.as_str(), "opaque" | "uint8" | "uint8_t")
         && path_of_array(field).is_some()
 }
 
 /// The name that a note gives a select of a struct: of its field, with a small letter, or of its type.
 pub fn name_of_select<'a>(
-    files: &'a [File],
+    files: Scope<'a>,
     of: &str,
     select: &Select,
     is_field: bool,
 ) -> Option<&'a Name> {
     let tag = select.path.last()?;
-    notes_of(files).iter().find_map(|note| match &note.said {
-        Said::Called(name) if is_of_names(&note.path, of, tag) && is_of_field(name) == is_field =>
-            Some(name),
-        _ => None,
-    })
+    for at in files.notes(of) {
+        let note = files.note(*at)?;
+        match &note.said {
+            Said::Called(name)
+                if is_of_names(&note.path, of, tag) && is_of_field(name) == is_field => {
+                return Some(name);
+            }
+            _ => {}
+        }
+    }
+    None
 }
 
 /// The only case of a select whose tag is elsewhere and always has one value.
-pub fn settled_case<'a>(files: &[File], one: &Struct, select: &'a Select) -> Option<&'a Case> {
+pub fn settled_case<'a>(files: Scope<'_>, one: &Struct, select: &'a Select) -> Option<&'a Case> {
     let [tag] = select.path.as_slice() else {
         return None;
     };
@@ -141,14 +168,31 @@ impl<'a> Resolver<'a> {
     // What a note should have been, if it says nothing of the file.
     fn unused(&self, file: &File, note: &Note) -> Option<&'static str> {
         let is_used = match &note.said {
-            Said::Number(_) => has_array(file, &note.path) || has_value(file, &note.path),
+            Said::Number(_) => self.has_value(file, &note.path) || has_array(file, &note.path),
             Said::Open | Said::Closed | Said::Lent | Said::LeftOut => true,
-            said => file.items.iter().any(|item| match item {
-                Item::Struct(one) => self.is_said_of(one, note, said),
+            said => match self.item_of(file, &note.path) {
+                Some(Item::Struct(one)) => self.is_said_of(one, note, said),
                 _ => false,
-            }),
+            },
         };
         if is_used { None } else { expected(&note.said) }
+    }
+
+    // The definition of the file whose name is the first one of a path.
+    fn item_of<'b>(&self, file: &'b File, path: &[Name]) -> Option<&'b Item> {
+        let first = path.first()?;
+        let at = self.files.position(first.text.as_str())?;
+        file.items.get(at)
+    }
+
+    // Whether an enum of the file has a value of this name: notes gave it that.
+    fn has_value(&self, file: &File, path: &[Name]) -> bool {
+        match (self.item_of(file, path), path) {
+            (Some(Item::Enum(one)), [_, name]) => {
+                one.values.iter().any(|value| is_named(value, name))
+            }
+            _ => false,
+        }
     }
 
     // Whether a note is of a part of a struct that takes it.
@@ -157,14 +201,14 @@ impl<'a> Resolver<'a> {
             (Part::Field(field), Said::Counts) => {
                 is_of(&note.path, &one.name, &field.name) && counts_select(self.files, one, at)
             }
-            (Part::Field(field), Said::Fills) => {
-                is_of(&note.path, &one.name, &field.name)
-                    && filling_field(self.files, one).is_some()
-            }
-            (Part::Field(field), Said::Pads) => {
+            (Part::Field(field), Said::Fills | Said::Pads) => {
                 is_of(&note.path, &one.name, &field.name)
                     && at.saturating_add(1) == one.parts.len()
-                    && pads(self.files, one, field)
+                    && (filling_field(self.files, one).is_some()
+                        || is_padding(self.files, one, field))
+            }
+            (Part::Field(field), Said::Ends(_)) => {
+                is_of(&note.path, &one.name, &field.name) && ending_of(self.files, one).is_some()
             }
             (Part::Select(select), Said::Called(_)) => {
                 select.name.is_none()
@@ -195,10 +239,13 @@ fn expected(said: &Said) -> Option<&'static str> {
             "a struct of this text and a field of it, an integer of 1 to 4 bytes right before a select",
         ),
         Said::Fills => Some(
-            "a struct of this text and its only field, as `opaque verify_data[Hash.length]`",
+            "a struct of this text and its last or its only field, as `opaque verify_data[Hash.length]`",
         ),
         Said::Pads => Some(
             "a struct of this text and its last field, as `opaque padding[length_of_padding]`",
+        ),
+        Said::Ends(_) => Some(
+            "a struct of this text of three fields, as `opaque content[length]; ContentType type; uint8 zeros[length_of_padding];`, and the second and the first of them",
         ),
         Said::Called(_) => Some(
             "a struct of this text and the tag of a select in it that has no name",
@@ -220,18 +267,6 @@ fn has_array(file: &File, path: &[Name]) -> bool {
         Item::Enum(_) => false,
         Item::Alias(field) => is_array(field, path),
         Item::Struct(one) => one.parts.iter().any(|part| is_array_in(part, path)),
-    })
-}
-
-// Whether an enum of the file has a value of this name: notes gave it that.
-fn has_value(file: &File, path: &[Name]) -> bool {
-    let [of, name] = path else {
-        return false;
-    };
-    file.items.iter().any(|item| match item {
-        Item::Enum(one) => one.name.text == of.text
-            && one.values.iter().any(|value| is_named(value, name)),
-        _ => false,
     })
 }
 

@@ -1,59 +1,147 @@
 //! The order in which a file's items are settled: each after all that it contains.
-use crate::items::{item_name, position};
+use crate::items::item_name;
 use crate::refuse::refused;
+use crate::scope::Scope;
 use std::alloc::{AllocError, Global};
 use tlsgen_syntax::refusal::Trouble;
 use tlsgen_syntax::syntax::{Field, File, Item, Part, Select, Struct};
 
-/// The positions of the items in the file, each after those of all that it contains. Rejects an item that contains
+/// The positions of the items in the last file, each after those of all that it contains. Rejects an item that contains
 /// itself, also in a vector or an option: its format would be no finite text. Items of other files come before all.
-pub fn order_of(alloc: Global, file: &File) -> Result<Vec<usize>, Trouble> {
-    let needs = needs_of(alloc, file)?;
-    let count = file.items.len();
-    let mut settled = vec![in alloc; false; count]?;
-    let mut order = Vec::new(alloc);
-    for _ in 0..count {
-        let before = order.len();
-        settle(&needs, &mut settled, &mut order)?;
-        if order.len() == before {
-            break;
-        }
-    }
-    match settled.iter().position(|is_settled| !*is_settled) {
-        None => Ok(order),
-        Some(first) => Err(refused_circle(alloc, file, &needs, &settled, first)),
+///
+/// It is the order of going over the items from the first to the last, again and again, and settling each whose parts are
+/// settled.
+pub fn order_of(alloc: Global, files: Scope<'_>, file: &File) -> Result<Vec<usize>, Trouble> {
+    let needs = needs_of(alloc, files, file)?;
+    let rounds = Rounds::of(alloc, &needs)?;
+    match rounds.left.iter().position(|left| *left > 0) {
+        None => Ok(rounds.order(alloc)?),
+        Some(first) => Err(refused_circle(alloc, file, &needs, &rounds.left, first)),
     }
 }
 
-// Settles each item all of whose parts are settled.
-fn settle(
-    needs: &[Vec<usize>],
-    settled: &mut Vec<bool>,
-    order: &mut Vec<usize>,
-) -> Result<(), AllocError> {
-    for (at, parts) in needs.iter().enumerate() {
-        if !is_settled(settled, at) && parts.iter().all(|part| is_settled(settled, *part)) {
-            if let Some(mark) = settled.get_mut(at) {
-                *mark = true;
+// In which round each item is settled.
+#[derive(Drop)]
+struct Rounds {
+    round: Vec<usize>,
+    /// How many of its parts aren't settled.
+    left: Vec<usize>,
+}
+
+impl Rounds {
+    fn of(alloc: Global, needs: &[Vec<usize>]) -> Result<Rounds, AllocError> {
+        let users = users_of(alloc, needs)?;
+        let mut rounds = Rounds {
+            round: vec![in alloc; 0; needs.len()]?,
+            left: Vec::new(alloc),
+        };
+        let mut ready = Vec::new(alloc);
+        for (at, parts) in needs.iter().enumerate() {
+            rounds.left.push(parts.len())?;
+            if parts.is_empty() {
+                ready.push(at)?;
             }
-            order.push(at)?;
         }
+        for _ in 0..needs.len() {
+            let Some(at) = ready.pop() else {
+                break;
+            };
+            rounds.settle(at, &users, &mut ready)?;
+        }
+        Ok(rounds)
+    }
+
+    // Settles an item, and appends those for which it was the last part.
+    fn settle(
+        &mut self,
+        at: usize,
+        users: &[Vec<usize>],
+        ready: &mut Vec<usize>,
+    ) -> Result<(), AllocError> {
+        let Some(users) = users.get(at) else {
+            return Ok(());
+        };
+        let round = self.round.get(at).copied().unwrap_or(0);
+        for user in users {
+            self.raise(
+                *user,
+                if *user < at {
+                    round.saturating_add(1)
+                } else {
+                    round
+                },
+            );
+            if self.is_last(*user) {
+                ready.push(*user)?;
+            }
+        }
+        Ok(())
+    }
+
+    fn raise(&mut self, at: usize, least: usize) {
+        if let Some(round) = self.round.get_mut(at) {
+            *round = (*round).max(least);
+        }
+    }
+
+    // Counts one part less, and returns whether none is left.
+    fn is_last(&mut self, at: usize) -> bool {
+        match self.left.get_mut(at) {
+            Some(left) => {
+                *left = left.saturating_sub(1);
+                *left == 0
+            }
+            None => false,
+        }
+    }
+
+    fn order(&self, alloc: Global) -> Result<Vec<usize>, AllocError> {
+        let mut rows = Vec::new(alloc);
+        for (at, round) in self.round.iter().enumerate() {
+            rows.push((*round, at))?;
+        }
+        rows.sort()?;
+        let mut order = Vec::new(alloc);
+        for (_, at) in &rows {
+            order.push(*at)?;
+        }
+        Ok(order)
+    }
+}
+
+// Of each item those that it is a part of.
+fn users_of(alloc: Global, needs: &[Vec<usize>]) -> Result<Vec<Vec<usize>>, AllocError> {
+    let mut users = Vec::new(alloc);
+    for _ in needs {
+        users.push(Vec::new(alloc))?;
+    }
+    for (at, parts) in needs.iter().enumerate() {
+        for part in parts {
+            push_user(&mut users, *part, at)?;
+        }
+    }
+    Ok(users)
+}
+
+fn push_user(users: &mut [Vec<usize>], part: usize, user: usize) -> Result<(), AllocError> {
+    if let Some(own) = users.get_mut(part) {
+        own.push(user)?;
     }
     Ok(())
 }
 
-fn is_settled(settled: &[bool], at: usize) -> bool {
-    settled.get(at).copied().unwrap_or(true)
+fn is_settled(left: &[usize], at: usize) -> bool {
+    left.get(at).copied().unwrap_or(0) == 0
 }
 
 fn refused_circle(
     alloc: Global,
     file: &File,
     needs: &[Vec<usize>],
-    settled: &[bool],
+    left: &[usize],
     first: usize,
 ) -> Trouble {
-    let at = on_a_circle(needs, settled, first);
+    let at = on_a_circle(needs, left, first);
     match file.items.get(at) {
         Some(item) => {
             let name = item_name(item);
@@ -69,70 +157,74 @@ fn refused_circle(
 }
 
 // Goes from an item that isn't settled to one in it that isn't, as often as there are items.
-fn on_a_circle(needs: &[Vec<usize>], settled: &[bool], first: usize) -> usize {
+fn on_a_circle(needs: &[Vec<usize>], left: &[usize], first: usize) -> usize {
     let mut at = first;
     for _ in 0..needs.len() {
-        at = next_unsettled(needs, settled, at);
+        at = next_unsettled(needs, left, at);
     }
     at
 }
 
-fn next_unsettled(needs: &[Vec<usize>], settled: &[bool], at: usize) -> usize {
+fn next_unsettled(needs: &[Vec<usize>], left: &[usize], at: usize) -> usize {
     match needs.get(at) {
         Some(parts) => parts
             .iter()
             .copied()
-            .find(|part| !is_settled(settled, *part))
+            .find(|part| !is_settled(left, *part))
             .unwrap_or(at),
         None => at,
     }
 }
 
-fn needs_of(alloc: Global, file: &File) -> Result<Vec<Vec<usize>>, AllocError> {
+fn needs_of(alloc: Global, files: Scope<'_>, file: &File) -> Result<Vec<Vec<usize>>, AllocError> {
     let mut needs = Vec::new(alloc);
     for item in &file.items {
-        let parts = item_needs(alloc, file, item)?;
+        let parts = item_needs(alloc, files, item)?;
         needs.push(parts)?;
     }
     Ok(needs)
 }
 
-fn item_needs(alloc: Global, file: &File, item: &Item) -> Result<Vec<usize>, AllocError> {
+fn item_needs(alloc: Global, files: Scope<'_>, item: &Item) -> Result<Vec<usize>, AllocError> {
     let mut needs = Vec::new(alloc);
     match item {
         Item::Enum(_) => {}
-        Item::Alias(field) => need(file, &mut needs, field)?,
-        Item::Struct(one) => need_parts(file, &mut needs, one)?,
+        Item::Alias(field) => need(files, &mut needs, field)?,
+        Item::Struct(one) => need_parts(files, &mut needs, one)?,
     }
     Ok(needs)
 }
 
-fn need_parts(file: &File, needs: &mut Vec<usize>, one: &Struct) -> Result<(), AllocError> {
+fn need_parts(files: Scope<'_>, needs: &mut Vec<usize>, one: &Struct) -> Result<(), AllocError> {
     for part in &one.parts {
         match part {
-            Part::Field(field) => need(file, needs, field)?,
-            Part::Select(select) => need_cases(file, needs, select)?,
+            Part::Field(field) => need(files, needs, field)?,
+            Part::Select(select) => need_cases(files, needs, select)?,
         }
     }
     Ok(())
 }
 
-fn need_cases(file: &File, needs: &mut Vec<usize>, select: &Select) -> Result<(), AllocError> {
+fn need_cases(files: Scope<'_>, needs: &mut Vec<usize>, select: &Select) -> Result<(), AllocError> {
     for case in &select.cases {
-        need_fields(file, needs, &case.fields)?;
+        need_fields(files, needs, &case.fields)?;
     }
     Ok(())
 }
 
-fn need_fields(file: &File, needs: &mut Vec<usize>, fields: &[Field]) -> Result<(), AllocError> {
+fn need_fields(
+    files: Scope<'_>,
+    needs: &mut Vec<usize>,
+    fields: &[Field],
+) -> Result<(), AllocError> {
     for field in fields {
-        need(file, needs, field)?;
+        need(files, needs, field)?;
     }
     Ok(())
 }
 
-fn need(file: &File, needs: &mut Vec<usize>, field: &Field) -> Result<(), AllocError> {
-    if let Some(at) = position(file, field.of.text.as_str()) {
+fn need(files: Scope<'_>, needs: &mut Vec<usize>, field: &Field) -> Result<(), AllocError> {
+    if let Some(at) = files.position(field.of.text.as_str()) {
         needs.push(at)?;
     }
     Ok(())

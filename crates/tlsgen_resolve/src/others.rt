@@ -1,46 +1,87 @@
 //! What a file has of other crates, and which enums are written.
+use crate::items::item_name;
 use crate::members::copy_type;
 use crate::naming::type_name;
 use crate::output::Output;
 use crate::refuse::refused;
 use std::alloc::{AllocError, Global};
-use tlsgen_model::plan::{Body, Element, Member, Message, Other};
+use std::collections::BTreeSet;
+use tlsgen_model::plan::{Body, Element, Member, Other};
 use tlsgen_syntax::refusal::Trouble;
 use tlsgen_syntax::syntax::{Field, File, Item, Name, Part};
 
 /// The enums of the crate that is resolved which are the types of tags, and of no members: those aren't written.
 pub fn tags_alone(alloc: Global, out: &Output) -> Result<Vec<String>, AllocError> {
+    let mut named = named_in_messages(alloc, out)?;
+    for alias in out.aliases.iter().filter(|alias| alias.home == out.home) {
+        add(&mut named, &alias.of.element)?;
+    }
+    for holder in out.holders() {
+        named.insert(holder.tag.clone()?)?;
+    }
     let mut alone = Vec::new(alloc);
     for tag in &out.tags {
-        if out.home_of(tag) == Some(out.home) && !is_member(out, tag) {
+        if out.home_of(tag) == Some(out.home) && !named.contains(tag) {
             alone.push(tag.clone()?)?;
         }
     }
     Ok(alone)
 }
 
-// Whether the crate that is resolved has an alias or a member of this type, or a message that holds one.
-fn is_member(out: &Output, name: &String) -> bool {
-    out.aliases.iter().any(|alias| alias.home == out.home && names(&alias.of.element, name))
-        || out.holders.iter().any(|holder| holder.tag == *name)
-        || is_in_messages(out, name)
+// The types of the members and contexts that the crate that is resolved has.
+fn named_in_messages(alloc: Global, out: &Output) -> Result<BTreeSet<String>, AllocError> {
+    let mut named = BTreeSet::new(alloc);
+    for message in out.messages() {
+        add_body(&mut named, &message.body)?;
+        if let Some(context) = &message.context {
+            add(&mut named, &context.of)?;
+        }
+    }
+    Ok(named)
 }
 
-// Whether the crate that is resolved has a member of this type.
-fn is_in_messages(out: &Output, name: &String) -> bool {
-    out.messages().iter().any(|message| {
-        message.home == out.home && (has(&message.body, name) || has_context(message, name))
-    })
+fn add_body(named: &mut BTreeSet<String>, body: &Body) -> Result<(), AllocError> {
+    match body {
+        Body::Values { .. } => Ok(()),
+        Body::Fields(fields) => add_fields(named, fields),
+        Body::Choice { variants, .. } | Body::Sum { variants, .. } => {
+            for variant in variants {
+                add_fields(named, &variant.fields)?;
+            }
+            Ok(())
+        }
+    }
 }
 
-/// Rejects a member whose type is an enum of another crate that isn't written there.
-pub fn check_alone(alloc: Global, file: &File, out: &Output) -> Result<(), Trouble> {
-    for name in &out.unwritten {
-        if out.home_of(name) != Some(out.home) && is_in_messages(out, name) {
-            return Err(refused_alone(alloc, file, name));
+fn add_fields(named: &mut BTreeSet<String>, fields: &[Member]) -> Result<(), AllocError> {
+    for member in fields {
+        add(named, &member.of.element)?;
+    }
+    Ok(())
+}
+
+fn add(named: &mut BTreeSet<String>, element: &Element) -> Result<(), AllocError> {
+    if let Element::Message(name) = element {
+        if !named.contains(name) {
+            named.insert(name.clone()?)?;
         }
     }
     Ok(())
+}
+
+/// Rejects a member whose type is an enum of another crate that isn't written there, or whose name this text or a third crate
+/// has too.
+pub fn check_alone(alloc: Global, file: &File, out: &Output) -> Result<(), Trouble> {
+    let named = named_in_messages(alloc, out)?;
+    for name in out.unwritten() {
+        if out.home_of(name) != Some(out.home) && named.contains(name) {
+            return Err(refused_alone(alloc, file, name));
+        }
+    }
+    match out.hidden().iter().find(|name| named.contains(*name)) {
+        Some(name) => Err(refused_shared(alloc, file, name)),
+        None => Ok(()),
+    }
 }
 
 fn refused_alone(alloc: Global, file: &File, name: &String) -> Trouble {
@@ -52,6 +93,19 @@ fn refused_alone(alloc: Global, file: &File, name: &String) -> Trouble {
             "a type that is the field of a struct in its own crate too: there it is a tag alone, and isn't written",
         ),
         Ok(None) | Err(_) => Trouble::Memory,
+    }
+}
+
+// The refusal of a tag whose type has a name that this file or a third crate has too.
+fn refused_shared(alloc: Global, file: &File, name: &String) -> Trouble {
+    match file.items.first() {
+        Some(item) => refused(
+            alloc,
+            item_name(item).place,
+            name.as_str(),
+            "no tag of another crate whose type has a name that this text, or a third crate, has too",
+        ),
+        None => Trouble::Memory,
     }
 }
 
@@ -98,17 +152,61 @@ fn push_part<'a>(part: &'a Part, fields: &mut Vec<&'a Field>) -> Result<(), Allo
     Ok(())
 }
 
-/// What the crates before the one that was resolved last have, but for enums that aren't written there.
+/// What the crates before the one that was resolved last have, but for enums that aren't written there, and for names that
+/// this one has, or two of them.
 pub fn others_of(alloc: Global, out: &Output) -> Result<Vec<Other>, AllocError> {
+    let left_out = left_out_of(alloc, out)?;
     let mut others = Vec::new(alloc);
-    push_aliases(alloc, out, &mut others)?;
-    push_messages(out, &mut others)?;
+    push_aliases(alloc, out, &left_out, &mut others)?;
+    push_messages(out, &left_out, &mut others)?;
     Ok(others)
 }
 
-fn push_aliases(alloc: Global, out: &Output, others: &mut Vec<Other>) -> Result<(), AllocError> {
+// The names of other crates' types that aren't named here.
+fn left_out_of(alloc: Global, out: &Output) -> Result<BTreeSet<String>, AllocError> {
+    let mut left_out = BTreeSet::new(alloc);
+    for name in out.unwritten().iter().chain(out.hidden().iter()) {
+        left_out.insert(name.clone()?)?;
+    }
+    for message in out.messages() {
+        left_out.insert(message.name.clone()?)?;
+    }
+    let mut seen = BTreeSet::new(alloc);
+    for message in out.before() {
+        leave_second(&mut seen, &mut left_out, &message.name)?;
+    }
     for alias in &out.aliases {
-        if alias.home != out.home {
+        if alias.home == out.home {
+            left_out.insert(alias.name.clone()?)?;
+        } else {
+            leave_second(&mut seen, &mut left_out, &alias.name)?;
+        }
+    }
+    Ok(left_out)
+}
+
+// Leaves out a name that comes for the second time.
+fn leave_second(
+    seen: &mut BTreeSet<String>,
+    left_out: &mut BTreeSet<String>,
+    name: &String,
+) -> Result<(), AllocError> {
+    if seen.contains(name) {
+        left_out.insert(name.clone()?)?;
+    } else {
+        seen.insert(name.clone()?)?;
+    }
+    Ok(())
+}
+
+fn push_aliases(
+    alloc: Global,
+    out: &Output,
+    left_out: &BTreeSet<String>,
+    others: &mut Vec<Other>,
+) -> Result<(), AllocError> {
+    for alias in &out.aliases {
+        if alias.home != out.home && !left_out.contains(&alias.name) {
             others.push(Other {
                 name: alias.name.clone()?,
                 module: String::from_str(alloc, "names")?,
@@ -121,9 +219,13 @@ fn push_aliases(alloc: Global, out: &Output, others: &mut Vec<Other>) -> Result<
     Ok(())
 }
 
-fn push_messages(out: &Output, others: &mut Vec<Other>) -> Result<(), AllocError> {
-    for message in out.messages() {
-        if message.home != out.home && !out.unwritten.contains(&message.name) {
+fn push_messages(
+    out: &Output,
+    left_out: &BTreeSet<String>,
+    others: &mut Vec<Other>,
+) -> Result<(), AllocError> {
+    for message in out.before() {
+        if !left_out.contains(&message.name) {
             others.push(Other {
                 name: message.name.clone()?,
                 module: message.module.clone()?,
@@ -134,35 +236,4 @@ fn push_messages(out: &Output, others: &mut Vec<Other>) -> Result<(), AllocError
         }
     }
     Ok(())
-}
-
-fn has(body: &Body, name: &String) -> bool {
-    match body {
-        Body::Values { .. } => false,
-        Body::Fields(fields) => any_names(fields, name),
-        Body::Choice { variants, .. } | Body::Sum { variants, .. } => {
-            variants
-                .iter()
-                .any(|variant| any_names(&variant.fields, name))
-        }
-    }
-}
-
-// Whether a message is in the context of this type.
-fn has_context(message: &Message, name: &String) -> bool {
-    match &message.context {
-        Some(context) => names(&context.of, name),
-        None => false,
-    }
-}
-
-fn any_names(fields: &[Member], name: &String) -> bool {
-    fields.iter().any(|member| names(&member.of.element, name))
-}
-
-fn names(element: &Element, name: &String) -> bool {
-    match element {
-        Element::Message(own) => own == name,
-        _ => false,
-    }
 }

@@ -1,23 +1,66 @@
-//! Zeros up to the end of what is read, as `opaque padding[length_of_padding];` of RFC 9420, section 6.3.1: the struct is
-//! written without them, and is read and written in a `Padded`.
+//! What goes to the end of what is read, with no length, as `opaque padding[length_of_padding];` of RFC 9420, section 6.3.1:
+//! the struct is written without it, and is read and written in a type that has it.
 use crate::naming::type_name;
+use crate::refuse::refused;
 use crate::sequence::Sequence;
 use crate::types::declared;
 use std::alloc::{AllocError, Global};
+use tlsgen_syntax::refusal::Trouble;
+use tlsgen_syntax::syntax::Field;
 
-/// Adds to the doc comment of a struct's message that zeros are behind it, if they are.
+/// The last field of a struct, which goes to the end.
+#[derive(Clone, Copy)]
+pub enum Padding<'a> {
+    /// Zeros, after which comes nothing.
+    Zeros(&'a Field),
+    /// Any bytes.
+    Bytes(&'a Field),
+    /// Zeros behind the type of the bytes before it.
+    BehindType(&'a Field),
+}
+
+impl Padding<'_> {
+    /// What should be in place of a field of such a struct.
+    pub fn instead(&self) -> &'static str {
+        match self {
+            Padding::Zeros(_) =>
+                "no struct that zeros follow up to the end: it is read of all that there is, as `Padded`",
+            Padding::Bytes(_) =>
+                "no struct that bytes follow up to the end: it is read of all that there is, as `Followed`",
+            Padding::BehindType(_) =>
+                "no struct whose type is its last byte that isn't zero: it is read of all that there is",
+        }
+    }
+}
+
+/// Rejects bytes to the end of a struct that is in a context: no type has them.
+pub fn check_padding(alloc: Global, sequence: &Sequence<'_>) -> Result<(), Trouble> {
+    match sequence.padding {
+        Some(Padding::Bytes(field)) if sequence.context.is_some() => Err(refused(
+            alloc,
+            field.name.place,
+            field.name.text.as_str(),
+            "no bytes to the end of a struct whose selects have their tags elsewhere",
+        )),
+        _ => Ok(()),
+    }
+}
+
+/// Adds to the doc comment of a struct's message what is behind it, if anything is.
 pub fn push_padding(
     alloc: Global,
     doc: &mut String,
     sequence: &Sequence<'_>,
 ) -> Result<(), AllocError> {
-    let Some(field) = sequence.padding else {
-        return Ok(());
+    let (what, field, of) = match sequence.padding {
+        Some(Padding::Zeros(field)) => ("Zeros", field, "Padded"),
+        Some(Padding::Bytes(field)) => ("Bytes", field, "Followed"),
+        Some(Padding::BehindType(_)) | None => return Ok(()),
     };
     let name = type_name(alloc, sequence.name)?;
     let line = declared(alloc, field)?;
     write!(
         doc,
-        "\n\nZeros go to the end behind it, `{line}`: it is read and written as `Padded<{name}>`."
+        "\n\n{what} go to the end behind it, `{line}`: it is read and written as `{of}<{name}>`."
     )
 }

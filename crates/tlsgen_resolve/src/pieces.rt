@@ -1,16 +1,18 @@
 //! The parts of a struct as pieces: a number with what it counts is one, and of a select that always has one case its
 //! fields are.
 use crate::counted::length_before;
-use crate::notes::{counts_select, filling_field, padding_of, pads, settled_case};
+use crate::ending::ending_of;
+use crate::notes::{counts_select, filling_field, is_padding, padding_of, settled_case};
+use crate::scope::Scope;
 use crate::sequence::{MOST_PIECES, Piece, Sequence, refused_size};
 use std::alloc::{AllocError, Global};
 use tlsgen_syntax::refusal::Trouble;
-use tlsgen_syntax::syntax::{Field, File, Part, Select, Struct};
+use tlsgen_syntax::syntax::{Field, Part, Select, Struct};
 
 /// The pieces of a struct.
 pub fn own_pieces<'a>(
     alloc: Global,
-    files: &'a [File],
+    files: Scope<'a>,
     one: &'a Struct,
 ) -> Result<Sequence<'a>, Trouble> {
     let name = one.name.text.as_str();
@@ -18,9 +20,9 @@ pub fn own_pieces<'a>(
     if one.parts.len() > MOST_PIECES {
         return Err(refused_size(alloc, &one.name));
     }
-    for (at, part) in one.parts.iter().enumerate() {
+    for (at, part) in written_parts(files, one).iter().enumerate() {
         match part {
-            Part::Field(field) if pads(files, one, field) => {}
+            Part::Field(field) if is_padding(files, one, field) => {}
             Part::Field(field) => push_field(files, one, at, field, &mut pieces)?,
             Part::Select(select) => push_select(files, one, select, &mut pieces)?,
         }
@@ -37,9 +39,17 @@ pub fn own_pieces<'a>(
     })
 }
 
+// None of a struct that is another name of `InnerPlaintext`.
+fn written_parts<'a>(files: Scope<'_>, one: &'a Struct) -> &'a [Part] {
+    match ending_of(files, one) {
+        Some(_) => &[],
+        None => one.parts.as_slice(),
+    }
+}
+
 // A number that counts the field right behind it becomes a piece with that field.
 fn push_field<'a>(
-    files: &[File],
+    files: Scope<'_>,
     one: &'a Struct,
     at: usize,
     field: &'a Field,
@@ -58,7 +68,7 @@ fn push_field<'a>(
 
 // A select that always has one case is the fields of that case.
 fn push_select<'a>(
-    files: &[File],
+    files: Scope<'_>,
     one: &'a Struct,
     select: &'a Select,
     pieces: &mut Vec<Piece<'a>>,

@@ -3,14 +3,19 @@ ghost use Rattle.std.specs.Prelude.{IfOk};
 ghost use Rattle.tlsgen_model.specs.Writable.{AreWritable, HaveModules};
 
 use crate::checks::enum_body;
+use crate::definitions::Definitions;
+use crate::meanings::{settle, settle_notes};
 use crate::naming::{definition_doc, type_name};
 use crate::order::order_of;
-use crate::others::{check_alone, others_of, tags_alone};
+use crate::others::{check_alone, tags_alone};
+use crate::output::Output;
 use crate::refuse::refused;
 use crate::resolver::Resolver;
+use crate::scope::{Index, Scope};
 use crate::sequence::{Piece, Sequence, needs_outer_tag};
 use crate::types::{declared, type_of};
-use std::alloc::Global;
+use std::alloc::{AllocError, Global};
+use std::collections::BTreeSet;
 use tlsgen_model::plan::{Alias, Plan};
 use tlsgen_syntax::refusal::Trouble;
 use tlsgen_syntax::syntax::{Enum, Field, File, Item};
@@ -25,11 +30,17 @@ pub struct Fault {
     pub file: usize,
     /// It is the file's notes.
     pub is_note: bool,
+    /// The crates before it that define the name that is refused, by their positions among the files.
+    pub homes: Vec<usize>,
     pub trouble: Trouble,
 }
 
 /// What is written for the last of these files: each message after those that it contains. Each file before it is
-/// another crate's, and may be named by those after it. Each is resolved once, in this order.
+/// another crate's, and may be named by those after it. Each is resolved once, in this order. In place of each name that
+/// means a definition is the one spelling of that then.
+///
+/// A name means the definition of its own file, or else that of the one file before it that has one. It is the same without
+/// its dots.
 ///
 /// A file is rejected, with the place, for each of these: a type that nothing defines or that contains itself; a name
 /// or a number twice; a word of Rust or of the definitions as a type's name; a number of more bytes than its enum's;
@@ -39,7 +50,7 @@ pub struct Fault {
 ///
 /// In what is made, each struct has at most 27 fields and each case at most 18, with names that differ; the numbers of
 /// an enum and of the cases of a tag differ, and have the bytes of the enum or the tag: 1, 2, 4 or 8.
-pub fn plan_of(alloc: Global, files: &[File]) -> Result<Plan, Fault>
+pub fn plan_of(alloc: Global, files: &mut [File]) -> Result<Plan, Fault>
     ensures writable { IfOk result (λ plan. AreWritable plan.messages.items) }
     ensures differ { IfOk result (λ plan. HaveModules plan.messages.items) }
 {
@@ -47,35 +58,95 @@ pub fn plan_of(alloc: Global, files: &[File]) -> Result<Plan, Fault>
 }
 
 /// The same, with at most `most` fields and cases in all, where `plan_of` allows 100,000.
-pub fn plan_within(alloc: Global, files: &[File], most: usize) -> Result<Plan, Fault>
+pub fn plan_within(alloc: Global, files: &mut [File], most: usize) -> Result<Plan, Fault>
     ensures writable { IfOk result (λ plan. AreWritable plan.messages.items) }
     ensures differ { IfOk result (λ plan. HaveModules plan.messages.items) }
 {
-    let mut resolver = Resolver::new(alloc, most);
-    for (at, file) in files.iter().enumerate() {
-        resolver.enter(&files[..=at], at);
-        if let Err(trouble) = resolver.check_notes(file) {
-            return Err(Fault {
-                file: at,
-                is_note: true,
-                trouble,
-            });
+    let definitions = match Definitions::new(alloc, files) {
+        Ok(definitions) => definitions,
+        Err(error) => return Err(out_of_memory(alloc, error)),
+    };
+    settle_all(alloc, &definitions, files)?;
+    let index = match Index::new(alloc, files) {
+        Ok(index) => index,
+        Err(error) => return Err(out_of_memory(alloc, error)),
+    };
+    match resolved(alloc, &definitions, files, &index, most)?.into_plan(alloc) {
+        Ok(plan) => Ok(plan),
+        Err(error) => Err(out_of_memory(alloc, error)),
+    }
+}
+
+// Puts in place of each name the one of the definition that it means.
+fn settle_all(alloc: Global, definitions: &Definitions, files: &mut [File]) -> Result<(), Fault> {
+    for (at, file) in files.iter_mut().enumerate() {
+        if let Err(trouble) = settle(alloc, definitions, at, file) {
+            return Err(fault_of(alloc, definitions, at, false, trouble));
         }
-        if let Err(trouble) = resolver.resolve_file(file) {
-            return Err(Fault {
-                file: at,
-                is_note: false,
-                trouble,
-            });
+        if let Err(trouble) = settle_notes(alloc, definitions, at, file) {
+            return Err(fault_of(alloc, definitions, at, true, trouble));
         }
     }
-    match others_of(alloc, &resolver.out) {
-        Ok(others) => Ok(resolver.out.into_plan(others)),
-        Err(error) => Err(Fault {
-            file: resolver.out.home,
-            is_note: false,
-            trouble: Trouble::from(error),
-        }),
+    Ok(())
+}
+
+// What is made of the files, with at most `most` fields and cases.
+fn resolved(
+    alloc: Global,
+    definitions: &Definitions,
+    files: &[File],
+    index: &Index,
+    most: usize,
+) -> Result<Output, Fault> {
+    let all = Scope::new(files, index);
+    let mut resolver = match Resolver::new(alloc, definitions, all, most) {
+        Ok(resolver) => resolver,
+        Err(error) => return Err(out_of_memory(alloc, error)),
+    };
+    for (at, file) in files.iter().enumerate() {
+        if let Err(error) = resolver.enter(Scope::new(&files[..=at], index), at) {
+            return Err(out_of_memory(alloc, error));
+        }
+        if let Err(trouble) = resolver.check_notes(file) {
+            return Err(fault_of(alloc, definitions, at, true, trouble));
+        }
+        if let Err(trouble) = resolver.resolve_file(file) {
+            return Err(fault_of(alloc, definitions, at, false, trouble));
+        }
+    }
+    Ok(resolver.out)
+}
+
+fn fault_of(
+    alloc: Global,
+    definitions: &Definitions,
+    file: usize,
+    is_note: bool,
+    trouble: Trouble,
+) -> Fault {
+    let homes = match &trouble {
+        Trouble::Refused(refusal) => {
+            definitions.homes_before(alloc, file, refusal.found.as_str())
+        }
+        Trouble::Memory => Ok(Vec::new(alloc)),
+    };
+    match homes {
+        Ok(homes) => Fault {
+            file,
+            is_note,
+            homes,
+            trouble,
+        },
+        Err(error) => out_of_memory(alloc, error),
+    }
+}
+
+fn out_of_memory(alloc: Global, error: AllocError) -> Fault {
+    Fault {
+        file: 0,
+        is_note: false,
+        homes: Vec::new(alloc),
+        trouble: Trouble::from(error),
     }
 }
 
@@ -83,7 +154,7 @@ impl<'a> Resolver<'a> {
     fn resolve_file(&mut self, file: &'a File) -> Result<(), Trouble> {
         self.add_modules(file)?;
         self.check_types(file)?;
-        for at in &order_of(self.alloc, file)? {
+        for at in &order_of(self.alloc, self.files, file)? {
             if let Some(item) = file.items.get(*at) {
                 self.resolve_item(item)?;
             }
@@ -120,6 +191,7 @@ impl<'a> Resolver<'a> {
         self.out.aliases.push(Alias {
             name: type_name(self.alloc, field.name.text.as_str())?,
             of: type_of(self.alloc, self.files, field)?,
+            ends: false,
             home: self.out.home,
             doc: definition_doc(self.alloc, declared.as_str(), &field.name.remark)?,
         })?;
@@ -128,8 +200,9 @@ impl<'a> Resolver<'a> {
 
     // Rejects a struct that fills what is left of a length, and is no case behind one.
     fn check_filling(&self) -> Result<(), Trouble> {
-        for one in &self.known {
-            if one.is_filling && !self.known.iter().any(|other| is_filled(other, one.name)) {
+        let filled = filled_types(self.alloc, self.known.as_slice())?;
+        for one in self.known.as_slice() {
+            if one.is_filling && !filled.contains(one.name) {
                 return Err(refused(
                     self.alloc,
                     one.place,
@@ -142,21 +215,31 @@ impl<'a> Resolver<'a> {
     }
 }
 
-// Whether a struct has a length, and a case of this type behind it.
-fn is_filled(sequence: &Sequence<'_>, name: &str) -> bool {
-    sequence
-        .pieces
-        .iter()
-        .any(|piece| matches!(piece, Piece::Length(_)))
-        && sequence.pieces.iter().any(|piece| has_case_of(piece, name))
+// The types of cases in structs that have a length.
+fn filled_types<'a>(
+    alloc: Global,
+    known: &[Sequence<'a>],
+) -> Result<BTreeSet<&'a str>, AllocError> {
+    let mut filled = BTreeSet::new(alloc);
+    for one in known {
+        if one
+            .pieces
+            .iter()
+            .any(|piece| matches!(piece, Piece::Length(_)))
+        {
+            add_filled(&mut filled, one)?;
+        }
+    }
+    Ok(filled)
 }
 
-fn has_case_of(piece: &Piece<'_>, name: &str) -> bool {
-    match piece {
-        Piece::Select(select) => select.cases.iter().any(|case| case
-            .fields
-            .iter()
-            .any(|field| field.of.text.as_str() == name)),
-        _ => false,
+fn add_filled<'a>(filled: &mut BTreeSet<&'a str>, one: &Sequence<'a>) -> Result<(), AllocError> {
+    for piece in &one.pieces {
+        if let Piece::Select(select) = piece {
+            for field in select.cases.iter().flat_map(|case| case.fields.iter()) {
+                filled.insert(field.of.text.as_str())?;
+            }
+        }
     }
+    Ok(())
 }

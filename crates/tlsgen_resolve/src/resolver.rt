@@ -5,15 +5,19 @@ ghost use Rattle.tlsgen_model.specs.Writable.{IsWritable};
 
 use crate::checks::{check_letters, type_module};
 use crate::counted::counted_type;
+use crate::definitions::Definitions;
 use crate::held::{PlacedTag, member_name};
 use crate::items::{MOST_ITEMS, item_name};
 use crate::members::ResolvedMember;
 use crate::naming::{definition_doc, type_name};
 use crate::output::Output;
 use crate::refuse::{Budget, refused};
-use crate::sequence::{Sequence, known, needs_outer_tag};
+use crate::scope::Scope;
+use crate::sequence::{Known, Sequence, needs_outer_tag, sequence_named};
 use crate::types::{declared, type_of};
 use std::alloc::{AllocError, Global};
+use std::collections::{BTreeMap, BTreeSet};
+use std::mem::replace;
 use tlsgen_model::names::module_name;
 use tlsgen_model::plan::{Body, Decided, Member, Message, Type};
 use tlsgen_syntax::refusal::{Place, Trouble};
@@ -24,35 +28,41 @@ use tlsgen_syntax::syntax::{Field, File, Name, Remark};
 pub struct Resolver<'a> {
     pub alloc: Global,
     /// The files so far: those of other crates, and the one that is resolved now.
-    pub files: &'a [File],
-    /// The modules of their items.
-    modules: Vec<String>,
+    pub files: Scope<'a>,
+    // The modules of the items of the file that is resolved now.
+    modules: BTreeSet<String>,
     /// The structs that are resolved.
-    pub known: Vec<Sequence<'a>>,
-    /// Where the tags of selects are in the messages.
-    pub placed: Vec<PlacedTag>,
+    pub known: Known<'a>,
+    /// Where the tags of selects are in the messages, by the structs that have them.
+    pub placed: BTreeMap<String, Vec<PlacedTag>>,
     pub out: Output,
     pub budget: Budget,
 }
 
 impl<'a> Resolver<'a> {
     /// `most`: how many fields and cases may be made in all.
-    pub fn new(alloc: Global, most: usize) -> Resolver<'a> {
-        Resolver {
+    pub fn new(
+        alloc: Global,
+        definitions: &Definitions,
+        files: Scope<'a>,
+        most: usize,
+    ) -> Result<Resolver<'a>, AllocError> {
+        Ok(Resolver {
             alloc,
-            files: &[],
-            modules: Vec::new(alloc),
-            known: Vec::new(alloc),
-            placed: Vec::new(alloc),
-            out: Output::new(alloc),
+            files,
+            modules: BTreeSet::new(alloc),
+            known: Known::new(alloc),
+            placed: BTreeMap::new(alloc),
+            out: Output::new(alloc, files.files.len(), definitions.hidden(alloc)?),
             budget: Budget::new(most),
-        }
+        })
     }
 
     /// Goes on to the last of these files.
-    pub fn enter(&mut self, files: &'a [File], home: usize) {
+    pub fn enter(&mut self, files: Scope<'a>, home: usize) -> Result<(), AllocError> {
         self.files = files;
-        self.out.home = home;
+        let modules = replace(&mut self.modules, BTreeSet::new(self.alloc));
+        self.out.enter(home, modules)
     }
 
     /// Keeps the modules of a file's items. Rejects a name that can't be written, and one that is given twice.
@@ -64,22 +74,27 @@ impl<'a> Resolver<'a> {
     }
 
     fn add_module(&mut self, name: &Name) -> Result<(), Trouble> {
-        if self.modules.len() >= MOST_ITEMS {
-            return Err(self.refused_name(name, "at most 1024 definitions"));
+        if self.files.count() > MOST_ITEMS {
+            return Err(self.refused_name(name, "at most 100000 definitions"));
         }
         let module = type_module(self.alloc, name)?;
-        if self.is_taken(&module) {
+        if self.modules.contains(&module) {
             return Err(self.refused_name(
                 name,
                 "a name that no definition above has, and whose words aren't those of one above",
             ));
         }
-        self.modules.push(module)?;
+        self.modules.insert(module)?;
         Ok(())
     }
 
-    /// Whether an item of the files, or a message, has this module.
+    /// Whether an item or a message has this module.
     pub fn is_taken(&self, module: &String) -> bool {
+        self.is_taken_here(module) || self.out.is_before(module)
+    }
+
+    /// Whether an item or a message of the crate that is resolved now has this module.
+    pub fn is_taken_here(&self, module: &String) -> bool {
         self.modules.contains(module) || self.out.has_module(module)
     }
 
@@ -126,7 +141,7 @@ impl<'a> Resolver<'a> {
 
     // Rejects a type that fills a length, or that is in a context, where it can't be.
     fn check_context(&self, field: &Field) -> Result<(), Trouble> {
-        let Some(one) = known(&self.known, field.of.text.as_str()) else {
+        let Some(one) = sequence_named(&self.known, field.of.text.as_str()) else {
             return Ok(());
         };
         match self.misplaced(one, field)? {
@@ -146,10 +161,8 @@ impl<'a> Resolver<'a> {
                 "no struct that fills what is left, but as all of a case whose length counts the rest",
             ));
         }
-        if one.padding.is_some() {
-            return Ok(Some(
-                "no struct that zeros follow up to the end: it is read of all that there is, as `Padded`",
-            ));
+        if let Some(padding) = &one.padding {
+            return Ok(Some(padding.instead()));
         }
         if one.context.is_none() {
             return Ok(None);
@@ -215,6 +228,7 @@ impl<'a> Resolver<'a> {
             is_lent: false,
             doc,
             context: None,
+            tag: None,
             name,
             body,
         })

@@ -1,10 +1,14 @@
 //! The fields and selects of a struct.
 use crate::contexts::{OuterTag, context_of};
+use crate::items::{integer_width, is_single};
+use crate::padding::Padding;
 use crate::pieces::own_pieces;
 use crate::refuse::refused;
-use std::alloc::Global;
+use crate::scope::Scope;
+use std::alloc::{AllocError, Global};
+use std::collections::BTreeMap;
 use tlsgen_syntax::refusal::{Place, Trouble};
-use tlsgen_syntax::syntax::{Field, File, Name, Remark, Select, Struct};
+use tlsgen_syntax::syntax::{Field, Name, Remark, Select, Struct};
 
 /// The most pieces of a struct.
 pub const MOST_PIECES: usize = 256;
@@ -42,25 +46,53 @@ pub struct Sequence<'a> {
     pub context: Option<OuterTag<'a>>,
     /// It is bytes that fill what is left of a length, and no message of its own.
     pub is_filling: bool,
-    /// The field of zeros that go to the end of what is read, which is no piece.
-    pub padding: Option<&'a Field>,
+    /// The field that goes to the end of what is read, which is no piece.
+    pub padding: Option<Padding<'a>>,
+}
+
+/// The structs that are resolved, in their order.
+#[derive(Drop)]
+pub struct Known<'a> {
+    all: Vec<Sequence<'a>>,
+    by_name: BTreeMap<String, usize>,
+}
+
+impl<'a> Known<'a> {
+    pub fn new(alloc: Global) -> Known<'a> {
+        Known {
+            all: Vec::new(alloc),
+            by_name: BTreeMap::new(alloc),
+        }
+    }
+
+    /// Appends a struct.
+    pub fn push(&mut self, alloc: Global, one: Sequence<'a>) -> Result<(), AllocError> {
+        let at = self.all.len();
+        self.by_name.insert(String::from_str(alloc, one.name)?, at)?;
+        self.all.push(one)?;
+        Ok(())
+    }
+
+    pub fn as_slice(&self) -> &[Sequence<'a>] {
+        &self.all
+    }
 }
 
 /// The sequence of the struct of this name.
-pub fn known<'b, 'a>(all: &'b [Sequence<'a>], name: &str) -> Option<&'b Sequence<'a>> {
-    all.iter().find(|one| one.name == name)
+pub fn sequence_named<'b, 'a>(all: &'b Known<'a>, name: &str) -> Option<&'b Sequence<'a>> {
+    all.all.get(*all.by_name.get(name)?)
 }
 
 /// Whether the struct of this name is in the context of a tag.
-pub fn needs_outer_tag(all: &[Sequence<'_>], name: &str) -> bool {
-    known(all, name).is_some_and(|one| one.context.is_some())
+pub fn needs_outer_tag(all: &Known<'_>, name: &str) -> bool {
+    sequence_named(all, name).is_some_and(|one| one.context.is_some())
 }
 
 /// The pieces of a struct; all structs that it contains are known.
 pub fn sequence_of<'a>(
     alloc: Global,
-    files: &'a [File],
-    all: &[Sequence<'a>],
+    files: Scope<'a>,
+    all: &Known<'a>,
     one: &'a Struct,
 ) -> Result<Sequence<'a>, Trouble> {
     let mut sequence = own_pieces(alloc, files, one)?;
@@ -102,10 +134,37 @@ pub fn find_field<'a>(sequence: &Sequence<'a>, name: &str) -> Option<IndexedFiel
     None
 }
 
-/// Whether the path of a select is in its struct: it is a field's name, or begins with the name of the struct.
+// The field that is meant by the last word of a select's path: of this name, or else the one that has this type.
+fn find_tag<'a>(sequence: &Sequence<'a>, word: &str) -> Option<IndexedField<'a>> {
+    match find_field(sequence, word) {
+        Some(found) => Some(found),
+        None => only_of_type(sequence, word),
+    }
+}
+
+// The field of a type that the text defines, if no other has it.
+fn only_of_type<'a>(sequence: &Sequence<'a>, of: &str) -> Option<IndexedField<'a>> {
+    if integer_width(of).is_some() {
+        return None;
+    }
+    let mut found = None;
+    for (index, piece) in sequence.pieces.iter().enumerate() {
+        if let Piece::Field(field) = piece {
+            if is_single(field) && field.constant.is_none() && field.of.text.as_str() == of {
+                if found.is_some() {
+                    return None;
+                }
+                found = Some(IndexedField { index, field });
+            }
+        }
+    }
+    found
+}
+
+/// Whether the path of a select is in its struct: it is a field's name or type, or begins with the name of the struct.
 pub fn is_here(sequence: &Sequence<'_>, select: &Select) -> bool {
     match select.path.split_first() {
-        Some((first, [])) => find_field(sequence, first.text.as_str()).is_some(),
+        Some((first, [])) => find_tag(sequence, first.text.as_str()).is_some(),
         Some((first, _)) => first.text.as_str() == sequence.name,
         None => true,
     }
@@ -130,7 +189,7 @@ pub fn tag_of_select<'a>(
         ));
     }
     let name = last.text.as_str();
-    match find_field(sequence, name) {
+    match find_tag(sequence, name) {
         None => Err(refused(
             alloc,
             last.place,

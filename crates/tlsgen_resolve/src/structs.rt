@@ -3,12 +3,13 @@ ghost use Rattle.std.specs.Prelude.{IfOk};
 ghost use Rattle.tlsgen_model.specs.Writable.{IsWritable};
 
 use crate::constants::{Fixed, fixed_body, fixed_of};
+use crate::ending::ending_of;
 use crate::held::{TagPart, part_of};
 use crate::holders::{Site, site_of};
 use crate::lent::lends;
 use crate::members::push_member;
 use crate::naming::type_name;
-use crate::padding::push_padding;
+use crate::padding::{check_padding, push_padding};
 use crate::refuse::refused;
 use crate::resolver::Resolver;
 use crate::segment::{
@@ -29,10 +30,13 @@ impl<'a> Resolver<'a> {
         self.check_lent(&sequence)?;
         self.make_constants(one)?;
         self.check_lent_context(&sequence)?;
-        if !sequence.is_filling {
-            self.make_messages(&sequence)?;
+        check_padding(self.alloc, &sequence)?;
+        match ending_of(self.files, one) {
+            Some(ending) => self.make_ending(one, ending)?,
+            None if sequence.is_filling => {}
+            None => self.make_messages(&sequence)?,
         }
-        self.known.push(sequence)?;
+        self.known.push(self.alloc, sequence)?;
         Ok(())
     }
 
@@ -174,11 +178,13 @@ impl<'a> Resolver<'a> {
 
     /// Makes the type of a constant, unless it is there.
     pub fn make_fixed(&mut self, fixed: Fixed) -> Result<(), Trouble> {
-        if fixed.is_own || self.out.constants.contains(&fixed.type_name) {
+        if fixed.is_own || self.out.has_constant(&fixed.type_name) {
             return Ok(());
         }
         let place = fixed.number.place;
-        if self.is_taken(&module_name(self.alloc, fixed.type_name.as_str())?) {
+        let module = module_name(self.alloc, fixed.type_name.as_str())?;
+        let is_others = self.out.is_before(&module) && !self.out.is_constant(&fixed.type_name);
+        if is_others || self.is_taken_here(&module) {
             return Err(refused(
                 self.alloc,
                 place,
@@ -187,7 +193,7 @@ impl<'a> Resolver<'a> {
             ));
         }
         let body = fixed_body(self.alloc, &fixed)?;
-        self.out.constants.push(fixed.type_name.clone()?)?;
+        self.out.keep_constant(&fixed.type_name)?;
         let name = fixed.type_name;
         let doc = format!(in self.alloc; "`{name}`.")?;
         let message = self.message(name, doc, body)?;

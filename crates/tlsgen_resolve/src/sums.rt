@@ -13,7 +13,7 @@ use crate::padding::push_padding;
 use crate::refuse::refused;
 use crate::resolver::Resolver;
 use crate::segment::{ResolvedPiece, ResolvedSelect, refused_counting, refused_crossing};
-use crate::sequence::{IndexedField, Piece, Sequence, known};
+use crate::sequence::{IndexedField, Piece, Sequence, sequence_named};
 use tlsgen_model::lists::{CaseList, FieldList};
 use tlsgen_model::names::field_name;
 use tlsgen_model::plan::{Body, Decided, Element, Member, Shape, Type};
@@ -181,7 +181,7 @@ impl<'a> Resolver<'a> {
         if !is_single(field) {
             return None;
         }
-        let one = known(&self.known, field.of.text.as_str())?;
+        let one = sequence_named(&self.known, field.of.text.as_str())?;
         match one.pieces.first() {
             Some(Piece::Field(inner)) if one.is_filling => Some(*inner),
             _ => None,

@@ -1,7 +1,8 @@
 //! Which types fields may have, also those of structs that are no messages of their own.
 use crate::counted::{counted_type, length_before};
+use crate::ending::ending_of;
 use crate::items::{find_struct, is_single};
-use crate::notes::{filling_field, pads};
+use crate::notes::{filling_field, is_padding};
 use crate::resolver::Resolver;
 use crate::sequence::{Piece, Sequence};
 use crate::types::type_of;
@@ -23,12 +24,14 @@ impl<'a> Resolver<'a> {
 
     // A field that fills what is left has the type of the length that counts it.
     fn check_parts(&self, one: &Struct) -> Result<(), Trouble> {
-        if filling_field(self.files, one).is_some() && !one.is_lent {
+        if filling_field(self.files, one).is_some() && !one.is_lent
+            || ending_of(self.files, one).is_some()
+        {
             return Ok(());
         }
         for (at, part) in one.parts.iter().enumerate() {
             match part {
-                Part::Field(field) if pads(self.files, one, field) => {}
+                Part::Field(field) if is_padding(self.files, one, field) => {}
                 Part::Field(field) => self.check_part(one, at, field)?,
                 Part::Select(select) => self.check_cases(select, one.is_lent)?,
             }

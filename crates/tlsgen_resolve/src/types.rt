@@ -1,43 +1,51 @@
 //! The types of fields.
-ghost use Rattle.std.specs.Prelude.{ℕ, Bool, IfOk, IsTrue};
-ghost use Rattle.tlsgen_model.specs.Types.{IsType, can_be, is_no_array, is_shape};
+ghost use Rattle.std.specs.Prelude.{Bool, IfOk, IsTrue};
+ghost use Rattle.tlsgen_model.specs.Types.{IsType, can_be, is_no_array, is_shape, is_vector};
 ghost use Rattle.tlsgen_model.specs.declared.plan.Shape.{Shape as AShape};
 ghost use Rattle.tlsgen_model.specs.declared.plan.Shape.TheVariants as shapes;
 
 use crate::checks::refused_number;
 use crate::constants::fixed_of;
-use crate::items::{find, integer_width};
+use crate::items::{find, has_bytes, integer_width};
 use crate::naming::type_name;
 use crate::notes::number_of_path;
 use crate::refuse::refused;
+use crate::scope::Scope;
 use std::alloc::{AllocError, Global};
 use tlsgen_model::plan::{Element, Shape, Type};
 use tlsgen_model::width::bytes_for;
 use tlsgen_syntax::refusal::Trouble;
-use tlsgen_syntax::syntax::{Constant, Field, File, Item, Name, Number, Vector};
+use tlsgen_syntax::syntax::{Constant, Field, Item, Name, Number, Vector};
 
 const MOST_OF_ARRAY: u64 = 65535;
 
+// What is expected of an array whose number cuts an integer.
+const CUT: &str =
+    "the bytes of whole elements: between an array's brackets is the number of its bytes";
+
 /// The type of a field or of another name. Rejects a type that nothing defines, and a vector that it can't have.
-pub fn type_of(alloc: Global, files: &[File], field: &Field) -> Result<Type, Trouble>
+pub fn type_of(alloc: Global, files: Scope<'_>, field: &Field) -> Result<Type, Trouble>
     ensures { IfOk result IsType }
 {
     if let Some(constant) = &field.constant {
         return constant_type(alloc, files, field, constant);
     }
-    let shape = shape_of(alloc, files, &field.vector)?;
-    let element = element_of(alloc, files, field, shape)?;
-    Ok(Type {
-        shape,
-        is_optional: field.is_optional,
-        element,
-    })
+    match &field.vector {
+        Vector::One => single_type(alloc, files, field),
+        Vector::Array(number) => array_type(alloc, files, field, *number),
+        Vector::Counted(path) => match number_of_path(files, path) {
+            Some(number) => array_type(alloc, files, field, number),
+            None => Err(refused_length(alloc, path)),
+        },
+        Vector::Variable => listed_type(alloc, files, field, Shape::Variable),
+        Vector::Bounded(least, most) => bounded_type(alloc, files, field, *least, *most),
+    }
 }
 
 /// The type of a field after a length that is neither below `least` nor above `most`.
 pub fn bounded_type(
     alloc: Global,
-    files: &[File],
+    files: Scope<'_>,
     field: &Field,
     least: Number,
     most: Number,
@@ -45,17 +53,12 @@ pub fn bounded_type(
     ensures { IfOk result IsType }
 {
     let shape = bounded_shape(alloc, least, most)?;
-    let element = element_of(alloc, files, field, shape)?;
-    Ok(Type {
-        shape,
-        is_optional: field.is_optional,
-        element,
-    })
+    listed_type(alloc, files, field, shape)
 }
 
 fn constant_type(
     alloc: Global,
-    files: &[File],
+    files: Scope<'_>,
     field: &Field,
     constant: &Constant,
 ) -> Result<Type, Trouble>
@@ -69,19 +72,36 @@ fn constant_type(
     })
 }
 
-fn shape_of(alloc: Global, files: &[File], vector: &Vector) -> Result<Shape, Trouble>
-    ensures { IfOk result (λ shape. IsTrue (is_shape shape)) }
+// Without a vector.
+fn single_type(alloc: Global, files: Scope<'_>, field: &Field) -> Result<Type, Trouble>
+    ensures { IfOk result IsType }
 {
-    match vector {
-        Vector::One => Ok(Shape::One),
-        Vector::Array(number) => array_shape(alloc, *number),
-        Vector::Counted(path) => match number_of_path(files, path) {
-            Some(number) => array_shape(alloc, number),
-            None => Err(refused_length(alloc, path)),
-        },
-        Vector::Variable => Ok(Shape::Variable),
-        Vector::Bounded(least, most) => bounded_shape(alloc, *least, *most),
-    }
+    let element = single_element(alloc, files, field)?;
+    Ok(Type {
+        shape: Shape::One,
+        is_optional: field.is_optional,
+        element,
+    })
+}
+
+// In a vector of this shape.
+fn listed_type(
+    alloc: Global,
+    files: Scope<'_>,
+    field: &Field,
+    shape: Shape,
+) -> Result<Type, Trouble>
+    requires shape { IsTrue (is_shape shape) }
+    requires vector { IsTrue (is_vector shape) }
+    requires no_array { IsTrue (is_no_array shape) }
+    ensures { IfOk result IsType }
+{
+    let element = listed_element(alloc, files, field)?;
+    Ok(Type {
+        shape,
+        is_optional: field.is_optional,
+        element,
+    })
 }
 
 // Elsewhere `length_before` finds what counts a field.
@@ -97,18 +117,50 @@ fn refused_length(alloc: Global, path: &[Name]) -> Trouble {
     }
 }
 
-fn array_shape(alloc: Global, number: Number) -> Result<Shape, Trouble>
-    ensures { IfOk result (λ shape. IsTrue (is_shape shape)) }
+// So many bytes: an array of them, or elements that have as many together (RFC 8446, section 3.4).
+fn array_type(
+    alloc: Global,
+    files: Scope<'_>,
+    field: &Field,
+    number: Number,
+) -> Result<Type, Trouble>
+    ensures { IfOk result IsType }
 {
     if number.value == 0 || number.value > MOST_OF_ARRAY {
         return Err(refused_number(alloc, number, "an array of 1 to 65535 bytes"));
     }
-    Ok(Shape::Array(number.value))
+    if has_bytes(field) {
+        return Ok(Type {
+            shape: Shape::Array(number.value),
+            is_optional: false,
+            element: Element::Opaque,
+        });
+    }
+    if cuts_an_integer(field, number.value) {
+        return Err(refused_number(alloc, number, CUT));
+    }
+    listed_type(alloc, files, field, Shape::Exact(number.value))
+}
+
+// Whether this many bytes are no whole number of a field's elements, if those are integers.
+fn cuts_an_integer(field: &Field, count: u64) -> bool {
+    if field.is_optional {
+        return false;
+    }
+    match integer_width(field.of.text.as_str()) {
+        Some(2) => count % 2 != 0,
+        Some(3) => count % 3 != 0,
+        Some(4) => count % 4 != 0,
+        Some(8) => count % 8 != 0,
+        _ => false,
+    }
 }
 
 // The length has the bytes that the ceiling takes.
 fn bounded_shape(alloc: Global, least: Number, most: Number) -> Result<Shape, Trouble>
-    ensures { IfOk result (λ shape. IsTrue (is_shape shape)) }
+    ensures shape { IfOk result (λ shape. IsTrue (is_shape shape)) }
+    ensures vector { IfOk result (λ shape. IsTrue (is_vector shape)) }
+    ensures no_array { IfOk result (λ shape. IsTrue (is_no_array shape)) }
 {
     if least.value > most.value {
         return Err(refused_number(alloc, least, "a floor that isn't above its ceiling"));
@@ -134,24 +186,8 @@ fn power_text(number: u64) -> Option<&'static str> {
     }
 }
 
-fn element_of(
-    alloc: Global,
-    files: &[File],
-    field: &Field,
-    shape: Shape,
-) -> Result<Element, Trouble>
-    ensures { IfOk result (λ element. IsTrue (can_be element field.now.is_optional shape)) }
-{
-    match shape {
-        Shape::One => single_element(alloc, files, field),
-        Shape::Array(_) => byte_element(alloc, field),
-        Shape::Variable => listed_element(alloc, files, field),
-        Shape::Bounded { .. } => listed_element(alloc, files, field),
-    }
-}
-
 // Without a vector.
-fn single_element(alloc: Global, files: &[File], field: &Field) -> Result<Element, Trouble>
+fn single_element(alloc: Global, files: Scope<'_>, field: &Field) -> Result<Element, Trouble>
     ensures { IfOk result (λ element. IsTrue (can_be element field.now.is_optional shapes.One)) }
 {
     let of = &field.of;
@@ -167,26 +203,10 @@ fn single_element(alloc: Global, files: &[File], field: &Field) -> Result<Elemen
     }
 }
 
-// In an array.
-fn byte_element(alloc: Global, field: &Field) -> Result<Element, Trouble>
-    ensures { IfOk result (λ element. (count : ℕ) →
-        IsTrue (can_be element field.now.is_optional (shapes.Array count))) }
-{
-    let of = &field.of;
-    match of.text.as_str() {
-        "opaque" | "uint8" | "uint8_t" if !field.is_optional => Ok(Element::Opaque),
-        text => Err(refused(
-            alloc,
-            of.place,
-            text,
-            "an array of bytes, `opaque NAME[16]`, or a vector, `<V>`",
-        )),
-    }
-}
-
-// After a length.
-fn listed_element(alloc: Global, files: &[File], field: &Field) -> Result<Element, Trouble>
-    ensures { IfOk result (λ element. IsTrue (can_be element field.now.is_optional shapes.Variable)) }
+// In a vector.
+fn listed_element(alloc: Global, files: Scope<'_>, field: &Field) -> Result<Element, Trouble>
+    ensures { IfOk result (λ element. (s : AShape) → IsTrue (is_vector s) → IsTrue (is_no_array s) →
+        IsTrue (can_be element field.now.is_optional s)) }
 {
     let of = &field.of;
     match of.text.as_str() {
@@ -208,7 +228,7 @@ fn listed_element(alloc: Global, files: &[File], field: &Field) -> Result<Elemen
 }
 
 // An integer, or a type of the file.
-fn named_element(alloc: Global, files: &[File], of: &Name) -> Result<Element, Trouble>
+fn named_element(alloc: Global, files: Scope<'_>, of: &Name) -> Result<Element, Trouble>
     ensures { IfOk result (λ element. (o : Bool) (s : AShape) → IsTrue (is_no_array s) →
         IsTrue (can_be element o s)) }
 {
@@ -218,7 +238,7 @@ fn named_element(alloc: Global, files: &[File], of: &Name) -> Result<Element, Tr
     }
 }
 
-fn defined(alloc: Global, files: &[File], of: &Name) -> Result<Element, Trouble>
+fn defined(alloc: Global, files: Scope<'_>, of: &Name) -> Result<Element, Trouble>
     ensures { IfOk result (λ element. (o : Bool) (s : AShape) → IsTrue (is_no_array s) →
         IsTrue (can_be element o s)) }
 {

@@ -321,13 +321,14 @@ file_signs file = each_then item_then file.items.items []
 
 -- ---- notes
 
--- = NUMBER, = NAME, counts rest, fills rest, fills rest with zeros, called NAME, is open, closed or lent, or left out
+-- = NUMBER, = NAME, counts rest, fills rest, fills rest with zeros, ends NAME, called NAME, is open, closed or lent, or left out
 abbrev pub said_then : Said → List Sign → List Sign
 said_then (saids.Number n) rest = mark marks.Equals ∷ number_then n rest
 said_then (saids.Named name) rest = mark marks.Equals ∷ name_then name rest
 said_then saids.Counts rest = word (codes "counts") ∷ word (codes "rest") ∷ rest
 said_then saids.Fills rest = word (codes "fills") ∷ word (codes "rest") ∷ rest
 said_then saids.Pads rest = word (codes "fills") ∷ word (codes "rest") ∷ word (codes "with") ∷ word (codes "zeros") ∷ rest
+said_then (saids.Ends name) rest = word (codes "ends") ∷ name_then name rest
 said_then (saids.Called name) rest = word (codes "called") ∷ name_then name rest
 said_then saids.Open rest = word (codes "is") ∷ mark marks.Open ∷ rest
 said_then saids.Lent rest = word (codes "is") ∷ mark marks.Lent ∷ rest

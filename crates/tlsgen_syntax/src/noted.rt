@@ -26,6 +26,7 @@ pub fn apply(alloc: Global, file: &mut File, notes: Vec<Note>) -> Result<(), Tro
             | Said::Counts
             | Said::Fills
             | Said::Pads
+            | Said::Ends(_)
             | Said::Called(_) => {}
         }
     }

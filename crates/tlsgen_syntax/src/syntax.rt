@@ -53,10 +53,12 @@ pub enum Said {
     Named(Name),
     /// `Handshake.length counts rest`: the bytes of the select behind it.
     Counts,
-    /// `Finished.verify_data fills rest`: as many bytes as are left.
+    /// `Finished.verify_data fills rest`, `HeartbeatMessage.padding fills rest`: as many bytes as are left.
     Fills,
     /// `PrivateMessageContent.padding fills rest with zeros`: zeros go to the end of what is read.
     Pads,
+    /// `TLSInnerPlaintext.type ends content`: the last byte that isn't zero is this field, and the one named is all before it.
+    Ends(Name),
     /// `FramedContent.content_type called content`: a select on this tag has a name.
     Called(Name),
     /// `ContentType is open`: an enum keeps numbers without a name.

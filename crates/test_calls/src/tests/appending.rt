@@ -6,7 +6,7 @@ ghost use Rattle.tls_codec.specs.OwnMessages.{Empty};
 use crate::tests::same;
 use std::alloc::Global;
 use std::test::Fail;
-use tls_codec::{Error, Serialize, SerializeBytes, Sink, Size, lists};
+use tls_codec::{Error, Serialize, SerializeBytes, Sink, Size, first_room, lists};
 
 // No bytes spell it, and more bytes are announced than there are.
 #[derive(Drop)]
@@ -125,5 +125,15 @@ fn engines_append(rt: HostRuntime) -> Result<(), Fail> {
         Ok(3),
     );
     same(&rt, out.as_slice(), [0xee, 0, 1, 0, 2, 1, 3, 0].as_slice());
+    Ok(())
+}
+
+#[test]
+fn room_is_requested_at_once(rt: HostRuntime) -> Result<(), Fail> {
+    let mut out = Vec::new(rt.alloc());
+    first_room(&(7u16, 8u32), &mut out)?;
+    same(&rt, out.capacity(), 6);
+    first_room(&[0u64; 9].to_vec(rt.alloc())?, &mut out)?;
+    same(&rt, out.capacity(), 6);
     Ok(())
 }

@@ -37,7 +37,7 @@ fn entries(rt: HostRuntime) -> Result<(), Fail> {
         certificate_chain: TlsVec::new(Vec::from_array(alloc, chain)?),
     });
     is_spelled(alloc, "a certificate", &entry, &X509)?;
-    let entry = LogEntry::PrecertEntry(PrecertChainEntry {
+    let entry = LogEntry::from(PrecertChainEntry {
         pre_certificate: certificate(alloc, &[7])?,
         precertificate_chain: TlsVec::new(Vec::new(alloc)),
     });

@@ -156,6 +156,7 @@ fn lent_structs(rt: HostRuntime) -> Result<(), Fail> {
             },
             &[1, 7, 3, 1, 9, 4, 0],
         ),
+        (NodeTBSOrigin::from(&parent_hash), &[1, 7, 4, 1, 9, 0]),
     ] {
         let node = NodeTBS {
             key: &key,

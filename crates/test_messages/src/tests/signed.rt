@@ -40,13 +40,7 @@ pub(super) fn part(
 
 // What the signature of a key package is over (sections 10 and 5.1.2).
 fn signed_bytes(alloc: Global, package: &KeyPackage) -> Result<Vec<u8>, Error> {
-    let signed = KeyPackageTBS {
-        version: &package.version,
-        cipher_suite: &package.cipher_suite,
-        init_key: &package.init_key,
-        leaf_node: &package.leaf_node,
-        extensions: &package.extensions,
-    };
+    let signed = KeyPackageTBS::from(package);
     let content = VLBytes::new(signed.tls_serialize_detached(alloc)?);
     let label = VLBytes::from_slice(alloc, b"MLS 1.0 KeyPackageTBS")?;
     let signed = SignContent {
@@ -82,12 +76,7 @@ fn group_info(rt: &impl Abort, alloc: Global) -> Result<GroupInfo, Fail> {
 fn the_information_of_a_group(rt: HostRuntime) -> Result<(), Fail> {
     let alloc = rt.alloc();
     let info = group_info(&rt, alloc)?;
-    let signed = GroupInfoTBS {
-        group_context: &info.group_context,
-        extensions: &info.extensions,
-        confirmation_tag: &info.confirmation_tag,
-        signer: &info.signer,
-    };
+    let signed = GroupInfoTBS::from(&info);
     let expected = part(&rt, alloc, &GROUP_INFO, 4, 34, &[])?;
     is_written(&rt, alloc, &signed, &expected)
 }

@@ -2,7 +2,7 @@
 use super::{refusal, same_at};
 use std::test::Fail;
 
-static BAD: [(&str, usize, usize, &str, &str); 88] = [
+static BAD: [(&str, usize, usize, &str, &str); 89] = [
     // types
     ("Foo A;", 1, 1, "Foo", "given by --with"),
     ("struct { Foo a; } A;", 1, 10, "Foo", "given by --with"),
@@ -145,13 +145,6 @@ static BAD: [(&str, usize, usize, &str, &str); 88] = [
         "no definition above",
     ),
     (
-        "struct { enum { a(1) } a[2]; } A;",
-        1,
-        24,
-        "AA",
-        "an array of bytes",
-    ),
-    (
         "struct { enum { a(1), a(2) } b; } A;",
         1,
         23,
@@ -176,18 +169,32 @@ static BAD: [(&str, usize, usize, &str, &str); 88] = [
         "without a vector",
     ),
     (
-        "struct { uint16 a[2]; } A;",
+        "struct { uint16 a[3]; } A;",
         1,
-        10,
-        "uint16",
-        "an array of bytes",
+        19,
+        "3",
+        "the bytes of whole elements",
     ),
     (
-        "struct {} E; struct { E a[2]; } A;",
+        "struct {} E; struct { E a[0]; } A;",
         1,
-        23,
-        "E",
-        "an array of bytes",
+        27,
+        "0",
+        "1 to 65535",
+    ),
+    (
+        "struct {} E; struct { E a[65536]; } A;",
+        1,
+        27,
+        "65536",
+        "1 to 65535",
+    ),
+    (
+        "struct { string a[4]; } A;",
+        1,
+        10,
+        "string",
+        "without a vector",
     ),
     ("struct { opaque a[0]; } A;", 1, 19, "0", "1 to 65535"),
     (
@@ -198,11 +205,11 @@ static BAD: [(&str, usize, usize, &str, &str); 88] = [
         "1 to 65535",
     ),
     (
-        "struct { optional<uint8> a[2]; } A;",
+        "struct { optional<opaque> a[2]; } A;",
         1,
         19,
-        "uint8",
-        "an array of bytes",
+        "opaque",
+        "in a vector",
     ),
     (
         "struct { uint8 n; uint16 m; opaque a[n]; } A;",

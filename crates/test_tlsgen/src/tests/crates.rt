@@ -1,11 +1,11 @@
 // Texts over those of other crates.
 use super::shown::show;
-use super::{expects, same};
+use super::{expects, same, same_at};
 use std::alloc::{AllocError, Global};
 use std::process::Abort;
 use std::test::Fail;
 use tlsgen_model::plan::Other;
-use tlsgen_resolve::planning::{Fault, plan_of};
+use tlsgen_resolve::planning::plan_of;
 use tlsgen_syntax::parser::parse;
 use tlsgen_syntax::refusal::{Refusal, Trouble};
 use tlsgen_syntax::syntax::File;
@@ -33,15 +33,13 @@ fn rejected(
     alloc: Global,
     texts: &[&str],
 ) -> Result<(usize, Refusal), AllocError> {
-    let files = read(rt, alloc, texts)?;
-    match plan_of(alloc, &files) {
-        Err(
-            Fault {
-                file,
-                trouble: Trouble::Refused(refusal),
-                ..
-            },
-        ) => Ok((file, refusal)),
+    let mut files = read(rt, alloc, texts)?;
+    let Err(fault) = plan_of(alloc, &mut files) else {
+        panic!(rt; "not rejected: {texts:?}");
+    };
+    let file = fault.file;
+    match fault.trouble {
+        Trouble::Refused(refusal) => Ok((file, refusal)),
         _ => panic!(rt; "not rejected: {texts:?}"),
     }
 }
@@ -63,8 +61,8 @@ fn items_of_other_crates(rt: HostRuntime) -> Result<(), Fail> {
     let alloc = rt.alloc();
     let own =
         "struct { R r; U u; Key keys<V>; T t; select (Q.t) { case a: S s; case b: struct{}; } } Q; Key Name;";
-    let files = read(&rt, alloc, &[FIRST, SECOND, own])?;
-    let Ok(plan) = plan_of(alloc, &files) else {
+    let mut files = read(&rt, alloc, &[FIRST, SECOND, own])?;
+    let Ok(plan) = plan_of(alloc, &mut files) else {
         panic!(rt; "rejected");
     };
     let shown = show(alloc, &plan)?;
@@ -78,24 +76,15 @@ fn items_of_other_crates(rt: HostRuntime) -> Result<(), Fail> {
     Ok(())
 }
 
-// `T` isn't written in its crate, where it is a tag alone; `S` is a name that the first crate has.
+// `T` isn't written in its crate, where it is a tag alone.
 #[test]
 fn what_other_crates_lack(rt: HostRuntime) -> Result<(), Fail> {
-    for (own, column, found, expected) in [
-        (
-            "struct { uint8 a; T t; } Q;",
-            19,
-            "T",
-            "in its own crate too",
-        ),
-        ("struct { uint8 a; } S;", 21, "S", "no definition above"),
-    ] {
-        let (file, refusal) = rejected(&rt, rt.alloc(), &[FIRST, SECOND, own])?;
-        same(&rt, file, 2);
-        same(&rt, refusal.place.column, column);
-        same(&rt, refusal.found.as_str(), found);
-        expects(&rt, &refusal, expected);
-    }
+    let own = "struct { uint8 a; T t; } Q;";
+    let (file, refusal) = rejected(&rt, rt.alloc(), &[FIRST, SECOND, own])?;
+    same(&rt, file, 2);
+    same(&rt, refusal.place.column, 19);
+    same(&rt, refusal.found.as_str(), "T");
+    expects(&rt, &refusal, "in its own crate too");
     Ok(())
 }
 
@@ -109,16 +98,114 @@ fn crates_before_it(rt: HostRuntime) -> Result<(), Fail> {
     Ok(())
 }
 
-// `TData` is a message that the first crate has for its tag.
+// Each crate's texts, the plan of the last, and what it may name of the others. `TData` is a message that a crate has for its
+// tag; each other name is defined.
+static SHARED: [(&[&str], &str, &str); 8] = [
+    (
+        &[
+            "enum { a(1), b(2) } T; struct { uint8 n; T t; select (S.t) { case a: uint8 u; case b: struct{}; } } S;",
+            "uint8 TData; TData Q;",
+        ],
+        "type TData = u1\ntype Q = =TData\n",
+        "0:s.S ",
+    ),
+    (
+        &[
+            "enum { a(1), b(2) } T; struct { uint8 n; T t; select (S.t) { case a: uint8 u; case b: struct{}; } } S;",
+            "struct { uint8 a; } TData;",
+        ],
+        "t_data.TData: a u1,\n",
+        "0:s.S ",
+    ),
+    (
+        &["uint8 A; A B;", "uint16 A; struct { A a; B b; } C;"],
+        "type A = u2\nc.C: a =A, b =B,\n",
+        "0:names.B ",
+    ),
+    (
+        &[
+            "uint8 A; uint8 B;",
+            "uint16 A; A D;",
+            "struct { B b; D d; } C;",
+        ],
+        "c.C: b =B, d =D,\n",
+        "0:names.B 1:names.D ",
+    ),
+    (
+        &[
+            "uint8 Empty;",
+            "struct { uint8 a; } EmptyType; EmptyType B;",
+        ],
+        "type B = EmptyType\nempty_type.EmptyType: a u1,\n",
+        "",
+    ),
+    (
+        &[
+            "struct { uint8 a; } FooBar;",
+            "struct { FooBar a; } Foo_Bar;",
+        ],
+        "foo_bar.Foo_Bar: a FooBar,\n",
+        "0:foo_bar.FooBar ",
+    ),
+    (
+        &[
+            "enum { a(1), (255) } T; struct { T t; uint8 x; } H; struct { select (H.t) { case a: uint8 y; } } S;",
+            "uint8 T; struct { T t; } Q;",
+        ],
+        "type T = u1\nq.Q: t =T,\n",
+        "0:h.H 0:s.S ",
+    ),
+    (
+        &["opaque ASN.1Cert<V>;", "ASN1Cert A; ASN.1Cert B;"],
+        "type A = =ASN1Cert\ntype B = =ASN1Cert\n",
+        "0:names.ASN1Cert ",
+    ),
+];
+
 #[test]
-fn names_that_a_tag_has(rt: HostRuntime) -> Result<(), Fail> {
-    for own in ["uint8 TData;", "struct { uint8 a; } TData;"] {
-        let first =
-            "enum { a(1), b(2) } T; struct { uint8 n; T t; select (S.t) { case a: uint8 u; case b: struct{}; } } S;";
-        let (file, refusal) = rejected(&rt, rt.alloc(), &[first, own])?;
-        same(&rt, file, 1);
-        same(&rt, refusal.found.as_str(), "TData");
+fn names_of_each_crate(rt: HostRuntime) -> Result<(), Fail> {
+    let alloc = rt.alloc();
+    for (texts, wanted, wanted_others) in &SHARED {
+        let mut files = read(&rt, alloc, *texts)?;
+        let Ok(plan) = plan_of(alloc, &mut files) else {
+            panic!(rt; "rejected: {texts:?}");
+        };
+        let shown = show(alloc, &plan)?;
+        same_at(&rt, *texts, shown.as_str(), *wanted);
+        let others = others(alloc, &plan.others)?;
+        same_at(&rt, *texts, others.as_str(), *wanted_others);
     }
+    Ok(())
+}
+
+// A name that two crates have, also where only the type of a tag has it.
+#[test]
+fn names_of_two_crates(rt: HostRuntime) -> Result<(), Fail> {
+    let alloc = rt.alloc();
+    let header =
+        "enum { a(1), (255) } T; struct { T t; uint8 x; } H; struct { select (H.t) { case a: uint8 y; } } S;";
+    let mut files = read(
+        &rt,
+        alloc,
+        &["uint8 A;", "uint16 A;", "struct { uint8 b; A a; } C;"],
+    )?;
+    let Err(fault) = plan_of(alloc, &mut files) else {
+        panic!(rt; "not rejected");
+    };
+    same(&rt, fault.file, 2);
+    same(&rt, fault.homes.as_slice(), &[0, 1]);
+    match fault.trouble {
+        Trouble::Refused(refusal) => {
+            same(&rt, refusal.found.as_str(), "A");
+            same(&rt, refusal.place.column, 19);
+            expects(&rt, &refusal, "has alone");
+        }
+        _ => panic!(rt; "not rejected"),
+    }
+    let own = "uint8 T; struct { select (H.t) { case 1: uint8 y; } } Q;";
+    let (file, refusal) = rejected(&rt, alloc, &[header, own])?;
+    same(&rt, file, 1);
+    expects(&rt, &refusal, "no tag of another crate");
     Ok(())
 }
 

@@ -1,9 +1,9 @@
 // Texts that are long, or that would become long.
 use super::notes::read;
-use super::{expects, refusal, same};
+use super::{expects, made, refusal, same};
 use std::alloc::{AllocError, Global};
 use std::test::Fail;
-use tlsgen_resolve::planning::{Fault, plan_within};
+use tlsgen_resolve::planning::plan_within;
 use tlsgen_syntax::parser::parse;
 use tlsgen_syntax::refusal::Trouble;
 
@@ -66,20 +66,46 @@ fn copies_are_counted(rt: HostRuntime) -> Result<(), Fail> {
     let Ok(file) = parse(alloc, text.as_str()) else {
         panic!(rt; "no file");
     };
-    let files = [file];
-    same(&rt, plan_within(alloc, &files, 18).is_ok(), true);
-    match plan_within(alloc, &files, 17) {
-        Err(
-            Fault {
-                trouble: Trouble::Refused(refusal),
-                ..
-            },
-        ) => {
+    let mut files = [file];
+    same(&rt, plan_within(alloc, &mut files, 18).is_ok(), true);
+    let Err(fault) = plan_within(alloc, &mut files, 17) else {
+        panic!(rt; "not refused");
+    };
+    match fault.trouble {
+        Trouble::Refused(refusal) => {
             expects(&rt, &refusal, "a smaller text");
             Ok(())
         }
         _ => panic!(rt; "not refused"),
     }
+}
+
+// So many definitions: enums, chains of other names, and structs that use both and one another.
+fn definitions(alloc: Global, count: usize) -> Result<String, AllocError> {
+    let mut out = String::from_str(
+        alloc,
+        "enum { a(1), b(2), (255) } Kind0; Kind0 Other0; struct {} Body0;",
+    )?;
+    for k in 1..=count / 4 {
+        let before = k.saturating_sub(1);
+        write!(
+            &mut out,
+            "struct {{ Other{k} a; Kind{k} t; Body{before} s; select (Body{k}.t) {{ case a: Body0 first; case b: struct{{}}; }} }} Body{k};
+            enum {{ a(1), b(2), (255) }} Kind{k};
+            Other{before} Other{k};
+            struct {{ Body{k} list<V>; Other{k} tag = a; }} List{k};"
+        )?;
+    }
+    Ok(out)
+}
+
+#[test]
+fn many_definitions(rt: HostRuntime) -> Result<(), Fail> {
+    let text = definitions(rt.alloc(), 1200)?;
+    let plan = made(&rt, rt.alloc(), text.as_str());
+    same(&rt, plan.messages.len(), 903);
+    same(&rt, plan.aliases.len(), 301);
+    Ok(())
 }
 
 // So many structs, each with 256 cases, and with 18 fields that stand in each of these.

@@ -10,7 +10,7 @@ use tlsgen_syntax::parser::{parse, parse_notes};
 use tlsgen_syntax::refusal::Trouble;
 
 // A text, its notes, and the plan.
-static NOTED: [(&str, &str, &str); 12] = [
+static NOTED: [(&str, &str, &str); 14] = [
     // a length of what follows (RFC 8446, section 4), and a struct that fills it
     (
         "enum { hello(1), done(5), finished(20), (255) } T; struct { uint16 v; uint8 x; } Hello; struct { opaque verify_data[Hash.length]; } Finished; struct { T t; uint24 length; select (H.t) { case hello: Hello; case finished: Finished; case done: struct {}; }; } H;",
@@ -53,6 +53,18 @@ static NOTED: [(&str, &str, &str); 12] = [
         "P.padding fills rest with zeros; P.t called content; P.t called Content;",
         "t.T values of 1: A 1 B 2\ncontent.Content for t T sum by 1:\n  A A 1: x opaque<V>,\n  B B 2:\np.P for t T: content Content*, y u1,\nm.M: t T, z u1,\n",
     ),
+    // bytes to the end (RFC 6520, section 4)
+    (
+        "struct { uint8 t; uint16 n; opaque p[H.n]; opaque padding[padding_length]; } H;",
+        "H.padding fills rest;",
+        "h.H: t u1, p opaque<2: 0..65535>,\n",
+    ),
+    // bytes that end at their type, and zeros to the end (RFC 8446, section 5.2)
+    (
+        "enum { a(1), (255) } T; struct { opaque content[TLSPlaintext.length]; T type; uint8 zeros[length_of_padding]; } I;",
+        "I.type ends content;",
+        "type I = T, which ends it\nt.T open values of 1: A 1\n",
+    ),
     (
         "struct { uint8 t; uint8 k; select (t) { case 1: uint8 a; case 2: opaque b<V>; }; uint8 c; } S;",
         "S.t called body;",
@@ -81,7 +93,7 @@ static NOTED: [(&str, &str, &str); 12] = [
 ];
 
 // A text, its notes, the column and what was found and expected there.
-static REFUSED: [(&str, &str, usize, &str, &str); 27] = [
+static REFUSED: [(&str, &str, usize, &str, &str); 35] = [
     (
         "struct {} A;",
         "A.b counts rest;",
@@ -108,14 +120,14 @@ static REFUSED: [(&str, &str, usize, &str, &str); 27] = [
         "A.t fills rest;",
         1,
         "A",
-        "its only field",
+        "its last or its only field",
     ),
     (
         "struct { opaque a[16]; } A;",
         "A.a fills rest;",
         1,
         "A",
-        "its only field",
+        "its last or its only field",
     ),
     (
         "struct { opaque a[16]; } A;",
@@ -158,6 +170,62 @@ static REFUSED: [(&str, &str, usize, &str, &str); 27] = [
         21,
         "ones",
         "zeros",
+    ),
+    (
+        "struct { uint8 t; uint8 p[n]; uint8 z; } A;",
+        "A.p fills rest;",
+        1,
+        "A",
+        "its last or its only field",
+    ),
+    (
+        "struct { uint8 t; uint8 p[n]; } A; struct { A a; } B;",
+        "A.p fills rest;",
+        45,
+        "A",
+        "as `Followed`",
+    ),
+    (
+        "enum { a(1), b(2) } T; struct { select (M.t) { case a: uint8 x; case b: struct {}; } body; opaque p[n]; } P; struct { T t; uint8 z; } M;",
+        "P.p fills rest;",
+        99,
+        "p",
+        "their tags elsewhere",
+    ),
+    (
+        "struct { opaque c[n]; uint8 t; uint8 z[m]; } A;",
+        "A.t ends z;",
+        1,
+        "A",
+        "of three fields",
+    ),
+    (
+        "struct { opaque c[n]; uint8 t; uint8 z<V>; } A;",
+        "A.t ends c;",
+        1,
+        "A",
+        "of three fields",
+    ),
+    (
+        "struct { opaque c[n]; uint8 t; uint8 z[m]; } A;",
+        "A.t ends ;",
+        10,
+        ";",
+        "the name of a field",
+    ),
+    (
+        "struct { opaque c[n]; uint16 t; uint8 z[m]; } A;",
+        "A.t ends c;",
+        23,
+        "uint16",
+        "a type of one byte",
+    ),
+    (
+        "struct { opaque c[n]; uint8 t; uint8 z[m]; } A; struct { A a<V>; } B;",
+        "A.t ends c;",
+        58,
+        "A",
+        "read of all that there is",
     ),
     (
         "struct { uint8 t; uint8 p[n]; } A; struct { A a; } B;",
@@ -204,7 +272,7 @@ static REFUSED: [(&str, &str, usize, &str, &str); 27] = [
 pub fn read(alloc: Global, text: &str, notes: &str) -> Result<Plan, Trouble> {
     let mut file = parse(alloc, text)?;
     apply(alloc, &mut file, parse_notes(alloc, notes)?)?;
-    plan_of(alloc, &[file]).map_err(|fault| fault.trouble)
+    plan_of(alloc, &mut [file]).map_err(|fault| fault.trouble)
 }
 
 #[test]

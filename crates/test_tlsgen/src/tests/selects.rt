@@ -3,7 +3,7 @@ use super::shown::show;
 use super::{made, same_at};
 use std::test::Fail;
 
-static GOOD: [(&str, &str); 20] = [
+static GOOD: [(&str, &str); 22] = [
     // a tag in a struct, and a struct that is a tag and its select alone
     (
         "enum { a(1), b(2), (255) } T; struct { T t; select (S.t) { case a: uint8 y; case b: struct{}; } uint8 z; } S;",
@@ -12,6 +12,11 @@ static GOOD: [(&str, &str); 20] = [
     (
         "enum { a(1), b(2), (65535) } T; struct { T t; select (S.t) { case a: uint8 y; uint16 z; case b: struct{}; } } S;",
         "s.S by 2:\n  A A 1: y u1, z u2,\n  B B 2:\n",
+    ),
+    // a select on a field's type, as in RFC 5077
+    (
+        "enum { a(1), b(2) } T; struct { T tag; select (T) { case a: uint8 y; case b: struct{}; } } S;",
+        "s.S by 1:\n  A A 1: y u1,\n  B B 2:\n",
     ),
     // a name for the enum of a tag
     (
@@ -92,6 +97,11 @@ static GOOD: [(&str, &str); 20] = [
     (
         "struct { opaque a<0..32>; uint16 b<2..2^16-2>; opaque c<65535..65536>; opaque d<7..7>; } S;",
         "s.S: a opaque<1: 0..32>, b u2<2: 2..65534>, c opaque<3: 65535..65536>, d opaque<1: 7..7>,\n",
+    ),
+    // arrays by their bytes (RFC 8446, section 3.4), of bytes and of others
+    (
+        "opaque Datum[3]; struct { Datum data[9]; Pixel pixels[6]; uint16 pair[4]; uint8 x[2]; optional<Pixel> some[8]; } S; struct { uint8 x; uint16 y; } Pixel;",
+        "type Datum = opaque[3]\npixel.Pixel: x u1, y u2,\ns.S: data_ =Datum<=9>, pixels Pixel<=6>, pair u2<=4>, x opaque[2], some Pixel?<=8>,\n",
     ),
     // definitions in any order, and words of Rust
     (

@@ -10,7 +10,11 @@ pub fn show(alloc: Global, plan: &Plan) -> Result<String, AllocError> {
         let name = alias.name.as_str();
         write!(&mut out, "type {name} = ")?;
         show_type(&mut out, &alias.of)?;
-        out.push('\n')?;
+        out.push_str(if alias.ends {
+            ", which ends it\n"
+        } else {
+            "\n"
+        })?;
     }
     for message in &plan.messages {
         let name = message.name.as_str();
@@ -139,6 +143,7 @@ fn show_type(out: &mut String, of: &Type) -> Result<(), AllocError> {
     match &of.shape {
         Shape::One => Ok(()),
         Shape::Array(count) => write!(out, "[{count}]"),
+        Shape::Exact(count) => write!(out, "<={count}>"),
         Shape::Variable => out.push_str("<V>"),
         Shape::Bounded { width, least, most } => write!(out, "<{width}: {least}..{most}>"),
     }

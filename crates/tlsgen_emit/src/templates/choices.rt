@@ -2,6 +2,7 @@
 //! the tag and then the tuple of the variant's fields. A lent one is only written.
 
 use super::Templates;
+use super::contents::CONTENTS;
 use crate::lines::Lines;
 
 /// The templates.
@@ -17,7 +18,7 @@ pub fn templates() -> Templates {
 }
 
 const GHOST_USES: &str =
-    "$names_use$ghost use Rattle.$crate$.specs.$name$.{$module$_format, $module$_meets, $module$_plain, $module$_tag};
+    "$tag_use$$names_use$ghost use Rattle.$crate$.specs.$name$.{$module$_format, $module$_meets, $module$_plain, $module$_tag};
 ghost use Rattle.$crate$.specs.declared.$module$.$name$.{$name$};
 ";
 
@@ -29,7 +30,7 @@ pub static NAMES_USE: &str =
 /// What is brought in for a case without fields.
 pub static NOTHING: &str = "nothing_names, nothing_source_names, ";
 
-static TEXTS: [Lines; 17] = [
+static TEXTS: [Lines; 18] = [
     Lines {
         hole: "constants",
         before: "",
@@ -160,6 +161,7 @@ static TEXTS: [Lines; 17] = [
         behind: "",
         alone: None,
     },
+    CONTENTS,
     DEFINED,
 ];
 
@@ -287,7 +289,7 @@ $splits$            _ => Err(unknown_value($u64$)),
 }
 ";
 
-pub const LAW: &str = "
+pub const LAW: &str = "$tag_method$$from_contents$
 /// Two are equal exactly where they are of one case, and each field is.
 pub fn is_compared_by_its_case()
     ensures tag { (x y : $name$) →

@@ -1,7 +1,5 @@
 //! What holds a tag on which the selects of others are.
 
-use crate::lines::Lines;
-
 /// The impl of a message.
 pub static CODE: &str = "
 impl Holds<$key$> for $name$$any$ {
@@ -35,34 +33,29 @@ pub static HOLDS_TAG: [(&str, &str); 2] = [
 ];
 
 /// Of a tag in front of the message's cases, if its enum is closed.
-pub static IS_CLOSED: [(&str, &str); 1] = [(
-    "definition",
-    "
+pub static IS_CLOSED: [(&str, &str); 2] = [
+    ("holding", "        self.$tag$()\n"),
+    (
+        "definition",
+        "
 -- the $key$ in what a value stands for
 abbrev pub $held$ : Tree → Tree
 $held$ (Join number _) = Join number Empty
 $held$ _ = Empty
 ",
-)];
+    ),
+];
 
 /// The same of an open one.
-pub static IS_OPEN: [(&str, &str); 1] = [(
-    "definition",
-    "
+pub static IS_OPEN: [(&str, &str); 2] = [
+    ("holding", "        self.$tag$()\n"),
+    (
+        "definition",
+        "
 -- the $key$ in what a value stands for
 abbrev pub $held$ : Tree → Tree
 $held$ (Join number _) = number
 $held$ _ = Empty
 ",
-)];
-
-/// A line for each case.
-pub static CASES: Lines = Lines {
-    hole: "holding",
-    before: "        match self {\n",
-    each: "            $name$::$variant$ { .. } => $key_value$,\n",
-    bare: Some("            $name$::$variant$ => $key_value$,\n"),
-    one: Some("            $name$::$variant$(_) => $key_value$,\n"),
-    behind: "        }\n",
-    alone: Some("        $key_value$\n"),
-};
+    ),
+];

@@ -16,7 +16,8 @@ pub fn templates() -> Templates {
 }
 
 const GHOST_USES: &str = "ghost use Rattle.std.specs.Ordering.{nat_cmp};
-ghost use Rattle.$crate$.specs.$name$.{$module$_format, $module$_meets, $module$_name, $module$_plain, $module$_text$selected_use$};
+ghost use Rattle.tls_codec.specs.Registries.{listed_name, name_or_number};
+ghost use Rattle.$crate$.specs.$name$.{$module$_format, $module$_meets, $module$_names, $module$_plain$selected_use$};
 ghost use Rattle.$crate$.specs.declared.$module$.$name$.{$name$};
 ";
 
@@ -67,7 +68,7 @@ impl $name$ {
 $constants$
     /// Its name in the text, if it has one.
     pub fn name(&self) -> Option<&'static str>
-        ensures { option_map (λ name. name.now) result ≡ $module$_name self.now.0 }
+        ensures { option_map (λ name. name.now) result ≡ listed_name $module$_names self.now.0 }
     {
         match self.0 {
 $name_of$            _ => None,
@@ -77,9 +78,9 @@ $name_of$            _ => None,
 
 /// Its name, or else its number in hexadecimal, two digits a byte. A width pads names alone.
 impl fmt::Display for $name$ {
-    ghost output = { λ v. Some ($module$_text v.0) };
+    ghost output = { λ v. Some (name_or_number $module$_names $digits$ v.0) };
 
-    #[tactic(auto, using(crate::specs::$name$::$module$_printed))]
+    #[tactic(auto, using(tls_codec::specs::Registries::hexadecimal_digits))]
     fn fmt<W: fmt::Write>(&self, f: &mut fmt::Formatter<W>) -> fmt::Result {
         match self.name() {
             Some(name) => f.pad(name),
@@ -178,26 +179,4 @@ $module$_meets = u$bits$_meets
 abbrev pub $module$_names : List (ℕ × List ℕ)
 $module$_names =
 $named$
--- the name of a number
-abbrev pub $module$_name : ℕ → Option (List ℕ)
-$module$_name n =
-    option_map (λ (entry : ℕ × List ℕ). entry.1)
-    (find (λ (entry : ℕ × List ℕ). n == entry.0) $module$_names)
-
--- a number in hexadecimal, with zeros up to $digits$ digits
-abbrev pub $module$_hex : ℕ → List ℕ
-$module$_hex n = let hex = digits 16 false n in replicate ($digits$ - length hex) 48 ++ hex
-
--- what is printed
-abbrev pub $module$_text : ℕ → List ℕ
-$module$_text n = unwrap_or ($module$_name n) (codes \"0x\" ++ $module$_hex n)
-
--- the hexadecimal digits, as std says it of `{:0$digits$x}`
-pub $module$_printed : (hex : List ℕ)
-    → padded_integral (format_spec 32 0 4 $digits$ (2 ^ 64 - 1)) false [] hex
-    ≡ replicate ($digits$ - length hex) 48 ++ hex
-unfolding padded_integral char_count
-$module$_printed hex =
-    let short : $digits$ - length hex - 0 - 0 ≡ $digits$ - length hex = omega arith in
-    rw (short, append-nil hex) refl
 $selection$";

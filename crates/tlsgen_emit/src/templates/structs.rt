@@ -32,11 +32,31 @@ pub const GHOST_USES: &str =
 ghost use Rattle.$crate$.specs.declared.$module$.$name$.{$name$};
 ";
 
+/// How many columns the type of a field that is alone has at most, if it has no other name.
+pub const LONG: usize = 40;
+
+/// What a struct is read as: a tuple that has a name.
+pub static IN_PARTS: [(&str, &str); 3] = [
+    ("read_parts", "type Parts = $types$;\n\n"),
+    ("read", "Parts"),
+    ("read_path", "<Parts>"),
+];
+
+/// One of a single field: that field, or nothing.
+pub static ALONE: [(&str, &str); 3] = [
+    ("read_parts", ""),
+    ("read", "$types$"),
+    ("read_path", "$path$"),
+];
+
+/// One that is lent is only written.
+pub static LENT: [(&str, &str); 3] = [("read_parts", ""), ("read", ""), ("read_path", "")];
+
 const CODE: &str = "$doc$$lent_doc$#[derive($derives$)]
 pub struct $name$$lifetime$ {
 $declared$}
 
-impl Size for $name$$any$ {
+$read_parts$impl Size for $name$$any$ {
     ghost plain = { $module$_plain };
 
     ghost format = { $module$_format };
@@ -54,32 +74,32 @@ impl Serialize for $name$$any$ {
     }
 
     fn tls_serialize_into(&self, out: &mut Vec<u8>) -> Result<usize, Error> {
-        $lent$.tls_serialize_into(out)
+        append_as(self, &$lent$, out)
     }
 }
 ";
 
 const DECODERS: &str = "
 impl Deserialize for $name$ {
-    ghost names = { ⟦<$types$ as Deserialize>⟧.names };
+    ghost names = { ⟦<$read$ as Deserialize>⟧.names };
 
     fn tls_deserialize<R: Source>(alloc: Global, src: &mut R) -> Result<$name$, Error> {
-        let $pattern$ = $path$::tls_deserialize(alloc, src)?;
+        let $pattern$ = $read_path$::tls_deserialize(alloc, src)?;
         Ok($name$ { $fields$ })
     }
 }
 
 impl DeserializeBytes for $name$ {
-    ghost names = { ⟦<$types$ as DeserializeBytes>⟧.names };
+    ghost names = { ⟦<$read$ as DeserializeBytes>⟧.names };
 
     fn tls_deserialize_bytes(alloc: Global, whole: &[u8]) -> Result<($name$, &[u8]), Error> {
-        let ($split$, rest) = $path$::tls_deserialize_bytes(alloc, whole)?;
+        let ($split$, rest) = $read_path$::tls_deserialize_bytes(alloc, whole)?;
 $apart$        Ok(($name$ { $fields$ }, rest))
     }
 }
 ";
 
-pub const LAW: &str = "
+pub const LAW: &str = "$from_whole$
 /// Two are equal exactly where each field is.
 pub fn is_compared_by_its_fields()
     ensures { (x y : $name$) →

@@ -36,7 +36,7 @@ const CODE: &str = "$doc$#[derive($derives$)]
 pub struct $name$ {
 $declared$}
 
-impl SizeFor<$key$> for $name$ {
+$read_parts$impl SizeFor<$key$> for $name$ {
     ghost plain = { $module$_plain };
 
     ghost format_for = { $module$_format_for };
@@ -62,19 +62,19 @@ impl SerializeFor<$key$> for $name$ {
 
 const DECODERS: &str = "
 impl DeserializeFor<$key$> for $name$ {
-    ghost names = { ⟦<$types$ as DeserializeFor<$key$>>⟧.names };
+    ghost names = { ⟦<$read$ as DeserializeFor<$key$>>⟧.names };
 
     fn tls_deserialize_for<R: Source>($by$: &$key$, alloc: Global, src: &mut R) -> Result<$name$, Error> {
-        let parts = <$types$>::tls_deserialize_for($by$, alloc, src)?;
+        let parts = $read_path$::tls_deserialize_for($by$, alloc, src)?;
 $lets$        Ok($name$ { $fields$ })
     }
 }
 
 impl DeserializeBytesFor<$key$> for $name$ {
-    ghost names = { ⟦<$types$ as DeserializeBytesFor<$key$>>⟧.names };
+    ghost names = { ⟦<$read$ as DeserializeBytesFor<$key$>>⟧.names };
 
     fn tls_deserialize_bytes_for<'a>($by$: &$key$, alloc: Global, whole: &'a [u8]) -> Result<($name$, &'a [u8]), Error> {
-        let (parts, rest) = <$types$>::tls_deserialize_bytes_for($by$, alloc, whole)?;
+        let (parts, rest) = $read_path$::tls_deserialize_bytes_for($by$, alloc, whole)?;
 $lets$        Ok(($name$ { $fields$ }, rest))
     }
 }

@@ -1,6 +1,7 @@
 //! What comes after each number of a tag, as a value of a generic sum: behind the tag and a length, or in the context of
 //! the tag. A value is lent as its case to be written, and made of the case that was read.
 
+use super::contents::CONTENTS;
 use super::{Templates, choices};
 use crate::lines::Lines;
 
@@ -90,12 +91,13 @@ pub static NOT_LENT: [(&str, &str); 3] = [
     ("lent_static", "Cases"),
 ];
 
-static TEXTS: [Lines; 9] = [
+static TEXTS: [Lines; 10] = [
     choices::VARIANTS,
     choices::PLAINS,
     choices::TAGS,
     choices::CASES,
     choices::VARIANTS_USE,
+    CONTENTS,
     choices::DEFINED,
     Lines {
         hole: "lends",
@@ -151,7 +153,7 @@ $takes$    }
 ";
 
 const TAGGED_GHOST_USES: &str =
-    "ghost use Rattle.$crate$.specs.$name$.{$module$_format, $module$_meets, $module$_plain, $module$_tag};
+    "$tag_use$ghost use Rattle.$crate$.specs.$name$.{$module$_format, $module$_meets, $module$_plain, $module$_tag};
 ghost use Rattle.$crate$.specs.declared.$module$.$name$.{$name$};
 ";
 

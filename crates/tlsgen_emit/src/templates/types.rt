@@ -124,3 +124,12 @@ pub static BOUNDED_LIST: Kind = Kind {
     format: "bounded_list_format $width$ $least$ $most$ $format$",
     law: "bounded_list_meets $width$ $least$ $most$ (omega arith) $law$",
 };
+
+/// A list of so many bytes: an array of what isn't a byte.
+pub static EXACT_LIST: Kind = Kind {
+    rust: "TlsVec<Exactly<$count$>, $rust$>",
+    plain: "(λ v. trees $plain$ (elements_of v))",
+    tree: "trees $plain$ (elements_of $v$)",
+    format: "exactly_list_format $count$ $format$",
+    law: "exactly_list_meets $count$ (omega arith) $law$",
+};

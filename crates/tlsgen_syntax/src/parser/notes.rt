@@ -33,7 +33,7 @@ fn note(alloc: Global, tokens: &mut Tokens<'_>) -> Result<Note, Trouble>
     Ok(Note { path, said })
 }
 
-// `"=" (NUMBER | NAME)`, `"counts" "rest"`, `"fills" "rest" ["with" "zeros"]`, `"called" NAME`,
+// `"=" (NUMBER | NAME)`, `"counts" "rest"`, `"fills" "rest" ["with" "zeros"]`, `"ends" NAME`, `"called" NAME`,
 // `"is" ("open" | "closed" | "lent")` or `"left" "out"`
 fn said(alloc: Global, tokens: &mut Tokens<'_>) -> Result<Said, Trouble>
     ensures read { Reads said_then tokens.old tokens.new result }
@@ -49,6 +49,9 @@ fn said(alloc: Global, tokens: &mut Tokens<'_>) -> Result<Said, Trouble>
     if tokens.take_word("fills") {
         return filling(alloc, tokens);
     }
+    if tokens.take_word("ends") {
+        return Ok(Said::Ends(tokens.name(alloc, "the name of a field")?));
+    }
     if tokens.take_word("called") {
         return Ok(Said::Called(tokens.name(alloc, "a name of the select")?));
     }
@@ -59,7 +62,7 @@ fn said(alloc: Global, tokens: &mut Tokens<'_>) -> Result<Said, Trouble>
         expect_word(alloc, tokens, "out")?;
         return Ok(Said::LeftOut);
     }
-    Err(tokens.refused(alloc, "., =, counts, fills, called, is or left"))
+    Err(tokens.refused(alloc, "., =, counts, fills, ends, called, is or left"))
 }
 
 // `"rest" ["with" "zeros"]`

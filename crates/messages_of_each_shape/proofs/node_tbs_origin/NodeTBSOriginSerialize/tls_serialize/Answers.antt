@@ -10,3 +10,7 @@ returns-in-Update-clause-writes g c = let is = c.in-Update.is in rw is
 pub returns-in-Commit-clause-writes : goal.returns-in-Commit-clause-writes
 returns-in-Commit-clause-writes g c = let is = c.in-Commit.is in rw is
     (tagged_writes _ _ node_tbs_origin_variants_meet _ _ _ _ _ c.tls_serialize-in-Commit.ensures.writes)
+
+pub returns-in-External-clause-writes : goal.returns-in-External-clause-writes
+returns-in-External-clause-writes g c = let is = c.in-External.is in rw is
+    (tagged_writes _ _ node_tbs_origin_variants_meet _ _ _ _ _ c.tls_serialize-in-External.ensures.writes)

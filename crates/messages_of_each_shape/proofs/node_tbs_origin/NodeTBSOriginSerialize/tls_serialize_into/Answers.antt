@@ -10,3 +10,7 @@ returns-in-Update-clause-appends c = let is = c.in-Update.is in rw is
 pub returns-in-Commit-clause-appends : goal.returns-in-Commit-clause-appends
 returns-in-Commit-clause-appends c = let is = c.in-Commit.is in rw is
     (tagged_appends _ _ node_tbs_origin_variants_meet _ _ _ _ c.tls_serialize_into-in-Commit.ensures.appends)
+
+pub returns-in-External-clause-appends : goal.returns-in-External-clause-appends
+returns-in-External-clause-appends c = let is = c.in-External.is in rw is
+    (tagged_appends _ _ node_tbs_origin_variants_meet _ _ _ _ c.tls_serialize_into-in-External.ensures.appends)

@@ -1,0 +1,73 @@
+//! [`Beat`].
+ghost use Rattle.std.specs.Prelude.{◌≡◌, ◌&&◌};
+ghost use Rattle.messages_of_each_shape.specs.Beat.{beat_format, beat_meets, beat_plain};
+ghost use Rattle.messages_of_each_shape.specs.declared.beat.Beat.{Beat};
+
+use crate::BodyKind;
+use std::alloc::Global;
+use tls_codec::{
+    Deserialize, DeserializeBytes, Error, Lent, Serialize, Sink, Size, Source, TlsByteVecU16,
+};
+use tls_codec_cases::append_as;
+
+/// `Beat`.
+///
+/// Bytes go to the end behind it, `opaque padding[padding_length];`: it is read and written
+/// as `Followed<Beat>`.
+#[derive(PartialEq, Eq, Debug, Clone, Drop)]
+pub struct Beat {
+    /// `BodyKind type;`
+    pub kind: BodyKind,
+    /// `opaque payload[Beat.payload_length];`
+    pub payload: TlsByteVecU16,
+}
+
+type Parts = (BodyKind, TlsByteVecU16);
+
+impl Size for Beat {
+    ghost plain = { beat_plain };
+
+    ghost format = { beat_format };
+
+    fn tls_serialized_len(&self) -> usize {
+        (Lent(&self.kind), Lent(&self.payload)).tls_serialized_len()
+    }
+
+    ghost lawful = { beat_meets };
+}
+
+impl Serialize for Beat {
+    fn tls_serialize<W: Sink>(&self, writer: &mut W) -> Result<usize, Error> {
+        (Lent(&self.kind), Lent(&self.payload)).tls_serialize(writer)
+    }
+
+    fn tls_serialize_into(&self, out: &mut Vec<u8>) -> Result<usize, Error> {
+        append_as(self, &(Lent(&self.kind), Lent(&self.payload)), out)
+    }
+}
+
+impl Deserialize for Beat {
+    ghost names = { ⟦<Parts as Deserialize>⟧.names };
+
+    fn tls_deserialize<R: Source>(alloc: Global, src: &mut R) -> Result<Beat, Error> {
+        let (kind, payload) = <Parts>::tls_deserialize(alloc, src)?;
+        Ok(Beat { kind, payload })
+    }
+}
+
+impl DeserializeBytes for Beat {
+    ghost names = { ⟦<Parts as DeserializeBytes>⟧.names };
+
+    fn tls_deserialize_bytes(alloc: Global, whole: &[u8]) -> Result<(Beat, &[u8]), Error> {
+        let ((kind, payload), rest) = <Parts>::tls_deserialize_bytes(alloc, whole)?;
+        Ok((Beat { kind, payload }, rest))
+    }
+}
+
+/// Two are equal exactly where each field is.
+pub fn is_compared_by_its_fields()
+    ensures { (x y : Beat) →
+        ⟦<Beat as PartialEq>⟧.eq x y
+        ≡ (⟦<BodyKind as PartialEq>⟧.eq x.kind y.kind
+        && ⟦<TlsByteVecU16 as PartialEq>⟧.eq x.payload y.payload) }
+{}

@@ -1,0 +1,88 @@
+//! [`Line`].
+ghost use Rattle.std.specs.Prelude.{◌≡◌, ◌&&◌};
+ghost use Rattle.messages_of_each_shape.specs.Line.{line_format, line_meets, line_plain};
+ghost use Rattle.messages_of_each_shape.specs.declared.line.Line.{Line};
+
+use crate::Pixel;
+use std::alloc::Global;
+use tls_codec::{
+    Deserialize, DeserializeBytes, Error, Lent, Serialize, Sink, Size, Source, TlsVec,
+};
+use tls_codec_cases::{Exactly, append_as};
+
+/// `Line`.
+#[derive(PartialEq, Eq, Debug, Clone, Drop)]
+pub struct Line {
+    /// `uint32 before;`
+    pub before: u32,
+    /// `Pixel pixels[6];`
+    pub pixels: TlsVec<Exactly<6>, Pixel>,
+    /// `uint16 after;`
+    pub after: u16,
+}
+
+type Parts = (u32, TlsVec<Exactly<6>, Pixel>, u16);
+
+impl Size for Line {
+    ghost plain = { line_plain };
+
+    ghost format = { line_format };
+
+    fn tls_serialized_len(&self) -> usize {
+        (Lent(&self.before), Lent(&self.pixels), Lent(&self.after)).tls_serialized_len()
+    }
+
+    ghost lawful = { line_meets };
+}
+
+impl Serialize for Line {
+    fn tls_serialize<W: Sink>(&self, writer: &mut W) -> Result<usize, Error> {
+        (Lent(&self.before), Lent(&self.pixels), Lent(&self.after)).tls_serialize(writer)
+    }
+
+    fn tls_serialize_into(&self, out: &mut Vec<u8>) -> Result<usize, Error> {
+        append_as(
+            self,
+            &(Lent(&self.before), Lent(&self.pixels), Lent(&self.after)),
+            out,
+        )
+    }
+}
+
+impl Deserialize for Line {
+    ghost names = { ⟦<Parts as Deserialize>⟧.names };
+
+    fn tls_deserialize<R: Source>(alloc: Global, src: &mut R) -> Result<Line, Error> {
+        let (before, pixels, after) = <Parts>::tls_deserialize(alloc, src)?;
+        Ok(Line {
+            before,
+            pixels,
+            after,
+        })
+    }
+}
+
+impl DeserializeBytes for Line {
+    ghost names = { ⟦<Parts as DeserializeBytes>⟧.names };
+
+    fn tls_deserialize_bytes(alloc: Global, whole: &[u8]) -> Result<(Line, &[u8]), Error> {
+        let ((before, pixels, after), rest) = <Parts>::tls_deserialize_bytes(alloc, whole)?;
+        Ok((
+            Line {
+                before,
+                pixels,
+                after,
+            },
+            rest,
+        ))
+    }
+}
+
+/// Two are equal exactly where each field is.
+pub fn is_compared_by_its_fields()
+    ensures { (x y : Line) →
+        ⟦<Line as PartialEq>⟧.eq x y
+        ≡ (⟦<u32 as PartialEq>⟧.eq x.before y.before
+        && (⟦<TlsVec<Exactly<6>, Pixel> as PartialEq>⟧.eq x.pixels y.pixels
+        && ⟦<u16 as PartialEq>⟧.eq x.after y.after)) }
+{}

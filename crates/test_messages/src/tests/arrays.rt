@@ -1,0 +1,64 @@
+//! Arrays of what isn't a byte, by their bytes (RFC 8446, section 3.4).
+use crate::tests::each_call::{is_refused, is_spelled};
+use crate::tests::{holds, same};
+use messages_of_each_shape::{Line, Pixel, ThreeData};
+use std::alloc::Global;
+use std::process::Abort;
+use std::test::Fail;
+use tls_codec::{Error, Serialize, TlsVec};
+
+fn three_data(alloc: Global, data: &[[u8; 3]]) -> Result<ThreeData, Error> {
+    let data_ = TlsVec::new(data.to_vec(alloc)?);
+    Ok(ThreeData { data_ })
+}
+
+// Each encoder refuses the value, and nothing of it is sent.
+fn is_not_written<T: Serialize>(rt: &impl Abort, alloc: Global, value: &T) {
+    let refused = Some(Error::InvalidVectorLength);
+    same(rt, value.tls_serialize_detached(alloc).err(), refused);
+    let mut received = Vec::new(alloc);
+    same(rt, value.tls_serialize(&mut received).err(), refused);
+    same(rt, value.tls_serialize_into(&mut received).err(), refused);
+    holds(rt, received.is_empty());
+}
+
+// Nine bytes are three elements, as the section has them.
+#[test]
+fn data_of_three_bytes(rt: HostRuntime) -> Result<(), Fail> {
+    let alloc = rt.alloc();
+    let three = three_data(alloc, &[[1, 2, 3], [4, 5, 6], [7, 8, 9]])?;
+    is_spelled(&rt, alloc, &three, &[1, 2, 3, 4, 5, 6, 7, 8, 9])?;
+    for cut in [
+        [].as_slice(),
+        &[1],
+        &[1, 2, 3, 4, 5, 6],
+        &[1, 2, 3, 4, 5, 6, 7, 8],
+    ] {
+        is_refused::<ThreeData>(&rt, alloc, cut, Error::EndOfStream);
+    }
+    Ok(())
+}
+
+#[test]
+fn another_number_of_bytes(rt: HostRuntime) -> Result<(), Fail> {
+    let alloc = rt.alloc();
+    for data in [[].as_slice(), &[[1, 2, 3], [4, 5, 6]], &[[0; 3]; 4]] {
+        is_not_written(&rt, alloc, &three_data(alloc, data)?);
+    }
+    Ok(())
+}
+
+// Six bytes are two structs, between other fields.
+#[test]
+fn structs(rt: HostRuntime) -> Result<(), Fail> {
+    let alloc = rt.alloc();
+    let pixels = [Pixel { x: 2, y: 3 }, Pixel { x: 4, y: 5 }];
+    let line = Line {
+        before: 1,
+        pixels: TlsVec::new(Vec::from_array(alloc, pixels)?),
+        after: 6,
+    };
+    is_spelled(&rt, alloc, &line, &[0, 0, 0, 1, 2, 0, 3, 4, 0, 5, 0, 6])?;
+    is_refused::<Line>(&rt, alloc, &[0, 0, 0, 1, 2, 0, 3, 4], Error::EndOfStream);
+    Ok(())
+}

@@ -1,0 +1,120 @@
+//! Widths, values that were validated first, and tags.
+use std::fmt::Debug;
+use std::marker::PhantomData;
+use std::process::Abort;
+use std::test::Fail;
+use tls_codec::{
+    Error, SecretTlsVecU16, SecretVLBytes, TlsByteVecU24, TlsVarInt, TlsVecU8, U24, VLBytes, Within,
+};
+use tls_codec_validate::{Validate, tags};
+
+const NOT_THERE: Error = Error::DecodingError("declared content is not there");
+
+// An assertion that is written out is proved at each place: this one is proved once.
+fn same<T: PartialEq + Debug + Drop>(rt: &impl Abort, found: T, expected: T) {
+    assert_eq!(rt; found, expected);
+}
+
+#[test]
+fn types_of_one_width(rt: HostRuntime) {
+    same(&rt, u8::tls_width(), Some(1));
+    same(&rt, u16::tls_width(), Some(2));
+    same(&rt, U24::tls_width(), Some(3));
+    same(&rt, u32::tls_width(), Some(4));
+    same(&rt, u64::tls_width(), Some(8));
+    same(&rt, <[u8; 5]>::tls_width(), Some(5));
+    same(&rt, <()>::tls_width(), Some(0));
+    same(&rt, PhantomData::<VLBytes>::tls_width(), Some(0));
+    same(&rt, <(u16, u8)>::tls_width(), Some(3));
+    same(&rt, <(u32, (), [u8; 2])>::tls_width(), Some(6));
+    same(&rt, Box::<u64>::tls_width(), Some(8));
+}
+
+#[test]
+fn types_of_no_width(rt: HostRuntime) {
+    same(&rt, TlsVarInt::tls_width(), None);
+    same(&rt, Option::<()>::tls_width(), None);
+    same(&rt, String::tls_width(), None);
+    same(&rt, Vec::<u8>::tls_width(), None);
+    same(&rt, VLBytes::tls_width(), None);
+    same(&rt, <(u8, VLBytes)>::tls_width(), None);
+}
+
+// A row of pairs is skipped at once, and one after another if it is cut short.
+#[test]
+fn rows_of_pairs(rt: HostRuntime) {
+    let row = [6, 0, 1, 2, 0, 3, 4, 0xee];
+    same(
+        &rt,
+        Vec::<(u16, u8)>::tls_validate_prefix(&row),
+        Ok([0xee].as_slice()),
+    );
+    let short = [5, 0, 1, 2, 0, 3, 4, 0xee];
+    let not_filled = Error::DecodingError("elements do not fill the declared length");
+    same(
+        &rt,
+        Vec::<(u16, u8)>::tls_validate_prefix(&short),
+        Err(not_filled),
+    );
+    same(
+        &rt,
+        Vec::<(u16, u8)>::tls_validate(&[6, 0, 1, 2]),
+        Err(Error::EndOfStream),
+    );
+    let no_bytes = Error::DecodingError("vector element consumed 0 bytes");
+    same(&rt, Vec::<()>::tls_validate(&[1, 0]), Err(no_bytes));
+    same(&rt, Vec::<()>::tls_validate(&[0]), Ok(()));
+}
+
+#[test]
+fn families(rt: HostRuntime) {
+    same(&rt, TlsVecU8::<u16>::tls_validate(&[2, 0, 1]), Ok(()));
+    same(&rt, SecretTlsVecU16::<u8>::tls_validate(&[0, 1, 7]), Ok(()));
+    same(&rt, TlsByteVecU24::tls_validate(&[0, 0, 1, 7]), Ok(()));
+    same(&rt, SecretVLBytes::tls_validate(&[1, 7]), Ok(()));
+    same(&rt, SecretVLBytes::tls_validate(&[2, 7]), Err(NOT_THERE));
+}
+
+#[test]
+fn values_that_were_validated(rt: HostRuntime) -> Result<(), Fail> {
+    let alloc = rt.alloc();
+    let value = <(u8, TlsVarInt)>::tls_deserialize_validated(alloc, &[7, 0x40, 0x40])?;
+    same(&rt, value, (7, TlsVarInt::try_from(64)?));
+    let (value, rest) = <(u8, Option<u16>)>::tls_deserialize_validated_prefix(alloc, &[7, 0, 9])?;
+    same(&rt, value, (7, None));
+    same(&rt, rest, [9].as_slice());
+    same(
+        &rt,
+        <(u8, Option<u16>)>::tls_deserialize_validated(alloc, &[7, 0, 9]),
+        Err(Error::TrailingData),
+    );
+    same(
+        &rt,
+        <(u8, Option<u16>)>::tls_deserialize_validated_prefix(alloc, &[7, 1, 9]).err(),
+        Some(Error::EndOfStream),
+    );
+    Ok(())
+}
+
+#[test]
+fn tags_of_enums(rt: HostRuntime) {
+    same(&rt, tags::split_u8(&[3, 9]), Ok((3, [9].as_slice())));
+    same(&rt, tags::split_u8(&[]), Err(Error::EndOfStream));
+    same(&rt, tags::split_u16(&[1, 2, 9]), Ok((258, [9].as_slice())));
+    same(&rt, tags::split_u16(&[1]), Err(Error::EndOfStream));
+}
+
+// A length of two bytes, with bounds of three and four.
+#[test]
+fn lengths_with_bounds(rt: HostRuntime) {
+    same(
+        &rt,
+        tls_codec::TlsVec::<Within<u16, 3, 4>, u8>::tls_validate(&[0, 3, 7, 8, 9]),
+        Ok(()),
+    );
+    same(
+        &rt,
+        tls_codec::TlsVec::<Within<u16, 3, 4>, u8>::tls_validate(&[0, 2, 7, 8]),
+        Err(Error::InvalidVectorLength),
+    );
+}

@@ -1,0 +1,5 @@
+mod Decoders
+mod Runs
+mod Skipping
+pub mod Tagging
+pub mod Validating

@@ -1,0 +1,29 @@
+use Rattle.std.proofs.Common.{inl, inr, refl}
+use Rattle.std.proofs.lemmas.Result.{err_from_is_err_and}
+use Rattle.tls_codec_base.proofs.Whole.{begins_whole}
+use Rattle.tls_codec_validate.proofs.Validating.{rejects_whole, some_left, trailing_rejects}
+use Rattle.tls_codec_validate.proofs.traits.Validate.tls_validate.Goals as goal
+
+pub returns-in_err-rest-clause-validates : goal.returns-in_err-rest-clause-validates
+returns-in_err-rest-clause-validates g c =
+    let p = err_from_is_err_and c.from_residual.result c.from_residual.ensures.1 in
+    rw (p.1, p.2) (rejects_whole c.in_err-rest.ensures.validates)
+
+pub returns-in_err-rest-clause-named : goal.returns-in_err-rest-clause-named
+returns-in_err-rest-clause-named g c =
+    let p = err_from_is_err_and c.from_residual.result c.from_residual.ensures.1 in
+    rw (p.1, p.2) (inr c.in_err-rest.ensures.named)
+
+pub returns-then-not-is_empty-clause-validates : goal.returns-then-not-is_empty-clause-validates
+returns-then-not-is_empty-clause-validates g c =
+    trailing_rejects g.met.Self.Size.lawful.spelled c.in_ok-rest.ensures.validates.begins c.if-not-is_empty.ensures
+
+pub returns-then-not-is_empty-clause-named : goal.returns-then-not-is_empty-clause-named
+returns-then-not-is_empty-clause-named g c =
+    let q = c.in_ok-rest.ensures.validates in
+    inl (refl, record { value = q.value; rest = _; begins = q.begins; some = some_left _ c.if-not-is_empty.ensures })
+
+pub returns-clause-validates : goal.returns-clause-validates
+returns-clause-validates g c =
+    let q = c.in_ok-rest.ensures.validates in
+    (q.value, begins_whole _ _ _ _ q.begins c.if-not-is_empty.ensures)

@@ -1,0 +1,2 @@
+-- What is told of bytes from which no value is made.
+pub mod Validated

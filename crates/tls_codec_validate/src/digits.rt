@@ -1,0 +1,23 @@
+//! So many bytes, whichever they are.
+ghost use Rattle.std.specs.Prelude.{IfErr};
+ghost use Rattle.tls_codec_grammar.specs.Format.{array_format, number_format};
+ghost use Rattle.tls_codec_base.specs.Meanings.{too_few};
+ghost use Rattle.tls_codec_validate.specs.Validated.{Validates};
+
+use tls_codec_grammar::opaque::see_bytes;
+use tls_codec_wire::Error;
+
+/// What is left after `count` bytes: a number, and bytes that are spelled by themselves.
+#[inline(always)]
+pub(crate) fn skip(bytes: &[u8], count: usize) -> Result<&[u8], Error>
+    ensures number { Validates (number_format count) bytes.now result }
+    ensures array { Validates (array_format count) bytes.now result }
+    ensures named { IfErr result (too_few count bytes.now) }
+{
+    if bytes.len() < count {
+        return Err(Error::EndOfStream);
+    }
+    let (digits, rest) = bytes.split_at(count);
+    see_bytes(digits);
+    Ok(rest)
+}

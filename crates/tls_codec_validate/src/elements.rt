@@ -1,0 +1,67 @@
+//! Elements in a row, which fill a declared number of bytes.
+ghost use Rattle.std.specs.Prelude.{IfErr, IfSome};
+ghost use Rattle.tls_codec_grammar.specs.Format.{content_format, counted_list_format, sized_format};
+ghost use Rattle.tls_codec_grammar.specs.Grammar.{content, sized};
+ghost use Rattle.tls_codec_base.specs.Refusals.{counted_list_names, elements_names};
+ghost use Rattle.tls_codec_validate.specs.Validated.{BeginsLeaving, Validates};
+
+use crate::traits::Validate;
+use tls_codec_base::LengthField;
+use tls_codec_grammar::opaque::see_bytes;
+use tls_codec_wire::Error;
+
+const NO_BYTES: Error = Error::DecodingError("vector element consumed 0 bytes");
+
+const NOT_FILLED: Error = Error::DecodingError("elements do not fill the declared length");
+
+/// What is left after a length and the elements that it counts.
+pub(crate) fn skip_list<F: LengthField, T: Validate>(bytes: &[u8]) -> Result<&[u8], Error>
+    ensures validates { Validates (counted_list_format F.field T.format) bytes.now result }
+    ensures named { IfErr result (counted_list_names F.field T.format T.names bytes.now) }
+{
+    let (length, rest) = F::split_length(bytes)?;
+    let behind = skip_elements::<T>(rest, length)?;
+    Ok(behind)
+}
+
+// What is left after the elements that fill the first `length` bytes.
+fn skip_elements<T: Validate>(bytes: &[u8], length: usize) -> Result<&[u8], Error>
+    ensures validates { Validates (sized_format length (content_format T.format)) bytes.now result }
+    ensures named { IfErr result (elements_names T.format T.names length bytes.now) }
+{
+    if let Some(behind) = skip_run::<T>(bytes, length) {
+        return Ok(behind);
+    }
+    let mut rest = bytes;
+    let mut left = length;
+    while left > 0 {
+        let behind = T::tls_validate_prefix(rest)?;
+        let taken = rest.len() - behind.len();
+        if taken == 0 {
+            return Err(NO_BYTES);
+        }
+        if taken > left {
+            return Err(NOT_FILLED);
+        }
+        left -= taken;
+        rest = behind;
+    }
+    Ok(rest)
+}
+
+// The same at once, of elements of one width. None: they have no one width, or don't fill these bytes.
+#[inline(always)]
+fn skip_run<T: Validate>(bytes: &[u8], length: usize) -> Option<&[u8]>
+    ensures { IfSome result
+        (λ rest. BeginsLeaving (sized length (content T.format.spells)) bytes.now rest.now) }
+{
+    let Some(width) = T::tls_width() else {
+        return None;
+    };
+    if width == 0 || length > bytes.len() || length % width != 0 {
+        return None;
+    }
+    let (run, behind) = bytes.split_at(length);
+    see_bytes(run);
+    Some(behind)
+}

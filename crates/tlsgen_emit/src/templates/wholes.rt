@@ -1,0 +1,23 @@
+//! `From` of a struct for one that lends fields of it.
+
+/// What is lent of a value.
+pub static FROM: &str = "
+/// What is signed of a `$whole$`.
+impl<'a> From<&'a $whole$> for $name$<'a> {
+    ghost from_gives = { λ whole lent.
+$said$ };
+
+    fn from(whole: &'a $whole$) -> $name$<'a> {
+        $name$ { $lends$ }
+    }
+}
+";
+
+/// That the first field is the value's.
+pub static CLAUSE: &str = "        (lent.$field$.now ≡ whole.now.$field$)";
+
+/// That one behind it is.
+pub static NEXT_CLAUSE: &str = "\n        × (lent.$field$.now ≡ whole.now.$field$)";
+
+/// A field as it is lent.
+pub static FIELD: &str = "$field$: &whole.$field$, ";
