@@ -38,7 +38,8 @@ fn rejected(
         panic!(rt; "not rejected: {texts:?}");
     };
     let file = fault.file;
-    match fault.trouble {
+    let trouble = fault.trouble;
+    match trouble {
         Trouble::Refused(refusal) => Ok((file, refusal)),
         _ => panic!(rt; "not rejected: {texts:?}"),
     }
@@ -194,7 +195,8 @@ fn names_of_two_crates(rt: HostRuntime) -> Result<(), Fail> {
     };
     same(&rt, fault.file, 2);
     same(&rt, fault.homes.as_slice(), &[0, 1]);
-    match fault.trouble {
+    let trouble = fault.trouble;
+    match trouble {
         Trouble::Refused(refusal) => {
             same(&rt, refusal.found.as_str(), "A");
             same(&rt, refusal.place.column, 19);

@@ -71,7 +71,8 @@ fn copies_are_counted(rt: HostRuntime) -> Result<(), Fail> {
     let Err(fault) = plan_within(alloc, &mut files, 17) else {
         panic!(rt; "not refused");
     };
-    match fault.trouble {
+    let trouble = fault.trouble;
+    match trouble {
         Trouble::Refused(refusal) => {
             expects(&rt, &refusal, "a smaller text");
             Ok(())
