@@ -37,7 +37,7 @@ impl HashAlgorithm {
 
     /// Its name in the text, if it has one.
     pub fn name(&self) -> Option<&'static str>
-        ensures { option_map (λ name. name.now) result
+        ensures { option_map (λ t. t.now) result
             ≡ listed_name hash_algorithm_names self.now.0 }
     {
         match self.0 {

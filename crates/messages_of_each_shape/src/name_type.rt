@@ -22,7 +22,7 @@ impl NameType {
 
     /// Its name in the text, if it has one.
     pub fn name(&self) -> Option<&'static str>
-        ensures { option_map (λ name. name.now) result ≡ listed_name name_type_names self.now.0 }
+        ensures { option_map (λ t. t.now) result ≡ listed_name name_type_names self.now.0 }
     {
         match self.0 {
             0 => Some("host_name"),

@@ -37,7 +37,7 @@ impl CipherSuite {
 
     /// Its name in the text, if it has one.
     pub fn name(&self) -> Option<&'static str>
-        ensures { option_map (λ name. name.now) result ≡ listed_name cipher_suite_names self.now.0 }
+        ensures { option_map (λ t. t.now) result ≡ listed_name cipher_suite_names self.now.0 }
     {
         match self.0 {
             1 => Some("MLS_128_DHKEMX25519_AES128GCM_SHA256_Ed25519"),

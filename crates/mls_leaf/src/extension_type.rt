@@ -31,7 +31,7 @@ impl ExtensionType {
 
     /// Its name in the text, if it has one.
     pub fn name(&self) -> Option<&'static str>
-        ensures { option_map (λ name. name.now) result
+        ensures { option_map (λ t. t.now) result
             ≡ listed_name extension_type_names self.now.0 }
     {
         match self.0 {

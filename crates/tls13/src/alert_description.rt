@@ -118,7 +118,7 @@ impl AlertDescription {
 
     /// Its name in the text, if it has one.
     pub fn name(&self) -> Option<&'static str>
-        ensures { option_map (λ name. name.now) result
+        ensures { option_map (λ t. t.now) result
             ≡ listed_name alert_description_names self.now.0 }
     {
         match self.0 {

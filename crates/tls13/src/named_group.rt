@@ -50,7 +50,7 @@ impl NamedGroup {
 
     /// Its name in the text, if it has one.
     pub fn name(&self) -> Option<&'static str>
-        ensures { option_map (λ name. name.now) result ≡ listed_name named_group_names self.now.0 }
+        ensures { option_map (λ t. t.now) result ≡ listed_name named_group_names self.now.0 }
     {
         match self.0 {
             0 => Some("unallocated_RESERVED"),

@@ -82,7 +82,7 @@ impl SignatureScheme {
 
     /// Its name in the text, if it has one.
     pub fn name(&self) -> Option<&'static str>
-        ensures { option_map (λ name. name.now) result
+        ensures { option_map (λ t. t.now) result
             ≡ listed_name signature_scheme_names self.now.0 }
     {
         match self.0 {

@@ -41,7 +41,8 @@ impl<T> Followed<T> {
     pub fn tls_serialized_len(&self) -> usize
     where
         T: Size,
-        ensures { result ≡ (followed_format T.format).announced (followed_plain T.plain self.now) }
+        ensures { result
+            ≡ (followed_format T.format).announced (followed_plain T.plain self.now) }
     {
         let length = self.content.tls_serialized_len();
         length.saturating_add(self.rest.len())

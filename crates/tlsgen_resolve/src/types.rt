@@ -205,8 +205,8 @@ fn single_element(alloc: Global, files: Scope<'_>, field: &Field) -> Result<Elem
 
 // In a vector.
 fn listed_element(alloc: Global, files: Scope<'_>, field: &Field) -> Result<Element, Trouble>
-    ensures { IfOk result (λ element. (s : AShape) → IsTrue (is_vector s) → IsTrue (is_no_array s) →
-        IsTrue (can_be element field.now.is_optional s)) }
+    ensures { IfOk result (λ e. (s : AShape) → IsTrue (is_vector s) → IsTrue (is_no_array s) →
+        IsTrue (can_be e field.now.is_optional s)) }
 {
     let of = &field.of;
     match of.text.as_str() {

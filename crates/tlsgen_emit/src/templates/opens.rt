@@ -68,7 +68,7 @@ impl $name$ {
 $constants$
     /// Its name in the text, if it has one.
     pub fn name(&self) -> Option<&'static str>
-        ensures { option_map (λ name. name.now) result ≡ listed_name $module$_names self.now.0 }
+        ensures { option_map (λ t. t.now) result ≡ listed_name $module$_names self.now.0 }
     {
         match self.0 {
 $name_of$            _ => None,
