@@ -1,5 +1,6 @@
 //! Files that are printed, written or compared.
 
+use std::collections::BTreeSet;
 use std::fs;
 use std::process::ExitCode;
 use std::rt::Files;
@@ -84,6 +85,10 @@ fn stale_file<R: AllocGlobal + Alloc + Files + Clone + Drop>(
     written: &[Written],
 ) -> anyhow::Result<Option<String>> {
     let alloc = rt.alloc();
+    let mut paths = BTreeSet::new(alloc);
+    for file in written {
+        paths.insert(file.path.clone()?)?;
+    }
     let mut left = Vec::new(alloc);
     for part in ["src", "specs", "proofs"] {
         left.push(String::from_str(alloc, part)?)?;
@@ -92,7 +97,7 @@ fn stale_file<R: AllocGlobal + Alloc + Files + Clone + Drop>(
         let Some(inner) = left.pop() else {
             break;
         };
-        if let Some(stale) = stale_in(rt, folder, inner.as_str(), written, &mut left)? {
+        if let Some(stale) = stale_in(rt, folder, inner.as_str(), &paths, &mut left)? {
             return Ok(Some(stale));
         }
     }
@@ -104,7 +109,7 @@ fn stale_in<R: AllocGlobal + Alloc + Files + Clone + Drop>(
     rt: &R,
     folder: &str,
     inner: &str,
-    written: &[Written],
+    written: &BTreeSet<String>,
     left: &mut Vec<String>,
 ) -> anyhow::Result<Option<String>> {
     let alloc = rt.alloc();
@@ -118,7 +123,7 @@ fn stale_in<R: AllocGlobal + Alloc + Files + Clone + Drop>(
         let own = format!(in alloc; "{inner}/{name}")?;
         if entry.file_type()?.is_dir() {
             left.push(own)?;
-        } else if !written.iter().any(|file| file.path == own) {
+        } else if !written.contains(&own) {
             return Ok(Some(own));
         }
     }

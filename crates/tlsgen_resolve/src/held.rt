@@ -7,7 +7,7 @@ use crate::output::is_same;
 use crate::refuse::refused;
 use crate::resolver::Resolver;
 use crate::segment::ResolvedPiece;
-use crate::sequence::{IndexedField, Sequence};
+use crate::sequence::{IndexedField, Piece, Sequence};
 use std::alloc::{AllocError, Global};
 use tlsgen_model::names::field_name;
 use tlsgen_model::plan::{Before, Decided, Element, Holder};
@@ -104,7 +104,7 @@ impl<'a> Resolver<'a> {
 
     // Has each struct from that of a field to the tag hold it. `of`: the tag's type.
     fn hold(&mut self, giver: &'a Field, tag: &OuterTag<'a>, of: &String) -> Result<(), Trouble> {
-        let holders = holders_of(self.alloc, &self.known, tag)?;
+        let holders = holders_of(self.alloc, &self.known, &[Piece::Field(giver)], tag)?;
         let mut field = giver;
         for _ in 0..=holders.len() {
             let Some(one) = holder(&holders, field) else {

@@ -6,6 +6,7 @@ use crate::refuse::refused;
 use crate::scope::Scope;
 use crate::sequence::{IndexedField, Known, Piece, Sequence, find_field, is_here};
 use std::alloc::{AllocError, Global};
+use std::collections::BTreeSet;
 use tlsgen_syntax::refusal::Trouble;
 use tlsgen_syntax::syntax::{Field, Name, Select};
 
@@ -88,9 +89,10 @@ pub fn giver_of<'a>(
     at: usize,
     tag: &OuterTag<'a>,
 ) -> Result<Option<IndexedField<'a>>, Trouble> {
-    let holders = holders_of(alloc, all, tag)?;
+    let (before, _) = sequence.pieces.split_at(at.min(sequence.pieces.len()));
+    let holders = holders_of(alloc, all, before, tag)?;
     let mut giver = None;
-    for (index, piece) in sequence.pieces.iter().take(at).enumerate() {
+    for (index, piece) in before.iter().enumerate() {
         if let Piece::Field(field) = piece {
             if holds(&holders, sequence.name, field, tag) {
                 if giver.is_some() {
@@ -108,22 +110,62 @@ pub fn giver_of<'a>(
     Ok(giver)
 }
 
-/// The structs that hold a tag, each after those that it contains.
+/// The structs that hold a tag among those that pieces contain, each after those that it contains.
 pub fn holders_of<'a>(
     alloc: Global,
     all: &Known<'a>,
+    pieces: &[Piece<'a>],
     tag: &OuterTag<'a>,
 ) -> Result<Vec<Holding<'a>>, AllocError> {
     let mut holders = Vec::new(alloc);
-    for one in all.as_slice() {
-        if let Some(field) = only_holding(&holders, one, tag) {
-            holders.push(Holding {
-                name: one.name,
-                field,
-            })?;
+    for at in contained(alloc, all, pieces)?.iter() {
+        if let Some(one) = all.get(*at) {
+            if let Some(field) = only_holding(&holders, one, tag) {
+                holders.push(Holding {
+                    name: one.name,
+                    field,
+                })?;
+            }
         }
     }
     Ok(holders)
+}
+
+// The positions of the structs that pieces contain.
+fn contained(
+    alloc: Global,
+    all: &Known<'_>,
+    pieces: &[Piece<'_>],
+) -> Result<BTreeSet<usize>, AllocError> {
+    let mut found = BTreeSet::new(alloc);
+    let mut left = Vec::new(alloc);
+    push_contained(all, pieces, &mut found, &mut left)?;
+    for _ in 0..all.len() {
+        let Some(one) = left.pop().and_then(|at| all.get(at)) else {
+            break;
+        };
+        push_contained(all, &one.pieces, &mut found, &mut left)?;
+    }
+    Ok(found)
+}
+
+// The same without what those contain, which are left.
+fn push_contained(
+    all: &Known<'_>,
+    pieces: &[Piece<'_>],
+    found: &mut BTreeSet<usize>,
+    left: &mut Vec<usize>,
+) -> Result<(), AllocError> {
+    for piece in pieces {
+        if let Piece::Field(field) = piece {
+            if let Some(at) = all.position(field.of.text.as_str()) {
+                if is_giver(field) && found.insert(at)? {
+                    left.push(at)?;
+                }
+            }
+        }
+    }
+    Ok(())
 }
 
 // The one field of a struct that is a tag or holds it. What is in a context holds none.

@@ -6,10 +6,11 @@ use crate::padding::Padding;
 use crate::refuse::refused;
 use crate::resolver::Resolver;
 use crate::scope::Scope;
-use std::alloc::Global;
+use std::alloc::{AllocError, Global};
+use std::collections::BTreeSet;
 use tlsgen_syntax::refusal::Trouble;
 use tlsgen_syntax::syntax::{
-    Case, Field, File, Item, Label, Name, Note, Number, Part, Said, Select, Struct, Value,
+    Case, Field, File, Item, Label, Name, Note, Number, Part, Said, Select, Struct,
 };
 
 /// The number that a note gives for a name between an array's brackets.
@@ -157,25 +158,34 @@ fn has_label(case: &Case, value: &Name) -> bool {
 impl<'a> Resolver<'a> {
     /// Rejects a note of the file that says nothing of it.
     pub fn check_notes(&self, file: &File) -> Result<(), Trouble> {
+        let sizes = sizes_of(self.alloc, file)?;
         for note in &file.notes {
-            if let Some(expected) = self.unused(file, note) {
+            if let Some(expected) = self.unused(file, &sizes, note)? {
                 return Err(refused_note(self.alloc, note, expected));
             }
         }
         Ok(())
     }
 
-    // What a note should have been, if it says nothing of the file.
-    fn unused(&self, file: &File, note: &Note) -> Option<&'static str> {
+    // What a note should have been, if it says nothing of the file. `sizes`: the names between the file's brackets.
+    fn unused(
+        &self,
+        file: &File,
+        sizes: &BTreeSet<String>,
+        note: &Note,
+    ) -> Result<Option<&'static str>, AllocError> {
         let is_used = match &note.said {
-            Said::Number(_) => self.has_value(file, &note.path) || has_array(file, &note.path),
+            Said::Number(_) => {
+                self.is_value(file, &note.path)
+                    || sizes.contains(&joined(self.alloc, &note.path)?)
+            }
             Said::Open | Said::Closed | Said::Lent | Said::LeftOut => true,
             said => match self.item_of(file, &note.path) {
                 Some(Item::Struct(one)) => self.is_said_of(one, note, said),
                 _ => false,
             },
         };
-        if is_used { None } else { expected(&note.said) }
+        Ok(if is_used { None } else { expected(&note.said) })
     }
 
     // The definition of the file whose name is the first one of a path.
@@ -185,14 +195,9 @@ impl<'a> Resolver<'a> {
         file.items.get(at)
     }
 
-    // Whether an enum of the file has a value of this name: notes gave it that.
-    fn has_value(&self, file: &File, path: &[Name]) -> bool {
-        match (self.item_of(file, path), path) {
-            (Some(Item::Enum(one)), [_, name]) => {
-                one.values.iter().any(|value| is_named(value, name))
-            }
-            _ => false,
-        }
+    // Whether a path is that of a value of an enum of the file. Only notes that made an enum give one values.
+    fn is_value(&self, file: &File, path: &[Name]) -> bool {
+        path.len() == 2 && matches!(self.item_of(file, path), Some(Item::Enum(_)))
     }
 
     // Whether a note is of a part of a struct that takes it.
@@ -261,34 +266,60 @@ fn is_of_select(path: &[Name], of: &Name, select: &Select) -> bool {
     }
 }
 
-// Whether a field of the file is an array of this name.
-fn has_array(file: &File, path: &[Name]) -> bool {
-    file.items.iter().any(|item| match item {
-        Item::Enum(_) => false,
-        Item::Alias(field) => is_array(field, path),
-        Item::Struct(one) => one.parts.iter().any(|part| is_array_in(part, path)),
-    })
+// The names between the brackets of a file's arrays.
+fn sizes_of(alloc: Global, file: &File) -> Result<BTreeSet<String>, AllocError> {
+    let mut sizes = BTreeSet::new(alloc);
+    for item in &file.items {
+        match item {
+            Item::Enum(_) => {}
+            Item::Alias(field) => add_size(alloc, &mut sizes, field)?,
+            Item::Struct(one) => {
+                for part in &one.parts {
+                    add_sizes(alloc, &mut sizes, part)?;
+                }
+            }
+        }
+    }
+    Ok(sizes)
 }
 
-fn is_named(value: &Value, name: &Name) -> bool {
-    value.name.as_ref().is_some_and(|own| own.text == name.text)
-}
-
-fn is_array_in(part: &Part, path: &[Name]) -> bool {
+fn add_sizes(
+    alloc: Global,
+    sizes: &mut BTreeSet<String>,
+    part: &Part,
+) -> Result<(), AllocError> {
     match part {
-        Part::Field(field) => is_array(field, path),
-        Part::Select(select) => select.cases.iter().any(|case| case
-            .fields
-            .iter()
-            .any(|field| is_array(field, path))),
+        Part::Field(field) => add_size(alloc, sizes, field),
+        Part::Select(select) => {
+            for field in select.cases.iter().flat_map(|case| case.fields.iter()) {
+                add_size(alloc, sizes, field)?;
+            }
+            Ok(())
+        }
     }
 }
 
-fn is_array(field: &Field, path: &[Name]) -> bool {
-    match path_of_array(field) {
-        Some(own) => are_same(own, path),
-        None => false,
+fn add_size(
+    alloc: Global,
+    sizes: &mut BTreeSet<String>,
+    field: &Field,
+) -> Result<(), AllocError> {
+    if let Some(path) = path_of_array(field) {
+        sizes.insert(joined(alloc, path)?)?;
     }
+    Ok(())
+}
+
+// The names of a path, with a space between two.
+fn joined(alloc: Global, path: &[Name]) -> Result<String, AllocError> {
+    let mut text = String::new(alloc);
+    for name in path {
+        if !text.is_empty() {
+            text.push(' ')?;
+        }
+        text.push_str(name.text.as_str())?;
+    }
+    Ok(text)
 }
 
 fn refused_note(alloc: Global, note: &Note, expected: &'static str) -> Trouble {

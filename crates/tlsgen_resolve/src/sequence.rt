@@ -76,11 +76,25 @@ impl<'a> Known<'a> {
     pub fn as_slice(&self) -> &[Sequence<'a>] {
         &self.all
     }
+
+    pub fn len(&self) -> usize {
+        self.all.len()
+    }
+
+    /// The struct at a position.
+    pub fn get(&self, at: usize) -> Option<&Sequence<'a>> {
+        self.all.get(at)
+    }
+
+    /// The position of the struct of this name.
+    pub fn position(&self, name: &str) -> Option<usize> {
+        self.by_name.get(name).copied()
+    }
 }
 
 /// The sequence of the struct of this name.
 pub fn sequence_named<'b, 'a>(all: &'b Known<'a>, name: &str) -> Option<&'b Sequence<'a>> {
-    all.all.get(*all.by_name.get(name)?)
+    all.get(all.position(name)?)
 }
 
 /// Whether the struct of this name is in the context of a tag.

@@ -4,7 +4,8 @@ ghost use Rattle.std.specs.Prelude.{◌≡◌, OnOk};
 use crate::refusal::Trouble;
 use crate::registry::name_values;
 use crate::syntax::{Enum, File, Item, Name, Note, Said, Struct};
-use std::alloc::Global;
+use std::alloc::{AllocError, Global};
+use std::collections::{BTreeMap, BTreeSet};
 
 /// Gives a file its notes: enums that they call open or closed are, and structs that they call lent; integers that they give
 /// values are open enums, names of tags that nothing defines are closed ones, and definitions that they leave out are no more.
@@ -15,12 +16,13 @@ pub fn apply(alloc: Global, file: &mut File, notes: Vec<Note>) -> Result<(), Tro
     ensures { OnOk result (file.new.notes ≡ notes) }
 {
     name_values(alloc, file, &notes)?;
+    let mut noted = Noted::of(alloc, file)?;
     for note in &notes {
         match note.said {
-            Said::Open => enum_of(alloc, file, note)?.is_open = true,
-            Said::Closed => enum_of(alloc, file, note)?.is_open = false,
-            Said::Lent => struct_of(alloc, file, note)?.is_lent = true,
-            Said::LeftOut => leave_out(alloc, file, note)?,
+            Said::Open => noted.enum_of(alloc, file, note)?.is_open = true,
+            Said::Closed => noted.enum_of(alloc, file, note)?.is_open = false,
+            Said::Lent => noted.struct_of(alloc, file, note)?.is_lent = true,
+            Said::LeftOut => noted.leave_out(alloc, note)?,
             Said::Number(_)
             | Said::Named(_)
             | Said::Counts
@@ -30,45 +32,91 @@ pub fn apply(alloc: Global, file: &mut File, notes: Vec<Note>) -> Result<(), Tro
             | Said::Called(_) => {}
         }
     }
+    file.items
+        .retain(|item| !noted.left_out.contains(&name_of(item).text));
     file.notes = notes;
     Ok(())
 }
 
-// The enum that a note is on.
-fn enum_of<'a>(alloc: Global, file: &'a mut File, note: &Note) -> Result<&'a mut Enum, Trouble> {
-    for item in &mut file.items {
-        if let Item::Enum(one) = item {
-            if is_called(note, &one.name) {
-                return Ok(one);
-            }
-        }
-    }
-    Err(refused(alloc, note, "an enum of this text"))
+// The definitions of a file that notes may be on.
+#[derive(Drop)]
+struct Noted {
+    by_name: BTreeMap<String, usize>,
+    left_out: BTreeSet<String>,
 }
 
-// The struct that a note is on.
-fn struct_of<'a>(
+impl Noted {
+    fn of(alloc: Global, file: &File) -> Result<Noted, AllocError> {
+        Ok(Noted {
+            by_name: positions(alloc, file)?,
+            left_out: BTreeSet::new(alloc),
+        })
+    }
+
+    // The position of the definition that a note is on.
+    fn position(&self, note: &Note) -> Option<usize> {
+        let [name] = note.path.as_slice() else {
+            return None;
+        };
+        if self.left_out.contains(&name.text) {
+            return None;
+        }
+        self.by_name.get(&name.text).copied()
+    }
+
+    // The enum that a note is on.
+    fn enum_of<'a>(
+        &self,
+        alloc: Global,
+        file: &'a mut File,
+        note: &Note,
+    ) -> Result<&'a mut Enum, Trouble> {
+        let at = self.position(note);
+        match at.and_then(|at| file.items.get_mut(at)) {
+            Some(Item::Enum(one)) => Ok(one),
+            _ => Err(refused(alloc, note, "an enum of this text")),
+        }
+    }
+
+    // The struct that a note is on.
+    fn struct_of<'a>(
+        &self,
+        alloc: Global,
+        file: &'a mut File,
+        note: &Note,
+    ) -> Result<&'a mut Struct, Trouble> {
+        let at = self.position(note);
+        match at.and_then(|at| file.items.get_mut(at)) {
+            Some(Item::Struct(one)) => Ok(one),
+            _ => Err(refused(alloc, note, "a struct of this text")),
+        }
+    }
+
+    // Keeps that a note leaves a definition out.
+    fn leave_out(&mut self, alloc: Global, note: &Note) -> Result<(), Trouble> {
+        match (self.position(note), note.path.first()) {
+            (Some(_), Some(name)) => {
+                self.left_out.insert(name.text.clone()?)?;
+                Ok(())
+            }
+            _ => Err(refused(alloc, note, "a definition of this text")),
+        }
+    }
+}
+
+/// The positions of a file's definitions, by their names. Of two of one name the first one's.
+pub(crate) fn positions(
     alloc: Global,
-    file: &'a mut File,
-    note: &Note,
-) -> Result<&'a mut Struct, Trouble> {
-    for item in &mut file.items {
-        if let Item::Struct(one) = item {
-            if is_called(note, &one.name) {
-                return Ok(one);
-            }
+    file: &File,
+) -> Result<BTreeMap<String, usize>, AllocError> {
+    let mut by_name = BTreeMap::new(alloc);
+    for (at, item) in file.items.iter().enumerate() {
+        let name = &name_of(item).text;
+        if !by_name.contains_key(name) {
+            by_name.insert(name.clone()?, at)?;
         }
     }
-    Err(refused(alloc, note, "a struct of this text"))
-}
-
-fn leave_out(alloc: Global, file: &mut File, note: &Note) -> Result<(), Trouble> {
-    let before = file.items.len();
-    file.items.retain(|item| !is_called(note, name_of(item)));
-    if file.items.len() < before {
-        return Ok(());
-    }
-    Err(refused(alloc, note, "a definition of this text"))
+    Ok(by_name)
 }
 
 /// The name of a definition.
@@ -77,14 +125,6 @@ pub(crate) fn name_of(item: &Item) -> &Name {
         Item::Enum(one) => &one.name,
         Item::Struct(one) => &one.name,
         Item::Alias(field) => &field.name,
-    }
-}
-
-// Whether a note is on a definition of this name.
-fn is_called(note: &Note, name: &Name) -> bool {
-    match note.path.as_slice() {
-        [only] => only.text == name.text,
-        _ => false,
     }
 }
 
