@@ -176,8 +176,7 @@ impl<'a> Resolver<'a> {
     ) -> Result<Option<&'static str>, AllocError> {
         let is_used = match &note.said {
             Said::Number(_) => {
-                self.is_value(file, &note.path)
-                    || sizes.contains(&joined(self.alloc, &note.path)?)
+                self.is_value(file, &note.path) || sizes.contains(&joined(self.alloc, &note.path)?)
             }
             Said::Open | Said::Closed | Said::Lent | Said::LeftOut => true,
             said => match self.item_of(file, &note.path) {
@@ -283,11 +282,7 @@ fn sizes_of(alloc: Global, file: &File) -> Result<BTreeSet<String>, AllocError> 
     Ok(sizes)
 }
 
-fn add_sizes(
-    alloc: Global,
-    sizes: &mut BTreeSet<String>,
-    part: &Part,
-) -> Result<(), AllocError> {
+fn add_sizes(alloc: Global, sizes: &mut BTreeSet<String>, part: &Part) -> Result<(), AllocError> {
     match part {
         Part::Field(field) => add_size(alloc, sizes, field),
         Part::Select(select) => {
@@ -299,11 +294,7 @@ fn add_sizes(
     }
 }
 
-fn add_size(
-    alloc: Global,
-    sizes: &mut BTreeSet<String>,
-    field: &Field,
-) -> Result<(), AllocError> {
+fn add_size(alloc: Global, sizes: &mut BTreeSet<String>, field: &Field) -> Result<(), AllocError> {
     if let Some(path) = path_of_array(field) {
         sizes.insert(joined(alloc, path)?)?;
     }

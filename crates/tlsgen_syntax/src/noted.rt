@@ -105,10 +105,7 @@ impl Noted {
 }
 
 /// The positions of a file's definitions, by their names. Of two of one name the first one's.
-pub(crate) fn positions(
-    alloc: Global,
-    file: &File,
-) -> Result<BTreeMap<String, usize>, AllocError> {
+pub(crate) fn positions(alloc: Global, file: &File) -> Result<BTreeMap<String, usize>, AllocError> {
     let mut by_name = BTreeMap::new(alloc);
     for (at, item) in file.items.iter().enumerate() {
         let name = &name_of(item).text;
