@@ -6,9 +6,13 @@ use std::test::Fail;
 use tls_codec::{
     Error, SecretTlsVecU16, SecretVLBytes, TlsByteVecU24, TlsVarInt, TlsVecU8, U24, VLBytes, Within,
 };
-use tls_codec_validate::{Validate, tags};
+use tls_codec_validate::{Rejected, Validate, tags};
 
 const NOT_THERE: Error = Error::DecodingError("declared content is not there");
+
+fn rejected(error: Error, rest: &[u8]) -> Rejected<'_> {
+    Rejected { error, rest }
+}
 
 // An assertion that is written out is proved at each place: this one is proved once.
 fn same<T: PartialEq + Debug + Drop>(rt: &impl Abort, found: T, expected: T) {
@@ -54,15 +58,19 @@ fn rows_of_pairs(rt: HostRuntime) {
     same(
         &rt,
         Vec::<(u16, u8)>::tls_validate_prefix(&short),
-        Err(not_filled),
+        Err(rejected(not_filled, &[0, 3, 4, 0xee])),
     );
     same(
         &rt,
         Vec::<(u16, u8)>::tls_validate(&[6, 0, 1, 2]),
-        Err(Error::EndOfStream),
+        Err(rejected(Error::EndOfStream, &[])),
     );
     let no_bytes = Error::DecodingError("vector element consumed 0 bytes");
-    same(&rt, Vec::<()>::tls_validate(&[1, 0]), Err(no_bytes));
+    same(
+        &rt,
+        Vec::<()>::tls_validate(&[1, 0]),
+        Err(rejected(no_bytes, &[0])),
+    );
     same(&rt, Vec::<()>::tls_validate(&[0]), Ok(()));
 }
 
@@ -72,7 +80,11 @@ fn families(rt: HostRuntime) {
     same(&rt, SecretTlsVecU16::<u8>::tls_validate(&[0, 1, 7]), Ok(()));
     same(&rt, TlsByteVecU24::tls_validate(&[0, 0, 1, 7]), Ok(()));
     same(&rt, SecretVLBytes::tls_validate(&[1, 7]), Ok(()));
-    same(&rt, SecretVLBytes::tls_validate(&[2, 7]), Err(NOT_THERE));
+    same(
+        &rt,
+        SecretVLBytes::tls_validate(&[2, 7]),
+        Err(rejected(NOT_THERE, &[2, 7])),
+    );
 }
 
 #[test]
@@ -99,9 +111,11 @@ fn values_that_were_validated(rt: HostRuntime) -> Result<(), Fail> {
 #[test]
 fn tags_of_enums(rt: HostRuntime) {
     same(&rt, tags::split_u8(&[3, 9]), Ok((3, [9].as_slice())));
-    same(&rt, tags::split_u8(&[]), Err(Error::EndOfStream));
+    let end = rejected(Error::EndOfStream, &[]);
+    same(&rt, tags::split_u8(&[]), Err(end));
     same(&rt, tags::split_u16(&[1, 2, 9]), Ok((258, [9].as_slice())));
-    same(&rt, tags::split_u16(&[1]), Err(Error::EndOfStream));
+    let short = rejected(Error::EndOfStream, &[1]);
+    same(&rt, tags::split_u16(&[1]), Err(short));
 }
 
 // A length of two bytes, with bounds of three and four.
@@ -115,6 +129,29 @@ fn lengths_with_bounds(rt: HostRuntime) {
     same(
         &rt,
         tls_codec::TlsVec::<Within<u16, 3, 4>, u8>::tls_validate(&[0, 2, 7, 8]),
-        Err(Error::InvalidVectorLength),
+        Err(rejected(Error::InvalidVectorLength, &[0, 2, 7, 8])),
     );
+}
+
+// The rejected field is the innermost one that isn't there, or the tag that isn't known, and not the list or the option around it.
+#[test]
+fn places(rt: HostRuntime) {
+    let names = [5, 1, 9, 3, 7, 7];
+    let found = Vec::<VLBytes>::tls_validate(&names).err();
+    same(&rt, found, Some(rejected(NOT_THERE, &[3, 7, 7])));
+    same(&rt, found.map(|one| one.at(&names)), Some(3));
+    let other_tag = Error::DecodingError("option tag is not 0 or 1");
+    let nested = [5, 1, 1, 7, 2, 9];
+    let found = Vec::<Option<(u8, u8)>>::tls_validate_prefix(&nested).err();
+    same(&rt, found, Some(rejected(other_tag, &[2, 9])));
+    same(&rt, found.map(|one| one.at(&nested)), Some(4));
+    let found = <(u8, VLBytes, u16)>::tls_validate(&[7, 1, 8, 0, 5, 6]).err();
+    same(&rt, found, Some(rejected(Error::TrailingData, &[6])));
+    same(
+        &rt,
+        <(u8, u8, u8)>::tls_validate(&[7, 8]),
+        Err(rejected(Error::EndOfStream, &[])),
+    );
+    let error = Error::from(rejected(Error::EndOfStream, &[]));
+    same(&rt, error, Error::EndOfStream);
 }

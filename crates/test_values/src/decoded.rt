@@ -42,7 +42,9 @@ fn push_validated<T: Value>(
         Ok(_) => Err(Error::TrailingData),
         Err(error) => Err(error),
     };
-    if T::tls_validate_prefix(bytes) != expected || T::tls_validate(bytes) != whole {
+    let prefix = T::tls_validate_prefix(bytes).map_err(|rejected| rejected.error);
+    let found = T::tls_validate(bytes).map_err(|rejected| rejected.error);
+    if prefix != expected || found != whole {
         out.push_str(", validation differs")?;
     }
     Ok(())

@@ -5,7 +5,6 @@ use Rattle.std.specs.Borrow.{Bor}
 use Rattle.std.specs.Io.KnownBytes.{Consumes}
 use Rattle.tls_codec_wire.specs.Device.{GivesFromFront}
 use Rattle.tls_codec_wire.specs.declared.device.Source.{Ghosts}
-use Rattle.tls_codec_wire.specs.declared.error.Error.{Error}
 use Rattle.tls_codec_grammar.specs.Tree.{Tree}
 use Rattle.tls_codec_grammar.specs.Grammar.{Grammar}
 use Rattle.tls_codec_grammar.specs.Format.{Format}
@@ -13,12 +12,13 @@ use Rattle.tls_codec_grammar.specs.Announced.{capped}
 use Rattle.tls_codec_grammar.specs.Lawful.{IsLawful}
 use Rattle.tls_codec_grammar.specs.Decoding.{Begins, BeginsSome, GaveSpelling}
 use Rattle.tls_codec_base.proofs.BothPaths.{one_front}
+use Rattle.tls_codec_validate.specs.declared.rejected.Rejected.{Rejected}
 use Rattle.tls_codec_validate.specs.Validated.{BeginsLeaving, Validates}
 
 -- bytes are accepted exactly if an encoding begins them
-pub accepted : (f : Format) {x : List ℕ} (result : Result (Bor (List ℕ)) Error) → Validates f x result → (IsOk result ↔ BeginsSome f.spells x)
+pub accepted : (f : Format) {x : List ℕ} (result : Result (Bor (List ℕ)) Rejected) → Validates f x result → (IsOk result ↔ BeginsSome f.spells x)
 accepted f (Ok rest) p = (λ h. record { value = p.value; rest = rest.now; begins = p.begins }, λ b. refl)
-accepted f (Err e) p = (λ h. absurd cc, λ b. absurd (p.none b.value b.rest b.begins))
+accepted f (Err r) p = (λ h. absurd cc, λ b. absurd (p.none b.value b.rest b.begins))
 
 module _ {spells : Grammar} {announced : Tree → ℕ} (l : IsLawful spells announced) {x : List ℕ} {v : Tree} {rest left : List ℕ} where
   -- one rest is left

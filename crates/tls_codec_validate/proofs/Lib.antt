@@ -1,4 +1,5 @@
 mod Decoders
+mod Placing
 mod Runs
 mod Skipping
 pub mod Tagging

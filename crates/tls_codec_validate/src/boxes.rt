@@ -1,11 +1,13 @@
 //! `Box<T>`: what its content is.
 
+use crate::rejected::Rejected;
 use crate::traits::Validate;
-use tls_codec_wire::Error;
 
 impl<T: Validate> Validate for Box<T> {
+    ghost places = { T.places };
+
     #[inline(always)]
-    fn tls_validate_prefix(bytes: &[u8]) -> Result<&[u8], Error> {
+    fn tls_validate_prefix(bytes: &[u8]) -> Result<&[u8], Rejected<'_>> {
         let rest = T::tls_validate_prefix(bytes)?;
         Ok(rest)
     }

@@ -3,8 +3,10 @@ ghost use Rattle.std.specs.Prelude.{IfErr, IfSome};
 ghost use Rattle.tls_codec_grammar.specs.Format.{content_format, counted_list_format, sized_format};
 ghost use Rattle.tls_codec_grammar.specs.Grammar.{content, sized};
 ghost use Rattle.tls_codec_base.specs.Refusals.{counted_list_names, elements_names};
+ghost use Rattle.tls_codec_validate.specs.Places.{RejectedAt, counted_list_places, elements_places};
 ghost use Rattle.tls_codec_validate.specs.Validated.{BeginsLeaving, Validates};
 
+use crate::rejected::Rejected;
 use crate::traits::Validate;
 use tls_codec_base::LengthField;
 use tls_codec_grammar::opaque::see_bytes;
@@ -15,19 +17,26 @@ const NO_BYTES: Error = Error::DecodingError("vector element consumed 0 bytes");
 const NOT_FILLED: Error = Error::DecodingError("elements do not fill the declared length");
 
 /// What is left after a length and the elements that it counts.
-pub(crate) fn skip_list<F: LengthField, T: Validate>(bytes: &[u8]) -> Result<&[u8], Error>
+pub(crate) fn skip_list<F: LengthField, T: Validate>(bytes: &[u8]) -> Result<&[u8], Rejected<'_>>
     ensures validates { Validates (counted_list_format F.field T.format) bytes.now result }
-    ensures named { IfErr result (counted_list_names F.field T.format T.names bytes.now) }
+    ensures rejected { IfErr result
+        (RejectedAt (counted_list_names F.field T.format T.names)
+        (counted_list_places F.field T.format T.places) bytes.now) }
 {
-    let (length, rest) = F::split_length(bytes)?;
+    let (length, rest) = match F::split_length(bytes) {
+        Ok(found) => found,
+        Err(error) => return Err(Rejected { error, rest: bytes }),
+    };
     let behind = skip_elements::<T>(rest, length)?;
     Ok(behind)
 }
 
 // What is left after the elements that fill the first `length` bytes.
-fn skip_elements<T: Validate>(bytes: &[u8], length: usize) -> Result<&[u8], Error>
+fn skip_elements<T: Validate>(bytes: &[u8], length: usize) -> Result<&[u8], Rejected<'_>>
     ensures validates { Validates (sized_format length (content_format T.format)) bytes.now result }
-    ensures named { IfErr result (elements_names T.format T.names length bytes.now) }
+    ensures rejected { IfErr result
+        (RejectedAt (elements_names T.format T.names length)
+        (elements_places T.format T.places length) bytes.now) }
 {
     if let Some(behind) = skip_run::<T>(bytes, length) {
         return Ok(behind);
@@ -38,10 +47,16 @@ fn skip_elements<T: Validate>(bytes: &[u8], length: usize) -> Result<&[u8], Erro
         let behind = T::tls_validate_prefix(rest)?;
         let taken = rest.len() - behind.len();
         if taken == 0 {
-            return Err(NO_BYTES);
+            return Err(Rejected {
+                error: NO_BYTES,
+                rest,
+            });
         }
         if taken > left {
-            return Err(NOT_FILLED);
+            return Err(Rejected {
+                error: NOT_FILLED,
+                rest,
+            });
         }
         left -= taken;
         rest = behind;

@@ -8,6 +8,7 @@ ghost use Rattle.tls_codec_grammar.specs.Announced.{capped};
 ghost use Rattle.tls_codec_grammar.specs.Decoding.{BeginsSome, Reads, ReadsWhole, Splits};
 ghost use Rattle.tls_codec_base.specs.Refusals.{IsSpelling};
 ghost use Rattle.tls_codec_base.specs.Paths.{FaultOrNoMemory, NoMemory};
+ghost use Rattle.tls_codec_validate.specs.declared.rejected.Rejected.{Rejected};
 ghost use Rattle.tls_codec_validate.specs.Validated.{RejectsWhole, Validates};
 
 use tls_codec_base::Size;
@@ -15,7 +16,7 @@ use tls_codec_wire::Source;
 
 /// Bytes are accepted exactly if they begin with an encoding.
 pub fn accepted_exactly_if_an_encoding_begins<T: Size>()
-    ensures { (x : List ℕ) (result : Result (Bor (List ℕ)) Error)
+    ensures { (x : List ℕ) (result : Result (Bor (List ℕ)) Rejected)
         → Validates T.format x result
         → IsOk result ↔ BeginsSome T.format.spells x }
 {}
@@ -35,8 +36,8 @@ pub fn what_is_validated_is_split<T: Size>()
         → Validates T.format x (Ok rest)
         → Splits T.format T.plain x (Err e)
         → NoMemory T.format.lean e }
-    ensures rejected { (x : List ℕ) (e : Error) (found : T × Bor (List ℕ))
-        → Validates T.format x (Err e)
+    ensures rejected { (x : List ℕ) (r : Rejected) (found : T × Bor (List ℕ))
+        → Validates T.format x (Err r)
         → Splits T.format T.plain x (Ok found)
         → ⊥ }
 {}
@@ -65,9 +66,9 @@ pub fn what_is_validated_is_read<T: Size, R: Source>()
         → Validates T.format x (Ok rest)
         → Reads T.format T.plain R.Source old new (Err e)
         → FaultOrNoMemory T.format.lean (R.counts old) (R.counts new) e }
-    ensures rejected { (x : List ℕ) (e : Error) (old new : R) (v : T)
+    ensures rejected { (x : List ℕ) (r : Rejected) (old new : R) (v : T)
         → R.coming old ≡ Some x
-        → Validates T.format x (Err e)
+        → Validates T.format x (Err r)
         → Reads T.format T.plain R.Source old new (Ok v)
         → ⊥ }
 {}

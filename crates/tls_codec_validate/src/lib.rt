@@ -6,6 +6,7 @@
 //! - [`Validate`]: the trait of every type with a decoder that no context decides. `T::tls_validate` is for all of the
 //!   bytes, `T::tls_validate_prefix` for the encoding that they begin with. `T::tls_deserialize_validated` makes the
 //!   value once the bytes are validated.
+//! - [`Rejected`]: what is wrong with the bytes, and where its field begins.
 //! - [`tags`]: the tag that bytes begin with, for enums of your own. A struct of your own validates as the tuple of its
 //!   fields.
 //! - [`laws`]: what is validated is decoded. They do nothing when they run.
@@ -19,9 +20,11 @@ pub mod laws;
 mod numbers;
 mod options;
 mod products;
+mod rejected;
 pub mod tags;
 mod texts;
 mod traits;
 mod vectors;
 
+pub use rejected::Rejected;
 pub use traits::Validate;

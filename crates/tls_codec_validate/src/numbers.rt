@@ -1,13 +1,18 @@
 //! Integers, arrays of bytes and variable-length integers.
+ghost use Rattle.tls_codec_validate.specs.Places.{here};
 
 use crate::digits::skip;
+use crate::rejected::Rejected;
 use crate::traits::Validate;
+use tls_codec_base::DeserializeBytes;
 use tls_codec_wire::quic::split_varint;
-use tls_codec_wire::{Error, TlsVarInt, U24};
+use tls_codec_wire::{TlsVarInt, U24};
 
 impl Validate for u8 {
+    ghost places = { here ⟦<u8 as DeserializeBytes>⟧.names };
+
     #[inline(always)]
-    fn tls_validate_prefix(bytes: &[u8]) -> Result<&[u8], Error> {
+    fn tls_validate_prefix(bytes: &[u8]) -> Result<&[u8], Rejected<'_>> {
         skip(bytes, 1)
     }
 
@@ -18,8 +23,10 @@ impl Validate for u8 {
 }
 
 impl Validate for u16 {
+    ghost places = { here ⟦<u16 as DeserializeBytes>⟧.names };
+
     #[inline(always)]
-    fn tls_validate_prefix(bytes: &[u8]) -> Result<&[u8], Error> {
+    fn tls_validate_prefix(bytes: &[u8]) -> Result<&[u8], Rejected<'_>> {
         skip(bytes, 2)
     }
 
@@ -30,8 +37,10 @@ impl Validate for u16 {
 }
 
 impl Validate for U24 {
+    ghost places = { here ⟦<U24 as DeserializeBytes>⟧.names };
+
     #[inline(always)]
-    fn tls_validate_prefix(bytes: &[u8]) -> Result<&[u8], Error> {
+    fn tls_validate_prefix(bytes: &[u8]) -> Result<&[u8], Rejected<'_>> {
         skip(bytes, 3)
     }
 
@@ -42,8 +51,10 @@ impl Validate for U24 {
 }
 
 impl Validate for u32 {
+    ghost places = { here ⟦<u32 as DeserializeBytes>⟧.names };
+
     #[inline(always)]
-    fn tls_validate_prefix(bytes: &[u8]) -> Result<&[u8], Error> {
+    fn tls_validate_prefix(bytes: &[u8]) -> Result<&[u8], Rejected<'_>> {
         skip(bytes, 4)
     }
 
@@ -54,8 +65,10 @@ impl Validate for u32 {
 }
 
 impl Validate for u64 {
+    ghost places = { here ⟦<u64 as DeserializeBytes>⟧.names };
+
     #[inline(always)]
-    fn tls_validate_prefix(bytes: &[u8]) -> Result<&[u8], Error> {
+    fn tls_validate_prefix(bytes: &[u8]) -> Result<&[u8], Rejected<'_>> {
         skip(bytes, 8)
     }
 
@@ -66,8 +79,10 @@ impl Validate for u64 {
 }
 
 impl<const LEN: usize> Validate for [u8; LEN] {
+    ghost places = { here ⟦<[u8; LEN] as DeserializeBytes>⟧.names };
+
     #[inline(always)]
-    fn tls_validate_prefix(bytes: &[u8]) -> Result<&[u8], Error> {
+    fn tls_validate_prefix(bytes: &[u8]) -> Result<&[u8], Rejected<'_>> {
         skip(bytes, LEN)
     }
 
@@ -78,8 +93,12 @@ impl<const LEN: usize> Validate for [u8; LEN] {
 }
 
 impl Validate for TlsVarInt {
-    fn tls_validate_prefix(bytes: &[u8]) -> Result<&[u8], Error> {
-        let (_number, rest) = split_varint(bytes)?;
-        Ok(rest)
+    ghost places = { here ⟦<TlsVarInt as DeserializeBytes>⟧.names };
+
+    fn tls_validate_prefix(bytes: &[u8]) -> Result<&[u8], Rejected<'_>> {
+        match split_varint(bytes) {
+            Ok((_number, rest)) => Ok(rest),
+            Err(error) => Err(Rejected { error, rest: bytes }),
+        }
     }
 }

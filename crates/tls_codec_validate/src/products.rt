@@ -1,11 +1,15 @@
 //! Pairs, triples, `()` and `PhantomData<T>`.
+ghost use Rattle.tls_codec_base.specs.Refusals.{fields_names};
+ghost use Rattle.tls_codec_validate.specs.TaggedPlaces.{nothing_places};
 
+use crate::rejected::Rejected;
 use crate::traits::Validate;
 use std::marker::PhantomData;
-use tls_codec_wire::Error;
 
 impl Validate for () {
-    fn tls_validate_prefix(bytes: &[u8]) -> Result<&[u8], Error> {
+    ghost places = { nothing_places };
+
+    fn tls_validate_prefix(bytes: &[u8]) -> Result<&[u8], Rejected<'_>> {
         Ok(bytes)
     }
 
@@ -15,7 +19,9 @@ impl Validate for () {
 }
 
 impl<T> Validate for PhantomData<T> {
-    fn tls_validate_prefix(bytes: &[u8]) -> Result<&[u8], Error> {
+    ghost places = { nothing_places };
+
+    fn tls_validate_prefix(bytes: &[u8]) -> Result<&[u8], Rejected<'_>> {
         Ok(bytes)
     }
 
@@ -25,8 +31,10 @@ impl<T> Validate for PhantomData<T> {
 }
 
 impl<T: Validate, U: Validate> Validate for (T, U) {
+    ghost places = { λ rest. fields_names T.format (T.places rest) (U.places rest) };
+
     #[inline(always)]
-    fn tls_validate_prefix(bytes: &[u8]) -> Result<&[u8], Error> {
+    fn tls_validate_prefix(bytes: &[u8]) -> Result<&[u8], Rejected<'_>> {
         let first = T::tls_validate_prefix(bytes)?;
         let second = U::tls_validate_prefix(first)?;
         Ok(second)
@@ -39,8 +47,11 @@ impl<T: Validate, U: Validate> Validate for (T, U) {
 }
 
 impl<T: Validate, U: Validate, V: Validate> Validate for (T, U, V) {
+    ghost places = { λ rest. fields_names T.format (T.places rest)
+        (fields_names U.format (U.places rest) (V.places rest)) };
+
     #[inline(always)]
-    fn tls_validate_prefix(bytes: &[u8]) -> Result<&[u8], Error> {
+    fn tls_validate_prefix(bytes: &[u8]) -> Result<&[u8], Rejected<'_>> {
         let first = T::tls_validate_prefix(bytes)?;
         let second = U::tls_validate_prefix(first)?;
         let third = V::tls_validate_prefix(second)?;

@@ -1,16 +1,26 @@
 //! `String`: bytes after their length that are UTF-8.
+ghost use Rattle.tls_codec_validate.specs.Places.{here};
 
+use crate::rejected::Rejected;
 use crate::traits::Validate;
-use tls_codec_base::opaque;
+use tls_codec_base::{DeserializeBytes, opaque};
 use tls_codec_wire::{Error, TlsVarInt};
 
 const INVALID_UTF8: Error = Error::DecodingError("invalid utf8");
 
 impl Validate for String {
-    fn tls_validate_prefix(bytes: &[u8]) -> Result<&[u8], Error> {
-        let (content, rest) = opaque::split::<TlsVarInt>(bytes)?;
+    ghost places = { here ⟦<String as DeserializeBytes>⟧.names };
+
+    fn tls_validate_prefix(bytes: &[u8]) -> Result<&[u8], Rejected<'_>> {
+        let (content, rest) = match opaque::split::<TlsVarInt>(bytes) {
+            Ok(found) => found,
+            Err(error) => return Err(Rejected { error, rest: bytes }),
+        };
         let Ok(_text) = std::str::from_utf8(content) else {
-            return Err(INVALID_UTF8);
+            return Err(Rejected {
+                error: INVALID_UTF8,
+                rest: bytes,
+            });
         };
         Ok(rest)
     }

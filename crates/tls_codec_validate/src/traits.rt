@@ -1,10 +1,13 @@
 //! The trait [`Validate`], and its contract.
-ghost use Rattle.std.specs.Prelude.{◌≡◌, ◌⊎◌, IfErr, IfSome};
+ghost use Rattle.std.specs.Prelude.{◌≡◌, ◌⊎◌, ℕ, IfErr, IfSome, List};
+ghost use Rattle.tls_codec_wire.specs.declared.error.Error.{Error};
 ghost use Rattle.tls_codec_wire.specs.declared.error.Error.TheVariants.{OutOfMemory, TrailingData};
 ghost use Rattle.tls_codec_grammar.specs.Decoding.{BeginsSome, LeavesBytes, ReadsWhole, Splits};
 ghost use Rattle.tls_codec_base.specs.Refusals.{IsSpelling};
+ghost use Rattle.tls_codec_validate.specs.Places.{IsTrailing, RejectedAt};
 ghost use Rattle.tls_codec_validate.specs.Validated.{EachIs, Validates, ValidatesWhole};
 
+use crate::rejected::Rejected;
 use std::alloc::Global;
 use tls_codec_base::DeserializeBytes;
 use tls_codec_wire::Error;
@@ -16,27 +19,33 @@ use tls_codec_wire::Error;
 /// assert_eq!(rt; <Vec<u16>>::tls_validate_prefix(&[2, 0, 1, 9]), Ok([9u8].as_slice()));
 /// ```
 pub trait Validate: DeserializeBytes {
+    // Which errors are named, by the bytes from the rejected field on and by all of them.
+    ghost places: { List ℕ → List ℕ → Error → Type 0 };
+
     /// What is left after the encoding that the bytes begin with.
     ///
-    /// Every refusal is one of [`tls_deserialize_bytes`](DeserializeBytes::tls_deserialize_bytes), but it is never
+    /// Every rejection is one of [`tls_deserialize_bytes`](DeserializeBytes::tls_deserialize_bytes), but it is never
     /// `OutOfMemory`.
-    fn tls_validate_prefix(bytes: &[u8]) -> Result<&[u8], Error>
+    fn tls_validate_prefix(bytes: &[u8]) -> Result<&[u8], Rejected<'_>>
         ensures validates { Validates Self.format bytes.now result }
-        ensures named { IfErr result (Self.names bytes.now) };
+        ensures rejected { IfErr result (RejectedAt Self.names places bytes.now) };
 
     /// Whether all of the bytes are one encoding.
     ///
-    /// `TrailingData`: an encoding begins the bytes, and a byte is left. Every other refusal is that of
+    /// `TrailingData`: an encoding begins the bytes, and a byte is left. Every other rejection is that of
     /// [`tls_validate_prefix`](Validate::tls_validate_prefix).
-    final fn tls_validate(bytes: &[u8]) -> Result<(), Error>
+    final fn tls_validate(bytes: &[u8]) -> Result<(), Rejected<'_>>
         ensures validates { ValidatesWhole Self.format bytes.now result }
-        ensures named { IfErr result
-            (λ e. ((e ≡ TrailingData) × LeavesBytes Self.format.spells bytes.now)
-            ⊎ Self.names bytes.now e) }
+        ensures rejected { IfErr result
+            (λ r. IsTrailing Self.format.spells bytes.now r
+            ⊎ RejectedAt Self.names places bytes.now r) }
     {
         let rest = Self::tls_validate_prefix(bytes)?;
         if !rest.is_empty() {
-            return Err(Error::TrailingData);
+            return Err(Rejected {
+                error: Error::TrailingData,
+                rest,
+            });
         }
         Ok(())
     }
@@ -54,7 +63,9 @@ pub trait Validate: DeserializeBytes {
         ensures named { IfErr result (Self.names bytes.now) }
         ensures memory { result ≡ Err OutOfMemory → BeginsSome Self.format.spells bytes.now }
     {
-        let _rest = Self::tls_validate_prefix(bytes)?;
+        if let Err(rejected) = Self::tls_validate_prefix(bytes) {
+            return Err(rejected.error);
+        }
         let found = Self::tls_deserialize_bytes(alloc, bytes)?;
         Ok(found)
     }
@@ -70,7 +81,9 @@ pub trait Validate: DeserializeBytes {
             ⊎ Self.names bytes.now e) }
         ensures memory { result ≡ Err OutOfMemory → IsSpelling Self.format.spells bytes.now }
     {
-        let _whole = Self::tls_validate(bytes)?;
+        if let Err(rejected) = Self::tls_validate(bytes) {
+            return Err(rejected.error);
+        }
         let value = Self::tls_deserialize_exact_bytes(alloc, bytes)?;
         Ok(value)
     }

@@ -5,7 +5,7 @@ use std::alloc::Global;
 use tls_codec::{
     Deserialize, DeserializeBytes, Error, Lent, Serialize, Sink, Size, Source, VLBytes,
 };
-use tls_codec_validate::Validate;
+use tls_codec_validate::{Rejected, Validate};
 
 /// A code of two bytes, and then a name after a variable-length length.
 ///
@@ -63,7 +63,9 @@ impl DeserializeBytes for Leaf {
 }
 
 impl Validate for Leaf {
-    fn tls_validate_prefix(whole: &[u8]) -> Result<&[u8], Error> {
+    ghost places = { ⟦<(u16, VLBytes) as Validate>⟧.places };
+
+    fn tls_validate_prefix(whole: &[u8]) -> Result<&[u8], Rejected<'_>> {
         <(u16, VLBytes)>::tls_validate_prefix(whole)
     }
 }

@@ -7,7 +7,7 @@ use tls_codec::{
     Deserialize, DeserializeBytes, Error, Lent, Serialize, Sink, Size, Source, TlsByteVecU8,
     TlsVecU16,
 };
-use tls_codec_validate::Validate;
+use tls_codec_validate::{Rejected, Validate};
 
 /// An identity of at most 255 bytes, leaves of at most 65,535 bytes together, and perhaps a last step,
 /// in a row.
@@ -69,7 +69,9 @@ impl DeserializeBytes for Log {
 }
 
 impl Validate for Log {
-    fn tls_validate_prefix(whole: &[u8]) -> Result<&[u8], Error> {
+    ghost places = { ⟦<(TlsByteVecU8, TlsVecU16<Leaf>, Option<Step>) as Validate>⟧.places };
+
+    fn tls_validate_prefix(whole: &[u8]) -> Result<&[u8], Rejected<'_>> {
         <(TlsByteVecU8, TlsVecU16<Leaf>, Option<Step>)>::tls_validate_prefix(whole)
     }
 }

@@ -2,10 +2,11 @@
 ghost use Rattle.std.specs.Prelude.{◌≡◌};
 ghost use Rattle.tls_codec_vectors.specs.Messages.{step_format, step_meets, step_plain};
 ghost use Rattle.tls_codec.specs.OwnMessages.{no_variant_names, no_variant_source_names, nothing_names, nothing_source_names, tagged_names, tagged_source_names, variant_names, variant_source_names};
+ghost use Rattle.tls_codec_validate.specs.TaggedPlaces.{no_variant_places, nothing_places, tagged_places, variant_places};
 
 use std::alloc::Global;
 use tls_codec::{Deserialize, DeserializeBytes, Error, Lent, Serialize, Sink, Size, Source};
-use tls_codec_validate::{Validate, tags};
+use tls_codec_validate::{Rejected, Validate, tags};
 
 const PING: u8 = 0;
 
@@ -121,7 +122,13 @@ impl DeserializeBytes for Step {
 }
 
 impl Validate for Step {
-    fn tls_validate_prefix(whole: &[u8]) -> Result<&[u8], Error> {
+    ghost places = { tagged_places 1
+        (variant_places 0 nothing_places
+        (variant_places 1 ⟦<String as Validate>⟧.places
+        (variant_places 2 ⟦<u32 as Validate>⟧.places
+        no_variant_places))) };
+
+    fn tls_validate_prefix(whole: &[u8]) -> Result<&[u8], Rejected<'_>> {
         let (tag, rest) = tags::split_u8(whole)?;
         match tag {
             PING => Ok(rest),
@@ -133,7 +140,10 @@ impl Validate for Step {
                 let behind = u32::tls_validate_prefix(rest)?;
                 Ok(behind)
             }
-            _ => Err(unknown(tag)),
+            _ => Err(Rejected {
+                error: unknown(tag),
+                rest: whole,
+            }),
         }
     }
 }

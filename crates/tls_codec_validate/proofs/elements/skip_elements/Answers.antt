@@ -1,6 +1,7 @@
 use Rattle.std.proofs.Common.{arith, inl, inr, refl, true}
 use Rattle.std.proofs.lemmas.Result.{err_from_is_err_and}
-use Rattle.tls_codec_base.proofs.ListReading.{element_named, element_refused, found_empty, found_long, none_if_empty, none_if_long}
+use Rattle.tls_codec_base.proofs.ListReading.{element_refused, found_empty, found_long, none_if_empty, none_if_long}
+use Rattle.tls_codec_validate.proofs.Placing.{rejected_element, rejected_whole_element}
 use Rattle.tls_codec_validate.proofs.Skipping.{skipped_all, skipped_more, skipped_none}
 use Rattle.tls_codec_validate.proofs.Validating.{refuses, rejects_unless}
 use Rattle.tls_codec_validate.proofs.elements.skip_elements.Goals as goal
@@ -17,11 +18,11 @@ returns-in_err-behind-clause-validates g c =
     let refused = c.in_err-behind.ensures.validates in
     rw (p.1, p.2) (rejects_unless refused.not_memory (element_refused _ _ g.met.T.Size.lawful.spelled true _ _ _ _ _ _ c.loop-left.invariant.read (omega arith) (refuses refused)))
 
-pub returns-in_err-behind-clause-named : goal.returns-in_err-behind-clause-named
-returns-in_err-behind-clause-named g c =
+pub returns-in_err-behind-clause-rejected : goal.returns-in_err-behind-clause-rejected
+returns-in_err-behind-clause-rejected g c =
     let p = err_from_is_err_and c.from_residual.result c.from_residual.ensures.1 in
     let refused = c.in_err-behind.ensures in
-    rw (p.1, p.2) (element_named g.T.Size.format g.T.DeserializeBytes.names c.loop-left.invariant.read (omega arith) (inl (refuses refused.validates, refused.named)))
+    rw (p.1, p.2) (rejected_element g.T.Size.format c.loop-left.invariant.read (omega arith) (refuses refused.validates) refused.rejected)
 
 pub returns-then-taken-eq0-clause-validates : goal.returns-then-taken-eq0-clause-validates
 returns-then-taken-eq0-clause-validates g c = record {
@@ -29,9 +30,10 @@ returns-then-taken-eq0-clause-validates g c = record {
   not_memory = λ out. absurd cc;
 }
 
-pub returns-then-taken-eq0-clause-named : goal.returns-then-taken-eq0-clause-named
-returns-then-taken-eq0-clause-named g c =
-    element_named g.T.Size.format g.T.DeserializeBytes.names c.loop-left.invariant.read (omega arith) (inr (inl (refl, found_empty c.in_ok-behind.ensures.validates.begins c.if-taken-eq0.true)))
+pub returns-then-taken-eq0-clause-rejected : goal.returns-then-taken-eq0-clause-rejected
+returns-then-taken-eq0-clause-rejected g c =
+    rejected_whole_element g.T.Size.format c.loop-left.invariant.read (omega arith) refl
+    (λ own. inr (inl (refl, found_empty c.in_ok-behind.ensures.validates.begins c.if-taken-eq0.true)))
 
 pub returns-then-taken-left-clause-validates : goal.returns-then-taken-left-clause-validates
 returns-then-taken-left-clause-validates g c = record {
@@ -39,9 +41,10 @@ returns-then-taken-left-clause-validates g c = record {
   not_memory = λ out. absurd cc;
 }
 
-pub returns-then-taken-left-clause-named : goal.returns-then-taken-left-clause-named
-returns-then-taken-left-clause-named g c =
-    element_named g.T.Size.format g.T.DeserializeBytes.names c.loop-left.invariant.read (omega arith) (inr (inr (inl (refl, found_long c.in_ok-behind.ensures.validates.begins (omega arith)))))
+pub returns-then-taken-left-clause-rejected : goal.returns-then-taken-left-clause-rejected
+returns-then-taken-left-clause-rejected g c =
+    rejected_whole_element g.T.Size.format c.loop-left.invariant.read (omega arith) refl
+    (λ own. inr (inr (inl (refl, found_long c.in_ok-behind.ensures.validates.begins (omega arith)))))
 
 pub returns-clause-validates : goal.returns-clause-validates
 returns-clause-validates g c = skipped_all c.loop-left.invariant (omega arith)

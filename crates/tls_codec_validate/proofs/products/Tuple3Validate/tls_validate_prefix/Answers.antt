@@ -1,6 +1,7 @@
 use Rattle.std.proofs.Common.{true}
 use Rattle.std.proofs.lemmas.Result.{err_from_is_err_and}
 use Rattle.tls_codec_base.proofs.FieldsDecoding.{fields_begins, fields_refuses_first, fields_refuses_others, nothing_begins}
+use Rattle.tls_codec_validate.proofs.Placing.{rejected_first, rejected_others}
 use Rattle.tls_codec_validate.proofs.Validating.{leaves, refuses, rejects}
 use Rattle.tls_codec_validate.proofs.products.Tuple3Validate.tls_validate_prefix.Goals as goal
 
@@ -21,3 +22,15 @@ returns-in_err-third-clause-validates g c =
 
 pub returns-clause-validates : goal.returns-clause-validates
 returns-clause-validates g c = leaves (fields_begins c.in_ok-first.ensures.validates.begins (fields_begins c.in_ok-second.ensures.validates.begins (fields_begins c.in_ok-third.ensures.validates.begins (nothing_begins _))))
+
+pub returns-in_err-second-clause-rejected : goal.returns-in_err-second-clause-rejected
+returns-in_err-second-clause-rejected g c =
+    let p = err_from_is_err_and c.from_residual-in_err-second.result c.from_residual-in_err-second.ensures.1 in
+    rw (p.1, p.2) (rejected_others g.T.Size.format c.in_ok-first.ensures.validates.begins
+    (rejected_first g.U.Size.format (refuses c.in_err-second.ensures.validates) c.in_err-second.ensures.rejected))
+
+pub returns-in_err-third-clause-rejected : goal.returns-in_err-third-clause-rejected
+returns-in_err-third-clause-rejected g c =
+    let p = err_from_is_err_and c.from_residual-in_err-third.result c.from_residual-in_err-third.ensures.1 in
+    rw (p.1, p.2) (rejected_others g.T.Size.format c.in_ok-first.ensures.validates.begins
+    (rejected_others g.U.Size.format c.in_ok-second.ensures.validates.begins c.in_err-third.ensures.rejected))

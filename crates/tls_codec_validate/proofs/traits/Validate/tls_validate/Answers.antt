@@ -9,19 +9,18 @@ returns-in_err-rest-clause-validates g c =
     let p = err_from_is_err_and c.from_residual.result c.from_residual.ensures.1 in
     rw (p.1, p.2) (rejects_whole c.in_err-rest.ensures.validates)
 
-pub returns-in_err-rest-clause-named : goal.returns-in_err-rest-clause-named
-returns-in_err-rest-clause-named g c =
+pub returns-in_err-rest-clause-rejected : goal.returns-in_err-rest-clause-rejected
+returns-in_err-rest-clause-rejected g c =
     let p = err_from_is_err_and c.from_residual.result c.from_residual.ensures.1 in
-    rw (p.1, p.2) (inr c.in_err-rest.ensures.named)
+    rw (p.1, p.2) (inr c.in_err-rest.ensures.rejected)
 
 pub returns-then-not-is_empty-clause-validates : goal.returns-then-not-is_empty-clause-validates
 returns-then-not-is_empty-clause-validates g c =
     trailing_rejects g.met.Self.Size.lawful.spelled c.in_ok-rest.ensures.validates.begins c.if-not-is_empty.ensures
 
-pub returns-then-not-is_empty-clause-named : goal.returns-then-not-is_empty-clause-named
-returns-then-not-is_empty-clause-named g c =
-    let q = c.in_ok-rest.ensures.validates in
-    inl (refl, record { value = q.value; rest = _; begins = q.begins; some = some_left _ c.if-not-is_empty.ensures })
+pub returns-then-not-is_empty-clause-rejected : goal.returns-then-not-is_empty-clause-rejected
+returns-then-not-is_empty-clause-rejected g c =
+    inl (record { error = refl; left = c.in_ok-rest.ensures.validates; some = some_left _ c.if-not-is_empty.ensures })
 
 pub returns-clause-validates : goal.returns-clause-validates
 returns-clause-validates g c =

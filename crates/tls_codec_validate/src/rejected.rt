@@ -1,0 +1,38 @@
+//! [`Rejected`]: why bytes are rejected, and which of them.
+ghost use Rattle.std.specs.Prelude.{◌≡◌, ◌-◌, length};
+
+use tls_codec_wire::Error;
+
+/// Why bytes are rejected, and from where on.
+///
+/// ```rust
+/// let bytes = [7, 2, 0];
+/// let rejected = Rejected { error: Error::DecodingError("declared content is not there"), rest: &[2, 0] };
+/// assert_eq!(rt; <(u8, VLBytes)>::tls_validate(&bytes), Err(rejected));
+/// assert_eq!(rt; rejected.at(&bytes), 1);
+/// ```
+#[derive(Clone, Copy, PartialEq, Eq, Debug)]
+pub struct Rejected<'a> {
+    /// What the slice decoder says of the bytes.
+    pub error: Error,
+    /// The bytes from the first one of the rejected field on: an integer, a vector with its length, the tag of an enum or
+    /// of an option. A vector whose elements are rejected is so in one of them. Of `TrailingData` the bytes that are left.
+    pub rest: &'a [u8],
+}
+
+impl Rejected<'_> {
+    /// The position of the rejected field's first byte, if these are the bytes that were rejected.
+    pub fn at(&self, bytes: &[u8]) -> usize
+        ensures { result ≡ length bytes.now - length self.now.rest.now }
+    {
+        bytes.len().saturating_sub(self.rest.len())
+    }
+}
+
+impl From<Rejected<'_>> for Error {
+    ghost from_gives = { λ rejected e. e ≡ rejected.error };
+
+    fn from(rejected: Rejected<'_>) -> Error {
+        rejected.error
+    }
+}
