@@ -75,9 +75,15 @@ impl Holes {
     /// Says what these say, where nothing did.
     pub fn set_as(&mut self, other: &Holes) -> Result<(), AllocError> {
         for hole in &other.all {
-            self.set(hole.word, hole.text.clone()?)?;
+            if !self.has(hole.word) {
+                self.set(hole.word, hole.text.clone()?)?;
+            }
         }
         Ok(())
+    }
+
+    fn has(&self, word: &str) -> bool {
+        self.all.iter().any(|hole| hole.word == word)
     }
 
     /// The text of a template.
