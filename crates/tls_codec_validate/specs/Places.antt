@@ -5,6 +5,7 @@ use Rattle.tls_codec_wire.specs.declared.error.Error.TheVariants.{TrailingData}
 use Rattle.tls_codec_grammar.specs.Grammar.{Grammar}
 use Rattle.tls_codec_grammar.specs.Field.{Field}
 use Rattle.tls_codec_grammar.specs.Format.{Format}
+use Rattle.tls_codec_base.specs.Meanings.{SameNames}
 use Rattle.tls_codec_base.specs.Refusals.{IsPayloadTag, IsRun, NamedBehind, SliceNames, element_names, option_names, part_names}
 use Rattle.tls_codec_validate.specs.declared.rejected.Rejected.{Rejected}
 use Rattle.tls_codec_validate.specs.Validated.{BeginsLeaving}
@@ -54,3 +55,7 @@ elements_places element places n rest x e = (left : ℕ) × NamedBehind (IsRun e
 abbrev pub counted_list_places : Field → Format → PlacedNames → PlacedNames
 counted_list_places field element places rest x e =
     here field.refuses rest x e ⊎ ((n : ℕ) × NamedBehind (λ s. field.spells s n) (elements_places element places n rest) x e)
+
+-- the same fields may be rejected, whatever the bytes
+abbrev pub SamePlaces : PlacedNames → PlacedNames → Type 0
+SamePlaces m n = (rest : List ℕ) → SameNames (m rest) (n rest)

@@ -10,6 +10,7 @@
 //! - [`tags`]: the tag that bytes begin with, for enums of your own. A struct of your own validates as the tuple of its
 //!   fields.
 //! - [`laws`]: what is validated is decoded. They do nothing when they run.
+//! - [`types`]: the table of types, by the field that is rejected. It does nothing either.
 #![tactic(auto)]
 
 mod boxes;
@@ -24,6 +25,7 @@ mod rejected;
 pub mod tags;
 mod texts;
 mod traits;
+pub mod types;
 mod vectors;
 
 pub use rejected::Rejected;

@@ -13,7 +13,7 @@ use tls_codec_wire::Error;
 /// ```
 #[derive(Clone, Copy, PartialEq, Eq, Debug)]
 pub struct Rejected<'a> {
-    /// What the slice decoder says of the bytes.
+    /// An error that the slice decoder names of the bytes.
     pub error: Error,
     /// The bytes from the first one of the rejected field on: an integer, a vector with its length, the tag of an enum or
     /// of an option. A vector whose elements are rejected is so in one of them. Of `TrailingData` the bytes that are left.

@@ -5,10 +5,11 @@ use crate::cases::{Tag, find_tag};
 use crate::checks::enum_width;
 use crate::holders::{Site, giver_of, site_of};
 use crate::items::find_struct;
+use crate::known::{Known, sequence_named};
 use crate::naming::{type_name, underscored};
 use crate::refuse::refused;
 use crate::scope::Scope;
-use crate::sequence::{IndexedField, Known, Piece, Sequence, sequence_named};
+use crate::sequence::{IndexedField, Piece, Sequence};
 use std::alloc::{AllocError, Global};
 use tlsgen_model::names::field_name;
 use tlsgen_model::plan::{Context, Element};
@@ -30,6 +31,19 @@ impl<'a> OuterTag<'a> {
         match self.owner {
             None => self.is_of(field),
             Some(owner) => owner.text.as_str() == of && field.name.text == self.name.text,
+        }
+    }
+
+    /// What tells it from other tags of the text: the struct that has it and its name, or else its enum.
+    pub fn label(&self, alloc: Global) -> Result<String, AllocError> {
+        match (self.owner, self.tag.of) {
+            (Some(owner), _) => format!(in alloc;
+                "{owner} {tag}",
+                owner = owner.text,
+                tag = self.name.text
+            ),
+            (None, Some(one)) => one.name.text.clone(),
+            (None, None) => self.name.text.clone(),
         }
     }
 
@@ -155,7 +169,7 @@ fn enum_tag<'a>(alloc: Global, files: Scope<'a>, name: &Name) -> Result<Option<T
 pub fn context_of<'a>(
     alloc: Global,
     files: Scope<'a>,
-    all: &Known<'a>,
+    all: &mut Known<'a>,
     sequence: &Sequence<'a>,
 ) -> Result<Option<OuterTag<'a>>, Trouble> {
     let mut context = None;
@@ -179,7 +193,7 @@ pub fn context_of<'a>(
 fn tag_elsewhere<'a>(
     alloc: Global,
     files: Scope<'a>,
-    all: &Known<'a>,
+    all: &mut Known<'a>,
     sequence: &Sequence<'a>,
     at: usize,
     select: &'a Select,
@@ -203,7 +217,7 @@ fn with_select<'a>(
 
 fn with_cases<'a>(
     alloc: Global,
-    all: &Known<'a>,
+    all: &mut Known<'a>,
     sequence: &Sequence<'a>,
     select: &Select,
     context: Option<OuterTag<'a>>,
@@ -217,7 +231,7 @@ fn with_cases<'a>(
 
 fn with_field<'a>(
     alloc: Global,
-    all: &Known<'a>,
+    all: &mut Known<'a>,
     sequence: &Sequence<'a>,
     at: usize,
     field: &Field,
@@ -232,7 +246,7 @@ fn with_field<'a>(
 /// The field that has the tag which decides the parts of a field at a position.
 pub fn giver_of_field<'a>(
     alloc: Global,
-    all: &Known<'a>,
+    all: &mut Known<'a>,
     sequence: &Sequence<'a>,
     at: usize,
     field: &Field,
@@ -245,7 +259,7 @@ pub fn giver_of_field<'a>(
 
 fn with_type<'a>(
     alloc: Global,
-    all: &Known<'a>,
+    all: &mut Known<'a>,
     sequence: &Sequence<'a>,
     of: &Name,
     context: Option<OuterTag<'a>>,

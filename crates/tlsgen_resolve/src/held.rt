@@ -1,6 +1,7 @@
 //! Parts that a tag in an earlier field decides, and the messages that have to hold it.
 use crate::contexts::{OuterTag, context_of_type};
-use crate::holders::{Holding, giver_of, holder, holders_of};
+use crate::holders::{find_holders, giver_of};
+use crate::known::Holding;
 use crate::members::ResolvedMember;
 use crate::naming::{type_name, underscored};
 use crate::output::is_same;
@@ -74,7 +75,7 @@ impl<'a> Resolver<'a> {
         let Some(tag) = context_of_type(&self.known, at.field.of.text.as_str()) else {
             return Ok(None);
         };
-        match giver_of(self.alloc, &self.known, sequence, at.index, &tag)? {
+        match giver_of(self.alloc, &mut self.known, sequence, at.index, &tag)? {
             Some(giver) => Ok(Some(self.decided_by(sequence, giver.field, &tag)?)),
             None => Ok(None),
         }
@@ -104,13 +105,24 @@ impl<'a> Resolver<'a> {
 
     // Has each struct from that of a field to the tag hold it. `of`: the tag's type.
     fn hold(&mut self, giver: &'a Field, tag: &OuterTag<'a>, of: &String) -> Result<(), Trouble> {
-        let holders = holders_of(self.alloc, &self.known, &[Piece::Field(giver)], tag)?;
+        let label = tag.label(self.alloc)?;
+        find_holders(
+            self.alloc,
+            &mut self.known,
+            &[Piece::Field(giver)],
+            tag,
+            &label,
+        )?;
         let mut field = giver;
-        for _ in 0..=holders.len() {
-            let Some(one) = holder(&holders, field) else {
+        for _ in 0..=self.known.len() {
+            let Some(one) = self.known.holding(&label, field) else {
                 break;
             };
-            self.push_holder(field, one, tag, of)?;
+            if self.known.is_kept(&label, one.name) {
+                return Ok(());
+            }
+            self.push_holder(field, &one, tag, of)?;
+            self.known.set_kept(&label, one.name)?;
             if tag.is_field(one.name, one.field) {
                 return Ok(());
             }

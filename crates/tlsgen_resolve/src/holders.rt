@@ -2,9 +2,10 @@
 //! `select (PublicMessage.content.sender.sender_type)` of RFC 9420, section 6.2.
 use crate::contexts::{OuterTag, outer_tag};
 use crate::items::is_single;
+use crate::known::Known;
 use crate::refuse::refused;
 use crate::scope::Scope;
-use crate::sequence::{IndexedField, Known, Piece, Sequence, find_field, is_here};
+use crate::sequence::{IndexedField, Piece, Sequence, find_field, is_here};
 use std::alloc::{AllocError, Global};
 use std::collections::BTreeSet;
 use tlsgen_syntax::refusal::Trouble;
@@ -21,18 +22,11 @@ pub enum Site<'a> {
     Elsewhere,
 }
 
-/// A struct that holds a tag, and its one field that is the tag or holds it.
-#[derive(Clone, Copy)]
-pub struct Holding<'a> {
-    pub name: &'a str,
-    pub field: &'a Field,
-}
-
 /// Where the tag of a select at a position is.
 pub fn site_of<'a>(
     alloc: Global,
     files: Scope<'a>,
-    all: &Known<'a>,
+    all: &mut Known<'a>,
     sequence: &Sequence<'a>,
     at: usize,
 ) -> Result<Site<'a>, Trouble> {
@@ -84,17 +78,18 @@ fn is_giver(field: &Field) -> bool {
 /// The field before a position that is the tag or holds it. Rejects two.
 pub fn giver_of<'a>(
     alloc: Global,
-    all: &Known<'a>,
+    all: &mut Known<'a>,
     sequence: &Sequence<'a>,
     at: usize,
     tag: &OuterTag<'a>,
 ) -> Result<Option<IndexedField<'a>>, Trouble> {
     let (before, _) = sequence.pieces.split_at(at.min(sequence.pieces.len()));
-    let holders = holders_of(alloc, all, before, tag)?;
+    let label = tag.label(alloc)?;
+    find_holders(alloc, all, before, tag, &label)?;
     let mut giver = None;
     for (index, piece) in before.iter().enumerate() {
         if let Piece::Field(field) = piece {
-            if holds(&holders, sequence.name, field, tag) {
+            if holds(all, sequence.name, field, tag, &label) {
                 if giver.is_some() {
                     return Err(refused(
                         alloc,
@@ -110,41 +105,38 @@ pub fn giver_of<'a>(
     Ok(giver)
 }
 
-/// The structs that hold a tag among those that pieces contain, each after those that it contains.
-pub fn holders_of<'a>(
+/// Finds which of the structs that pieces contain hold a tag, each after those that it contains, and each but once.
+pub fn find_holders<'a>(
     alloc: Global,
-    all: &Known<'a>,
+    all: &mut Known<'a>,
     pieces: &[Piece<'a>],
     tag: &OuterTag<'a>,
-) -> Result<Vec<Holding<'a>>, AllocError> {
-    let mut holders = Vec::new(alloc);
-    for at in contained(alloc, all, pieces)?.iter() {
-        if let Some(one) = all.get(*at) {
-            if let Some(field) = only_holding(&holders, one, tag) {
-                holders.push(Holding {
-                    name: one.name,
-                    field,
-                })?;
-            }
-        }
+    label: &String,
+) -> Result<(), AllocError> {
+    for at in not_looked_at(alloc, all, pieces, label)?.iter() {
+        let found = all
+            .get(*at)
+            .and_then(|one| only_holding(all, one, tag, label));
+        all.keep_holding(alloc, label, *at, found)?;
     }
-    Ok(holders)
+    Ok(())
 }
 
-// The positions of the structs that pieces contain.
-fn contained(
+// The positions of the structs that pieces contain, but for those that were looked at for this tag.
+fn not_looked_at(
     alloc: Global,
     all: &Known<'_>,
     pieces: &[Piece<'_>],
+    label: &String,
 ) -> Result<BTreeSet<usize>, AllocError> {
     let mut found = BTreeSet::new(alloc);
     let mut left = Vec::new(alloc);
-    push_contained(all, pieces, &mut found, &mut left)?;
+    push_contained(all, pieces, label, &mut found, &mut left)?;
     for _ in 0..all.len() {
         let Some(one) = left.pop().and_then(|at| all.get(at)) else {
             break;
         };
-        push_contained(all, &one.pieces, &mut found, &mut left)?;
+        push_contained(all, &one.pieces, label, &mut found, &mut left)?;
     }
     Ok(found)
 }
@@ -153,13 +145,14 @@ fn contained(
 fn push_contained(
     all: &Known<'_>,
     pieces: &[Piece<'_>],
+    label: &String,
     found: &mut BTreeSet<usize>,
     left: &mut Vec<usize>,
 ) -> Result<(), AllocError> {
     for piece in pieces {
         if let Piece::Field(field) = piece {
             if let Some(at) = all.position(field.of.text.as_str()) {
-                if is_giver(field) && found.insert(at)? {
+                if is_giver(field) && !all.is_looked_at(label, at) && found.insert(at)? {
                     left.push(at)?;
                 }
             }
@@ -168,23 +161,24 @@ fn push_contained(
     Ok(())
 }
 
-// The one field of a struct that is a tag or holds it. What is in a context holds none.
+// The position of the one field of a struct that is a tag or holds it. What is in a context holds none.
 fn only_holding<'a>(
-    holders: &[Holding<'a>],
+    all: &Known<'a>,
     one: &Sequence<'a>,
     tag: &OuterTag<'a>,
-) -> Option<&'a Field> {
+    label: &String,
+) -> Option<usize> {
     if one.context.is_some() {
         return None;
     }
     let mut only = None;
-    for piece in &one.pieces {
+    for (at, piece) in one.pieces.iter().enumerate() {
         if let Piece::Field(field) = piece {
-            if holds(holders, one.name, field, tag) {
+            if holds(all, one.name, field, tag, label) {
                 if only.is_some() {
                     return None;
                 }
-                only = Some(*field);
+                only = Some(at);
             }
         }
     }
@@ -192,13 +186,6 @@ fn only_holding<'a>(
 }
 
 // Whether a field of a struct is a tag, or of a struct that holds it.
-fn holds(holders: &[Holding<'_>], of: &str, field: &Field, tag: &OuterTag<'_>) -> bool {
-    is_giver(field) && (tag.is_field(of, field) || holder(holders, field).is_some())
-}
-
-/// The struct of a field, if it holds the tag.
-pub fn holder<'b, 'a>(holders: &'b [Holding<'a>], field: &Field) -> Option<&'b Holding<'a>> {
-    holders
-        .iter()
-        .find(|one| one.name == field.of.text.as_str())
+fn holds(all: &Known<'_>, of: &str, field: &Field, tag: &OuterTag<'_>, label: &String) -> bool {
+    is_giver(field) && (tag.is_field(of, field) || all.holding(label, field).is_some())
 }

@@ -15,6 +15,7 @@ mod given;
 mod held;
 mod holders;
 mod items;
+mod known;
 mod lent;
 mod meanings;
 mod members;

@@ -4,6 +4,7 @@ ghost use Rattle.tlsgen_model.specs.Writable.{AreWritable, HaveModules};
 
 use crate::checks::enum_body;
 use crate::definitions::Definitions;
+use crate::known::needs_outer_tag;
 use crate::meanings::{settle, settle_notes};
 use crate::naming::{definition_doc, type_name};
 use crate::order::order_of;
@@ -12,7 +13,7 @@ use crate::output::Output;
 use crate::refuse::refused;
 use crate::resolver::Resolver;
 use crate::scope::{Index, Scope};
-use crate::sequence::{Piece, Sequence, needs_outer_tag};
+use crate::sequence::{Piece, Sequence};
 use crate::types::{declared, type_of};
 use std::alloc::{AllocError, Global};
 use std::collections::BTreeSet;

@@ -1,12 +1,12 @@
 //! The fields and selects of a struct.
 use crate::contexts::{OuterTag, context_of};
 use crate::items::{integer_width, is_single};
+use crate::known::Known;
 use crate::padding::Padding;
 use crate::pieces::own_pieces;
 use crate::refuse::refused;
 use crate::scope::Scope;
-use std::alloc::{AllocError, Global};
-use std::collections::BTreeMap;
+use std::alloc::Global;
 use tlsgen_syntax::refusal::{Place, Trouble};
 use tlsgen_syntax::syntax::{Field, Name, Remark, Select, Struct};
 
@@ -50,63 +50,11 @@ pub struct Sequence<'a> {
     pub padding: Option<Padding<'a>>,
 }
 
-/// The structs that are resolved, in their order.
-#[derive(Drop)]
-pub struct Known<'a> {
-    all: Vec<Sequence<'a>>,
-    by_name: BTreeMap<String, usize>,
-}
-
-impl<'a> Known<'a> {
-    pub fn new(alloc: Global) -> Known<'a> {
-        Known {
-            all: Vec::new(alloc),
-            by_name: BTreeMap::new(alloc),
-        }
-    }
-
-    /// Appends a struct.
-    pub fn push(&mut self, alloc: Global, one: Sequence<'a>) -> Result<(), AllocError> {
-        let at = self.all.len();
-        self.by_name.insert(String::from_str(alloc, one.name)?, at)?;
-        self.all.push(one)?;
-        Ok(())
-    }
-
-    pub fn as_slice(&self) -> &[Sequence<'a>] {
-        &self.all
-    }
-
-    pub fn len(&self) -> usize {
-        self.all.len()
-    }
-
-    /// The struct at a position.
-    pub fn get(&self, at: usize) -> Option<&Sequence<'a>> {
-        self.all.get(at)
-    }
-
-    /// The position of the struct of this name.
-    pub fn position(&self, name: &str) -> Option<usize> {
-        self.by_name.get(name).copied()
-    }
-}
-
-/// The sequence of the struct of this name.
-pub fn sequence_named<'b, 'a>(all: &'b Known<'a>, name: &str) -> Option<&'b Sequence<'a>> {
-    all.get(all.position(name)?)
-}
-
-/// Whether the struct of this name is in the context of a tag.
-pub fn needs_outer_tag(all: &Known<'_>, name: &str) -> bool {
-    sequence_named(all, name).is_some_and(|one| one.context.is_some())
-}
-
 /// The pieces of a struct; all structs that it contains are known.
 pub fn sequence_of<'a>(
     alloc: Global,
     files: Scope<'a>,
-    all: &Known<'a>,
+    all: &mut Known<'a>,
     one: &'a Struct,
 ) -> Result<Sequence<'a>, Trouble> {
     let mut sequence = own_pieces(alloc, files, one)?;

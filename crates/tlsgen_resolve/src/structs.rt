@@ -26,7 +26,7 @@ use tlsgen_syntax::syntax::{Field, Part, Select, Struct};
 impl<'a> Resolver<'a> {
     /// Makes the messages of a struct, and keeps its pieces for the structs that have it.
     pub fn resolve_struct(&mut self, one: &'a Struct) -> Result<(), Trouble> {
-        let sequence = sequence_of(self.alloc, self.files, &self.known, one)?;
+        let sequence = sequence_of(self.alloc, self.files, &mut self.known, one)?;
         self.check_lent(&sequence)?;
         self.make_constants(one)?;
         self.check_lent_context(&sequence)?;
@@ -94,7 +94,7 @@ impl<'a> Resolver<'a> {
         select: &'a Select,
         tail: &mut Vec<ResolvedPiece<'a>>,
     ) -> Result<bool, Trouble> {
-        match site_of(self.alloc, self.files, &self.known, sequence, index)? {
+        match site_of(self.alloc, self.files, &mut self.known, sequence, index)? {
             Site::Here => {
                 let select = self.resolve_select(sequence, select, index)?;
                 tail.push(ResolvedPiece::Select(select))?;

@@ -134,3 +134,28 @@ fn more_than_may_be_in_all(rt: HostRuntime) -> Result<(), Fail> {
     expects(&rt, &refusal, "a smaller text");
     Ok(())
 }
+
+// So many structs, each with the one before it and a select on the tag of the first.
+fn nested(alloc: Global, count: usize) -> Result<String, AllocError> {
+    let mut out = String::from_str(
+        alloc,
+        "enum { a(1), b(2), (255) } T; struct { T t; uint8 x; } S0;",
+    )?;
+    for k in 1..=count {
+        let before = k.saturating_sub(1);
+        write!(
+            &mut out,
+            "struct {{ S{before} s; select (S0.t) {{ case a: uint8 y; case b: uint16 z; }} Body{k}; }} S{k};"
+        )?;
+    }
+    Ok(out)
+}
+
+#[test]
+fn structs_that_hold_the_one_before(rt: HostRuntime) -> Result<(), Fail> {
+    let text = nested(rt.alloc(), 2000)?;
+    let plan = made(&rt, rt.alloc(), text.as_str());
+    same(&rt, plan.messages.len(), 4002);
+    same(&rt, plan.holders.len(), 2000);
+    Ok(())
+}
