@@ -5,7 +5,7 @@ Each struct that `crates/tls_codec/src/lib.rt` exports, and that has an `impl Si
 that has a decoder has a line of names for it, and each that has `PartialEq` a line in `equality.rt`. A family such as `TlsVecU8`
 stands under the generic type that it names. Types that a context decides stand in `contexts.rt`, and are held to the traits in a context
 too: such a type has no format but one for each context, so its line is one of `SameFormat` and not of `Means`. Each that has a decoder
-from a slice has an `impl Validate` in `tls_codec_validate`.
+from a slice, and each of `tls_codec_cases`, is validated by an impl in `tls_codec_validate`, without a context or in one.
 Prints what is missing; the last line is 'N passed, N failed', a type each.
 """
 import pathlib
@@ -17,12 +17,12 @@ TABLE = CRATES / "tls_codec/src"
 EXPORT = re.compile(r"pub use (\w+)::\{([^}]*)\};", re.S)
 NAME = re.compile(r"[A-Z]\w*")
 # an impl of a trait for a type, with or without parameters
-IMPL = re.compile(r"^impl(?:<[^{]*?>)? (\w+)(?:<[CT]>)?\s+for &?(?:'a )?(\w+)", re.M)
+IMPL = re.compile(r"^impl(?:<[^{]*?>)? (\w+)(?:<[A-Z]>)?\s+for &?(?:'a )?(\w+)", re.M)
 DERIVE = re.compile(r"#\[derive\(([^)]*)\)\]\n(?:#\[[^\n]*\]\n)*pub struct (\w+)")
-STRUCT = re.compile(r"^pub struct (\w+)", re.M)
+STRUCT = re.compile(r"^pub (?:struct|enum) (\w+)", re.M)
 
-# what the value of its first part decides can't be told without making that value
-NOT_VALIDATED = {"Then"}
+# what reads a type from a slice, and what tells its bytes from others
+VALIDATED = {"DeserializeBytes": "Validate", "DeserializeBytesFor": "ValidateFor", "SplitCases": "ValidateCases"}
 
 
 def exported():
@@ -33,7 +33,7 @@ def exported():
 
 
 def traits_of(crate):
-    """The structs of a crate, with the traits that each has."""
+    """The structs and enums of a crate, with the traits that each has."""
     found = {}
     for path in sorted((CRATES / crate / "src").rglob("*.rt")):
         text = path.read_text()
@@ -65,8 +65,9 @@ def missing(name, traits, types, equality):
 
 def not_validated(name, traits, validated):
     """What `tls_codec_validate` lacks of a type with these traits."""
-    if "DeserializeBytes" in traits and name not in NOT_VALIDATED and "Validate" not in validated.get(name, set()):
-        yield f"tls_codec_validate: no Validate for {name}"
+    for reads, tells in VALIDATED.items():
+        if reads in traits and tells not in validated.get(name, set()):
+            yield f"tls_codec_validate: no {tells} for {name}"
 
 
 def main():
@@ -81,6 +82,11 @@ def main():
         traits = by_crate[crate].get(name, set()) | by_crate["tls_codec_base"].get(name, set())
         if traits & {"Size", "SizeFor"}:
             lacks = [*missing(name, traits, types, equality), *not_validated(name, traits, validated)]
+            print("".join(f"{line}\n" for line in lacks), end="")
+            passed, failed = passed + (not lacks), failed + bool(lacks)
+    for name, traits in sorted(traits_of("tls_codec_cases").items()):
+        if traits & VALIDATED.keys():
+            lacks = list(not_validated(name, traits, validated))
             print("".join(f"{line}\n" for line in lacks), end="")
             passed, failed = passed + (not lacks), failed + bool(lacks)
     print(f"{passed} passed, {failed} failed")

@@ -1,4 +1,8 @@
 //! Widths, values that were validated first, and tags.
+mod contexts;
+mod framed;
+mod sums;
+
 use std::fmt::Debug;
 use std::marker::PhantomData;
 use std::process::Abort;
@@ -6,7 +10,7 @@ use std::test::Fail;
 use tls_codec::{
     Error, SecretTlsVecU16, SecretVLBytes, TlsByteVecU24, TlsVarInt, TlsVecU8, U24, VLBytes, Within,
 };
-use tls_codec_validate::{Rejected, Validate, tags};
+use tls_codec_validate::{Rejected, Validate, split_u8, split_u16, split_u32, split_u64};
 
 const NOT_THERE: Error = Error::DecodingError("declared content is not there");
 
@@ -110,12 +114,18 @@ fn values_that_were_validated(rt: HostRuntime) -> Result<(), Fail> {
 
 #[test]
 fn tags_of_enums(rt: HostRuntime) {
-    same(&rt, tags::split_u8(&[3, 9]), Ok((3, [9].as_slice())));
+    same(&rt, split_u8(&[3, 9]), Ok((3, [9].as_slice())));
     let end = rejected(Error::EndOfStream, &[]);
-    same(&rt, tags::split_u8(&[]), Err(end));
-    same(&rt, tags::split_u16(&[1, 2, 9]), Ok((258, [9].as_slice())));
+    same(&rt, split_u8(&[]), Err(end));
+    same(&rt, split_u16(&[1, 2, 9]), Ok((258, [9].as_slice())));
     let short = rejected(Error::EndOfStream, &[1]);
-    same(&rt, tags::split_u16(&[1]), Err(short));
+    same(&rt, split_u16(&[1]), Err(short));
+    same(&rt, split_u32(&[0, 0, 1, 2, 9]), Ok((258, [9].as_slice())));
+    same(
+        &rt,
+        split_u64(&[0, 0, 0, 0, 0, 0, 1, 2]),
+        Ok((258, [].as_slice())),
+    );
 }
 
 // A length of two bytes, with bounds of three and four.

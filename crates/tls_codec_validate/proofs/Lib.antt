@@ -1,4 +1,6 @@
 mod Decoders
+mod Inside
+mod Keying
 mod Placing
 mod Runs
 mod Skipping

@@ -7,8 +7,10 @@ use Rattle.tls_codec_grammar.specs.Field.{Field}
 use Rattle.tls_codec_grammar.specs.Format.{Format}
 use Rattle.tls_codec_grammar.specs.Decoding.{Begins, LeavesBytes, Refuses}
 use Rattle.tls_codec_base.specs.Refusals.{IsOtherByte, IsOtherTag, IsRun, NamedBehind, SliceNames, counted_list_names, element_names, elements_names, fields_names, option_names, part_names}
+use Rattle.tls_codec_base.specs.ContextNames.{then_names}
 use Rattle.tls_codec_base.proofs.ListReading.{ReadSoFar}
 use Rattle.tls_codec_validate.specs.declared.rejected.Rejected.{Rejected}
+use Rattle.tls_codec_validate.specs.Keys.{then_places}
 use Rattle.tls_codec_validate.specs.Places.{IsBack, IsTrailing, PlacedNames, RejectedAt, counted_list_places, elements_places, here, no_names, option_places}
 
 -- all bytes are at the back, and what is at the back of the back is
@@ -98,3 +100,13 @@ module _ (element : Format) {names : SliceNames} {places : PlacedNames} where
     placed = inr (n, record { front = front; rest = mid; whole = whole; is_front = length; named = p.placed });
     back = back_behind front whole p.back;
   }
+
+-- ---- a first part, and what its value decides
+
+pub rejected_then : (first : Format) {names : SliceNames} {places : PlacedNames} (other_names : Tree → SliceNames) (others : Tree → PlacedNames) {x mid : List ℕ} {v : Tree} {r : Rejected} → Begins first.spells x v mid
+    → RejectedAt (other_names v) (others v) mid r → RejectedAt (then_names first names other_names) (then_places first places others) x r
+rejected_then first other_names others {v = v} b p = record {
+  named = inr (v, record { front = b.front; rest = _; whole = b.whole; is_front = b.spelled; named = p.named });
+  placed = inr (v, record { front = b.front; rest = _; whole = b.whole; is_front = b.spelled; named = p.placed });
+  back = back_behind b.front b.whole p.back;
+}

@@ -20,7 +20,7 @@ use Rattle.tls_codec_base.proofs.TaggedDecoding.{tagged_begins, tagged_refuses_u
 use Rattle.tls_codec_validate.specs.declared.rejected.Rejected.{Rejected}
 use Rattle.tls_codec_validate.specs.Validated.{BeginsLeaving, Rejects, Validates}
 use Rattle.tls_codec_validate.specs.Places.{PlacedNames, RejectedAt, here}
-use Rattle.tls_codec_validate.specs.TaggedPlaces.{VariantPlaces, tagged_places}
+use Rattle.tls_codec_validate.specs.TaggedPlaces.{PartsRejectedAt, VariantPlaces, tagged_places}
 use Rattle.tls_codec_validate.proofs.Validating.{refuses, rejects_unless}
 use Rattle.tls_codec_validate.proofs.Placing.{back_all, back_behind}
 
@@ -87,4 +87,16 @@ module _ (k : ℕ) (names : ℕ → SliceNames) (places : VariantPlaces) where
     named = inr (tag, record { front = b.front; rest = mid; whole = b.whole; is_front = b.spelled; named = named });
     placed = inr (record { tag = tag; front = b.front; parts = mid; whole = b.whole; is_tag = b.spelled; placed = placed });
     back = back_all is;
+  }
+
+  -- the same of the parts of a sum of cases, which reject the tag themselves
+  pub cases_placed : {x mid : List ℕ} {tag : ℕ} {r : Rejected} → Begins (number k) x (Number tag) mid → PartsRejectedAt (names tag) (places tag x) x mid r
+      → RejectedAt (tagged_names k names) (tagged_places k places) x r
+  cases_placed {x} {mid} {tag} {r} b p = record {
+    named = inr (tag, record { front = b.front; rest = mid; whole = b.whole; is_front = b.spelled; named = p.named });
+    placed = inr (record { tag = tag; front = b.front; parts = mid; whole = b.whole; is_tag = b.spelled; placed = p.placed });
+    back = elim p.back [
+      | inl behind ↦ back_behind b.front b.whole behind
+      | inr is ↦ back_all is
+    ];
   }

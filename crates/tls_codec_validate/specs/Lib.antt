@@ -2,3 +2,5 @@
 pub mod Validated
 pub mod Places
 pub mod TaggedPlaces
+pub mod EnclosedPlaces
+pub mod Keys

@@ -36,3 +36,33 @@ pub fn split_u16(bytes: &[u8]) -> Result<(u16, &[u8]), Rejected<'_>>
     };
     Ok((u16::from_be_bytes(digits), rest))
 }
+
+/// A tag of four bytes, and what comes after it.
+///
+/// `EndOfStream`: there are fewer than four bytes.
+#[inline(always)]
+pub fn split_u32(bytes: &[u8]) -> Result<(u32, &[u8]), Rejected<'_>>
+    ensures finds { FindsTag 4 bytes.now result }
+    ensures rejected { IfErr result (RejectedAt (too_few 4) (here (too_few 4)) bytes.now) }
+{
+    let (digits, rest) = match split_digits(bytes) {
+        Ok(found) => found,
+        Err(error) => return Err(Rejected { error, rest: bytes }),
+    };
+    Ok((u32::from_be_bytes(digits), rest))
+}
+
+/// A tag of eight bytes, and what comes after it.
+///
+/// `EndOfStream`: there are fewer than eight bytes.
+#[inline(always)]
+pub fn split_u64(bytes: &[u8]) -> Result<(u64, &[u8]), Rejected<'_>>
+    ensures finds { FindsTag 8 bytes.now result }
+    ensures rejected { IfErr result (RejectedAt (too_few 8) (here (too_few 8)) bytes.now) }
+{
+    let (digits, rest) = match split_digits(bytes) {
+        Ok(found) => found,
+        Err(error) => return Err(Rejected { error, rest: bytes }),
+    };
+    Ok((u64::from_be_bytes(digits), rest))
+}

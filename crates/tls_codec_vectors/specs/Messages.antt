@@ -1,6 +1,6 @@
 -- What each message stands for, its format and its laws.
 use Rattle.std.proofs.Common.{arith}
-use Rattle.std.specs.Prelude.{◌≡◌, string_bytes, ⊤}
+use Rattle.std.specs.Prelude.{◌≡◌, ℕ, string_bytes, ⊤}
 use Rattle.tls_codec.specs.OwnMessages.{Tree, Number, Empty, Join, trees, number_trees, option_plain, Format, number_format, option_format, nothing_format, fields_format, fixed_list_format, bytes_format, fixed_bytes_format, text_format, Variants, no_variant, variant, tagged_format, MeetsLaws, MeetVariantLaws, u16_meets, u32_meets, option_meets, nothing_meets, fields_meets, fixed_list_meets, bytes_meets, fixed_bytes_meets, text_meets, no_variant_meets, variant_meets, tagged_meets}
 use Rattle.tls_codec.specs.Contents.{bytes_of, fixed_bytes_of, elements_of}
 use Rattle.tls_codec_vectors.specs.declared.leaf.Leaf.{Leaf}
@@ -39,6 +39,10 @@ step_variants_meet =
     (variant_meets 1 (fields_meets text_meets nothing_meets)
     (variant_meets 2 (fields_meets u32_meets nothing_meets)
     no_variant_meets))
+
+abbrev pub step_tag : Tree → ℕ
+step_tag (Join (Number tag) parts) = tag
+step_tag _ = 0
 
 abbrev pub step_format : Format
 step_format = tagged_format 1 step_variants

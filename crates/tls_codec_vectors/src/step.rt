@@ -1,12 +1,15 @@
 //! [`Step`], a tag and what its variant has after it.
 ghost use Rattle.std.specs.Prelude.{◌≡◌};
-ghost use Rattle.tls_codec_vectors.specs.Messages.{step_format, step_meets, step_plain};
+ghost use Rattle.tls_codec_vectors.specs.Messages.{step_format, step_meets, step_plain, step_tag, step_variants};
 ghost use Rattle.tls_codec.specs.OwnMessages.{no_variant_names, no_variant_source_names, nothing_names, nothing_source_names, tagged_names, tagged_source_names, variant_names, variant_source_names};
+ghost use Rattle.std.proofs.Common.{refl};
 ghost use Rattle.tls_codec_validate.specs.TaggedPlaces.{no_variant_places, nothing_places, tagged_places, variant_places};
 
 use std::alloc::Global;
 use tls_codec::{Deserialize, DeserializeBytes, Error, Lent, Serialize, Sink, Size, Source};
-use tls_codec_validate::{Rejected, Validate, tags};
+use tls_codec_validate::{
+    Keyed, Rejected, TagFirst, Validate, ValidateKeyed, split_u8, validate_tag_first,
+};
 
 const PING: u8 = 0;
 
@@ -129,7 +132,7 @@ impl Validate for Step {
         no_variant_places))) };
 
     fn tls_validate_prefix(whole: &[u8]) -> Result<&[u8], Rejected<'_>> {
-        let (tag, rest) = tags::split_u8(whole)?;
+        let (tag, rest) = split_u8(whole)?;
         match tag {
             PING => Ok(rest),
             NOTE => {
@@ -145,5 +148,37 @@ impl Validate for Step {
                 rest: whole,
             }),
         }
+    }
+}
+
+impl Keyed for Step {
+    type Key = u64;
+
+    ghost is_key = { λ n c. n ≡ step_tag c };
+
+    fn key(&self) -> u64 {
+        match self {
+            Step::Ping => 0,
+            Step::Note(_) => 1,
+            Step::Jump(_) => 2,
+        }
+    }
+}
+
+impl TagFirst for Step {
+    type Tag = u8;
+
+    ghost variants = { step_variants };
+
+    ghost told = { step_tag };
+
+    ghost is_tagged = { λ d bytes v s. s };
+
+    ghost is_told = { λ d bytes tag parts s. refl };
+}
+
+impl ValidateKeyed for Step {
+    fn tls_validate_keyed(whole: &[u8]) -> Result<(u64, &[u8]), Rejected<'_>> {
+        validate_tag_first::<Step>(whole)
     }
 }
