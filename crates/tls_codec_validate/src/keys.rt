@@ -122,7 +122,8 @@ pub trait TagFirst: Validate {
     // The tag of a value, by what that stands for.
     ghost told: { Tree → ℕ };
 
-    ghost is_tagged: { (d : Direction) (bytes : List ℕ) (v : Tree) → Self.format.spells d bytes v
+    ghost is_tagged: { (d : Direction) (bytes : List ℕ) (v : Tree)
+        → Self.format.spells d bytes v
         → tagged Self.Tag.wide variants d bytes v };
 
     ghost is_told: { (d : Direction) (bytes : List ℕ) (tag : ℕ) (parts : Tree)

@@ -37,7 +37,8 @@ pub fn numbers()
     ensures u24 { SamePlaces ⟦<U24 as Validate>⟧.places (here (too_few 3)) }
     ensures u32 { SamePlaces ⟦<u32 as Validate>⟧.places (here (too_few 4)) }
     ensures u64 { SamePlaces ⟦<u64 as Validate>⟧.places (here (too_few 8)) }
-    ensures varint { SamePlaces ⟦<TlsVarInt as Validate>⟧.places (here (RefusesBelow (2 ^ 62))) }
+    ensures varint { SamePlaces ⟦<TlsVarInt as Validate>⟧.places
+        (here (RefusesBelow (2 ^ 62))) }
 {}
 
 /// So is an array of bytes.
@@ -88,7 +89,8 @@ pub fn pairs<T: Validate, U: Validate>()
 
 /// A triple is rejected as a pair whose second part is one.
 pub fn triples<T: Validate, U: Validate, V: Validate>()
-    ensures { SamePlaces ⟦<(T, U, V) as Validate>⟧.places ⟦<(T, (U, V)) as Validate>⟧.places }
+    ensures { SamePlaces ⟦<(T, U, V) as Validate>⟧.places
+        ⟦<(T, (U, V)) as Validate>⟧.places }
 {}
 
 /// What has no bytes is never rejected.
@@ -134,7 +136,8 @@ pub fn parts_in_context<
 >()
     ensures always { SamePlacesFor ⟦<Always<A> as ValidateFor<X>>⟧.places (λ c. A.places) }
     ensures when { SamePlacesFor ⟦<When<Q, A> as ValidateFor<X>>⟧.places (λ c. A.places) }
-    ensures by { SamePlacesFor ⟦<By<K, P> as ValidateFor<H>>⟧.places (λ c. P.places (H.held c)) }
+    ensures by { SamePlacesFor ⟦<By<K, P> as ValidateFor<H>>⟧.places
+        (λ c. P.places (H.held c)) }
     ensures chosen { SamePlacesFor ⟦<Chosen<C> as ValidateFor<K>>⟧.places
         (λ c. select_places C.distinct (K.selected c) C.places) }
 {}

@@ -69,7 +69,8 @@ pub trait ValidateFor<X: Keyed>: DeserializeBytesFor<X> {
         alloc: Global,
         bytes: &'a [u8],
     ) -> Result<(Self, &'a [u8]), Error>
-        ensures splits { Splits (Self.format_for (X.plain context.now)) Self.plain bytes.now result }
+        ensures splits { Splits (Self.format_for (X.plain context.now)) Self.plain bytes.now
+            result }
         ensures named { IfErr result (Self.names (X.plain context.now) bytes.now) }
         ensures memory { result ≡ Err OutOfMemory
             → BeginsSome (Self.format_for (X.plain context.now)).spells bytes.now }
@@ -92,7 +93,8 @@ pub trait ValidateFor<X: Keyed>: DeserializeBytesFor<X> {
         alloc: Global,
         bytes: &[u8],
     ) -> Result<Self, Error>
-        ensures reads { ReadsWhole (Self.format_for (X.plain context.now)) Self.plain bytes.now result }
+        ensures reads { ReadsWhole (Self.format_for (X.plain context.now)) Self.plain
+            bytes.now result }
         ensures named { IfErr result
             (λ e. ((e ≡ TrailingData)
             × LeavesBytes (Self.format_for (X.plain context.now)).spells bytes.now)
