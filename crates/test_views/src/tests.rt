@@ -1,0 +1,149 @@
+//! What is borrowed from bytes that were written by hand.
+use std::fmt::Debug;
+use std::process::Abort;
+use std::test::Fail;
+use tls_codec::{
+    Error, SecretTlsVecU8, SecretVLBytes, TlsByteVecU8, TlsByteVecU24, TlsVarInt, TlsVecU16, U24,
+    VLBytes,
+};
+use tls_codec_validate::{Rejected, Validate};
+use tls_codec_views::{Encoded, Told};
+
+const NOT_THERE: Error = Error::DecodingError("declared content is not there");
+
+// An assertion that is written out is proved at each place: this one is proved once.
+fn same<T: PartialEq + Debug + Drop>(rt: &impl Abort, found: T, expected: T) {
+    assert_eq!(rt; found, expected);
+}
+
+// The bytes are an encoding, and are borrowed as one.
+fn encoded<'a, T: Validate>(rt: &impl Abort, bytes: &'a [u8]) -> Encoded<'a, T> {
+    match Encoded::new(bytes) {
+        Ok(found) => found,
+        Err(_) => panic!(rt; "no encoding"),
+    }
+}
+
+fn same_value<T: Told + PartialEq + Debug + Drop>(rt: &impl Abort, bytes: &[u8], expected: T) {
+    same(rt, encoded::<T>(rt, bytes).get(), expected);
+}
+
+#[test]
+fn parts_of_a_pair_and_a_triple(rt: HostRuntime) {
+    let (first, second) = encoded::<(u8, VLBytes)>(&rt, &[7, 2, 8, 9]).split();
+    same(&rt, first.get(), 7);
+    same(&rt, second.as_bytes(), [2u8, 8, 9].as_slice());
+    same(&rt, second.content(), [8u8, 9].as_slice());
+    let (first, second, third) = encoded::<(VLBytes, u8, u16)>(&rt, &[1, 5, 6, 0, 7]).split();
+    same(&rt, first.content(), [5u8].as_slice());
+    same(&rt, second.get(), 6);
+    same(&rt, third.get(), 7);
+}
+
+#[test]
+fn what_is_no_encoding_is_rejected(rt: HostRuntime) {
+    let rejected = Rejected {
+        error: NOT_THERE,
+        rest: &[2, 8],
+    };
+    let found = Encoded::<(u8, VLBytes)>::new(&[7, 2, 8]);
+    same(&rt, found.err(), Some(rejected));
+    let found = Encoded::<(u8, VLBytes)>::split_prefix(&[7, 2, 8]);
+    same(&rt, found.err(), Some(rejected));
+    let trailing = Rejected {
+        error: Error::TrailingData,
+        rest: &[9],
+    };
+    same(&rt, Encoded::<u8>::new(&[7, 9]).err(), Some(trailing));
+}
+
+#[test]
+fn an_encoding_that_begins_bytes(rt: HostRuntime) {
+    let Ok((first, rest)) = Encoded::<VLBytes>::split_prefix(&[1, 5, 9]) else {
+        panic!(rt; "there is none");
+    };
+    same(&rt, first.as_bytes(), [1u8, 5].as_slice());
+    same(&rt, rest, [9u8].as_slice());
+}
+
+#[test]
+fn a_value_of_each_kind_of_number(rt: HostRuntime) {
+    same_value(&rt, &[7], 7u8);
+    same_value(&rt, &[1, 2], 258u16);
+    same_value(&rt, &[0, 1, 2], U24::from_be_bytes([0, 1, 2]));
+    same_value(&rt, &[0, 0, 1, 2], 258u32);
+    same_value(&rt, &[0, 0, 0, 0, 0, 0, 1, 2], 258u64);
+    same_value(&rt, &[3, 4, 5], [3u8, 4, 5]);
+    same(
+        &rt,
+        Some(encoded::<TlsVarInt>(&rt, &[0x40, 0x40]).get()),
+        TlsVarInt::try_from(64).ok(),
+    );
+}
+
+#[test]
+fn payloads(rt: HostRuntime) {
+    same(
+        &rt,
+        encoded::<Option<u16>>(&rt, &[0]).payload().is_none(),
+        true,
+    );
+    let Some(payload) = encoded::<Option<u16>>(&rt, &[1, 0, 7]).payload() else {
+        panic!(rt; "there is none");
+    };
+    same(&rt, payload.get(), 7);
+    same(&rt, encoded::<Box<u16>>(&rt, &[0, 7]).payload().get(), 7);
+}
+
+#[test]
+fn byte_vectors_and_texts(rt: HostRuntime) {
+    let content = [5u8, 6];
+    let content = content.as_slice();
+    same(&rt, encoded::<VLBytes>(&rt, &[2, 5, 6]).content(), content);
+    same(
+        &rt,
+        encoded::<SecretVLBytes>(&rt, &[2, 5, 6]).content(),
+        content,
+    );
+    same(
+        &rt,
+        encoded::<TlsByteVecU8>(&rt, &[2, 5, 6]).content(),
+        content,
+    );
+    let long = encoded::<TlsByteVecU24>(&rt, &[0, 0, 2, 5, 6]);
+    same(&rt, long.content(), content);
+    same(&rt, encoded::<String>(&rt, b"\x03mls").as_str(), "mls");
+}
+
+#[test]
+fn elements_of_lists(rt: HostRuntime) {
+    let mut elements = encoded::<Vec<VLBytes>>(&rt, &[5, 1, 7, 2, 8, 9]).elements();
+    same(&rt, elements.as_bytes(), [1u8, 7, 2, 8, 9].as_slice());
+    let Some(first) = elements.next() else {
+        panic!(rt; "there is none");
+    };
+    same(&rt, first.content(), [7u8].as_slice());
+    let Some(second) = elements.next() else {
+        panic!(rt; "there is none");
+    };
+    same(&rt, second.content(), [8u8, 9].as_slice());
+    same(&rt, elements.next().is_none(), true);
+    same(&rt, elements.next().is_none(), true);
+    let list = encoded::<TlsVecU16<u16>>(&rt, &[0, 4, 0, 1, 0, 2]);
+    let mut sum = 0u64;
+    for element in list.elements() {
+        sum = sum.saturating_add(u64::from(element.get()));
+    }
+    same(&rt, sum, 3);
+    let mut secret = encoded::<SecretTlsVecU8<u8>>(&rt, &[1, 7]).elements();
+    same(&rt, secret.next().map(|element| element.get()), Some(7));
+    same(&rt, secret.next().is_none(), true);
+}
+
+#[test]
+fn a_value_is_made_of_an_encoding(rt: HostRuntime) -> Result<(), Fail> {
+    let list = encoded::<Vec<u16>>(&rt, &[4, 0, 1, 0, 2]);
+    let value = list.to_value(rt.alloc())?;
+    same(&rt, value.as_slice(), [1u16, 2].as_slice());
+    Ok(())
+}

@@ -1,0 +1,99 @@
+-- Where the parts of an encoding begin and end.
+use Rattle.std.proofs.Common.{◌≡◌, ℕ, List, [], ◌∷◌, ◌++◌, ◌<◌, length, sym, ap, subst, ◌∙◌, append-nil, length-append, arith}
+use Rattle.std.proofs.lemmas.List.{append_cancel_left}
+use Rattle.tls_codec_wire.specs.declared.error.Error.{Error}
+use Rattle.tls_codec_grammar.specs.Tree.{Tree, Number, Empty, Join}
+use Rattle.tls_codec_grammar.specs.Grammar.{Grammar, Reading, content, counted, fields, nothing, pair}
+use Rattle.tls_codec_grammar.specs.Field.{Field}
+use Rattle.tls_codec_grammar.specs.Lawful.{IsLawful, MeetsFieldLaws}
+use Rattle.tls_codec_grammar.specs.Decoding.{Begins, BeginsSome}
+use Rattle.tls_codec_base.specs.Refusals.{IsSpelling}
+use Rattle.tls_codec_views.specs.Views.{IsAfterLength}
+
+-- an encoding begins itself
+pub begins_itself : {spells : Grammar} (s : List ℕ) (v : Tree) → spells Reading s v → Begins spells s v []
+begins_itself s v p = record { front = s; whole = sym (append-nil s); spelled = p }
+
+-- two encodings that begin the same bytes leave the same
+same_left : (spells : Grammar) {announced : Tree → ℕ} → IsLawful spells announced → (front rest own left : List ℕ) → IsSpelling spells front → IsSpelling spells own → own ++ left ≡ front ++ rest → left ≡ rest
+same_left spells l front rest own left p q both =
+    let h = l.one own front left rest q.0 p.0 q.1 p.1 both in
+    append_cancel_left own left rest (both ∙ ap (λ (u : List ℕ). u ++ rest) (sym h.0))
+
+-- ---- products
+
+module _ (first others : Grammar) where
+  -- the first part begins an encoding of a product
+  pub first_begins : {s : List ℕ} → IsSpelling (fields first others) s → BeginsSome first s
+  first_begins (Join v vs, p) = record { value = v; rest = p.rest; begins = record { front = p.front; whole = p.whole; spelled = p.first } }
+  first_begins (Number n, p) = absurd p
+  first_begins (Empty, p) = absurd p
+
+  -- what is left after it encodes the others
+  pub others_left : {announced : Tree → ℕ} → IsLawful first announced → (s front rest : List ℕ) → IsSpelling (fields first others) s → s ≡ front ++ rest → IsSpelling first front → IsSpelling others rest
+  others_left l s front rest (Join v vs, p) whole q =
+      let left = same_left first l front rest p.front p.rest q (v, p.first) (sym p.whole ∙ whole) in
+      (vs, subst (λ (u : List ℕ). others Reading u vs) left p.second)
+  others_left l s front rest (Number n, p) whole q = absurd p
+  others_left l s front rest (Empty, p) whole q = absurd p
+
+-- the last part is all of what is left
+last_left : (last : Grammar) {s : List ℕ} → IsSpelling (fields last nothing) s → IsSpelling last s
+last_left last {s} (Join v Empty, p) =
+    let whole : s ≡ p.front = p.whole ∙ ap (λ (u : List ℕ). p.front ++ u) p.second ∙ append-nil p.front in
+    (v, subst (λ (u : List ℕ). last Reading u v) (sym whole) p.first)
+last_left last (Join v (Number n), p) = absurd p.second
+last_left last (Join v (Join w ws), p) = absurd p.second
+last_left last (Number n, p) = absurd p
+last_left last (Empty, p) = absurd p
+
+-- after the first of two parts the second one is left
+pub second_left : (first second : Grammar) {announced : Tree → ℕ} → IsLawful first announced → (s front rest : List ℕ) → IsSpelling (pair first second) s → s ≡ front ++ rest → IsSpelling first front → IsSpelling second rest
+second_left first second l s front rest p whole q = last_left second (others_left first (fields second nothing) l s front rest p whole q)
+
+-- ---- elements in a row
+
+nothing_after : (front rest : List ℕ) → [] ≡ front ++ rest → rest ≡ []
+nothing_after [] rest none = sym none
+nothing_after (b ∷ bs) rest none = absurd cc
+
+module _ (element : Grammar) where
+  -- an element begins what isn't empty
+  pub element_begins : (s : List ℕ) → 0 < length s → IsSpelling (content element) s → BeginsSome element s
+  element_begins s some (Join v vs, p) = record { value = v; rest = p.rest; begins = record { front = p.front; whole = p.whole; spelled = p.first.0 } }
+  element_begins s some (Number n, p) = absurd p
+  element_begins s some (Empty, p) = absurd (omega (arith, some, ap length p))
+
+  -- what is left after it are the others
+  pub elements_left : {announced : Tree → ℕ} → IsLawful element announced → (s front rest : List ℕ) → IsSpelling (content element) s → s ≡ front ++ rest → IsSpelling element front → IsSpelling (content element) rest
+  elements_left l s front rest (Join v vs, p) whole q =
+      let left = same_left element l front rest p.front p.rest q (v, p.first.0) (sym p.whole ∙ whole) in
+      (vs, subst (λ (u : List ℕ). content element Reading u vs) left p.second)
+  elements_left l s front rest (Number n, p) whole q = absurd p
+  elements_left l s front rest (Empty, p) whole q = (Empty, nothing_after front rest (sym p ∙ whole))
+
+  -- and they are fewer bytes
+  pub elements_fewer : {announced : Tree → ℕ} → IsLawful element announced → (s front rest : List ℕ) → 0 < length s → IsSpelling (content element) s → s ≡ front ++ rest → IsSpelling element front → length rest < length s
+  elements_fewer l s front rest some (Join v vs, p) whole q =
+      let left = same_left element l front rest p.front p.rest q (v, p.first.0) (sym p.whole ∙ whole) in
+      omega (arith, p.first.1, ap length left, ap length p.whole, length-append p.front p.rest)
+  elements_fewer l s front rest some (Number n, p) whole q = absurd p
+  elements_fewer l s front rest some (Empty, p) whole q = absurd (omega (arith, some, ap length p))
+
+-- ---- lengths
+
+-- a length says where what it counts begins
+pub same_inside : {field : Field} → MeetsFieldLaws field → (x count inside other : List ℕ) (n : ℕ) → x ≡ count ++ inside → field.spells count n → IsAfterLength field x other → inside ≡ other
+same_inside {field} l x count inside other n whole counts p =
+    let both : count ++ inside ≡ p.count ++ other = sym whole ∙ p.whole in
+    let h = l.counts.one count p.count inside other n (length other) counts p.counts both in
+    append_cancel_left count inside other (both ∙ ap (λ (u : List ℕ). u ++ other) (sym h.0))
+
+-- what comes after the length of an encoding encodes what that counts
+pub inside_left : {field : Field} (inside : Grammar) → MeetsFieldLaws field → (x s : List ℕ) → IsSpelling (counted field.spells inside) x → IsAfterLength field x s → IsSpelling inside s
+inside_left inside l x s (v, p) after =
+    (v, subst (λ (u : List ℕ). inside Reading u v) (same_inside l x p.count p.inside s (length p.inside) p.whole p.counts after) p.is_inside)
+
+-- no length refuses what one begins
+pub is_length : {field : Field} → MeetsFieldLaws field → {x inside : List ℕ} {e : Error} → field.refuses x e → IsAfterLength field x inside → ⊥
+is_length l {x} {inside} {e} refused p = l.none x e refused (length inside) inside (record { front = p.count; whole = p.whole; spelled = p.counts })

@@ -1,0 +1,25 @@
+-- What is borrowed from an encoding.
+use Rattle.std.specs.Prelude.{◌≡◌, ℕ, List, ◌++◌, [], length, Option, Some, None, Result, Ok, Err}
+use Rattle.std.specs.Borrow.{Bor}
+use Rattle.tls_codec_grammar.specs.Field.{Field}
+use Rattle.tls_codec_grammar.specs.Grammar.{Grammar}
+use Rattle.tls_codec_grammar.specs.Format.{Format}
+use Rattle.tls_codec_base.specs.Refusals.{IsSpelling}
+use Rattle.tls_codec_validate.specs.declared.rejected.Rejected.{Rejected}
+use Rattle.tls_codec_validate.specs.Validated.{Rejects}
+
+-- the bytes begin with an encoding, which is first, and the rest is second; or why they don't
+abbrev pub SplitsEncoded : Format → List ℕ → Result (List ℕ × Bor (List ℕ)) Rejected → Type 0
+SplitsEncoded f x (Ok found) = (x ≡ found.0 ++ found.1.now) × IsSpelling f.spells found.0
+SplitsEncoded f x (Err r) = Rejects f.spells x r.error
+
+-- a length comes first in x, and counts these bytes, which are the rest
+pub record IsAfterLength (field : Field) (x inside : List ℕ) : Type 0 where
+  pub count : List ℕ
+  pub whole : x ≡ count ++ inside
+  pub counts : field.spells count (length inside)
+
+-- an element, and the bytes of those after it; or there is none
+abbrev pub GivesElement : Grammar → List ℕ → Option (List ℕ) → List ℕ → Type 0
+GivesElement spells x None left = (x ≡ []) × (left ≡ [])
+GivesElement spells x (Some element) left = (x ≡ element ++ left) × IsSpelling spells element

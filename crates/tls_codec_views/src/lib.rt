@@ -1,0 +1,23 @@
+//! Encodings that are read where they lie: no value is made, and nothing is copied.
+//!
+//! Bytes are validated once. After that no call fails, and none asks for memory.
+//!
+//! - [`Encoded`]: bytes that are one encoding of a type. What it is made of is borrowed from the same bytes: `split` for
+//!   pairs and triples, `payload` for options and boxes, `content` for byte vectors, `as_str` for texts, `elements` for
+//!   lists, `get` for integers, `parts` for messages of your own.
+//! - [`Elements`]: the elements of a list, one by one.
+//! - [`Parted`]: a message of your own, which is encoded as its parts are.
+#![tactic(auto)]
+
+mod content;
+mod elements;
+mod encoded;
+mod numbers;
+mod parted;
+mod payloads;
+mod products;
+
+pub use elements::Elements;
+pub use encoded::Encoded;
+pub use numbers::Told;
+pub use parted::Parted;
