@@ -1,5 +1,5 @@
 //! [`DigitallySigned`].
-ghost use Rattle.std.specs.Prelude.{◌≡◌, ◌&&◌};
+ghost use Rattle.std.specs.Prelude.{◌≡◌, ◌&&◌, ◌++◌};
 ghost use Rattle.ct.specs.DigitallySigned.{digitally_signed_format, digitally_signed_meets, digitally_signed_plain};
 ghost use Rattle.ct.specs.declared.digitally_signed.DigitallySigned.{DigitallySigned};
 
@@ -9,6 +9,8 @@ use tls_codec::{
     Deserialize, DeserializeBytes, Error, Lent, Serialize, Sink, Size, Source, TlsByteVecU16,
 };
 use tls_codec_cases::append_as;
+use tls_codec_validate::{Rejected, Validate};
+use tls_codec_views::{Encoded, Parted};
 
 /// `DigitallySigned` (RFC 5246, section 4.7).
 #[derive(PartialEq, Eq, Debug, Clone, Drop)]
@@ -70,6 +72,45 @@ impl DeserializeBytes for DigitallySigned {
             },
             rest,
         ))
+    }
+}
+
+impl Validate for DigitallySigned {
+    ghost places = { ⟦<Parts as Validate>⟧.places };
+
+    fn tls_validate_prefix(whole: &[u8]) -> Result<&[u8], Rejected<'_>> {
+        <Parts>::tls_validate_prefix(whole)
+    }
+
+    fn tls_width() -> Option<usize> {
+        <Parts>::tls_width()
+    }
+}
+
+impl Parted for DigitallySigned {
+    type Parts = Parts;
+
+    ghost as_parts = { λ bytes is. is };
+}
+
+/// The encoding of a [`DigitallySigned`], by its fields.
+#[derive(Drop)]
+pub struct DigitallySignedView<'a> {
+    /// `SignatureAndHashAlgorithm algorithm;`
+    pub algorithm: Encoded<'a, SignatureAndHashAlgorithm>,
+    /// `opaque signature<0..2^16-1>;`
+    pub signature: Encoded<'a, TlsByteVecU16>,
+}
+
+impl<'a> From<Encoded<'a, DigitallySigned>> for DigitallySignedView<'a> {
+    ghost from_gives = { λ whole view. whole ≡ (view.algorithm ++ view.signature) };
+
+    fn from(whole: Encoded<'a, DigitallySigned>) -> DigitallySignedView<'a> {
+        let (algorithm, signature) = whole.parts().split();
+        DigitallySignedView {
+            algorithm,
+            signature,
+        }
     }
 }
 

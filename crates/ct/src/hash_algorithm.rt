@@ -8,6 +8,8 @@ ghost use Rattle.ct.specs.declared.hash_algorithm.HashAlgorithm.{HashAlgorithm};
 use std::alloc::Global;
 use std::fmt;
 use tls_codec::{Deserialize, DeserializeBytes, Error, Serialize, Sink, Size, Source};
+use tls_codec_validate::{Rejected, Validate};
+use tls_codec_views::{Encoded, Parted, Told};
 
 /// `HashAlgorithm` (RFC 5246, section 7.4.1.4.1).
 #[derive(PartialEq, Eq, PartialOrd, Ord, Hash, Debug, Clone, Copy)]
@@ -37,8 +39,7 @@ impl HashAlgorithm {
 
     /// Its name in the text, if it has one.
     pub fn name(&self) -> Option<&'static str>
-        ensures { option_map (λ t. t.now) result
-            ≡ listed_name hash_algorithm_names self.now.0 }
+        ensures { option_map (λ t. t.now) result ≡ listed_name hash_algorithm_names self.now.0 }
     {
         match self.0 {
             0 => Some("none"),
@@ -125,6 +126,30 @@ impl DeserializeBytes for HashAlgorithm {
     fn tls_deserialize_bytes(alloc: Global, whole: &[u8]) -> Result<(HashAlgorithm, &[u8]), Error> {
         let (number, rest) = u8::tls_deserialize_bytes(alloc, whole)?;
         Ok((HashAlgorithm(number), rest))
+    }
+}
+
+impl Validate for HashAlgorithm {
+    ghost places = { ⟦<u8 as Validate>⟧.places };
+
+    fn tls_validate_prefix(whole: &[u8]) -> Result<&[u8], Rejected<'_>> {
+        u8::tls_validate_prefix(whole)
+    }
+
+    fn tls_width() -> Option<usize> {
+        u8::tls_width()
+    }
+}
+
+impl Parted for HashAlgorithm {
+    type Parts = u8;
+
+    ghost as_parts = { λ bytes is. is };
+}
+
+impl Told for HashAlgorithm {
+    fn told(encoded: &Encoded<'_, HashAlgorithm>) -> HashAlgorithm {
+        HashAlgorithm(encoded.parts().get())
     }
 }
 

@@ -25,26 +25,32 @@ pub mod tree_head_signature;
 pub mod version;
 pub mod x509_chain_entry;
 
-pub use digitally_signed::DigitallySigned;
+pub use digitally_signed::{DigitallySigned, DigitallySignedView};
 pub use hash_algorithm::HashAlgorithm;
 pub use log_entry::LogEntry;
 pub use log_entry_type_data::LogEntryTypeData;
-pub use log_id::LogID;
+pub use log_id::{LogID, LogIDView};
 pub use merkle_leaf_type::MerkleLeafType;
-pub use merkle_tree_leaf::MerkleTreeLeaf;
+pub use merkle_tree_leaf::{MerkleTreeLeaf, MerkleTreeLeafView};
 pub use names::{ASN1Cert, CtExtensions, SerializedSCT, TBSCertificate};
-pub use pre_cert::PreCert;
-pub use precert_chain_entry::PrecertChainEntry;
+pub use pre_cert::{PreCert, PreCertView};
+pub use precert_chain_entry::{PrecertChainEntry, PrecertChainEntryView};
 pub use signature_algorithm::SignatureAlgorithm;
-pub use signature_and_hash_algorithm::SignatureAndHashAlgorithm;
+pub use signature_and_hash_algorithm::{SignatureAndHashAlgorithm, SignatureAndHashAlgorithmView};
 pub use signature_type::SignatureType;
 pub use signature_type_certificate_timestamp::SignatureTypeCertificateTimestamp;
 pub use signature_type_tree_hash::SignatureTypeTreeHash;
-pub use signed_certificate_timestamp::SignedCertificateTimestamp;
-pub use signed_certificate_timestamp_list::SignedCertificateTimestampList;
-pub use signed_certificate_timestamp_tbs::SignedCertificateTimestampTBS;
-pub use timestamped_entry::TimestampedEntry;
+pub use signed_certificate_timestamp::{
+    SignedCertificateTimestamp, SignedCertificateTimestampView,
+};
+pub use signed_certificate_timestamp_list::{
+    SignedCertificateTimestampList, SignedCertificateTimestampListView,
+};
+pub use signed_certificate_timestamp_tbs::{
+    SignedCertificateTimestampTBS, SignedCertificateTimestampTBSView,
+};
+pub use timestamped_entry::{TimestampedEntry, TimestampedEntryView};
 pub use timestamped_entry_log_entry_type_data::TimestampedEntryLogEntryTypeData;
-pub use tree_head_signature::TreeHeadSignature;
+pub use tree_head_signature::{TreeHeadSignature, TreeHeadSignatureView};
 pub use version::Version;
-pub use x509_chain_entry::X509ChainEntry;
+pub use x509_chain_entry::{X509ChainEntry, X509ChainEntryView};

@@ -1,6 +1,7 @@
 //! [`LogEntry`].
 ghost use Rattle.std.specs.Prelude.{◌≡◌, IsTrue};
 ghost use Rattle.tls_codec.specs.OwnMessages.{no_variant_names, no_variant_source_names, tagged_names, tagged_source_names, variant_names, variant_source_names};
+ghost use Rattle.tls_codec_validate.specs.TaggedPlaces.{no_variant_places, tagged_places, variant_places};
 ghost use Rattle.ct.specs.LogEntry.{log_entry_format, log_entry_meets, log_entry_plain, log_entry_tag};
 ghost use Rattle.ct.specs.declared.log_entry.LogEntry.{LogEntry};
 
@@ -9,6 +10,7 @@ use std::alloc::Global;
 use tls_codec::{
     Deserialize, DeserializeBytes, Error, Lent, Serialize, Sink, Size, Source, unknown_value,
 };
+use tls_codec_validate::{Rejected, Validate, split_u16};
 
 const X509_ENTRY: u16 = 0;
 
@@ -115,6 +117,31 @@ impl DeserializeBytes for LogEntry {
                 Ok((LogEntry::PrecertEntry(precert_chain_entry), rest))
             }
             _ => Err(unknown_value(u64::from(tag))),
+        }
+    }
+}
+
+impl Validate for LogEntry {
+    ghost places = { tagged_places 2
+        (variant_places 0 ⟦<X509ChainEntry as Validate>⟧.places
+        (variant_places 1 ⟦<PrecertChainEntry as Validate>⟧.places
+        no_variant_places)) };
+
+    fn tls_validate_prefix(whole: &[u8]) -> Result<&[u8], Rejected<'_>> {
+        let (tag, rest) = split_u16(whole)?;
+        match tag {
+            X509_ENTRY => {
+                let behind = X509ChainEntry::tls_validate_prefix(rest)?;
+                Ok(behind)
+            }
+            PRECERT_ENTRY => {
+                let behind = PrecertChainEntry::tls_validate_prefix(rest)?;
+                Ok(behind)
+            }
+            _ => Err(Rejected {
+                error: unknown_value(u64::from(tag)),
+                rest: whole,
+            }),
         }
     }
 }

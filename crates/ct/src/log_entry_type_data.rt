@@ -1,6 +1,7 @@
 //! [`LogEntryTypeData`].
 ghost use Rattle.std.specs.Prelude.{◌≡◌, IsTrue};
 ghost use Rattle.tls_codec.specs.OwnMessages.{no_variant_names, no_variant_source_names, tagged_names, tagged_source_names, variant_names, variant_source_names};
+ghost use Rattle.tls_codec_validate.specs.TaggedPlaces.{no_variant_places, tagged_places, variant_places};
 ghost use Rattle.ct.specs.LogEntryTypeData.{log_entry_type_data_format, log_entry_type_data_meets, log_entry_type_data_plain, log_entry_type_data_tag};
 ghost use Rattle.ct.specs.declared.log_entry_type_data.LogEntryTypeData.{LogEntryTypeData};
 
@@ -9,6 +10,7 @@ use std::alloc::Global;
 use tls_codec::{
     Deserialize, DeserializeBytes, Error, Lent, Serialize, Sink, Size, Source, unknown_value,
 };
+use tls_codec_validate::{Rejected, Validate, split_u16};
 
 const X509_ENTRY: u16 = 0;
 
@@ -115,6 +117,31 @@ impl DeserializeBytes for LogEntryTypeData {
                 Ok((LogEntryTypeData::PrecertEntry(pre_cert), rest))
             }
             _ => Err(unknown_value(u64::from(tag))),
+        }
+    }
+}
+
+impl Validate for LogEntryTypeData {
+    ghost places = { tagged_places 2
+        (variant_places 0 ⟦<ASN1Cert as Validate>⟧.places
+        (variant_places 1 ⟦<PreCert as Validate>⟧.places
+        no_variant_places)) };
+
+    fn tls_validate_prefix(whole: &[u8]) -> Result<&[u8], Rejected<'_>> {
+        let (tag, rest) = split_u16(whole)?;
+        match tag {
+            X509_ENTRY => {
+                let behind = ASN1Cert::tls_validate_prefix(rest)?;
+                Ok(behind)
+            }
+            PRECERT_ENTRY => {
+                let behind = PreCert::tls_validate_prefix(rest)?;
+                Ok(behind)
+            }
+            _ => Err(Rejected {
+                error: unknown_value(u64::from(tag)),
+                rest: whole,
+            }),
         }
     }
 }

@@ -6,6 +6,8 @@ ghost use Rattle.ct.specs.declared.log_id.LogID.{LogID};
 use std::alloc::Global;
 use tls_codec::{Deserialize, DeserializeBytes, Error, Serialize, Sink, Size, Source};
 use tls_codec_cases::append_as;
+use tls_codec_validate::{Rejected, Validate};
+use tls_codec_views::{Encoded, Parted};
 
 /// `LogID` (RFC 6962, section 3.2).
 #[derive(PartialEq, Eq, Debug, Clone, Drop)]
@@ -51,6 +53,40 @@ impl DeserializeBytes for LogID {
     fn tls_deserialize_bytes(alloc: Global, whole: &[u8]) -> Result<(LogID, &[u8]), Error> {
         let (key_id, rest) = <[u8; 32]>::tls_deserialize_bytes(alloc, whole)?;
         Ok((LogID { key_id }, rest))
+    }
+}
+
+impl Validate for LogID {
+    ghost places = { ⟦<[u8; 32] as Validate>⟧.places };
+
+    fn tls_validate_prefix(whole: &[u8]) -> Result<&[u8], Rejected<'_>> {
+        <[u8; 32]>::tls_validate_prefix(whole)
+    }
+
+    fn tls_width() -> Option<usize> {
+        <[u8; 32]>::tls_width()
+    }
+}
+
+impl Parted for LogID {
+    type Parts = [u8; 32];
+
+    ghost as_parts = { λ bytes is. is };
+}
+
+/// The encoding of a [`LogID`], by its fields.
+#[derive(Drop)]
+pub struct LogIDView<'a> {
+    /// `opaque key_id[32];`
+    pub key_id: Encoded<'a, [u8; 32]>,
+}
+
+impl<'a> From<Encoded<'a, LogID>> for LogIDView<'a> {
+    ghost from_gives = { λ whole view. whole ≡ view.key_id };
+
+    fn from(whole: Encoded<'a, LogID>) -> LogIDView<'a> {
+        let key_id = whole.parts();
+        LogIDView { key_id }
     }
 }
 

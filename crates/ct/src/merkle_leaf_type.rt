@@ -4,6 +4,7 @@ ghost use Rattle.std.specs.Fmt.{padded};
 ghost use Rattle.std.specs.Ordering.{nat_cmp};
 ghost use Rattle.tls_codec.specs.Errors.{UnknownValue};
 ghost use Rattle.tls_codec.specs.OwnMessages.{values_names, values_source_names};
+ghost use Rattle.tls_codec_validate.specs.TaggedPlaces.{values_places};
 ghost use Rattle.ct.specs.MerkleLeafType.{merkle_leaf_type_code, merkle_leaf_type_format, merkle_leaf_type_has, merkle_leaf_type_meets, merkle_leaf_type_name, merkle_leaf_type_plain};
 ghost use Rattle.ct.specs.declared.merkle_leaf_type.MerkleLeafType.{MerkleLeafType};
 
@@ -12,6 +13,7 @@ use std::fmt;
 use tls_codec::{
     Deserialize, DeserializeBytes, Error, Serialize, Sink, Size, Source, unknown_value,
 };
+use tls_codec_validate::{Rejected, Validate, split_u8};
 
 /// `MerkleLeafType` (RFC 6962, section 3.4).
 #[derive(PartialEq, Eq, PartialOrd, Ord, Hash, Debug, Clone, Copy)]
@@ -128,6 +130,21 @@ impl DeserializeBytes for MerkleLeafType {
         match MerkleLeafType::of_code(tag) {
             Some(value) => Ok((value, rest)),
             None => Err(unknown_value(u64::from(tag))),
+        }
+    }
+}
+
+impl Validate for MerkleLeafType {
+    ghost places = { values_places 1 merkle_leaf_type_has };
+
+    fn tls_validate_prefix(whole: &[u8]) -> Result<&[u8], Rejected<'_>> {
+        let (tag, rest) = split_u8(whole)?;
+        match MerkleLeafType::of_code(tag) {
+            Some(_value) => Ok(rest),
+            None => Err(Rejected {
+                error: unknown_value(u64::from(tag)),
+                rest: whole,
+            }),
         }
     }
 }

@@ -1,5 +1,5 @@
 //! [`MerkleTreeLeaf`].
-ghost use Rattle.std.specs.Prelude.{◌≡◌, ◌&&◌};
+ghost use Rattle.std.specs.Prelude.{◌≡◌, ◌&&◌, ◌++◌};
 ghost use Rattle.ct.specs.MerkleTreeLeaf.{merkle_tree_leaf_format, merkle_tree_leaf_meets, merkle_tree_leaf_plain};
 ghost use Rattle.ct.specs.declared.merkle_tree_leaf.MerkleTreeLeaf.{MerkleTreeLeaf};
 
@@ -7,6 +7,8 @@ use crate::{MerkleLeafType, TimestampedEntry, Version};
 use std::alloc::Global;
 use tls_codec::{Deserialize, DeserializeBytes, Error, Lent, Serialize, Sink, Size, Source};
 use tls_codec_cases::append_as;
+use tls_codec_validate::{Rejected, Validate};
+use tls_codec_views::{Encoded, Parted};
 
 /// `MerkleTreeLeaf` (RFC 6962, section 3.4).
 #[derive(PartialEq, Eq, Debug, Clone, Drop)]
@@ -92,6 +94,49 @@ impl DeserializeBytes for MerkleTreeLeaf {
             },
             rest,
         ))
+    }
+}
+
+impl Validate for MerkleTreeLeaf {
+    ghost places = { ⟦<Parts as Validate>⟧.places };
+
+    fn tls_validate_prefix(whole: &[u8]) -> Result<&[u8], Rejected<'_>> {
+        <Parts>::tls_validate_prefix(whole)
+    }
+
+    fn tls_width() -> Option<usize> {
+        <Parts>::tls_width()
+    }
+}
+
+impl Parted for MerkleTreeLeaf {
+    type Parts = Parts;
+
+    ghost as_parts = { λ bytes is. is };
+}
+
+/// The encoding of a [`MerkleTreeLeaf`], by its fields.
+#[derive(Drop)]
+pub struct MerkleTreeLeafView<'a> {
+    /// `Version version;`
+    pub version: Encoded<'a, Version>,
+    /// `MerkleLeafType leaf_type;`
+    pub leaf_type: Encoded<'a, MerkleLeafType>,
+    /// `TimestampedEntry;`
+    pub timestamped_entry: Encoded<'a, TimestampedEntry>,
+}
+
+impl<'a> From<Encoded<'a, MerkleTreeLeaf>> for MerkleTreeLeafView<'a> {
+    ghost from_gives = { λ whole view. whole ≡ (view.version ++
+        (view.leaf_type ++ view.timestamped_entry)) };
+
+    fn from(whole: Encoded<'a, MerkleTreeLeaf>) -> MerkleTreeLeafView<'a> {
+        let (version, leaf_type, timestamped_entry) = whole.parts().split();
+        MerkleTreeLeafView {
+            version,
+            leaf_type,
+            timestamped_entry,
+        }
     }
 }
 

@@ -1,5 +1,5 @@
 //! [`PreCert`].
-ghost use Rattle.std.specs.Prelude.{◌≡◌, ◌&&◌};
+ghost use Rattle.std.specs.Prelude.{◌≡◌, ◌&&◌, ◌++◌};
 ghost use Rattle.ct.specs.PreCert.{pre_cert_format, pre_cert_meets, pre_cert_plain};
 ghost use Rattle.ct.specs.declared.pre_cert.PreCert.{PreCert};
 
@@ -7,6 +7,8 @@ use crate::TBSCertificate;
 use std::alloc::Global;
 use tls_codec::{Deserialize, DeserializeBytes, Error, Lent, Serialize, Sink, Size, Source};
 use tls_codec_cases::append_as;
+use tls_codec_validate::{Rejected, Validate};
+use tls_codec_views::{Encoded, Parted};
 
 /// `PreCert` (RFC 6962, section 3.2).
 #[derive(PartialEq, Eq, Debug, Clone, Drop)]
@@ -71,6 +73,45 @@ impl DeserializeBytes for PreCert {
             },
             rest,
         ))
+    }
+}
+
+impl Validate for PreCert {
+    ghost places = { ⟦<Parts as Validate>⟧.places };
+
+    fn tls_validate_prefix(whole: &[u8]) -> Result<&[u8], Rejected<'_>> {
+        <Parts>::tls_validate_prefix(whole)
+    }
+
+    fn tls_width() -> Option<usize> {
+        <Parts>::tls_width()
+    }
+}
+
+impl Parted for PreCert {
+    type Parts = Parts;
+
+    ghost as_parts = { λ bytes is. is };
+}
+
+/// The encoding of a [`PreCert`], by its fields.
+#[derive(Drop)]
+pub struct PreCertView<'a> {
+    /// `opaque issuer_key_hash[32];`
+    pub issuer_key_hash: Encoded<'a, [u8; 32]>,
+    /// `TBSCertificate tbs_certificate;`
+    pub tbs_certificate: Encoded<'a, TBSCertificate>,
+}
+
+impl<'a> From<Encoded<'a, PreCert>> for PreCertView<'a> {
+    ghost from_gives = { λ whole view. whole ≡ (view.issuer_key_hash ++ view.tbs_certificate) };
+
+    fn from(whole: Encoded<'a, PreCert>) -> PreCertView<'a> {
+        let (issuer_key_hash, tbs_certificate) = whole.parts().split();
+        PreCertView {
+            issuer_key_hash,
+            tbs_certificate,
+        }
     }
 }
 

@@ -1,5 +1,5 @@
 //! [`PrecertChainEntry`].
-ghost use Rattle.std.specs.Prelude.{◌≡◌, ◌&&◌};
+ghost use Rattle.std.specs.Prelude.{◌≡◌, ◌&&◌, ◌++◌};
 ghost use Rattle.ct.specs.PrecertChainEntry.{precert_chain_entry_format, precert_chain_entry_meets, precert_chain_entry_plain};
 ghost use Rattle.ct.specs.declared.precert_chain_entry.PrecertChainEntry.{PrecertChainEntry};
 
@@ -9,6 +9,8 @@ use tls_codec::{
     Deserialize, DeserializeBytes, Error, Lent, Serialize, Sink, Size, Source, TlsVecU24,
 };
 use tls_codec_cases::append_as;
+use tls_codec_validate::{Rejected, Validate};
+use tls_codec_views::{Encoded, Parted};
 
 /// `PrecertChainEntry` (RFC 6962, section 3.1).
 #[derive(PartialEq, Eq, Debug, Clone, Drop)]
@@ -87,6 +89,46 @@ impl DeserializeBytes for PrecertChainEntry {
             },
             rest,
         ))
+    }
+}
+
+impl Validate for PrecertChainEntry {
+    ghost places = { ⟦<Parts as Validate>⟧.places };
+
+    fn tls_validate_prefix(whole: &[u8]) -> Result<&[u8], Rejected<'_>> {
+        <Parts>::tls_validate_prefix(whole)
+    }
+
+    fn tls_width() -> Option<usize> {
+        <Parts>::tls_width()
+    }
+}
+
+impl Parted for PrecertChainEntry {
+    type Parts = Parts;
+
+    ghost as_parts = { λ bytes is. is };
+}
+
+/// The encoding of a [`PrecertChainEntry`], by its fields.
+#[derive(Drop)]
+pub struct PrecertChainEntryView<'a> {
+    /// `ASN.1Cert pre_certificate;`
+    pub pre_certificate: Encoded<'a, ASN1Cert>,
+    /// `ASN.1Cert precertificate_chain<0..2^24-1>;`
+    pub precertificate_chain: Encoded<'a, TlsVecU24<ASN1Cert>>,
+}
+
+impl<'a> From<Encoded<'a, PrecertChainEntry>> for PrecertChainEntryView<'a> {
+    ghost from_gives = { λ whole view. whole ≡ (view.pre_certificate ++
+        view.precertificate_chain) };
+
+    fn from(whole: Encoded<'a, PrecertChainEntry>) -> PrecertChainEntryView<'a> {
+        let (pre_certificate, precertificate_chain) = whole.parts().split();
+        PrecertChainEntryView {
+            pre_certificate,
+            precertificate_chain,
+        }
     }
 }
 

@@ -8,6 +8,8 @@ ghost use Rattle.ct.specs.declared.signature_algorithm.SignatureAlgorithm.{Signa
 use std::alloc::Global;
 use std::fmt;
 use tls_codec::{Deserialize, DeserializeBytes, Error, Serialize, Sink, Size, Source};
+use tls_codec_validate::{Rejected, Validate};
+use tls_codec_views::{Encoded, Parted, Told};
 
 /// `SignatureAlgorithm` (RFC 5246, section 7.4.1.4.1).
 #[derive(PartialEq, Eq, PartialOrd, Ord, Hash, Debug, Clone, Copy)]
@@ -28,8 +30,8 @@ impl SignatureAlgorithm {
 
     /// Its name in the text, if it has one.
     pub fn name(&self) -> Option<&'static str>
-        ensures { option_map (λ t. t.now) result
-            ≡ listed_name signature_algorithm_names self.now.0 }
+        ensures { option_map (λ t. t.now) result ≡ listed_name signature_algorithm_names
+            self.now.0 }
     {
         match self.0 {
             0 => Some("anonymous"),
@@ -116,6 +118,30 @@ impl DeserializeBytes for SignatureAlgorithm {
     ) -> Result<(SignatureAlgorithm, &[u8]), Error> {
         let (number, rest) = u8::tls_deserialize_bytes(alloc, whole)?;
         Ok((SignatureAlgorithm(number), rest))
+    }
+}
+
+impl Validate for SignatureAlgorithm {
+    ghost places = { ⟦<u8 as Validate>⟧.places };
+
+    fn tls_validate_prefix(whole: &[u8]) -> Result<&[u8], Rejected<'_>> {
+        u8::tls_validate_prefix(whole)
+    }
+
+    fn tls_width() -> Option<usize> {
+        u8::tls_width()
+    }
+}
+
+impl Parted for SignatureAlgorithm {
+    type Parts = u8;
+
+    ghost as_parts = { λ bytes is. is };
+}
+
+impl Told for SignatureAlgorithm {
+    fn told(encoded: &Encoded<'_, SignatureAlgorithm>) -> SignatureAlgorithm {
+        SignatureAlgorithm(encoded.parts().get())
     }
 }
 

@@ -1,5 +1,5 @@
 //! [`SignatureAndHashAlgorithm`].
-ghost use Rattle.std.specs.Prelude.{◌≡◌, ◌&&◌};
+ghost use Rattle.std.specs.Prelude.{◌≡◌, ◌&&◌, ◌++◌};
 ghost use Rattle.ct.specs.SignatureAndHashAlgorithm.{signature_and_hash_algorithm_format, signature_and_hash_algorithm_meets, signature_and_hash_algorithm_plain};
 ghost use Rattle.ct.specs.declared.signature_and_hash_algorithm.SignatureAndHashAlgorithm.{SignatureAndHashAlgorithm};
 
@@ -7,6 +7,8 @@ use crate::{HashAlgorithm, SignatureAlgorithm};
 use std::alloc::Global;
 use tls_codec::{Deserialize, DeserializeBytes, Error, Lent, Serialize, Sink, Size, Source};
 use tls_codec_cases::append_as;
+use tls_codec_validate::{Rejected, Validate};
+use tls_codec_views::{Encoded, Parted};
 
 /// `SignatureAndHashAlgorithm` (RFC 5246, section 7.4.1.4.1).
 #[derive(PartialEq, Eq, Debug, Clone, Drop)]
@@ -62,6 +64,42 @@ impl DeserializeBytes for SignatureAndHashAlgorithm {
     ) -> Result<(SignatureAndHashAlgorithm, &[u8]), Error> {
         let ((hash, signature), rest) = <Parts>::tls_deserialize_bytes(alloc, whole)?;
         Ok((SignatureAndHashAlgorithm { hash, signature }, rest))
+    }
+}
+
+impl Validate for SignatureAndHashAlgorithm {
+    ghost places = { ⟦<Parts as Validate>⟧.places };
+
+    fn tls_validate_prefix(whole: &[u8]) -> Result<&[u8], Rejected<'_>> {
+        <Parts>::tls_validate_prefix(whole)
+    }
+
+    fn tls_width() -> Option<usize> {
+        <Parts>::tls_width()
+    }
+}
+
+impl Parted for SignatureAndHashAlgorithm {
+    type Parts = Parts;
+
+    ghost as_parts = { λ bytes is. is };
+}
+
+/// The encoding of a [`SignatureAndHashAlgorithm`], by its fields.
+#[derive(Drop)]
+pub struct SignatureAndHashAlgorithmView<'a> {
+    /// `HashAlgorithm hash;`
+    pub hash: Encoded<'a, HashAlgorithm>,
+    /// `SignatureAlgorithm signature;`
+    pub signature: Encoded<'a, SignatureAlgorithm>,
+}
+
+impl<'a> From<Encoded<'a, SignatureAndHashAlgorithm>> for SignatureAndHashAlgorithmView<'a> {
+    ghost from_gives = { λ whole view. whole ≡ (view.hash ++ view.signature) };
+
+    fn from(whole: Encoded<'a, SignatureAndHashAlgorithm>) -> SignatureAndHashAlgorithmView<'a> {
+        let (hash, signature) = whole.parts().split();
+        SignatureAndHashAlgorithmView { hash, signature }
     }
 }
 

@@ -8,6 +8,8 @@ ghost use Rattle.ct.specs.declared.signature_type.SignatureType.{SignatureType};
 use std::alloc::Global;
 use std::fmt;
 use tls_codec::{Deserialize, DeserializeBytes, Error, Serialize, Sink, Size, Source};
+use tls_codec_validate::{Rejected, Validate};
+use tls_codec_views::{Encoded, Parted, Told};
 
 /// `SignatureType` (RFC 6962, section 3.2).
 #[derive(PartialEq, Eq, PartialOrd, Ord, Hash, Debug, Clone, Copy)]
@@ -22,8 +24,7 @@ impl SignatureType {
 
     /// Its name in the text, if it has one.
     pub fn name(&self) -> Option<&'static str>
-        ensures { option_map (λ t. t.now) result
-            ≡ listed_name signature_type_names self.now.0 }
+        ensures { option_map (λ t. t.now) result ≡ listed_name signature_type_names self.now.0 }
     {
         match self.0 {
             0 => Some("certificate_timestamp"),
@@ -105,6 +106,30 @@ impl DeserializeBytes for SignatureType {
     fn tls_deserialize_bytes(alloc: Global, whole: &[u8]) -> Result<(SignatureType, &[u8]), Error> {
         let (number, rest) = u8::tls_deserialize_bytes(alloc, whole)?;
         Ok((SignatureType(number), rest))
+    }
+}
+
+impl Validate for SignatureType {
+    ghost places = { ⟦<u8 as Validate>⟧.places };
+
+    fn tls_validate_prefix(whole: &[u8]) -> Result<&[u8], Rejected<'_>> {
+        u8::tls_validate_prefix(whole)
+    }
+
+    fn tls_width() -> Option<usize> {
+        u8::tls_width()
+    }
+}
+
+impl Parted for SignatureType {
+    type Parts = u8;
+
+    ghost as_parts = { λ bytes is. is };
+}
+
+impl Told for SignatureType {
+    fn told(encoded: &Encoded<'_, SignatureType>) -> SignatureType {
+        SignatureType(encoded.parts().get())
     }
 }
 

@@ -4,6 +4,7 @@ ghost use Rattle.std.specs.Fmt.{padded};
 ghost use Rattle.std.specs.Ordering.{nat_cmp};
 ghost use Rattle.tls_codec.specs.Errors.{UnknownValue};
 ghost use Rattle.tls_codec.specs.OwnMessages.{values_names, values_source_names};
+ghost use Rattle.tls_codec_validate.specs.TaggedPlaces.{values_places};
 ghost use Rattle.ct.specs.SignatureTypeCertificateTimestamp.{signature_type_certificate_timestamp_code, signature_type_certificate_timestamp_format, signature_type_certificate_timestamp_has, signature_type_certificate_timestamp_meets, signature_type_certificate_timestamp_name, signature_type_certificate_timestamp_plain};
 ghost use Rattle.ct.specs.declared.signature_type_certificate_timestamp.SignatureTypeCertificateTimestamp.{SignatureTypeCertificateTimestamp};
 
@@ -12,6 +13,7 @@ use std::fmt;
 use tls_codec::{
     Deserialize, DeserializeBytes, Error, Serialize, Sink, Size, Source, unknown_value,
 };
+use tls_codec_validate::{Rejected, Validate, split_u8};
 
 /// `SignatureTypeCertificateTimestamp`.
 #[derive(PartialEq, Eq, PartialOrd, Ord, Hash, Debug, Clone, Copy)]
@@ -132,6 +134,21 @@ impl DeserializeBytes for SignatureTypeCertificateTimestamp {
         match SignatureTypeCertificateTimestamp::of_code(tag) {
             Some(value) => Ok((value, rest)),
             None => Err(unknown_value(u64::from(tag))),
+        }
+    }
+}
+
+impl Validate for SignatureTypeCertificateTimestamp {
+    ghost places = { values_places 1 signature_type_certificate_timestamp_has };
+
+    fn tls_validate_prefix(whole: &[u8]) -> Result<&[u8], Rejected<'_>> {
+        let (tag, rest) = split_u8(whole)?;
+        match SignatureTypeCertificateTimestamp::of_code(tag) {
+            Some(_value) => Ok(rest),
+            None => Err(Rejected {
+                error: unknown_value(u64::from(tag)),
+                rest: whole,
+            }),
         }
     }
 }

@@ -1,5 +1,5 @@
 //! [`SignedCertificateTimestamp`].
-ghost use Rattle.std.specs.Prelude.{◌≡◌, ◌&&◌};
+ghost use Rattle.std.specs.Prelude.{◌≡◌, ◌&&◌, ◌++◌};
 ghost use Rattle.ct.specs.SignedCertificateTimestamp.{signed_certificate_timestamp_format, signed_certificate_timestamp_meets, signed_certificate_timestamp_plain};
 ghost use Rattle.ct.specs.declared.signed_certificate_timestamp.SignedCertificateTimestamp.{SignedCertificateTimestamp};
 
@@ -9,6 +9,8 @@ use tls_codec::{
     Deserialize, DeserializeBytes, Error, Lent2, Lent3, Serialize, Sink, Size, Source,
 };
 use tls_codec_cases::append_as;
+use tls_codec_validate::{Rejected, Validate};
+use tls_codec_views::{Encoded, Parted};
 
 /// `SignedCertificateTimestamp` (RFC 6962, section 3.2).
 #[derive(PartialEq, Eq, Debug, Clone, Drop)]
@@ -103,6 +105,57 @@ impl DeserializeBytes for SignedCertificateTimestamp {
             },
             rest,
         ))
+    }
+}
+
+impl Validate for SignedCertificateTimestamp {
+    ghost places = { ⟦<Parts as Validate>⟧.places };
+
+    fn tls_validate_prefix(whole: &[u8]) -> Result<&[u8], Rejected<'_>> {
+        <Parts>::tls_validate_prefix(whole)
+    }
+
+    fn tls_width() -> Option<usize> {
+        <Parts>::tls_width()
+    }
+}
+
+impl Parted for SignedCertificateTimestamp {
+    type Parts = Parts;
+
+    ghost as_parts = { λ bytes is. is };
+}
+
+/// The encoding of a [`SignedCertificateTimestamp`], by its fields.
+#[derive(Drop)]
+pub struct SignedCertificateTimestampView<'a> {
+    /// `Version sct_version;`
+    pub sct_version: Encoded<'a, Version>,
+    /// `LogID id;`
+    pub id: Encoded<'a, LogID>,
+    /// `uint64 timestamp;`
+    pub timestamp: Encoded<'a, u64>,
+    /// `CtExtensions extensions;`
+    pub extensions: Encoded<'a, CtExtensions>,
+    /// `DigitallySigned signature;`
+    pub signature: Encoded<'a, DigitallySigned>,
+}
+
+impl<'a> From<Encoded<'a, SignedCertificateTimestamp>> for SignedCertificateTimestampView<'a> {
+    ghost from_gives = { λ whole view. whole ≡ ((view.sct_version ++ (view.id ++ view.timestamp)) ++
+        (view.extensions ++ view.signature)) };
+
+    fn from(whole: Encoded<'a, SignedCertificateTimestamp>) -> SignedCertificateTimestampView<'a> {
+        let (parts_0, parts_1) = whole.parts().split();
+        let (sct_version, id, timestamp) = parts_0.split();
+        let (extensions, signature) = parts_1.split();
+        SignedCertificateTimestampView {
+            sct_version,
+            id,
+            timestamp,
+            extensions,
+            signature,
+        }
     }
 }
 

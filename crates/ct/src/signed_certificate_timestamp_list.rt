@@ -9,6 +9,8 @@ use tls_codec::{
     Deserialize, DeserializeBytes, Error, Serialize, Sink, Size, Source, TlsVec, Within,
 };
 use tls_codec_cases::append_as;
+use tls_codec_validate::{Rejected, Validate};
+use tls_codec_views::{Encoded, Parted};
 
 /// `SignedCertificateTimestampList` (RFC 6962, section 3.3).
 #[derive(PartialEq, Eq, Debug, Clone, Drop)]
@@ -62,6 +64,43 @@ impl DeserializeBytes for SignedCertificateTimestampList {
     ) -> Result<(SignedCertificateTimestampList, &[u8]), Error> {
         let (sct_list, rest) = <Parts>::tls_deserialize_bytes(alloc, whole)?;
         Ok((SignedCertificateTimestampList { sct_list }, rest))
+    }
+}
+
+impl Validate for SignedCertificateTimestampList {
+    ghost places = { ⟦<Parts as Validate>⟧.places };
+
+    fn tls_validate_prefix(whole: &[u8]) -> Result<&[u8], Rejected<'_>> {
+        <Parts>::tls_validate_prefix(whole)
+    }
+
+    fn tls_width() -> Option<usize> {
+        <Parts>::tls_width()
+    }
+}
+
+impl Parted for SignedCertificateTimestampList {
+    type Parts = Parts;
+
+    ghost as_parts = { λ bytes is. is };
+}
+
+/// The encoding of a [`SignedCertificateTimestampList`], by its fields.
+#[derive(Drop)]
+pub struct SignedCertificateTimestampListView<'a> {
+    /// `SerializedSCT sct_list<1..2^16-1>;`
+    pub sct_list: Encoded<'a, TlsVec<Within<u16, 1, 65535>, SerializedSCT>>,
+}
+
+impl<'a> From<Encoded<'a, SignedCertificateTimestampList>>
+    for SignedCertificateTimestampListView<'a> {
+    ghost from_gives = { λ whole view. whole ≡ view.sct_list };
+
+    fn from(
+        whole: Encoded<'a, SignedCertificateTimestampList>,
+    ) -> SignedCertificateTimestampListView<'a> {
+        let sct_list = whole.parts();
+        SignedCertificateTimestampListView { sct_list }
     }
 }
 

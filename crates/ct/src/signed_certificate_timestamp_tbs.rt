@@ -1,5 +1,5 @@
 //! [`SignedCertificateTimestampTBS`].
-ghost use Rattle.std.specs.Prelude.{◌≡◌, ◌&&◌};
+ghost use Rattle.std.specs.Prelude.{◌≡◌, ◌&&◌, ◌++◌};
 ghost use Rattle.ct.specs.SignedCertificateTimestampTBS.{signed_certificate_timestamp_tbs_format, signed_certificate_timestamp_tbs_meets, signed_certificate_timestamp_tbs_plain};
 ghost use Rattle.ct.specs.declared.signed_certificate_timestamp_tbs.SignedCertificateTimestampTBS.{SignedCertificateTimestampTBS};
 
@@ -9,6 +9,8 @@ use tls_codec::{
     Deserialize, DeserializeBytes, Error, Lent2, Lent3, Serialize, Sink, Size, Source,
 };
 use tls_codec_cases::append_as;
+use tls_codec_validate::{Rejected, Validate};
+use tls_codec_views::{Encoded, Parted};
 
 /// `SignedCertificateTimestampTBS` (RFC 6962, section 3.2).
 #[derive(PartialEq, Eq, Debug, Clone, Drop)]
@@ -105,6 +107,60 @@ impl DeserializeBytes for SignedCertificateTimestampTBS {
             },
             rest,
         ))
+    }
+}
+
+impl Validate for SignedCertificateTimestampTBS {
+    ghost places = { ⟦<Parts as Validate>⟧.places };
+
+    fn tls_validate_prefix(whole: &[u8]) -> Result<&[u8], Rejected<'_>> {
+        <Parts>::tls_validate_prefix(whole)
+    }
+
+    fn tls_width() -> Option<usize> {
+        <Parts>::tls_width()
+    }
+}
+
+impl Parted for SignedCertificateTimestampTBS {
+    type Parts = Parts;
+
+    ghost as_parts = { λ bytes is. is };
+}
+
+/// The encoding of a [`SignedCertificateTimestampTBS`], by its fields.
+#[derive(Drop)]
+pub struct SignedCertificateTimestampTBSView<'a> {
+    /// `Version sct_version;`
+    pub sct_version: Encoded<'a, Version>,
+    /// `SignatureType signature_type = certificate_timestamp;`
+    pub signature_type: Encoded<'a, SignatureTypeCertificateTimestamp>,
+    /// `uint64 timestamp;`
+    pub timestamp: Encoded<'a, u64>,
+    /// `LogEntryType entry_type;`
+    pub signed_entry: Encoded<'a, LogEntryTypeData>,
+    /// `CtExtensions extensions;`
+    pub extensions: Encoded<'a, CtExtensions>,
+}
+
+impl<'a> From<Encoded<'a, SignedCertificateTimestampTBS>>
+    for SignedCertificateTimestampTBSView<'a> {
+    ghost from_gives = { λ whole view. whole ≡ ((view.sct_version ++
+        (view.signature_type ++ view.timestamp)) ++ (view.signed_entry ++ view.extensions)) };
+
+    fn from(
+        whole: Encoded<'a, SignedCertificateTimestampTBS>,
+    ) -> SignedCertificateTimestampTBSView<'a> {
+        let (parts_0, parts_1) = whole.parts().split();
+        let (sct_version, signature_type, timestamp) = parts_0.split();
+        let (signed_entry, extensions) = parts_1.split();
+        SignedCertificateTimestampTBSView {
+            sct_version,
+            signature_type,
+            timestamp,
+            signed_entry,
+            extensions,
+        }
     }
 }
 

@@ -1,5 +1,5 @@
 //! [`TimestampedEntry`].
-ghost use Rattle.std.specs.Prelude.{◌≡◌, ◌&&◌};
+ghost use Rattle.std.specs.Prelude.{◌≡◌, ◌&&◌, ◌++◌};
 ghost use Rattle.ct.specs.TimestampedEntry.{timestamped_entry_format, timestamped_entry_meets, timestamped_entry_plain};
 ghost use Rattle.ct.specs.declared.timestamped_entry.TimestampedEntry.{TimestampedEntry};
 
@@ -7,6 +7,8 @@ use crate::{CtExtensions, TimestampedEntryLogEntryTypeData};
 use std::alloc::Global;
 use tls_codec::{Deserialize, DeserializeBytes, Error, Lent, Serialize, Sink, Size, Source};
 use tls_codec_cases::append_as;
+use tls_codec_validate::{Rejected, Validate};
+use tls_codec_views::{Encoded, Parted};
 
 /// `TimestampedEntry` (RFC 6962, section 3.4).
 #[derive(PartialEq, Eq, Debug, Clone, Drop)]
@@ -92,6 +94,49 @@ impl DeserializeBytes for TimestampedEntry {
             },
             rest,
         ))
+    }
+}
+
+impl Validate for TimestampedEntry {
+    ghost places = { ⟦<Parts as Validate>⟧.places };
+
+    fn tls_validate_prefix(whole: &[u8]) -> Result<&[u8], Rejected<'_>> {
+        <Parts>::tls_validate_prefix(whole)
+    }
+
+    fn tls_width() -> Option<usize> {
+        <Parts>::tls_width()
+    }
+}
+
+impl Parted for TimestampedEntry {
+    type Parts = Parts;
+
+    ghost as_parts = { λ bytes is. is };
+}
+
+/// The encoding of a [`TimestampedEntry`], by its fields.
+#[derive(Drop)]
+pub struct TimestampedEntryView<'a> {
+    /// `uint64 timestamp;`
+    pub timestamp: Encoded<'a, u64>,
+    /// `LogEntryType entry_type;`
+    pub signed_entry: Encoded<'a, TimestampedEntryLogEntryTypeData>,
+    /// `CtExtensions extensions;`
+    pub extensions: Encoded<'a, CtExtensions>,
+}
+
+impl<'a> From<Encoded<'a, TimestampedEntry>> for TimestampedEntryView<'a> {
+    ghost from_gives = { λ whole view. whole ≡ (view.timestamp ++
+        (view.signed_entry ++ view.extensions)) };
+
+    fn from(whole: Encoded<'a, TimestampedEntry>) -> TimestampedEntryView<'a> {
+        let (timestamp, signed_entry, extensions) = whole.parts().split();
+        TimestampedEntryView {
+            timestamp,
+            signed_entry,
+            extensions,
+        }
     }
 }
 

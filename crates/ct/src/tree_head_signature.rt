@@ -1,5 +1,5 @@
 //! [`TreeHeadSignature`].
-ghost use Rattle.std.specs.Prelude.{◌≡◌, ◌&&◌};
+ghost use Rattle.std.specs.Prelude.{◌≡◌, ◌&&◌, ◌++◌};
 ghost use Rattle.ct.specs.TreeHeadSignature.{tree_head_signature_format, tree_head_signature_meets, tree_head_signature_plain};
 ghost use Rattle.ct.specs.declared.tree_head_signature.TreeHeadSignature.{TreeHeadSignature};
 
@@ -9,6 +9,8 @@ use tls_codec::{
     Deserialize, DeserializeBytes, Error, Lent2, Lent3, Serialize, Sink, Size, Source,
 };
 use tls_codec_cases::append_as;
+use tls_codec_validate::{Rejected, Validate};
+use tls_codec_views::{Encoded, Parted};
 
 /// `TreeHeadSignature` (RFC 6962, section 3.5).
 #[derive(PartialEq, Eq, Debug, Clone, Drop)]
@@ -99,6 +101,57 @@ impl DeserializeBytes for TreeHeadSignature {
             },
             rest,
         ))
+    }
+}
+
+impl Validate for TreeHeadSignature {
+    ghost places = { ⟦<Parts as Validate>⟧.places };
+
+    fn tls_validate_prefix(whole: &[u8]) -> Result<&[u8], Rejected<'_>> {
+        <Parts>::tls_validate_prefix(whole)
+    }
+
+    fn tls_width() -> Option<usize> {
+        <Parts>::tls_width()
+    }
+}
+
+impl Parted for TreeHeadSignature {
+    type Parts = Parts;
+
+    ghost as_parts = { λ bytes is. is };
+}
+
+/// The encoding of a [`TreeHeadSignature`], by its fields.
+#[derive(Drop)]
+pub struct TreeHeadSignatureView<'a> {
+    /// `Version version;`
+    pub version: Encoded<'a, Version>,
+    /// `SignatureType signature_type = tree_hash;`
+    pub signature_type: Encoded<'a, SignatureTypeTreeHash>,
+    /// `uint64 timestamp;`
+    pub timestamp: Encoded<'a, u64>,
+    /// `uint64 tree_size;`
+    pub tree_size: Encoded<'a, u64>,
+    /// `opaque sha256_root_hash[32];`
+    pub sha256_root_hash: Encoded<'a, [u8; 32]>,
+}
+
+impl<'a> From<Encoded<'a, TreeHeadSignature>> for TreeHeadSignatureView<'a> {
+    ghost from_gives = { λ whole view. whole ≡ ((view.version ++
+        (view.signature_type ++ view.timestamp)) ++ (view.tree_size ++ view.sha256_root_hash)) };
+
+    fn from(whole: Encoded<'a, TreeHeadSignature>) -> TreeHeadSignatureView<'a> {
+        let (parts_0, parts_1) = whole.parts().split();
+        let (version, signature_type, timestamp) = parts_0.split();
+        let (tree_size, sha256_root_hash) = parts_1.split();
+        TreeHeadSignatureView {
+            version,
+            signature_type,
+            timestamp,
+            tree_size,
+            sha256_root_hash,
+        }
     }
 }
 

@@ -1,5 +1,5 @@
 //! [`X509ChainEntry`].
-ghost use Rattle.std.specs.Prelude.{◌≡◌, ◌&&◌};
+ghost use Rattle.std.specs.Prelude.{◌≡◌, ◌&&◌, ◌++◌};
 ghost use Rattle.ct.specs.X509ChainEntry.{x509_chain_entry_format, x509_chain_entry_meets, x509_chain_entry_plain};
 ghost use Rattle.ct.specs.declared.x509_chain_entry.X509ChainEntry.{X509ChainEntry};
 
@@ -9,6 +9,8 @@ use tls_codec::{
     Deserialize, DeserializeBytes, Error, Lent, Serialize, Sink, Size, Source, TlsVecU24,
 };
 use tls_codec_cases::append_as;
+use tls_codec_validate::{Rejected, Validate};
+use tls_codec_views::{Encoded, Parted};
 
 /// `X509ChainEntry` (RFC 6962, section 3.1).
 #[derive(PartialEq, Eq, Debug, Clone, Drop)]
@@ -76,6 +78,45 @@ impl DeserializeBytes for X509ChainEntry {
             },
             rest,
         ))
+    }
+}
+
+impl Validate for X509ChainEntry {
+    ghost places = { ⟦<Parts as Validate>⟧.places };
+
+    fn tls_validate_prefix(whole: &[u8]) -> Result<&[u8], Rejected<'_>> {
+        <Parts>::tls_validate_prefix(whole)
+    }
+
+    fn tls_width() -> Option<usize> {
+        <Parts>::tls_width()
+    }
+}
+
+impl Parted for X509ChainEntry {
+    type Parts = Parts;
+
+    ghost as_parts = { λ bytes is. is };
+}
+
+/// The encoding of a [`X509ChainEntry`], by its fields.
+#[derive(Drop)]
+pub struct X509ChainEntryView<'a> {
+    /// `ASN.1Cert leaf_certificate;`
+    pub leaf_certificate: Encoded<'a, ASN1Cert>,
+    /// `ASN.1Cert certificate_chain<0..2^24-1>;`
+    pub certificate_chain: Encoded<'a, TlsVecU24<ASN1Cert>>,
+}
+
+impl<'a> From<Encoded<'a, X509ChainEntry>> for X509ChainEntryView<'a> {
+    ghost from_gives = { λ whole view. whole ≡ (view.leaf_certificate ++ view.certificate_chain) };
+
+    fn from(whole: Encoded<'a, X509ChainEntry>) -> X509ChainEntryView<'a> {
+        let (leaf_certificate, certificate_chain) = whole.parts().split();
+        X509ChainEntryView {
+            leaf_certificate,
+            certificate_chain,
+        }
     }
 }
 

@@ -11,6 +11,7 @@ use tls_codec::{
     Source, Then,
 };
 use tls_codec_cases::{By, append_as, write_as};
+use tls_codec_validate::{Rejected, Validate};
 
 /// `Bearer`.
 #[derive(PartialEq, Eq, Debug, Clone, Drop)]
@@ -101,6 +102,14 @@ impl DeserializeBytes for Bearer {
             },
             left,
         ))
+    }
+}
+
+impl Validate for Bearer {
+    ghost places = { ⟦<Parts as Validate>⟧.places };
+
+    fn tls_validate_prefix(whole: &[u8]) -> Result<&[u8], Rejected<'_>> {
+        <Parts>::tls_validate_prefix(whole)
     }
 }
 

@@ -1,5 +1,5 @@
 //! [`Beat`].
-ghost use Rattle.std.specs.Prelude.{◌≡◌, ◌&&◌};
+ghost use Rattle.std.specs.Prelude.{◌≡◌, ◌&&◌, ◌++◌};
 ghost use Rattle.messages_of_each_shape.specs.Beat.{beat_format, beat_meets, beat_plain};
 ghost use Rattle.messages_of_each_shape.specs.declared.beat.Beat.{Beat};
 
@@ -9,6 +9,8 @@ use tls_codec::{
     Deserialize, DeserializeBytes, Error, Lent, Serialize, Sink, Size, Source, TlsByteVecU16,
 };
 use tls_codec_cases::append_as;
+use tls_codec_validate::{Rejected, Validate};
+use tls_codec_views::{Encoded, Parted};
 
 /// `Beat`.
 ///
@@ -61,6 +63,42 @@ impl DeserializeBytes for Beat {
     fn tls_deserialize_bytes(alloc: Global, whole: &[u8]) -> Result<(Beat, &[u8]), Error> {
         let ((kind, payload), rest) = <Parts>::tls_deserialize_bytes(alloc, whole)?;
         Ok((Beat { kind, payload }, rest))
+    }
+}
+
+impl Validate for Beat {
+    ghost places = { ⟦<Parts as Validate>⟧.places };
+
+    fn tls_validate_prefix(whole: &[u8]) -> Result<&[u8], Rejected<'_>> {
+        <Parts>::tls_validate_prefix(whole)
+    }
+
+    fn tls_width() -> Option<usize> {
+        <Parts>::tls_width()
+    }
+}
+
+impl Parted for Beat {
+    type Parts = Parts;
+
+    ghost as_parts = { λ bytes is. is };
+}
+
+/// The encoding of a [`Beat`], by its fields.
+#[derive(Drop)]
+pub struct BeatView<'a> {
+    /// `BodyKind type;`
+    pub kind: Encoded<'a, BodyKind>,
+    /// `opaque payload[Beat.payload_length];`
+    pub payload: Encoded<'a, TlsByteVecU16>,
+}
+
+impl<'a> From<Encoded<'a, Beat>> for BeatView<'a> {
+    ghost from_gives = { λ whole view. whole ≡ (view.kind ++ view.payload) };
+
+    fn from(whole: Encoded<'a, Beat>) -> BeatView<'a> {
+        let (kind, payload) = whole.parts().split();
+        BeatView { kind, payload }
     }
 }
 

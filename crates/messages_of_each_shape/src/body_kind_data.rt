@@ -9,6 +9,7 @@ use tls_codec::{
     DeserializeBytesFor, DeserializeFor, Error, Lent, SerializeFor, Sink, SizeFor, Source, VLBytes,
 };
 use tls_codec_cases::{Case, Chosen, Or, append_as_for, write_as_for};
+use tls_codec_validate::{Rejected, ValidateFor};
 
 /// `select (body_kind)` of `KindBody`: no byte of it tells the tag.
 #[derive(PartialEq, Eq, Debug, Clone, Drop)]
@@ -101,6 +102,14 @@ impl DeserializeBytesFor<BodyKind> for BodyKindData {
     ) -> Result<(BodyKindData, &'a [u8]), Error> {
         let (cases, rest) = <Cases>::tls_deserialize_bytes_for(body_kind, alloc, whole)?;
         Ok((BodyKindData::of(cases), rest))
+    }
+}
+
+impl ValidateFor<BodyKind> for BodyKindData {
+    ghost places = { ⟦<Cases as ValidateFor<BodyKind>>⟧.places };
+
+    fn tls_validate_prefix_for<'a>(key: &u64, whole: &'a [u8]) -> Result<&'a [u8], Rejected<'a>> {
+        <Cases as ValidateFor<BodyKind>>::tls_validate_prefix_for(key, whole)
     }
 }
 

@@ -1,5 +1,5 @@
 //! [`Bounded`].
-ghost use Rattle.std.specs.Prelude.{◌≡◌, ◌&&◌};
+ghost use Rattle.std.specs.Prelude.{◌≡◌, ◌&&◌, ◌++◌};
 ghost use Rattle.messages_of_each_shape.specs.Bounded.{bounded_format, bounded_meets, bounded_plain};
 ghost use Rattle.messages_of_each_shape.specs.declared.bounded.Bounded.{Bounded};
 
@@ -9,6 +9,8 @@ use tls_codec::{
     Within,
 };
 use tls_codec_cases::append_as;
+use tls_codec_validate::{Rejected, Validate};
+use tls_codec_views::{Encoded, Parted};
 
 /// `Bounded`.
 ///
@@ -63,6 +65,42 @@ impl DeserializeBytes for Bounded {
     fn tls_deserialize_bytes(alloc: Global, whole: &[u8]) -> Result<(Bounded, &[u8]), Error> {
         let ((session, suites), rest) = <Parts>::tls_deserialize_bytes(alloc, whole)?;
         Ok((Bounded { session, suites }, rest))
+    }
+}
+
+impl Validate for Bounded {
+    ghost places = { ⟦<Parts as Validate>⟧.places };
+
+    fn tls_validate_prefix(whole: &[u8]) -> Result<&[u8], Rejected<'_>> {
+        <Parts>::tls_validate_prefix(whole)
+    }
+
+    fn tls_width() -> Option<usize> {
+        <Parts>::tls_width()
+    }
+}
+
+impl Parted for Bounded {
+    type Parts = Parts;
+
+    ghost as_parts = { λ bytes is. is };
+}
+
+/// The encoding of a [`Bounded`], by its fields.
+#[derive(Drop)]
+pub struct BoundedView<'a> {
+    /// `opaque session<0..32>;`
+    pub session: Encoded<'a, TlsByteVec<Within<u8, 0, 32>>>,
+    /// `uint16 suites<2..65534>;`
+    pub suites: Encoded<'a, TlsVec<Within<u16, 2, 65534>, u16>>,
+}
+
+impl<'a> From<Encoded<'a, Bounded>> for BoundedView<'a> {
+    ghost from_gives = { λ whole view. whole ≡ (view.session ++ view.suites) };
+
+    fn from(whole: Encoded<'a, Bounded>) -> BoundedView<'a> {
+        let (session, suites) = whole.parts().split();
+        BoundedView { session, suites }
     }
 }
 

@@ -8,6 +8,7 @@ use tls_codec::{
     DeserializeBytesFor, DeserializeFor, Error, Lent, SerializeFor, Sink, SizeFor, Source, VLBytes,
 };
 use tls_codec_cases::{Case, Chosen, Or, append_as_for, write_as_for};
+use tls_codec_validate::{Rejected, ValidateFor};
 
 /// `select (version)` of `ByVersion`: no byte of it tells the tag.
 #[derive(PartialEq, Eq, Debug, Clone, Drop)]
@@ -115,6 +116,14 @@ impl DeserializeBytesFor<u16> for ByVersion {
     ) -> Result<(ByVersion, &'a [u8]), Error> {
         let (cases, rest) = <Cases>::tls_deserialize_bytes_for(version, alloc, whole)?;
         Ok((ByVersion::of(cases), rest))
+    }
+}
+
+impl ValidateFor<u16> for ByVersion {
+    ghost places = { ⟦<Cases as ValidateFor<u16>>⟧.places };
+
+    fn tls_validate_prefix_for<'a>(key: &u64, whole: &'a [u8]) -> Result<&'a [u8], Rejected<'a>> {
+        <Cases as ValidateFor<u16>>::tls_validate_prefix_for(key, whole)
     }
 }
 

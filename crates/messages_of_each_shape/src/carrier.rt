@@ -10,6 +10,7 @@ use tls_codec::{
     Source, Then, TlsVecU16,
 };
 use tls_codec_cases::{append_as, write_as};
+use tls_codec_validate::{Rejected, Validate};
 
 /// `Carrier`.
 #[derive(PartialEq, Eq, Debug, Clone, Drop)]
@@ -117,6 +118,14 @@ impl DeserializeBytes for Carrier {
             },
             left,
         ))
+    }
+}
+
+impl Validate for Carrier {
+    ghost places = { ⟦<Parts as Validate>⟧.places };
+
+    fn tls_validate_prefix(whole: &[u8]) -> Result<&[u8], Rejected<'_>> {
+        <Parts>::tls_validate_prefix(whole)
     }
 }
 

@@ -3,7 +3,9 @@ ghost use Rattle.std.specs.Prelude.{◌≡◌, MatchOption, MatchResult, Some, f
 ghost use Rattle.std.specs.Fmt.{padded};
 ghost use Rattle.std.specs.Ordering.{nat_cmp};
 ghost use Rattle.tls_codec.specs.Errors.{UnknownValue};
-ghost use Rattle.tls_codec.specs.OwnMessages.{values_names, values_source_names};
+ghost use Rattle.std.proofs.Common.{refl};
+ghost use Rattle.tls_codec.specs.OwnMessages.{values, values_names, values_source_names};
+ghost use Rattle.tls_codec_validate.specs.TaggedPlaces.{values_places};
 ghost use Rattle.messages_of_each_shape.specs.CertificateType.{certificate_type_code, certificate_type_format, certificate_type_has, certificate_type_meets, certificate_type_name, certificate_type_plain, certificate_type_selected};
 ghost use Rattle.messages_of_each_shape.specs.declared.certificate_type.CertificateType.{CertificateType};
 
@@ -13,6 +15,9 @@ use tls_codec::{
     Deserialize, DeserializeBytes, Error, Serialize, Sink, Size, Source, unknown_value,
 };
 use tls_codec_cases::Selector;
+use tls_codec_validate::{
+    Keyed, Rejected, TagFirst, TagKeyed, Validate, ValidateKeyed, split_u8, validate_tag_first,
+};
 
 /// `CertificateType`.
 ///
@@ -151,6 +156,55 @@ impl Selector for CertificateType {
     fn selects(&self) -> u64 {
         let tag = self.code();
         u64::from(tag)
+    }
+}
+
+impl Validate for CertificateType {
+    ghost places = { values_places 1 certificate_type_has };
+
+    fn tls_validate_prefix(whole: &[u8]) -> Result<&[u8], Rejected<'_>> {
+        let (tag, rest) = split_u8(whole)?;
+        match CertificateType::of_code(tag) {
+            Some(_value) => Ok(rest),
+            None => Err(Rejected {
+                error: unknown_value(u64::from(tag)),
+                rest: whole,
+            }),
+        }
+    }
+}
+
+impl Keyed for CertificateType {
+    type Key = u64;
+
+    ghost is_key = { λ n c. n ≡ certificate_type_selected c };
+
+    fn key(&self) -> u64 {
+        self.selects()
+    }
+}
+
+impl TagKeyed for CertificateType {
+    fn tag_of_key(key: &u64) -> u64 {
+        *key
+    }
+}
+
+impl TagFirst for CertificateType {
+    type Tag = u8;
+
+    ghost variants = { values certificate_type_has };
+
+    ghost told = { certificate_type_selected };
+
+    ghost is_tagged = { λ d bytes v spelled. spelled };
+
+    ghost is_told = { λ d bytes tag parts spelled. refl };
+}
+
+impl ValidateKeyed for CertificateType {
+    fn tls_validate_keyed(whole: &[u8]) -> Result<(u64, &[u8]), Rejected<'_>> {
+        validate_tag_first::<CertificateType>(whole)
     }
 }
 

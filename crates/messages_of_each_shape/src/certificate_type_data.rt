@@ -10,6 +10,7 @@ use tls_codec::{
     TlsByteVec, U24, VLBytes, Within,
 };
 use tls_codec_cases::{Case, Chosen, Or, append_as_for, write_as_for};
+use tls_codec_validate::{Rejected, ValidateFor};
 
 /// `select (certificate_type)` of `Entry`: no byte of it tells the tag.
 #[derive(PartialEq, Eq, Debug, Clone, Drop)]
@@ -107,6 +108,14 @@ impl DeserializeBytesFor<CertificateType> for CertificateTypeData {
     ) -> Result<(CertificateTypeData, &'a [u8]), Error> {
         let (cases, rest) = <Cases>::tls_deserialize_bytes_for(certificate_type, alloc, whole)?;
         Ok((CertificateTypeData::of(cases), rest))
+    }
+}
+
+impl ValidateFor<CertificateType> for CertificateTypeData {
+    ghost places = { ⟦<Cases as ValidateFor<CertificateType>>⟧.places };
+
+    fn tls_validate_prefix_for<'a>(key: &u64, whole: &'a [u8]) -> Result<&'a [u8], Rejected<'a>> {
+        <Cases as ValidateFor<CertificateType>>::tls_validate_prefix_for(key, whole)
     }
 }
 

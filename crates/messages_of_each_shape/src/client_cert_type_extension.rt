@@ -10,6 +10,7 @@ use tls_codec::{
     Within,
 };
 use tls_codec_cases::{Case, Chosen, Or, append_as_for, write_as_for};
+use tls_codec_validate::{Rejected, ValidateFor};
 
 /// `select (ClientOrServerExtension)` of `ClientCertTypeExtension`: no byte of it tells the
 /// tag.
@@ -123,6 +124,14 @@ impl DeserializeBytesFor<ClientOrServerExtension> for ClientCertTypeExtension {
             whole,
         )?;
         Ok((ClientCertTypeExtension::of(cases), rest))
+    }
+}
+
+impl ValidateFor<ClientOrServerExtension> for ClientCertTypeExtension {
+    ghost places = { ⟦<Cases as ValidateFor<ClientOrServerExtension>>⟧.places };
+
+    fn tls_validate_prefix_for<'a>(key: &u64, whole: &'a [u8]) -> Result<&'a [u8], Rejected<'a>> {
+        <Cases as ValidateFor<ClientOrServerExtension>>::tls_validate_prefix_for(key, whole)
     }
 }
 

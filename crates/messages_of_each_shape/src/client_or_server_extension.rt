@@ -3,7 +3,9 @@ ghost use Rattle.std.specs.Prelude.{◌≡◌, MatchOption, MatchResult, Some, f
 ghost use Rattle.std.specs.Fmt.{padded};
 ghost use Rattle.std.specs.Ordering.{nat_cmp};
 ghost use Rattle.tls_codec.specs.Errors.{UnknownValue};
-ghost use Rattle.tls_codec.specs.OwnMessages.{values_names, values_source_names};
+ghost use Rattle.std.proofs.Common.{refl};
+ghost use Rattle.tls_codec.specs.OwnMessages.{values, values_names, values_source_names};
+ghost use Rattle.tls_codec_validate.specs.TaggedPlaces.{values_places};
 ghost use Rattle.messages_of_each_shape.specs.ClientOrServerExtension.{client_or_server_extension_code, client_or_server_extension_format, client_or_server_extension_has, client_or_server_extension_meets, client_or_server_extension_name, client_or_server_extension_plain, client_or_server_extension_selected};
 ghost use Rattle.messages_of_each_shape.specs.declared.client_or_server_extension.ClientOrServerExtension.{ClientOrServerExtension};
 
@@ -13,6 +15,9 @@ use tls_codec::{
     Deserialize, DeserializeBytes, Error, Serialize, Sink, Size, Source, unknown_value,
 };
 use tls_codec_cases::Selector;
+use tls_codec_validate::{
+    Keyed, Rejected, TagFirst, TagKeyed, Validate, ValidateKeyed, split_u8, validate_tag_first,
+};
 
 /// `ClientOrServerExtension`.
 #[derive(PartialEq, Eq, PartialOrd, Ord, Hash, Debug, Clone, Copy)]
@@ -152,6 +157,55 @@ impl Selector for ClientOrServerExtension {
     fn selects(&self) -> u64 {
         let tag = self.code();
         u64::from(tag)
+    }
+}
+
+impl Validate for ClientOrServerExtension {
+    ghost places = { values_places 1 client_or_server_extension_has };
+
+    fn tls_validate_prefix(whole: &[u8]) -> Result<&[u8], Rejected<'_>> {
+        let (tag, rest) = split_u8(whole)?;
+        match ClientOrServerExtension::of_code(tag) {
+            Some(_value) => Ok(rest),
+            None => Err(Rejected {
+                error: unknown_value(u64::from(tag)),
+                rest: whole,
+            }),
+        }
+    }
+}
+
+impl Keyed for ClientOrServerExtension {
+    type Key = u64;
+
+    ghost is_key = { λ n c. n ≡ client_or_server_extension_selected c };
+
+    fn key(&self) -> u64 {
+        self.selects()
+    }
+}
+
+impl TagKeyed for ClientOrServerExtension {
+    fn tag_of_key(key: &u64) -> u64 {
+        *key
+    }
+}
+
+impl TagFirst for ClientOrServerExtension {
+    type Tag = u8;
+
+    ghost variants = { values client_or_server_extension_has };
+
+    ghost told = { client_or_server_extension_selected };
+
+    ghost is_tagged = { λ d bytes v spelled. spelled };
+
+    ghost is_told = { λ d bytes tag parts spelled. refl };
+}
+
+impl ValidateKeyed for ClientOrServerExtension {
+    fn tls_validate_keyed(whole: &[u8]) -> Result<(u64, &[u8]), Rejected<'_>> {
+        validate_tag_first::<ClientOrServerExtension>(whole)
     }
 }
 

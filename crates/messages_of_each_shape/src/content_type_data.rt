@@ -1,6 +1,7 @@
 //! [`ContentTypeData`].
 ghost use Rattle.std.specs.Prelude.{◌≡◌, ◌&&◌, IsTrue};
 ghost use Rattle.tls_codec.specs.OwnMessages.{no_variant_names, no_variant_source_names, tagged_names, tagged_source_names, variant_names, variant_source_names};
+ghost use Rattle.tls_codec_validate.specs.TaggedPlaces.{no_variant_places, tagged_places, variant_places};
 ghost use Rattle.messages_of_each_shape.specs.ContentTypeData.{content_type_data_format, content_type_data_meets, content_type_data_plain, content_type_data_tag};
 ghost use Rattle.messages_of_each_shape.specs.declared.content_type_data.ContentTypeData.{ContentTypeData};
 
@@ -9,6 +10,7 @@ use tls_codec::{
     Deserialize, DeserializeBytes, Error, Lent, Lent2, Serialize, Sink, Size, Source, VLBytes,
     unknown_value,
 };
+use tls_codec_validate::{Rejected, Validate, split_u8};
 
 const APPLICATION: u8 = 1;
 
@@ -178,6 +180,31 @@ impl DeserializeBytes for ContentTypeData {
                 ))
             }
             _ => Err(unknown_value(u64::from(tag))),
+        }
+    }
+}
+
+impl Validate for ContentTypeData {
+    ghost places = { tagged_places 1
+        (variant_places 1 ⟦<(VLBytes, VLBytes) as Validate>⟧.places
+        (variant_places 2 ⟦<((VLBytes, VLBytes), u8) as Validate>⟧.places
+        no_variant_places)) };
+
+    fn tls_validate_prefix(whole: &[u8]) -> Result<&[u8], Rejected<'_>> {
+        let (tag, rest) = split_u8(whole)?;
+        match tag {
+            APPLICATION => {
+                let behind = <(VLBytes, VLBytes)>::tls_validate_prefix(rest)?;
+                Ok(behind)
+            }
+            PROPOSAL => {
+                let behind = <((VLBytes, VLBytes), u8)>::tls_validate_prefix(rest)?;
+                Ok(behind)
+            }
+            _ => Err(Rejected {
+                error: unknown_value(u64::from(tag)),
+                rest: whole,
+            }),
         }
     }
 }

@@ -8,6 +8,8 @@ ghost use Rattle.messages_of_each_shape.specs.declared.empty_type.EmptyType.{Emp
 use std::alloc::Global;
 use std::fmt;
 use tls_codec::{Deserialize, DeserializeBytes, Error, Serialize, Sink, Size, Source};
+use tls_codec_validate::{Rejected, Validate};
+use tls_codec_views::{Encoded, Parted, Told};
 
 /// `Empty`.
 #[derive(PartialEq, Eq, PartialOrd, Ord, Hash, Debug, Clone, Copy)]
@@ -96,6 +98,30 @@ impl DeserializeBytes for EmptyType {
     fn tls_deserialize_bytes(alloc: Global, whole: &[u8]) -> Result<(EmptyType, &[u8]), Error> {
         let (number, rest) = u8::tls_deserialize_bytes(alloc, whole)?;
         Ok((EmptyType(number), rest))
+    }
+}
+
+impl Validate for EmptyType {
+    ghost places = { ⟦<u8 as Validate>⟧.places };
+
+    fn tls_validate_prefix(whole: &[u8]) -> Result<&[u8], Rejected<'_>> {
+        u8::tls_validate_prefix(whole)
+    }
+
+    fn tls_width() -> Option<usize> {
+        u8::tls_width()
+    }
+}
+
+impl Parted for EmptyType {
+    type Parts = u8;
+
+    ghost as_parts = { λ bytes is. is };
+}
+
+impl Told for EmptyType {
+    fn told(encoded: &Encoded<'_, EmptyType>) -> EmptyType {
+        EmptyType(encoded.parts().get())
     }
 }
 

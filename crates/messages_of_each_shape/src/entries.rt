@@ -9,6 +9,7 @@ use tls_codec::{
     Always, DeserializeBytesFor, DeserializeFor, Error, Lent, LentIn, SerializeFor, Sink, SizeFor,
     Source, TlsVecU24,
 };
+use tls_codec_validate::{Rejected, ValidateFor};
 
 /// `Entries`.
 ///
@@ -79,6 +80,14 @@ impl DeserializeBytesFor<CertificateType> for Entries {
         let (parts, rest) = <Parts>::tls_deserialize_bytes_for(certificate_type, alloc, whole)?;
         let (Always(count), entries) = parts;
         Ok((Entries { count, entries }, rest))
+    }
+}
+
+impl ValidateFor<CertificateType> for Entries {
+    ghost places = { ⟦<Parts as ValidateFor<CertificateType>>⟧.places };
+
+    fn tls_validate_prefix_for<'a>(key: &u64, whole: &'a [u8]) -> Result<&'a [u8], Rejected<'a>> {
+        <Parts as ValidateFor<CertificateType>>::tls_validate_prefix_for(key, whole)
     }
 }
 

@@ -10,6 +10,7 @@ use tls_codec::{
     Source, VLBytes,
 };
 use tls_codec_cases::{append_as_for, write_as_for};
+use tls_codec_validate::{Rejected, ValidateFor};
 
 /// `Entry`.
 #[derive(PartialEq, Eq, Debug, Clone, Drop)]
@@ -122,6 +123,14 @@ impl DeserializeBytesFor<CertificateType> for Entry {
             },
             rest,
         ))
+    }
+}
+
+impl ValidateFor<CertificateType> for Entry {
+    ghost places = { ⟦<Parts as ValidateFor<CertificateType>>⟧.places };
+
+    fn tls_validate_prefix_for<'a>(key: &u64, whole: &'a [u8]) -> Result<&'a [u8], Rejected<'a>> {
+        <Parts as ValidateFor<CertificateType>>::tls_validate_prefix_for(key, whole)
     }
 }
 

@@ -1,5 +1,5 @@
 //! [`Framed`].
-ghost use Rattle.std.specs.Prelude.{◌≡◌, ◌&&◌};
+ghost use Rattle.std.specs.Prelude.{◌≡◌, ◌&&◌, ◌++◌};
 ghost use Rattle.messages_of_each_shape.specs.Framed.{framed_format, framed_meets, framed_plain};
 ghost use Rattle.messages_of_each_shape.specs.declared.framed.Framed.{Framed};
 
@@ -9,6 +9,8 @@ use tls_codec::{
     Deserialize, DeserializeBytes, Error, Lent, Serialize, Sink, Size, Source, VLBytes,
 };
 use tls_codec_cases::append_as;
+use tls_codec_validate::{Rejected, Validate};
+use tls_codec_views::{Encoded, Parted};
 
 /// `Framed`.
 #[derive(PartialEq, Eq, Debug, Clone, Drop)]
@@ -91,6 +93,49 @@ impl DeserializeBytes for Framed {
             },
             rest,
         ))
+    }
+}
+
+impl Validate for Framed {
+    ghost places = { ⟦<Parts as Validate>⟧.places };
+
+    fn tls_validate_prefix(whole: &[u8]) -> Result<&[u8], Rejected<'_>> {
+        <Parts>::tls_validate_prefix(whole)
+    }
+
+    fn tls_width() -> Option<usize> {
+        <Parts>::tls_width()
+    }
+}
+
+impl Parted for Framed {
+    type Parts = Parts;
+
+    ghost as_parts = { λ bytes is. is };
+}
+
+/// The encoding of a [`Framed`], by its fields.
+#[derive(Drop)]
+pub struct FramedView<'a> {
+    /// `uint32 epoch;`
+    pub epoch: Encoded<'a, u32>,
+    /// `ContentType content_type;`
+    pub content_type: Encoded<'a, ContentTypeData>,
+    /// `opaque signature<V>;`
+    pub signature: Encoded<'a, VLBytes>,
+}
+
+impl<'a> From<Encoded<'a, Framed>> for FramedView<'a> {
+    ghost from_gives = { λ whole view. whole ≡ (view.epoch ++
+        (view.content_type ++ view.signature)) };
+
+    fn from(whole: Encoded<'a, Framed>) -> FramedView<'a> {
+        let (epoch, content_type, signature) = whole.parts().split();
+        FramedView {
+            epoch,
+            content_type,
+            signature,
+        }
     }
 }
 

@@ -1,5 +1,5 @@
 //! [`Header`].
-ghost use Rattle.std.specs.Prelude.{◌≡◌, ◌&&◌};
+ghost use Rattle.std.specs.Prelude.{◌≡◌, ◌&&◌, ◌++◌};
 ghost use Rattle.messages_of_each_shape.specs.Header.{header_format, header_meets, header_plain};
 ghost use Rattle.messages_of_each_shape.specs.declared.header.Header.{Header};
 ghost use Rattle.messages_of_each_shape.specs.Header.{header_u16};
@@ -8,7 +8,9 @@ use std::alloc::Global;
 use tls_codec::{
     Deserialize, DeserializeBytes, Error, Lent, Serialize, Sink, Size, Source, VLBytes,
 };
-use tls_codec_cases::{Holds, append_as};
+use tls_codec_cases::{Holds, Selector, append_as};
+use tls_codec_validate::{HoldsKey, Keyed, Keyless, Rejected, Validate, ValidateKeyed};
+use tls_codec_views::{Encoded, Parted};
 
 /// `Header`.
 ///
@@ -63,11 +65,72 @@ impl DeserializeBytes for Header {
     }
 }
 
+impl Validate for Header {
+    ghost places = { ⟦<Parts as Validate>⟧.places };
+
+    fn tls_validate_prefix(whole: &[u8]) -> Result<&[u8], Rejected<'_>> {
+        <Parts>::tls_validate_prefix(whole)
+    }
+
+    fn tls_width() -> Option<usize> {
+        <Parts>::tls_width()
+    }
+}
+
+impl Parted for Header {
+    type Parts = Parts;
+
+    ghost as_parts = { λ bytes is. is };
+}
+
+/// The encoding of a [`Header`], by its fields.
+#[derive(Drop)]
+pub struct HeaderView<'a> {
+    /// `uint16 version;`
+    pub version: Encoded<'a, u16>,
+    /// `opaque rest<V>;`
+    pub rest_: Encoded<'a, VLBytes>,
+}
+
+impl<'a> From<Encoded<'a, Header>> for HeaderView<'a> {
+    ghost from_gives = { λ whole view. whole ≡ (view.version ++ view.rest_) };
+
+    fn from(whole: Encoded<'a, Header>) -> HeaderView<'a> {
+        let (version, rest_) = whole.parts().split();
+        HeaderView { version, rest_ }
+    }
+}
+
 impl Holds<u16> for Header {
     ghost held = { header_u16 };
 
     fn held(&self) -> u16 {
         self.version
+    }
+}
+
+impl Keyed for Header {
+    type Key = u64;
+
+    ghost is_key = { λ key c. (key ≡ ⟦<u16 as Selector>⟧.selected (header_u16 c)) };
+
+    fn key(&self) -> u64 {
+        <Header as Holds<u16>>::held(self).selects()
+    }
+}
+
+impl HoldsKey<u16> for Header {
+    fn held_key(key: &u64) -> u64 {
+        *key
+    }
+}
+
+type KeyedParts = (u16, Keyless<VLBytes>);
+
+impl ValidateKeyed for Header {
+    fn tls_validate_keyed(whole: &[u8]) -> Result<(u64, &[u8]), Rejected<'_>> {
+        let ((version, _), rest) = <KeyedParts>::tls_validate_keyed(whole)?;
+        Ok((version, rest))
     }
 }
 

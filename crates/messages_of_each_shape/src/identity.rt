@@ -1,6 +1,7 @@
 //! [`Identity`].
 ghost use Rattle.std.specs.Prelude.{◌≡◌, ◌&&◌, IsTrue, true};
 ghost use Rattle.tls_codec.specs.OwnMessages.{no_variant_names, no_variant_source_names, nothing_names, nothing_source_names, tagged_names, tagged_source_names, variant_names, variant_source_names};
+ghost use Rattle.tls_codec_validate.specs.TaggedPlaces.{no_variant_places, nothing_places, tagged_places, variant_places};
 ghost use Rattle.messages_of_each_shape.specs.Identity.{identity_format, identity_meets, identity_plain, identity_tag};
 ghost use Rattle.messages_of_each_shape.specs.declared.identity.Identity.{Identity};
 
@@ -10,6 +11,7 @@ use tls_codec::{
     Deserialize, DeserializeBytes, Error, Lent2, Lent3, Serialize, Sink, Size, Source,
     unknown_value,
 };
+use tls_codec_validate::{Rejected, Validate, split_u16};
 
 const FULL: u16 = 4;
 
@@ -140,6 +142,30 @@ impl DeserializeBytes for Identity {
             }
             ANONYMOUS => Ok((Identity::Anonymous, rest)),
             _ => Err(unknown_value(u64::from(tag))),
+        }
+    }
+}
+
+impl Validate for Identity {
+    ghost places = { tagged_places 2
+        (variant_places 4 ⟦<((NameType, Level, Key), (u32, Option<Key>)) as Validate>⟧.places
+        (variant_places 5 nothing_places
+        no_variant_places)) };
+
+    fn tls_validate_prefix(whole: &[u8]) -> Result<&[u8], Rejected<'_>> {
+        let (tag, rest) = split_u16(whole)?;
+        match tag {
+            FULL => {
+                let behind = <((NameType, Level, Key), (u32, Option<Key>))>::tls_validate_prefix(
+                    rest,
+                )?;
+                Ok(behind)
+            }
+            ANONYMOUS => Ok(rest),
+            _ => Err(Rejected {
+                error: unknown_value(u64::from(tag)),
+                rest: whole,
+            }),
         }
     }
 }

@@ -9,6 +9,7 @@ use tls_codec::{
     Always, DeserializeBytesFor, DeserializeFor, Error, Lent, LentIn, SerializeFor, Sink, SizeFor,
     Source,
 };
+use tls_codec_validate::{Rejected, ValidateFor};
 
 /// `KindBody`.
 #[derive(PartialEq, Eq, Debug, Clone, Drop)]
@@ -77,6 +78,14 @@ impl DeserializeBytesFor<BodyKind> for KindBody {
         let (parts, rest) = <Parts>::tls_deserialize_bytes_for(body_kind, alloc, whole)?;
         let (Always(first), body) = parts;
         Ok((KindBody { first, body }, rest))
+    }
+}
+
+impl ValidateFor<BodyKind> for KindBody {
+    ghost places = { ⟦<Parts as ValidateFor<BodyKind>>⟧.places };
+
+    fn tls_validate_prefix_for<'a>(key: &u64, whole: &'a [u8]) -> Result<&'a [u8], Rejected<'a>> {
+        <Parts as ValidateFor<BodyKind>>::tls_validate_prefix_for(key, whole)
     }
 }
 

@@ -1,5 +1,5 @@
 //! [`Line`].
-ghost use Rattle.std.specs.Prelude.{◌≡◌, ◌&&◌};
+ghost use Rattle.std.specs.Prelude.{◌≡◌, ◌&&◌, ◌++◌};
 ghost use Rattle.messages_of_each_shape.specs.Line.{line_format, line_meets, line_plain};
 ghost use Rattle.messages_of_each_shape.specs.declared.line.Line.{Line};
 
@@ -9,6 +9,8 @@ use tls_codec::{
     Deserialize, DeserializeBytes, Error, Lent, Serialize, Sink, Size, Source, TlsVec,
 };
 use tls_codec_cases::{Exactly, append_as};
+use tls_codec_validate::{Rejected, Validate};
+use tls_codec_views::{Encoded, Parted};
 
 /// `Line`.
 #[derive(PartialEq, Eq, Debug, Clone, Drop)]
@@ -75,6 +77,48 @@ impl DeserializeBytes for Line {
             },
             rest,
         ))
+    }
+}
+
+impl Validate for Line {
+    ghost places = { ⟦<Parts as Validate>⟧.places };
+
+    fn tls_validate_prefix(whole: &[u8]) -> Result<&[u8], Rejected<'_>> {
+        <Parts>::tls_validate_prefix(whole)
+    }
+
+    fn tls_width() -> Option<usize> {
+        <Parts>::tls_width()
+    }
+}
+
+impl Parted for Line {
+    type Parts = Parts;
+
+    ghost as_parts = { λ bytes is. is };
+}
+
+/// The encoding of a [`Line`], by its fields.
+#[derive(Drop)]
+pub struct LineView<'a> {
+    /// `uint32 before;`
+    pub before: Encoded<'a, u32>,
+    /// `Pixel pixels[6];`
+    pub pixels: Encoded<'a, TlsVec<Exactly<6>, Pixel>>,
+    /// `uint16 after;`
+    pub after: Encoded<'a, u16>,
+}
+
+impl<'a> From<Encoded<'a, Line>> for LineView<'a> {
+    ghost from_gives = { λ whole view. whole ≡ (view.before ++ (view.pixels ++ view.after)) };
+
+    fn from(whole: Encoded<'a, Line>) -> LineView<'a> {
+        let (before, pixels, after) = whole.parts().split();
+        LineView {
+            before,
+            pixels,
+            after,
+        }
     }
 }
 

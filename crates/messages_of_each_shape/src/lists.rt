@@ -1,5 +1,5 @@
 //! [`Lists`].
-ghost use Rattle.std.specs.Prelude.{◌≡◌, ◌&&◌};
+ghost use Rattle.std.specs.Prelude.{◌≡◌, ◌&&◌, ◌++◌};
 ghost use Rattle.messages_of_each_shape.specs.Lists.{lists_format, lists_meets, lists_plain};
 ghost use Rattle.messages_of_each_shape.specs.declared.lists.Lists.{Lists};
 
@@ -10,6 +10,8 @@ use tls_codec::{
     TlsVecU16, TlsVecU24, TlsVecU32,
 };
 use tls_codec_cases::append_as;
+use tls_codec_validate::{Rejected, Validate};
+use tls_codec_views::{Encoded, Parted};
 
 /// `Lists`.
 ///
@@ -118,6 +120,67 @@ impl DeserializeBytes for Lists {
             },
             rest,
         ))
+    }
+}
+
+impl Validate for Lists {
+    ghost places = { ⟦<Parts as Validate>⟧.places };
+
+    fn tls_validate_prefix(whole: &[u8]) -> Result<&[u8], Rejected<'_>> {
+        <Parts>::tls_validate_prefix(whole)
+    }
+
+    fn tls_width() -> Option<usize> {
+        <Parts>::tls_width()
+    }
+}
+
+impl Parted for Lists {
+    type Parts = Parts;
+
+    ghost as_parts = { λ bytes is. is };
+}
+
+/// The encoding of a [`Lists`], by its fields.
+#[derive(Drop)]
+pub struct ListsView<'a> {
+    /// `uint16 octets<0..2^8-1>;`
+    pub octets: Encoded<'a, TlsVecU8<u16>>,
+    /// `Level levels<0..2^16-1>;`
+    pub levels: Encoded<'a, TlsVecU16<Level>>,
+    /// `Key keys<0..2^24-1>;`
+    pub keys: Encoded<'a, TlsVecU24<Key>>,
+    /// `Identity identities<0..2^32-1>;`
+    pub identities: Encoded<'a, TlsVecU32<Identity>>,
+    /// `Row rows<V>;`
+    pub rows: Encoded<'a, Vec<Row>>,
+    /// `ExtensionType kind;`
+    pub kind: Encoded<'a, ExtensionType>,
+    /// `NameType names<V>;`
+    pub names: Encoded<'a, Vec<NameType>>,
+    /// `Row row;`
+    pub row: Encoded<'a, Row>,
+}
+
+impl<'a> From<Encoded<'a, Lists>> for ListsView<'a> {
+    ghost from_gives = { λ whole view. whole ≡ ((view.octets ++ (view.levels ++ view.keys)) ++
+        ((view.identities ++ (view.rows ++ view.kind)) ++ (view.names ++ view.row))) };
+
+    fn from(whole: Encoded<'a, Lists>) -> ListsView<'a> {
+        let (parts_0, parts_1, parts_2) = whole.parts().split();
+        let (octets, levels, keys) = parts_0.split();
+        let (identities, rows, kind) = parts_1.split();
+        let (names, row) = parts_2.split();
+        ListsView {
+            octets,
+            levels,
+            keys,
+            identities,
+            rows,
+            kind,
+            names,
+            row,
+        }
     }
 }
 

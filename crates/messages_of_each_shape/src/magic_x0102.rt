@@ -4,6 +4,7 @@ ghost use Rattle.std.specs.Fmt.{padded};
 ghost use Rattle.std.specs.Ordering.{nat_cmp};
 ghost use Rattle.tls_codec.specs.Errors.{UnknownValue};
 ghost use Rattle.tls_codec.specs.OwnMessages.{values_names, values_source_names};
+ghost use Rattle.tls_codec_validate.specs.TaggedPlaces.{values_places};
 ghost use Rattle.messages_of_each_shape.specs.MagicX0102.{magic_x0102_code, magic_x0102_format, magic_x0102_has, magic_x0102_meets, magic_x0102_name, magic_x0102_plain};
 ghost use Rattle.messages_of_each_shape.specs.declared.magic_x0102.MagicX0102.{MagicX0102};
 
@@ -12,6 +13,7 @@ use std::fmt;
 use tls_codec::{
     Deserialize, DeserializeBytes, Error, Serialize, Sink, Size, Source, unknown_value,
 };
+use tls_codec_validate::{Rejected, Validate, split_u16};
 
 /// `MagicX0102`.
 #[derive(PartialEq, Eq, PartialOrd, Ord, Hash, Debug, Clone, Copy)]
@@ -125,6 +127,21 @@ impl DeserializeBytes for MagicX0102 {
         match MagicX0102::of_code(tag) {
             Some(value) => Ok((value, rest)),
             None => Err(unknown_value(u64::from(tag))),
+        }
+    }
+}
+
+impl Validate for MagicX0102 {
+    ghost places = { values_places 2 magic_x0102_has };
+
+    fn tls_validate_prefix(whole: &[u8]) -> Result<&[u8], Rejected<'_>> {
+        let (tag, rest) = split_u16(whole)?;
+        match MagicX0102::of_code(tag) {
+            Some(_value) => Ok(rest),
+            None => Err(Rejected {
+                error: unknown_value(u64::from(tag)),
+                rest: whole,
+            }),
         }
     }
 }

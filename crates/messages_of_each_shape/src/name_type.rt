@@ -9,6 +9,8 @@ use std::alloc::Global;
 use std::fmt;
 use tls_codec::{Deserialize, DeserializeBytes, Error, Serialize, Sink, Size, Source};
 use tls_codec_cases::Selector;
+use tls_codec_validate::{FindTag, Keyed, Rejected, TagKeyed, Validate, ValidateKeyed};
+use tls_codec_views::{Encoded, Parted, Told};
 
 /// `NameType`.
 ///
@@ -112,6 +114,53 @@ impl Selector for NameType {
     fn selects(&self) -> u64 {
         let tag = self.0;
         u64::from(tag)
+    }
+}
+
+impl Validate for NameType {
+    ghost places = { ⟦<u8 as Validate>⟧.places };
+
+    fn tls_validate_prefix(whole: &[u8]) -> Result<&[u8], Rejected<'_>> {
+        u8::tls_validate_prefix(whole)
+    }
+
+    fn tls_width() -> Option<usize> {
+        u8::tls_width()
+    }
+}
+
+impl Parted for NameType {
+    type Parts = u8;
+
+    ghost as_parts = { λ bytes is. is };
+}
+
+impl Told for NameType {
+    fn told(encoded: &Encoded<'_, NameType>) -> NameType {
+        NameType(encoded.parts().get())
+    }
+}
+
+impl Keyed for NameType {
+    type Key = u64;
+
+    ghost is_key = { λ n c. n ≡ name_type_selected c };
+
+    fn key(&self) -> u64 {
+        self.selects()
+    }
+}
+
+impl TagKeyed for NameType {
+    fn tag_of_key(key: &u64) -> u64 {
+        *key
+    }
+}
+
+impl ValidateKeyed for NameType {
+    fn tls_validate_keyed(whole: &[u8]) -> Result<(u64, &[u8]), Rejected<'_>> {
+        let (tag, rest) = <u8 as FindTag>::find_tag(whole)?;
+        Ok((tag, rest))
     }
 }
 

@@ -9,6 +9,7 @@ use tls_codec::{
     DeserializeBytesFor, DeserializeFor, Error, Lent, SerializeFor, Sink, SizeFor, Source,
 };
 use tls_codec_cases::{Case, Chosen, Or, append_as_for, write_as_for};
+use tls_codec_validate::{Rejected, ValidateFor};
 
 /// `select (name_type)` of `Bearer`: no byte of it tells the tag.
 #[derive(PartialEq, Eq, Debug, Clone, Drop)]
@@ -101,6 +102,14 @@ impl DeserializeBytesFor<NameType> for NameTypeData {
     ) -> Result<(NameTypeData, &'a [u8]), Error> {
         let (cases, rest) = <Cases>::tls_deserialize_bytes_for(name_type, alloc, whole)?;
         Ok((NameTypeData::of(cases), rest))
+    }
+}
+
+impl ValidateFor<NameType> for NameTypeData {
+    ghost places = { ⟦<Cases as ValidateFor<NameType>>⟧.places };
+
+    fn tls_validate_prefix_for<'a>(key: &u64, whole: &'a [u8]) -> Result<&'a [u8], Rejected<'a>> {
+        <Cases as ValidateFor<NameType>>::tls_validate_prefix_for(key, whole)
     }
 }
 

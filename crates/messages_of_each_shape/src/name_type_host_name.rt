@@ -4,6 +4,7 @@ ghost use Rattle.std.specs.Fmt.{padded};
 ghost use Rattle.std.specs.Ordering.{nat_cmp};
 ghost use Rattle.tls_codec.specs.Errors.{UnknownValue};
 ghost use Rattle.tls_codec.specs.OwnMessages.{values_names, values_source_names};
+ghost use Rattle.tls_codec_validate.specs.TaggedPlaces.{values_places};
 ghost use Rattle.messages_of_each_shape.specs.NameTypeHostName.{name_type_host_name_code, name_type_host_name_format, name_type_host_name_has, name_type_host_name_meets, name_type_host_name_name, name_type_host_name_plain};
 ghost use Rattle.messages_of_each_shape.specs.declared.name_type_host_name.NameTypeHostName.{NameTypeHostName};
 
@@ -12,6 +13,7 @@ use std::fmt;
 use tls_codec::{
     Deserialize, DeserializeBytes, Error, Serialize, Sink, Size, Source, unknown_value,
 };
+use tls_codec_validate::{Rejected, Validate, split_u8};
 
 /// `NameTypeHostName`.
 #[derive(PartialEq, Eq, PartialOrd, Ord, Hash, Debug, Clone, Copy)]
@@ -128,6 +130,21 @@ impl DeserializeBytes for NameTypeHostName {
         match NameTypeHostName::of_code(tag) {
             Some(value) => Ok((value, rest)),
             None => Err(unknown_value(u64::from(tag))),
+        }
+    }
+}
+
+impl Validate for NameTypeHostName {
+    ghost places = { values_places 1 name_type_host_name_has };
+
+    fn tls_validate_prefix(whole: &[u8]) -> Result<&[u8], Rejected<'_>> {
+        let (tag, rest) = split_u8(whole)?;
+        match NameTypeHostName::of_code(tag) {
+            Some(_value) => Ok(rest),
+            None => Err(Rejected {
+                error: unknown_value(u64::from(tag)),
+                rest: whole,
+            }),
         }
     }
 }

@@ -1,11 +1,13 @@
 //! [`Pixel`].
-ghost use Rattle.std.specs.Prelude.{◌≡◌, ◌&&◌};
+ghost use Rattle.std.specs.Prelude.{◌≡◌, ◌&&◌, ◌++◌};
 ghost use Rattle.messages_of_each_shape.specs.Pixel.{pixel_format, pixel_meets, pixel_plain};
 ghost use Rattle.messages_of_each_shape.specs.declared.pixel.Pixel.{Pixel};
 
 use std::alloc::Global;
 use tls_codec::{Deserialize, DeserializeBytes, Error, Lent, Serialize, Sink, Size, Source};
 use tls_codec_cases::append_as;
+use tls_codec_validate::{Rejected, Validate};
+use tls_codec_views::{Encoded, Parted};
 
 /// `Pixel`.
 #[derive(PartialEq, Eq, Debug, Clone, Drop)]
@@ -55,6 +57,42 @@ impl DeserializeBytes for Pixel {
     fn tls_deserialize_bytes(alloc: Global, whole: &[u8]) -> Result<(Pixel, &[u8]), Error> {
         let ((x, y), rest) = <Parts>::tls_deserialize_bytes(alloc, whole)?;
         Ok((Pixel { x, y }, rest))
+    }
+}
+
+impl Validate for Pixel {
+    ghost places = { ⟦<Parts as Validate>⟧.places };
+
+    fn tls_validate_prefix(whole: &[u8]) -> Result<&[u8], Rejected<'_>> {
+        <Parts>::tls_validate_prefix(whole)
+    }
+
+    fn tls_width() -> Option<usize> {
+        <Parts>::tls_width()
+    }
+}
+
+impl Parted for Pixel {
+    type Parts = Parts;
+
+    ghost as_parts = { λ bytes is. is };
+}
+
+/// The encoding of a [`Pixel`], by its fields.
+#[derive(Drop)]
+pub struct PixelView<'a> {
+    /// `uint8 x;`
+    pub x: Encoded<'a, u8>,
+    /// `uint16 y;`
+    pub y: Encoded<'a, u16>,
+}
+
+impl<'a> From<Encoded<'a, Pixel>> for PixelView<'a> {
+    ghost from_gives = { λ whole view. whole ≡ (view.x ++ view.y) };
+
+    fn from(whole: Encoded<'a, Pixel>) -> PixelView<'a> {
+        let (x, y) = whole.parts().split();
+        PixelView { x, y }
     }
 }
 

@@ -1,5 +1,5 @@
 //! [`Point`].
-ghost use Rattle.std.specs.Prelude.{◌≡◌, ◌&&◌};
+ghost use Rattle.std.specs.Prelude.{◌≡◌, ◌&&◌, ◌++◌};
 ghost use Rattle.messages_of_each_shape.specs.Point.{point_format, point_meets, point_plain};
 ghost use Rattle.messages_of_each_shape.specs.declared.point.Point.{Point};
 
@@ -9,6 +9,8 @@ use tls_codec::{
     Deserialize, DeserializeBytes, Error, Lent, Serialize, Sink, Size, Source, VLBytes,
 };
 use tls_codec_cases::append_as;
+use tls_codec_validate::{Rejected, Validate};
+use tls_codec_views::{Encoded, Parted};
 
 /// `Point`.
 #[derive(PartialEq, Eq, Debug, Clone, Drop)]
@@ -60,6 +62,44 @@ impl DeserializeBytes for Point {
     fn tls_deserialize_bytes(alloc: Global, whole: &[u8]) -> Result<(Point, &[u8]), Error> {
         let ((form, x, y), rest) = <Parts>::tls_deserialize_bytes(alloc, whole)?;
         Ok((Point { form, x, y }, rest))
+    }
+}
+
+impl Validate for Point {
+    ghost places = { ⟦<Parts as Validate>⟧.places };
+
+    fn tls_validate_prefix(whole: &[u8]) -> Result<&[u8], Rejected<'_>> {
+        <Parts>::tls_validate_prefix(whole)
+    }
+
+    fn tls_width() -> Option<usize> {
+        <Parts>::tls_width()
+    }
+}
+
+impl Parted for Point {
+    type Parts = Parts;
+
+    ghost as_parts = { λ bytes is. is };
+}
+
+/// The encoding of a [`Point`], by its fields.
+#[derive(Drop)]
+pub struct PointView<'a> {
+    /// `uint8 form;`
+    pub form: Encoded<'a, FormX04>,
+    /// `opaque x<V>;`
+    pub x: Encoded<'a, VLBytes>,
+    /// `opaque y<V>;`
+    pub y: Encoded<'a, VLBytes>,
+}
+
+impl<'a> From<Encoded<'a, Point>> for PointView<'a> {
+    ghost from_gives = { λ whole view. whole ≡ (view.form ++ (view.x ++ view.y)) };
+
+    fn from(whole: Encoded<'a, Point>) -> PointView<'a> {
+        let (form, x, y) = whole.parts().split();
+        PointView { form, x, y }
     }
 }
 

@@ -1,5 +1,5 @@
 //! [`ServerName`].
-ghost use Rattle.std.specs.Prelude.{◌≡◌, ◌&&◌};
+ghost use Rattle.std.specs.Prelude.{◌≡◌, ◌&&◌, ◌++◌};
 ghost use Rattle.messages_of_each_shape.specs.ServerName.{server_name_format, server_name_meets, server_name_plain};
 ghost use Rattle.messages_of_each_shape.specs.declared.server_name.ServerName.{ServerName};
 
@@ -7,6 +7,8 @@ use crate::{HostName, NameTypeHostName};
 use std::alloc::Global;
 use tls_codec::{Deserialize, DeserializeBytes, Error, Lent, Serialize, Sink, Size, Source};
 use tls_codec_cases::append_as;
+use tls_codec_validate::{Rejected, Validate};
+use tls_codec_views::{Encoded, Parted};
 
 /// `ServerName`.
 #[derive(PartialEq, Eq, Debug, Clone, Drop)]
@@ -56,6 +58,42 @@ impl DeserializeBytes for ServerName {
     fn tls_deserialize_bytes(alloc: Global, whole: &[u8]) -> Result<(ServerName, &[u8]), Error> {
         let ((name_type, name), rest) = <Parts>::tls_deserialize_bytes(alloc, whole)?;
         Ok((ServerName { name_type, name }, rest))
+    }
+}
+
+impl Validate for ServerName {
+    ghost places = { ⟦<Parts as Validate>⟧.places };
+
+    fn tls_validate_prefix(whole: &[u8]) -> Result<&[u8], Rejected<'_>> {
+        <Parts>::tls_validate_prefix(whole)
+    }
+
+    fn tls_width() -> Option<usize> {
+        <Parts>::tls_width()
+    }
+}
+
+impl Parted for ServerName {
+    type Parts = Parts;
+
+    ghost as_parts = { λ bytes is. is };
+}
+
+/// The encoding of a [`ServerName`], by its fields.
+#[derive(Drop)]
+pub struct ServerNameView<'a> {
+    /// `NameType name_type;`
+    pub name_type: Encoded<'a, NameTypeHostName>,
+    /// `HostName;`
+    pub name: Encoded<'a, HostName>,
+}
+
+impl<'a> From<Encoded<'a, ServerName>> for ServerNameView<'a> {
+    ghost from_gives = { λ whole view. whole ≡ (view.name_type ++ view.name) };
+
+    fn from(whole: Encoded<'a, ServerName>) -> ServerNameView<'a> {
+        let (name_type, name) = whole.parts().split();
+        ServerNameView { name_type, name }
     }
 }
 

@@ -1,5 +1,5 @@
 //! [`SessionTicket`].
-ghost use Rattle.std.specs.Prelude.{◌≡◌, ◌&&◌};
+ghost use Rattle.std.specs.Prelude.{◌≡◌, ◌&&◌, ◌++◌};
 ghost use Rattle.messages_of_each_shape.specs.SessionTicket.{session_ticket_format, session_ticket_meets, session_ticket_plain};
 ghost use Rattle.messages_of_each_shape.specs.declared.session_ticket.SessionTicket.{SessionTicket};
 
@@ -9,6 +9,8 @@ use tls_codec::{
     Deserialize, DeserializeBytes, Error, Lent2, Lent3, Serialize, Sink, Size, Source,
 };
 use tls_codec_cases::append_as;
+use tls_codec_validate::{Rejected, Validate};
+use tls_codec_views::{Encoded, Parted};
 
 /// `session_ticket`.
 #[derive(PartialEq, Eq, Debug, Clone, Drop)]
@@ -96,6 +98,57 @@ impl DeserializeBytes for SessionTicket {
             },
             rest,
         ))
+    }
+}
+
+impl Validate for SessionTicket {
+    ghost places = { ⟦<Parts as Validate>⟧.places };
+
+    fn tls_validate_prefix(whole: &[u8]) -> Result<&[u8], Rejected<'_>> {
+        <Parts>::tls_validate_prefix(whole)
+    }
+
+    fn tls_width() -> Option<usize> {
+        <Parts>::tls_width()
+    }
+}
+
+impl Parted for SessionTicket {
+    type Parts = Parts;
+
+    ghost as_parts = { λ bytes is. is };
+}
+
+/// The encoding of a [`SessionTicket`], by its fields.
+#[derive(Drop)]
+pub struct SessionTicketView<'a> {
+    /// `ASN.1Cert a.1;`
+    pub a_1: Encoded<'a, ASN1Cert>,
+    /// `Empty type;`
+    pub kind: Encoded<'a, EmptyType>,
+    /// `uint16 version = {254, 253};`
+    pub version: Encoded<'a, VersionXfefd>,
+    /// `opaque magic[2] = {1, 2};`
+    pub magic: Encoded<'a, MagicX0102>,
+    /// `uint16_t wide;`
+    pub wide: Encoded<'a, u16>,
+}
+
+impl<'a> From<Encoded<'a, SessionTicket>> for SessionTicketView<'a> {
+    ghost from_gives = { λ whole view. whole ≡ ((view.a_1 ++ (view.kind ++ view.version)) ++
+        (view.magic ++ view.wide)) };
+
+    fn from(whole: Encoded<'a, SessionTicket>) -> SessionTicketView<'a> {
+        let (parts_0, parts_1) = whole.parts().split();
+        let (a_1, kind, version) = parts_0.split();
+        let (magic, wide) = parts_1.split();
+        SessionTicketView {
+            a_1,
+            kind,
+            version,
+            magic,
+            wide,
+        }
     }
 }
 

@@ -1,5 +1,5 @@
 //! [`SizedType`].
-ghost use Rattle.std.specs.Prelude.{◌≡◌, ◌&&◌};
+ghost use Rattle.std.specs.Prelude.{◌≡◌, ◌&&◌, ◌++◌};
 ghost use Rattle.messages_of_each_shape.specs.SizedType.{sized_type_format, sized_type_meets, sized_type_plain};
 ghost use Rattle.messages_of_each_shape.specs.declared.sized_type.SizedType.{SizedType};
 
@@ -7,6 +7,8 @@ use crate::VersionData;
 use std::alloc::Global;
 use tls_codec::{Deserialize, DeserializeBytes, Error, Lent, Serialize, Sink, Size, Source};
 use tls_codec_cases::append_as;
+use tls_codec_validate::{Rejected, Validate};
+use tls_codec_views::{Encoded, Parted};
 
 /// `Sized`.
 #[derive(PartialEq, Eq, Debug, Clone, Drop)]
@@ -73,6 +75,48 @@ impl DeserializeBytes for SizedType {
             },
             rest,
         ))
+    }
+}
+
+impl Validate for SizedType {
+    ghost places = { ⟦<Parts as Validate>⟧.places };
+
+    fn tls_validate_prefix(whole: &[u8]) -> Result<&[u8], Rejected<'_>> {
+        <Parts>::tls_validate_prefix(whole)
+    }
+
+    fn tls_width() -> Option<usize> {
+        <Parts>::tls_width()
+    }
+}
+
+impl Parted for SizedType {
+    type Parts = Parts;
+
+    ghost as_parts = { λ bytes is. is };
+}
+
+/// The encoding of a [`SizedType`], by its fields.
+#[derive(Drop)]
+pub struct SizedTypeView<'a> {
+    /// `uint8 before;`
+    pub before: Encoded<'a, u8>,
+    /// `uint16 version;`
+    pub contents: Encoded<'a, VersionData>,
+    /// `uint8 after;`
+    pub after: Encoded<'a, u8>,
+}
+
+impl<'a> From<Encoded<'a, SizedType>> for SizedTypeView<'a> {
+    ghost from_gives = { λ whole view. whole ≡ (view.before ++ (view.contents ++ view.after)) };
+
+    fn from(whole: Encoded<'a, SizedType>) -> SizedTypeView<'a> {
+        let (before, contents, after) = whole.parts().split();
+        SizedTypeView {
+            before,
+            contents,
+            after,
+        }
     }
 }
 

@@ -7,6 +7,8 @@ use crate::Datum;
 use std::alloc::Global;
 use tls_codec::{Deserialize, DeserializeBytes, Error, Serialize, Sink, Size, Source, TlsVec};
 use tls_codec_cases::{Exactly, append_as};
+use tls_codec_validate::{Rejected, Validate};
+use tls_codec_views::{Encoded, Parted};
 
 /// `ThreeData`.
 #[derive(PartialEq, Eq, Debug, Clone, Drop)]
@@ -52,6 +54,40 @@ impl DeserializeBytes for ThreeData {
     fn tls_deserialize_bytes(alloc: Global, whole: &[u8]) -> Result<(ThreeData, &[u8]), Error> {
         let (data_, rest) = <TlsVec<Exactly<9>, Datum>>::tls_deserialize_bytes(alloc, whole)?;
         Ok((ThreeData { data_ }, rest))
+    }
+}
+
+impl Validate for ThreeData {
+    ghost places = { ⟦<TlsVec<Exactly<9>, Datum> as Validate>⟧.places };
+
+    fn tls_validate_prefix(whole: &[u8]) -> Result<&[u8], Rejected<'_>> {
+        <TlsVec<Exactly<9>, Datum>>::tls_validate_prefix(whole)
+    }
+
+    fn tls_width() -> Option<usize> {
+        <TlsVec<Exactly<9>, Datum>>::tls_width()
+    }
+}
+
+impl Parted for ThreeData {
+    type Parts = TlsVec<Exactly<9>, Datum>;
+
+    ghost as_parts = { λ bytes is. is };
+}
+
+/// The encoding of a [`ThreeData`], by its fields.
+#[derive(Drop)]
+pub struct ThreeDataView<'a> {
+    /// `Datum data[9];`
+    pub data_: Encoded<'a, TlsVec<Exactly<9>, Datum>>,
+}
+
+impl<'a> From<Encoded<'a, ThreeData>> for ThreeDataView<'a> {
+    ghost from_gives = { λ whole view. whole ≡ view.data_ };
+
+    fn from(whole: Encoded<'a, ThreeData>) -> ThreeDataView<'a> {
+        let data_ = whole.parts();
+        ThreeDataView { data_ }
     }
 }
 

@@ -7,6 +7,8 @@ use crate::RatchetTree;
 use std::alloc::Global;
 use tls_codec::{Deserialize, DeserializeBytes, Error, Serialize, Sink, Size, Source};
 use tls_codec_cases::append_as;
+use tls_codec_validate::{Rejected, Validate};
+use tls_codec_views::{Encoded, Parted};
 
 /// `Trees`.
 #[derive(PartialEq, Eq, Debug, Clone, Drop)]
@@ -52,6 +54,40 @@ impl DeserializeBytes for Trees {
     fn tls_deserialize_bytes(alloc: Global, whole: &[u8]) -> Result<(Trees, &[u8]), Error> {
         let (tree, rest) = RatchetTree::tls_deserialize_bytes(alloc, whole)?;
         Ok((Trees { tree }, rest))
+    }
+}
+
+impl Validate for Trees {
+    ghost places = { ⟦<RatchetTree as Validate>⟧.places };
+
+    fn tls_validate_prefix(whole: &[u8]) -> Result<&[u8], Rejected<'_>> {
+        RatchetTree::tls_validate_prefix(whole)
+    }
+
+    fn tls_width() -> Option<usize> {
+        RatchetTree::tls_width()
+    }
+}
+
+impl Parted for Trees {
+    type Parts = RatchetTree;
+
+    ghost as_parts = { λ bytes is. is };
+}
+
+/// The encoding of a [`Trees`], by its fields.
+#[derive(Drop)]
+pub struct TreesView<'a> {
+    /// `ratchet_tree tree;`
+    pub tree: Encoded<'a, RatchetTree>,
+}
+
+impl<'a> From<Encoded<'a, Trees>> for TreesView<'a> {
+    ghost from_gives = { λ whole view. whole ≡ view.tree };
+
+    fn from(whole: Encoded<'a, Trees>) -> TreesView<'a> {
+        let tree = whole.parts();
+        TreesView { tree }
     }
 }
 

@@ -10,6 +10,7 @@ use tls_codec::{
     Deserialize, DeserializeBytes, Error, Lent, Serialize, Sink, Size, Source, VLBytes,
 };
 use tls_codec_cases::{Case, Enclosed, Or, Tagged, append_as, write_as};
+use tls_codec_validate::{Rejected, Validate};
 
 /// `uint16 version` of `Sized`, and what comes after each.
 #[derive(PartialEq, Eq, Debug, Clone, Drop)]
@@ -114,6 +115,14 @@ impl DeserializeBytes for VersionData {
     fn tls_deserialize_bytes(alloc: Global, whole: &[u8]) -> Result<(VersionData, &[u8]), Error> {
         let (cases, rest) = <Cases>::tls_deserialize_bytes(alloc, whole)?;
         Ok((VersionData::of(cases), rest))
+    }
+}
+
+impl Validate for VersionData {
+    ghost places = { ⟦<Cases as Validate>⟧.places };
+
+    fn tls_validate_prefix(whole: &[u8]) -> Result<&[u8], Rejected<'_>> {
+        <Cases>::tls_validate_prefix(whole)
     }
 }
 

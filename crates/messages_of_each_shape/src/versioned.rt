@@ -10,6 +10,7 @@ use tls_codec::{
     Deserialize, DeserializeBytes, Error, LentIn, LentThen, Serialize, Sink, Size, Source, Then,
 };
 use tls_codec_cases::{By, append_as, write_as};
+use tls_codec_validate::{Rejected, Validate};
 
 /// `Versioned`.
 #[derive(PartialEq, Eq, Debug, Clone, Drop)]
@@ -82,6 +83,14 @@ impl DeserializeBytes for Versioned {
         } = parts;
         let By(parts_, _) = rest;
         Ok((Versioned { header, parts_ }, left))
+    }
+}
+
+impl Validate for Versioned {
+    ghost places = { ⟦<Parts as Validate>⟧.places };
+
+    fn tls_validate_prefix(whole: &[u8]) -> Result<&[u8], Rejected<'_>> {
+        <Parts>::tls_validate_prefix(whole)
     }
 }
 

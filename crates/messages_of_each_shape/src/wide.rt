@@ -1,5 +1,5 @@
 //! [`Wide`].
-ghost use Rattle.std.specs.Prelude.{◌≡◌, ◌&&◌};
+ghost use Rattle.std.specs.Prelude.{◌≡◌, ◌&&◌, ◌++◌};
 ghost use Rattle.messages_of_each_shape.specs.Wide.{wide_format, wide_meets, wide_plain};
 ghost use Rattle.messages_of_each_shape.specs.declared.wide.Wide.{Wide};
 
@@ -10,6 +10,8 @@ use tls_codec::{
     TlsByteVecU16, TlsByteVecU24, TlsByteVecU32, TlsVecU16, U24,
 };
 use tls_codec_cases::append_as;
+use tls_codec_validate::{Rejected, Validate};
+use tls_codec_views::{Encoded, Parted};
 
 /// `Wide`.
 ///
@@ -135,6 +137,86 @@ impl DeserializeBytes for Wide {
             },
             rest,
         ))
+    }
+}
+
+impl Validate for Wide {
+    ghost places = { ⟦<Parts as Validate>⟧.places };
+
+    fn tls_validate_prefix(whole: &[u8]) -> Result<&[u8], Rejected<'_>> {
+        <Parts>::tls_validate_prefix(whole)
+    }
+
+    fn tls_width() -> Option<usize> {
+        <Parts>::tls_width()
+    }
+}
+
+impl Parted for Wide {
+    type Parts = Parts;
+
+    ghost as_parts = { λ bytes is. is };
+}
+
+/// The encoding of a [`Wide`], by its fields.
+#[derive(Drop)]
+pub struct WideView<'a> {
+    /// `uint8 a;`
+    pub a: Encoded<'a, u8>,
+    /// `uint24 b;`
+    pub b: Encoded<'a, U24>,
+    /// `uint32 c;`
+    pub c: Encoded<'a, u32>,
+    /// `uint64 d;`
+    pub d: Encoded<'a, u64>,
+    /// `opaque e[16];`
+    pub e: Encoded<'a, [u8; 16]>,
+    /// `opaque f<0..2^8-1>;`
+    pub f: Encoded<'a, TlsByteVecU8>,
+    /// `opaque g<0..2^16-1>;`
+    pub g: Encoded<'a, TlsByteVecU16>,
+    /// `opaque h<0..2^24-1>;`
+    pub h: Encoded<'a, TlsByteVecU24>,
+    /// `opaque i<0..2^32-1>;`
+    pub i: Encoded<'a, TlsByteVecU32>,
+    /// `Key j<0..2^16-1>;`
+    pub j: Encoded<'a, TlsVecU16<Key>>,
+    /// `string k;`
+    pub k: Encoded<'a, String>,
+    /// `optional<uint16> l;`
+    pub l: Encoded<'a, Option<u16>>,
+}
+
+impl<'a> From<Encoded<'a, Wide>> for WideView<'a> {
+    ghost from_gives = { λ whole view. whole ≡ (((view.a ++ view.b) ++ (view.c ++ view.d)) ++
+        (((view.e ++ view.f) ++ (view.g ++ view.h)) ++
+        ((view.i ++ view.j) ++ (view.k ++ view.l)))) };
+
+    fn from(whole: Encoded<'a, Wide>) -> WideView<'a> {
+        let (parts_0, parts_1, parts_2) = whole.parts().split();
+        let (part_0, part_1) = parts_0.split();
+        let (a, b) = part_0.split();
+        let (c, d) = part_1.split();
+        let (part_2, part_0) = parts_1.split();
+        let (e, f) = part_2.split();
+        let (g, h) = part_0.split();
+        let (part_1, part_2) = parts_2.split();
+        let (i, j) = part_1.split();
+        let (k, l) = part_2.split();
+        WideView {
+            a,
+            b,
+            c,
+            d,
+            e,
+            f,
+            g,
+            h,
+            i,
+            j,
+            k,
+            l,
+        }
     }
 }
 

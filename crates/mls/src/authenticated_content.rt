@@ -11,6 +11,7 @@ use tls_codec::{
     Then,
 };
 use tls_codec_cases::{By, append_as, write_as};
+use tls_codec_validate::{Rejected, Validate};
 
 /// `AuthenticatedContent` (RFC 9420, section 6.1).
 #[derive(PartialEq, Eq, Debug, Clone, Drop)]
@@ -113,6 +114,14 @@ impl DeserializeBytes for AuthenticatedContent {
             },
             left,
         ))
+    }
+}
+
+impl Validate for AuthenticatedContent {
+    ghost places = { ⟦<Parts as Validate>⟧.places };
+
+    fn tls_validate_prefix(whole: &[u8]) -> Result<&[u8], Rejected<'_>> {
+        <Parts>::tls_validate_prefix(whole)
     }
 }
 

@@ -3,7 +3,9 @@ ghost use Rattle.std.specs.Prelude.{◌≡◌, MatchOption, MatchResult, Some, f
 ghost use Rattle.std.specs.Fmt.{padded};
 ghost use Rattle.std.specs.Ordering.{nat_cmp};
 ghost use Rattle.tls_codec.specs.Errors.{UnknownValue};
-ghost use Rattle.tls_codec.specs.OwnMessages.{values_names, values_source_names};
+ghost use Rattle.std.proofs.Common.{refl};
+ghost use Rattle.tls_codec.specs.OwnMessages.{values, values_names, values_source_names};
+ghost use Rattle.tls_codec_validate.specs.TaggedPlaces.{values_places};
 ghost use Rattle.mls.specs.ContentType.{content_type_code, content_type_format, content_type_has, content_type_meets, content_type_name, content_type_plain, content_type_selected};
 ghost use Rattle.mls.specs.declared.content_type.ContentType.{ContentType};
 
@@ -13,6 +15,9 @@ use tls_codec::{
     Deserialize, DeserializeBytes, Error, Serialize, Sink, Size, Source, unknown_value,
 };
 use tls_codec_cases::Selector;
+use tls_codec_validate::{
+    Keyed, Rejected, TagFirst, TagKeyed, Validate, ValidateKeyed, split_u8, validate_tag_first,
+};
 
 /// `ContentType` (RFC 9420, section 6).
 #[derive(PartialEq, Eq, PartialOrd, Ord, Hash, Debug, Clone, Copy)]
@@ -150,6 +155,55 @@ impl Selector for ContentType {
     fn selects(&self) -> u64 {
         let tag = self.code();
         u64::from(tag)
+    }
+}
+
+impl Validate for ContentType {
+    ghost places = { values_places 1 content_type_has };
+
+    fn tls_validate_prefix(whole: &[u8]) -> Result<&[u8], Rejected<'_>> {
+        let (tag, rest) = split_u8(whole)?;
+        match ContentType::of_code(tag) {
+            Some(_value) => Ok(rest),
+            None => Err(Rejected {
+                error: unknown_value(u64::from(tag)),
+                rest: whole,
+            }),
+        }
+    }
+}
+
+impl Keyed for ContentType {
+    type Key = u64;
+
+    ghost is_key = { λ n c. n ≡ content_type_selected c };
+
+    fn key(&self) -> u64 {
+        self.selects()
+    }
+}
+
+impl TagKeyed for ContentType {
+    fn tag_of_key(key: &u64) -> u64 {
+        *key
+    }
+}
+
+impl TagFirst for ContentType {
+    type Tag = u8;
+
+    ghost variants = { values content_type_has };
+
+    ghost told = { content_type_selected };
+
+    ghost is_tagged = { λ d bytes v spelled. spelled };
+
+    ghost is_told = { λ d bytes tag parts spelled. refl };
+}
+
+impl ValidateKeyed for ContentType {
+    fn tls_validate_keyed(whole: &[u8]) -> Result<(u64, &[u8]), Rejected<'_>> {
+        validate_tag_first::<ContentType>(whole)
     }
 }
 

@@ -2,9 +2,12 @@
 ghost use Rattle.std.specs.Prelude.{◌≡◌, IsTrue};
 ghost use Rattle.mls.specs.ContentType.{content_type_code};
 ghost use Rattle.tls_codec.specs.OwnMessages.{no_variant_names, no_variant_source_names, tagged_names, tagged_source_names, variant_names, variant_source_names};
+ghost use Rattle.tls_codec_validate.specs.TaggedPlaces.{no_variant_places, tagged_places, variant_places};
 ghost use Rattle.mls.specs.ContentTypeData.{content_type_data_format, content_type_data_meets, content_type_data_plain, content_type_data_tag};
 ghost use Rattle.mls.specs.declared.content_type_data.ContentTypeData.{ContentTypeData};
 ghost use Rattle.mls.specs.ContentTypeData.{content_type_data_content_type};
+ghost use Rattle.std.proofs.Common.{refl};
+ghost use Rattle.mls.specs.ContentTypeData.{content_type_data_variants};
 
 use crate::ContentType;
 use mls_proposals::{Commit, Proposal};
@@ -13,7 +16,10 @@ use tls_codec::{
     Deserialize, DeserializeBytes, Error, Lent, Serialize, Sink, Size, Source, VLBytes,
     unknown_value,
 };
-use tls_codec_cases::Holds;
+use tls_codec_cases::{Holds, Selector};
+use tls_codec_validate::{
+    HoldsKey, Keyed, Rejected, TagFirst, Validate, ValidateKeyed, split_u8, validate_tag_first,
+};
 
 const APPLICATION: u8 = 1;
 
@@ -135,11 +141,76 @@ impl DeserializeBytes for ContentTypeData {
     }
 }
 
+impl Validate for ContentTypeData {
+    ghost places = { tagged_places 1
+        (variant_places 1 ⟦<VLBytes as Validate>⟧.places
+        (variant_places 2 ⟦<Proposal as Validate>⟧.places
+        (variant_places 3 ⟦<Commit as Validate>⟧.places
+        no_variant_places))) };
+
+    fn tls_validate_prefix(whole: &[u8]) -> Result<&[u8], Rejected<'_>> {
+        let (tag, rest) = split_u8(whole)?;
+        match tag {
+            APPLICATION => {
+                let behind = VLBytes::tls_validate_prefix(rest)?;
+                Ok(behind)
+            }
+            PROPOSAL => {
+                let behind = Proposal::tls_validate_prefix(rest)?;
+                Ok(behind)
+            }
+            COMMIT => {
+                let behind = Commit::tls_validate_prefix(rest)?;
+                Ok(behind)
+            }
+            _ => Err(Rejected {
+                error: unknown_value(u64::from(tag)),
+                rest: whole,
+            }),
+        }
+    }
+}
+
 impl Holds<ContentType> for ContentTypeData {
     ghost held = { content_type_data_content_type };
 
     fn held(&self) -> ContentType {
         self.content_type()
+    }
+}
+
+impl Keyed for ContentTypeData {
+    type Key = u64;
+
+    ghost is_key = { λ key c. (key ≡ ⟦<ContentType as Selector>⟧.selected
+        (content_type_data_content_type c)) };
+
+    fn key(&self) -> u64 {
+        <ContentTypeData as Holds<ContentType>>::held(self).selects()
+    }
+}
+
+impl HoldsKey<ContentType> for ContentTypeData {
+    fn held_key(key: &u64) -> u64 {
+        *key
+    }
+}
+
+impl TagFirst for ContentTypeData {
+    type Tag = u8;
+
+    ghost variants = { content_type_data_variants };
+
+    ghost told = { λ c. ⟦<ContentType as Selector>⟧.selected (content_type_data_content_type c) };
+
+    ghost is_tagged = { λ d bytes v spelled. spelled };
+
+    ghost is_told = { λ d bytes tag parts spelled. refl };
+}
+
+impl ValidateKeyed for ContentTypeData {
+    fn tls_validate_keyed(whole: &[u8]) -> Result<(u64, &[u8]), Rejected<'_>> {
+        validate_tag_first::<ContentTypeData>(whole)
     }
 }
 

@@ -1,5 +1,5 @@
 //! [`FramedContent`].
-ghost use Rattle.std.specs.Prelude.{◌≡◌, ◌&&◌};
+ghost use Rattle.std.specs.Prelude.{◌≡◌, ◌&&◌, ◌++◌};
 ghost use Rattle.mls.specs.FramedContent.{framed_content_format, framed_content_meets, framed_content_plain};
 ghost use Rattle.mls.specs.declared.framed_content.FramedContent.{FramedContent};
 ghost use Rattle.mls.specs.FramedContent.{framed_content_sender_type};
@@ -10,7 +10,9 @@ use std::alloc::Global;
 use tls_codec::{
     Deserialize, DeserializeBytes, Error, Lent2, Lent3, Serialize, Sink, Size, Source, VLBytes,
 };
-use tls_codec_cases::{Holds, append_as};
+use tls_codec_cases::{Holds, Selector, append_as};
+use tls_codec_validate::{HoldsKey, Keyed, Keyless, Rejected, Validate, ValidateKeyed};
+use tls_codec_views::{Encoded, Parted};
 
 /// `FramedContent` (RFC 9420, section 6).
 #[derive(PartialEq, Eq, Debug, Clone, Drop)]
@@ -101,6 +103,57 @@ impl DeserializeBytes for FramedContent {
     }
 }
 
+impl Validate for FramedContent {
+    ghost places = { ⟦<Parts as Validate>⟧.places };
+
+    fn tls_validate_prefix(whole: &[u8]) -> Result<&[u8], Rejected<'_>> {
+        <Parts>::tls_validate_prefix(whole)
+    }
+
+    fn tls_width() -> Option<usize> {
+        <Parts>::tls_width()
+    }
+}
+
+impl Parted for FramedContent {
+    type Parts = Parts;
+
+    ghost as_parts = { λ bytes is. is };
+}
+
+/// The encoding of a [`FramedContent`], by its fields.
+#[derive(Drop)]
+pub struct FramedContentView<'a> {
+    /// `opaque group_id<V>;`
+    pub group_id: Encoded<'a, VLBytes>,
+    /// `uint64 epoch;`
+    pub epoch: Encoded<'a, u64>,
+    /// `Sender sender;`
+    pub sender: Encoded<'a, Sender>,
+    /// `opaque authenticated_data<V>;`
+    pub authenticated_data: Encoded<'a, VLBytes>,
+    /// `ContentType content_type;`
+    pub content_type: Encoded<'a, ContentTypeData>,
+}
+
+impl<'a> From<Encoded<'a, FramedContent>> for FramedContentView<'a> {
+    ghost from_gives = { λ whole view. whole ≡ ((view.group_id ++ (view.epoch ++ view.sender)) ++
+        (view.authenticated_data ++ view.content_type)) };
+
+    fn from(whole: Encoded<'a, FramedContent>) -> FramedContentView<'a> {
+        let (parts_0, parts_1) = whole.parts().split();
+        let (group_id, epoch, sender) = parts_0.split();
+        let (authenticated_data, content_type) = parts_1.split();
+        FramedContentView {
+            group_id,
+            epoch,
+            sender,
+            authenticated_data,
+            content_type,
+        }
+    }
+}
+
 impl Holds<SenderType> for FramedContent {
     ghost held = { framed_content_sender_type };
 
@@ -114,6 +167,45 @@ impl Holds<ContentType> for FramedContent {
 
     fn held(&self) -> ContentType {
         self.content_type.held()
+    }
+}
+
+impl Keyed for FramedContent {
+    type Key = (u64, u64);
+
+    ghost is_key = { λ key c. (key.0 ≡ ⟦<SenderType as Selector>⟧.selected
+        (framed_content_sender_type c)) × (key.1 ≡ ⟦<ContentType as Selector>⟧.selected
+        (framed_content_content_type c)) };
+
+    fn key(&self) -> (u64, u64) {
+        (
+            <FramedContent as Holds<SenderType>>::held(self).selects(),
+            <FramedContent as Holds<ContentType>>::held(self).selects(),
+        )
+    }
+}
+
+impl HoldsKey<SenderType> for FramedContent {
+    fn held_key(key: &(u64, u64)) -> u64 {
+        key.0
+    }
+}
+
+impl HoldsKey<ContentType> for FramedContent {
+    fn held_key(key: &(u64, u64)) -> u64 {
+        key.1
+    }
+}
+
+type KeyedParts = (
+    (Keyless<VLBytes>, Keyless<u64>, Sender),
+    (Keyless<VLBytes>, ContentTypeData),
+);
+
+impl ValidateKeyed for FramedContent {
+    fn tls_validate_keyed(whole: &[u8]) -> Result<((u64, u64), &[u8]), Rejected<'_>> {
+        let (((_, _, sender), (_, content_type)), rest) = <KeyedParts>::tls_validate_keyed(whole)?;
+        Ok(((sender, content_type), rest))
     }
 }
 

@@ -12,6 +12,7 @@ use tls_codec::{
     SizeFor, Source, VLBytes, When,
 };
 use tls_codec_cases::Is;
+use tls_codec_validate::{Rejected, ValidateFor};
 
 /// `FramedContentAuthData` (RFC 9420, section 6.1).
 #[derive(PartialEq, Eq, Debug, Clone, Drop)]
@@ -124,6 +125,14 @@ impl DeserializeBytesFor<ContentType> for FramedContentAuthData {
             },
             rest,
         ))
+    }
+}
+
+impl ValidateFor<ContentType> for FramedContentAuthData {
+    ghost places = { ⟦<Parts as ValidateFor<ContentType>>⟧.places };
+
+    fn tls_validate_prefix_for<'a>(key: &u64, whole: &'a [u8]) -> Result<&'a [u8], Rejected<'a>> {
+        <Parts as ValidateFor<ContentType>>::tls_validate_prefix_for(key, whole)
     }
 }
 

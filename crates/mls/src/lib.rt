@@ -28,7 +28,7 @@ pub use authenticated_content_tbm::AuthenticatedContentTBM;
 pub use confirmed_transcript_hash_input::ConfirmedTranscriptHashInput;
 pub use content_type::ContentType;
 pub use content_type_data::ContentTypeData;
-pub use framed_content::FramedContent;
+pub use framed_content::{FramedContent, FramedContentView};
 pub use framed_content_auth_data::FramedContentAuthData;
 pub use framed_content_tbs::FramedContentTBS;
 pub use interim_transcript_hash_input::InterimTranscriptHashInput;
@@ -39,7 +39,7 @@ pub use mls_leaf::{
     ParentNodeHashInput, ProposalType, ProtocolVersion, RatchetTree, SignContent,
     SignaturePublicKey, TreeHashInput,
 };
-pub use mls_message::MLSMessage;
+pub use mls_message::{MLSMessage, MLSMessageView};
 pub use mls_proposals::{
     Add, Commit, EncryptedGroupSecrets, ExternalInit, ExternalPub, ExternalSender, ExternalSenders,
     GroupContext, GroupContextExtensions, GroupInfo, GroupInfoTBS, GroupSecrets, HPKECiphertext,
@@ -50,11 +50,11 @@ pub use mls_proposals::{
 };
 pub use private_content::PrivateContent;
 pub use private_content_aad::PrivateContentAAD;
-pub use private_message::PrivateMessage;
+pub use private_message::{PrivateMessage, PrivateMessageView};
 pub use private_message_content::PrivateMessageContent;
 pub use public_message::PublicMessage;
 pub use sender::Sender;
-pub use sender_data::SenderData;
+pub use sender_data::{SenderData, SenderDataView};
 pub use sender_data_aad::SenderDataAAD;
 pub use sender_type::SenderType;
 pub use wire_format::WireFormat;

@@ -1,5 +1,5 @@
 //! [`MLSMessage`].
-ghost use Rattle.std.specs.Prelude.{◌≡◌, ◌&&◌};
+ghost use Rattle.std.specs.Prelude.{◌≡◌, ◌&&◌, ◌++◌};
 ghost use Rattle.mls.specs.MLSMessage.{mls_message_format, mls_message_meets, mls_message_plain};
 ghost use Rattle.mls.specs.declared.mls_message.MLSMessage.{MLSMessage};
 
@@ -8,6 +8,8 @@ use mls_proposals::ProtocolVersionMls10;
 use std::alloc::Global;
 use tls_codec::{Deserialize, DeserializeBytes, Error, Lent, Serialize, Sink, Size, Source};
 use tls_codec_cases::append_as;
+use tls_codec_validate::{Rejected, Validate};
+use tls_codec_views::{Encoded, Parted};
 
 /// `MLSMessage` (RFC 9420, section 6).
 #[derive(PartialEq, Eq, Debug, Clone, Drop)]
@@ -66,6 +68,45 @@ impl DeserializeBytes for MLSMessage {
             },
             rest,
         ))
+    }
+}
+
+impl Validate for MLSMessage {
+    ghost places = { ⟦<Parts as Validate>⟧.places };
+
+    fn tls_validate_prefix(whole: &[u8]) -> Result<&[u8], Rejected<'_>> {
+        <Parts>::tls_validate_prefix(whole)
+    }
+
+    fn tls_width() -> Option<usize> {
+        <Parts>::tls_width()
+    }
+}
+
+impl Parted for MLSMessage {
+    type Parts = Parts;
+
+    ghost as_parts = { λ bytes is. is };
+}
+
+/// The encoding of a [`MLSMessage`], by its fields.
+#[derive(Drop)]
+pub struct MLSMessageView<'a> {
+    /// `ProtocolVersion version = mls10;`
+    pub version: Encoded<'a, ProtocolVersionMls10>,
+    /// `WireFormat wire_format;`
+    pub wire_format: Encoded<'a, WireFormatData>,
+}
+
+impl<'a> From<Encoded<'a, MLSMessage>> for MLSMessageView<'a> {
+    ghost from_gives = { λ whole view. whole ≡ (view.version ++ view.wire_format) };
+
+    fn from(whole: Encoded<'a, MLSMessage>) -> MLSMessageView<'a> {
+        let (version, wire_format) = whole.parts().split();
+        MLSMessageView {
+            version,
+            wire_format,
+        }
     }
 }
 

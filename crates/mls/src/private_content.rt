@@ -10,6 +10,7 @@ use tls_codec::{
     DeserializeBytesFor, DeserializeFor, Error, Lent, SerializeFor, Sink, SizeFor, Source, VLBytes,
 };
 use tls_codec_cases::{Case, Chosen, Or, append_as_for, write_as_for};
+use tls_codec_validate::{Rejected, ValidateFor};
 
 /// `select (content_type)` of `PrivateMessageContent` (RFC 9420, section 6.3.1): no byte of
 /// it tells the tag.
@@ -111,6 +112,14 @@ impl DeserializeBytesFor<ContentType> for PrivateContent {
     ) -> Result<(PrivateContent, &'a [u8]), Error> {
         let (cases, rest) = <Cases>::tls_deserialize_bytes_for(content_type, alloc, whole)?;
         Ok((PrivateContent::of(cases), rest))
+    }
+}
+
+impl ValidateFor<ContentType> for PrivateContent {
+    ghost places = { ⟦<Cases as ValidateFor<ContentType>>⟧.places };
+
+    fn tls_validate_prefix_for<'a>(key: &u64, whole: &'a [u8]) -> Result<&'a [u8], Rejected<'a>> {
+        <Cases as ValidateFor<ContentType>>::tls_validate_prefix_for(key, whole)
     }
 }
 

@@ -1,5 +1,5 @@
 //! [`PrivateMessage`].
-ghost use Rattle.std.specs.Prelude.{◌≡◌, ◌&&◌};
+ghost use Rattle.std.specs.Prelude.{◌≡◌, ◌&&◌, ◌++◌};
 ghost use Rattle.mls.specs.PrivateMessage.{private_message_format, private_message_meets, private_message_plain};
 ghost use Rattle.mls.specs.declared.private_message.PrivateMessage.{PrivateMessage};
 
@@ -9,6 +9,8 @@ use tls_codec::{
     Deserialize, DeserializeBytes, Error, Lent3, Serialize, Sink, Size, Source, VLBytes,
 };
 use tls_codec_cases::append_as;
+use tls_codec_validate::{Rejected, Validate};
+use tls_codec_views::{Encoded, Parted};
 
 /// `PrivateMessage` (RFC 9420, section 6.3).
 #[derive(PartialEq, Eq, Debug, Clone, Drop)]
@@ -122,6 +124,60 @@ impl DeserializeBytes for PrivateMessage {
             },
             rest,
         ))
+    }
+}
+
+impl Validate for PrivateMessage {
+    ghost places = { ⟦<Parts as Validate>⟧.places };
+
+    fn tls_validate_prefix(whole: &[u8]) -> Result<&[u8], Rejected<'_>> {
+        <Parts>::tls_validate_prefix(whole)
+    }
+
+    fn tls_width() -> Option<usize> {
+        <Parts>::tls_width()
+    }
+}
+
+impl Parted for PrivateMessage {
+    type Parts = Parts;
+
+    ghost as_parts = { λ bytes is. is };
+}
+
+/// The encoding of a [`PrivateMessage`], by its fields.
+#[derive(Drop)]
+pub struct PrivateMessageView<'a> {
+    /// `opaque group_id<V>;`
+    pub group_id: Encoded<'a, VLBytes>,
+    /// `uint64 epoch;`
+    pub epoch: Encoded<'a, u64>,
+    /// `ContentType content_type;`
+    pub content_type: Encoded<'a, ContentType>,
+    /// `opaque authenticated_data<V>;`
+    pub authenticated_data: Encoded<'a, VLBytes>,
+    /// `opaque encrypted_sender_data<V>;`
+    pub encrypted_sender_data: Encoded<'a, VLBytes>,
+    /// `opaque ciphertext<V>;`
+    pub ciphertext: Encoded<'a, VLBytes>,
+}
+
+impl<'a> From<Encoded<'a, PrivateMessage>> for PrivateMessageView<'a> {
+    ghost from_gives = { λ whole view. whole ≡ ((view.group_id ++ (view.epoch ++ view.content_type))
+        ++ (view.authenticated_data ++ (view.encrypted_sender_data ++ view.ciphertext))) };
+
+    fn from(whole: Encoded<'a, PrivateMessage>) -> PrivateMessageView<'a> {
+        let (parts_0, parts_1) = whole.parts().split();
+        let (group_id, epoch, content_type) = parts_0.split();
+        let (authenticated_data, encrypted_sender_data, ciphertext) = parts_1.split();
+        PrivateMessageView {
+            group_id,
+            epoch,
+            content_type,
+            authenticated_data,
+            encrypted_sender_data,
+            ciphertext,
+        }
     }
 }
 

@@ -8,6 +8,7 @@ use std::alloc::Global;
 use tls_codec::{
     DeserializeBytesFor, DeserializeFor, Error, LentIn, SerializeFor, Sink, SizeFor, Source,
 };
+use tls_codec_validate::{Rejected, ValidateFor};
 
 /// `PrivateMessageContent` (RFC 9420, section 6.3.1).
 ///
@@ -79,6 +80,14 @@ impl DeserializeBytesFor<ContentType> for PrivateMessageContent {
         let (parts, rest) = <Parts>::tls_deserialize_bytes_for(content_type, alloc, whole)?;
         let (content, auth) = parts;
         Ok((PrivateMessageContent { content, auth }, rest))
+    }
+}
+
+impl ValidateFor<ContentType> for PrivateMessageContent {
+    ghost places = { ⟦<Parts as ValidateFor<ContentType>>⟧.places };
+
+    fn tls_validate_prefix_for<'a>(key: &u64, whole: &'a [u8]) -> Result<&'a [u8], Rejected<'a>> {
+        <Parts as ValidateFor<ContentType>>::tls_validate_prefix_for(key, whole)
     }
 }
 

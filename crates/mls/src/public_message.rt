@@ -12,6 +12,7 @@ use tls_codec::{
     Source, Then, When,
 };
 use tls_codec_cases::{By, Is, append_as, write_as};
+use tls_codec_validate::{Rejected, Validate};
 
 /// `PublicMessage` (RFC 9420, section 6.2).
 #[derive(PartialEq, Eq, Debug, Clone, Drop)]
@@ -137,6 +138,14 @@ impl DeserializeBytes for PublicMessage {
             },
             left,
         ))
+    }
+}
+
+impl Validate for PublicMessage {
+    ghost places = { ⟦<Parts as Validate>⟧.places };
+
+    fn tls_validate_prefix(whole: &[u8]) -> Result<&[u8], Rejected<'_>> {
+        <Parts>::tls_validate_prefix(whole)
     }
 }
 

@@ -2,16 +2,22 @@
 ghost use Rattle.std.specs.Prelude.{◌≡◌, IsTrue, true};
 ghost use Rattle.mls.specs.SenderType.{sender_type_code};
 ghost use Rattle.tls_codec.specs.OwnMessages.{no_variant_names, no_variant_source_names, nothing_names, nothing_source_names, tagged_names, tagged_source_names, variant_names, variant_source_names};
+ghost use Rattle.tls_codec_validate.specs.TaggedPlaces.{no_variant_places, nothing_places, tagged_places, variant_places};
 ghost use Rattle.mls.specs.Sender.{sender_format, sender_meets, sender_plain, sender_tag};
 ghost use Rattle.mls.specs.declared.sender.Sender.{Sender};
 ghost use Rattle.mls.specs.Sender.{sender_sender_type};
+ghost use Rattle.std.proofs.Common.{refl};
+ghost use Rattle.mls.specs.Sender.{sender_variants};
 
 use crate::SenderType;
 use std::alloc::Global;
 use tls_codec::{
     Deserialize, DeserializeBytes, Error, Lent, Serialize, Sink, Size, Source, unknown_value,
 };
-use tls_codec_cases::Holds;
+use tls_codec_cases::{Holds, Selector};
+use tls_codec_validate::{
+    HoldsKey, Keyed, Rejected, TagFirst, Validate, ValidateKeyed, split_u8, validate_tag_first,
+};
 
 const MEMBER: u8 = 1;
 
@@ -125,11 +131,74 @@ impl DeserializeBytes for Sender {
     }
 }
 
+impl Validate for Sender {
+    ghost places = { tagged_places 1
+        (variant_places 1 ⟦<u32 as Validate>⟧.places
+        (variant_places 2 ⟦<u32 as Validate>⟧.places
+        (variant_places 4 nothing_places
+        (variant_places 3 nothing_places
+        no_variant_places)))) };
+
+    fn tls_validate_prefix(whole: &[u8]) -> Result<&[u8], Rejected<'_>> {
+        let (tag, rest) = split_u8(whole)?;
+        match tag {
+            MEMBER => {
+                let behind = u32::tls_validate_prefix(rest)?;
+                Ok(behind)
+            }
+            EXTERNAL => {
+                let behind = u32::tls_validate_prefix(rest)?;
+                Ok(behind)
+            }
+            NEW_MEMBER_COMMIT => Ok(rest),
+            NEW_MEMBER_PROPOSAL => Ok(rest),
+            _ => Err(Rejected {
+                error: unknown_value(u64::from(tag)),
+                rest: whole,
+            }),
+        }
+    }
+}
+
 impl Holds<SenderType> for Sender {
     ghost held = { sender_sender_type };
 
     fn held(&self) -> SenderType {
         self.sender_type()
+    }
+}
+
+impl Keyed for Sender {
+    type Key = u64;
+
+    ghost is_key = { λ key c. (key ≡ ⟦<SenderType as Selector>⟧.selected (sender_sender_type c)) };
+
+    fn key(&self) -> u64 {
+        <Sender as Holds<SenderType>>::held(self).selects()
+    }
+}
+
+impl HoldsKey<SenderType> for Sender {
+    fn held_key(key: &u64) -> u64 {
+        *key
+    }
+}
+
+impl TagFirst for Sender {
+    type Tag = u8;
+
+    ghost variants = { sender_variants };
+
+    ghost told = { λ c. ⟦<SenderType as Selector>⟧.selected (sender_sender_type c) };
+
+    ghost is_tagged = { λ d bytes v spelled. spelled };
+
+    ghost is_told = { λ d bytes tag parts spelled. refl };
+}
+
+impl ValidateKeyed for Sender {
+    fn tls_validate_keyed(whole: &[u8]) -> Result<(u64, &[u8]), Rejected<'_>> {
+        validate_tag_first::<Sender>(whole)
     }
 }
 

@@ -1,11 +1,13 @@
 //! [`SenderData`].
-ghost use Rattle.std.specs.Prelude.{◌≡◌, ◌&&◌};
+ghost use Rattle.std.specs.Prelude.{◌≡◌, ◌&&◌, ◌++◌};
 ghost use Rattle.mls.specs.SenderData.{sender_data_format, sender_data_meets, sender_data_plain};
 ghost use Rattle.mls.specs.declared.sender_data.SenderData.{SenderData};
 
 use std::alloc::Global;
 use tls_codec::{Deserialize, DeserializeBytes, Error, Lent, Serialize, Sink, Size, Source};
 use tls_codec_cases::append_as;
+use tls_codec_validate::{Rejected, Validate};
+use tls_codec_views::{Encoded, Parted};
 
 /// `SenderData` (RFC 9420, section 6.3.2).
 #[derive(PartialEq, Eq, Debug, Clone, Drop)]
@@ -88,6 +90,49 @@ impl DeserializeBytes for SenderData {
             },
             rest,
         ))
+    }
+}
+
+impl Validate for SenderData {
+    ghost places = { ⟦<Parts as Validate>⟧.places };
+
+    fn tls_validate_prefix(whole: &[u8]) -> Result<&[u8], Rejected<'_>> {
+        <Parts>::tls_validate_prefix(whole)
+    }
+
+    fn tls_width() -> Option<usize> {
+        <Parts>::tls_width()
+    }
+}
+
+impl Parted for SenderData {
+    type Parts = Parts;
+
+    ghost as_parts = { λ bytes is. is };
+}
+
+/// The encoding of a [`SenderData`], by its fields.
+#[derive(Drop)]
+pub struct SenderDataView<'a> {
+    /// `uint32 leaf_index;`
+    pub leaf_index: Encoded<'a, u32>,
+    /// `uint32 generation;`
+    pub generation: Encoded<'a, u32>,
+    /// `opaque reuse_guard[4];`
+    pub reuse_guard: Encoded<'a, [u8; 4]>,
+}
+
+impl<'a> From<Encoded<'a, SenderData>> for SenderDataView<'a> {
+    ghost from_gives = { λ whole view. whole ≡ (view.leaf_index ++
+        (view.generation ++ view.reuse_guard)) };
+
+    fn from(whole: Encoded<'a, SenderData>) -> SenderDataView<'a> {
+        let (leaf_index, generation, reuse_guard) = whole.parts().split();
+        SenderDataView {
+            leaf_index,
+            generation,
+            reuse_guard,
+        }
     }
 }
 

@@ -8,6 +8,8 @@ ghost use Rattle.mls.specs.declared.wire_format.WireFormat.{WireFormat};
 use std::alloc::Global;
 use std::fmt;
 use tls_codec::{Deserialize, DeserializeBytes, Error, Serialize, Sink, Size, Source};
+use tls_codec_validate::{Rejected, Validate};
+use tls_codec_views::{Encoded, Parted, Told};
 
 /// `WireFormat` (RFC 9420, section 6).
 #[derive(PartialEq, Eq, PartialOrd, Ord, Hash, Debug, Clone, Copy)]
@@ -116,6 +118,30 @@ impl DeserializeBytes for WireFormat {
     fn tls_deserialize_bytes(alloc: Global, whole: &[u8]) -> Result<(WireFormat, &[u8]), Error> {
         let (number, rest) = u16::tls_deserialize_bytes(alloc, whole)?;
         Ok((WireFormat(number), rest))
+    }
+}
+
+impl Validate for WireFormat {
+    ghost places = { ⟦<u16 as Validate>⟧.places };
+
+    fn tls_validate_prefix(whole: &[u8]) -> Result<&[u8], Rejected<'_>> {
+        u16::tls_validate_prefix(whole)
+    }
+
+    fn tls_width() -> Option<usize> {
+        u16::tls_width()
+    }
+}
+
+impl Parted for WireFormat {
+    type Parts = u16;
+
+    ghost as_parts = { λ bytes is. is };
+}
+
+impl Told for WireFormat {
+    fn told(encoded: &Encoded<'_, WireFormat>) -> WireFormat {
+        WireFormat(encoded.parts().get())
     }
 }
 

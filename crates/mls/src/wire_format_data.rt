@@ -1,6 +1,7 @@
 //! [`WireFormatData`].
 ghost use Rattle.std.specs.Prelude.{◌≡◌, IsTrue};
 ghost use Rattle.tls_codec.specs.OwnMessages.{no_variant_names, no_variant_source_names, tagged_names, tagged_source_names, variant_names, variant_source_names};
+ghost use Rattle.tls_codec_validate.specs.TaggedPlaces.{no_variant_places, tagged_places, variant_places};
 ghost use Rattle.mls.specs.WireFormatData.{wire_format_data_format, wire_format_data_meets, wire_format_data_plain, wire_format_data_tag};
 ghost use Rattle.mls.specs.declared.wire_format_data.WireFormatData.{WireFormatData};
 
@@ -11,6 +12,7 @@ use std::alloc::Global;
 use tls_codec::{
     Deserialize, DeserializeBytes, Error, Lent, Serialize, Sink, Size, Source, unknown_value,
 };
+use tls_codec_validate::{Rejected, Validate, split_u16};
 
 const MLS_PUBLIC_MESSAGE: u16 = 1;
 
@@ -194,6 +196,46 @@ impl DeserializeBytes for WireFormatData {
                 Ok((WireFormatData::MlsKeyPackage(key_package), rest))
             }
             _ => Err(unknown_value(u64::from(tag))),
+        }
+    }
+}
+
+impl Validate for WireFormatData {
+    ghost places = { tagged_places 2
+        (variant_places 1 ⟦<PublicMessage as Validate>⟧.places
+        (variant_places 2 ⟦<PrivateMessage as Validate>⟧.places
+        (variant_places 3 ⟦<Welcome as Validate>⟧.places
+        (variant_places 4 ⟦<GroupInfo as Validate>⟧.places
+        (variant_places 5 ⟦<KeyPackage as Validate>⟧.places
+        no_variant_places))))) };
+
+    fn tls_validate_prefix(whole: &[u8]) -> Result<&[u8], Rejected<'_>> {
+        let (tag, rest) = split_u16(whole)?;
+        match tag {
+            MLS_PUBLIC_MESSAGE => {
+                let behind = PublicMessage::tls_validate_prefix(rest)?;
+                Ok(behind)
+            }
+            MLS_PRIVATE_MESSAGE => {
+                let behind = PrivateMessage::tls_validate_prefix(rest)?;
+                Ok(behind)
+            }
+            MLS_WELCOME => {
+                let behind = Welcome::tls_validate_prefix(rest)?;
+                Ok(behind)
+            }
+            MLS_GROUP_INFO => {
+                let behind = GroupInfo::tls_validate_prefix(rest)?;
+                Ok(behind)
+            }
+            MLS_KEY_PACKAGE => {
+                let behind = KeyPackage::tls_validate_prefix(rest)?;
+                Ok(behind)
+            }
+            _ => Err(Rejected {
+                error: unknown_value(u64::from(tag)),
+                rest: whole,
+            }),
         }
     }
 }

@@ -1,5 +1,5 @@
 //! [`Capabilities`].
-ghost use Rattle.std.specs.Prelude.{◌≡◌, ◌&&◌};
+ghost use Rattle.std.specs.Prelude.{◌≡◌, ◌&&◌, ◌++◌};
 ghost use Rattle.mls_leaf.specs.Capabilities.{capabilities_format, capabilities_meets, capabilities_plain};
 ghost use Rattle.mls_leaf.specs.declared.capabilities.Capabilities.{Capabilities};
 
@@ -9,6 +9,8 @@ use tls_codec::{
     Deserialize, DeserializeBytes, Error, Lent2, Lent3, Serialize, Sink, Size, Source,
 };
 use tls_codec_cases::append_as;
+use tls_codec_validate::{Rejected, Validate};
+use tls_codec_views::{Encoded, Parted};
 
 /// `Capabilities` (RFC 9420, section 7.2).
 #[derive(PartialEq, Eq, Debug, Clone, Drop)]
@@ -99,6 +101,57 @@ impl DeserializeBytes for Capabilities {
             },
             rest,
         ))
+    }
+}
+
+impl Validate for Capabilities {
+    ghost places = { ⟦<Parts as Validate>⟧.places };
+
+    fn tls_validate_prefix(whole: &[u8]) -> Result<&[u8], Rejected<'_>> {
+        <Parts>::tls_validate_prefix(whole)
+    }
+
+    fn tls_width() -> Option<usize> {
+        <Parts>::tls_width()
+    }
+}
+
+impl Parted for Capabilities {
+    type Parts = Parts;
+
+    ghost as_parts = { λ bytes is. is };
+}
+
+/// The encoding of a [`Capabilities`], by its fields.
+#[derive(Drop)]
+pub struct CapabilitiesView<'a> {
+    /// `ProtocolVersion versions<V>;`
+    pub versions: Encoded<'a, Vec<ProtocolVersion>>,
+    /// `CipherSuite cipher_suites<V>;`
+    pub cipher_suites: Encoded<'a, Vec<CipherSuite>>,
+    /// `ExtensionType extensions<V>;`
+    pub extensions: Encoded<'a, Vec<ExtensionType>>,
+    /// `ProposalType proposals<V>;`
+    pub proposals: Encoded<'a, Vec<ProposalType>>,
+    /// `CredentialType credentials<V>;`
+    pub credentials: Encoded<'a, Vec<CredentialType>>,
+}
+
+impl<'a> From<Encoded<'a, Capabilities>> for CapabilitiesView<'a> {
+    ghost from_gives = { λ whole view. whole ≡ ((view.versions ++
+        (view.cipher_suites ++ view.extensions)) ++ (view.proposals ++ view.credentials)) };
+
+    fn from(whole: Encoded<'a, Capabilities>) -> CapabilitiesView<'a> {
+        let (parts_0, parts_1) = whole.parts().split();
+        let (versions, cipher_suites, extensions) = parts_0.split();
+        let (proposals, credentials) = parts_1.split();
+        CapabilitiesView {
+            versions,
+            cipher_suites,
+            extensions,
+            proposals,
+            credentials,
+        }
     }
 }
 

@@ -6,6 +6,8 @@ ghost use Rattle.mls_leaf.specs.declared.certificate.Certificate.{Certificate};
 use std::alloc::Global;
 use tls_codec::{Deserialize, DeserializeBytes, Error, Serialize, Sink, Size, Source, VLBytes};
 use tls_codec_cases::append_as;
+use tls_codec_validate::{Rejected, Validate};
+use tls_codec_views::{Encoded, Parted};
 
 /// `Certificate` (RFC 9420, section 5.3).
 #[derive(PartialEq, Eq, Debug, Clone, Drop)]
@@ -51,6 +53,40 @@ impl DeserializeBytes for Certificate {
     fn tls_deserialize_bytes(alloc: Global, whole: &[u8]) -> Result<(Certificate, &[u8]), Error> {
         let (cert_data, rest) = VLBytes::tls_deserialize_bytes(alloc, whole)?;
         Ok((Certificate { cert_data }, rest))
+    }
+}
+
+impl Validate for Certificate {
+    ghost places = { ⟦<VLBytes as Validate>⟧.places };
+
+    fn tls_validate_prefix(whole: &[u8]) -> Result<&[u8], Rejected<'_>> {
+        VLBytes::tls_validate_prefix(whole)
+    }
+
+    fn tls_width() -> Option<usize> {
+        VLBytes::tls_width()
+    }
+}
+
+impl Parted for Certificate {
+    type Parts = VLBytes;
+
+    ghost as_parts = { λ bytes is. is };
+}
+
+/// The encoding of a [`Certificate`], by its fields.
+#[derive(Drop)]
+pub struct CertificateView<'a> {
+    /// `opaque cert_data<V>;`
+    pub cert_data: Encoded<'a, VLBytes>,
+}
+
+impl<'a> From<Encoded<'a, Certificate>> for CertificateView<'a> {
+    ghost from_gives = { λ whole view. whole ≡ view.cert_data };
+
+    fn from(whole: Encoded<'a, Certificate>) -> CertificateView<'a> {
+        let cert_data = whole.parts();
+        CertificateView { cert_data }
     }
 }
 

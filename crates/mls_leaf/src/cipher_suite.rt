@@ -8,6 +8,8 @@ ghost use Rattle.mls_leaf.specs.declared.cipher_suite.CipherSuite.{CipherSuite};
 use std::alloc::Global;
 use std::fmt;
 use tls_codec::{Deserialize, DeserializeBytes, Error, Serialize, Sink, Size, Source};
+use tls_codec_validate::{Rejected, Validate};
+use tls_codec_views::{Encoded, Parted, Told};
 
 /// `CipherSuite` (RFC 9420, section 5.1).
 #[derive(PartialEq, Eq, PartialOrd, Ord, Hash, Debug, Clone, Copy)]
@@ -124,6 +126,30 @@ impl DeserializeBytes for CipherSuite {
     fn tls_deserialize_bytes(alloc: Global, whole: &[u8]) -> Result<(CipherSuite, &[u8]), Error> {
         let (number, rest) = u16::tls_deserialize_bytes(alloc, whole)?;
         Ok((CipherSuite(number), rest))
+    }
+}
+
+impl Validate for CipherSuite {
+    ghost places = { ⟦<u16 as Validate>⟧.places };
+
+    fn tls_validate_prefix(whole: &[u8]) -> Result<&[u8], Rejected<'_>> {
+        u16::tls_validate_prefix(whole)
+    }
+
+    fn tls_width() -> Option<usize> {
+        u16::tls_width()
+    }
+}
+
+impl Parted for CipherSuite {
+    type Parts = u16;
+
+    ghost as_parts = { λ bytes is. is };
+}
+
+impl Told for CipherSuite {
+    fn told(encoded: &Encoded<'_, CipherSuite>) -> CipherSuite {
+        CipherSuite(encoded.parts().get())
     }
 }
 

@@ -1,6 +1,7 @@
 //! [`Credential`].
 ghost use Rattle.std.specs.Prelude.{◌≡◌, IsTrue};
 ghost use Rattle.tls_codec.specs.OwnMessages.{no_variant_names, no_variant_source_names, tagged_names, tagged_source_names, variant_names, variant_source_names};
+ghost use Rattle.tls_codec_validate.specs.TaggedPlaces.{no_variant_places, tagged_places, variant_places};
 ghost use Rattle.mls_leaf.specs.Credential.{credential_format, credential_meets, credential_plain, credential_tag};
 ghost use Rattle.mls_leaf.specs.declared.credential.Credential.{Credential};
 
@@ -10,6 +11,7 @@ use tls_codec::{
     Deserialize, DeserializeBytes, Error, Lent, Serialize, Sink, Size, Source, VLBytes,
     unknown_value,
 };
+use tls_codec_validate::{Rejected, Validate, split_u16};
 
 const BASIC: u16 = 1;
 
@@ -96,6 +98,31 @@ impl DeserializeBytes for Credential {
                 Ok((Credential::X509(certificates), rest))
             }
             _ => Err(unknown_value(u64::from(tag))),
+        }
+    }
+}
+
+impl Validate for Credential {
+    ghost places = { tagged_places 2
+        (variant_places 1 ⟦<VLBytes as Validate>⟧.places
+        (variant_places 2 ⟦<Vec<Certificate> as Validate>⟧.places
+        no_variant_places)) };
+
+    fn tls_validate_prefix(whole: &[u8]) -> Result<&[u8], Rejected<'_>> {
+        let (tag, rest) = split_u16(whole)?;
+        match tag {
+            BASIC => {
+                let behind = VLBytes::tls_validate_prefix(rest)?;
+                Ok(behind)
+            }
+            X509 => {
+                let behind = <Vec<Certificate>>::tls_validate_prefix(rest)?;
+                Ok(behind)
+            }
+            _ => Err(Rejected {
+                error: unknown_value(u64::from(tag)),
+                rest: whole,
+            }),
         }
     }
 }

@@ -8,6 +8,8 @@ ghost use Rattle.mls_leaf.specs.declared.credential_type.CredentialType.{Credent
 use std::alloc::Global;
 use std::fmt;
 use tls_codec::{Deserialize, DeserializeBytes, Error, Serialize, Sink, Size, Source};
+use tls_codec_validate::{Rejected, Validate};
+use tls_codec_views::{Encoded, Parted, Told};
 
 /// `CredentialType` (RFC 9420, section 5.3).
 #[derive(PartialEq, Eq, PartialOrd, Ord, Hash, Debug, Clone, Copy)]
@@ -22,8 +24,7 @@ impl CredentialType {
 
     /// Its name in the text, if it has one.
     pub fn name(&self) -> Option<&'static str>
-        ensures { option_map (λ t. t.now) result
-            ≡ listed_name credential_type_names self.now.0 }
+        ensures { option_map (λ t. t.now) result ≡ listed_name credential_type_names self.now.0 }
     {
         match self.0 {
             1 => Some("basic"),
@@ -108,6 +109,30 @@ impl DeserializeBytes for CredentialType {
     ) -> Result<(CredentialType, &[u8]), Error> {
         let (number, rest) = u16::tls_deserialize_bytes(alloc, whole)?;
         Ok((CredentialType(number), rest))
+    }
+}
+
+impl Validate for CredentialType {
+    ghost places = { ⟦<u16 as Validate>⟧.places };
+
+    fn tls_validate_prefix(whole: &[u8]) -> Result<&[u8], Rejected<'_>> {
+        u16::tls_validate_prefix(whole)
+    }
+
+    fn tls_width() -> Option<usize> {
+        u16::tls_width()
+    }
+}
+
+impl Parted for CredentialType {
+    type Parts = u16;
+
+    ghost as_parts = { λ bytes is. is };
+}
+
+impl Told for CredentialType {
+    fn told(encoded: &Encoded<'_, CredentialType>) -> CredentialType {
+        CredentialType(encoded.parts().get())
     }
 }
 

@@ -1,5 +1,5 @@
 //! [`Extension`].
-ghost use Rattle.std.specs.Prelude.{◌≡◌, ◌&&◌};
+ghost use Rattle.std.specs.Prelude.{◌≡◌, ◌&&◌, ◌++◌};
 ghost use Rattle.mls_leaf.specs.Extension.{extension_format, extension_meets, extension_plain};
 ghost use Rattle.mls_leaf.specs.declared.extension.Extension.{Extension};
 
@@ -9,6 +9,8 @@ use tls_codec::{
     Deserialize, DeserializeBytes, Error, Lent, Serialize, Sink, Size, Source, VLBytes,
 };
 use tls_codec_cases::append_as;
+use tls_codec_validate::{Rejected, Validate};
+use tls_codec_views::{Encoded, Parted};
 
 /// `Extension` (RFC 9420, section 7.2).
 #[derive(PartialEq, Eq, Debug, Clone, Drop)]
@@ -73,6 +75,45 @@ impl DeserializeBytes for Extension {
             },
             rest,
         ))
+    }
+}
+
+impl Validate for Extension {
+    ghost places = { ⟦<Parts as Validate>⟧.places };
+
+    fn tls_validate_prefix(whole: &[u8]) -> Result<&[u8], Rejected<'_>> {
+        <Parts>::tls_validate_prefix(whole)
+    }
+
+    fn tls_width() -> Option<usize> {
+        <Parts>::tls_width()
+    }
+}
+
+impl Parted for Extension {
+    type Parts = Parts;
+
+    ghost as_parts = { λ bytes is. is };
+}
+
+/// The encoding of a [`Extension`], by its fields.
+#[derive(Drop)]
+pub struct ExtensionView<'a> {
+    /// `ExtensionType extension_type;`
+    pub extension_type: Encoded<'a, ExtensionType>,
+    /// `opaque extension_data<V>;`
+    pub extension_data: Encoded<'a, VLBytes>,
+}
+
+impl<'a> From<Encoded<'a, Extension>> for ExtensionView<'a> {
+    ghost from_gives = { λ whole view. whole ≡ (view.extension_type ++ view.extension_data) };
+
+    fn from(whole: Encoded<'a, Extension>) -> ExtensionView<'a> {
+        let (extension_type, extension_data) = whole.parts().split();
+        ExtensionView {
+            extension_type,
+            extension_data,
+        }
     }
 }
 

@@ -1,5 +1,5 @@
 //! [`KeyPackage`].
-ghost use Rattle.std.specs.Prelude.{◌≡◌, ◌&&◌};
+ghost use Rattle.std.specs.Prelude.{◌≡◌, ◌&&◌, ◌++◌};
 ghost use Rattle.mls_leaf.specs.KeyPackage.{key_package_format, key_package_meets, key_package_plain};
 ghost use Rattle.mls_leaf.specs.declared.key_package.KeyPackage.{KeyPackage};
 
@@ -9,6 +9,8 @@ use tls_codec::{
     Deserialize, DeserializeBytes, Error, Lent3, Serialize, Sink, Size, Source, VLBytes,
 };
 use tls_codec_cases::append_as;
+use tls_codec_validate::{Rejected, Validate};
+use tls_codec_views::{Encoded, Parted};
 
 /// `KeyPackage` (RFC 9420, section 10).
 #[derive(PartialEq, Eq, Debug, Clone, Drop)]
@@ -104,6 +106,62 @@ impl DeserializeBytes for KeyPackage {
             },
             rest,
         ))
+    }
+}
+
+impl Validate for KeyPackage {
+    ghost places = { ⟦<Parts as Validate>⟧.places };
+
+    fn tls_validate_prefix(whole: &[u8]) -> Result<&[u8], Rejected<'_>> {
+        <Parts>::tls_validate_prefix(whole)
+    }
+
+    fn tls_width() -> Option<usize> {
+        <Parts>::tls_width()
+    }
+}
+
+impl Parted for KeyPackage {
+    type Parts = Parts;
+
+    ghost as_parts = { λ bytes is. is };
+}
+
+/// The encoding of a [`KeyPackage`], by its fields.
+#[derive(Drop)]
+pub struct KeyPackageView<'a> {
+    /// `ProtocolVersion version;`
+    pub version: Encoded<'a, ProtocolVersion>,
+    /// `CipherSuite cipher_suite;`
+    pub cipher_suite: Encoded<'a, CipherSuite>,
+    /// `HPKEPublicKey init_key;`
+    pub init_key: Encoded<'a, HPKEPublicKey>,
+    /// `LeafNode leaf_node;`
+    pub leaf_node: Encoded<'a, LeafNode>,
+    /// `Extension extensions<V>;`
+    pub extensions: Encoded<'a, Vec<Extension>>,
+    /// `opaque signature<V>;`
+    /// SignWithLabel(., "KeyPackageTBS", KeyPackageTBS)
+    pub signature: Encoded<'a, VLBytes>,
+}
+
+impl<'a> From<Encoded<'a, KeyPackage>> for KeyPackageView<'a> {
+    ghost from_gives = { λ whole view. whole ≡ ((view.version ++
+        (view.cipher_suite ++ view.init_key)) ++ (view.leaf_node ++
+        (view.extensions ++ view.signature))) };
+
+    fn from(whole: Encoded<'a, KeyPackage>) -> KeyPackageView<'a> {
+        let (parts_0, parts_1) = whole.parts().split();
+        let (version, cipher_suite, init_key) = parts_0.split();
+        let (leaf_node, extensions, signature) = parts_1.split();
+        KeyPackageView {
+            version,
+            cipher_suite,
+            init_key,
+            leaf_node,
+            extensions,
+            signature,
+        }
     }
 }
 

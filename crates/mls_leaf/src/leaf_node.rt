@@ -1,5 +1,5 @@
 //! [`LeafNode`].
-ghost use Rattle.std.specs.Prelude.{◌≡◌, ◌&&◌};
+ghost use Rattle.std.specs.Prelude.{◌≡◌, ◌&&◌, ◌++◌};
 ghost use Rattle.mls_leaf.specs.LeafNode.{leaf_node_format, leaf_node_meets, leaf_node_plain};
 ghost use Rattle.mls_leaf.specs.declared.leaf_node.LeafNode.{LeafNode};
 
@@ -11,6 +11,8 @@ use tls_codec::{
     Deserialize, DeserializeBytes, Error, Lent2, Lent3, Serialize, Sink, Size, Source, VLBytes,
 };
 use tls_codec_cases::append_as;
+use tls_codec_validate::{Rejected, Validate};
+use tls_codec_views::{Encoded, Parted};
 
 /// `LeafNode` (RFC 9420, section 7.2).
 #[derive(PartialEq, Eq, Debug, Clone, Drop)]
@@ -123,6 +125,66 @@ impl DeserializeBytes for LeafNode {
             },
             rest,
         ))
+    }
+}
+
+impl Validate for LeafNode {
+    ghost places = { ⟦<Parts as Validate>⟧.places };
+
+    fn tls_validate_prefix(whole: &[u8]) -> Result<&[u8], Rejected<'_>> {
+        <Parts>::tls_validate_prefix(whole)
+    }
+
+    fn tls_width() -> Option<usize> {
+        <Parts>::tls_width()
+    }
+}
+
+impl Parted for LeafNode {
+    type Parts = Parts;
+
+    ghost as_parts = { λ bytes is. is };
+}
+
+/// The encoding of a [`LeafNode`], by its fields.
+#[derive(Drop)]
+pub struct LeafNodeView<'a> {
+    /// `HPKEPublicKey encryption_key;`
+    pub encryption_key: Encoded<'a, HPKEPublicKey>,
+    /// `SignaturePublicKey signature_key;`
+    pub signature_key: Encoded<'a, SignaturePublicKey>,
+    /// `Credential credential;`
+    pub credential: Encoded<'a, Credential>,
+    /// `Capabilities capabilities;`
+    pub capabilities: Encoded<'a, Capabilities>,
+    /// `LeafNodeSource leaf_node_source;`
+    pub leaf_node_source: Encoded<'a, LeafNodeOrigin>,
+    /// `Extension extensions<V>;`
+    pub extensions: Encoded<'a, Vec<Extension>>,
+    /// `opaque signature<V>;`
+    /// SignWithLabel(., "LeafNodeTBS", LeafNodeTBS)
+    pub signature: Encoded<'a, VLBytes>,
+}
+
+impl<'a> From<Encoded<'a, LeafNode>> for LeafNodeView<'a> {
+    ghost from_gives = { λ whole view. whole ≡ ((view.encryption_key ++
+        (view.signature_key ++ view.credential)) ++ ((view.capabilities ++ view.leaf_node_source) ++
+        (view.extensions ++ view.signature))) };
+
+    fn from(whole: Encoded<'a, LeafNode>) -> LeafNodeView<'a> {
+        let (parts_0, parts_1, parts_2) = whole.parts().split();
+        let (encryption_key, signature_key, credential) = parts_0.split();
+        let (capabilities, leaf_node_source) = parts_1.split();
+        let (extensions, signature) = parts_2.split();
+        LeafNodeView {
+            encryption_key,
+            signature_key,
+            credential,
+            capabilities,
+            leaf_node_source,
+            extensions,
+            signature,
+        }
     }
 }
 

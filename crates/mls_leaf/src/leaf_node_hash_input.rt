@@ -1,5 +1,5 @@
 //! [`LeafNodeHashInput`].
-ghost use Rattle.std.specs.Prelude.{◌≡◌, ◌&&◌};
+ghost use Rattle.std.specs.Prelude.{◌≡◌, ◌&&◌, ◌++◌};
 ghost use Rattle.mls_leaf.specs.LeafNodeHashInput.{leaf_node_hash_input_format, leaf_node_hash_input_meets, leaf_node_hash_input_plain};
 ghost use Rattle.mls_leaf.specs.declared.leaf_node_hash_input.LeafNodeHashInput.{LeafNodeHashInput};
 
@@ -7,6 +7,8 @@ use crate::LeafNode;
 use std::alloc::Global;
 use tls_codec::{Deserialize, DeserializeBytes, Error, Lent, Serialize, Sink, Size, Source};
 use tls_codec_cases::append_as;
+use tls_codec_validate::{Rejected, Validate};
+use tls_codec_views::{Encoded, Parted};
 
 /// `LeafNodeHashInput` (RFC 9420, section 7.8).
 #[derive(PartialEq, Eq, Debug, Clone, Drop)]
@@ -68,6 +70,45 @@ impl DeserializeBytes for LeafNodeHashInput {
             },
             rest,
         ))
+    }
+}
+
+impl Validate for LeafNodeHashInput {
+    ghost places = { ⟦<Parts as Validate>⟧.places };
+
+    fn tls_validate_prefix(whole: &[u8]) -> Result<&[u8], Rejected<'_>> {
+        <Parts>::tls_validate_prefix(whole)
+    }
+
+    fn tls_width() -> Option<usize> {
+        <Parts>::tls_width()
+    }
+}
+
+impl Parted for LeafNodeHashInput {
+    type Parts = Parts;
+
+    ghost as_parts = { λ bytes is. is };
+}
+
+/// The encoding of a [`LeafNodeHashInput`], by its fields.
+#[derive(Drop)]
+pub struct LeafNodeHashInputView<'a> {
+    /// `uint32 leaf_index;`
+    pub leaf_index: Encoded<'a, u32>,
+    /// `optional<LeafNode> leaf_node;`
+    pub leaf_node: Encoded<'a, Option<LeafNode>>,
+}
+
+impl<'a> From<Encoded<'a, LeafNodeHashInput>> for LeafNodeHashInputView<'a> {
+    ghost from_gives = { λ whole view. whole ≡ (view.leaf_index ++ view.leaf_node) };
+
+    fn from(whole: Encoded<'a, LeafNodeHashInput>) -> LeafNodeHashInputView<'a> {
+        let (leaf_index, leaf_node) = whole.parts().split();
+        LeafNodeHashInputView {
+            leaf_index,
+            leaf_node,
+        }
     }
 }
 

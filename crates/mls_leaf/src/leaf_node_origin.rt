@@ -1,6 +1,7 @@
 //! [`LeafNodeOrigin`].
 ghost use Rattle.std.specs.Prelude.{◌≡◌, IsTrue, true};
 ghost use Rattle.tls_codec.specs.OwnMessages.{no_variant_names, no_variant_source_names, nothing_names, nothing_source_names, tagged_names, tagged_source_names, variant_names, variant_source_names};
+ghost use Rattle.tls_codec_validate.specs.TaggedPlaces.{no_variant_places, nothing_places, tagged_places, variant_places};
 ghost use Rattle.mls_leaf.specs.LeafNodeOrigin.{leaf_node_origin_format, leaf_node_origin_meets, leaf_node_origin_plain, leaf_node_origin_tag};
 ghost use Rattle.mls_leaf.specs.declared.leaf_node_origin.LeafNodeOrigin.{LeafNodeOrigin};
 
@@ -10,6 +11,7 @@ use tls_codec::{
     Deserialize, DeserializeBytes, Error, Lent, Serialize, Sink, Size, Source, VLBytes,
     unknown_value,
 };
+use tls_codec_validate::{Rejected, Validate, split_u8};
 
 const KEY_PACKAGE: u8 = 1;
 
@@ -122,6 +124,33 @@ impl DeserializeBytes for LeafNodeOrigin {
                 Ok((LeafNodeOrigin::Commit(parent_hash), rest))
             }
             _ => Err(unknown_value(u64::from(tag))),
+        }
+    }
+}
+
+impl Validate for LeafNodeOrigin {
+    ghost places = { tagged_places 1
+        (variant_places 1 ⟦<Lifetime as Validate>⟧.places
+        (variant_places 2 nothing_places
+        (variant_places 3 ⟦<VLBytes as Validate>⟧.places
+        no_variant_places))) };
+
+    fn tls_validate_prefix(whole: &[u8]) -> Result<&[u8], Rejected<'_>> {
+        let (tag, rest) = split_u8(whole)?;
+        match tag {
+            KEY_PACKAGE => {
+                let behind = Lifetime::tls_validate_prefix(rest)?;
+                Ok(behind)
+            }
+            UPDATE => Ok(rest),
+            COMMIT => {
+                let behind = VLBytes::tls_validate_prefix(rest)?;
+                Ok(behind)
+            }
+            _ => Err(Rejected {
+                error: unknown_value(u64::from(tag)),
+                rest: whole,
+            }),
         }
     }
 }

@@ -1,11 +1,13 @@
 //! [`Lifetime`].
-ghost use Rattle.std.specs.Prelude.{◌≡◌, ◌&&◌};
+ghost use Rattle.std.specs.Prelude.{◌≡◌, ◌&&◌, ◌++◌};
 ghost use Rattle.mls_leaf.specs.Lifetime.{lifetime_format, lifetime_meets, lifetime_plain};
 ghost use Rattle.mls_leaf.specs.declared.lifetime.Lifetime.{Lifetime};
 
 use std::alloc::Global;
 use tls_codec::{Deserialize, DeserializeBytes, Error, Lent, Serialize, Sink, Size, Source};
 use tls_codec_cases::append_as;
+use tls_codec_validate::{Rejected, Validate};
+use tls_codec_views::{Encoded, Parted};
 
 /// `Lifetime` (RFC 9420, section 7.2).
 #[derive(PartialEq, Eq, Debug, Clone, Drop)]
@@ -64,6 +66,45 @@ impl DeserializeBytes for Lifetime {
             },
             rest,
         ))
+    }
+}
+
+impl Validate for Lifetime {
+    ghost places = { ⟦<Parts as Validate>⟧.places };
+
+    fn tls_validate_prefix(whole: &[u8]) -> Result<&[u8], Rejected<'_>> {
+        <Parts>::tls_validate_prefix(whole)
+    }
+
+    fn tls_width() -> Option<usize> {
+        <Parts>::tls_width()
+    }
+}
+
+impl Parted for Lifetime {
+    type Parts = Parts;
+
+    ghost as_parts = { λ bytes is. is };
+}
+
+/// The encoding of a [`Lifetime`], by its fields.
+#[derive(Drop)]
+pub struct LifetimeView<'a> {
+    /// `uint64 not_before;`
+    pub not_before: Encoded<'a, u64>,
+    /// `uint64 not_after;`
+    pub not_after: Encoded<'a, u64>,
+}
+
+impl<'a> From<Encoded<'a, Lifetime>> for LifetimeView<'a> {
+    ghost from_gives = { λ whole view. whole ≡ (view.not_before ++ view.not_after) };
+
+    fn from(whole: Encoded<'a, Lifetime>) -> LifetimeView<'a> {
+        let (not_before, not_after) = whole.parts().split();
+        LifetimeView {
+            not_before,
+            not_after,
+        }
     }
 }
 

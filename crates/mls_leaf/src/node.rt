@@ -1,6 +1,7 @@
 //! [`Node`].
 ghost use Rattle.std.specs.Prelude.{◌≡◌, IsTrue};
 ghost use Rattle.tls_codec.specs.OwnMessages.{no_variant_names, no_variant_source_names, tagged_names, tagged_source_names, variant_names, variant_source_names};
+ghost use Rattle.tls_codec_validate.specs.TaggedPlaces.{no_variant_places, tagged_places, variant_places};
 ghost use Rattle.mls_leaf.specs.Node.{node_format, node_meets, node_plain, node_tag};
 ghost use Rattle.mls_leaf.specs.declared.node.Node.{Node};
 
@@ -9,6 +10,7 @@ use std::alloc::Global;
 use tls_codec::{
     Deserialize, DeserializeBytes, Error, Lent, Serialize, Sink, Size, Source, unknown_value,
 };
+use tls_codec_validate::{Rejected, Validate, split_u8};
 
 const LEAF: u8 = 1;
 
@@ -94,6 +96,31 @@ impl DeserializeBytes for Node {
                 Ok((Node::Parent(parent_node), rest))
             }
             _ => Err(unknown_value(u64::from(tag))),
+        }
+    }
+}
+
+impl Validate for Node {
+    ghost places = { tagged_places 1
+        (variant_places 1 ⟦<LeafNode as Validate>⟧.places
+        (variant_places 2 ⟦<ParentNode as Validate>⟧.places
+        no_variant_places)) };
+
+    fn tls_validate_prefix(whole: &[u8]) -> Result<&[u8], Rejected<'_>> {
+        let (tag, rest) = split_u8(whole)?;
+        match tag {
+            LEAF => {
+                let behind = LeafNode::tls_validate_prefix(rest)?;
+                Ok(behind)
+            }
+            PARENT => {
+                let behind = ParentNode::tls_validate_prefix(rest)?;
+                Ok(behind)
+            }
+            _ => Err(Rejected {
+                error: unknown_value(u64::from(tag)),
+                rest: whole,
+            }),
         }
     }
 }

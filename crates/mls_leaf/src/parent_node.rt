@@ -1,5 +1,5 @@
 //! [`ParentNode`].
-ghost use Rattle.std.specs.Prelude.{◌≡◌, ◌&&◌};
+ghost use Rattle.std.specs.Prelude.{◌≡◌, ◌&&◌, ◌++◌};
 ghost use Rattle.mls_leaf.specs.ParentNode.{parent_node_format, parent_node_meets, parent_node_plain};
 ghost use Rattle.mls_leaf.specs.declared.parent_node.ParentNode.{ParentNode};
 
@@ -9,6 +9,8 @@ use tls_codec::{
     Deserialize, DeserializeBytes, Error, Lent, Serialize, Sink, Size, Source, VLBytes,
 };
 use tls_codec_cases::append_as;
+use tls_codec_validate::{Rejected, Validate};
+use tls_codec_views::{Encoded, Parted};
 
 /// `ParentNode` (RFC 9420, section 7.1).
 #[derive(PartialEq, Eq, Debug, Clone, Drop)]
@@ -91,6 +93,49 @@ impl DeserializeBytes for ParentNode {
             },
             rest,
         ))
+    }
+}
+
+impl Validate for ParentNode {
+    ghost places = { ⟦<Parts as Validate>⟧.places };
+
+    fn tls_validate_prefix(whole: &[u8]) -> Result<&[u8], Rejected<'_>> {
+        <Parts>::tls_validate_prefix(whole)
+    }
+
+    fn tls_width() -> Option<usize> {
+        <Parts>::tls_width()
+    }
+}
+
+impl Parted for ParentNode {
+    type Parts = Parts;
+
+    ghost as_parts = { λ bytes is. is };
+}
+
+/// The encoding of a [`ParentNode`], by its fields.
+#[derive(Drop)]
+pub struct ParentNodeView<'a> {
+    /// `HPKEPublicKey encryption_key;`
+    pub encryption_key: Encoded<'a, HPKEPublicKey>,
+    /// `opaque parent_hash<V>;`
+    pub parent_hash: Encoded<'a, VLBytes>,
+    /// `uint32 unmerged_leaves<V>;`
+    pub unmerged_leaves: Encoded<'a, Vec<u32>>,
+}
+
+impl<'a> From<Encoded<'a, ParentNode>> for ParentNodeView<'a> {
+    ghost from_gives = { λ whole view. whole ≡ (view.encryption_key ++
+        (view.parent_hash ++ view.unmerged_leaves)) };
+
+    fn from(whole: Encoded<'a, ParentNode>) -> ParentNodeView<'a> {
+        let (encryption_key, parent_hash, unmerged_leaves) = whole.parts().split();
+        ParentNodeView {
+            encryption_key,
+            parent_hash,
+            unmerged_leaves,
+        }
     }
 }
 

@@ -1,5 +1,5 @@
 //! [`ParentNodeHashInput`].
-ghost use Rattle.std.specs.Prelude.{◌≡◌, ◌&&◌};
+ghost use Rattle.std.specs.Prelude.{◌≡◌, ◌&&◌, ◌++◌};
 ghost use Rattle.mls_leaf.specs.ParentNodeHashInput.{parent_node_hash_input_format, parent_node_hash_input_meets, parent_node_hash_input_plain};
 ghost use Rattle.mls_leaf.specs.declared.parent_node_hash_input.ParentNodeHashInput.{ParentNodeHashInput};
 
@@ -9,6 +9,8 @@ use tls_codec::{
     Deserialize, DeserializeBytes, Error, Lent, Serialize, Sink, Size, Source, VLBytes,
 };
 use tls_codec_cases::append_as;
+use tls_codec_validate::{Rejected, Validate};
+use tls_codec_views::{Encoded, Parted};
 
 /// `ParentNodeHashInput` (RFC 9420, section 7.8).
 #[derive(PartialEq, Eq, Debug, Clone, Drop)]
@@ -97,6 +99,49 @@ impl DeserializeBytes for ParentNodeHashInput {
             },
             rest,
         ))
+    }
+}
+
+impl Validate for ParentNodeHashInput {
+    ghost places = { ⟦<Parts as Validate>⟧.places };
+
+    fn tls_validate_prefix(whole: &[u8]) -> Result<&[u8], Rejected<'_>> {
+        <Parts>::tls_validate_prefix(whole)
+    }
+
+    fn tls_width() -> Option<usize> {
+        <Parts>::tls_width()
+    }
+}
+
+impl Parted for ParentNodeHashInput {
+    type Parts = Parts;
+
+    ghost as_parts = { λ bytes is. is };
+}
+
+/// The encoding of a [`ParentNodeHashInput`], by its fields.
+#[derive(Drop)]
+pub struct ParentNodeHashInputView<'a> {
+    /// `optional<ParentNode> parent_node;`
+    pub parent_node: Encoded<'a, Option<ParentNode>>,
+    /// `opaque left_hash<V>;`
+    pub left_hash: Encoded<'a, VLBytes>,
+    /// `opaque right_hash<V>;`
+    pub right_hash: Encoded<'a, VLBytes>,
+}
+
+impl<'a> From<Encoded<'a, ParentNodeHashInput>> for ParentNodeHashInputView<'a> {
+    ghost from_gives = { λ whole view. whole ≡ (view.parent_node ++
+        (view.left_hash ++ view.right_hash)) };
+
+    fn from(whole: Encoded<'a, ParentNodeHashInput>) -> ParentNodeHashInputView<'a> {
+        let (parent_node, left_hash, right_hash) = whole.parts().split();
+        ParentNodeHashInputView {
+            parent_node,
+            left_hash,
+            right_hash,
+        }
     }
 }
 

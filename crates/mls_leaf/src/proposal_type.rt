@@ -8,6 +8,8 @@ ghost use Rattle.mls_leaf.specs.declared.proposal_type.ProposalType.{ProposalTyp
 use std::alloc::Global;
 use std::fmt;
 use tls_codec::{Deserialize, DeserializeBytes, Error, Serialize, Sink, Size, Source};
+use tls_codec_validate::{Rejected, Validate};
+use tls_codec_views::{Encoded, Parted, Told};
 
 /// `ProposalType` (RFC 9420, section 17.4).
 #[derive(PartialEq, Eq, PartialOrd, Ord, Hash, Debug, Clone, Copy)]
@@ -37,8 +39,7 @@ impl ProposalType {
 
     /// Its name in the text, if it has one.
     pub fn name(&self) -> Option<&'static str>
-        ensures { option_map (λ t. t.now) result
-            ≡ listed_name proposal_type_names self.now.0 }
+        ensures { option_map (λ t. t.now) result ≡ listed_name proposal_type_names self.now.0 }
     {
         match self.0 {
             1 => Some("add"),
@@ -125,6 +126,30 @@ impl DeserializeBytes for ProposalType {
     fn tls_deserialize_bytes(alloc: Global, whole: &[u8]) -> Result<(ProposalType, &[u8]), Error> {
         let (number, rest) = u16::tls_deserialize_bytes(alloc, whole)?;
         Ok((ProposalType(number), rest))
+    }
+}
+
+impl Validate for ProposalType {
+    ghost places = { ⟦<u16 as Validate>⟧.places };
+
+    fn tls_validate_prefix(whole: &[u8]) -> Result<&[u8], Rejected<'_>> {
+        u16::tls_validate_prefix(whole)
+    }
+
+    fn tls_width() -> Option<usize> {
+        u16::tls_width()
+    }
+}
+
+impl Parted for ProposalType {
+    type Parts = u16;
+
+    ghost as_parts = { λ bytes is. is };
+}
+
+impl Told for ProposalType {
+    fn told(encoded: &Encoded<'_, ProposalType>) -> ProposalType {
+        ProposalType(encoded.parts().get())
     }
 }
 

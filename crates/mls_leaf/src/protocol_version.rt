@@ -8,6 +8,8 @@ ghost use Rattle.mls_leaf.specs.declared.protocol_version.ProtocolVersion.{Proto
 use std::alloc::Global;
 use std::fmt;
 use tls_codec::{Deserialize, DeserializeBytes, Error, Serialize, Sink, Size, Source};
+use tls_codec_validate::{Rejected, Validate};
+use tls_codec_views::{Encoded, Parted, Told};
 
 /// `ProtocolVersion` (RFC 9420, section 6).
 #[derive(PartialEq, Eq, PartialOrd, Ord, Hash, Debug, Clone, Copy)]
@@ -19,8 +21,7 @@ impl ProtocolVersion {
 
     /// Its name in the text, if it has one.
     pub fn name(&self) -> Option<&'static str>
-        ensures { option_map (λ t. t.now) result
-            ≡ listed_name protocol_version_names self.now.0 }
+        ensures { option_map (λ t. t.now) result ≡ listed_name protocol_version_names self.now.0 }
     {
         match self.0 {
             1 => Some("mls10"),
@@ -104,6 +105,30 @@ impl DeserializeBytes for ProtocolVersion {
     ) -> Result<(ProtocolVersion, &[u8]), Error> {
         let (number, rest) = u16::tls_deserialize_bytes(alloc, whole)?;
         Ok((ProtocolVersion(number), rest))
+    }
+}
+
+impl Validate for ProtocolVersion {
+    ghost places = { ⟦<u16 as Validate>⟧.places };
+
+    fn tls_validate_prefix(whole: &[u8]) -> Result<&[u8], Rejected<'_>> {
+        u16::tls_validate_prefix(whole)
+    }
+
+    fn tls_width() -> Option<usize> {
+        u16::tls_width()
+    }
+}
+
+impl Parted for ProtocolVersion {
+    type Parts = u16;
+
+    ghost as_parts = { λ bytes is. is };
+}
+
+impl Told for ProtocolVersion {
+    fn told(encoded: &Encoded<'_, ProtocolVersion>) -> ProtocolVersion {
+        ProtocolVersion(encoded.parts().get())
     }
 }
 

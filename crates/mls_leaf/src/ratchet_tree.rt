@@ -7,6 +7,8 @@ use crate::Node;
 use std::alloc::Global;
 use tls_codec::{Deserialize, DeserializeBytes, Error, Serialize, Sink, Size, Source};
 use tls_codec_cases::append_as;
+use tls_codec_validate::{Rejected, Validate};
+use tls_codec_views::{Encoded, Parted};
 
 /// `RatchetTree` (RFC 9420, section 12.4.3.3).
 #[derive(PartialEq, Eq, Debug, Clone, Drop)]
@@ -52,6 +54,40 @@ impl DeserializeBytes for RatchetTree {
     fn tls_deserialize_bytes(alloc: Global, whole: &[u8]) -> Result<(RatchetTree, &[u8]), Error> {
         let (ratchet_tree, rest) = <Vec<Option<Node>>>::tls_deserialize_bytes(alloc, whole)?;
         Ok((RatchetTree { ratchet_tree }, rest))
+    }
+}
+
+impl Validate for RatchetTree {
+    ghost places = { ⟦<Vec<Option<Node>> as Validate>⟧.places };
+
+    fn tls_validate_prefix(whole: &[u8]) -> Result<&[u8], Rejected<'_>> {
+        <Vec<Option<Node>>>::tls_validate_prefix(whole)
+    }
+
+    fn tls_width() -> Option<usize> {
+        <Vec<Option<Node>>>::tls_width()
+    }
+}
+
+impl Parted for RatchetTree {
+    type Parts = Vec<Option<Node>>;
+
+    ghost as_parts = { λ bytes is. is };
+}
+
+/// The encoding of a [`RatchetTree`], by its fields.
+#[derive(Drop)]
+pub struct RatchetTreeView<'a> {
+    /// `optional<Node> ratchet_tree<V>;`
+    pub ratchet_tree: Encoded<'a, Vec<Option<Node>>>,
+}
+
+impl<'a> From<Encoded<'a, RatchetTree>> for RatchetTreeView<'a> {
+    ghost from_gives = { λ whole view. whole ≡ view.ratchet_tree };
+
+    fn from(whole: Encoded<'a, RatchetTree>) -> RatchetTreeView<'a> {
+        let ratchet_tree = whole.parts();
+        RatchetTreeView { ratchet_tree }
     }
 }
 

@@ -1,6 +1,7 @@
 //! [`TreeHashInput`].
 ghost use Rattle.std.specs.Prelude.{◌≡◌, IsTrue};
 ghost use Rattle.tls_codec.specs.OwnMessages.{no_variant_names, no_variant_source_names, tagged_names, tagged_source_names, variant_names, variant_source_names};
+ghost use Rattle.tls_codec_validate.specs.TaggedPlaces.{no_variant_places, tagged_places, variant_places};
 ghost use Rattle.mls_leaf.specs.TreeHashInput.{tree_hash_input_format, tree_hash_input_meets, tree_hash_input_plain, tree_hash_input_tag};
 ghost use Rattle.mls_leaf.specs.declared.tree_hash_input.TreeHashInput.{TreeHashInput};
 
@@ -9,6 +10,7 @@ use std::alloc::Global;
 use tls_codec::{
     Deserialize, DeserializeBytes, Error, Lent, Serialize, Sink, Size, Source, unknown_value,
 };
+use tls_codec_validate::{Rejected, Validate, split_u8};
 
 const LEAF: u8 = 1;
 
@@ -97,6 +99,31 @@ impl DeserializeBytes for TreeHashInput {
                 Ok((TreeHashInput::Parent(parent_node), rest))
             }
             _ => Err(unknown_value(u64::from(tag))),
+        }
+    }
+}
+
+impl Validate for TreeHashInput {
+    ghost places = { tagged_places 1
+        (variant_places 1 ⟦<LeafNodeHashInput as Validate>⟧.places
+        (variant_places 2 ⟦<ParentNodeHashInput as Validate>⟧.places
+        no_variant_places)) };
+
+    fn tls_validate_prefix(whole: &[u8]) -> Result<&[u8], Rejected<'_>> {
+        let (tag, rest) = split_u8(whole)?;
+        match tag {
+            LEAF => {
+                let behind = LeafNodeHashInput::tls_validate_prefix(rest)?;
+                Ok(behind)
+            }
+            PARENT => {
+                let behind = ParentNodeHashInput::tls_validate_prefix(rest)?;
+                Ok(behind)
+            }
+            _ => Err(Rejected {
+                error: unknown_value(u64::from(tag)),
+                rest: whole,
+            }),
         }
     }
 }

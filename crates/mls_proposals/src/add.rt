@@ -7,6 +7,8 @@ use mls_leaf::KeyPackage;
 use std::alloc::Global;
 use tls_codec::{Deserialize, DeserializeBytes, Error, Serialize, Sink, Size, Source};
 use tls_codec_cases::append_as;
+use tls_codec_validate::{Rejected, Validate};
+use tls_codec_views::{Encoded, Parted};
 
 /// `Add` (RFC 9420, section 12.1.1).
 #[derive(PartialEq, Eq, Debug, Clone, Drop)]
@@ -52,6 +54,40 @@ impl DeserializeBytes for Add {
     fn tls_deserialize_bytes(alloc: Global, whole: &[u8]) -> Result<(Add, &[u8]), Error> {
         let (key_package, rest) = KeyPackage::tls_deserialize_bytes(alloc, whole)?;
         Ok((Add { key_package }, rest))
+    }
+}
+
+impl Validate for Add {
+    ghost places = { ⟦<KeyPackage as Validate>⟧.places };
+
+    fn tls_validate_prefix(whole: &[u8]) -> Result<&[u8], Rejected<'_>> {
+        KeyPackage::tls_validate_prefix(whole)
+    }
+
+    fn tls_width() -> Option<usize> {
+        KeyPackage::tls_width()
+    }
+}
+
+impl Parted for Add {
+    type Parts = KeyPackage;
+
+    ghost as_parts = { λ bytes is. is };
+}
+
+/// The encoding of a [`Add`], by its fields.
+#[derive(Drop)]
+pub struct AddView<'a> {
+    /// `KeyPackage key_package;`
+    pub key_package: Encoded<'a, KeyPackage>,
+}
+
+impl<'a> From<Encoded<'a, Add>> for AddView<'a> {
+    ghost from_gives = { λ whole view. whole ≡ view.key_package };
+
+    fn from(whole: Encoded<'a, Add>) -> AddView<'a> {
+        let key_package = whole.parts();
+        AddView { key_package }
     }
 }
 

@@ -1,5 +1,5 @@
 //! [`Commit`].
-ghost use Rattle.std.specs.Prelude.{◌≡◌, ◌&&◌};
+ghost use Rattle.std.specs.Prelude.{◌≡◌, ◌&&◌, ◌++◌};
 ghost use Rattle.mls_proposals.specs.Commit.{commit_format, commit_meets, commit_plain};
 ghost use Rattle.mls_proposals.specs.declared.commit.Commit.{Commit};
 
@@ -7,6 +7,8 @@ use crate::{ProposalOrRef, UpdatePath};
 use std::alloc::Global;
 use tls_codec::{Deserialize, DeserializeBytes, Error, Lent, Serialize, Sink, Size, Source};
 use tls_codec_cases::append_as;
+use tls_codec_validate::{Rejected, Validate};
+use tls_codec_views::{Encoded, Parted};
 
 /// `Commit` (RFC 9420, section 12.4).
 #[derive(PartialEq, Eq, Debug, Clone, Drop)]
@@ -56,6 +58,42 @@ impl DeserializeBytes for Commit {
     fn tls_deserialize_bytes(alloc: Global, whole: &[u8]) -> Result<(Commit, &[u8]), Error> {
         let ((proposals, path), rest) = <Parts>::tls_deserialize_bytes(alloc, whole)?;
         Ok((Commit { proposals, path }, rest))
+    }
+}
+
+impl Validate for Commit {
+    ghost places = { ⟦<Parts as Validate>⟧.places };
+
+    fn tls_validate_prefix(whole: &[u8]) -> Result<&[u8], Rejected<'_>> {
+        <Parts>::tls_validate_prefix(whole)
+    }
+
+    fn tls_width() -> Option<usize> {
+        <Parts>::tls_width()
+    }
+}
+
+impl Parted for Commit {
+    type Parts = Parts;
+
+    ghost as_parts = { λ bytes is. is };
+}
+
+/// The encoding of a [`Commit`], by its fields.
+#[derive(Drop)]
+pub struct CommitView<'a> {
+    /// `ProposalOrRef proposals<V>;`
+    pub proposals: Encoded<'a, Vec<ProposalOrRef>>,
+    /// `optional<UpdatePath> path;`
+    pub path: Encoded<'a, Option<UpdatePath>>,
+}
+
+impl<'a> From<Encoded<'a, Commit>> for CommitView<'a> {
+    ghost from_gives = { λ whole view. whole ≡ (view.proposals ++ view.path) };
+
+    fn from(whole: Encoded<'a, Commit>) -> CommitView<'a> {
+        let (proposals, path) = whole.parts().split();
+        CommitView { proposals, path }
     }
 }
 

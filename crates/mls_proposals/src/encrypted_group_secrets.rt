@@ -1,5 +1,5 @@
 //! [`EncryptedGroupSecrets`].
-ghost use Rattle.std.specs.Prelude.{◌≡◌, ◌&&◌};
+ghost use Rattle.std.specs.Prelude.{◌≡◌, ◌&&◌, ◌++◌};
 ghost use Rattle.mls_proposals.specs.EncryptedGroupSecrets.{encrypted_group_secrets_format, encrypted_group_secrets_meets, encrypted_group_secrets_plain};
 ghost use Rattle.mls_proposals.specs.declared.encrypted_group_secrets.EncryptedGroupSecrets.{EncryptedGroupSecrets};
 
@@ -7,6 +7,8 @@ use crate::{HPKECiphertext, KeyPackageRef};
 use std::alloc::Global;
 use tls_codec::{Deserialize, DeserializeBytes, Error, Lent, Serialize, Sink, Size, Source};
 use tls_codec_cases::append_as;
+use tls_codec_validate::{Rejected, Validate};
+use tls_codec_views::{Encoded, Parted};
 
 /// `EncryptedGroupSecrets` (RFC 9420, section 12.4.3.1).
 #[derive(PartialEq, Eq, Debug, Clone, Drop)]
@@ -77,6 +79,45 @@ impl DeserializeBytes for EncryptedGroupSecrets {
             },
             rest,
         ))
+    }
+}
+
+impl Validate for EncryptedGroupSecrets {
+    ghost places = { ⟦<Parts as Validate>⟧.places };
+
+    fn tls_validate_prefix(whole: &[u8]) -> Result<&[u8], Rejected<'_>> {
+        <Parts>::tls_validate_prefix(whole)
+    }
+
+    fn tls_width() -> Option<usize> {
+        <Parts>::tls_width()
+    }
+}
+
+impl Parted for EncryptedGroupSecrets {
+    type Parts = Parts;
+
+    ghost as_parts = { λ bytes is. is };
+}
+
+/// The encoding of a [`EncryptedGroupSecrets`], by its fields.
+#[derive(Drop)]
+pub struct EncryptedGroupSecretsView<'a> {
+    /// `KeyPackageRef new_member;`
+    pub new_member: Encoded<'a, KeyPackageRef>,
+    /// `HPKECiphertext encrypted_group_secrets;`
+    pub encrypted_group_secrets: Encoded<'a, HPKECiphertext>,
+}
+
+impl<'a> From<Encoded<'a, EncryptedGroupSecrets>> for EncryptedGroupSecretsView<'a> {
+    ghost from_gives = { λ whole view. whole ≡ (view.new_member ++ view.encrypted_group_secrets) };
+
+    fn from(whole: Encoded<'a, EncryptedGroupSecrets>) -> EncryptedGroupSecretsView<'a> {
+        let (new_member, encrypted_group_secrets) = whole.parts().split();
+        EncryptedGroupSecretsView {
+            new_member,
+            encrypted_group_secrets,
+        }
     }
 }
 

@@ -6,6 +6,8 @@ ghost use Rattle.mls_proposals.specs.declared.external_init.ExternalInit.{Extern
 use std::alloc::Global;
 use tls_codec::{Deserialize, DeserializeBytes, Error, Serialize, Sink, Size, Source, VLBytes};
 use tls_codec_cases::append_as;
+use tls_codec_validate::{Rejected, Validate};
+use tls_codec_views::{Encoded, Parted};
 
 /// `ExternalInit` (RFC 9420, section 12.1.6).
 #[derive(PartialEq, Eq, Debug, Clone, Drop)]
@@ -51,6 +53,40 @@ impl DeserializeBytes for ExternalInit {
     fn tls_deserialize_bytes(alloc: Global, whole: &[u8]) -> Result<(ExternalInit, &[u8]), Error> {
         let (kem_output, rest) = VLBytes::tls_deserialize_bytes(alloc, whole)?;
         Ok((ExternalInit { kem_output }, rest))
+    }
+}
+
+impl Validate for ExternalInit {
+    ghost places = { ⟦<VLBytes as Validate>⟧.places };
+
+    fn tls_validate_prefix(whole: &[u8]) -> Result<&[u8], Rejected<'_>> {
+        VLBytes::tls_validate_prefix(whole)
+    }
+
+    fn tls_width() -> Option<usize> {
+        VLBytes::tls_width()
+    }
+}
+
+impl Parted for ExternalInit {
+    type Parts = VLBytes;
+
+    ghost as_parts = { λ bytes is. is };
+}
+
+/// The encoding of a [`ExternalInit`], by its fields.
+#[derive(Drop)]
+pub struct ExternalInitView<'a> {
+    /// `opaque kem_output<V>;`
+    pub kem_output: Encoded<'a, VLBytes>,
+}
+
+impl<'a> From<Encoded<'a, ExternalInit>> for ExternalInitView<'a> {
+    ghost from_gives = { λ whole view. whole ≡ view.kem_output };
+
+    fn from(whole: Encoded<'a, ExternalInit>) -> ExternalInitView<'a> {
+        let kem_output = whole.parts();
+        ExternalInitView { kem_output }
     }
 }
 

@@ -7,6 +7,8 @@ use mls_leaf::HPKEPublicKey;
 use std::alloc::Global;
 use tls_codec::{Deserialize, DeserializeBytes, Error, Serialize, Sink, Size, Source};
 use tls_codec_cases::append_as;
+use tls_codec_validate::{Rejected, Validate};
+use tls_codec_views::{Encoded, Parted};
 
 /// `ExternalPub` (RFC 9420, section 12.4.3.2).
 #[derive(PartialEq, Eq, Debug, Clone, Drop)]
@@ -52,6 +54,40 @@ impl DeserializeBytes for ExternalPub {
     fn tls_deserialize_bytes(alloc: Global, whole: &[u8]) -> Result<(ExternalPub, &[u8]), Error> {
         let (external_pub, rest) = HPKEPublicKey::tls_deserialize_bytes(alloc, whole)?;
         Ok((ExternalPub { external_pub }, rest))
+    }
+}
+
+impl Validate for ExternalPub {
+    ghost places = { ⟦<HPKEPublicKey as Validate>⟧.places };
+
+    fn tls_validate_prefix(whole: &[u8]) -> Result<&[u8], Rejected<'_>> {
+        HPKEPublicKey::tls_validate_prefix(whole)
+    }
+
+    fn tls_width() -> Option<usize> {
+        HPKEPublicKey::tls_width()
+    }
+}
+
+impl Parted for ExternalPub {
+    type Parts = HPKEPublicKey;
+
+    ghost as_parts = { λ bytes is. is };
+}
+
+/// The encoding of a [`ExternalPub`], by its fields.
+#[derive(Drop)]
+pub struct ExternalPubView<'a> {
+    /// `HPKEPublicKey external_pub;`
+    pub external_pub: Encoded<'a, HPKEPublicKey>,
+}
+
+impl<'a> From<Encoded<'a, ExternalPub>> for ExternalPubView<'a> {
+    ghost from_gives = { λ whole view. whole ≡ view.external_pub };
+
+    fn from(whole: Encoded<'a, ExternalPub>) -> ExternalPubView<'a> {
+        let external_pub = whole.parts();
+        ExternalPubView { external_pub }
     }
 }
 

@@ -1,5 +1,5 @@
 //! [`ExternalSender`].
-ghost use Rattle.std.specs.Prelude.{◌≡◌, ◌&&◌};
+ghost use Rattle.std.specs.Prelude.{◌≡◌, ◌&&◌, ◌++◌};
 ghost use Rattle.mls_proposals.specs.ExternalSender.{external_sender_format, external_sender_meets, external_sender_plain};
 ghost use Rattle.mls_proposals.specs.declared.external_sender.ExternalSender.{ExternalSender};
 
@@ -7,6 +7,8 @@ use mls_leaf::{Credential, SignaturePublicKey};
 use std::alloc::Global;
 use tls_codec::{Deserialize, DeserializeBytes, Error, Lent, Serialize, Sink, Size, Source};
 use tls_codec_cases::append_as;
+use tls_codec_validate::{Rejected, Validate};
+use tls_codec_views::{Encoded, Parted};
 
 /// `ExternalSender` (RFC 9420, section 12.1.8.1).
 #[derive(PartialEq, Eq, Debug, Clone, Drop)]
@@ -72,6 +74,45 @@ impl DeserializeBytes for ExternalSender {
             },
             rest,
         ))
+    }
+}
+
+impl Validate for ExternalSender {
+    ghost places = { ⟦<Parts as Validate>⟧.places };
+
+    fn tls_validate_prefix(whole: &[u8]) -> Result<&[u8], Rejected<'_>> {
+        <Parts>::tls_validate_prefix(whole)
+    }
+
+    fn tls_width() -> Option<usize> {
+        <Parts>::tls_width()
+    }
+}
+
+impl Parted for ExternalSender {
+    type Parts = Parts;
+
+    ghost as_parts = { λ bytes is. is };
+}
+
+/// The encoding of a [`ExternalSender`], by its fields.
+#[derive(Drop)]
+pub struct ExternalSenderView<'a> {
+    /// `SignaturePublicKey signature_key;`
+    pub signature_key: Encoded<'a, SignaturePublicKey>,
+    /// `Credential credential;`
+    pub credential: Encoded<'a, Credential>,
+}
+
+impl<'a> From<Encoded<'a, ExternalSender>> for ExternalSenderView<'a> {
+    ghost from_gives = { λ whole view. whole ≡ (view.signature_key ++ view.credential) };
+
+    fn from(whole: Encoded<'a, ExternalSender>) -> ExternalSenderView<'a> {
+        let (signature_key, credential) = whole.parts().split();
+        ExternalSenderView {
+            signature_key,
+            credential,
+        }
     }
 }
 

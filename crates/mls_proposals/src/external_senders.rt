@@ -7,6 +7,7 @@ use crate::ExternalSender;
 use std::alloc::Global;
 use tls_codec::{Deserialize, DeserializeBytes, Error, Serialize, Sink, Size, Source};
 use tls_codec_cases::append_as;
+use tls_codec_validate::{Rejected, Validate};
 
 /// `ExternalSenders` (RFC 9420, section 12.1.8.1).
 #[derive(PartialEq, Eq, Debug, Clone, Drop)]
@@ -55,6 +56,18 @@ impl DeserializeBytes for ExternalSenders {
     ) -> Result<(ExternalSenders, &[u8]), Error> {
         let (external_senders, rest) = <Vec<ExternalSender>>::tls_deserialize_bytes(alloc, whole)?;
         Ok((ExternalSenders { external_senders }, rest))
+    }
+}
+
+impl Validate for ExternalSenders {
+    ghost places = { ⟦<Vec<ExternalSender> as Validate>⟧.places };
+
+    fn tls_validate_prefix(whole: &[u8]) -> Result<&[u8], Rejected<'_>> {
+        <Vec<ExternalSender>>::tls_validate_prefix(whole)
+    }
+
+    fn tls_width() -> Option<usize> {
+        <Vec<ExternalSender>>::tls_width()
     }
 }
 

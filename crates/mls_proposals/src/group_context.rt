@@ -1,5 +1,5 @@
 //! [`GroupContext`].
-ghost use Rattle.std.specs.Prelude.{◌≡◌, ◌&&◌};
+ghost use Rattle.std.specs.Prelude.{◌≡◌, ◌&&◌, ◌++◌};
 ghost use Rattle.mls_proposals.specs.GroupContext.{group_context_format, group_context_meets, group_context_plain};
 ghost use Rattle.mls_proposals.specs.declared.group_context.GroupContext.{GroupContext};
 
@@ -10,6 +10,8 @@ use tls_codec::{
     Deserialize, DeserializeBytes, Error, Lent2, Lent3, Serialize, Sink, Size, Source, VLBytes,
 };
 use tls_codec_cases::append_as;
+use tls_codec_validate::{Rejected, Validate};
+use tls_codec_views::{Encoded, Parted};
 
 /// `GroupContext` (RFC 9420, section 8.1).
 #[derive(PartialEq, Eq, Debug, Clone, Drop)]
@@ -121,6 +123,65 @@ impl DeserializeBytes for GroupContext {
             },
             rest,
         ))
+    }
+}
+
+impl Validate for GroupContext {
+    ghost places = { ⟦<Parts as Validate>⟧.places };
+
+    fn tls_validate_prefix(whole: &[u8]) -> Result<&[u8], Rejected<'_>> {
+        <Parts>::tls_validate_prefix(whole)
+    }
+
+    fn tls_width() -> Option<usize> {
+        <Parts>::tls_width()
+    }
+}
+
+impl Parted for GroupContext {
+    type Parts = Parts;
+
+    ghost as_parts = { λ bytes is. is };
+}
+
+/// The encoding of a [`GroupContext`], by its fields.
+#[derive(Drop)]
+pub struct GroupContextView<'a> {
+    /// `ProtocolVersion version = mls10;`
+    pub version: Encoded<'a, ProtocolVersionMls10>,
+    /// `CipherSuite cipher_suite;`
+    pub cipher_suite: Encoded<'a, CipherSuite>,
+    /// `opaque group_id<V>;`
+    pub group_id: Encoded<'a, VLBytes>,
+    /// `uint64 epoch;`
+    pub epoch: Encoded<'a, u64>,
+    /// `opaque tree_hash<V>;`
+    pub tree_hash: Encoded<'a, VLBytes>,
+    /// `opaque confirmed_transcript_hash<V>;`
+    pub confirmed_transcript_hash: Encoded<'a, VLBytes>,
+    /// `Extension extensions<V>;`
+    pub extensions: Encoded<'a, Vec<Extension>>,
+}
+
+impl<'a> From<Encoded<'a, GroupContext>> for GroupContextView<'a> {
+    ghost from_gives = { λ whole view. whole ≡ ((view.version ++
+        (view.cipher_suite ++ view.group_id)) ++ ((view.epoch ++ view.tree_hash) ++
+        (view.confirmed_transcript_hash ++ view.extensions))) };
+
+    fn from(whole: Encoded<'a, GroupContext>) -> GroupContextView<'a> {
+        let (parts_0, parts_1, parts_2) = whole.parts().split();
+        let (version, cipher_suite, group_id) = parts_0.split();
+        let (epoch, tree_hash) = parts_1.split();
+        let (confirmed_transcript_hash, extensions) = parts_2.split();
+        GroupContextView {
+            version,
+            cipher_suite,
+            group_id,
+            epoch,
+            tree_hash,
+            confirmed_transcript_hash,
+            extensions,
+        }
     }
 }
 

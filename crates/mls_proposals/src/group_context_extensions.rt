@@ -7,6 +7,7 @@ use mls_leaf::Extension;
 use std::alloc::Global;
 use tls_codec::{Deserialize, DeserializeBytes, Error, Serialize, Sink, Size, Source};
 use tls_codec_cases::append_as;
+use tls_codec_validate::{Rejected, Validate};
 
 /// `GroupContextExtensions` (RFC 9420, section 12.1.7).
 #[derive(PartialEq, Eq, Debug, Clone, Drop)]
@@ -58,6 +59,18 @@ impl DeserializeBytes for GroupContextExtensions {
     ) -> Result<(GroupContextExtensions, &[u8]), Error> {
         let (extensions, rest) = <Vec<Extension>>::tls_deserialize_bytes(alloc, whole)?;
         Ok((GroupContextExtensions { extensions }, rest))
+    }
+}
+
+impl Validate for GroupContextExtensions {
+    ghost places = { ⟦<Vec<Extension> as Validate>⟧.places };
+
+    fn tls_validate_prefix(whole: &[u8]) -> Result<&[u8], Rejected<'_>> {
+        <Vec<Extension>>::tls_validate_prefix(whole)
+    }
+
+    fn tls_width() -> Option<usize> {
+        <Vec<Extension>>::tls_width()
     }
 }
 

@@ -1,5 +1,5 @@
 //! [`GroupInfo`].
-ghost use Rattle.std.specs.Prelude.{◌≡◌, ◌&&◌};
+ghost use Rattle.std.specs.Prelude.{◌≡◌, ◌&&◌, ◌++◌};
 ghost use Rattle.mls_proposals.specs.GroupInfo.{group_info_format, group_info_meets, group_info_plain};
 ghost use Rattle.mls_proposals.specs.declared.group_info.GroupInfo.{GroupInfo};
 
@@ -10,6 +10,8 @@ use tls_codec::{
     Deserialize, DeserializeBytes, Error, Lent2, Lent3, Serialize, Sink, Size, Source, VLBytes,
 };
 use tls_codec_cases::append_as;
+use tls_codec_validate::{Rejected, Validate};
+use tls_codec_views::{Encoded, Parted};
 
 /// `GroupInfo` (RFC 9420, section 12.4.3).
 #[derive(PartialEq, Eq, Debug, Clone, Drop)]
@@ -110,6 +112,58 @@ impl DeserializeBytes for GroupInfo {
             },
             rest,
         ))
+    }
+}
+
+impl Validate for GroupInfo {
+    ghost places = { ⟦<Parts as Validate>⟧.places };
+
+    fn tls_validate_prefix(whole: &[u8]) -> Result<&[u8], Rejected<'_>> {
+        <Parts>::tls_validate_prefix(whole)
+    }
+
+    fn tls_width() -> Option<usize> {
+        <Parts>::tls_width()
+    }
+}
+
+impl Parted for GroupInfo {
+    type Parts = Parts;
+
+    ghost as_parts = { λ bytes is. is };
+}
+
+/// The encoding of a [`GroupInfo`], by its fields.
+#[derive(Drop)]
+pub struct GroupInfoView<'a> {
+    /// `GroupContext group_context;`
+    pub group_context: Encoded<'a, GroupContext>,
+    /// `Extension extensions<V>;`
+    pub extensions: Encoded<'a, Vec<Extension>>,
+    /// `MAC confirmation_tag;`
+    pub confirmation_tag: Encoded<'a, MAC>,
+    /// `uint32 signer;`
+    pub signer: Encoded<'a, u32>,
+    /// `opaque signature<V>;`
+    /// SignWithLabel(., "GroupInfoTBS", GroupInfoTBS)
+    pub signature: Encoded<'a, VLBytes>,
+}
+
+impl<'a> From<Encoded<'a, GroupInfo>> for GroupInfoView<'a> {
+    ghost from_gives = { λ whole view. whole ≡ ((view.group_context ++
+        (view.extensions ++ view.confirmation_tag)) ++ (view.signer ++ view.signature)) };
+
+    fn from(whole: Encoded<'a, GroupInfo>) -> GroupInfoView<'a> {
+        let (parts_0, parts_1) = whole.parts().split();
+        let (group_context, extensions, confirmation_tag) = parts_0.split();
+        let (signer, signature) = parts_1.split();
+        GroupInfoView {
+            group_context,
+            extensions,
+            confirmation_tag,
+            signer,
+            signature,
+        }
     }
 }
 

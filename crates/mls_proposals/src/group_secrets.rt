@@ -1,5 +1,5 @@
 //! [`GroupSecrets`].
-ghost use Rattle.std.specs.Prelude.{◌≡◌, ◌&&◌};
+ghost use Rattle.std.specs.Prelude.{◌≡◌, ◌&&◌, ◌++◌};
 ghost use Rattle.mls_proposals.specs.GroupSecrets.{group_secrets_format, group_secrets_meets, group_secrets_plain};
 ghost use Rattle.mls_proposals.specs.declared.group_secrets.GroupSecrets.{GroupSecrets};
 
@@ -9,6 +9,8 @@ use tls_codec::{
     Deserialize, DeserializeBytes, Error, Lent, Serialize, Sink, Size, Source, VLBytes,
 };
 use tls_codec_cases::append_as;
+use tls_codec_validate::{Rejected, Validate};
+use tls_codec_views::{Encoded, Parted};
 
 /// `GroupSecrets` (RFC 9420, section 12.4.3.1).
 #[derive(PartialEq, Eq, Debug, Clone, Drop)]
@@ -91,6 +93,49 @@ impl DeserializeBytes for GroupSecrets {
             },
             rest,
         ))
+    }
+}
+
+impl Validate for GroupSecrets {
+    ghost places = { ⟦<Parts as Validate>⟧.places };
+
+    fn tls_validate_prefix(whole: &[u8]) -> Result<&[u8], Rejected<'_>> {
+        <Parts>::tls_validate_prefix(whole)
+    }
+
+    fn tls_width() -> Option<usize> {
+        <Parts>::tls_width()
+    }
+}
+
+impl Parted for GroupSecrets {
+    type Parts = Parts;
+
+    ghost as_parts = { λ bytes is. is };
+}
+
+/// The encoding of a [`GroupSecrets`], by its fields.
+#[derive(Drop)]
+pub struct GroupSecretsView<'a> {
+    /// `opaque joiner_secret<V>;`
+    pub joiner_secret: Encoded<'a, VLBytes>,
+    /// `optional<PathSecret> path_secret;`
+    pub path_secret: Encoded<'a, Option<PathSecret>>,
+    /// `PreSharedKeyID psks<V>;`
+    pub psks: Encoded<'a, Vec<PreSharedKeyID>>,
+}
+
+impl<'a> From<Encoded<'a, GroupSecrets>> for GroupSecretsView<'a> {
+    ghost from_gives = { λ whole view. whole ≡ (view.joiner_secret ++
+        (view.path_secret ++ view.psks)) };
+
+    fn from(whole: Encoded<'a, GroupSecrets>) -> GroupSecretsView<'a> {
+        let (joiner_secret, path_secret, psks) = whole.parts().split();
+        GroupSecretsView {
+            joiner_secret,
+            path_secret,
+            psks,
+        }
     }
 }
 

@@ -1,5 +1,5 @@
 //! [`HPKECiphertext`].
-ghost use Rattle.std.specs.Prelude.{◌≡◌, ◌&&◌};
+ghost use Rattle.std.specs.Prelude.{◌≡◌, ◌&&◌, ◌++◌};
 ghost use Rattle.mls_proposals.specs.HPKECiphertext.{hpke_ciphertext_format, hpke_ciphertext_meets, hpke_ciphertext_plain};
 ghost use Rattle.mls_proposals.specs.declared.hpke_ciphertext.HPKECiphertext.{HPKECiphertext};
 
@@ -8,6 +8,8 @@ use tls_codec::{
     Deserialize, DeserializeBytes, Error, Lent, Serialize, Sink, Size, Source, VLBytes,
 };
 use tls_codec_cases::append_as;
+use tls_codec_validate::{Rejected, Validate};
+use tls_codec_views::{Encoded, Parted};
 
 /// `HPKECiphertext` (RFC 9420, section 7.6).
 #[derive(PartialEq, Eq, Debug, Clone, Drop)]
@@ -69,6 +71,45 @@ impl DeserializeBytes for HPKECiphertext {
             },
             rest,
         ))
+    }
+}
+
+impl Validate for HPKECiphertext {
+    ghost places = { ⟦<Parts as Validate>⟧.places };
+
+    fn tls_validate_prefix(whole: &[u8]) -> Result<&[u8], Rejected<'_>> {
+        <Parts>::tls_validate_prefix(whole)
+    }
+
+    fn tls_width() -> Option<usize> {
+        <Parts>::tls_width()
+    }
+}
+
+impl Parted for HPKECiphertext {
+    type Parts = Parts;
+
+    ghost as_parts = { λ bytes is. is };
+}
+
+/// The encoding of a [`HPKECiphertext`], by its fields.
+#[derive(Drop)]
+pub struct HPKECiphertextView<'a> {
+    /// `opaque kem_output<V>;`
+    pub kem_output: Encoded<'a, VLBytes>,
+    /// `opaque ciphertext<V>;`
+    pub ciphertext: Encoded<'a, VLBytes>,
+}
+
+impl<'a> From<Encoded<'a, HPKECiphertext>> for HPKECiphertextView<'a> {
+    ghost from_gives = { λ whole view. whole ≡ (view.kem_output ++ view.ciphertext) };
+
+    fn from(whole: Encoded<'a, HPKECiphertext>) -> HPKECiphertextView<'a> {
+        let (kem_output, ciphertext) = whole.parts().split();
+        HPKECiphertextView {
+            kem_output,
+            ciphertext,
+        }
     }
 }
 

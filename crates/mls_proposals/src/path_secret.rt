@@ -6,6 +6,8 @@ ghost use Rattle.mls_proposals.specs.declared.path_secret.PathSecret.{PathSecret
 use std::alloc::Global;
 use tls_codec::{Deserialize, DeserializeBytes, Error, Serialize, Sink, Size, Source, VLBytes};
 use tls_codec_cases::append_as;
+use tls_codec_validate::{Rejected, Validate};
+use tls_codec_views::{Encoded, Parted};
 
 /// `PathSecret` (RFC 9420, section 12.4.3.1).
 #[derive(PartialEq, Eq, Debug, Clone, Drop)]
@@ -51,6 +53,40 @@ impl DeserializeBytes for PathSecret {
     fn tls_deserialize_bytes(alloc: Global, whole: &[u8]) -> Result<(PathSecret, &[u8]), Error> {
         let (path_secret, rest) = VLBytes::tls_deserialize_bytes(alloc, whole)?;
         Ok((PathSecret { path_secret }, rest))
+    }
+}
+
+impl Validate for PathSecret {
+    ghost places = { ⟦<VLBytes as Validate>⟧.places };
+
+    fn tls_validate_prefix(whole: &[u8]) -> Result<&[u8], Rejected<'_>> {
+        VLBytes::tls_validate_prefix(whole)
+    }
+
+    fn tls_width() -> Option<usize> {
+        VLBytes::tls_width()
+    }
+}
+
+impl Parted for PathSecret {
+    type Parts = VLBytes;
+
+    ghost as_parts = { λ bytes is. is };
+}
+
+/// The encoding of a [`PathSecret`], by its fields.
+#[derive(Drop)]
+pub struct PathSecretView<'a> {
+    /// `opaque path_secret<V>;`
+    pub path_secret: Encoded<'a, VLBytes>,
+}
+
+impl<'a> From<Encoded<'a, PathSecret>> for PathSecretView<'a> {
+    ghost from_gives = { λ whole view. whole ≡ view.path_secret };
+
+    fn from(whole: Encoded<'a, PathSecret>) -> PathSecretView<'a> {
+        let path_secret = whole.parts();
+        PathSecretView { path_secret }
     }
 }
 

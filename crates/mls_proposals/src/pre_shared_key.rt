@@ -7,6 +7,8 @@ use crate::PreSharedKeyID;
 use std::alloc::Global;
 use tls_codec::{Deserialize, DeserializeBytes, Error, Serialize, Sink, Size, Source};
 use tls_codec_cases::append_as;
+use tls_codec_validate::{Rejected, Validate};
+use tls_codec_views::{Encoded, Parted};
 
 /// `PreSharedKey` (RFC 9420, section 12.1.4).
 #[derive(PartialEq, Eq, Debug, Clone, Drop)]
@@ -52,6 +54,40 @@ impl DeserializeBytes for PreSharedKey {
     fn tls_deserialize_bytes(alloc: Global, whole: &[u8]) -> Result<(PreSharedKey, &[u8]), Error> {
         let (psk, rest) = PreSharedKeyID::tls_deserialize_bytes(alloc, whole)?;
         Ok((PreSharedKey { psk }, rest))
+    }
+}
+
+impl Validate for PreSharedKey {
+    ghost places = { ⟦<PreSharedKeyID as Validate>⟧.places };
+
+    fn tls_validate_prefix(whole: &[u8]) -> Result<&[u8], Rejected<'_>> {
+        PreSharedKeyID::tls_validate_prefix(whole)
+    }
+
+    fn tls_width() -> Option<usize> {
+        PreSharedKeyID::tls_width()
+    }
+}
+
+impl Parted for PreSharedKey {
+    type Parts = PreSharedKeyID;
+
+    ghost as_parts = { λ bytes is. is };
+}
+
+/// The encoding of a [`PreSharedKey`], by its fields.
+#[derive(Drop)]
+pub struct PreSharedKeyView<'a> {
+    /// `PreSharedKeyID psk;`
+    pub psk: Encoded<'a, PreSharedKeyID>,
+}
+
+impl<'a> From<Encoded<'a, PreSharedKey>> for PreSharedKeyView<'a> {
+    ghost from_gives = { λ whole view. whole ≡ view.psk };
+
+    fn from(whole: Encoded<'a, PreSharedKey>) -> PreSharedKeyView<'a> {
+        let psk = whole.parts();
+        PreSharedKeyView { psk }
     }
 }
 

@@ -1,5 +1,5 @@
 //! [`PreSharedKeyID`].
-ghost use Rattle.std.specs.Prelude.{◌≡◌, ◌&&◌};
+ghost use Rattle.std.specs.Prelude.{◌≡◌, ◌&&◌, ◌++◌};
 ghost use Rattle.mls_proposals.specs.PreSharedKeyID.{pre_shared_key_id_format, pre_shared_key_id_meets, pre_shared_key_id_plain};
 ghost use Rattle.mls_proposals.specs.declared.pre_shared_key_id.PreSharedKeyID.{PreSharedKeyID};
 
@@ -9,6 +9,8 @@ use tls_codec::{
     Deserialize, DeserializeBytes, Error, Lent, Serialize, Sink, Size, Source, VLBytes,
 };
 use tls_codec_cases::append_as;
+use tls_codec_validate::{Rejected, Validate};
+use tls_codec_views::{Encoded, Parted};
 
 /// `PreSharedKeyID` (RFC 9420, section 8.4).
 #[derive(PartialEq, Eq, Debug, Clone, Drop)]
@@ -61,6 +63,42 @@ impl DeserializeBytes for PreSharedKeyID {
     ) -> Result<(PreSharedKeyID, &[u8]), Error> {
         let ((psktype, psk_nonce), rest) = <Parts>::tls_deserialize_bytes(alloc, whole)?;
         Ok((PreSharedKeyID { psktype, psk_nonce }, rest))
+    }
+}
+
+impl Validate for PreSharedKeyID {
+    ghost places = { ⟦<Parts as Validate>⟧.places };
+
+    fn tls_validate_prefix(whole: &[u8]) -> Result<&[u8], Rejected<'_>> {
+        <Parts>::tls_validate_prefix(whole)
+    }
+
+    fn tls_width() -> Option<usize> {
+        <Parts>::tls_width()
+    }
+}
+
+impl Parted for PreSharedKeyID {
+    type Parts = Parts;
+
+    ghost as_parts = { λ bytes is. is };
+}
+
+/// The encoding of a [`PreSharedKeyID`], by its fields.
+#[derive(Drop)]
+pub struct PreSharedKeyIDView<'a> {
+    /// `PSKType psktype;`
+    pub psktype: Encoded<'a, PSKOrigin>,
+    /// `opaque psk_nonce<V>;`
+    pub psk_nonce: Encoded<'a, VLBytes>,
+}
+
+impl<'a> From<Encoded<'a, PreSharedKeyID>> for PreSharedKeyIDView<'a> {
+    ghost from_gives = { λ whole view. whole ≡ (view.psktype ++ view.psk_nonce) };
+
+    fn from(whole: Encoded<'a, PreSharedKeyID>) -> PreSharedKeyIDView<'a> {
+        let (psktype, psk_nonce) = whole.parts().split();
+        PreSharedKeyIDView { psktype, psk_nonce }
     }
 }
 

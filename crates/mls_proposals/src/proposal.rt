@@ -1,6 +1,7 @@
 //! [`Proposal`].
 ghost use Rattle.std.specs.Prelude.{◌≡◌, IsTrue};
 ghost use Rattle.tls_codec.specs.OwnMessages.{no_variant_names, no_variant_source_names, tagged_names, tagged_source_names, variant_names, variant_source_names};
+ghost use Rattle.tls_codec_validate.specs.TaggedPlaces.{no_variant_places, tagged_places, variant_places};
 ghost use Rattle.mls_proposals.specs.Proposal.{proposal_format, proposal_meets, proposal_plain, proposal_tag};
 ghost use Rattle.mls_proposals.specs.declared.proposal.Proposal.{Proposal};
 
@@ -10,6 +11,7 @@ use std::alloc::Global;
 use tls_codec::{
     Deserialize, DeserializeBytes, Error, Lent, Serialize, Sink, Size, Source, unknown_value,
 };
+use tls_codec_validate::{Rejected, Validate, split_u16};
 
 const ADD: u16 = 1;
 
@@ -203,6 +205,56 @@ impl DeserializeBytes for Proposal {
                 ))
             }
             _ => Err(unknown_value(u64::from(tag))),
+        }
+    }
+}
+
+impl Validate for Proposal {
+    ghost places = { tagged_places 2
+        (variant_places 1 ⟦<Add as Validate>⟧.places
+        (variant_places 2 ⟦<Update as Validate>⟧.places
+        (variant_places 3 ⟦<Remove as Validate>⟧.places
+        (variant_places 4 ⟦<PreSharedKey as Validate>⟧.places
+        (variant_places 5 ⟦<ReInit as Validate>⟧.places
+        (variant_places 6 ⟦<ExternalInit as Validate>⟧.places
+        (variant_places 7 ⟦<GroupContextExtensions as Validate>⟧.places
+        no_variant_places))))))) };
+
+    fn tls_validate_prefix(whole: &[u8]) -> Result<&[u8], Rejected<'_>> {
+        let (tag, rest) = split_u16(whole)?;
+        match tag {
+            ADD => {
+                let behind = Add::tls_validate_prefix(rest)?;
+                Ok(behind)
+            }
+            UPDATE => {
+                let behind = Update::tls_validate_prefix(rest)?;
+                Ok(behind)
+            }
+            REMOVE => {
+                let behind = Remove::tls_validate_prefix(rest)?;
+                Ok(behind)
+            }
+            PSK => {
+                let behind = PreSharedKey::tls_validate_prefix(rest)?;
+                Ok(behind)
+            }
+            REINIT => {
+                let behind = ReInit::tls_validate_prefix(rest)?;
+                Ok(behind)
+            }
+            EXTERNAL_INIT => {
+                let behind = ExternalInit::tls_validate_prefix(rest)?;
+                Ok(behind)
+            }
+            GROUP_CONTEXT_EXTENSIONS => {
+                let behind = GroupContextExtensions::tls_validate_prefix(rest)?;
+                Ok(behind)
+            }
+            _ => Err(Rejected {
+                error: unknown_value(u64::from(tag)),
+                rest: whole,
+            }),
         }
     }
 }

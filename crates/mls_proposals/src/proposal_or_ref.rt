@@ -1,6 +1,7 @@
 //! [`ProposalOrRef`].
 ghost use Rattle.std.specs.Prelude.{◌≡◌, IsTrue};
 ghost use Rattle.tls_codec.specs.OwnMessages.{no_variant_names, no_variant_source_names, tagged_names, tagged_source_names, variant_names, variant_source_names};
+ghost use Rattle.tls_codec_validate.specs.TaggedPlaces.{no_variant_places, tagged_places, variant_places};
 ghost use Rattle.mls_proposals.specs.ProposalOrRef.{proposal_or_ref_format, proposal_or_ref_meets, proposal_or_ref_plain, proposal_or_ref_tag};
 ghost use Rattle.mls_proposals.specs.declared.proposal_or_ref.ProposalOrRef.{ProposalOrRef};
 
@@ -9,6 +10,7 @@ use std::alloc::Global;
 use tls_codec::{
     Deserialize, DeserializeBytes, Error, Lent, Serialize, Sink, Size, Source, unknown_value,
 };
+use tls_codec_validate::{Rejected, Validate, split_u8};
 
 const PROPOSAL: u8 = 1;
 
@@ -102,6 +104,31 @@ impl DeserializeBytes for ProposalOrRef {
                 Ok((ProposalOrRef::Reference(reference), rest))
             }
             _ => Err(unknown_value(u64::from(tag))),
+        }
+    }
+}
+
+impl Validate for ProposalOrRef {
+    ghost places = { tagged_places 1
+        (variant_places 1 ⟦<Proposal as Validate>⟧.places
+        (variant_places 2 ⟦<ProposalRef as Validate>⟧.places
+        no_variant_places)) };
+
+    fn tls_validate_prefix(whole: &[u8]) -> Result<&[u8], Rejected<'_>> {
+        let (tag, rest) = split_u8(whole)?;
+        match tag {
+            PROPOSAL => {
+                let behind = Proposal::tls_validate_prefix(rest)?;
+                Ok(behind)
+            }
+            REFERENCE => {
+                let behind = ProposalRef::tls_validate_prefix(rest)?;
+                Ok(behind)
+            }
+            _ => Err(Rejected {
+                error: unknown_value(u64::from(tag)),
+                rest: whole,
+            }),
         }
     }
 }

@@ -4,6 +4,7 @@ ghost use Rattle.std.specs.Fmt.{padded};
 ghost use Rattle.std.specs.Ordering.{nat_cmp};
 ghost use Rattle.tls_codec.specs.Errors.{UnknownValue};
 ghost use Rattle.tls_codec.specs.OwnMessages.{values_names, values_source_names};
+ghost use Rattle.tls_codec_validate.specs.TaggedPlaces.{values_places};
 ghost use Rattle.mls_proposals.specs.ProtocolVersionMls10.{protocol_version_mls10_code, protocol_version_mls10_format, protocol_version_mls10_has, protocol_version_mls10_meets, protocol_version_mls10_name, protocol_version_mls10_plain};
 ghost use Rattle.mls_proposals.specs.declared.protocol_version_mls10.ProtocolVersionMls10.{ProtocolVersionMls10};
 
@@ -12,6 +13,7 @@ use std::fmt;
 use tls_codec::{
     Deserialize, DeserializeBytes, Error, Serialize, Sink, Size, Source, unknown_value,
 };
+use tls_codec_validate::{Rejected, Validate, split_u16};
 
 /// `ProtocolVersionMls10`.
 #[derive(PartialEq, Eq, PartialOrd, Ord, Hash, Debug, Clone, Copy)]
@@ -131,6 +133,21 @@ impl DeserializeBytes for ProtocolVersionMls10 {
         match ProtocolVersionMls10::of_code(tag) {
             Some(value) => Ok((value, rest)),
             None => Err(unknown_value(u64::from(tag))),
+        }
+    }
+}
+
+impl Validate for ProtocolVersionMls10 {
+    ghost places = { values_places 2 protocol_version_mls10_has };
+
+    fn tls_validate_prefix(whole: &[u8]) -> Result<&[u8], Rejected<'_>> {
+        let (tag, rest) = split_u16(whole)?;
+        match ProtocolVersionMls10::of_code(tag) {
+            Some(_value) => Ok(rest),
+            None => Err(Rejected {
+                error: unknown_value(u64::from(tag)),
+                rest: whole,
+            }),
         }
     }
 }

@@ -1,6 +1,7 @@
 //! [`PSKOrigin`].
 ghost use Rattle.std.specs.Prelude.{◌≡◌, ◌&&◌, IsTrue};
 ghost use Rattle.tls_codec.specs.OwnMessages.{no_variant_names, no_variant_source_names, tagged_names, tagged_source_names, variant_names, variant_source_names};
+ghost use Rattle.tls_codec_validate.specs.TaggedPlaces.{no_variant_places, tagged_places, variant_places};
 ghost use Rattle.mls_proposals.specs.PSKOrigin.{psk_origin_format, psk_origin_meets, psk_origin_plain, psk_origin_tag};
 ghost use Rattle.mls_proposals.specs.declared.psk_origin.PSKOrigin.{PSKOrigin};
 
@@ -10,6 +11,7 @@ use tls_codec::{
     Deserialize, DeserializeBytes, Error, Lent, Lent2, Serialize, Sink, Size, Source, VLBytes,
     unknown_value,
 };
+use tls_codec_validate::{Rejected, Validate, split_u8};
 
 const EXTERNAL: u8 = 1;
 
@@ -132,6 +134,31 @@ impl DeserializeBytes for PSKOrigin {
                 ))
             }
             _ => Err(unknown_value(u64::from(tag))),
+        }
+    }
+}
+
+impl Validate for PSKOrigin {
+    ghost places = { tagged_places 1
+        (variant_places 1 ⟦<VLBytes as Validate>⟧.places
+        (variant_places 2 ⟦<((ResumptionPSKUsage, VLBytes), u64) as Validate>⟧.places
+        no_variant_places)) };
+
+    fn tls_validate_prefix(whole: &[u8]) -> Result<&[u8], Rejected<'_>> {
+        let (tag, rest) = split_u8(whole)?;
+        match tag {
+            EXTERNAL => {
+                let behind = VLBytes::tls_validate_prefix(rest)?;
+                Ok(behind)
+            }
+            RESUMPTION => {
+                let behind = <((ResumptionPSKUsage, VLBytes), u64)>::tls_validate_prefix(rest)?;
+                Ok(behind)
+            }
+            _ => Err(Rejected {
+                error: unknown_value(u64::from(tag)),
+                rest: whole,
+            }),
         }
     }
 }

@@ -1,5 +1,5 @@
 //! [`ReInit`].
-ghost use Rattle.std.specs.Prelude.{◌≡◌, ◌&&◌};
+ghost use Rattle.std.specs.Prelude.{◌≡◌, ◌&&◌, ◌++◌};
 ghost use Rattle.mls_proposals.specs.ReInit.{re_init_format, re_init_meets, re_init_plain};
 ghost use Rattle.mls_proposals.specs.declared.re_init.ReInit.{ReInit};
 
@@ -9,6 +9,8 @@ use tls_codec::{
     Deserialize, DeserializeBytes, Error, Lent2, Serialize, Sink, Size, Source, VLBytes,
 };
 use tls_codec_cases::append_as;
+use tls_codec_validate::{Rejected, Validate};
+use tls_codec_views::{Encoded, Parted};
 
 /// `ReInit` (RFC 9420, section 12.1.5).
 #[derive(PartialEq, Eq, Debug, Clone, Drop)]
@@ -93,6 +95,54 @@ impl DeserializeBytes for ReInit {
             },
             rest,
         ))
+    }
+}
+
+impl Validate for ReInit {
+    ghost places = { ⟦<Parts as Validate>⟧.places };
+
+    fn tls_validate_prefix(whole: &[u8]) -> Result<&[u8], Rejected<'_>> {
+        <Parts>::tls_validate_prefix(whole)
+    }
+
+    fn tls_width() -> Option<usize> {
+        <Parts>::tls_width()
+    }
+}
+
+impl Parted for ReInit {
+    type Parts = Parts;
+
+    ghost as_parts = { λ bytes is. is };
+}
+
+/// The encoding of a [`ReInit`], by its fields.
+#[derive(Drop)]
+pub struct ReInitView<'a> {
+    /// `opaque group_id<V>;`
+    pub group_id: Encoded<'a, VLBytes>,
+    /// `ProtocolVersion version;`
+    pub version: Encoded<'a, ProtocolVersion>,
+    /// `CipherSuite cipher_suite;`
+    pub cipher_suite: Encoded<'a, CipherSuite>,
+    /// `Extension extensions<V>;`
+    pub extensions: Encoded<'a, Vec<Extension>>,
+}
+
+impl<'a> From<Encoded<'a, ReInit>> for ReInitView<'a> {
+    ghost from_gives = { λ whole view. whole ≡ ((view.group_id ++ view.version) ++
+        (view.cipher_suite ++ view.extensions)) };
+
+    fn from(whole: Encoded<'a, ReInit>) -> ReInitView<'a> {
+        let (parts_0, parts_1) = whole.parts().split();
+        let (group_id, version) = parts_0.split();
+        let (cipher_suite, extensions) = parts_1.split();
+        ReInitView {
+            group_id,
+            version,
+            cipher_suite,
+            extensions,
+        }
     }
 }
 

@@ -6,6 +6,8 @@ ghost use Rattle.mls_proposals.specs.declared.remove.Remove.{Remove};
 use std::alloc::Global;
 use tls_codec::{Deserialize, DeserializeBytes, Error, Serialize, Sink, Size, Source};
 use tls_codec_cases::append_as;
+use tls_codec_validate::{Rejected, Validate};
+use tls_codec_views::{Encoded, Parted};
 
 /// `Remove` (RFC 9420, section 12.1.3).
 #[derive(PartialEq, Eq, Debug, Clone, Drop)]
@@ -51,6 +53,40 @@ impl DeserializeBytes for Remove {
     fn tls_deserialize_bytes(alloc: Global, whole: &[u8]) -> Result<(Remove, &[u8]), Error> {
         let (removed, rest) = u32::tls_deserialize_bytes(alloc, whole)?;
         Ok((Remove { removed }, rest))
+    }
+}
+
+impl Validate for Remove {
+    ghost places = { ⟦<u32 as Validate>⟧.places };
+
+    fn tls_validate_prefix(whole: &[u8]) -> Result<&[u8], Rejected<'_>> {
+        u32::tls_validate_prefix(whole)
+    }
+
+    fn tls_width() -> Option<usize> {
+        u32::tls_width()
+    }
+}
+
+impl Parted for Remove {
+    type Parts = u32;
+
+    ghost as_parts = { λ bytes is. is };
+}
+
+/// The encoding of a [`Remove`], by its fields.
+#[derive(Drop)]
+pub struct RemoveView<'a> {
+    /// `uint32 removed;`
+    pub removed: Encoded<'a, u32>,
+}
+
+impl<'a> From<Encoded<'a, Remove>> for RemoveView<'a> {
+    ghost from_gives = { λ whole view. whole ≡ view.removed };
+
+    fn from(whole: Encoded<'a, Remove>) -> RemoveView<'a> {
+        let removed = whole.parts();
+        RemoveView { removed }
     }
 }
 

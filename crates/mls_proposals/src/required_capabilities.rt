@@ -1,5 +1,5 @@
 //! [`RequiredCapabilities`].
-ghost use Rattle.std.specs.Prelude.{◌≡◌, ◌&&◌};
+ghost use Rattle.std.specs.Prelude.{◌≡◌, ◌&&◌, ◌++◌};
 ghost use Rattle.mls_proposals.specs.RequiredCapabilities.{required_capabilities_format, required_capabilities_meets, required_capabilities_plain};
 ghost use Rattle.mls_proposals.specs.declared.required_capabilities.RequiredCapabilities.{RequiredCapabilities};
 
@@ -7,6 +7,8 @@ use mls_leaf::{CredentialType, ExtensionType, ProposalType};
 use std::alloc::Global;
 use tls_codec::{Deserialize, DeserializeBytes, Error, Lent, Serialize, Sink, Size, Source};
 use tls_codec_cases::append_as;
+use tls_codec_validate::{Rejected, Validate};
+use tls_codec_views::{Encoded, Parted};
 
 /// `RequiredCapabilities` (RFC 9420, section 11.1).
 #[derive(PartialEq, Eq, Debug, Clone, Drop)]
@@ -96,6 +98,49 @@ impl DeserializeBytes for RequiredCapabilities {
             },
             rest,
         ))
+    }
+}
+
+impl Validate for RequiredCapabilities {
+    ghost places = { ⟦<Parts as Validate>⟧.places };
+
+    fn tls_validate_prefix(whole: &[u8]) -> Result<&[u8], Rejected<'_>> {
+        <Parts>::tls_validate_prefix(whole)
+    }
+
+    fn tls_width() -> Option<usize> {
+        <Parts>::tls_width()
+    }
+}
+
+impl Parted for RequiredCapabilities {
+    type Parts = Parts;
+
+    ghost as_parts = { λ bytes is. is };
+}
+
+/// The encoding of a [`RequiredCapabilities`], by its fields.
+#[derive(Drop)]
+pub struct RequiredCapabilitiesView<'a> {
+    /// `ExtensionType extension_types<V>;`
+    pub extension_types: Encoded<'a, Vec<ExtensionType>>,
+    /// `ProposalType proposal_types<V>;`
+    pub proposal_types: Encoded<'a, Vec<ProposalType>>,
+    /// `CredentialType credential_types<V>;`
+    pub credential_types: Encoded<'a, Vec<CredentialType>>,
+}
+
+impl<'a> From<Encoded<'a, RequiredCapabilities>> for RequiredCapabilitiesView<'a> {
+    ghost from_gives = { λ whole view. whole ≡ (view.extension_types ++
+        (view.proposal_types ++ view.credential_types)) };
+
+    fn from(whole: Encoded<'a, RequiredCapabilities>) -> RequiredCapabilitiesView<'a> {
+        let (extension_types, proposal_types, credential_types) = whole.parts().split();
+        RequiredCapabilitiesView {
+            extension_types,
+            proposal_types,
+            credential_types,
+        }
     }
 }
 

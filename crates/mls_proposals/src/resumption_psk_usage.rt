@@ -4,6 +4,7 @@ ghost use Rattle.std.specs.Fmt.{padded};
 ghost use Rattle.std.specs.Ordering.{nat_cmp};
 ghost use Rattle.tls_codec.specs.Errors.{UnknownValue};
 ghost use Rattle.tls_codec.specs.OwnMessages.{values_names, values_source_names};
+ghost use Rattle.tls_codec_validate.specs.TaggedPlaces.{values_places};
 ghost use Rattle.mls_proposals.specs.ResumptionPSKUsage.{resumption_psk_usage_code, resumption_psk_usage_format, resumption_psk_usage_has, resumption_psk_usage_meets, resumption_psk_usage_name, resumption_psk_usage_plain};
 ghost use Rattle.mls_proposals.specs.declared.resumption_psk_usage.ResumptionPSKUsage.{ResumptionPSKUsage};
 
@@ -12,6 +13,7 @@ use std::fmt;
 use tls_codec::{
     Deserialize, DeserializeBytes, Error, Serialize, Sink, Size, Source, unknown_value,
 };
+use tls_codec_validate::{Rejected, Validate, split_u8};
 
 /// `ResumptionPSKUsage` (RFC 9420, section 8.4).
 #[derive(PartialEq, Eq, PartialOrd, Ord, Hash, Debug, Clone, Copy)]
@@ -142,6 +144,21 @@ impl DeserializeBytes for ResumptionPSKUsage {
         match ResumptionPSKUsage::of_code(tag) {
             Some(value) => Ok((value, rest)),
             None => Err(unknown_value(u64::from(tag))),
+        }
+    }
+}
+
+impl Validate for ResumptionPSKUsage {
+    ghost places = { values_places 1 resumption_psk_usage_has };
+
+    fn tls_validate_prefix(whole: &[u8]) -> Result<&[u8], Rejected<'_>> {
+        let (tag, rest) = split_u8(whole)?;
+        match ResumptionPSKUsage::of_code(tag) {
+            Some(_value) => Ok(rest),
+            None => Err(Rejected {
+                error: unknown_value(u64::from(tag)),
+                rest: whole,
+            }),
         }
     }
 }

@@ -7,6 +7,8 @@ use mls_leaf::LeafNode;
 use std::alloc::Global;
 use tls_codec::{Deserialize, DeserializeBytes, Error, Serialize, Sink, Size, Source};
 use tls_codec_cases::append_as;
+use tls_codec_validate::{Rejected, Validate};
+use tls_codec_views::{Encoded, Parted};
 
 /// `Update` (RFC 9420, section 12.1.2).
 #[derive(PartialEq, Eq, Debug, Clone, Drop)]
@@ -52,6 +54,40 @@ impl DeserializeBytes for Update {
     fn tls_deserialize_bytes(alloc: Global, whole: &[u8]) -> Result<(Update, &[u8]), Error> {
         let (leaf_node, rest) = LeafNode::tls_deserialize_bytes(alloc, whole)?;
         Ok((Update { leaf_node }, rest))
+    }
+}
+
+impl Validate for Update {
+    ghost places = { ⟦<LeafNode as Validate>⟧.places };
+
+    fn tls_validate_prefix(whole: &[u8]) -> Result<&[u8], Rejected<'_>> {
+        LeafNode::tls_validate_prefix(whole)
+    }
+
+    fn tls_width() -> Option<usize> {
+        LeafNode::tls_width()
+    }
+}
+
+impl Parted for Update {
+    type Parts = LeafNode;
+
+    ghost as_parts = { λ bytes is. is };
+}
+
+/// The encoding of a [`Update`], by its fields.
+#[derive(Drop)]
+pub struct UpdateView<'a> {
+    /// `LeafNode leaf_node;`
+    pub leaf_node: Encoded<'a, LeafNode>,
+}
+
+impl<'a> From<Encoded<'a, Update>> for UpdateView<'a> {
+    ghost from_gives = { λ whole view. whole ≡ view.leaf_node };
+
+    fn from(whole: Encoded<'a, Update>) -> UpdateView<'a> {
+        let leaf_node = whole.parts();
+        UpdateView { leaf_node }
     }
 }
 

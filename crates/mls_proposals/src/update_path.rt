@@ -1,5 +1,5 @@
 //! [`UpdatePath`].
-ghost use Rattle.std.specs.Prelude.{◌≡◌, ◌&&◌};
+ghost use Rattle.std.specs.Prelude.{◌≡◌, ◌&&◌, ◌++◌};
 ghost use Rattle.mls_proposals.specs.UpdatePath.{update_path_format, update_path_meets, update_path_plain};
 ghost use Rattle.mls_proposals.specs.declared.update_path.UpdatePath.{UpdatePath};
 
@@ -8,6 +8,8 @@ use mls_leaf::LeafNode;
 use std::alloc::Global;
 use tls_codec::{Deserialize, DeserializeBytes, Error, Lent, Serialize, Sink, Size, Source};
 use tls_codec_cases::append_as;
+use tls_codec_validate::{Rejected, Validate};
+use tls_codec_views::{Encoded, Parted};
 
 /// `UpdatePath` (RFC 9420, section 7.6).
 #[derive(PartialEq, Eq, Debug, Clone, Drop)]
@@ -57,6 +59,42 @@ impl DeserializeBytes for UpdatePath {
     fn tls_deserialize_bytes(alloc: Global, whole: &[u8]) -> Result<(UpdatePath, &[u8]), Error> {
         let ((leaf_node, nodes), rest) = <Parts>::tls_deserialize_bytes(alloc, whole)?;
         Ok((UpdatePath { leaf_node, nodes }, rest))
+    }
+}
+
+impl Validate for UpdatePath {
+    ghost places = { ⟦<Parts as Validate>⟧.places };
+
+    fn tls_validate_prefix(whole: &[u8]) -> Result<&[u8], Rejected<'_>> {
+        <Parts>::tls_validate_prefix(whole)
+    }
+
+    fn tls_width() -> Option<usize> {
+        <Parts>::tls_width()
+    }
+}
+
+impl Parted for UpdatePath {
+    type Parts = Parts;
+
+    ghost as_parts = { λ bytes is. is };
+}
+
+/// The encoding of a [`UpdatePath`], by its fields.
+#[derive(Drop)]
+pub struct UpdatePathView<'a> {
+    /// `LeafNode leaf_node;`
+    pub leaf_node: Encoded<'a, LeafNode>,
+    /// `UpdatePathNode nodes<V>;`
+    pub nodes: Encoded<'a, Vec<UpdatePathNode>>,
+}
+
+impl<'a> From<Encoded<'a, UpdatePath>> for UpdatePathView<'a> {
+    ghost from_gives = { λ whole view. whole ≡ (view.leaf_node ++ view.nodes) };
+
+    fn from(whole: Encoded<'a, UpdatePath>) -> UpdatePathView<'a> {
+        let (leaf_node, nodes) = whole.parts().split();
+        UpdatePathView { leaf_node, nodes }
     }
 }
 

@@ -1,5 +1,5 @@
 //! [`UpdatePathNode`].
-ghost use Rattle.std.specs.Prelude.{◌≡◌, ◌&&◌};
+ghost use Rattle.std.specs.Prelude.{◌≡◌, ◌&&◌, ◌++◌};
 ghost use Rattle.mls_proposals.specs.UpdatePathNode.{update_path_node_format, update_path_node_meets, update_path_node_plain};
 ghost use Rattle.mls_proposals.specs.declared.update_path_node.UpdatePathNode.{UpdatePathNode};
 
@@ -8,6 +8,8 @@ use mls_leaf::HPKEPublicKey;
 use std::alloc::Global;
 use tls_codec::{Deserialize, DeserializeBytes, Error, Lent, Serialize, Sink, Size, Source};
 use tls_codec_cases::append_as;
+use tls_codec_validate::{Rejected, Validate};
+use tls_codec_views::{Encoded, Parted};
 
 /// `UpdatePathNode` (RFC 9420, section 7.6).
 #[derive(PartialEq, Eq, Debug, Clone, Drop)]
@@ -86,6 +88,46 @@ impl DeserializeBytes for UpdatePathNode {
             },
             rest,
         ))
+    }
+}
+
+impl Validate for UpdatePathNode {
+    ghost places = { ⟦<Parts as Validate>⟧.places };
+
+    fn tls_validate_prefix(whole: &[u8]) -> Result<&[u8], Rejected<'_>> {
+        <Parts>::tls_validate_prefix(whole)
+    }
+
+    fn tls_width() -> Option<usize> {
+        <Parts>::tls_width()
+    }
+}
+
+impl Parted for UpdatePathNode {
+    type Parts = Parts;
+
+    ghost as_parts = { λ bytes is. is };
+}
+
+/// The encoding of a [`UpdatePathNode`], by its fields.
+#[derive(Drop)]
+pub struct UpdatePathNodeView<'a> {
+    /// `HPKEPublicKey encryption_key;`
+    pub encryption_key: Encoded<'a, HPKEPublicKey>,
+    /// `HPKECiphertext encrypted_path_secret<V>;`
+    pub encrypted_path_secret: Encoded<'a, Vec<HPKECiphertext>>,
+}
+
+impl<'a> From<Encoded<'a, UpdatePathNode>> for UpdatePathNodeView<'a> {
+    ghost from_gives = { λ whole view. whole ≡ (view.encryption_key ++
+        view.encrypted_path_secret) };
+
+    fn from(whole: Encoded<'a, UpdatePathNode>) -> UpdatePathNodeView<'a> {
+        let (encryption_key, encrypted_path_secret) = whole.parts().split();
+        UpdatePathNodeView {
+            encryption_key,
+            encrypted_path_secret,
+        }
     }
 }
 

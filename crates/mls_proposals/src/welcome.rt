@@ -1,5 +1,5 @@
 //! [`Welcome`].
-ghost use Rattle.std.specs.Prelude.{◌≡◌, ◌&&◌};
+ghost use Rattle.std.specs.Prelude.{◌≡◌, ◌&&◌, ◌++◌};
 ghost use Rattle.mls_proposals.specs.Welcome.{welcome_format, welcome_meets, welcome_plain};
 ghost use Rattle.mls_proposals.specs.declared.welcome.Welcome.{Welcome};
 
@@ -10,6 +10,8 @@ use tls_codec::{
     Deserialize, DeserializeBytes, Error, Lent, Serialize, Sink, Size, Source, VLBytes,
 };
 use tls_codec_cases::append_as;
+use tls_codec_validate::{Rejected, Validate};
+use tls_codec_views::{Encoded, Parted};
 
 /// `Welcome` (RFC 9420, section 12.4.3.1).
 #[derive(PartialEq, Eq, Debug, Clone, Drop)]
@@ -92,6 +94,49 @@ impl DeserializeBytes for Welcome {
             },
             rest,
         ))
+    }
+}
+
+impl Validate for Welcome {
+    ghost places = { ⟦<Parts as Validate>⟧.places };
+
+    fn tls_validate_prefix(whole: &[u8]) -> Result<&[u8], Rejected<'_>> {
+        <Parts>::tls_validate_prefix(whole)
+    }
+
+    fn tls_width() -> Option<usize> {
+        <Parts>::tls_width()
+    }
+}
+
+impl Parted for Welcome {
+    type Parts = Parts;
+
+    ghost as_parts = { λ bytes is. is };
+}
+
+/// The encoding of a [`Welcome`], by its fields.
+#[derive(Drop)]
+pub struct WelcomeView<'a> {
+    /// `CipherSuite cipher_suite;`
+    pub cipher_suite: Encoded<'a, CipherSuite>,
+    /// `EncryptedGroupSecrets secrets<V>;`
+    pub secrets: Encoded<'a, Vec<EncryptedGroupSecrets>>,
+    /// `opaque encrypted_group_info<V>;`
+    pub encrypted_group_info: Encoded<'a, VLBytes>,
+}
+
+impl<'a> From<Encoded<'a, Welcome>> for WelcomeView<'a> {
+    ghost from_gives = { λ whole view. whole ≡ (view.cipher_suite ++
+        (view.secrets ++ view.encrypted_group_info)) };
+
+    fn from(whole: Encoded<'a, Welcome>) -> WelcomeView<'a> {
+        let (cipher_suite, secrets, encrypted_group_info) = whole.parts().split();
+        WelcomeView {
+            cipher_suite,
+            secrets,
+            encrypted_group_info,
+        }
     }
 }
 

@@ -12,6 +12,7 @@ mod selected;
 mod shapes;
 mod signed;
 mod to_end;
+mod views;
 
 use std::fmt::Debug;
 use std::process::Abort;

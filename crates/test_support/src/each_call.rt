@@ -4,16 +4,18 @@ use std::alloc::Global;
 use std::fmt::Debug;
 use std::test::Fail;
 use tls_codec::{Deserialize, DeserializeBytes, Error, Serialize, deserialize_to_end};
+use tls_codec_validate::Validate;
 use tls_codec_vectors::Drip;
 
 /// Each decoder reads the same value from the bytes, to the last one, and each encoder writes it as them.
 pub fn opens<T>(alloc: Global, row: &str, bytes: &[u8]) -> Result<(), Fail>
 where
-    T: Serialize + Deserialize + DeserializeBytes + Eq + Debug + Clone,
+    T: Serialize + Deserialize + Validate + Eq + Debug + Clone,
 {
     let value = done_at(row, T::tls_deserialize_exact_bytes(alloc, bytes))?;
     let read = done_at(row, T::tls_deserialize_exact(alloc, bytes))?;
     same_at(row, &read, &value)?;
+    same_at(row, T::tls_validate(bytes), Ok(()))?;
     let dripped = deserialize_to_end::<T, _>(alloc, &mut Drip::new(bytes));
     same_at(row, &done_at(row, dripped)?, &value)?;
     is_written(alloc, row, &value, bytes)
@@ -43,7 +45,7 @@ fn is_written<T: Serialize + Eq + Debug + Clone>(
 /// The round trip: the bytes are this value's, with others behind them too, and no prefix is.
 pub fn is_spelled<T>(alloc: Global, row: &str, value: &T, bytes: &[u8]) -> Result<(), Fail>
 where
-    T: Serialize + Deserialize + DeserializeBytes + Eq + Debug + Clone,
+    T: Serialize + Deserialize + Validate + Eq + Debug + Clone,
 {
     opens::<T>(alloc, row, bytes)?;
     let read = done_at(row, T::tls_deserialize_exact_bytes(alloc, bytes))?;
@@ -62,7 +64,7 @@ where
 }
 
 /// Each decoder refuses the bytes with this error.
-pub fn is_refused<T: Deserialize + DeserializeBytes>(
+pub fn is_refused<T: Deserialize + Validate>(
     alloc: Global,
     row: &str,
     bytes: &[u8],
@@ -71,8 +73,8 @@ pub fn is_refused<T: Deserialize + DeserializeBytes>(
     is_refused_by::<T>(alloc, row, bytes, error, error)
 }
 
-/// A slice's decoder refuses the bytes with one error, and a source's with another.
-pub fn is_refused_by<T: Deserialize + DeserializeBytes>(
+/// A slice's decoder refuses the bytes with one error, with which they are rejected too, and a source's with another.
+pub fn is_refused_by<T: Deserialize + Validate>(
     alloc: Global,
     row: &str,
     bytes: &[u8],
@@ -81,6 +83,8 @@ pub fn is_refused_by<T: Deserialize + DeserializeBytes>(
 ) -> Result<(), Fail> {
     let split = T::tls_deserialize_bytes(alloc, bytes).err();
     same_at(row, split, Some(of_slice))?;
+    let rejected = T::tls_validate_prefix(bytes).err();
+    same_at(row, rejected.map(|one| one.error), Some(of_slice))?;
     let mut source = bytes;
     let read = T::tls_deserialize(alloc, &mut source).err();
     same_at(row, read, Some(of_source))?;
@@ -89,11 +93,7 @@ pub fn is_refused_by<T: Deserialize + DeserializeBytes>(
 }
 
 // The decoders that read to the end refuse another byte behind these.
-fn is_all<T: Deserialize + DeserializeBytes>(
-    alloc: Global,
-    row: &str,
-    bytes: &[u8],
-) -> Result<(), Fail> {
+fn is_all<T: Deserialize + Validate>(alloc: Global, row: &str, bytes: &[u8]) -> Result<(), Fail> {
     let mut longer = bytes.to_vec(alloc)?;
     longer.push(0)?;
     let split = T::tls_deserialize_exact_bytes(alloc, &longer).err();

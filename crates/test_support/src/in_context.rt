@@ -4,17 +4,24 @@ use std::alloc::Global;
 use std::fmt::Debug;
 use std::test::Fail;
 use tls_codec::{DeserializeBytesFor, DeserializeFor, Error, SerializeFor, Size, expect_end};
+use tls_codec_validate::{Keyed, ValidateFor};
 use tls_codec_vectors::Drip;
 
 /// Each decoder reads the same value from the bytes, to the last one, and each encoder writes it as them.
-pub fn opens_in<C: Size, T>(alloc: Global, row: &str, context: &C, bytes: &[u8]) -> Result<(), Fail>
+pub fn opens_in<C: Keyed, T>(
+    alloc: Global,
+    row: &str,
+    context: &C,
+    bytes: &[u8],
+) -> Result<(), Fail>
 where
-    T: SerializeFor<C> + DeserializeFor<C> + DeserializeBytesFor<C> + Eq + Debug + Clone,
+    T: SerializeFor<C> + DeserializeFor<C> + ValidateFor<C> + Eq + Debug + Clone,
 {
     let split = T::tls_deserialize_exact_bytes_for(context, alloc, bytes);
     let value = done_at(row, split)?;
     let read = T::tls_deserialize_exact_for(context, alloc, bytes);
     same_at(row, &done_at(row, read)?, &value)?;
+    same_at(row, T::tls_validate_for(&context.key(), bytes), Ok(()))?;
     let mut source = Drip::new(bytes);
     let dripped = T::tls_deserialize_for(context, alloc, &mut source);
     same_at(row, &done_at(row, dripped)?, &value)?;
@@ -59,7 +66,7 @@ pub fn is_misfit<C: Size, T: SerializeFor<C>>(
 }
 
 /// Each decoder refuses the bytes in a context with this error.
-pub fn is_refused_in<C: Size, T: DeserializeFor<C> + DeserializeBytesFor<C>>(
+pub fn is_refused_in<C: Keyed, T: DeserializeFor<C> + ValidateFor<C>>(
     alloc: Global,
     row: &str,
     context: &C,
@@ -68,6 +75,8 @@ pub fn is_refused_in<C: Size, T: DeserializeFor<C> + DeserializeBytesFor<C>>(
 ) -> Result<(), Fail> {
     let split = T::tls_deserialize_exact_bytes_for(context, alloc, bytes).err();
     same_at(row, split, Some(error))?;
+    let rejected = T::tls_validate_for(&context.key(), bytes).err();
+    same_at(row, rejected.map(|one| one.error), Some(error))?;
     let read = T::tls_deserialize_exact_for(context, alloc, bytes).err();
     same_at(row, read, Some(error))
 }

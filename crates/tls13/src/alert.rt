@@ -1,5 +1,5 @@
 //! [`Alert`].
-ghost use Rattle.std.specs.Prelude.{◌≡◌, ◌&&◌};
+ghost use Rattle.std.specs.Prelude.{◌≡◌, ◌&&◌, ◌++◌};
 ghost use Rattle.tls13.specs.Alert.{alert_format, alert_meets, alert_plain};
 ghost use Rattle.tls13.specs.declared.alert.Alert.{Alert};
 
@@ -7,6 +7,8 @@ use crate::{AlertDescription, AlertLevel};
 use std::alloc::Global;
 use tls_codec::{Deserialize, DeserializeBytes, Error, Lent, Serialize, Sink, Size, Source};
 use tls_codec_cases::append_as;
+use tls_codec_validate::{Rejected, Validate};
+use tls_codec_views::{Encoded, Parted};
 
 /// `Alert` (RFC 8446, appendix B.2).
 #[derive(PartialEq, Eq, Debug, Clone, Drop)]
@@ -56,6 +58,42 @@ impl DeserializeBytes for Alert {
     fn tls_deserialize_bytes(alloc: Global, whole: &[u8]) -> Result<(Alert, &[u8]), Error> {
         let ((level, description), rest) = <Parts>::tls_deserialize_bytes(alloc, whole)?;
         Ok((Alert { level, description }, rest))
+    }
+}
+
+impl Validate for Alert {
+    ghost places = { ⟦<Parts as Validate>⟧.places };
+
+    fn tls_validate_prefix(whole: &[u8]) -> Result<&[u8], Rejected<'_>> {
+        <Parts>::tls_validate_prefix(whole)
+    }
+
+    fn tls_width() -> Option<usize> {
+        <Parts>::tls_width()
+    }
+}
+
+impl Parted for Alert {
+    type Parts = Parts;
+
+    ghost as_parts = { λ bytes is. is };
+}
+
+/// The encoding of a [`Alert`], by its fields.
+#[derive(Drop)]
+pub struct AlertView<'a> {
+    /// `AlertLevel level;`
+    pub level: Encoded<'a, AlertLevel>,
+    /// `AlertDescription description;`
+    pub description: Encoded<'a, AlertDescription>,
+}
+
+impl<'a> From<Encoded<'a, Alert>> for AlertView<'a> {
+    ghost from_gives = { λ whole view. whole ≡ (view.level ++ view.description) };
+
+    fn from(whole: Encoded<'a, Alert>) -> AlertView<'a> {
+        let (level, description) = whole.parts().split();
+        AlertView { level, description }
     }
 }
 

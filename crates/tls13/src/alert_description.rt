@@ -8,6 +8,8 @@ ghost use Rattle.tls13.specs.declared.alert_description.AlertDescription.{AlertD
 use std::alloc::Global;
 use std::fmt;
 use tls_codec::{Deserialize, DeserializeBytes, Error, Serialize, Sink, Size, Source};
+use tls_codec_validate::{Rejected, Validate};
+use tls_codec_views::{Encoded, Parted, Told};
 
 /// `AlertDescription` (RFC 8446, appendix B.2).
 #[derive(PartialEq, Eq, PartialOrd, Ord, Hash, Debug, Clone, Copy)]
@@ -118,8 +120,7 @@ impl AlertDescription {
 
     /// Its name in the text, if it has one.
     pub fn name(&self) -> Option<&'static str>
-        ensures { option_map (λ t. t.now) result
-            ≡ listed_name alert_description_names self.now.0 }
+        ensures { option_map (λ t. t.now) result ≡ listed_name alert_description_names self.now.0 }
     {
         match self.0 {
             0 => Some("close_notify"),
@@ -236,6 +237,30 @@ impl DeserializeBytes for AlertDescription {
     ) -> Result<(AlertDescription, &[u8]), Error> {
         let (number, rest) = u8::tls_deserialize_bytes(alloc, whole)?;
         Ok((AlertDescription(number), rest))
+    }
+}
+
+impl Validate for AlertDescription {
+    ghost places = { ⟦<u8 as Validate>⟧.places };
+
+    fn tls_validate_prefix(whole: &[u8]) -> Result<&[u8], Rejected<'_>> {
+        u8::tls_validate_prefix(whole)
+    }
+
+    fn tls_width() -> Option<usize> {
+        u8::tls_width()
+    }
+}
+
+impl Parted for AlertDescription {
+    type Parts = u8;
+
+    ghost as_parts = { λ bytes is. is };
+}
+
+impl Told for AlertDescription {
+    fn told(encoded: &Encoded<'_, AlertDescription>) -> AlertDescription {
+        AlertDescription(encoded.parts().get())
     }
 }
 

@@ -8,6 +8,8 @@ ghost use Rattle.tls13.specs.declared.alert_level.AlertLevel.{AlertLevel};
 use std::alloc::Global;
 use std::fmt;
 use tls_codec::{Deserialize, DeserializeBytes, Error, Serialize, Sink, Size, Source};
+use tls_codec_validate::{Rejected, Validate};
+use tls_codec_views::{Encoded, Parted, Told};
 
 /// `AlertLevel` (RFC 8446, appendix B.2).
 #[derive(PartialEq, Eq, PartialOrd, Ord, Hash, Debug, Clone, Copy)]
@@ -104,6 +106,30 @@ impl DeserializeBytes for AlertLevel {
     fn tls_deserialize_bytes(alloc: Global, whole: &[u8]) -> Result<(AlertLevel, &[u8]), Error> {
         let (number, rest) = u8::tls_deserialize_bytes(alloc, whole)?;
         Ok((AlertLevel(number), rest))
+    }
+}
+
+impl Validate for AlertLevel {
+    ghost places = { ⟦<u8 as Validate>⟧.places };
+
+    fn tls_validate_prefix(whole: &[u8]) -> Result<&[u8], Rejected<'_>> {
+        u8::tls_validate_prefix(whole)
+    }
+
+    fn tls_width() -> Option<usize> {
+        u8::tls_width()
+    }
+}
+
+impl Parted for AlertLevel {
+    type Parts = u8;
+
+    ghost as_parts = { λ bytes is. is };
+}
+
+impl Told for AlertLevel {
+    fn told(encoded: &Encoded<'_, AlertLevel>) -> AlertLevel {
+        AlertLevel(encoded.parts().get())
     }
 }
 

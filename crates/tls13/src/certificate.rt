@@ -1,5 +1,5 @@
 //! [`Certificate`].
-ghost use Rattle.std.specs.Prelude.{◌≡◌, ◌&&◌};
+ghost use Rattle.std.specs.Prelude.{◌≡◌, ◌&&◌, ◌++◌};
 ghost use Rattle.tls13.specs.Certificate.{certificate_format, certificate_meets, certificate_plain};
 ghost use Rattle.tls13.specs.declared.certificate.Certificate.{Certificate};
 
@@ -10,6 +10,8 @@ use tls_codec::{
     TlsVecU24,
 };
 use tls_codec_cases::append_as;
+use tls_codec_validate::{Rejected, Validate};
+use tls_codec_views::{Encoded, Parted};
 
 /// `Certificate` (RFC 8446, appendix B.3.3).
 #[derive(PartialEq, Eq, Debug, Clone, Drop)]
@@ -84,6 +86,46 @@ impl DeserializeBytes for Certificate {
             },
             rest,
         ))
+    }
+}
+
+impl Validate for Certificate {
+    ghost places = { ⟦<Parts as Validate>⟧.places };
+
+    fn tls_validate_prefix(whole: &[u8]) -> Result<&[u8], Rejected<'_>> {
+        <Parts>::tls_validate_prefix(whole)
+    }
+
+    fn tls_width() -> Option<usize> {
+        <Parts>::tls_width()
+    }
+}
+
+impl Parted for Certificate {
+    type Parts = Parts;
+
+    ghost as_parts = { λ bytes is. is };
+}
+
+/// The encoding of a [`Certificate`], by its fields.
+#[derive(Drop)]
+pub struct CertificateView<'a> {
+    /// `opaque certificate_request_context<0..2^8-1>;`
+    pub certificate_request_context: Encoded<'a, TlsByteVecU8>,
+    /// `CertificateEntry certificate_list<0..2^24-1>;`
+    pub certificate_list: Encoded<'a, TlsVecU24<CertificateEntry>>,
+}
+
+impl<'a> From<Encoded<'a, Certificate>> for CertificateView<'a> {
+    ghost from_gives = { λ whole view. whole ≡ (view.certificate_request_context ++
+        view.certificate_list) };
+
+    fn from(whole: Encoded<'a, Certificate>) -> CertificateView<'a> {
+        let (certificate_request_context, certificate_list) = whole.parts().split();
+        CertificateView {
+            certificate_request_context,
+            certificate_list,
+        }
     }
 }
 

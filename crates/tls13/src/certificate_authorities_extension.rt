@@ -9,6 +9,8 @@ use tls_codec::{
     Deserialize, DeserializeBytes, Error, Serialize, Sink, Size, Source, TlsVec, Within,
 };
 use tls_codec_cases::append_as;
+use tls_codec_validate::{Rejected, Validate};
+use tls_codec_views::{Encoded, Parted};
 
 /// `CertificateAuthoritiesExtension` (RFC 8446, appendix B.3.2).
 #[derive(PartialEq, Eq, Debug, Clone, Drop)]
@@ -62,6 +64,43 @@ impl DeserializeBytes for CertificateAuthoritiesExtension {
     ) -> Result<(CertificateAuthoritiesExtension, &[u8]), Error> {
         let (authorities, rest) = <Parts>::tls_deserialize_bytes(alloc, whole)?;
         Ok((CertificateAuthoritiesExtension { authorities }, rest))
+    }
+}
+
+impl Validate for CertificateAuthoritiesExtension {
+    ghost places = { ⟦<Parts as Validate>⟧.places };
+
+    fn tls_validate_prefix(whole: &[u8]) -> Result<&[u8], Rejected<'_>> {
+        <Parts>::tls_validate_prefix(whole)
+    }
+
+    fn tls_width() -> Option<usize> {
+        <Parts>::tls_width()
+    }
+}
+
+impl Parted for CertificateAuthoritiesExtension {
+    type Parts = Parts;
+
+    ghost as_parts = { λ bytes is. is };
+}
+
+/// The encoding of a [`CertificateAuthoritiesExtension`], by its fields.
+#[derive(Drop)]
+pub struct CertificateAuthoritiesExtensionView<'a> {
+    /// `DistinguishedName authorities<3..2^16-1>;`
+    pub authorities: Encoded<'a, TlsVec<Within<u16, 3, 65535>, DistinguishedName>>,
+}
+
+impl<'a> From<Encoded<'a, CertificateAuthoritiesExtension>>
+    for CertificateAuthoritiesExtensionView<'a> {
+    ghost from_gives = { λ whole view. whole ≡ view.authorities };
+
+    fn from(
+        whole: Encoded<'a, CertificateAuthoritiesExtension>,
+    ) -> CertificateAuthoritiesExtensionView<'a> {
+        let authorities = whole.parts();
+        CertificateAuthoritiesExtensionView { authorities }
     }
 }
 

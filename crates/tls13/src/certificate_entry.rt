@@ -1,5 +1,5 @@
 //! [`CertificateEntry`].
-ghost use Rattle.std.specs.Prelude.{◌≡◌, ◌&&◌};
+ghost use Rattle.std.specs.Prelude.{◌≡◌, ◌&&◌, ◌++◌};
 ghost use Rattle.tls13.specs.CertificateEntry.{certificate_entry_format, certificate_entry_meets, certificate_entry_plain};
 ghost use Rattle.tls13.specs.declared.certificate_entry.CertificateEntry.{CertificateEntry};
 
@@ -10,6 +10,8 @@ use tls_codec::{
     TlsVecU16, U24, Within,
 };
 use tls_codec_cases::append_as;
+use tls_codec_validate::{Rejected, Validate};
+use tls_codec_views::{Encoded, Parted};
 
 /// `CertificateEntry` (RFC 8446, appendix B.3.3).
 #[derive(PartialEq, Eq, Debug, Clone, Drop)]
@@ -71,6 +73,45 @@ impl DeserializeBytes for CertificateEntry {
             },
             rest,
         ))
+    }
+}
+
+impl Validate for CertificateEntry {
+    ghost places = { ⟦<Parts as Validate>⟧.places };
+
+    fn tls_validate_prefix(whole: &[u8]) -> Result<&[u8], Rejected<'_>> {
+        <Parts>::tls_validate_prefix(whole)
+    }
+
+    fn tls_width() -> Option<usize> {
+        <Parts>::tls_width()
+    }
+}
+
+impl Parted for CertificateEntry {
+    type Parts = Parts;
+
+    ghost as_parts = { λ bytes is. is };
+}
+
+/// The encoding of a [`CertificateEntry`], by its fields.
+#[derive(Drop)]
+pub struct CertificateEntryView<'a> {
+    /// `opaque cert_data<1..2^24-1>;`
+    pub cert_data: Encoded<'a, TlsByteVec<Within<U24, 1, 16777215>>>,
+    /// `Extension extensions<0..2^16-1>;`
+    pub extensions: Encoded<'a, TlsVecU16<Extension>>,
+}
+
+impl<'a> From<Encoded<'a, CertificateEntry>> for CertificateEntryView<'a> {
+    ghost from_gives = { λ whole view. whole ≡ (view.cert_data ++ view.extensions) };
+
+    fn from(whole: Encoded<'a, CertificateEntry>) -> CertificateEntryView<'a> {
+        let (cert_data, extensions) = whole.parts().split();
+        CertificateEntryView {
+            cert_data,
+            extensions,
+        }
     }
 }
 

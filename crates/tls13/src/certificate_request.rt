@@ -1,5 +1,5 @@
 //! [`CertificateRequest`].
-ghost use Rattle.std.specs.Prelude.{◌≡◌, ◌&&◌};
+ghost use Rattle.std.specs.Prelude.{◌≡◌, ◌&&◌, ◌++◌};
 ghost use Rattle.tls13.specs.CertificateRequest.{certificate_request_format, certificate_request_meets, certificate_request_plain};
 ghost use Rattle.tls13.specs.declared.certificate_request.CertificateRequest.{CertificateRequest};
 
@@ -10,6 +10,8 @@ use tls_codec::{
     TlsVec, Within,
 };
 use tls_codec_cases::append_as;
+use tls_codec_validate::{Rejected, Validate};
+use tls_codec_views::{Encoded, Parted};
 
 /// `CertificateRequest` (RFC 8446, appendix B.3.2).
 #[derive(PartialEq, Eq, Debug, Clone, Drop)]
@@ -88,6 +90,46 @@ impl DeserializeBytes for CertificateRequest {
             },
             rest,
         ))
+    }
+}
+
+impl Validate for CertificateRequest {
+    ghost places = { ⟦<Parts as Validate>⟧.places };
+
+    fn tls_validate_prefix(whole: &[u8]) -> Result<&[u8], Rejected<'_>> {
+        <Parts>::tls_validate_prefix(whole)
+    }
+
+    fn tls_width() -> Option<usize> {
+        <Parts>::tls_width()
+    }
+}
+
+impl Parted for CertificateRequest {
+    type Parts = Parts;
+
+    ghost as_parts = { λ bytes is. is };
+}
+
+/// The encoding of a [`CertificateRequest`], by its fields.
+#[derive(Drop)]
+pub struct CertificateRequestView<'a> {
+    /// `opaque certificate_request_context<0..2^8-1>;`
+    pub certificate_request_context: Encoded<'a, TlsByteVecU8>,
+    /// `Extension extensions<2..2^16-1>;`
+    pub extensions: Encoded<'a, TlsVec<Within<u16, 2, 65535>, Extension>>,
+}
+
+impl<'a> From<Encoded<'a, CertificateRequest>> for CertificateRequestView<'a> {
+    ghost from_gives = { λ whole view. whole ≡ (view.certificate_request_context ++
+        view.extensions) };
+
+    fn from(whole: Encoded<'a, CertificateRequest>) -> CertificateRequestView<'a> {
+        let (certificate_request_context, extensions) = whole.parts().split();
+        CertificateRequestView {
+            certificate_request_context,
+            extensions,
+        }
     }
 }
 

@@ -4,6 +4,7 @@ ghost use Rattle.std.specs.Fmt.{padded};
 ghost use Rattle.std.specs.Ordering.{nat_cmp};
 ghost use Rattle.tls_codec.specs.Errors.{UnknownValue};
 ghost use Rattle.tls_codec.specs.OwnMessages.{values_names, values_source_names};
+ghost use Rattle.tls_codec_validate.specs.TaggedPlaces.{values_places};
 ghost use Rattle.tls13.specs.CertificateType.{certificate_type_code, certificate_type_format, certificate_type_has, certificate_type_meets, certificate_type_name, certificate_type_plain};
 ghost use Rattle.tls13.specs.declared.certificate_type.CertificateType.{CertificateType};
 
@@ -12,6 +13,7 @@ use std::fmt;
 use tls_codec::{
     Deserialize, DeserializeBytes, Error, Serialize, Sink, Size, Source, unknown_value,
 };
+use tls_codec_validate::{Rejected, Validate, split_u8};
 
 /// `CertificateType` (RFC 8446, appendix B.3.3).
 #[derive(PartialEq, Eq, PartialOrd, Ord, Hash, Debug, Clone, Copy)]
@@ -142,6 +144,21 @@ impl DeserializeBytes for CertificateType {
         match CertificateType::of_code(tag) {
             Some(value) => Ok((value, rest)),
             None => Err(unknown_value(u64::from(tag))),
+        }
+    }
+}
+
+impl Validate for CertificateType {
+    ghost places = { values_places 1 certificate_type_has };
+
+    fn tls_validate_prefix(whole: &[u8]) -> Result<&[u8], Rejected<'_>> {
+        let (tag, rest) = split_u8(whole)?;
+        match CertificateType::of_code(tag) {
+            Some(_value) => Ok(rest),
+            None => Err(Rejected {
+                error: unknown_value(u64::from(tag)),
+                rest: whole,
+            }),
         }
     }
 }

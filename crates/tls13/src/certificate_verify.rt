@@ -1,5 +1,5 @@
 //! [`CertificateVerify`].
-ghost use Rattle.std.specs.Prelude.{◌≡◌, ◌&&◌};
+ghost use Rattle.std.specs.Prelude.{◌≡◌, ◌&&◌, ◌++◌};
 ghost use Rattle.tls13.specs.CertificateVerify.{certificate_verify_format, certificate_verify_meets, certificate_verify_plain};
 ghost use Rattle.tls13.specs.declared.certificate_verify.CertificateVerify.{CertificateVerify};
 
@@ -9,6 +9,8 @@ use tls_codec::{
     Deserialize, DeserializeBytes, Error, Lent, Serialize, Sink, Size, Source, TlsByteVecU16,
 };
 use tls_codec_cases::append_as;
+use tls_codec_validate::{Rejected, Validate};
+use tls_codec_views::{Encoded, Parted};
 
 /// `CertificateVerify` (RFC 8446, appendix B.3.3).
 #[derive(PartialEq, Eq, Debug, Clone, Drop)]
@@ -70,6 +72,45 @@ impl DeserializeBytes for CertificateVerify {
             },
             rest,
         ))
+    }
+}
+
+impl Validate for CertificateVerify {
+    ghost places = { ⟦<Parts as Validate>⟧.places };
+
+    fn tls_validate_prefix(whole: &[u8]) -> Result<&[u8], Rejected<'_>> {
+        <Parts>::tls_validate_prefix(whole)
+    }
+
+    fn tls_width() -> Option<usize> {
+        <Parts>::tls_width()
+    }
+}
+
+impl Parted for CertificateVerify {
+    type Parts = Parts;
+
+    ghost as_parts = { λ bytes is. is };
+}
+
+/// The encoding of a [`CertificateVerify`], by its fields.
+#[derive(Drop)]
+pub struct CertificateVerifyView<'a> {
+    /// `SignatureScheme algorithm;`
+    pub algorithm: Encoded<'a, SignatureScheme>,
+    /// `opaque signature<0..2^16-1>;`
+    pub signature: Encoded<'a, TlsByteVecU16>,
+}
+
+impl<'a> From<Encoded<'a, CertificateVerify>> for CertificateVerifyView<'a> {
+    ghost from_gives = { λ whole view. whole ≡ (view.algorithm ++ view.signature) };
+
+    fn from(whole: Encoded<'a, CertificateVerify>) -> CertificateVerifyView<'a> {
+        let (algorithm, signature) = whole.parts().split();
+        CertificateVerifyView {
+            algorithm,
+            signature,
+        }
     }
 }
 

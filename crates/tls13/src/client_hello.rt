@@ -1,5 +1,5 @@
 //! [`ClientHello`].
-ghost use Rattle.std.specs.Prelude.{◌≡◌, ◌&&◌};
+ghost use Rattle.std.specs.Prelude.{◌≡◌, ◌&&◌, ◌++◌};
 ghost use Rattle.tls13.specs.ClientHello.{client_hello_format, client_hello_meets, client_hello_plain};
 ghost use Rattle.tls13.specs.declared.client_hello.ClientHello.{ClientHello};
 
@@ -10,6 +10,8 @@ use tls_codec::{
     Within,
 };
 use tls_codec_cases::append_as;
+use tls_codec_validate::{Rejected, Validate};
+use tls_codec_views::{Encoded, Parted};
 
 /// `ClientHello` (RFC 8446, appendix B.3.1).
 #[derive(PartialEq, Eq, Debug, Clone, Drop)]
@@ -128,6 +130,62 @@ impl DeserializeBytes for ClientHello {
             },
             rest,
         ))
+    }
+}
+
+impl Validate for ClientHello {
+    ghost places = { ⟦<Parts as Validate>⟧.places };
+
+    fn tls_validate_prefix(whole: &[u8]) -> Result<&[u8], Rejected<'_>> {
+        <Parts>::tls_validate_prefix(whole)
+    }
+
+    fn tls_width() -> Option<usize> {
+        <Parts>::tls_width()
+    }
+}
+
+impl Parted for ClientHello {
+    type Parts = Parts;
+
+    ghost as_parts = { λ bytes is. is };
+}
+
+/// The encoding of a [`ClientHello`], by its fields.
+#[derive(Drop)]
+pub struct ClientHelloView<'a> {
+    /// `ProtocolVersion legacy_version = 0x0303;`
+    /// TLS v1.2
+    pub legacy_version: Encoded<'a, ProtocolVersionX0303>,
+    /// `Random random;`
+    pub random: Encoded<'a, Random>,
+    /// `opaque legacy_session_id<0..32>;`
+    pub legacy_session_id: Encoded<'a, TlsByteVec<Within<u8, 0, 32>>>,
+    /// `CipherSuite cipher_suites<2..65534>;`
+    pub cipher_suites: Encoded<'a, TlsVec<Within<u16, 2, 65534>, CipherSuite>>,
+    /// `opaque legacy_compression_methods<1..2^8-1>;`
+    pub legacy_compression_methods: Encoded<'a, TlsByteVec<Within<u8, 1, 255>>>,
+    /// `Extension extensions<8..2^16-1>;`
+    pub extensions: Encoded<'a, TlsVec<Within<u16, 8, 65535>, Extension>>,
+}
+
+impl<'a> From<Encoded<'a, ClientHello>> for ClientHelloView<'a> {
+    ghost from_gives = { λ whole view. whole ≡ ((view.legacy_version ++
+        (view.random ++ view.legacy_session_id)) ++ (view.cipher_suites ++
+        (view.legacy_compression_methods ++ view.extensions))) };
+
+    fn from(whole: Encoded<'a, ClientHello>) -> ClientHelloView<'a> {
+        let (parts_0, parts_1) = whole.parts().split();
+        let (legacy_version, random, legacy_session_id) = parts_0.split();
+        let (cipher_suites, legacy_compression_methods, extensions) = parts_1.split();
+        ClientHelloView {
+            legacy_version,
+            random,
+            legacy_session_id,
+            cipher_suites,
+            legacy_compression_methods,
+            extensions,
+        }
     }
 }
 

@@ -8,6 +8,8 @@ ghost use Rattle.tls13.specs.declared.content_type.ContentType.{ContentType};
 use std::alloc::Global;
 use std::fmt;
 use tls_codec::{Deserialize, DeserializeBytes, Error, Serialize, Sink, Size, Source};
+use tls_codec_validate::{Rejected, Validate};
+use tls_codec_views::{Encoded, Parted, Told};
 
 /// `ContentType` (RFC 8446, appendix B.1).
 #[derive(PartialEq, Eq, PartialOrd, Ord, Hash, Debug, Clone, Copy)]
@@ -121,6 +123,30 @@ impl DeserializeBytes for ContentType {
     fn tls_deserialize_bytes(alloc: Global, whole: &[u8]) -> Result<(ContentType, &[u8]), Error> {
         let (number, rest) = u8::tls_deserialize_bytes(alloc, whole)?;
         Ok((ContentType(number), rest))
+    }
+}
+
+impl Validate for ContentType {
+    ghost places = { ⟦<u8 as Validate>⟧.places };
+
+    fn tls_validate_prefix(whole: &[u8]) -> Result<&[u8], Rejected<'_>> {
+        u8::tls_validate_prefix(whole)
+    }
+
+    fn tls_width() -> Option<usize> {
+        u8::tls_width()
+    }
+}
+
+impl Parted for ContentType {
+    type Parts = u8;
+
+    ghost as_parts = { λ bytes is. is };
+}
+
+impl Told for ContentType {
+    fn told(encoded: &Encoded<'_, ContentType>) -> ContentType {
+        ContentType(encoded.parts().get())
     }
 }
 

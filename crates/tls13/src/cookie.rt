@@ -8,6 +8,8 @@ use tls_codec::{
     Deserialize, DeserializeBytes, Error, Serialize, Sink, Size, Source, TlsByteVec, Within,
 };
 use tls_codec_cases::append_as;
+use tls_codec_validate::{Rejected, Validate};
+use tls_codec_views::{Encoded, Parted};
 
 /// `Cookie` (RFC 8446, appendix B.3.1.2).
 #[derive(PartialEq, Eq, Debug, Clone, Drop)]
@@ -55,6 +57,40 @@ impl DeserializeBytes for Cookie {
             alloc, whole,
         )?;
         Ok((Cookie { cookie }, rest))
+    }
+}
+
+impl Validate for Cookie {
+    ghost places = { ⟦<TlsByteVec<Within<u16, 1, 65535>> as Validate>⟧.places };
+
+    fn tls_validate_prefix(whole: &[u8]) -> Result<&[u8], Rejected<'_>> {
+        <TlsByteVec<Within<u16, 1, 65535>>>::tls_validate_prefix(whole)
+    }
+
+    fn tls_width() -> Option<usize> {
+        <TlsByteVec<Within<u16, 1, 65535>>>::tls_width()
+    }
+}
+
+impl Parted for Cookie {
+    type Parts = TlsByteVec<Within<u16, 1, 65535>>;
+
+    ghost as_parts = { λ bytes is. is };
+}
+
+/// The encoding of a [`Cookie`], by its fields.
+#[derive(Drop)]
+pub struct CookieView<'a> {
+    /// `opaque cookie<1..2^16-1>;`
+    pub cookie: Encoded<'a, TlsByteVec<Within<u16, 1, 65535>>>,
+}
+
+impl<'a> From<Encoded<'a, Cookie>> for CookieView<'a> {
+    ghost from_gives = { λ whole view. whole ≡ view.cookie };
+
+    fn from(whole: Encoded<'a, Cookie>) -> CookieView<'a> {
+        let cookie = whole.parts();
+        CookieView { cookie }
     }
 }
 

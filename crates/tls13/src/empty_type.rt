@@ -6,6 +6,7 @@ ghost use Rattle.tls13.specs.declared.empty_type.EmptyType.{EmptyType};
 use std::alloc::Global;
 use tls_codec::{Deserialize, DeserializeBytes, Error, Serialize, Sink, Size, Source};
 use tls_codec_cases::append_as;
+use tls_codec_validate::{Rejected, Validate};
 
 /// `Empty` (RFC 8446, appendix B.3.1).
 #[derive(PartialEq, Eq, Debug, Clone, Drop)]
@@ -48,6 +49,18 @@ impl DeserializeBytes for EmptyType {
     fn tls_deserialize_bytes(alloc: Global, whole: &[u8]) -> Result<(EmptyType, &[u8]), Error> {
         let ((), rest) = <()>::tls_deserialize_bytes(alloc, whole)?;
         Ok((EmptyType {}, rest))
+    }
+}
+
+impl Validate for EmptyType {
+    ghost places = { ⟦<() as Validate>⟧.places };
+
+    fn tls_validate_prefix(whole: &[u8]) -> Result<&[u8], Rejected<'_>> {
+        <()>::tls_validate_prefix(whole)
+    }
+
+    fn tls_width() -> Option<usize> {
+        <()>::tls_width()
     }
 }
 

@@ -7,6 +7,7 @@ use crate::Extension;
 use std::alloc::Global;
 use tls_codec::{Deserialize, DeserializeBytes, Error, Serialize, Sink, Size, Source, TlsVecU16};
 use tls_codec_cases::append_as;
+use tls_codec_validate::{Rejected, Validate};
 
 /// `EncryptedExtensions` (RFC 8446, appendix B.3.2).
 #[derive(PartialEq, Eq, Debug, Clone, Drop)]
@@ -58,6 +59,18 @@ impl DeserializeBytes for EncryptedExtensions {
     ) -> Result<(EncryptedExtensions, &[u8]), Error> {
         let (extensions, rest) = <TlsVecU16<Extension>>::tls_deserialize_bytes(alloc, whole)?;
         Ok((EncryptedExtensions { extensions }, rest))
+    }
+}
+
+impl Validate for EncryptedExtensions {
+    ghost places = { ⟦<TlsVecU16<Extension> as Validate>⟧.places };
+
+    fn tls_validate_prefix(whole: &[u8]) -> Result<&[u8], Rejected<'_>> {
+        <TlsVecU16<Extension>>::tls_validate_prefix(whole)
+    }
+
+    fn tls_width() -> Option<usize> {
+        <TlsVecU16<Extension>>::tls_width()
     }
 }
 

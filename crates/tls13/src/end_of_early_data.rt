@@ -6,6 +6,7 @@ ghost use Rattle.tls13.specs.declared.end_of_early_data.EndOfEarlyData.{EndOfEar
 use std::alloc::Global;
 use tls_codec::{Deserialize, DeserializeBytes, Error, Serialize, Sink, Size, Source};
 use tls_codec_cases::append_as;
+use tls_codec_validate::{Rejected, Validate};
 
 /// `EndOfEarlyData` (RFC 8446, appendix B.3.5).
 #[derive(PartialEq, Eq, Debug, Clone, Drop)]
@@ -51,6 +52,18 @@ impl DeserializeBytes for EndOfEarlyData {
     ) -> Result<(EndOfEarlyData, &[u8]), Error> {
         let ((), rest) = <()>::tls_deserialize_bytes(alloc, whole)?;
         Ok((EndOfEarlyData {}, rest))
+    }
+}
+
+impl Validate for EndOfEarlyData {
+    ghost places = { ⟦<() as Validate>⟧.places };
+
+    fn tls_validate_prefix(whole: &[u8]) -> Result<&[u8], Rejected<'_>> {
+        <()>::tls_validate_prefix(whole)
+    }
+
+    fn tls_width() -> Option<usize> {
+        <()>::tls_width()
     }
 }
 

@@ -8,6 +8,8 @@ ghost use Rattle.tls13.specs.declared.extension_type.ExtensionType.{ExtensionTyp
 use std::alloc::Global;
 use std::fmt;
 use tls_codec::{Deserialize, DeserializeBytes, Error, Serialize, Sink, Size, Source};
+use tls_codec_validate::{Rejected, Validate};
+use tls_codec_views::{Encoded, Parted, Told};
 
 /// `ExtensionType` (RFC 8446, appendix B.3.1).
 #[derive(PartialEq, Eq, PartialOrd, Ord, Hash, Debug, Clone, Copy)]
@@ -104,8 +106,7 @@ impl ExtensionType {
 
     /// Its name in the text, if it has one.
     pub fn name(&self) -> Option<&'static str>
-        ensures { option_map (λ t. t.now) result
-            ≡ listed_name extension_type_names self.now.0 }
+        ensures { option_map (λ t. t.now) result ≡ listed_name extension_type_names self.now.0 }
     {
         match self.0 {
             0 => Some("server_name"),
@@ -207,6 +208,30 @@ impl DeserializeBytes for ExtensionType {
     fn tls_deserialize_bytes(alloc: Global, whole: &[u8]) -> Result<(ExtensionType, &[u8]), Error> {
         let (number, rest) = u16::tls_deserialize_bytes(alloc, whole)?;
         Ok((ExtensionType(number), rest))
+    }
+}
+
+impl Validate for ExtensionType {
+    ghost places = { ⟦<u16 as Validate>⟧.places };
+
+    fn tls_validate_prefix(whole: &[u8]) -> Result<&[u8], Rejected<'_>> {
+        u16::tls_validate_prefix(whole)
+    }
+
+    fn tls_width() -> Option<usize> {
+        u16::tls_width()
+    }
+}
+
+impl Parted for ExtensionType {
+    type Parts = u16;
+
+    ghost as_parts = { λ bytes is. is };
+}
+
+impl Told for ExtensionType {
+    fn told(encoded: &Encoded<'_, ExtensionType>) -> ExtensionType {
+        ExtensionType(encoded.parts().get())
     }
 }
 

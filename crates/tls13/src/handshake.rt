@@ -14,6 +14,7 @@ use tls_codec::{
     Deserialize, DeserializeBytes, Error, Lent, Serialize, Sink, Size, Source, TlsByteVecU24, U24,
 };
 use tls_codec_cases::{Case, Enclosed, Or, Tagged, append_as, write_as};
+use tls_codec_validate::{Rejected, Validate};
 
 /// `HandshakeType msg_type` of `Handshake` (RFC 8446, appendix B.3), and what comes after
 /// each.
@@ -204,6 +205,14 @@ impl DeserializeBytes for Handshake {
     fn tls_deserialize_bytes(alloc: Global, whole: &[u8]) -> Result<(Handshake, &[u8]), Error> {
         let (cases, rest) = <Cases>::tls_deserialize_bytes(alloc, whole)?;
         Ok((Handshake::of(cases), rest))
+    }
+}
+
+impl Validate for Handshake {
+    ghost places = { ⟦<Cases as Validate>⟧.places };
+
+    fn tls_validate_prefix(whole: &[u8]) -> Result<&[u8], Rejected<'_>> {
+        <Cases>::tls_validate_prefix(whole)
     }
 }
 

@@ -3,7 +3,9 @@ ghost use Rattle.std.specs.Prelude.{◌≡◌, MatchOption, MatchResult, Some, f
 ghost use Rattle.std.specs.Fmt.{padded};
 ghost use Rattle.std.specs.Ordering.{nat_cmp};
 ghost use Rattle.tls_codec.specs.Errors.{UnknownValue};
-ghost use Rattle.tls_codec.specs.OwnMessages.{values_names, values_source_names};
+ghost use Rattle.std.proofs.Common.{refl};
+ghost use Rattle.tls_codec.specs.OwnMessages.{values, values_names, values_source_names};
+ghost use Rattle.tls_codec_validate.specs.TaggedPlaces.{values_places};
 ghost use Rattle.tls13.specs.HandshakeType.{handshake_type_code, handshake_type_format, handshake_type_has, handshake_type_meets, handshake_type_name, handshake_type_plain, handshake_type_selected};
 ghost use Rattle.tls13.specs.declared.handshake_type.HandshakeType.{HandshakeType};
 
@@ -13,6 +15,9 @@ use tls_codec::{
     Deserialize, DeserializeBytes, Error, Serialize, Sink, Size, Source, unknown_value,
 };
 use tls_codec_cases::Selector;
+use tls_codec_validate::{
+    Keyed, Rejected, TagFirst, TagKeyed, Validate, ValidateKeyed, split_u8, validate_tag_first,
+};
 
 /// `HandshakeType` (RFC 8446, appendix B.3).
 #[derive(PartialEq, Eq, PartialOrd, Ord, Hash, Debug, Clone, Copy)]
@@ -235,6 +240,55 @@ impl Selector for HandshakeType {
     fn selects(&self) -> u64 {
         let tag = self.code();
         u64::from(tag)
+    }
+}
+
+impl Validate for HandshakeType {
+    ghost places = { values_places 1 handshake_type_has };
+
+    fn tls_validate_prefix(whole: &[u8]) -> Result<&[u8], Rejected<'_>> {
+        let (tag, rest) = split_u8(whole)?;
+        match HandshakeType::of_code(tag) {
+            Some(_value) => Ok(rest),
+            None => Err(Rejected {
+                error: unknown_value(u64::from(tag)),
+                rest: whole,
+            }),
+        }
+    }
+}
+
+impl Keyed for HandshakeType {
+    type Key = u64;
+
+    ghost is_key = { λ n c. n ≡ handshake_type_selected c };
+
+    fn key(&self) -> u64 {
+        self.selects()
+    }
+}
+
+impl TagKeyed for HandshakeType {
+    fn tag_of_key(key: &u64) -> u64 {
+        *key
+    }
+}
+
+impl TagFirst for HandshakeType {
+    type Tag = u8;
+
+    ghost variants = { values handshake_type_has };
+
+    ghost told = { handshake_type_selected };
+
+    ghost is_tagged = { λ d bytes v spelled. spelled };
+
+    ghost is_told = { λ d bytes tag parts spelled. refl };
+}
+
+impl ValidateKeyed for HandshakeType {
+    fn tls_validate_keyed(whole: &[u8]) -> Result<(u64, &[u8]), Rejected<'_>> {
+        validate_tag_first::<HandshakeType>(whole)
     }
 }
 

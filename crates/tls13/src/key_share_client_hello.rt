@@ -7,6 +7,7 @@ use crate::KeyShareEntry;
 use std::alloc::Global;
 use tls_codec::{Deserialize, DeserializeBytes, Error, Serialize, Sink, Size, Source, TlsVecU16};
 use tls_codec_cases::append_as;
+use tls_codec_validate::{Rejected, Validate};
 
 /// `KeyShareClientHello` (RFC 8446, appendix B.3.1).
 #[derive(PartialEq, Eq, Debug, Clone, Drop)]
@@ -60,6 +61,18 @@ impl DeserializeBytes for KeyShareClientHello {
             alloc, whole,
         )?;
         Ok((KeyShareClientHello { client_shares }, rest))
+    }
+}
+
+impl Validate for KeyShareClientHello {
+    ghost places = { ⟦<TlsVecU16<KeyShareEntry> as Validate>⟧.places };
+
+    fn tls_validate_prefix(whole: &[u8]) -> Result<&[u8], Rejected<'_>> {
+        <TlsVecU16<KeyShareEntry>>::tls_validate_prefix(whole)
+    }
+
+    fn tls_width() -> Option<usize> {
+        <TlsVecU16<KeyShareEntry>>::tls_width()
     }
 }
 

@@ -1,5 +1,5 @@
 //! [`KeyShareEntry`].
-ghost use Rattle.std.specs.Prelude.{◌≡◌, ◌&&◌};
+ghost use Rattle.std.specs.Prelude.{◌≡◌, ◌&&◌, ◌++◌};
 ghost use Rattle.tls13.specs.KeyShareEntry.{key_share_entry_format, key_share_entry_meets, key_share_entry_plain};
 ghost use Rattle.tls13.specs.declared.key_share_entry.KeyShareEntry.{KeyShareEntry};
 
@@ -9,6 +9,8 @@ use tls_codec::{
     Deserialize, DeserializeBytes, Error, Lent, Serialize, Sink, Size, Source, TlsByteVec, Within,
 };
 use tls_codec_cases::append_as;
+use tls_codec_validate::{Rejected, Validate};
+use tls_codec_views::{Encoded, Parted};
 
 /// `KeyShareEntry` (RFC 8446, appendix B.3.1).
 #[derive(PartialEq, Eq, Debug, Clone, Drop)]
@@ -67,6 +69,45 @@ impl DeserializeBytes for KeyShareEntry {
             },
             rest,
         ))
+    }
+}
+
+impl Validate for KeyShareEntry {
+    ghost places = { ⟦<Parts as Validate>⟧.places };
+
+    fn tls_validate_prefix(whole: &[u8]) -> Result<&[u8], Rejected<'_>> {
+        <Parts>::tls_validate_prefix(whole)
+    }
+
+    fn tls_width() -> Option<usize> {
+        <Parts>::tls_width()
+    }
+}
+
+impl Parted for KeyShareEntry {
+    type Parts = Parts;
+
+    ghost as_parts = { λ bytes is. is };
+}
+
+/// The encoding of a [`KeyShareEntry`], by its fields.
+#[derive(Drop)]
+pub struct KeyShareEntryView<'a> {
+    /// `NamedGroup group;`
+    pub group: Encoded<'a, NamedGroup>,
+    /// `opaque key_exchange<1..2^16-1>;`
+    pub key_exchange: Encoded<'a, TlsByteVec<Within<u16, 1, 65535>>>,
+}
+
+impl<'a> From<Encoded<'a, KeyShareEntry>> for KeyShareEntryView<'a> {
+    ghost from_gives = { λ whole view. whole ≡ (view.group ++ view.key_exchange) };
+
+    fn from(whole: Encoded<'a, KeyShareEntry>) -> KeyShareEntryView<'a> {
+        let (group, key_exchange) = whole.parts().split();
+        KeyShareEntryView {
+            group,
+            key_exchange,
+        }
     }
 }
 

@@ -7,6 +7,8 @@ use crate::NamedGroup;
 use std::alloc::Global;
 use tls_codec::{Deserialize, DeserializeBytes, Error, Serialize, Sink, Size, Source};
 use tls_codec_cases::append_as;
+use tls_codec_validate::{Rejected, Validate};
+use tls_codec_views::{Encoded, Parted};
 
 /// `KeyShareHelloRetryRequest` (RFC 8446, appendix B.3.1).
 #[derive(PartialEq, Eq, Debug, Clone, Drop)]
@@ -58,6 +60,40 @@ impl DeserializeBytes for KeyShareHelloRetryRequest {
     ) -> Result<(KeyShareHelloRetryRequest, &[u8]), Error> {
         let (selected_group, rest) = NamedGroup::tls_deserialize_bytes(alloc, whole)?;
         Ok((KeyShareHelloRetryRequest { selected_group }, rest))
+    }
+}
+
+impl Validate for KeyShareHelloRetryRequest {
+    ghost places = { ⟦<NamedGroup as Validate>⟧.places };
+
+    fn tls_validate_prefix(whole: &[u8]) -> Result<&[u8], Rejected<'_>> {
+        NamedGroup::tls_validate_prefix(whole)
+    }
+
+    fn tls_width() -> Option<usize> {
+        NamedGroup::tls_width()
+    }
+}
+
+impl Parted for KeyShareHelloRetryRequest {
+    type Parts = NamedGroup;
+
+    ghost as_parts = { λ bytes is. is };
+}
+
+/// The encoding of a [`KeyShareHelloRetryRequest`], by its fields.
+#[derive(Drop)]
+pub struct KeyShareHelloRetryRequestView<'a> {
+    /// `NamedGroup selected_group;`
+    pub selected_group: Encoded<'a, NamedGroup>,
+}
+
+impl<'a> From<Encoded<'a, KeyShareHelloRetryRequest>> for KeyShareHelloRetryRequestView<'a> {
+    ghost from_gives = { λ whole view. whole ≡ view.selected_group };
+
+    fn from(whole: Encoded<'a, KeyShareHelloRetryRequest>) -> KeyShareHelloRetryRequestView<'a> {
+        let selected_group = whole.parts();
+        KeyShareHelloRetryRequestView { selected_group }
     }
 }
 

@@ -7,6 +7,8 @@ use crate::KeyShareEntry;
 use std::alloc::Global;
 use tls_codec::{Deserialize, DeserializeBytes, Error, Serialize, Sink, Size, Source};
 use tls_codec_cases::append_as;
+use tls_codec_validate::{Rejected, Validate};
+use tls_codec_views::{Encoded, Parted};
 
 /// `KeyShareServerHello` (RFC 8446, appendix B.3.1).
 #[derive(PartialEq, Eq, Debug, Clone, Drop)]
@@ -58,6 +60,40 @@ impl DeserializeBytes for KeyShareServerHello {
     ) -> Result<(KeyShareServerHello, &[u8]), Error> {
         let (server_share, rest) = KeyShareEntry::tls_deserialize_bytes(alloc, whole)?;
         Ok((KeyShareServerHello { server_share }, rest))
+    }
+}
+
+impl Validate for KeyShareServerHello {
+    ghost places = { ⟦<KeyShareEntry as Validate>⟧.places };
+
+    fn tls_validate_prefix(whole: &[u8]) -> Result<&[u8], Rejected<'_>> {
+        KeyShareEntry::tls_validate_prefix(whole)
+    }
+
+    fn tls_width() -> Option<usize> {
+        KeyShareEntry::tls_width()
+    }
+}
+
+impl Parted for KeyShareServerHello {
+    type Parts = KeyShareEntry;
+
+    ghost as_parts = { λ bytes is. is };
+}
+
+/// The encoding of a [`KeyShareServerHello`], by its fields.
+#[derive(Drop)]
+pub struct KeyShareServerHelloView<'a> {
+    /// `KeyShareEntry server_share;`
+    pub server_share: Encoded<'a, KeyShareEntry>,
+}
+
+impl<'a> From<Encoded<'a, KeyShareServerHello>> for KeyShareServerHelloView<'a> {
+    ghost from_gives = { λ whole view. whole ≡ view.server_share };
+
+    fn from(whole: Encoded<'a, KeyShareServerHello>) -> KeyShareServerHelloView<'a> {
+        let server_share = whole.parts();
+        KeyShareServerHelloView { server_share }
     }
 }
 

@@ -7,6 +7,8 @@ use crate::KeyUpdateRequest;
 use std::alloc::Global;
 use tls_codec::{Deserialize, DeserializeBytes, Error, Serialize, Sink, Size, Source};
 use tls_codec_cases::append_as;
+use tls_codec_validate::{Rejected, Validate};
+use tls_codec_views::{Encoded, Parted};
 
 /// `KeyUpdate` (RFC 8446, appendix B.3.5).
 #[derive(PartialEq, Eq, Debug, Clone, Drop)]
@@ -52,6 +54,40 @@ impl DeserializeBytes for KeyUpdate {
     fn tls_deserialize_bytes(alloc: Global, whole: &[u8]) -> Result<(KeyUpdate, &[u8]), Error> {
         let (request_update, rest) = KeyUpdateRequest::tls_deserialize_bytes(alloc, whole)?;
         Ok((KeyUpdate { request_update }, rest))
+    }
+}
+
+impl Validate for KeyUpdate {
+    ghost places = { ⟦<KeyUpdateRequest as Validate>⟧.places };
+
+    fn tls_validate_prefix(whole: &[u8]) -> Result<&[u8], Rejected<'_>> {
+        KeyUpdateRequest::tls_validate_prefix(whole)
+    }
+
+    fn tls_width() -> Option<usize> {
+        KeyUpdateRequest::tls_width()
+    }
+}
+
+impl Parted for KeyUpdate {
+    type Parts = KeyUpdateRequest;
+
+    ghost as_parts = { λ bytes is. is };
+}
+
+/// The encoding of a [`KeyUpdate`], by its fields.
+#[derive(Drop)]
+pub struct KeyUpdateView<'a> {
+    /// `KeyUpdateRequest request_update;`
+    pub request_update: Encoded<'a, KeyUpdateRequest>,
+}
+
+impl<'a> From<Encoded<'a, KeyUpdate>> for KeyUpdateView<'a> {
+    ghost from_gives = { λ whole view. whole ≡ view.request_update };
+
+    fn from(whole: Encoded<'a, KeyUpdate>) -> KeyUpdateView<'a> {
+        let request_update = whole.parts();
+        KeyUpdateView { request_update }
     }
 }
 

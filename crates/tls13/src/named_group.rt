@@ -8,6 +8,8 @@ ghost use Rattle.tls13.specs.declared.named_group.NamedGroup.{NamedGroup};
 use std::alloc::Global;
 use std::fmt;
 use tls_codec::{Deserialize, DeserializeBytes, Error, Serialize, Sink, Size, Source};
+use tls_codec_validate::{Rejected, Validate};
+use tls_codec_views::{Encoded, Parted, Told};
 
 /// `NamedGroup` (RFC 8446, appendix B.3.1.4).
 #[derive(PartialEq, Eq, PartialOrd, Ord, Hash, Debug, Clone, Copy)]
@@ -141,6 +143,30 @@ impl DeserializeBytes for NamedGroup {
     fn tls_deserialize_bytes(alloc: Global, whole: &[u8]) -> Result<(NamedGroup, &[u8]), Error> {
         let (number, rest) = u16::tls_deserialize_bytes(alloc, whole)?;
         Ok((NamedGroup(number), rest))
+    }
+}
+
+impl Validate for NamedGroup {
+    ghost places = { ⟦<u16 as Validate>⟧.places };
+
+    fn tls_validate_prefix(whole: &[u8]) -> Result<&[u8], Rejected<'_>> {
+        u16::tls_validate_prefix(whole)
+    }
+
+    fn tls_width() -> Option<usize> {
+        u16::tls_width()
+    }
+}
+
+impl Parted for NamedGroup {
+    type Parts = u16;
+
+    ghost as_parts = { λ bytes is. is };
+}
+
+impl Told for NamedGroup {
+    fn told(encoded: &Encoded<'_, NamedGroup>) -> NamedGroup {
+        NamedGroup(encoded.parts().get())
     }
 }
 

@@ -9,6 +9,7 @@ use tls_codec::{
     Deserialize, DeserializeBytes, Error, Serialize, Sink, Size, Source, TlsVec, Within,
 };
 use tls_codec_cases::append_as;
+use tls_codec_validate::{Rejected, Validate};
 
 /// `NamedGroupList` (RFC 8446, appendix B.3.1.4).
 #[derive(PartialEq, Eq, Debug, Clone, Drop)]
@@ -59,6 +60,18 @@ impl DeserializeBytes for NamedGroupList {
     ) -> Result<(NamedGroupList, &[u8]), Error> {
         let (named_group_list, rest) = <Parts>::tls_deserialize_bytes(alloc, whole)?;
         Ok((NamedGroupList { named_group_list }, rest))
+    }
+}
+
+impl Validate for NamedGroupList {
+    ghost places = { ⟦<Parts as Validate>⟧.places };
+
+    fn tls_validate_prefix(whole: &[u8]) -> Result<&[u8], Rejected<'_>> {
+        <Parts>::tls_validate_prefix(whole)
+    }
+
+    fn tls_width() -> Option<usize> {
+        <Parts>::tls_width()
     }
 }
 

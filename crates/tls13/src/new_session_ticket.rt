@@ -1,5 +1,5 @@
 //! [`NewSessionTicket`].
-ghost use Rattle.std.specs.Prelude.{◌≡◌, ◌&&◌};
+ghost use Rattle.std.specs.Prelude.{◌≡◌, ◌&&◌, ◌++◌};
 ghost use Rattle.tls13.specs.NewSessionTicket.{new_session_ticket_format, new_session_ticket_meets, new_session_ticket_plain};
 ghost use Rattle.tls13.specs.declared.new_session_ticket.NewSessionTicket.{NewSessionTicket};
 
@@ -10,6 +10,8 @@ use tls_codec::{
     TlsByteVecU8, TlsVec, Within,
 };
 use tls_codec_cases::append_as;
+use tls_codec_validate::{Rejected, Validate};
+use tls_codec_views::{Encoded, Parted};
 
 /// `NewSessionTicket` (RFC 8446, appendix B.3.4).
 #[derive(PartialEq, Eq, Debug, Clone, Drop)]
@@ -118,6 +120,57 @@ impl DeserializeBytes for NewSessionTicket {
             },
             rest,
         ))
+    }
+}
+
+impl Validate for NewSessionTicket {
+    ghost places = { ⟦<Parts as Validate>⟧.places };
+
+    fn tls_validate_prefix(whole: &[u8]) -> Result<&[u8], Rejected<'_>> {
+        <Parts>::tls_validate_prefix(whole)
+    }
+
+    fn tls_width() -> Option<usize> {
+        <Parts>::tls_width()
+    }
+}
+
+impl Parted for NewSessionTicket {
+    type Parts = Parts;
+
+    ghost as_parts = { λ bytes is. is };
+}
+
+/// The encoding of a [`NewSessionTicket`], by its fields.
+#[derive(Drop)]
+pub struct NewSessionTicketView<'a> {
+    /// `uint32 ticket_lifetime;`
+    pub ticket_lifetime: Encoded<'a, u32>,
+    /// `uint32 ticket_age_add;`
+    pub ticket_age_add: Encoded<'a, u32>,
+    /// `opaque ticket_nonce<0..2^8-1>;`
+    pub ticket_nonce: Encoded<'a, TlsByteVecU8>,
+    /// `opaque ticket<1..2^16-1>;`
+    pub ticket: Encoded<'a, TlsByteVec<Within<u16, 1, 65535>>>,
+    /// `Extension extensions<0..65534>;`
+    pub extensions: Encoded<'a, TlsVec<Within<u16, 0, 65534>, Extension>>,
+}
+
+impl<'a> From<Encoded<'a, NewSessionTicket>> for NewSessionTicketView<'a> {
+    ghost from_gives = { λ whole view. whole ≡ ((view.ticket_lifetime ++
+        (view.ticket_age_add ++ view.ticket_nonce)) ++ (view.ticket ++ view.extensions)) };
+
+    fn from(whole: Encoded<'a, NewSessionTicket>) -> NewSessionTicketView<'a> {
+        let (parts_0, parts_1) = whole.parts().split();
+        let (ticket_lifetime, ticket_age_add, ticket_nonce) = parts_0.split();
+        let (ticket, extensions) = parts_1.split();
+        NewSessionTicketView {
+            ticket_lifetime,
+            ticket_age_add,
+            ticket_nonce,
+            ticket,
+            extensions,
+        }
     }
 }
 

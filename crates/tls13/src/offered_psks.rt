@@ -1,5 +1,5 @@
 //! [`OfferedPsks`].
-ghost use Rattle.std.specs.Prelude.{◌≡◌, ◌&&◌};
+ghost use Rattle.std.specs.Prelude.{◌≡◌, ◌&&◌, ◌++◌};
 ghost use Rattle.tls13.specs.OfferedPsks.{offered_psks_format, offered_psks_meets, offered_psks_plain};
 ghost use Rattle.tls13.specs.declared.offered_psks.OfferedPsks.{OfferedPsks};
 
@@ -9,6 +9,8 @@ use tls_codec::{
     Deserialize, DeserializeBytes, Error, Lent, Serialize, Sink, Size, Source, TlsVec, Within,
 };
 use tls_codec_cases::append_as;
+use tls_codec_validate::{Rejected, Validate};
+use tls_codec_views::{Encoded, Parted};
 
 /// `OfferedPsks` (RFC 8446, appendix B.3.1).
 #[derive(PartialEq, Eq, Debug, Clone, Drop)]
@@ -70,6 +72,45 @@ impl DeserializeBytes for OfferedPsks {
             },
             rest,
         ))
+    }
+}
+
+impl Validate for OfferedPsks {
+    ghost places = { ⟦<Parts as Validate>⟧.places };
+
+    fn tls_validate_prefix(whole: &[u8]) -> Result<&[u8], Rejected<'_>> {
+        <Parts>::tls_validate_prefix(whole)
+    }
+
+    fn tls_width() -> Option<usize> {
+        <Parts>::tls_width()
+    }
+}
+
+impl Parted for OfferedPsks {
+    type Parts = Parts;
+
+    ghost as_parts = { λ bytes is. is };
+}
+
+/// The encoding of a [`OfferedPsks`], by its fields.
+#[derive(Drop)]
+pub struct OfferedPsksView<'a> {
+    /// `PskIdentity identities<7..2^16-1>;`
+    pub identities: Encoded<'a, TlsVec<Within<u16, 7, 65535>, PskIdentity>>,
+    /// `PskBinderEntry binders<33..2^16-1>;`
+    pub binders: Encoded<'a, TlsVec<Within<u16, 33, 65535>, PskBinderEntry>>,
+}
+
+impl<'a> From<Encoded<'a, OfferedPsks>> for OfferedPsksView<'a> {
+    ghost from_gives = { λ whole view. whole ≡ (view.identities ++ view.binders) };
+
+    fn from(whole: Encoded<'a, OfferedPsks>) -> OfferedPsksView<'a> {
+        let (identities, binders) = whole.parts().split();
+        OfferedPsksView {
+            identities,
+            binders,
+        }
     }
 }
 

@@ -1,5 +1,5 @@
 //! [`OIDFilter`].
-ghost use Rattle.std.specs.Prelude.{◌≡◌, ◌&&◌};
+ghost use Rattle.std.specs.Prelude.{◌≡◌, ◌&&◌, ◌++◌};
 ghost use Rattle.tls13.specs.OIDFilter.{oid_filter_format, oid_filter_meets, oid_filter_plain};
 ghost use Rattle.tls13.specs.declared.oid_filter.OIDFilter.{OIDFilter};
 
@@ -9,6 +9,8 @@ use tls_codec::{
     TlsByteVecU16, Within,
 };
 use tls_codec_cases::append_as;
+use tls_codec_validate::{Rejected, Validate};
+use tls_codec_views::{Encoded, Parted};
 
 /// `OIDFilter` (RFC 8446, appendix B.3.2).
 #[derive(PartialEq, Eq, Debug, Clone, Drop)]
@@ -85,6 +87,46 @@ impl DeserializeBytes for OIDFilter {
             },
             rest,
         ))
+    }
+}
+
+impl Validate for OIDFilter {
+    ghost places = { ⟦<Parts as Validate>⟧.places };
+
+    fn tls_validate_prefix(whole: &[u8]) -> Result<&[u8], Rejected<'_>> {
+        <Parts>::tls_validate_prefix(whole)
+    }
+
+    fn tls_width() -> Option<usize> {
+        <Parts>::tls_width()
+    }
+}
+
+impl Parted for OIDFilter {
+    type Parts = Parts;
+
+    ghost as_parts = { λ bytes is. is };
+}
+
+/// The encoding of a [`OIDFilter`], by its fields.
+#[derive(Drop)]
+pub struct OIDFilterView<'a> {
+    /// `opaque certificate_extension_oid<1..2^8-1>;`
+    pub certificate_extension_oid: Encoded<'a, TlsByteVec<Within<u8, 1, 255>>>,
+    /// `opaque certificate_extension_values<0..2^16-1>;`
+    pub certificate_extension_values: Encoded<'a, TlsByteVecU16>,
+}
+
+impl<'a> From<Encoded<'a, OIDFilter>> for OIDFilterView<'a> {
+    ghost from_gives = { λ whole view. whole ≡ (view.certificate_extension_oid ++
+        view.certificate_extension_values) };
+
+    fn from(whole: Encoded<'a, OIDFilter>) -> OIDFilterView<'a> {
+        let (certificate_extension_oid, certificate_extension_values) = whole.parts().split();
+        OIDFilterView {
+            certificate_extension_oid,
+            certificate_extension_values,
+        }
     }
 }
 

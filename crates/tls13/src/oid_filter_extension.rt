@@ -7,6 +7,7 @@ use crate::OIDFilter;
 use std::alloc::Global;
 use tls_codec::{Deserialize, DeserializeBytes, Error, Serialize, Sink, Size, Source, TlsVecU16};
 use tls_codec_cases::append_as;
+use tls_codec_validate::{Rejected, Validate};
 
 /// `OIDFilterExtension` (RFC 8446, appendix B.3.2).
 #[derive(PartialEq, Eq, Debug, Clone, Drop)]
@@ -55,6 +56,18 @@ impl DeserializeBytes for OIDFilterExtension {
     ) -> Result<(OIDFilterExtension, &[u8]), Error> {
         let (filters, rest) = <TlsVecU16<OIDFilter>>::tls_deserialize_bytes(alloc, whole)?;
         Ok((OIDFilterExtension { filters }, rest))
+    }
+}
+
+impl Validate for OIDFilterExtension {
+    ghost places = { ⟦<TlsVecU16<OIDFilter> as Validate>⟧.places };
+
+    fn tls_validate_prefix(whole: &[u8]) -> Result<&[u8], Rejected<'_>> {
+        <TlsVecU16<OIDFilter>>::tls_validate_prefix(whole)
+    }
+
+    fn tls_width() -> Option<usize> {
+        <TlsVecU16<OIDFilter>>::tls_width()
     }
 }
 

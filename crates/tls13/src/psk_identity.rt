@@ -1,5 +1,5 @@
 //! [`PskIdentity`].
-ghost use Rattle.std.specs.Prelude.{◌≡◌, ◌&&◌};
+ghost use Rattle.std.specs.Prelude.{◌≡◌, ◌&&◌, ◌++◌};
 ghost use Rattle.tls13.specs.PskIdentity.{psk_identity_format, psk_identity_meets, psk_identity_plain};
 ghost use Rattle.tls13.specs.declared.psk_identity.PskIdentity.{PskIdentity};
 
@@ -8,6 +8,8 @@ use tls_codec::{
     Deserialize, DeserializeBytes, Error, Lent, Serialize, Sink, Size, Source, TlsByteVec, Within,
 };
 use tls_codec_cases::append_as;
+use tls_codec_validate::{Rejected, Validate};
+use tls_codec_views::{Encoded, Parted};
 
 /// `PskIdentity` (RFC 8446, appendix B.3.1).
 #[derive(PartialEq, Eq, Debug, Clone, Drop)]
@@ -72,6 +74,45 @@ impl DeserializeBytes for PskIdentity {
             },
             rest,
         ))
+    }
+}
+
+impl Validate for PskIdentity {
+    ghost places = { ⟦<Parts as Validate>⟧.places };
+
+    fn tls_validate_prefix(whole: &[u8]) -> Result<&[u8], Rejected<'_>> {
+        <Parts>::tls_validate_prefix(whole)
+    }
+
+    fn tls_width() -> Option<usize> {
+        <Parts>::tls_width()
+    }
+}
+
+impl Parted for PskIdentity {
+    type Parts = Parts;
+
+    ghost as_parts = { λ bytes is. is };
+}
+
+/// The encoding of a [`PskIdentity`], by its fields.
+#[derive(Drop)]
+pub struct PskIdentityView<'a> {
+    /// `opaque identity<1..2^16-1>;`
+    pub identity: Encoded<'a, TlsByteVec<Within<u16, 1, 65535>>>,
+    /// `uint32 obfuscated_ticket_age;`
+    pub obfuscated_ticket_age: Encoded<'a, u32>,
+}
+
+impl<'a> From<Encoded<'a, PskIdentity>> for PskIdentityView<'a> {
+    ghost from_gives = { λ whole view. whole ≡ (view.identity ++ view.obfuscated_ticket_age) };
+
+    fn from(whole: Encoded<'a, PskIdentity>) -> PskIdentityView<'a> {
+        let (identity, obfuscated_ticket_age) = whole.parts().split();
+        PskIdentityView {
+            identity,
+            obfuscated_ticket_age,
+        }
     }
 }
 

@@ -8,6 +8,8 @@ ghost use Rattle.tls13.specs.declared.psk_key_exchange_mode.PskKeyExchangeMode.{
 use std::alloc::Global;
 use std::fmt;
 use tls_codec::{Deserialize, DeserializeBytes, Error, Serialize, Sink, Size, Source};
+use tls_codec_validate::{Rejected, Validate};
+use tls_codec_views::{Encoded, Parted, Told};
 
 /// `PskKeyExchangeMode` (RFC 8446, appendix B.3.1).
 #[derive(PartialEq, Eq, PartialOrd, Ord, Hash, Debug, Clone, Copy)]
@@ -22,8 +24,8 @@ impl PskKeyExchangeMode {
 
     /// Its name in the text, if it has one.
     pub fn name(&self) -> Option<&'static str>
-        ensures { option_map (λ t. t.now) result
-            ≡ listed_name psk_key_exchange_mode_names self.now.0 }
+        ensures { option_map (λ t. t.now) result ≡ listed_name psk_key_exchange_mode_names
+            self.now.0 }
     {
         match self.0 {
             0 => Some("psk_ke"),
@@ -108,6 +110,30 @@ impl DeserializeBytes for PskKeyExchangeMode {
     ) -> Result<(PskKeyExchangeMode, &[u8]), Error> {
         let (number, rest) = u8::tls_deserialize_bytes(alloc, whole)?;
         Ok((PskKeyExchangeMode(number), rest))
+    }
+}
+
+impl Validate for PskKeyExchangeMode {
+    ghost places = { ⟦<u8 as Validate>⟧.places };
+
+    fn tls_validate_prefix(whole: &[u8]) -> Result<&[u8], Rejected<'_>> {
+        u8::tls_validate_prefix(whole)
+    }
+
+    fn tls_width() -> Option<usize> {
+        u8::tls_width()
+    }
+}
+
+impl Parted for PskKeyExchangeMode {
+    type Parts = u8;
+
+    ghost as_parts = { λ bytes is. is };
+}
+
+impl Told for PskKeyExchangeMode {
+    fn told(encoded: &Encoded<'_, PskKeyExchangeMode>) -> PskKeyExchangeMode {
+        PskKeyExchangeMode(encoded.parts().get())
     }
 }
 

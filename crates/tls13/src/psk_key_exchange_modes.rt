@@ -9,6 +9,7 @@ use tls_codec::{
     Deserialize, DeserializeBytes, Error, Serialize, Sink, Size, Source, TlsVec, Within,
 };
 use tls_codec_cases::append_as;
+use tls_codec_validate::{Rejected, Validate};
 
 /// `PskKeyExchangeModes` (RFC 8446, appendix B.3.1).
 #[derive(PartialEq, Eq, Debug, Clone, Drop)]
@@ -62,6 +63,18 @@ impl DeserializeBytes for PskKeyExchangeModes {
     ) -> Result<(PskKeyExchangeModes, &[u8]), Error> {
         let (ke_modes, rest) = <Parts>::tls_deserialize_bytes(alloc, whole)?;
         Ok((PskKeyExchangeModes { ke_modes }, rest))
+    }
+}
+
+impl Validate for PskKeyExchangeModes {
+    ghost places = { ⟦<Parts as Validate>⟧.places };
+
+    fn tls_validate_prefix(whole: &[u8]) -> Result<&[u8], Rejected<'_>> {
+        <Parts>::tls_validate_prefix(whole)
+    }
+
+    fn tls_width() -> Option<usize> {
+        <Parts>::tls_width()
     }
 }
 

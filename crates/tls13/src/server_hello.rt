@@ -1,5 +1,5 @@
 //! [`ServerHello`].
-ghost use Rattle.std.specs.Prelude.{◌≡◌, ◌&&◌};
+ghost use Rattle.std.specs.Prelude.{◌≡◌, ◌&&◌, ◌++◌};
 ghost use Rattle.tls13.specs.ServerHello.{server_hello_format, server_hello_meets, server_hello_plain};
 ghost use Rattle.tls13.specs.declared.server_hello.ServerHello.{ServerHello};
 
@@ -10,6 +10,8 @@ use tls_codec::{
     Within,
 };
 use tls_codec_cases::append_as;
+use tls_codec_validate::{Rejected, Validate};
+use tls_codec_views::{Encoded, Parted};
 
 /// `ServerHello` (RFC 8446, appendix B.3.1).
 #[derive(PartialEq, Eq, Debug, Clone, Drop)]
@@ -137,6 +139,62 @@ impl DeserializeBytes for ServerHello {
             },
             rest,
         ))
+    }
+}
+
+impl Validate for ServerHello {
+    ghost places = { ⟦<Parts as Validate>⟧.places };
+
+    fn tls_validate_prefix(whole: &[u8]) -> Result<&[u8], Rejected<'_>> {
+        <Parts>::tls_validate_prefix(whole)
+    }
+
+    fn tls_width() -> Option<usize> {
+        <Parts>::tls_width()
+    }
+}
+
+impl Parted for ServerHello {
+    type Parts = Parts;
+
+    ghost as_parts = { λ bytes is. is };
+}
+
+/// The encoding of a [`ServerHello`], by its fields.
+#[derive(Drop)]
+pub struct ServerHelloView<'a> {
+    /// `ProtocolVersion legacy_version = 0x0303;`
+    /// TLS v1.2
+    pub legacy_version: Encoded<'a, ProtocolVersionX0303>,
+    /// `Random random;`
+    pub random: Encoded<'a, Random>,
+    /// `opaque legacy_session_id_echo<0..32>;`
+    pub legacy_session_id_echo: Encoded<'a, TlsByteVec<Within<u8, 0, 32>>>,
+    /// `CipherSuite cipher_suite;`
+    pub cipher_suite: Encoded<'a, CipherSuite>,
+    /// `uint8 legacy_compression_method = 0;`
+    pub legacy_compression_method: Encoded<'a, LegacyCompressionMethodX00>,
+    /// `Extension extensions<6..2^16-1>;`
+    pub extensions: Encoded<'a, TlsVec<Within<u16, 6, 65535>, Extension>>,
+}
+
+impl<'a> From<Encoded<'a, ServerHello>> for ServerHelloView<'a> {
+    ghost from_gives = { λ whole view. whole ≡ ((view.legacy_version ++
+        (view.random ++ view.legacy_session_id_echo)) ++
+        (view.cipher_suite ++ (view.legacy_compression_method ++ view.extensions))) };
+
+    fn from(whole: Encoded<'a, ServerHello>) -> ServerHelloView<'a> {
+        let (parts_0, parts_1) = whole.parts().split();
+        let (legacy_version, random, legacy_session_id_echo) = parts_0.split();
+        let (cipher_suite, legacy_compression_method, extensions) = parts_1.split();
+        ServerHelloView {
+            legacy_version,
+            random,
+            legacy_session_id_echo,
+            cipher_suite,
+            legacy_compression_method,
+            extensions,
+        }
     }
 }
 

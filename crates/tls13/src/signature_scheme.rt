@@ -8,6 +8,8 @@ ghost use Rattle.tls13.specs.declared.signature_scheme.SignatureScheme.{Signatur
 use std::alloc::Global;
 use std::fmt;
 use tls_codec::{Deserialize, DeserializeBytes, Error, Serialize, Sink, Size, Source};
+use tls_codec_validate::{Rejected, Validate};
+use tls_codec_views::{Encoded, Parted, Told};
 
 /// `SignatureScheme` (RFC 8446, appendix B.3.1.3).
 #[derive(PartialEq, Eq, PartialOrd, Ord, Hash, Debug, Clone, Copy)]
@@ -82,8 +84,7 @@ impl SignatureScheme {
 
     /// Its name in the text, if it has one.
     pub fn name(&self) -> Option<&'static str>
-        ensures { option_map (λ t. t.now) result
-            ≡ listed_name signature_scheme_names self.now.0 }
+        ensures { option_map (λ t. t.now) result ≡ listed_name signature_scheme_names self.now.0 }
     {
         match self.0 {
             1025 => Some("rsa_pkcs1_sha256"),
@@ -186,6 +187,30 @@ impl DeserializeBytes for SignatureScheme {
     ) -> Result<(SignatureScheme, &[u8]), Error> {
         let (number, rest) = u16::tls_deserialize_bytes(alloc, whole)?;
         Ok((SignatureScheme(number), rest))
+    }
+}
+
+impl Validate for SignatureScheme {
+    ghost places = { ⟦<u16 as Validate>⟧.places };
+
+    fn tls_validate_prefix(whole: &[u8]) -> Result<&[u8], Rejected<'_>> {
+        u16::tls_validate_prefix(whole)
+    }
+
+    fn tls_width() -> Option<usize> {
+        u16::tls_width()
+    }
+}
+
+impl Parted for SignatureScheme {
+    type Parts = u16;
+
+    ghost as_parts = { λ bytes is. is };
+}
+
+impl Told for SignatureScheme {
+    fn told(encoded: &Encoded<'_, SignatureScheme>) -> SignatureScheme {
+        SignatureScheme(encoded.parts().get())
     }
 }
 

@@ -9,6 +9,7 @@ use tls_codec::{
     Deserialize, DeserializeBytes, Error, Serialize, Sink, Size, Source, TlsVec, Within,
 };
 use tls_codec_cases::append_as;
+use tls_codec_validate::{Rejected, Validate};
 
 /// `SignatureSchemeList` (RFC 8446, appendix B.3.1.3).
 #[derive(PartialEq, Eq, Debug, Clone, Drop)]
@@ -69,6 +70,18 @@ impl DeserializeBytes for SignatureSchemeList {
             },
             rest,
         ))
+    }
+}
+
+impl Validate for SignatureSchemeList {
+    ghost places = { ⟦<Parts as Validate>⟧.places };
+
+    fn tls_validate_prefix(whole: &[u8]) -> Result<&[u8], Rejected<'_>> {
+        <Parts>::tls_validate_prefix(whole)
+    }
+
+    fn tls_width() -> Option<usize> {
+        <Parts>::tls_width()
     }
 }
 

@@ -10,6 +10,7 @@ use tls_codec::{
     Within,
 };
 use tls_codec_cases::{Case, Chosen, Or, append_as_for, write_as_for};
+use tls_codec_validate::{Rejected, ValidateFor};
 
 /// `select (msg_type)` of `SupportedVersions` (RFC 8446, appendix B.3.1.1): no byte of it
 /// tells the tag.
@@ -113,6 +114,14 @@ impl DeserializeBytesFor<HandshakeType> for SupportedVersions {
     ) -> Result<(SupportedVersions, &'a [u8]), Error> {
         let (cases, rest) = <Cases>::tls_deserialize_bytes_for(msg_type, alloc, whole)?;
         Ok((SupportedVersions::of(cases), rest))
+    }
+}
+
+impl ValidateFor<HandshakeType> for SupportedVersions {
+    ghost places = { ⟦<Cases as ValidateFor<HandshakeType>>⟧.places };
+
+    fn tls_validate_prefix_for<'a>(key: &u64, whole: &'a [u8]) -> Result<&'a [u8], Rejected<'a>> {
+        <Cases as ValidateFor<HandshakeType>>::tls_validate_prefix_for(key, whole)
     }
 }
 

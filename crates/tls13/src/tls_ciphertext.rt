@@ -1,5 +1,5 @@
 //! [`TLSCiphertext`].
-ghost use Rattle.std.specs.Prelude.{◌≡◌, ◌&&◌};
+ghost use Rattle.std.specs.Prelude.{◌≡◌, ◌&&◌, ◌++◌};
 ghost use Rattle.tls13.specs.TLSCiphertext.{tls_ciphertext_format, tls_ciphertext_meets, tls_ciphertext_plain};
 ghost use Rattle.tls13.specs.declared.tls_ciphertext.TLSCiphertext.{TLSCiphertext};
 
@@ -9,6 +9,8 @@ use tls_codec::{
     Deserialize, DeserializeBytes, Error, Lent, Serialize, Sink, Size, Source, TlsByteVecU16,
 };
 use tls_codec_cases::append_as;
+use tls_codec_validate::{Rejected, Validate};
+use tls_codec_views::{Encoded, Parted};
 
 /// `TLSCiphertext` (RFC 8446, appendix B.1).
 #[derive(PartialEq, Eq, Debug, Clone, Drop)]
@@ -98,6 +100,51 @@ impl DeserializeBytes for TLSCiphertext {
             },
             rest,
         ))
+    }
+}
+
+impl Validate for TLSCiphertext {
+    ghost places = { ⟦<Parts as Validate>⟧.places };
+
+    fn tls_validate_prefix(whole: &[u8]) -> Result<&[u8], Rejected<'_>> {
+        <Parts>::tls_validate_prefix(whole)
+    }
+
+    fn tls_width() -> Option<usize> {
+        <Parts>::tls_width()
+    }
+}
+
+impl Parted for TLSCiphertext {
+    type Parts = Parts;
+
+    ghost as_parts = { λ bytes is. is };
+}
+
+/// The encoding of a [`TLSCiphertext`], by its fields.
+#[derive(Drop)]
+pub struct TLSCiphertextView<'a> {
+    /// `ContentType opaque_type = application_data;`
+    /// 23
+    pub opaque_type: Encoded<'a, ContentTypeApplicationData>,
+    /// `ProtocolVersion legacy_record_version = 0x0303;`
+    /// TLS v1.2
+    pub legacy_record_version: Encoded<'a, ProtocolVersionX0303>,
+    /// `opaque encrypted_record[TLSCiphertext.length];`
+    pub encrypted_record: Encoded<'a, TlsByteVecU16>,
+}
+
+impl<'a> From<Encoded<'a, TLSCiphertext>> for TLSCiphertextView<'a> {
+    ghost from_gives = { λ whole view. whole ≡ (view.opaque_type ++
+        (view.legacy_record_version ++ view.encrypted_record)) };
+
+    fn from(whole: Encoded<'a, TLSCiphertext>) -> TLSCiphertextView<'a> {
+        let (opaque_type, legacy_record_version, encrypted_record) = whole.parts().split();
+        TLSCiphertextView {
+            opaque_type,
+            legacy_record_version,
+            encrypted_record,
+        }
     }
 }
 

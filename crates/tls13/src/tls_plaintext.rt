@@ -1,5 +1,5 @@
 //! [`TLSPlaintext`].
-ghost use Rattle.std.specs.Prelude.{◌≡◌, ◌&&◌};
+ghost use Rattle.std.specs.Prelude.{◌≡◌, ◌&&◌, ◌++◌};
 ghost use Rattle.tls13.specs.TLSPlaintext.{tls_plaintext_format, tls_plaintext_meets, tls_plaintext_plain};
 ghost use Rattle.tls13.specs.declared.tls_plaintext.TLSPlaintext.{TLSPlaintext};
 
@@ -9,6 +9,8 @@ use tls_codec::{
     Deserialize, DeserializeBytes, Error, Lent, Serialize, Sink, Size, Source, TlsByteVecU16,
 };
 use tls_codec_cases::append_as;
+use tls_codec_validate::{Rejected, Validate};
+use tls_codec_views::{Encoded, Parted};
 
 /// `TLSPlaintext` (RFC 8446, appendix B.1).
 #[derive(PartialEq, Eq, Debug, Clone, Drop)]
@@ -91,6 +93,49 @@ impl DeserializeBytes for TLSPlaintext {
             },
             rest,
         ))
+    }
+}
+
+impl Validate for TLSPlaintext {
+    ghost places = { ⟦<Parts as Validate>⟧.places };
+
+    fn tls_validate_prefix(whole: &[u8]) -> Result<&[u8], Rejected<'_>> {
+        <Parts>::tls_validate_prefix(whole)
+    }
+
+    fn tls_width() -> Option<usize> {
+        <Parts>::tls_width()
+    }
+}
+
+impl Parted for TLSPlaintext {
+    type Parts = Parts;
+
+    ghost as_parts = { λ bytes is. is };
+}
+
+/// The encoding of a [`TLSPlaintext`], by its fields.
+#[derive(Drop)]
+pub struct TLSPlaintextView<'a> {
+    /// `ContentType type;`
+    pub kind: Encoded<'a, ContentType>,
+    /// `ProtocolVersion legacy_record_version;`
+    pub legacy_record_version: Encoded<'a, ProtocolVersion>,
+    /// `opaque fragment[TLSPlaintext.length];`
+    pub fragment: Encoded<'a, TlsByteVecU16>,
+}
+
+impl<'a> From<Encoded<'a, TLSPlaintext>> for TLSPlaintextView<'a> {
+    ghost from_gives = { λ whole view. whole ≡ (view.kind ++
+        (view.legacy_record_version ++ view.fragment)) };
+
+    fn from(whole: Encoded<'a, TLSPlaintext>) -> TLSPlaintextView<'a> {
+        let (kind, legacy_record_version, fragment) = whole.parts().split();
+        TLSPlaintextView {
+            kind,
+            legacy_record_version,
+            fragment,
+        }
     }
 }
 

@@ -14,12 +14,13 @@ paths_in files = map path_of files
 
 -- ---- of a message
 
--- a lent message has no decoders
+-- a lent message has no decoders, and is not validated
 abbrev pub decoders_unless : Bool → Message → List Path
 decoders_unless true m = []
 decoders_unless false m =
     answers_path m (codes "Deserialize") (codes "tls_deserialize")
     ∷ answers_path m (codes "DeserializeBytes") (codes "tls_deserialize_bytes")
+    ∷ answers_path m (codes "Validate") (codes "tls_validate_prefix")
     ∷ []
 
 abbrev pub answers_paths : Message → List Path

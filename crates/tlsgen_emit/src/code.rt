@@ -4,7 +4,7 @@ use crate::docs::doc;
 use crate::forms::Form;
 use crate::template::Holes;
 use crate::types::{Names, Words};
-use crate::{breaks, imports};
+use crate::{breaks, imports, views};
 use std::alloc::{AllocError, Global};
 use std::collections::BTreeSet;
 use tlsgen_model::plan::{Alias, Plan};
@@ -46,8 +46,9 @@ fn uses_by_path<'a>(
 ) -> Result<Vec<(&'a str, bool, String)>, AllocError> {
     let mut uses = Vec::new(alloc);
     for message in &plan.messages {
-        let name = vec![in alloc; message.name.as_str()]?;
-        push_use(alloc, &mut uses, message.module.as_str(), true, name)?;
+        let view = views::name_of(alloc, names, message)?;
+        let types = types_in(alloc, message.name.as_str(), view.as_ref())?;
+        push_use(alloc, &mut uses, message.module.as_str(), true, types)?;
     }
     push_use(alloc, &mut uses, "names", true, aliases_of(alloc, plan)?)?;
     for (home, other) in names.crates.iter().enumerate() {
@@ -61,6 +62,19 @@ fn uses_by_path<'a>(
     }
     uses.sort()?;
     Ok(uses)
+}
+
+// What the module of a message has by name: the message, and its view if there is one.
+fn types_in<'b>(
+    alloc: Global,
+    name: &'b str,
+    view: Option<&'b String>,
+) -> Result<Vec<&'b str>, AllocError> {
+    let mut types = vec![in alloc; name]?;
+    if let Some(view) = view {
+        types.push(view.as_str())?;
+    }
+    Ok(types)
 }
 
 // Adds what a module or a crate has by name, if it has anything.
@@ -161,13 +175,14 @@ pub fn module(alloc: Global, names: &Names<'_>, form: &Form<'_>) -> Result<Strin
     Ok(out)
 }
 
-// The code, its decoders if it has any, what it holds, and the law.
+// The code, its decoders and what validates it if it has any, what it holds, and the law.
 fn body(alloc: Global, form: &Form<'_>) -> Result<String, AllocError> {
     let templates = form.kind.templates();
-    let decoders = if form.is_lent { "" } else { templates.decoders };
     let mut body = String::new(alloc);
-    for template in [templates.code, decoders] {
-        form.holes.push(alloc, &mut body, template)?;
+    form.holes.push(alloc, &mut body, templates.code)?;
+    if !form.is_lent {
+        form.holes.push(alloc, &mut body, templates.decoders)?;
+        form.holes.push(alloc, &mut body, templates.validator)?;
     }
     body.push_str(form.held.code.as_str())?;
     form.holes.push(alloc, &mut body, templates.law)?;

@@ -16,9 +16,9 @@ use crate::templates::{
 use crate::types::{Names, length_field};
 use crate::uses::Uses;
 use crate::vocabulary::{
-    CASES_OF_ROW, CASES_OF_SELECT, CASES_OF_STRUCT, CASES_OF_SUM, CASES_OF_THEN, HOLDS, SELECTOR,
+    CASES_OF_ROW, CASES_OF_SELECT, CASES_OF_STRUCT, CASES_OF_SUM, CASES_OF_THEN, HOLDS,
 };
-use crate::{contexts, lines, sums, tags, thens, wholes};
+use crate::{contexts, lines, sums, tags, thens, views, wholes};
 use std::alloc::{AllocError, Global};
 use tlsgen_model::plan::{Body, Member, Message, Variant};
 
@@ -160,8 +160,7 @@ impl<'a> Form<'a> {
         }
         match &message.body {
             Body::Fields(members) => {
-                let is_in_context = message.context.is_some();
-                self.set_fields(alloc, names, is_in_context, members)?;
+                self.set_fields(alloc, names, message, members)?;
                 let uses = &mut self.uses;
                 wholes::set(alloc, names, &mut self.holes, uses, message, members)?;
             }
@@ -198,7 +197,7 @@ impl<'a> Form<'a> {
         &mut self,
         alloc: Global,
         names: &Names<'a>,
-        is_in_context: bool,
+        message: &'a Message,
         members: &'a [Member],
     ) -> Result<(), AllocError>
         ensures { self.new.kind ≡ self.old.kind }
@@ -208,10 +207,12 @@ impl<'a> Form<'a> {
             let (is_lent, uses) = (self.is_lent, &mut self.uses);
             return thens::set(alloc, names, &mut self.holes, uses, is_lent, members);
         }
+        let is_in_context = message.context.is_some();
         let (of, uses) = (Owner::of_struct(is_in_context), &mut self.uses);
         let row = Row::of(alloc, names, of, self.is_lent, members, uses)?;
         row.set(alloc, &mut self.holes)?;
         self.set_read(alloc, members.len())?;
+        views::set(alloc, names, &mut self.holes, &row, message)?;
         if !is_in_context {
             return add_names(&mut self.cases, &CASES_OF_ROW);
         }
@@ -287,12 +288,10 @@ impl<'a> Form<'a> {
         if !names.is_context(message.name.as_str()) {
             return self.holes.set_each(alloc, &selectors::NONE);
         }
-        add_names(&mut self.cases, &SELECTOR)?;
-        let texts = match self.kind {
-            Kind::Open => &selectors::OPEN,
-            _ => &selectors::CLOSED,
-        };
-        self.holes.set_each(alloc, texts)
+        match self.kind {
+            Kind::Open => self.holes.set_each(alloc, &selectors::OPEN),
+            _ => self.holes.set_each(alloc, &selectors::CLOSED),
+        }
     }
 
     // Sets the holes of a sum's cases, in a length of so many bytes if there is one.
@@ -346,13 +345,13 @@ impl<'a> Form<'a> {
         ensures { self.new.kind ≡ self.old.kind }
     {
         let nothing = if has_bare(&self.parts) {
-            choices::NOTHING
+            &choices::NOTHING
         } else {
-            ""
+            &choices::SOMETHING
         };
+        self.holes.set_each(alloc, nothing)?;
         let names_use = if self.is_lent { "" } else { choices::NAMES_USE };
-        self.holes
-            .set_each(alloc, &[("nothing", nothing), ("names_use", names_use)])
+        self.holes.set_each(alloc, &[("names_use", names_use)])
     }
 }
 

@@ -7,7 +7,7 @@ use crate::template::Holes;
 use crate::templates::holds as templates;
 use crate::types::{Names, par};
 use crate::uses::Uses;
-use crate::{contexts, tags, thens};
+use crate::{contexts, keys, tags, thens};
 use std::alloc::{AllocError, Global};
 use tlsgen_model::plan::{Body, CaseTag, Holder, Member, Message};
 
@@ -45,6 +45,7 @@ impl Held {
             let holes = holes_of(alloc, names, message, uses, holder)?;
             held.push(alloc, &holes)?;
         }
+        keys::push(alloc, names, message, holders.as_slice(), uses, &mut held)?;
         Ok(held)
     }
 

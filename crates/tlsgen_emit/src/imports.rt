@@ -3,7 +3,7 @@
 use crate::types::Names;
 use crate::vocabulary::{
     CASES_OF_FIELDS, CHOSEN, CLAUSES, CONTENTS, ENCLOSED, EXACTLY, HELD, LAWS, LEMMAS, NAMES,
-    PRELUDE, SUMS, WORDS,
+    PLACING, PRELUDE, SUMS, VALIDATING, VALIDATION, VIEWING, WORDS,
 };
 use std::alloc::{AllocError, Global};
 use std::collections::BTreeSet;
@@ -121,6 +121,14 @@ pub fn push_answers(alloc: Global, out: &mut String, text: &str) -> Result<(), A
         ),
         ("Rattle.tls_codec.specs.OwnMessages", LAWS.as_slice()),
         ("Rattle.tls_codec.proofs.OwnMessages", LEMMAS.as_slice()),
+        (
+            "Rattle.tls_codec_validate.proofs.Tagging",
+            PLACING.as_slice(),
+        ),
+        (
+            "Rattle.tls_codec_validate.proofs.Validating",
+            VALIDATING.as_slice(),
+        ),
     ];
     push_uses(alloc, out, text, &brought)
 }
@@ -178,6 +186,16 @@ pub fn code(
         alloc,
         "tls_codec_cases",
         text.cases(alloc, cases)?.as_slice(),
+    )?;
+    lines.add(
+        alloc,
+        "tls_codec_validate",
+        text.used(alloc, &VALIDATION)?.as_slice(),
+    )?;
+    lines.add(
+        alloc,
+        "tls_codec_views",
+        text.used(alloc, &VIEWING)?.as_slice(),
     )?;
     lines.into_text(alloc)
 }

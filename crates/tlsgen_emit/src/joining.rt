@@ -7,6 +7,8 @@ use std::alloc::{AllocError, Global};
 pub enum Join {
     /// `(a, b)`, and `a` alone.
     Tuple,
+    /// `(a ++ (b ++ c))`, and `a` alone.
+    Bytes,
     /// `pair_format a b`.
     Words(&'static Rows),
 }
@@ -44,9 +46,16 @@ impl Join {
     /// One text for all. Words have `gap` before each part.
     pub fn joined(self, alloc: Global, texts: &[String], gap: &str) -> Result<String, AllocError> {
         match (self, texts) {
-            (Join::Tuple, [only]) => only.clone(),
+            (Join::Tuple | Join::Bytes, [only]) => only.clone(),
             (Join::Tuple, _) => {
                 let inside = texts.join(alloc, ", ")?;
+                format!(in alloc; "({inside})")
+            }
+            (Join::Bytes, [first, second, third]) => {
+                format!(in alloc; "({first}{gap}++ ({second}{gap}++ {third}))")
+            }
+            (Join::Bytes, _) => {
+                let inside = texts.join(alloc, format!(in alloc; "{gap}++ ")?.as_str())?;
                 format!(in alloc; "({inside})")
             }
             (Join::Words(rows), _) => rows.joined(alloc, texts, gap),

@@ -6,8 +6,8 @@
 //!   lines of imports a text needs, by the `vocabulary`; `docs`: doc comments; `breaks`: where long lines are broken.
 //! - `forms`: a message as what stands for the holes of its templates; `template` and `lines` fill these. `parts`: its values
 //!   or cases; `contents`: what cases are made of; `tags`: the tag in front of them; `sums`: cases that nest. `contexts`: what
-//!   decides its parts; `thens`: fields on tags before them; `holds`: tags of others in it; `wholes`: a lent struct of
-//!   another's fields. `uses`: the names that it brings in.
+//!   decides its parts; `thens`: fields on tags before them; `holds` and `keys`: tags of others in it; `wholes`: a lent struct of
+//!   another's fields; `views`: a struct's encoding by its fields. `uses`: the names that it brings in.
 //! - `types`: what stands for a type of the plan; `index`: messages by their names. `rows`, `fields`, `owners`, `nesting` and
 //!   `joining`: fields in a row, as tuples that nest.
 #![tactic(auto)]
@@ -24,6 +24,7 @@ mod holds;
 mod imports;
 mod index;
 mod joining;
+mod keys;
 mod lines;
 mod nesting;
 mod owners;
@@ -40,5 +41,6 @@ mod templates;
 mod thens;
 mod types;
 mod uses;
+mod views;
 mod vocabulary;
 mod wholes;

@@ -187,15 +187,20 @@ fn numbered(alloc: Global, letter: &str, count: usize) -> Result<String, AllocEr
 }
 
 // What the call for a case's fields ensures. A field that is alone is a part of the case, by a lemma.
-static SAID: [(&str, &str); 5] = [
+static SAID: [(&str, &str); 7] = [
     ("leaves", "c.in_err-$first$-in-$number$.ensures.reads"),
     ("named", "c.in_err-$first$-in-$number$.ensures.named"),
     ("given", "c.in_ok-$first$-in-$number$.ensures.reads"),
     ("refuses", "c.in_err-$first$-in-$number$.ensures.splits"),
     ("begins", "c.in_ok-$first$-in-$number$.ensures.splits"),
+    ("rejects", "c.in_err-behind-in-$number$.ensures.validates"),
+    (
+        "left_behind",
+        "c.in_ok-behind-in-$number$.ensures.validates.begins",
+    ),
 ];
 
-static SAID_OF_ONE: [(&str, &str); 5] = [
+static SAID_OF_ONE: [(&str, &str); 7] = [
     (
         "leaves",
         "(part_leaves c.in_err-$first$-in-$number$.ensures.reads)",
@@ -215,5 +220,13 @@ static SAID_OF_ONE: [(&str, &str); 5] = [
     (
         "begins",
         "(part_begins c.in_ok-$first$-in-$number$.ensures.splits)",
+    ),
+    (
+        "rejects",
+        "(part_rejects c.in_err-behind-in-$number$.ensures.validates)",
+    ),
+    (
+        "left_behind",
+        "(part_begins c.in_ok-behind-in-$number$.ensures.validates.begins)",
     ),
 ];

@@ -1,4 +1,4 @@
-//! The answers of a crate: four files for each enum that isn't open, two if it is lent.
+//! The answers of a crate: five files for each enum that isn't open, two if it is lent.
 ghost use Rattle.std.specs.Prelude.{◌≡◌, ◌++◌, ◌∷◌, [], OnOk};
 ghost use Rattle.tlsgen_model.specs.Answered.{function_of, trait_of};
 ghost use Rattle.tlsgen_model.specs.Paths.{answers_path};
@@ -32,6 +32,7 @@ pub fn push_files(
     }
     push_answers(alloc, files, message, form, Answered::Reads)?;
     push_answers(alloc, files, message, form, Answered::Splits)?;
+    push_answers(alloc, files, message, form, Answered::Validates)?;
     Ok(())
 }
 
@@ -76,10 +77,12 @@ fn answers(alloc: Global, form: &Form<'_>, function: Answered) -> Result<String,
         (Kind::Values, Answered::Appends) => &values::APPENDS,
         (Kind::Values, Answered::Reads) => &values::READS,
         (Kind::Values, Answered::Splits) => &values::SPLITS,
+        (Kind::Values, Answered::Validates) => &values::VALIDATES,
         (_, Answered::Writes) => &choices_answers::WRITES,
         (_, Answered::Appends) => &choices_answers::APPENDS,
         (_, Answered::Reads) => &choices_answers::READS,
         (_, Answered::Splits) => &choices_answers::SPLITS,
+        (_, Answered::Validates) => &choices_answers::VALIDATES,
     };
     lines.filled(alloc, &form.holes, form.parts.as_slice())
 }

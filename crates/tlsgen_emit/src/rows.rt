@@ -6,12 +6,13 @@ use crate::joining::{FORMATS, Join, LAWS, Rows, TREES, grouped};
 use crate::nesting::Nesting;
 use crate::owners::Owner;
 use crate::template::Holes;
+use crate::templates::keys::{WITH_KEY, WITHOUT_KEY};
 use crate::types::{Names, par};
 use crate::uses::Uses;
-use crate::{contexts, present};
+use crate::{contexts, present, views};
 use std::alloc::{AllocError, Global};
 use tlsgen_model::lent::runs_of;
-use tlsgen_model::plan::Member;
+use tlsgen_model::plan::{Holder, Member};
 
 /// The fields of a struct or of a variant.
 #[derive(Drop)]
@@ -72,6 +73,20 @@ impl Row {
             "lent_types",
             Join::Tuple.joined(alloc, groups.as_slice(), " ")?,
         )
+    }
+
+    /// Sets the holes `keyed_part` and `keyed_name` of each field: its type and its name if it has one of these tags.
+    pub fn set_keys(&mut self, alloc: Global, holders: &[&Holder]) -> Result<(), AllocError> {
+        for field in self.fields.iter_mut() {
+            let name = field.holes.filled(alloc, "$name$")?;
+            let is_kept = holders.iter().any(|one| one
+                .member
+                .as_ref()
+                .is_some_and(|member| *member == name));
+            let texts = if is_kept { &WITH_KEY } else { &WITHOUT_KEY };
+            field.holes.set_each(alloc, texts)?;
+        }
+        Ok(())
     }
 
     /// Sets the holes `giver_own` and `giver_rust`: a reference to the first field, and what that refers to.
@@ -217,6 +232,16 @@ impl Row {
         let counts = self.nesting.counts.as_slice();
         let groups = grouped(alloc, parts.as_slice(), counts, join)?;
         join.joined(alloc, groups.as_slice(), gap)
+    }
+
+    /// A text for each field, one after another.
+    pub fn listed(&self, alloc: Global, template: &str) -> Result<String, AllocError> {
+        listed(alloc, self.fields.as_slice(), template, "")
+    }
+
+    /// The lines that take the encoding of the tuple apart.
+    pub fn splits(&self, alloc: Global) -> Result<String, AllocError> {
+        views::splits(alloc, self.each(alloc, "$name$")?.as_slice(), &self.nesting)
     }
 
     // A text for each part.

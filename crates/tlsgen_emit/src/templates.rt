@@ -4,6 +4,7 @@ pub mod choices;
 pub mod choices_answers;
 pub mod contents;
 pub mod holds;
+pub mod keys;
 pub mod opens;
 pub mod selectors;
 pub mod shows;
@@ -14,6 +15,7 @@ pub mod sums;
 pub mod tags;
 pub mod types;
 pub mod values;
+pub mod views;
 pub mod wholes;
 
 use crate::lines::Lines;
@@ -27,6 +29,8 @@ pub struct Templates {
     pub code: &'static str,
     /// The decoders of one that isn't lent, where a lent one has none.
     pub decoders: &'static str,
+    /// What tells its bytes from others, of one that isn't lent.
+    pub validator: &'static str,
     pub law: &'static str,
     /// What it stands for, its format and its law.
     pub specs: &'static str,

@@ -100,6 +100,12 @@ impl<'a> Names<'a> {
         Ok(names)
     }
 
+    /// Whether a message, another name of a type, or a type of another crate has this name.
+    pub fn has(&self, name: &str) -> bool {
+        let is_type = self.index.messages.contains_key(name);
+        is_type || self.index.others.contains_key(name) || self.aliases.contains_key(name)
+    }
+
     // Adds the other names of types, first those of other crates.
     fn add_aliases(&mut self, alloc: Global, plan: &'a Plan) -> Result<(), AllocError> {
         for other in &plan.others {

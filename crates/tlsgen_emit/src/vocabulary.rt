@@ -17,9 +17,10 @@ pub static PRELUDE: [&str; 12] = [
 ];
 
 /// What the clauses of code take of std.
-pub static CLAUSES: [&str; 10] = [
+pub static CLAUSES: [&str; 11] = [
     "◌≡◌",
     "◌&&◌",
+    "◌++◌",
     "IsTrue",
     "MatchOption",
     "MatchResult",
@@ -192,8 +193,8 @@ pub static HELD: [&str; 4] = ["first_of", "second_of", "third_of", "rest_of"];
 /// What code takes of them for a type of a field, whichever message has it.
 pub static CASES_OF_FIELDS: [&str; 1] = ["Exactly"];
 
-/// What code takes of them: a struct, a sum behind a tag, one in a context, a struct in a context, a context, a struct
-/// with fields on a tag before them, and what holds a tag.
+/// What code takes of them: a struct, a sum behind a tag, one in a context, a struct in a context, a struct with
+/// fields on a tag before them, and what is a tag or holds one.
 pub static CASES_OF_ROW: [&str; 1] = ["append_as"];
 
 pub static CASES_OF_SUM: [&str; 6] = ["Case", "Enclosed", "Or", "Tagged", "append_as", "write_as"];
@@ -202,8 +203,43 @@ pub static CASES_OF_SELECT: [&str; 5] = ["Case", "Chosen", "Or", "append_as_for"
 
 pub static CASES_OF_STRUCT: [&str; 4] = ["AnyOf", "Is", "append_as_for", "write_as_for"];
 
-pub static SELECTOR: [&str; 1] = ["Selector"];
-
 pub static CASES_OF_THEN: [&str; 5] = ["AnyOf", "By", "Is", "append_as", "write_as"];
 
-pub static HOLDS: [&str; 1] = ["Holds"];
+pub static HOLDS: [&str; 2] = ["Holds", "Selector"];
+
+/// What code takes of validation.
+pub static VALIDATION: [&str; 15] = [
+    "FindTag",
+    "HoldsKey",
+    "Keyed",
+    "Keyless",
+    "Rejected",
+    "TagFirst",
+    "TagKeyed",
+    "Validate",
+    "ValidateFor",
+    "ValidateKeyed",
+    "split_u8",
+    "split_u16",
+    "split_u32",
+    "split_u64",
+    "validate_tag_first",
+];
+
+/// What code takes of views.
+pub static VIEWING: [&str; 3] = ["Encoded", "Parted", "Told"];
+
+/// The lemmas of validation that answers cite.
+pub static PLACING: [&str; 9] = [
+    "nothing_begins",
+    "part_rejects",
+    "parts_leave",
+    "parts_placed",
+    "parts_rejected",
+    "tag_placed",
+    "tag_rejected",
+    "unknown_placed",
+    "unknown_rejected",
+];
+
+pub static VALIDATING: [&str; 1] = ["leaves"];

@@ -21,6 +21,7 @@ pub enum Answered {
     Appends,
     Reads,
     Splits,
+    Validates,
 }
 
 impl Answered {
@@ -32,6 +33,7 @@ impl Answered {
             Answered::Writes | Answered::Appends => "Serialize",
             Answered::Reads => "Deserialize",
             Answered::Splits => "DeserializeBytes",
+            Answered::Validates => "Validate",
         }
     }
 
@@ -44,6 +46,7 @@ impl Answered {
             Answered::Appends => "tls_serialize_into",
             Answered::Reads => "tls_deserialize",
             Answered::Splits => "tls_deserialize_bytes",
+            Answered::Validates => "tls_validate_prefix",
         }
     }
 }

@@ -38,10 +38,18 @@ static RUST: [&str; 57] = [
     "ensures", "result", "str",
 ];
 
-static CRATES: [&str; 5] = ["alloc", "core", "std", "tls_codec", "tls_codec_cases"];
+static CRATES: [&str; 7] = [
+    "alloc",
+    "core",
+    "std",
+    "tls_codec",
+    "tls_codec_cases",
+    "tls_codec_validate",
+    "tls_codec_views",
+];
 
 // What antt reserves, its tactics, and the words of `OwnMessages`, of `Contents` and of the cases.
-static DEFINITIONS: [&str; 108] = [
+static DEFINITIONS: [&str; 118] = [
     "abbrev",
     "alone_appends",
     "alone_writes",
@@ -150,15 +158,25 @@ static DEFINITIONS: [&str; 108] = [
     "variant_meets",
     "u8",
     "tt",
+    "nothing_begins",
+    "part_rejects",
+    "parts_leave",
+    "parts_placed",
+    "parts_rejected",
+    "tag_placed",
+    "tag_rejected",
+    "unknown_placed",
+    "unknown_rejected",
+    "value_leaves",
 ];
 
 // What the decoders and the encoders call their own.
-static VARIABLES: [&str; 18] = [
-    "alloc", "cases", "code", "now", "old", "new", "of", "out", "parts", "parts_0", "parts_1",
-    "parts_2", "rest", "src", "tag", "unknown", "whole", "writer",
+static VARIABLES: [&str; 21] = [
+    "alloc", "cases", "code", "now", "old", "new", "of", "out", "part_0", "part_1", "part_2",
+    "parts", "parts_0", "parts_1", "parts_2", "rest", "src", "tag", "unknown", "whole", "writer",
 ];
 
-static MODULES: [&str; 9] = [
+static MODULES: [&str; 11] = [
     "core",
     "lib",
     "main",
@@ -168,9 +186,11 @@ static MODULES: [&str; 9] = [
     "std",
     "tls_codec",
     "tls_codec_cases",
+    "tls_codec_validate",
+    "tls_codec_views",
 ];
 
-static TYPES: [&str; 109] = [
+static TYPES: [&str; 123] = [
     "Abort",
     "AllocError",
     "AllocFailed",
@@ -191,11 +211,13 @@ static TYPES: [&str; 109] = [
     "Display",
     "Drop",
     "Enclosed",
+    "Encoded",
     "Eq",
     "Err",
     "Error",
     "Exactly",
     "Fail",
+    "FindTag",
     "Fn",
     "FnMut",
     "FnOnce",
@@ -203,11 +225,15 @@ static TYPES: [&str; 109] = [
     "Global",
     "Hash",
     "Holds",
+    "HoldsKey",
     "HostRuntime",
     "Into",
     "IntoIterator",
     "IsTrue",
     "Iterator",
+    "Keyed",
+    "KeyedParts",
+    "Keyless",
     "LengthField",
     "Lent",
     "Lent2",
@@ -229,6 +255,7 @@ static TYPES: [&str; 109] = [
     "Option",
     "Or",
     "Ord",
+    "Parted",
     "PartialEq",
     "PartialOrd",
     "Parts",
@@ -236,11 +263,12 @@ static TYPES: [&str; 109] = [
     "Print",
     "Range",
     "Rattle",
+    "Rejected",
     "Result",
-    "SecretTlsByteVecU8",
     "SecretTlsByteVecU16",
     "SecretTlsByteVecU24",
     "SecretTlsByteVecU32",
+    "SecretTlsByteVecU8",
     "SecretVLBytes",
     "Selector",
     "Self",
@@ -255,6 +283,8 @@ static TYPES: [&str; 109] = [
     "Source",
     "String",
     "Sync",
+    "TagFirst",
+    "TagKeyed",
     "Tagged",
     "TheConstants",
     "TheVariants",
@@ -273,11 +303,15 @@ static TYPES: [&str; 109] = [
     "TlsVecU32",
     "TlsVecU8",
     "ToString",
+    "Told",
     "TryFrom",
     "U24",
     "UnknownValue",
     "VLByteSlice",
     "VLBytes",
+    "Validate",
+    "ValidateFor",
+    "ValidateKeyed",
     "Vec",
     "Within",
 ];

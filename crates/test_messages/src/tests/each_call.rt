@@ -5,6 +5,7 @@ use std::fmt::Debug;
 use std::process::Abort;
 use std::test::Fail;
 use tls_codec::{Deserialize, DeserializeBytes, Error, Serialize, deserialize_to_end};
+use tls_codec_validate::Validate;
 use tls_codec_vectors::Drip;
 
 // The round trip: the value is written as these bytes by each encoder, and each decoder reads it from them.
@@ -15,9 +16,10 @@ pub(super) fn is_spelled<T>(
     bytes: &[u8],
 ) -> Result<(), Fail>
 where
-    T: Serialize + Deserialize + DeserializeBytes + Eq + Debug + Clone,
+    T: Serialize + Deserialize + Validate + Eq + Debug + Clone,
 {
     is_written(rt, alloc, value, bytes)?;
+    same(rt, T::tls_validate(bytes), Ok(()));
     same(rt, &T::tls_deserialize_exact_bytes(alloc, bytes)?, value);
     same(rt, &T::tls_deserialize_exact(alloc, bytes)?, value);
     same(
@@ -30,6 +32,7 @@ where
     let (found, rest) = T::tls_deserialize_bytes(alloc, &longer)?;
     same(rt, &found, value);
     same(rt, rest, [0xee].as_slice());
+    same(rt, T::tls_validate_prefix(&longer), Ok([0xee].as_slice()));
     let mut source = longer.as_slice();
     same(rt, &T::tls_deserialize(alloc, &mut source)?, value);
     same(rt, source, [0xee].as_slice());
@@ -58,16 +61,14 @@ pub(super) fn is_written<T: Serialize + Eq + Debug + Clone>(
     Ok(())
 }
 
-// Each decoder refuses each proper prefix of the bytes.
-fn is_cut_off<T: Deserialize + DeserializeBytes>(rt: &impl Abort, alloc: Global, bytes: &[u8]) {
+// Each decoder refuses each proper prefix of the bytes, and it is rejected with the error of the slice's.
+fn is_cut_off<T: Deserialize + Validate>(rt: &impl Abort, alloc: Global, bytes: &[u8]) {
     for length in 0..bytes.len() {
         let prefix = &bytes[..length];
-        same_at(
-            rt,
-            length,
-            T::tls_deserialize_bytes(alloc, prefix).is_err(),
-            true,
-        );
+        let split = T::tls_deserialize_bytes(alloc, prefix).err();
+        same_at(rt, length, split.is_some(), true);
+        let rejected = T::tls_validate_prefix(prefix).err();
+        same_at(rt, length, rejected.map(|one| one.error), split);
         let mut source = prefix;
         same_at(
             rt,
@@ -79,7 +80,7 @@ fn is_cut_off<T: Deserialize + DeserializeBytes>(rt: &impl Abort, alloc: Global,
 }
 
 // Each decoder refuses the bytes with this error.
-pub(super) fn is_refused<T: Deserialize + DeserializeBytes>(
+pub(super) fn is_refused<T: Deserialize + Validate>(
     rt: &impl Abort,
     alloc: Global,
     bytes: &[u8],
@@ -88,8 +89,9 @@ pub(super) fn is_refused<T: Deserialize + DeserializeBytes>(
     is_refused_by::<T>(rt, alloc, bytes, error, error);
 }
 
-// To the end of the bytes, a slice's decoder refuses them with one error and a source's with another.
-pub(super) fn is_refused_by<T: Deserialize + DeserializeBytes>(
+// To the end of the bytes, a slice's decoder refuses them with one error, with which they are rejected too, and a source's
+// with another.
+pub(super) fn is_refused_by<T: Deserialize + Validate>(
     rt: &impl Abort,
     alloc: Global,
     bytes: &[u8],
@@ -98,6 +100,8 @@ pub(super) fn is_refused_by<T: Deserialize + DeserializeBytes>(
 ) {
     let split = T::tls_deserialize_exact_bytes(alloc, bytes).err();
     same_at(rt, bytes, split, Some(of_slice));
+    let rejected = T::tls_validate(bytes).err();
+    same_at(rt, bytes, rejected.map(|one| one.error), Some(of_slice));
     let read = T::tls_deserialize_exact(alloc, bytes).err();
     same_at(rt, bytes, read, Some(of_source));
     let dripped = deserialize_to_end::<T, _>(alloc, &mut Drip::new(bytes)).err();

@@ -5,12 +5,13 @@ use std::fmt::Debug;
 use std::process::Abort;
 use std::test::Fail;
 use tls_codec::{DeserializeBytesFor, DeserializeFor, Error, SerializeFor, Size};
+use tls_codec_validate::{Keyed, ValidateFor};
 use tls_codec_vectors::Drip;
 
 const MISFIT: Error = Error::EncodingError("value does not fit its context");
 
 // The round trip: the value is written as these bytes by each encoder, and each decoder reads it from them.
-pub(super) fn is_spelled_in<C: Size, T>(
+pub(super) fn is_spelled_in<C: Keyed, T>(
     rt: &impl Abort,
     alloc: Global,
     context: &C,
@@ -18,9 +19,11 @@ pub(super) fn is_spelled_in<C: Size, T>(
     bytes: &[u8],
 ) -> Result<(), Fail>
 where
-    T: SerializeFor<C> + DeserializeFor<C> + DeserializeBytesFor<C> + Eq + Debug + Clone,
+    T: SerializeFor<C> + DeserializeFor<C> + ValidateFor<C> + Eq + Debug + Clone,
 {
+    let key = context.key();
     is_written_in(rt, alloc, context, value, bytes)?;
+    same(rt, T::tls_validate_for(&key, bytes), Ok(()));
     same(rt, &value.clone()?, value);
     let split = T::tls_deserialize_exact_bytes_for(context, alloc, bytes)?;
     same(rt, &split, value);
@@ -30,8 +33,10 @@ where
     same(rt, &dripped, value);
     for length in 0..bytes.len() {
         let prefix = &bytes[..length];
-        let split = T::tls_deserialize_bytes_for(context, alloc, prefix);
-        same_at(rt, length, split.is_err(), true);
+        let split = T::tls_deserialize_bytes_for(context, alloc, prefix).err();
+        same_at(rt, length, split.is_some(), true);
+        let rejected = T::tls_validate_prefix_for(&key, prefix).err();
+        same_at(rt, length, rejected.map(|one| one.error), split);
         let mut source = prefix;
         let read = T::tls_deserialize_for(context, alloc, &mut source).err();
         same_at(rt, length, read, Some(Error::EndOfStream));
@@ -77,8 +82,9 @@ pub(super) fn is_misfit<C: Size, T: SerializeFor<C>>(
     Ok(())
 }
 
-// To the end of the bytes, a slice's decoder refuses them with one error and a source's with another.
-pub(super) fn is_refused_in<C: Size, T: DeserializeFor<C> + DeserializeBytesFor<C>>(
+// To the end of the bytes, a slice's decoder refuses them with one error, with which they are rejected too, and a source's
+// with another.
+pub(super) fn is_refused_in<C: Keyed, T: DeserializeFor<C> + ValidateFor<C>>(
     rt: &impl Abort,
     alloc: Global,
     context: &C,
@@ -88,6 +94,8 @@ pub(super) fn is_refused_in<C: Size, T: DeserializeFor<C> + DeserializeBytesFor<
 ) {
     let split = T::tls_deserialize_exact_bytes_for(context, alloc, bytes).err();
     same_at(rt, bytes, split, Some(of_slice));
+    let rejected = T::tls_validate_for(&context.key(), bytes).err();
+    same_at(rt, bytes, rejected.map(|one| one.error), Some(of_slice));
     let read = T::tls_deserialize_exact_for(context, alloc, bytes).err();
     same_at(rt, bytes, read, Some(of_source));
 }

@@ -11,6 +11,7 @@ pub fn templates() -> Templates {
         ghost_uses: GHOST_USES,
         code: CODE,
         decoders: DECODERS,
+        validator: VALIDATOR,
         law: LAW,
         specs: SPECS,
         texts: &TEXTS,
@@ -25,12 +26,19 @@ ghost use Rattle.$crate$.specs.declared.$module$.$name$.{$name$};
 /// What the decoders of one that isn't lent take of the codec.
 pub static NAMES_USE: &str =
     "ghost use Rattle.tls_codec.specs.OwnMessages.{no_variant_names, no_variant_source_names, $nothing$tagged_names, tagged_source_names, variant_names, variant_source_names};
+ghost use Rattle.tls_codec_validate.specs.TaggedPlaces.{no_variant_places, $nothing_placed$tagged_places, variant_places};
 ";
 
 /// What is brought in for a case without fields.
-pub static NOTHING: &str = "nothing_names, nothing_source_names, ";
+pub static NOTHING: [(&str, &str); 2] = [
+    ("nothing", "nothing_names, nothing_source_names, "),
+    ("nothing_placed", "nothing_places, "),
+];
 
-static TEXTS: [Lines; 18] = [
+/// Each has fields.
+pub static SOMETHING: [(&str, &str); 2] = [("nothing", ""), ("nothing_placed", "")];
+
+static TEXTS: [Lines; 20] = [
     Lines {
         hole: "constants",
         before: "",
@@ -127,6 +135,28 @@ static TEXTS: [Lines; 18] = [
             }
 ",
         ),
+        behind: "",
+        alone: None,
+    },
+    Lines {
+        hole: "placed",
+        before: "",
+        each: "        (variant_places $number$ ⟦<$types$ as Validate>⟧.places\n",
+        bare: Some("        (variant_places $number$ nothing_places\n"),
+        one: None,
+        behind: "        no_variant_places",
+        alone: None,
+    },
+    Lines {
+        hole: "validates",
+        before: "",
+        each: "            $constant$ => {
+                let behind = $path$::tls_validate_prefix(rest)?;
+                Ok(behind)
+            }
+",
+        bare: Some("            $constant$ => Ok(rest),\n"),
+        one: None,
         behind: "",
         alone: None,
     },
@@ -284,6 +314,23 @@ $slice_names$$closing$) };
         let (tag, rest) = u$bits$::tls_deserialize_bytes(alloc, whole)?;
         match tag {
 $splits$            _ => Err(unknown_value($u64$)),
+        }
+    }
+}
+";
+
+const VALIDATOR: &str = "
+impl Validate for $name$ {
+    ghost places = { tagged_places $width$
+$placed$$closing$) };
+
+    fn tls_validate_prefix(whole: &[u8]) -> Result<&[u8], Rejected<'_>> {
+        let (tag, rest) = split_u$bits$(whole)?;
+        match tag {
+$validates$            _ => Err(Rejected {
+                error: unknown_value($u64$),
+                rest: whole,
+            }),
         }
     }
 }

@@ -117,3 +117,40 @@ returns-in_default-clause-splits c = let is = c.unknown_value.ensures in rw is (
 ",
     alone: None,
 };
+
+/// Those of `tls_validate_prefix`.
+pub static VALIDATES: Lines = Lines {
+    hole: "answers",
+    before: "
+pub returns-in_err-tag-clause-validates : goal.returns-in_err-tag-clause-validates
+returns-in_err-tag-clause-validates c = tag_rejected u$bits$_meets $module$_variants_meet _ _ _ c.from_residual.ensures.1 c.in_err-tag.ensures.finds
+
+pub returns-in_err-tag-clause-rejected : goal.returns-in_err-tag-clause-rejected
+returns-in_err-tag-clause-rejected c = tag_placed _ _ _ _ c.from_residual.ensures.1 c.in_err-tag.ensures.rejected
+",
+    each: "
+pub returns-in_err-behind-in-$number$-clause-validates : goal.returns-in_err-behind-in-$number$-clause-validates
+returns-in_err-behind-in-$number$-clause-validates c = parts_rejected u$bits$_meets $module$_variants_meet _ _ _ c.from_residual-in_err-behind-in-$number$.ensures.1 c.in_ok-tag.ensures.finds c.in-$number$.is $rejects$
+
+pub returns-in_err-behind-in-$number$-clause-rejected : goal.returns-in_err-behind-in-$number$-clause-rejected
+returns-in_err-behind-in-$number$-clause-rejected c = parts_placed _ _ _ _ c.from_residual-in_err-behind-in-$number$.ensures.1 c.in_ok-tag.ensures.finds c.in-$number$.is c.in_err-behind-in-$number$.ensures.rejected
+
+pub returns-in_ok-behind-in-$number$-clause-validates : goal.returns-in_ok-behind-in-$number$-clause-validates
+returns-in_ok-behind-in-$number$-clause-validates c = parts_leave u$bits$_meets $module$_variants_meet c.in_ok-tag.ensures.finds c.in-$number$.is $left_behind$
+",
+    bare: Some(
+        "
+pub returns-in-$number$-clause-validates : goal.returns-in-$number$-clause-validates
+returns-in-$number$-clause-validates c = parts_leave u$bits$_meets $module$_variants_meet c.in_ok-tag.ensures.finds c.in-$number$.is (nothing_begins _)
+",
+    ),
+    one: None,
+    behind: "
+pub returns-in_default-clause-validates : goal.returns-in_default-clause-validates
+returns-in_default-clause-validates c = let is = c.unknown_value.ensures in rw is (unknown_rejected u$bits$_meets $module$_variants_meet c.in_ok-tag.ensures.finds (search rules))
+
+pub returns-in_default-clause-rejected : goal.returns-in_default-clause-rejected
+returns-in_default-clause-rejected c = let is = c.unknown_value.ensures in rw is (unknown_placed _ _ _ c.in_ok-tag.ensures.finds refl (search rules) (search rules))
+",
+    alone: None,
+};

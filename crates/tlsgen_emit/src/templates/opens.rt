@@ -9,6 +9,7 @@ pub fn templates() -> Templates {
         ghost_uses: GHOST_USES,
         code: CODE,
         decoders: "",
+        validator: VALIDATOR,
         law: LAW,
         specs: SPECS,
         texts: &TEXTS,
@@ -151,6 +152,32 @@ impl DeserializeBytes for $name$ {
     }
 }
 $selector$";
+
+const VALIDATOR: &str = "
+impl Validate for $name$ {
+    ghost places = { ⟦<u$bits$ as Validate>⟧.places };
+
+    fn tls_validate_prefix(whole: &[u8]) -> Result<&[u8], Rejected<'_>> {
+        u$bits$::tls_validate_prefix(whole)
+    }
+
+    fn tls_width() -> Option<usize> {
+        u$bits$::tls_width()
+    }
+}
+
+impl Parted for $name$ {
+    type Parts = u$bits$;
+
+    ghost as_parts = { λ bytes is. is };
+}
+
+impl Told for $name$ {
+    fn told(encoded: &Encoded<'_, $name$>) -> $name$ {
+        $name$(encoded.parts().get())
+    }
+}
+$keyed$";
 
 const LAW: &str = "
 /// Two are equal exactly where their numbers are.

@@ -10,6 +10,7 @@ pub fn templates() -> Templates {
         ghost_uses: GHOST_USES,
         code: CODE,
         decoders: DECODERS,
+        validator: VALIDATOR,
         law: LAW,
         specs: SPECS,
         texts: &TEXTS,
@@ -98,6 +99,20 @@ $apart$        Ok(($name$ { $fields$ }, rest))
     }
 }
 ";
+
+const VALIDATOR: &str = "
+impl Validate for $name$ {
+    ghost places = { ⟦<$read$ as Validate>⟧.places };
+
+    fn tls_validate_prefix(whole: &[u8]) -> Result<&[u8], Rejected<'_>> {
+        $read_path$::tls_validate_prefix(whole)
+    }
+
+    fn tls_width() -> Option<usize> {
+        $read_path$::tls_width()
+    }
+}
+$view$";
 
 pub const LAW: &str = "$from_whole$
 /// Two are equal exactly where each field is.

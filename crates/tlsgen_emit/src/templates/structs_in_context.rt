@@ -8,6 +8,7 @@ pub fn templates() -> Templates {
         ghost_uses: GHOST_USES,
         code: CODE,
         decoders: DECODERS,
+        validator: VALIDATOR,
         law: structs::LAW,
         specs: SPECS,
         texts: &structs::TEXTS,
@@ -76,6 +77,16 @@ impl DeserializeBytesFor<$key$> for $name$ {
     fn tls_deserialize_bytes_for<'a>($by$: &$key$, alloc: Global, whole: &'a [u8]) -> Result<($name$, &'a [u8]), Error> {
         let (parts, rest) = $read_path$::tls_deserialize_bytes_for($by$, alloc, whole)?;
 $lets$        Ok(($name$ { $fields$ }, rest))
+    }
+}
+";
+
+const VALIDATOR: &str = "
+impl ValidateFor<$key$> for $name$ {
+    ghost places = { ⟦<$read$ as ValidateFor<$key$>>⟧.places };
+
+    fn tls_validate_prefix_for<'a>(key: &u64, whole: &'a [u8]) -> Result<&'a [u8], Rejected<'a>> {
+        <$read$ as ValidateFor<$key$>>::tls_validate_prefix_for(key, whole)
     }
 }
 ";

@@ -24,6 +24,7 @@ pub fn templates() -> Templates {
         ghost_uses: structs::GHOST_USES,
         code: CODE,
         decoders: DECODERS,
+        validator: VALIDATOR,
         law: structs::LAW,
         specs: SPECS,
         texts: &structs::TEXTS,
@@ -182,6 +183,16 @@ impl DeserializeBytes for $name$ {
     fn tls_deserialize_bytes(alloc: Global, whole: &[u8]) -> Result<($name$, &[u8]), Error> {
         let (parts, left) = <Parts>::tls_deserialize_bytes(alloc, whole)?;
 $then_lets$$behind_lets$        Ok(($name$ { $fields$ }, left))
+    }
+}
+";
+
+const VALIDATOR: &str = "
+impl Validate for $name$ {
+    ghost places = { ⟦<Parts as Validate>⟧.places };
+
+    fn tls_validate_prefix(whole: &[u8]) -> Result<&[u8], Rejected<'_>> {
+        <Parts>::tls_validate_prefix(whole)
     }
 }
 ";

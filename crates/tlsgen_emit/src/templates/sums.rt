@@ -14,6 +14,7 @@ pub fn tagged() -> Templates {
         ghost_uses: TAGGED_GHOST_USES,
         code: TAGGED_CODE,
         decoders: TAGGED_DECODERS,
+        validator: TAGGED_VALIDATOR,
         law: choices::LAW,
         specs: choices::SPECS,
         texts: &TEXTS,
@@ -26,6 +27,7 @@ pub fn chosen() -> Templates {
         ghost_uses: CHOSEN_GHOST_USES,
         code: CHOSEN_CODE,
         decoders: CHOSEN_DECODERS,
+        validator: CHOSEN_VALIDATOR,
         law: choices::LAW,
         specs: CHOSEN_SPECS,
         texts: &TEXTS,
@@ -205,6 +207,16 @@ impl DeserializeBytes for $name$ {
 }
 ";
 
+const TAGGED_VALIDATOR: &str = "
+impl Validate for $name$ {
+    ghost places = { ⟦<Cases as Validate>⟧.places };
+
+    fn tls_validate_prefix(whole: &[u8]) -> Result<&[u8], Rejected<'_>> {
+        <Cases>::tls_validate_prefix(whole)
+    }
+}
+";
+
 const CHOSEN_GHOST_USES: &str =
     "ghost use Rattle.$crate$.specs.$name$.{$module$_format_for, $module$_meets_for, $module$_plain, $module$_tag};
 ghost use Rattle.$crate$.specs.declared.$module$.$name$.{$name$};
@@ -253,6 +265,16 @@ impl DeserializeBytesFor<$key$> for $name$ {
     fn tls_deserialize_bytes_for<'a>($by$: &$key$, alloc: Global, whole: &'a [u8]) -> Result<($name$, &'a [u8]), Error> {
         let (cases, rest) = <Cases>::tls_deserialize_bytes_for($by$, alloc, whole)?;
         Ok(($name$::of(cases), rest))
+    }
+}
+";
+
+const CHOSEN_VALIDATOR: &str = "
+impl ValidateFor<$key$> for $name$ {
+    ghost places = { ⟦<Cases as ValidateFor<$key$>>⟧.places };
+
+    fn tls_validate_prefix_for<'a>(key: &u64, whole: &'a [u8]) -> Result<&'a [u8], Rejected<'a>> {
+        <Cases as ValidateFor<$key$>>::tls_validate_prefix_for(key, whole)
     }
 }
 ";

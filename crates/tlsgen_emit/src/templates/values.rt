@@ -9,6 +9,7 @@ pub fn templates() -> Templates {
         ghost_uses: GHOST_USES,
         code: CODE,
         decoders: "",
+        validator: VALIDATOR,
         law: LAW,
         specs: SPECS,
         texts: &TEXTS,
@@ -18,7 +19,8 @@ pub fn templates() -> Templates {
 const GHOST_USES: &str = "ghost use Rattle.std.specs.Fmt.{padded};
 ghost use Rattle.std.specs.Ordering.{nat_cmp};
 ghost use Rattle.tls_codec.specs.Errors.{UnknownValue};
-ghost use Rattle.tls_codec.specs.OwnMessages.{values_names, values_source_names};
+$keyed_use$ghost use Rattle.tls_codec.specs.OwnMessages.{$keyed_values$values_names, values_source_names};
+ghost use Rattle.tls_codec_validate.specs.TaggedPlaces.{values_places};
 ghost use Rattle.$crate$.specs.$name$.{$module$_code, $module$_format, $module$_has, $module$_meets, $module$_name, $module$_plain$selected_use$};
 ghost use Rattle.$crate$.specs.declared.$module$.$name$.{$name$};
 ";
@@ -209,6 +211,23 @@ impl DeserializeBytes for $name$ {
 }
 $selector$";
 
+const VALIDATOR: &str = "
+impl Validate for $name$ {
+    ghost places = { values_places $width$ $module$_has };
+
+    fn tls_validate_prefix(whole: &[u8]) -> Result<&[u8], Rejected<'_>> {
+        let (tag, rest) = split_u$bits$(whole)?;
+        match $name$::of_code(tag) {
+            Some(_value) => Ok(rest),
+            None => Err(Rejected {
+                error: unknown_value($u64$),
+                rest: whole,
+            }),
+        }
+    }
+}
+$keyed$";
+
 const LAW: &str = "
 /// Two are equal exactly where their numbers are.
 pub fn is_compared_by_its_number()
@@ -334,6 +353,42 @@ returns-in-None-clause-splits c =
     let is = c.unknown_value.ensures in
     rw is (tagged_refuses_unknown u$bits$_meets (values_meet $module$_has)
     c.in_ok-tag.ensures.splits c.in-None.ensures)
+",
+    each: "",
+    bare: None,
+    one: None,
+    behind: "",
+    alone: None,
+};
+
+pub static VALIDATES: Lines = Lines {
+    hole: "answers",
+    before: "
+pub returns-in_err-tag-clause-validates : goal.returns-in_err-tag-clause-validates
+returns-in_err-tag-clause-validates c =
+    tag_rejected u$bits$_meets (values_meet $module$_has) _ _ _ c.from_residual.ensures.1
+    c.in_err-tag.ensures.finds
+
+pub returns-in_err-tag-clause-rejected : goal.returns-in_err-tag-clause-rejected
+returns-in_err-tag-clause-rejected c =
+    tag_placed _ _ _ _ c.from_residual.ensures.1 c.in_err-tag.ensures.rejected
+
+pub returns-in-Some-clause-validates : goal.returns-in-Some-clause-validates
+returns-in-Some-clause-validates c =
+    leaves (value_begins $module$_has u$bits$_meets ($module$_known c.in-Some._value)
+    (sym c.in-Some.ensures) c.in_ok-tag.ensures.finds)
+
+pub returns-in-None-clause-validates : goal.returns-in-None-clause-validates
+returns-in-None-clause-validates c =
+    let is = c.unknown_value.ensures in
+    rw is (unknown_rejected u$bits$_meets (values_meet $module$_has)
+    c.in_ok-tag.ensures.finds c.in-None.ensures)
+
+pub returns-in-None-clause-rejected : goal.returns-in-None-clause-rejected
+returns-in-None-clause-rejected c =
+    let is = c.unknown_value.ensures in
+    rw is (unknown_placed _ _ _ c.in_ok-tag.ensures.finds refl
+    (c.in-None.ensures, search rules) (refl, c.in-None.ensures, search rules))
 ",
     each: "",
     bare: None,
