@@ -2,8 +2,8 @@
 """benchmarks.py OWN CRATE: draws docs/benchmarks.svg, and prints the table of BENCHMARKS.md.
 
 OWN has what `tls_codec_bench run` printed, CRATE what a program over the Rust crate printed: a line for each case, its name,
-the bytes, and the nanoseconds of each call, with tabs between. A file may have the lines of several runs: the
-lowest figure of each is taken."""
+the bytes, and the nanoseconds of each call, with tabs between. OWN has validation last, which the crate doesn't have. A file
+may have the lines of several runs: the lowest figure of each is taken."""
 import html
 import math
 import os
@@ -39,7 +39,7 @@ def lowest(path):
     rows = {}
     for line in open(path, encoding="utf-8"):
         part = line.rstrip("\n").split("\t")
-        if len(part) == 6:
+        if len(part) in (6, 7):
             figures = [float(x) for x in part[2:]]
             old = rows.get(part[0])
             rows[part[0]] = (int(part[1]), [min(p) for p in zip(old[1], figures)] if old else figures)
@@ -88,8 +88,8 @@ def drawing(own, crate):
 
 def table(own, crate):
     copies = {size: figures for name, (size, figures) in own.items() if name.startswith("copy")}
-    print("| Case | Bytes | Plain copy: new, reused | Encode | Into a vector | Slice | Reader |")
-    print("|---|---|---|---|---|---|---|")
+    print("| Case | Bytes | Plain copy: new, reused | Encode | Into a vector | Slice | Reader | Validate |")
+    print("|---|---|---|---|---|---|---|---|")
     for name, (size, figures) in own.items():
         if name.startswith("copy"):
             continue
@@ -97,7 +97,8 @@ def table(own, crate):
         copied = "{:.0f}, {:.0f}".format(*copies[near[0]][:2]) if near else ""
         cells = [f"{own_ns:.0f}" for own_ns in figures]
         if name in crate:
-            cells = [f"{cell} ({own_ns / ns:.2f})" for cell, own_ns, ns in zip(cells, figures, crate[name][1])]
+            beside = [f"{cell} ({own_ns / ns:.2f})" for cell, own_ns, ns in zip(cells, figures, crate[name][1])]
+            cells = beside + cells[len(beside) :]
         print(f"| `{name}` | {size} | {copied} | " + " | ".join(cells) + " |")
 
 

@@ -7,3 +7,4 @@ pub record IsOfCopy (count : ℕ) (figures : Figures) : Type 0 where
   pub bytes : figures.bytes ≡ count
   pub slice : figures.slice ≡ figures.encode
   pub reader : figures.reader ≡ figures.encode
+  pub validate : figures.validate ≡ figures.encode

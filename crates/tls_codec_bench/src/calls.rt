@@ -2,10 +2,12 @@
 ghost use Rattle.std.specs.Prelude.{◌≡◌, length, IfOk};
 ghost use Rattle.tls_codec_grammar.specs.Shortest.{IsShortest};
 ghost use Rattle.tls_codec_bench.specs.Calls.{BeginsWith, IsLengthOf};
+ghost use Rattle.tls_codec_validate.specs.Validated.{Validates};
 
 use std::alloc::{AllocError, Global};
 use std::io::Cursor;
 use tls_codec_base::{Deserialize, DeserializeBytes, Serialize};
+use tls_codec_validate::{Rejected, Validate};
 use tls_codec_wire::{Error, Outside};
 
 /// A copy of some bytes, in a vector of their own.
@@ -72,4 +74,12 @@ pub fn decode_outside<T: Deserialize>(alloc: Global, bytes: &[u8]) -> Result<T, 
     let mut src = Outside::new(Cursor::new(bytes));
     let value = T::tls_deserialize(alloc, &mut src)?;
     Ok(value)
+}
+
+/// What is left after the encoding that the bytes begin with. No value is made.
+#[inline(never)]
+pub fn validate<T: Validate>(bytes: &[u8]) -> Result<&[u8], Rejected<'_>>
+    ensures { Validates T.format bytes.now result }
+{
+    T::tls_validate_prefix(bytes)
 }

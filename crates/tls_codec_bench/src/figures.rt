@@ -4,7 +4,7 @@ ghost use Rattle.tls_codec_bench.specs.Figures.{IsOfCopy};
 ghost use Rattle.tls_codec_bench.specs.declared.cases.Case.TheVariants.{Copy1048576, Copy4096, Copy64};
 
 use crate::calls::{
-    copy, copy_into, decode_outside, decode_reader, decode_slice, encode, encode_into,
+    copy, copy_into, decode_outside, decode_reader, decode_slice, encode, encode_into, validate,
 };
 use crate::cases::Case;
 use crate::fault::BenchFault;
@@ -15,8 +15,9 @@ use mls::{KeyPackage, PrivateMessage, UpdatePath, Welcome};
 use std::alloc::Global;
 use std::cell::RefCell;
 use std::rt::Clock;
-use tls_codec_base::{Deserialize, DeserializeBytes, Serialize};
+use tls_codec_base::{Deserialize, Serialize};
 use tls_codec_bytes::TlsByteVecU32;
+use tls_codec_validate::Validate;
 use tls_codec_vec::TlsVecU32;
 use tls_codec_vectors::Log;
 use tls_codec_vl::VLBytes;
@@ -47,6 +48,8 @@ pub struct Figures {
     pub slice: u64,
     /// `tls_deserialize` from a slice, or from a `Read` outside, and dropping the value.
     pub reader: u64,
+    /// `tls_validate_prefix`.
+    pub validate: u64,
 }
 
 /// Times a case.
@@ -109,17 +112,18 @@ fn measure_copy<C: Clock>(alloc: Global, clock: &C, count: usize) -> Result<Figu
         into,
         slice: nanos,
         reader: nanos,
+        validate: nanos,
     })
 }
 
-// Times the four calls for a value of this shape.
+// Times the calls for a value of this shape.
 fn measure_codec<T, C: Clock>(
     alloc: Global,
     clock: &C,
     shape: &[usize],
 ) -> Result<Figures, BenchFault>
 where
-    T: FromNoise + Serialize + Deserialize + DeserializeBytes,
+    T: FromNoise + Serialize + Deserialize + Validate,
 {
     let value = T::from_noise(alloc, &mut Noise::new(), shape)?;
     let Ok(bytes) = encode(alloc, &value) else {
@@ -133,12 +137,14 @@ where
     })?;
     let slice = time(clock, || decode_slice::<T>(alloc, &bytes).is_ok())?;
     let reader = time(clock, || decode_reader::<T>(alloc, &bytes).is_ok())?;
+    let validate = time(clock, || validate::<T>(&bytes).is_ok())?;
     Ok(Figures {
         bytes: bytes.len(),
         encode,
         into,
         slice,
         reader,
+        validate,
     })
 }
 
@@ -149,7 +155,7 @@ fn measure_outside<T, C: Clock>(
     shape: &[usize],
 ) -> Result<Figures, BenchFault>
 where
-    T: FromNoise + Serialize + Deserialize + DeserializeBytes,
+    T: FromNoise + Serialize + Deserialize + Validate,
 {
     let figures = measure_codec::<T, C>(alloc, clock, shape)?;
     let value = T::from_noise(alloc, &mut Noise::new(), shape)?;

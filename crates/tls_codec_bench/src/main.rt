@@ -3,9 +3,10 @@
 //! With no argument it makes each call a few times, and prints the name of each case and the bytes of its
 //! spelling, with a tab between. With the argument `run` it prints a line for each case, with tabs between: its
 //! name, the bytes of its spelling, and the nanoseconds of a call of `tls_serialize_detached`, of
-//! `tls_serialize_into` a vector that is used again, of `tls_deserialize_bytes` and of `tls_deserialize` over a
-//! slice. In the rows that end with `outside`, the last one is over a `Cursor`, which has no bytes at hand. A
-//! figure is the median of 15 batches of at least 20 milliseconds. With any other argument it ends with status 1.
+//! `tls_serialize_into` a vector that is used again, of `tls_deserialize_bytes`, of `tls_deserialize` over a slice
+//! and of `tls_validate_prefix`. In the rows that end with `outside`, `tls_deserialize` is over a `Cursor`, which has
+//! no bytes at hand. A figure is the median of 15 batches of at least 20 milliseconds. With any other argument it
+//! ends with status 1.
 //!
 //! - [`cases`]: the cases and their names. [`values`] and [`messages`]: their values, over the numbers of a
 //!   [`noise`].
@@ -64,8 +65,13 @@ fn print_rows<R: Print + AllocGlobal + Clock>(rt: &R) -> Result<(), BenchFault> 
         let figures = measure(rt.alloc(), rt, case)?;
         let name = case.name();
         println!(rt;
-            "{name}\t{}\t{}\t{}\t{}\t{}",
-            figures.bytes, figures.encode, figures.into, figures.slice, figures.reader
+            "{name}\t{}\t{}\t{}\t{}\t{}\t{}",
+            figures.bytes,
+            figures.encode,
+            figures.into,
+            figures.slice,
+            figures.reader,
+            figures.validate
         )?;
     }
     Ok(())

@@ -2,7 +2,7 @@
 mod messages;
 
 use crate::calls::{
-    copy, copy_into, decode_outside, decode_reader, decode_slice, encode, encode_into,
+    copy, copy_into, decode_outside, decode_reader, decode_slice, encode, encode_into, validate,
 };
 use crate::cases::Case;
 use crate::fault::BenchFault;
@@ -123,6 +123,11 @@ fn the_calls_that_are_timed(rt: HostRuntime) -> Result<(), Fail> {
         &rt,
         decode_outside::<Option<u16>>(alloc, &form),
         Ok(Some(7)),
+    );
+    same(
+        &rt,
+        validate::<Option<u16>>(&[1, 0, 7, 9]),
+        Ok([9u8].as_slice()),
     );
     Ok(())
 }
