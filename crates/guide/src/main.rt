@@ -7,6 +7,7 @@
 //! - [`rewrite`]: [`rewrite`](rewrite::rewrite), from any source to any sink.
 //! - [`chained`]: [`Chained`](chained::Chained), a source of your own.
 //! - [`aad`]: [`PrivateContentAad`](aad::PrivateContentAad), a message of four fields.
+//! - [`border`]: [`find`](border::find), a check of bytes from outside.
 //! - [`credential`]: [`Credential`](credential::Credential), an enum.
 //! - [`hello_extension`]: [`HelloExtension`](hello_extension::HelloExtension), an enum with a case for every
 //!   other tag; and [`hello_extension_for`], where its tag was read before.
@@ -16,6 +17,9 @@
 
 pub mod aad;
 pub mod auth_data;
+pub mod border;
+#[cfg(test)]
+mod border_tests;
 pub mod chained;
 pub mod credential;
 #[cfg(test)]

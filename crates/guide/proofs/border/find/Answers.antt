@@ -1,0 +1,7 @@
+use Rattle.std.proofs.lemmas.Result.{err_from_is_err_and}
+use Rattle.guide.proofs.border.find.Goals as goal
+
+pub returns-in_err-list : goal.returns-in_err-list
+returns-in_err-list c =
+    let p = err_from_is_err_and c.from_residual.result c.from_residual.ensures.1 in
+    rw (p.1, p.2) c.in_err-list.ensures.validates
