@@ -1,0 +1,10 @@
+use Rattle.tls_presentation.specs.Meaning.{same_bytes}
+use Rattle.messages_of_each_shape.specs.Beat.{beat_format}
+use Rattle.messages_of_each_shape_laws.proofs.Sayings.{beat_saying}
+use Rattle.messages_of_each_shape_laws.proofs.laws_b_to_k.beat_is_as_printed.Goals as goal
+
+pub returns-clause-bytes : goal.returns-clause-bytes
+returns-clause-bytes c = λ u. same_bytes beat_format
+
+pub returns-clause-values : goal.returns-clause-values
+returns-clause-values c = beat_saying

@@ -1,0 +1,10 @@
+use Rattle.tls_presentation.specs.Meaning.{same_bytes}
+use Rattle.messages_of_each_shape.specs.ByVersion.{by_version_format_for}
+use Rattle.messages_of_each_shape_laws.proofs.Sayings.{by_version_saying}
+use Rattle.messages_of_each_shape_laws.proofs.laws_b_to_k.by_version_is_as_printed.Goals as goal
+
+pub returns-clause-bytes : goal.returns-clause-bytes
+returns-clause-bytes c = λ u. same_bytes (by_version_format_for u)
+
+pub returns-clause-values : goal.returns-clause-values
+returns-clause-values c = by_version_saying

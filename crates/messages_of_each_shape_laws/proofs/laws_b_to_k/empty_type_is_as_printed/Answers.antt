@@ -1,0 +1,14 @@
+use Rattle.std.proofs.Common.{refl}
+use Rattle.tls_presentation.specs.Meaning.{same_bytes}
+use Rattle.messages_of_each_shape.specs.EmptyType.{empty_type_format}
+use Rattle.messages_of_each_shape_laws.proofs.Sayings.{empty_type_saying}
+use Rattle.messages_of_each_shape_laws.proofs.laws_b_to_k.empty_type_is_as_printed.Goals as goal
+
+pub returns-clause-bytes : goal.returns-clause-bytes
+returns-clause-bytes c = λ u. same_bytes empty_type_format
+
+pub returns-clause-values : goal.returns-clause-values
+returns-clause-values c = empty_type_saying
+
+pub returns-clause-names : goal.returns-clause-names
+returns-clause-names c = refl

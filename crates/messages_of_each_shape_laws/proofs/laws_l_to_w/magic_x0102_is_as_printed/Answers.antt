@@ -1,0 +1,10 @@
+use Rattle.tls_presentation.specs.Meaning.{same_bytes}
+use Rattle.messages_of_each_shape.specs.MagicX0102.{magic_x0102_format}
+use Rattle.messages_of_each_shape_laws.proofs.Sayings.{magic_x0102_saying}
+use Rattle.messages_of_each_shape_laws.proofs.laws_l_to_w.magic_x0102_is_as_printed.Goals as goal
+
+pub returns-clause-bytes : goal.returns-clause-bytes
+returns-clause-bytes c = λ u. same_bytes magic_x0102_format
+
+pub returns-clause-values : goal.returns-clause-values
+returns-clause-values c = magic_x0102_saying

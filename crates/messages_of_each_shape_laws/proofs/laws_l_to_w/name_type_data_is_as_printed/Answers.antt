@@ -1,0 +1,10 @@
+use Rattle.tls_presentation.specs.Meaning.{same_bytes}
+use Rattle.messages_of_each_shape.specs.NameTypeData.{name_type_data_format_for}
+use Rattle.messages_of_each_shape_laws.proofs.Sayings.{name_type_data_saying}
+use Rattle.messages_of_each_shape_laws.proofs.laws_l_to_w.name_type_data_is_as_printed.Goals as goal
+
+pub returns-clause-bytes : goal.returns-clause-bytes
+returns-clause-bytes c = λ u. same_bytes (name_type_data_format_for u)
+
+pub returns-clause-values : goal.returns-clause-values
+returns-clause-values c = name_type_data_saying

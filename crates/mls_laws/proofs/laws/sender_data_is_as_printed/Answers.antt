@@ -1,0 +1,10 @@
+use Rattle.tls_presentation.specs.Meaning.{same_bytes}
+use Rattle.mls.specs.SenderData.{sender_data_format}
+use Rattle.mls_laws.proofs.Sayings.{sender_data_saying}
+use Rattle.mls_laws.proofs.laws.sender_data_is_as_printed.Goals as goal
+
+pub returns-clause-bytes : goal.returns-clause-bytes
+returns-clause-bytes c = λ u. same_bytes sender_data_format
+
+pub returns-clause-values : goal.returns-clause-values
+returns-clause-values c = sender_data_saying

@@ -1,0 +1,4 @@
+pub mod Definitions
+pub mod Notes
+pub mod Says
+pub mod Text

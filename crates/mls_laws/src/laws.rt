@@ -1,0 +1,236 @@
+//! Each type of `mls` has the bytes that its text means, and each value's bytes are those of its parts, by their names.
+ghost use Rattle.std.specs.Prelude.{◌↔◌, ℕ, List};
+ghost use Rattle.tls_codec_grammar.specs.Tree.{Tree};
+ghost use Rattle.tls_codec_grammar.specs.Grammar.{Direction};
+ghost use Rattle.tls_presentation.specs.Meaning.{SameBytes, means, part_means};
+ghost use Rattle.mls_laws.specs.Definitions.{mls};
+ghost use Rattle.mls_laws.specs.Says.{AuthenticatedContentSays, AuthenticatedContentTBMSays, ConfirmedTranscriptHashInputSays, ContentTypeSays, ContentTypeDataSays, FramedContentSays, FramedContentAuthDataSays, FramedContentTBSSays, InterimTranscriptHashInputSays, MLSMessageSays, PrivateContentSays, PrivateContentAADSays, PrivateMessageSays, PrivateMessageContentSays, PublicMessageSays, SenderSays, SenderDataSays, SenderDataAADSays, SenderTypeSays, WireFormatSays, WireFormatDataSays};
+ghost use Rattle.mls.specs.declared.authenticated_content.AuthenticatedContent.{AuthenticatedContent};
+ghost use Rattle.mls.specs.declared.authenticated_content_tbm.AuthenticatedContentTBM.{AuthenticatedContentTBM};
+ghost use Rattle.mls.specs.declared.confirmed_transcript_hash_input.ConfirmedTranscriptHashInput.{ConfirmedTranscriptHashInput};
+ghost use Rattle.mls.specs.declared.content_type.ContentType.{ContentType};
+ghost use Rattle.mls.specs.declared.content_type_data.ContentTypeData.{ContentTypeData};
+ghost use Rattle.mls.specs.declared.framed_content.FramedContent.{FramedContent};
+ghost use Rattle.mls.specs.declared.framed_content_auth_data.FramedContentAuthData.{FramedContentAuthData};
+ghost use Rattle.mls.specs.declared.framed_content_tbs.FramedContentTBS.{FramedContentTBS};
+ghost use Rattle.mls.specs.declared.interim_transcript_hash_input.InterimTranscriptHashInput.{InterimTranscriptHashInput};
+ghost use Rattle.mls.specs.declared.mls_message.MLSMessage.{MLSMessage};
+ghost use Rattle.mls.specs.declared.private_content.PrivateContent.{PrivateContent};
+ghost use Rattle.mls.specs.declared.private_content_aad.PrivateContentAAD.{PrivateContentAAD};
+ghost use Rattle.mls.specs.declared.private_message.PrivateMessage.{PrivateMessage};
+ghost use Rattle.mls.specs.declared.private_message_content.PrivateMessageContent.{PrivateMessageContent};
+ghost use Rattle.mls.specs.declared.public_message.PublicMessage.{PublicMessage};
+ghost use Rattle.mls.specs.declared.sender.Sender.{Sender};
+ghost use Rattle.mls.specs.declared.sender_data.SenderData.{SenderData};
+ghost use Rattle.mls.specs.declared.sender_data_aad.SenderDataAAD.{SenderDataAAD};
+ghost use Rattle.mls.specs.declared.sender_type.SenderType.{SenderType};
+ghost use Rattle.mls.specs.declared.wire_format.WireFormat.{WireFormat};
+ghost use Rattle.mls.specs.declared.wire_format_data.WireFormatData.{WireFormatData};
+ghost use Rattle.mls.specs.ContentType.{content_type_code, content_type_name};
+ghost use Rattle.mls.specs.SenderType.{sender_type_code, sender_type_name};
+ghost use Rattle.mls.specs.WireFormat.{wire_format_names};
+ghost use Rattle.std.specs.Prelude.{◌≡◌};
+ghost use Rattle.tls_presentation.specs.Says.{names_in, value_number};
+
+use mls::{
+    AuthenticatedContent, AuthenticatedContentTBM, ConfirmedTranscriptHashInput, ContentType,
+    ContentTypeData, FramedContent, FramedContentAuthData, FramedContentTBS,
+    InterimTranscriptHashInput, MLSMessage, PrivateContent, PrivateContentAAD, PrivateMessage,
+    PrivateMessageContent, PublicMessage, Sender, SenderData, SenderDataAAD, SenderType,
+    WireFormat, WireFormatData,
+};
+use tls_codec::{Size, SizeFor};
+
+/// `AuthenticatedContent`.
+pub fn authenticated_content_is_as_printed()
+    ensures bytes { (c : Tree) → SameBytes (means mls "AuthenticatedContent" c)
+        ⟦<AuthenticatedContent as Size>⟧.format }
+    ensures values { (v : AuthenticatedContent) (d : Direction) (b : List ℕ) →
+        ⟦<AuthenticatedContent as Size>⟧.format.spells d b (⟦<AuthenticatedContent as Size>⟧.plain v)
+        ↔ AuthenticatedContentSays v d b }
+{}
+
+/// `AuthenticatedContentTBM`.
+pub fn authenticated_content_tbm_is_as_printed()
+    ensures bytes { (c : Tree) → SameBytes (means mls "AuthenticatedContentTBM" c)
+        ⟦<AuthenticatedContentTBM<'static> as Size>⟧.format }
+    ensures values { (v : AuthenticatedContentTBM) (d : Direction) (b : List ℕ) →
+        ⟦<AuthenticatedContentTBM<'static> as Size>⟧.format.spells d b (⟦<AuthenticatedContentTBM<'static> as Size>⟧.plain v)
+        ↔ AuthenticatedContentTBMSays v d b }
+{}
+
+/// `ConfirmedTranscriptHashInput`.
+pub fn confirmed_transcript_hash_input_is_as_printed()
+    ensures bytes { (c : Tree) → SameBytes (means mls "ConfirmedTranscriptHashInput" c)
+        ⟦<ConfirmedTranscriptHashInput<'static> as Size>⟧.format }
+    ensures values { (v : ConfirmedTranscriptHashInput) (d : Direction) (b : List ℕ) →
+        ⟦<ConfirmedTranscriptHashInput<'static> as Size>⟧.format.spells d b (⟦<ConfirmedTranscriptHashInput<'static> as Size>⟧.plain v)
+        ↔ ConfirmedTranscriptHashInputSays v d b }
+{}
+
+/// `ContentType`.
+pub fn content_type_is_as_printed()
+    ensures bytes { (c : Tree) → SameBytes (means mls "ContentType" c)
+        ⟦<ContentType as Size>⟧.format }
+    ensures values { (v : ContentType) (d : Direction) (b : List ℕ) →
+        ⟦<ContentType as Size>⟧.format.spells d b (⟦<ContentType as Size>⟧.plain v)
+        ↔ ContentTypeSays v d b }
+    ensures names { (v : ContentType) → value_number mls "ContentType" (content_type_name v)
+        ≡ content_type_code v }
+{}
+
+/// `ContentTypeData`.
+pub fn content_type_data_is_as_printed()
+    ensures bytes { (c : Tree) → SameBytes (part_means mls "FramedContent" "content_type" c)
+        ⟦<ContentTypeData as Size>⟧.format }
+    ensures values { (v : ContentTypeData) (d : Direction) (b : List ℕ) →
+        ⟦<ContentTypeData as Size>⟧.format.spells d b (⟦<ContentTypeData as Size>⟧.plain v)
+        ↔ ContentTypeDataSays v d b }
+{}
+
+/// `FramedContent`.
+pub fn framed_content_is_as_printed()
+    ensures bytes { (c : Tree) → SameBytes (means mls "FramedContent" c)
+        ⟦<FramedContent as Size>⟧.format }
+    ensures values { (v : FramedContent) (d : Direction) (b : List ℕ) →
+        ⟦<FramedContent as Size>⟧.format.spells d b (⟦<FramedContent as Size>⟧.plain v)
+        ↔ FramedContentSays v d b }
+{}
+
+/// `FramedContentAuthData`.
+pub fn framed_content_auth_data_is_as_printed()
+    ensures bytes { (c : Tree) → SameBytes (means mls "FramedContentAuthData" c)
+        (⟦<FramedContentAuthData as SizeFor<ContentType>>⟧.format_for c) }
+    ensures values { (c : Tree) (v : FramedContentAuthData) (d : Direction) (b : List ℕ) →
+        (⟦<FramedContentAuthData as SizeFor<ContentType>>⟧.format_for c).spells d b (⟦<FramedContentAuthData as SizeFor<ContentType>>⟧.plain v)
+        ↔ FramedContentAuthDataSays c v d b }
+{}
+
+/// `FramedContentTBS`.
+pub fn framed_content_tbs_is_as_printed()
+    ensures bytes { (c : Tree) → SameBytes (means mls "FramedContentTBS" c)
+        ⟦<FramedContentTBS<'static> as Size>⟧.format }
+    ensures values { (v : FramedContentTBS) (d : Direction) (b : List ℕ) →
+        ⟦<FramedContentTBS<'static> as Size>⟧.format.spells d b (⟦<FramedContentTBS<'static> as Size>⟧.plain v)
+        ↔ FramedContentTBSSays v d b }
+{}
+
+/// `InterimTranscriptHashInput`.
+pub fn interim_transcript_hash_input_is_as_printed()
+    ensures bytes { (c : Tree) → SameBytes (means mls "InterimTranscriptHashInput" c)
+        ⟦<InterimTranscriptHashInput<'static> as Size>⟧.format }
+    ensures values { (v : InterimTranscriptHashInput) (d : Direction) (b : List ℕ) →
+        ⟦<InterimTranscriptHashInput<'static> as Size>⟧.format.spells d b (⟦<InterimTranscriptHashInput<'static> as Size>⟧.plain v)
+        ↔ InterimTranscriptHashInputSays v d b }
+{}
+
+/// `MLSMessage`.
+pub fn mls_message_is_as_printed()
+    ensures bytes { (c : Tree) → SameBytes (means mls "MLSMessage" c)
+        ⟦<MLSMessage as Size>⟧.format }
+    ensures values { (v : MLSMessage) (d : Direction) (b : List ℕ) →
+        ⟦<MLSMessage as Size>⟧.format.spells d b (⟦<MLSMessage as Size>⟧.plain v)
+        ↔ MLSMessageSays v d b }
+{}
+
+/// `PrivateContent`.
+pub fn private_content_is_as_printed()
+    ensures bytes { (c : Tree) → SameBytes (part_means mls "PrivateMessageContent" "content" c)
+        (⟦<PrivateContent as SizeFor<ContentType>>⟧.format_for c) }
+    ensures values { (c : Tree) (v : PrivateContent) (d : Direction) (b : List ℕ) →
+        (⟦<PrivateContent as SizeFor<ContentType>>⟧.format_for c).spells d b (⟦<PrivateContent as SizeFor<ContentType>>⟧.plain v)
+        ↔ PrivateContentSays c v d b }
+{}
+
+/// `PrivateContentAAD`.
+pub fn private_content_aad_is_as_printed()
+    ensures bytes { (c : Tree) → SameBytes (means mls "PrivateContentAAD" c)
+        ⟦<PrivateContentAAD<'static> as Size>⟧.format }
+    ensures values { (v : PrivateContentAAD) (d : Direction) (b : List ℕ) →
+        ⟦<PrivateContentAAD<'static> as Size>⟧.format.spells d b (⟦<PrivateContentAAD<'static> as Size>⟧.plain v)
+        ↔ PrivateContentAADSays v d b }
+{}
+
+/// `PrivateMessage`.
+pub fn private_message_is_as_printed()
+    ensures bytes { (c : Tree) → SameBytes (means mls "PrivateMessage" c)
+        ⟦<PrivateMessage as Size>⟧.format }
+    ensures values { (v : PrivateMessage) (d : Direction) (b : List ℕ) →
+        ⟦<PrivateMessage as Size>⟧.format.spells d b (⟦<PrivateMessage as Size>⟧.plain v)
+        ↔ PrivateMessageSays v d b }
+{}
+
+/// `PrivateMessageContent`.
+pub fn private_message_content_is_as_printed()
+    ensures bytes { (c : Tree) → SameBytes (means mls "PrivateMessageContent" c)
+        (⟦<PrivateMessageContent as SizeFor<ContentType>>⟧.format_for c) }
+    ensures values { (c : Tree) (v : PrivateMessageContent) (d : Direction) (b : List ℕ) →
+        (⟦<PrivateMessageContent as SizeFor<ContentType>>⟧.format_for c).spells d b (⟦<PrivateMessageContent as SizeFor<ContentType>>⟧.plain v)
+        ↔ PrivateMessageContentSays c v d b }
+{}
+
+/// `PublicMessage`.
+pub fn public_message_is_as_printed()
+    ensures bytes { (c : Tree) → SameBytes (means mls "PublicMessage" c)
+        ⟦<PublicMessage as Size>⟧.format }
+    ensures values { (v : PublicMessage) (d : Direction) (b : List ℕ) →
+        ⟦<PublicMessage as Size>⟧.format.spells d b (⟦<PublicMessage as Size>⟧.plain v)
+        ↔ PublicMessageSays v d b }
+{}
+
+/// `Sender`.
+pub fn sender_is_as_printed()
+    ensures bytes { (c : Tree) → SameBytes (means mls "Sender" c)
+        ⟦<Sender as Size>⟧.format }
+    ensures values { (v : Sender) (d : Direction) (b : List ℕ) →
+        ⟦<Sender as Size>⟧.format.spells d b (⟦<Sender as Size>⟧.plain v)
+        ↔ SenderSays v d b }
+{}
+
+/// `SenderData`.
+pub fn sender_data_is_as_printed()
+    ensures bytes { (c : Tree) → SameBytes (means mls "SenderData" c)
+        ⟦<SenderData as Size>⟧.format }
+    ensures values { (v : SenderData) (d : Direction) (b : List ℕ) →
+        ⟦<SenderData as Size>⟧.format.spells d b (⟦<SenderData as Size>⟧.plain v)
+        ↔ SenderDataSays v d b }
+{}
+
+/// `SenderDataAAD`.
+pub fn sender_data_aad_is_as_printed()
+    ensures bytes { (c : Tree) → SameBytes (means mls "SenderDataAAD" c)
+        ⟦<SenderDataAAD<'static> as Size>⟧.format }
+    ensures values { (v : SenderDataAAD) (d : Direction) (b : List ℕ) →
+        ⟦<SenderDataAAD<'static> as Size>⟧.format.spells d b (⟦<SenderDataAAD<'static> as Size>⟧.plain v)
+        ↔ SenderDataAADSays v d b }
+{}
+
+/// `SenderType`.
+pub fn sender_type_is_as_printed()
+    ensures bytes { (c : Tree) → SameBytes (means mls "SenderType" c)
+        ⟦<SenderType as Size>⟧.format }
+    ensures values { (v : SenderType) (d : Direction) (b : List ℕ) →
+        ⟦<SenderType as Size>⟧.format.spells d b (⟦<SenderType as Size>⟧.plain v)
+        ↔ SenderTypeSays v d b }
+    ensures names { (v : SenderType) → value_number mls "SenderType" (sender_type_name v)
+        ≡ sender_type_code v }
+{}
+
+/// `WireFormat`.
+pub fn wire_format_is_as_printed()
+    ensures bytes { (c : Tree) → SameBytes (means mls "WireFormat" c)
+        ⟦<WireFormat as Size>⟧.format }
+    ensures values { (v : WireFormat) (d : Direction) (b : List ℕ) →
+        ⟦<WireFormat as Size>⟧.format.spells d b (⟦<WireFormat as Size>⟧.plain v)
+        ↔ WireFormatSays v d b }
+    ensures names { wire_format_names ≡ names_in mls "WireFormat" }
+{}
+
+/// `WireFormatData`.
+pub fn wire_format_data_is_as_printed()
+    ensures bytes { (c : Tree) → SameBytes (part_means mls "MLSMessage" "wire_format" c)
+        ⟦<WireFormatData as Size>⟧.format }
+    ensures values { (v : WireFormatData) (d : Direction) (b : List ℕ) →
+        ⟦<WireFormatData as Size>⟧.format.spells d b (⟦<WireFormatData as Size>⟧.plain v)
+        ↔ WireFormatDataSays v d b }
+{}

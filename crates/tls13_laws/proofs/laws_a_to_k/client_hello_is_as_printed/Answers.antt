@@ -1,0 +1,10 @@
+use Rattle.tls_presentation.specs.Meaning.{same_bytes}
+use Rattle.tls13.specs.ClientHello.{client_hello_format}
+use Rattle.tls13_laws.proofs.Sayings.{client_hello_saying}
+use Rattle.tls13_laws.proofs.laws_a_to_k.client_hello_is_as_printed.Goals as goal
+
+pub returns-clause-bytes : goal.returns-clause-bytes
+returns-clause-bytes c = λ u. same_bytes client_hello_format
+
+pub returns-clause-values : goal.returns-clause-values
+returns-clause-values c = client_hello_saying

@@ -1,0 +1,10 @@
+use Rattle.tls_presentation.specs.Meaning.{same_bytes}
+use Rattle.tls13.specs.EndOfEarlyData.{end_of_early_data_format}
+use Rattle.tls13_laws.proofs.Sayings.{end_of_early_data_saying}
+use Rattle.tls13_laws.proofs.laws_a_to_k.end_of_early_data_is_as_printed.Goals as goal
+
+pub returns-clause-bytes : goal.returns-clause-bytes
+returns-clause-bytes c = λ u. same_bytes end_of_early_data_format
+
+pub returns-clause-values : goal.returns-clause-values
+returns-clause-values c = end_of_early_data_saying

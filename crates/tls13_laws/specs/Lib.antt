@@ -1,0 +1,6 @@
+pub mod Definitions
+pub mod FirstDefinitions
+pub mod Notes
+pub mod Says
+pub mod Text
+pub mod TextBehind

@@ -1,0 +1,5 @@
+pub mod Flat
+pub mod Injective
+pub mod InjectiveNotes
+pub mod InjectiveStructs
+pub mod Saying

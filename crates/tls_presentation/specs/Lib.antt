@@ -1,0 +1,11 @@
+pub mod Cut
+pub mod Definition
+pub mod Fields
+pub mod Holding
+pub mod Meaning
+pub mod Names
+pub mod Pieces
+pub mod Printed
+pub mod Rows
+pub mod Says
+pub mod Tags
