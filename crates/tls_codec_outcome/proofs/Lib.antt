@@ -1,0 +1,2 @@
+pub mod FieldPlaces
+mod Telling

@@ -1,0 +1,4 @@
+-- What calls say of bytes, in numbers.
+pub mod Numbers
+pub mod Outcomes
+pub mod Fields
