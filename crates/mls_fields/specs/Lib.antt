@@ -1,0 +1,6 @@
+-- The fields of messages.
+pub mod MLSMessageFields
+pub mod PrivateMessageFields
+pub mod FramedContentFields
+pub mod KeyPackageFields
+pub mod WelcomeFields

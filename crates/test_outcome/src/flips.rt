@@ -1,0 +1,31 @@
+//! Bytes with a bit turned.
+use crate::messages::told;
+use std::alloc::Global;
+use tls_codec_outcome::Outcome;
+
+/// The first bit after whose turn the two calls disagree of these bytes, if there is one.
+pub fn first_dispute(alloc: Global, name: &str, bytes: &mut [u8]) -> Option<usize> {
+    for bit in 0..bytes.len().saturating_mul(8) {
+        turn(bytes, bit);
+        let agree = agree_on(alloc, name, bytes);
+        turn(bytes, bit);
+        if !agree {
+            return Some(bit);
+        }
+    }
+    None
+}
+
+fn turn(bytes: &mut [u8], bit: usize) {
+    if let Some(byte) = bytes.get_mut(bit / 8) {
+        *byte ^= 1 << (bit % 8);
+    }
+}
+
+// Whether both say the same, but for the place.
+fn agree_on(alloc: Global, name: &str, bytes: &[u8]) -> bool {
+    match told(alloc, name, bytes) {
+        Some((validated, decoded)) => Outcome { at: 0, ..validated } == decoded,
+        None => false,
+    }
+}

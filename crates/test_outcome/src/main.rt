@@ -1,0 +1,75 @@
+//! What callers in other languages are told of messages, as one stored run.
+//!
+//! Each row of standard input has a message's name in the static libraries and the hex of some bytes, `-` for none, with a
+//! tab between. The program prints the row again. After it come what the validator says and what the decoder says, each as
+//! `STATUS TAKEN AT DETAIL`, with tabs between. Of some accepted messages the places of their fields follow, as `OFFSET+SIZE`.
+//! Of a whole message each bit is then turned in its turn, and if the two disagree, other than of the place, the row says so.
+//!
+//! The static libraries export the calls that are made here. Callers in C, Rust and Python are tested by the same rows.
+#![tactic(auto)]
+
+mod fields;
+mod flips;
+mod messages;
+
+use messages::told;
+use std::alloc::{AllocError, Global};
+use std::io;
+use std::io::{BufRead, BufReader, BufWriter, Write};
+use tls_codec_outcome::{ACCEPTED, Outcome, Span};
+
+fn main(rt: HostRuntime) -> io::Result<()> {
+    let alloc = rt.alloc();
+    let mut out = BufWriter::new(alloc, io::writer(&rt))?;
+    for row in BufReader::new(alloc, rt.reader())?.lines(alloc) {
+        let row = row?;
+        let answer = answer_of(alloc, row.as_str())?;
+        writeln!(out, "{row}\t{answer}")?;
+    }
+    out.flush()
+}
+
+// What both calls say of a row, and where they disagree once a bit is turned.
+fn answer_of(alloc: Global, row: &str) -> Result<String, AllocError> {
+    let Some((name, digits)) = row.split_once('\t') else {
+        return "no row".to_string(alloc);
+    };
+    let Some(mut bytes) = bytes_of(alloc, digits) else {
+        return "no hex".to_string(alloc);
+    };
+    let Some((validated, decoded)) = told(alloc, name, &bytes) else {
+        return "no message".to_string(alloc);
+    };
+    let mut answer = format!(in alloc; "{}\t{}", text(alloc, validated)?, text(alloc, decoded)?)?;
+    if validated.status == ACCEPTED {
+        for span in fields::located(alloc, name, &bytes)?.iter().enumerate() {
+            let (number, Span { offset, size }) = span;
+            let before = if number == 0 { "\t" } else { " " };
+            write!(answer, "{before}{offset}+{size}")?;
+        }
+    }
+    if validated.taken == bytes.len() {
+        if let Some(bit) = flips::first_dispute(alloc, name, &mut bytes) {
+            write!(answer, "\tdisputed with bit {bit} turned")?;
+        }
+    }
+    Ok(answer)
+}
+
+// The bytes that hex digits stand for; `-` is none.
+fn bytes_of(alloc: Global, digits: &str) -> Option<Vec<u8>> {
+    match digits {
+        "-" => Some(Vec::new(alloc)),
+        _ => hex::decode(alloc, digits).ok(),
+    }
+}
+
+fn text(alloc: Global, said: Outcome) -> Result<String, AllocError> {
+    let Outcome {
+        status,
+        taken,
+        at,
+        detail,
+    } = said;
+    format!(in alloc; "{status} {taken} {at} {detail}")
+}
