@@ -3,7 +3,7 @@
 
 - A block of code has to occur, line by line and in order, in the file that the words before it name
   (`src/leaf.rt`, `specs/Messages.antt`), or, if they name none, in one file under crates/. Space at both ends of a
-  line doesn't count. A block is no quote if it is `console`, or after a line <!-- not quoted -->.
+  line doesn't count; c/, python/ and rust/ are read as crates/ is. A block is no quote if it is `console`, or after a line <!-- not quoted -->.
 - A link that isn't of another site has to lead to a file of the repository, and to a heading of it.
 - A name in `code` that is a path under crates/, docs/, tools/ or .ci/, or has an underscore in it, has to occur in the repository;
   names of what was before, in CHANGELOG.md, and a few of elsewhere don't.
@@ -31,10 +31,10 @@ NAMED = re.compile(r"`((?:src|specs|proofs|must-fail|wrong)/[\w/.-]+|(?:stdin|st
 
 
 def sources():
-    """Each text file under crates/, by its path, as lines without the space around them."""
+    """Each text file under crates/ and of what callers elsewhere are given, by its path, as lines without the space around them."""
     files = {}
-    for path in sorted((TOP / "crates").rglob("*")):
-        if path.is_file() and "out" not in path.relative_to(TOP).parts:
+    for path in [it for root in ("crates", "c", "python", "rust") for it in sorted((TOP / root).rglob("*"))]:
+        if path.is_file() and not {"out", "target"} & set(path.relative_to(TOP).parts):
             try:
                 text = path.read_text()
             except UnicodeDecodeError:

@@ -1,0 +1,18 @@
+/* border: lets standard input through, if it is one MLSMessage, and says else why it isn't.
+ *
+ * Put such a check before the parser that is there: what comes through is the canonical encoding of a message. */
+#include <stdio.h>
+#include <tls_codec/mls.h>
+
+int main(void) {
+  static uint8_t bytes[1 << 20];
+  size_t length = fread(bytes, 1, sizeof bytes, stdin);
+  tls_codec_outcome said = mls_message_validate(bytes, length);
+  uint32_t status = tls_codec_exactly(said, length);
+  if (status != TLS_CODEC_ACCEPTED) {
+    size_t at = status == TLS_CODEC_TRAILING_DATA ? said.taken : said.at;
+    fprintf(stderr, "%s at byte %zu of %zu\n", tls_codec_status_name(status), at, length);
+    return 1;
+  }
+  return fwrite(bytes, 1, length, stdout) != length;
+}

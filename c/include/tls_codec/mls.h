@@ -1,0 +1,143 @@
+/* Written by tools/exports.py from crates/mls_c/src. Don't edit. */
+#ifndef TLS_CODEC_MLS_H
+#define TLS_CODEC_MLS_H
+
+/* Whether bytes begin with a message of MLS, told without memory. */
+
+#include "outcome.h"
+
+#ifdef __cplusplus
+extern "C" {
+#endif
+
+/* Where the fields of a FramedContent are (RFC 9420, section 6). Of opaque it is the bytes without
+   their length. */
+typedef struct mls_framed_content_fields {
+  /* opaque group_id<V>; */
+  tls_codec_span group_id;
+  /* uint64 epoch; */
+  tls_codec_span epoch;
+  /* Sender sender; */
+  tls_codec_span sender;
+  /* opaque authenticated_data<V>; */
+  tls_codec_span authenticated_data;
+  /* ContentType content_type; and the content after it */
+  tls_codec_span content_type;
+} mls_framed_content_fields;
+
+/* Where the fields of a KeyPackage are (RFC 9420, section 10). Of opaque it is the bytes without
+   their length. */
+typedef struct mls_key_package_fields {
+  /* ProtocolVersion version; */
+  tls_codec_span version;
+  /* CipherSuite cipher_suite; */
+  tls_codec_span cipher_suite;
+  /* HPKEPublicKey init_key; */
+  tls_codec_span init_key;
+  /* LeafNode leaf_node; */
+  tls_codec_span leaf_node;
+  /* Extension extensions<V>; with its length */
+  tls_codec_span extensions;
+  /* opaque signature<V>; */
+  tls_codec_span signature;
+} mls_key_package_fields;
+
+/* Where the fields of an MLSMessage are (RFC 9420, section 6). Of opaque it is the bytes without
+   their length. */
+typedef struct mls_message_fields {
+  /* ProtocolVersion version = mls10; */
+  tls_codec_span version;
+  /* WireFormat wire_format; and the message after it */
+  tls_codec_span wire_format;
+} mls_message_fields;
+
+/* Where the fields of a PrivateMessage are (RFC 9420, section 6.3). Of opaque it is the bytes
+   without their length. */
+typedef struct mls_private_message_fields {
+  /* opaque group_id<V>; */
+  tls_codec_span group_id;
+  /* uint64 epoch; */
+  tls_codec_span epoch;
+  /* ContentType content_type; */
+  tls_codec_span content_type;
+  /* opaque authenticated_data<V>; */
+  tls_codec_span authenticated_data;
+  /* opaque encrypted_sender_data<V>; */
+  tls_codec_span encrypted_sender_data;
+  /* opaque ciphertext<V>; */
+  tls_codec_span ciphertext;
+} mls_private_message_fields;
+
+/* Where the fields of a Welcome are (RFC 9420, section 12.4.3.1). Of opaque it is the bytes without
+   their length. */
+typedef struct mls_welcome_fields {
+  /* CipherSuite cipher_suite; */
+  tls_codec_span cipher_suite;
+  /* EncryptedGroupSecrets secrets<V>; with its length */
+  tls_codec_span secrets;
+  /* opaque encrypted_group_info<V>; */
+  tls_codec_span encrypted_group_info;
+} mls_welcome_fields;
+
+/* MLSMessage (RFC 9420, section 6), and where its fields are. */
+tls_codec_outcome mls_message_locate(const uint8_t *bytes, size_t length, mls_message_fields *fields);
+
+/* PrivateMessage (RFC 9420, section 6.3), and where its fields are. */
+tls_codec_outcome mls_private_message_locate(const uint8_t *bytes, size_t length, mls_private_message_fields *fields);
+
+/* FramedContent (RFC 9420, section 6), with which a PublicMessage begins, and where its fields are. */
+tls_codec_outcome mls_framed_content_locate(const uint8_t *bytes, size_t length, mls_framed_content_fields *fields);
+
+/* KeyPackage (RFC 9420, section 10), and where its fields are. */
+tls_codec_outcome mls_key_package_locate(const uint8_t *bytes, size_t length, mls_key_package_fields *fields);
+
+/* Welcome (RFC 9420, section 12.4.3.1), and where its fields are. */
+tls_codec_outcome mls_welcome_locate(const uint8_t *bytes, size_t length, mls_welcome_fields *fields);
+
+/* MLSMessage (RFC 9420, section 6). */
+tls_codec_outcome mls_message_validate(const uint8_t *bytes, size_t length);
+
+/* PublicMessage (RFC 9420, section 6.2). */
+tls_codec_outcome mls_public_message_validate(const uint8_t *bytes, size_t length);
+
+/* PrivateMessage (RFC 9420, section 6.3). */
+tls_codec_outcome mls_private_message_validate(const uint8_t *bytes, size_t length);
+
+/* FramedContent (RFC 9420, section 6). */
+tls_codec_outcome mls_framed_content_validate(const uint8_t *bytes, size_t length);
+
+/* SenderData (RFC 9420, section 6.3.2). */
+tls_codec_outcome mls_sender_data_validate(const uint8_t *bytes, size_t length);
+
+/* Welcome (RFC 9420, section 12.4.3.1). */
+tls_codec_outcome mls_welcome_validate(const uint8_t *bytes, size_t length);
+
+/* GroupSecrets (RFC 9420, section 12.4.3.1). */
+tls_codec_outcome mls_group_secrets_validate(const uint8_t *bytes, size_t length);
+
+/* GroupInfo (RFC 9420, section 12.4.3). */
+tls_codec_outcome mls_group_info_validate(const uint8_t *bytes, size_t length);
+
+/* GroupContext (RFC 9420, section 8.1). */
+tls_codec_outcome mls_group_context_validate(const uint8_t *bytes, size_t length);
+
+/* Commit (RFC 9420, section 12.4). */
+tls_codec_outcome mls_commit_validate(const uint8_t *bytes, size_t length);
+
+/* Proposal (RFC 9420, section 12.1). */
+tls_codec_outcome mls_proposal_validate(const uint8_t *bytes, size_t length);
+
+/* KeyPackage (RFC 9420, section 10). */
+tls_codec_outcome mls_key_package_validate(const uint8_t *bytes, size_t length);
+
+/* LeafNode (RFC 9420, section 7.2). */
+tls_codec_outcome mls_leaf_node_validate(const uint8_t *bytes, size_t length);
+
+/* RatchetTree (RFC 9420, section 12.4.3.3). */
+tls_codec_outcome mls_ratchet_tree_validate(const uint8_t *bytes, size_t length);
+
+#ifdef __cplusplus
+}
+#endif
+
+#endif

@@ -1,0 +1,67 @@
+/* Written by tools/exports.py from crates/tls_codec_outcome/src. Don't edit. */
+#ifndef TLS_CODEC_OUTCOME_H
+#define TLS_CODEC_OUTCOME_H
+
+#include <stddef.h>
+#include <stdint.h>
+
+/* A call's status. The numbers don't change. */
+enum tls_codec_status {
+  TLS_CODEC_ACCEPTED = 0,
+  TLS_CODEC_ENCODING_ERROR = 1,
+  TLS_CODEC_INVALID_VECTOR_LENGTH = 2,
+  TLS_CODEC_INVALID_WRITE_LENGTH = 3,
+  TLS_CODEC_INVALID_INPUT = 4,
+  TLS_CODEC_DECODING_ERROR = 5,
+  TLS_CODEC_END_OF_STREAM = 6,
+  TLS_CODEC_TRAILING_DATA = 7,
+  TLS_CODEC_UNKNOWN_VALUE = 8,
+  TLS_CODEC_LIBRARY_ERROR = 9,
+  TLS_CODEC_OUT_OF_MEMORY = 10
+};
+
+/* A place in some bytes. */
+typedef struct tls_codec_span {
+  /* Where its first byte is. */
+  size_t offset;
+  /* How many bytes it has. */
+  size_t size;
+} tls_codec_span;
+
+/* What a call says of bytes. */
+typedef struct tls_codec_outcome {
+  /* TLS_CODEC_ACCEPTED if the bytes begin with an encoding, and else the number of the error. */
+  uint32_t status;
+  /* How many bytes the encoding has; 0 if there is none. */
+  size_t taken;
+  /* Where the first byte of the rejected field is; 0 of bytes that are accepted. */
+  size_t at;
+  /* The value that TLS_CODEC_UNKNOWN_VALUE has; of other errors 0. */
+  uint64_t detail;
+} tls_codec_outcome;
+
+/* The status if all of the bytes are to be used: TLS_CODEC_TRAILING_DATA if one is left. */
+static inline uint32_t tls_codec_exactly(tls_codec_outcome said, size_t length) {
+  int is_left = said.status == TLS_CODEC_ACCEPTED && said.taken != length;
+  return is_left ? (uint32_t)TLS_CODEC_TRAILING_DATA : said.status;
+}
+
+/* The name of a status, as "EndOfStream"; "?" of another number. */
+static inline const char *tls_codec_status_name(uint32_t status) {
+  switch (status) {
+  case TLS_CODEC_ACCEPTED: return "Accepted";
+  case TLS_CODEC_ENCODING_ERROR: return "EncodingError";
+  case TLS_CODEC_INVALID_VECTOR_LENGTH: return "InvalidVectorLength";
+  case TLS_CODEC_INVALID_WRITE_LENGTH: return "InvalidWriteLength";
+  case TLS_CODEC_INVALID_INPUT: return "InvalidInput";
+  case TLS_CODEC_DECODING_ERROR: return "DecodingError";
+  case TLS_CODEC_END_OF_STREAM: return "EndOfStream";
+  case TLS_CODEC_TRAILING_DATA: return "TrailingData";
+  case TLS_CODEC_UNKNOWN_VALUE: return "UnknownValue";
+  case TLS_CODEC_LIBRARY_ERROR: return "LibraryError";
+  case TLS_CODEC_OUT_OF_MEMORY: return "OutOfMemory";
+  default: return "?";
+  }
+}
+
+#endif

@@ -1,0 +1,153 @@
+/* rows FILE: what the validator says of each row of test_outcome or tls13.tsv, and where the fields are. Then each bit is turned in its turn.
+ *
+ * A row has a message's name, hex or `-`, what the validator is to say, as `STATUS TAKEN AT DETAIL`; of test_outcome what the decoder says,
+ * which isn't called here, and of some accepted messages where their fields are. The bytes lie in a block of their own size, so that a tool that
+ * watches memory sees a read past them. */
+#include <inttypes.h>
+#include <stdio.h>
+#include <stdlib.h>
+#include <string.h>
+#include <tls_codec/mls.h>
+#include <tls_codec/tls13.h>
+#include <tls_codec/tls_codec.h>
+
+typedef tls_codec_outcome call(const uint8_t *bytes, size_t length);
+
+struct message {
+  const char *name;
+  call *validate;
+};
+
+static const struct message messages[] = {
+#define MESSAGE(name) {#name, name##_validate},
+#include "exports.inc"
+#undef MESSAGE
+};
+
+/* What a `locate` says, and what it leaves in its struct. */
+struct located {
+  tls_codec_outcome said;
+  size_t count;
+  tls_codec_span spans[8];
+};
+
+static const struct message *find(const char *name) {
+  for (size_t i = 0; i < sizeof messages / sizeof *messages; i++)
+    if (strcmp(messages[i].name, name) == 0) return &messages[i];
+  return NULL;
+}
+
+/* Calls the message's `locate`, over a struct of which each byte is 0xa5. No spans: it has none. */
+static struct located locate(const char *name, const uint8_t *bytes, size_t length) {
+  struct located found = {{0, 0, 0, 0}, 0, {{0, 0}}};
+#define LOCATED(message, fields)                                       \
+  if (strcmp(name, #message) == 0) {                                   \
+    fields it;                                                         \
+    memset(&it, 0xa5, sizeof it);                                      \
+    found.said = message##_locate(bytes, length, &it);                 \
+    found.count = sizeof it / sizeof(tls_codec_span);                  \
+    memcpy(found.spans, &it, sizeof it);                               \
+  }
+#include "exports.inc"
+#undef LOCATED
+  return found;
+}
+
+static int is_same(tls_codec_outcome one, tls_codec_outcome other) {
+  return one.status == other.status && one.taken == other.taken && one.at == other.at && one.detail == other.detail;
+}
+
+/* Whether the struct is as it was. */
+static int is_kept(const struct located *it) {
+  const unsigned char *byte = (const unsigned char *)it->spans;
+  for (size_t i = 0; i < it->count * sizeof(tls_codec_span); i++)
+    if (byte[i] != 0xa5) return 0;
+  return 1;
+}
+
+/* Whether each field is behind the one before it, and all of them in the message. */
+static int are_in(const struct located *it, size_t taken) {
+  size_t end = 0;
+  for (size_t i = 0; i < it->count; i++) {
+    if (it->spans[i].offset < end || it->spans[i].offset > taken || it->spans[i].size > taken - it->spans[i].offset) return 0;
+    end = it->spans[i].offset + it->spans[i].size;
+  }
+  return end == taken;
+}
+
+/* What has to be so of any bytes. */
+static int is_sound(const struct message *it, const uint8_t *bytes, size_t length) {
+  tls_codec_outcome said = it->validate(bytes, length);
+  struct located found = locate(it->name, bytes, length);
+  int is_accepted = said.status == TLS_CODEC_ACCEPTED;
+  int is_well = is_accepted ? said.taken <= length && !said.at && !said.detail
+                            : !said.taken && said.at <= length && said.status < TLS_CODEC_OUT_OF_MEMORY;
+  if (!found.count) return is_well;
+  return is_well && is_same(said, found.said) && (is_accepted ? are_in(&found, said.taken) : is_kept(&found));
+}
+
+static int is_sound_with_each_bit_turned(const struct message *it, uint8_t *bytes, size_t length) {
+  int failed = !is_sound(it, bytes, length);
+  for (size_t bit = 0; bit < 8 * length; bit++) {
+    bytes[bit / 8] ^= (uint8_t)(1u << bit % 8);
+    failed += !is_sound(it, bytes, length);
+    bytes[bit / 8] ^= (uint8_t)(1u << bit % 8);
+  }
+  if (failed) printf("%s: of %zu bits turned, %d say what can't be\n", it->name, 8 * length, failed);
+  return failed == 0;
+}
+
+/* Whether the fields are where the row has them; a row of which it tells none has no such column. */
+static int are_placed(const struct message *it, const uint8_t *bytes, size_t length, const char *wanted) {
+  char text[512] = "";
+  struct located found = locate(it->name, bytes, length);
+  for (size_t i = 0; found.said.status == TLS_CODEC_ACCEPTED && i < found.count; i++) {
+    size_t used = strlen(text);
+    snprintf(text + used, sizeof text - used, "%s%zu+%zu", i ? " " : "", found.spans[i].offset, found.spans[i].size);
+  }
+  if (strcmp(text, wanted) == 0) return 1;
+  printf("%s: its fields are at %s, and not at %s\n", it->name, text, wanted);
+  return 0;
+}
+
+static int is_told(const char *name, tls_codec_outcome said, const char *wanted) {
+  char text[128];
+  snprintf(text, sizeof text, "%" PRIu32 " %zu %zu %" PRIu64, said.status, said.taken, said.at, said.detail);
+  if (strcmp(text, wanted) == 0) return 1;
+  printf("%s: the validator says %s (%s), and not %s\n", name, text, tls_codec_status_name(said.status), wanted);
+  return 0;
+}
+
+/* The bytes of a row, or NULL. */
+static uint8_t *bytes_of(const char *digits, size_t *length) {
+  *length = strcmp(digits, "-") == 0 ? 0 : strlen(digits) / 2;
+  uint8_t *bytes = malloc(*length ? *length : 1);
+  for (size_t i = 0; bytes && i < *length; i++) sscanf(digits + 2 * i, "%2" SCNx8, &bytes[i]);
+  return bytes;
+}
+
+int main(int count, char **words) {
+  static char line[1 << 17];
+  FILE *file = count > 1 ? fopen(words[1], "r") : NULL;
+  if (!file) return 2;
+  int rows = 0, failed = 0;
+  while (fgets(line, sizeof line, file)) {
+    char *name = strtok(line, "\t"), *digits = strtok(NULL, "\t"), *validated = strtok(NULL, "\t\n");
+    const char *fields = strtok(NULL, "\t\n") ? strtok(NULL, "\n") : NULL;
+    const struct message *it = validated ? find(name) : NULL;
+    size_t length;
+    uint8_t *bytes = it ? bytes_of(digits, &length) : NULL;
+    if (!bytes) {
+      printf("no such row: %s\n", line);
+      return 2;
+    }
+    rows++;
+    int is_well = is_told(name, it->validate(bytes, length), validated);
+    is_well &= are_placed(it, bytes, length, fields ? fields : "");
+    failed += !(is_sound_with_each_bit_turned(it, bytes, length) && is_well);
+    free(bytes);
+  }
+  fclose(file);
+  printf("%d rows, %d failed\n", rows, failed);
+  return failed || !rows;
+}

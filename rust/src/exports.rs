@@ -1,0 +1,510 @@
+//! Written by tools/exports.py. Don't edit.
+#![allow(missing_docs)]
+
+/// What a call says of bytes.
+#[repr(C)]
+#[derive(Clone, Copy, Default)]
+pub struct Outcome {
+    pub status: u32,
+    pub taken: usize,
+    pub at: usize,
+    pub detail: u64,
+}
+
+/// Why bytes are rejected.
+#[derive(Clone, Copy, PartialEq, Eq, Debug)]
+#[non_exhaustive]
+pub enum Error {
+    /// Status 1.
+    EncodingError,
+    /// Status 2.
+    InvalidVectorLength,
+    /// Status 3.
+    InvalidWriteLength,
+    /// Status 4.
+    InvalidInput,
+    /// Status 5.
+    DecodingError,
+    /// Status 6.
+    EndOfStream,
+    /// Status 7.
+    TrailingData,
+    /// Status 8.
+    UnknownValue(u64),
+    /// Status 9.
+    LibraryError,
+    /// Status 10.
+    OutOfMemory,
+    /// A status that these declarations don't have.
+    Other(u32),
+}
+
+impl Error {
+    pub(crate) fn of(said: &Outcome) -> Error {
+        match said.status {
+            1 => Error::EncodingError,
+            2 => Error::InvalidVectorLength,
+            3 => Error::InvalidWriteLength,
+            4 => Error::InvalidInput,
+            5 => Error::DecodingError,
+            6 => Error::EndOfStream,
+            7 => Error::TrailingData,
+            8 => Error::UnknownValue(said.detail),
+            9 => Error::LibraryError,
+            10 => Error::OutOfMemory,
+            other => Error::Other(other),
+        }
+    }
+}
+
+/// A place in some bytes.
+#[repr(C)]
+#[derive(Clone, Copy, Default)]
+pub struct Span {
+    pub offset: usize,
+    pub size: usize,
+}
+
+/// Whether bytes begin with a variable-length integer, or with bytes after a length, told without memory.
+pub mod tls_codec {
+    use crate::{Rejected, Span, split, split_as};
+
+    mod foreign {
+        use crate::{Outcome, Span};
+
+        #[link(name = "tls_codec_c", kind = "static")]
+        unsafe extern "C" {
+            pub fn tls_codec_varint_validate(bytes: *const u8, length: usize) -> Outcome;
+            pub fn tls_codec_opaque_v_locate(bytes: *const u8, length: usize, content: &mut Span) -> Outcome;
+            pub fn tls_codec_opaque_u8_locate(bytes: *const u8, length: usize, content: &mut Span) -> Outcome;
+            pub fn tls_codec_opaque_u16_locate(bytes: *const u8, length: usize, content: &mut Span) -> Outcome;
+            pub fn tls_codec_opaque_u24_locate(bytes: *const u8, length: usize, content: &mut Span) -> Outcome;
+        }
+    }
+
+    /// A variable-length integer (RFC 9000, section 16) in its least width. The message that the bytes begin with, and the rest of them.
+    pub fn varint(bytes: &[u8]) -> Result<(&[u8], &[u8]), Rejected> {
+        split(bytes, foreign::tls_codec_varint_validate)
+    }
+
+    /// `opaque content<V>` (RFC 9420, section 2.1.2), and where its content is. A list `<V>` has its elements there. That content, and the rest of the bytes.
+    pub fn opaque_v_locate(bytes: &[u8]) -> Result<(&[u8], &[u8]), Rejected> {
+        let mut found = Span::default();
+        // SAFETY: so many bytes are at the pointer, and nothing changes them during the call, which keeps no pointer.
+        let said = unsafe { foreign::tls_codec_opaque_v_locate(bytes.as_ptr(), bytes.len(), &mut found) };
+        let (_, rest) = split_as(bytes, said)?;
+        Ok((found.of(bytes), rest))
+    }
+
+    /// `opaque content<0..2^8-1>` (RFC 8446, section 3.4), and where its content is. That content, and the rest of the bytes.
+    pub fn opaque_u8_locate(bytes: &[u8]) -> Result<(&[u8], &[u8]), Rejected> {
+        let mut found = Span::default();
+        // SAFETY: so many bytes are at the pointer, and nothing changes them during the call, which keeps no pointer.
+        let said = unsafe { foreign::tls_codec_opaque_u8_locate(bytes.as_ptr(), bytes.len(), &mut found) };
+        let (_, rest) = split_as(bytes, said)?;
+        Ok((found.of(bytes), rest))
+    }
+
+    /// `opaque content<0..2^16-1>`, and where its content is. That content, and the rest of the bytes.
+    pub fn opaque_u16_locate(bytes: &[u8]) -> Result<(&[u8], &[u8]), Rejected> {
+        let mut found = Span::default();
+        // SAFETY: so many bytes are at the pointer, and nothing changes them during the call, which keeps no pointer.
+        let said = unsafe { foreign::tls_codec_opaque_u16_locate(bytes.as_ptr(), bytes.len(), &mut found) };
+        let (_, rest) = split_as(bytes, said)?;
+        Ok((found.of(bytes), rest))
+    }
+
+    /// `opaque content<0..2^24-1>`, and where its content is. That content, and the rest of the bytes.
+    pub fn opaque_u24_locate(bytes: &[u8]) -> Result<(&[u8], &[u8]), Rejected> {
+        let mut found = Span::default();
+        // SAFETY: so many bytes are at the pointer, and nothing changes them during the call, which keeps no pointer.
+        let said = unsafe { foreign::tls_codec_opaque_u24_locate(bytes.as_ptr(), bytes.len(), &mut found) };
+        let (_, rest) = split_as(bytes, said)?;
+        Ok((found.of(bytes), rest))
+    }
+}
+
+/// Whether bytes begin with a message of TLS 1.3, told without memory.
+pub mod tls13 {
+    use crate::{Rejected, split};
+
+    mod foreign {
+        use crate::Outcome;
+
+        #[link(name = "tls13_c", kind = "static")]
+        unsafe extern "C" {
+            pub fn tls13_tls_plaintext_validate(bytes: *const u8, length: usize) -> Outcome;
+            pub fn tls13_tls_ciphertext_validate(bytes: *const u8, length: usize) -> Outcome;
+            pub fn tls13_alert_validate(bytes: *const u8, length: usize) -> Outcome;
+            pub fn tls13_handshake_validate(bytes: *const u8, length: usize) -> Outcome;
+            pub fn tls13_client_hello_validate(bytes: *const u8, length: usize) -> Outcome;
+            pub fn tls13_server_hello_validate(bytes: *const u8, length: usize) -> Outcome;
+            pub fn tls13_encrypted_extensions_validate(bytes: *const u8, length: usize) -> Outcome;
+            pub fn tls13_certificate_request_validate(bytes: *const u8, length: usize) -> Outcome;
+            pub fn tls13_certificate_validate(bytes: *const u8, length: usize) -> Outcome;
+            pub fn tls13_certificate_verify_validate(bytes: *const u8, length: usize) -> Outcome;
+            pub fn tls13_new_session_ticket_validate(bytes: *const u8, length: usize) -> Outcome;
+            pub fn tls13_key_update_validate(bytes: *const u8, length: usize) -> Outcome;
+        }
+    }
+
+    /// `TLSPlaintext` (RFC 8446, appendix B.1). The message that the bytes begin with, and the rest of them.
+    pub fn tls_plaintext(bytes: &[u8]) -> Result<(&[u8], &[u8]), Rejected> {
+        split(bytes, foreign::tls13_tls_plaintext_validate)
+    }
+
+    /// `TLSCiphertext` (RFC 8446, appendix B.1). The message that the bytes begin with, and the rest of them.
+    pub fn tls_ciphertext(bytes: &[u8]) -> Result<(&[u8], &[u8]), Rejected> {
+        split(bytes, foreign::tls13_tls_ciphertext_validate)
+    }
+
+    /// `Alert` (RFC 8446, appendix B.2). The message that the bytes begin with, and the rest of them.
+    pub fn alert(bytes: &[u8]) -> Result<(&[u8], &[u8]), Rejected> {
+        split(bytes, foreign::tls13_alert_validate)
+    }
+
+    /// `Handshake` (RFC 8446, appendix B.3). The message that the bytes begin with, and the rest of them.
+    pub fn handshake(bytes: &[u8]) -> Result<(&[u8], &[u8]), Rejected> {
+        split(bytes, foreign::tls13_handshake_validate)
+    }
+
+    /// `ClientHello` (RFC 8446, appendix B.3.1). The message that the bytes begin with, and the rest of them.
+    pub fn client_hello(bytes: &[u8]) -> Result<(&[u8], &[u8]), Rejected> {
+        split(bytes, foreign::tls13_client_hello_validate)
+    }
+
+    /// `ServerHello` (RFC 8446, appendix B.3.1). The message that the bytes begin with, and the rest of them.
+    pub fn server_hello(bytes: &[u8]) -> Result<(&[u8], &[u8]), Rejected> {
+        split(bytes, foreign::tls13_server_hello_validate)
+    }
+
+    /// `EncryptedExtensions` (RFC 8446, appendix B.3.2). The message that the bytes begin with, and the rest of them.
+    pub fn encrypted_extensions(bytes: &[u8]) -> Result<(&[u8], &[u8]), Rejected> {
+        split(bytes, foreign::tls13_encrypted_extensions_validate)
+    }
+
+    /// `CertificateRequest` (RFC 8446, appendix B.3.2). The message that the bytes begin with, and the rest of them.
+    pub fn certificate_request(bytes: &[u8]) -> Result<(&[u8], &[u8]), Rejected> {
+        split(bytes, foreign::tls13_certificate_request_validate)
+    }
+
+    /// `Certificate` (RFC 8446, appendix B.3.3). The message that the bytes begin with, and the rest of them.
+    pub fn certificate(bytes: &[u8]) -> Result<(&[u8], &[u8]), Rejected> {
+        split(bytes, foreign::tls13_certificate_validate)
+    }
+
+    /// `CertificateVerify` (RFC 8446, appendix B.3.3). The message that the bytes begin with, and the rest of them.
+    pub fn certificate_verify(bytes: &[u8]) -> Result<(&[u8], &[u8]), Rejected> {
+        split(bytes, foreign::tls13_certificate_verify_validate)
+    }
+
+    /// `NewSessionTicket` (RFC 8446, appendix B.3.4). The message that the bytes begin with, and the rest of them.
+    pub fn new_session_ticket(bytes: &[u8]) -> Result<(&[u8], &[u8]), Rejected> {
+        split(bytes, foreign::tls13_new_session_ticket_validate)
+    }
+
+    /// `KeyUpdate` (RFC 8446, appendix B.3.5). The message that the bytes begin with, and the rest of them.
+    pub fn key_update(bytes: &[u8]) -> Result<(&[u8], &[u8]), Rejected> {
+        split(bytes, foreign::tls13_key_update_validate)
+    }
+}
+
+/// Whether bytes begin with a message of MLS, told without memory.
+pub mod mls {
+    use crate::{Rejected, split, split_as};
+
+    mod foreign {
+        use crate::{Outcome, Span};
+
+        /// Where the fields of an `MLSMessage` are (RFC 9420, section 6). Of `opaque` it is the bytes without their length.
+        #[repr(C)]
+        #[derive(Clone, Copy, Default)]
+        pub struct MLSMessageFields {
+            pub version: Span,
+            pub wire_format: Span,
+        }
+
+        /// Where the fields of a `PrivateMessage` are (RFC 9420, section 6.3). Of `opaque` it is the bytes without their length.
+        #[repr(C)]
+        #[derive(Clone, Copy, Default)]
+        pub struct PrivateMessageFields {
+            pub group_id: Span,
+            pub epoch: Span,
+            pub content_type: Span,
+            pub authenticated_data: Span,
+            pub encrypted_sender_data: Span,
+            pub ciphertext: Span,
+        }
+
+        /// Where the fields of a `FramedContent` are (RFC 9420, section 6). Of `opaque` it is the bytes without their length.
+        #[repr(C)]
+        #[derive(Clone, Copy, Default)]
+        pub struct FramedContentFields {
+            pub group_id: Span,
+            pub epoch: Span,
+            pub sender: Span,
+            pub authenticated_data: Span,
+            pub content_type: Span,
+        }
+
+        /// Where the fields of a `KeyPackage` are (RFC 9420, section 10). Of `opaque` it is the bytes without their length.
+        #[repr(C)]
+        #[derive(Clone, Copy, Default)]
+        pub struct KeyPackageFields {
+            pub version: Span,
+            pub cipher_suite: Span,
+            pub init_key: Span,
+            pub leaf_node: Span,
+            pub extensions: Span,
+            pub signature: Span,
+        }
+
+        /// Where the fields of a `Welcome` are (RFC 9420, section 12.4.3.1). Of `opaque` it is the bytes without their length.
+        #[repr(C)]
+        #[derive(Clone, Copy, Default)]
+        pub struct WelcomeFields {
+            pub cipher_suite: Span,
+            pub secrets: Span,
+            pub encrypted_group_info: Span,
+        }
+
+        #[link(name = "mls_c", kind = "static")]
+        unsafe extern "C" {
+            pub fn mls_message_locate(bytes: *const u8, length: usize, fields: &mut MLSMessageFields) -> Outcome;
+            pub fn mls_private_message_locate(bytes: *const u8, length: usize, fields: &mut PrivateMessageFields) -> Outcome;
+            pub fn mls_framed_content_locate(bytes: *const u8, length: usize, fields: &mut FramedContentFields) -> Outcome;
+            pub fn mls_key_package_locate(bytes: *const u8, length: usize, fields: &mut KeyPackageFields) -> Outcome;
+            pub fn mls_welcome_locate(bytes: *const u8, length: usize, fields: &mut WelcomeFields) -> Outcome;
+            pub fn mls_message_validate(bytes: *const u8, length: usize) -> Outcome;
+            pub fn mls_public_message_validate(bytes: *const u8, length: usize) -> Outcome;
+            pub fn mls_private_message_validate(bytes: *const u8, length: usize) -> Outcome;
+            pub fn mls_framed_content_validate(bytes: *const u8, length: usize) -> Outcome;
+            pub fn mls_sender_data_validate(bytes: *const u8, length: usize) -> Outcome;
+            pub fn mls_welcome_validate(bytes: *const u8, length: usize) -> Outcome;
+            pub fn mls_group_secrets_validate(bytes: *const u8, length: usize) -> Outcome;
+            pub fn mls_group_info_validate(bytes: *const u8, length: usize) -> Outcome;
+            pub fn mls_group_context_validate(bytes: *const u8, length: usize) -> Outcome;
+            pub fn mls_commit_validate(bytes: *const u8, length: usize) -> Outcome;
+            pub fn mls_proposal_validate(bytes: *const u8, length: usize) -> Outcome;
+            pub fn mls_key_package_validate(bytes: *const u8, length: usize) -> Outcome;
+            pub fn mls_leaf_node_validate(bytes: *const u8, length: usize) -> Outcome;
+            pub fn mls_ratchet_tree_validate(bytes: *const u8, length: usize) -> Outcome;
+        }
+    }
+
+    /// `MLSMessage` (RFC 9420, section 6). The message that the bytes begin with, and the rest of them.
+    pub fn message(bytes: &[u8]) -> Result<(&[u8], &[u8]), Rejected> {
+        split(bytes, foreign::mls_message_validate)
+    }
+
+    /// `PublicMessage` (RFC 9420, section 6.2). The message that the bytes begin with, and the rest of them.
+    pub fn public_message(bytes: &[u8]) -> Result<(&[u8], &[u8]), Rejected> {
+        split(bytes, foreign::mls_public_message_validate)
+    }
+
+    /// `PrivateMessage` (RFC 9420, section 6.3). The message that the bytes begin with, and the rest of them.
+    pub fn private_message(bytes: &[u8]) -> Result<(&[u8], &[u8]), Rejected> {
+        split(bytes, foreign::mls_private_message_validate)
+    }
+
+    /// `FramedContent` (RFC 9420, section 6). The message that the bytes begin with, and the rest of them.
+    pub fn framed_content(bytes: &[u8]) -> Result<(&[u8], &[u8]), Rejected> {
+        split(bytes, foreign::mls_framed_content_validate)
+    }
+
+    /// `SenderData` (RFC 9420, section 6.3.2). The message that the bytes begin with, and the rest of them.
+    pub fn sender_data(bytes: &[u8]) -> Result<(&[u8], &[u8]), Rejected> {
+        split(bytes, foreign::mls_sender_data_validate)
+    }
+
+    /// `Welcome` (RFC 9420, section 12.4.3.1). The message that the bytes begin with, and the rest of them.
+    pub fn welcome(bytes: &[u8]) -> Result<(&[u8], &[u8]), Rejected> {
+        split(bytes, foreign::mls_welcome_validate)
+    }
+
+    /// `GroupSecrets` (RFC 9420, section 12.4.3.1). The message that the bytes begin with, and the rest of them.
+    pub fn group_secrets(bytes: &[u8]) -> Result<(&[u8], &[u8]), Rejected> {
+        split(bytes, foreign::mls_group_secrets_validate)
+    }
+
+    /// `GroupInfo` (RFC 9420, section 12.4.3). The message that the bytes begin with, and the rest of them.
+    pub fn group_info(bytes: &[u8]) -> Result<(&[u8], &[u8]), Rejected> {
+        split(bytes, foreign::mls_group_info_validate)
+    }
+
+    /// `GroupContext` (RFC 9420, section 8.1). The message that the bytes begin with, and the rest of them.
+    pub fn group_context(bytes: &[u8]) -> Result<(&[u8], &[u8]), Rejected> {
+        split(bytes, foreign::mls_group_context_validate)
+    }
+
+    /// `Commit` (RFC 9420, section 12.4). The message that the bytes begin with, and the rest of them.
+    pub fn commit(bytes: &[u8]) -> Result<(&[u8], &[u8]), Rejected> {
+        split(bytes, foreign::mls_commit_validate)
+    }
+
+    /// `Proposal` (RFC 9420, section 12.1). The message that the bytes begin with, and the rest of them.
+    pub fn proposal(bytes: &[u8]) -> Result<(&[u8], &[u8]), Rejected> {
+        split(bytes, foreign::mls_proposal_validate)
+    }
+
+    /// `KeyPackage` (RFC 9420, section 10). The message that the bytes begin with, and the rest of them.
+    pub fn key_package(bytes: &[u8]) -> Result<(&[u8], &[u8]), Rejected> {
+        split(bytes, foreign::mls_key_package_validate)
+    }
+
+    /// `LeafNode` (RFC 9420, section 7.2). The message that the bytes begin with, and the rest of them.
+    pub fn leaf_node(bytes: &[u8]) -> Result<(&[u8], &[u8]), Rejected> {
+        split(bytes, foreign::mls_leaf_node_validate)
+    }
+
+    /// `RatchetTree` (RFC 9420, section 12.4.3.3). The message that the bytes begin with, and the rest of them.
+    pub fn ratchet_tree(bytes: &[u8]) -> Result<(&[u8], &[u8]), Rejected> {
+        split(bytes, foreign::mls_ratchet_tree_validate)
+    }
+
+    /// Where the fields of an `MLSMessage` are (RFC 9420, section 6). Of `opaque` it is the bytes without their length.
+    #[derive(Clone, Copy, PartialEq, Eq, Debug)]
+    pub struct MLSMessageFields<'a> {
+        /// `ProtocolVersion version = mls10;`
+        pub version: &'a [u8],
+        /// `WireFormat wire_format;` and the message after it
+        pub wire_format: &'a [u8],
+    }
+
+    /// `MLSMessage` (RFC 9420, section 6), and where its fields are. Of the message that the bytes begin with; and the rest of them.
+    pub fn message_locate(bytes: &[u8]) -> Result<(MLSMessageFields<'_>, &[u8]), Rejected> {
+        let mut found = foreign::MLSMessageFields::default();
+        // SAFETY: so many bytes are at the pointer, and nothing changes them during the call, which keeps no pointer.
+        let said = unsafe { foreign::mls_message_locate(bytes.as_ptr(), bytes.len(), &mut found) };
+        let (_, rest) = split_as(bytes, said)?;
+        let fields = MLSMessageFields {
+            version: found.version.of(bytes),
+            wire_format: found.wire_format.of(bytes),
+        };
+        Ok((fields, rest))
+    }
+
+    /// Where the fields of a `PrivateMessage` are (RFC 9420, section 6.3). Of `opaque` it is the bytes without their length.
+    #[derive(Clone, Copy, PartialEq, Eq, Debug)]
+    pub struct PrivateMessageFields<'a> {
+        /// `opaque group_id<V>;`
+        pub group_id: &'a [u8],
+        /// `uint64 epoch;`
+        pub epoch: &'a [u8],
+        /// `ContentType content_type;`
+        pub content_type: &'a [u8],
+        /// `opaque authenticated_data<V>;`
+        pub authenticated_data: &'a [u8],
+        /// `opaque encrypted_sender_data<V>;`
+        pub encrypted_sender_data: &'a [u8],
+        /// `opaque ciphertext<V>;`
+        pub ciphertext: &'a [u8],
+    }
+
+    /// `PrivateMessage` (RFC 9420, section 6.3), and where its fields are. Of the message that the bytes begin with; and the rest of them.
+    pub fn private_message_locate(bytes: &[u8]) -> Result<(PrivateMessageFields<'_>, &[u8]), Rejected> {
+        let mut found = foreign::PrivateMessageFields::default();
+        // SAFETY: so many bytes are at the pointer, and nothing changes them during the call, which keeps no pointer.
+        let said = unsafe { foreign::mls_private_message_locate(bytes.as_ptr(), bytes.len(), &mut found) };
+        let (_, rest) = split_as(bytes, said)?;
+        let fields = PrivateMessageFields {
+            group_id: found.group_id.of(bytes),
+            epoch: found.epoch.of(bytes),
+            content_type: found.content_type.of(bytes),
+            authenticated_data: found.authenticated_data.of(bytes),
+            encrypted_sender_data: found.encrypted_sender_data.of(bytes),
+            ciphertext: found.ciphertext.of(bytes),
+        };
+        Ok((fields, rest))
+    }
+
+    /// Where the fields of a `FramedContent` are (RFC 9420, section 6). Of `opaque` it is the bytes without their length.
+    #[derive(Clone, Copy, PartialEq, Eq, Debug)]
+    pub struct FramedContentFields<'a> {
+        /// `opaque group_id<V>;`
+        pub group_id: &'a [u8],
+        /// `uint64 epoch;`
+        pub epoch: &'a [u8],
+        /// `Sender sender;`
+        pub sender: &'a [u8],
+        /// `opaque authenticated_data<V>;`
+        pub authenticated_data: &'a [u8],
+        /// `ContentType content_type;` and the content after it
+        pub content_type: &'a [u8],
+    }
+
+    /// `FramedContent` (RFC 9420, section 6), with which a `PublicMessage` begins, and where its fields are. Of the message that the bytes begin with; and the rest of them.
+    pub fn framed_content_locate(bytes: &[u8]) -> Result<(FramedContentFields<'_>, &[u8]), Rejected> {
+        let mut found = foreign::FramedContentFields::default();
+        // SAFETY: so many bytes are at the pointer, and nothing changes them during the call, which keeps no pointer.
+        let said = unsafe { foreign::mls_framed_content_locate(bytes.as_ptr(), bytes.len(), &mut found) };
+        let (_, rest) = split_as(bytes, said)?;
+        let fields = FramedContentFields {
+            group_id: found.group_id.of(bytes),
+            epoch: found.epoch.of(bytes),
+            sender: found.sender.of(bytes),
+            authenticated_data: found.authenticated_data.of(bytes),
+            content_type: found.content_type.of(bytes),
+        };
+        Ok((fields, rest))
+    }
+
+    /// Where the fields of a `KeyPackage` are (RFC 9420, section 10). Of `opaque` it is the bytes without their length.
+    #[derive(Clone, Copy, PartialEq, Eq, Debug)]
+    pub struct KeyPackageFields<'a> {
+        /// `ProtocolVersion version;`
+        pub version: &'a [u8],
+        /// `CipherSuite cipher_suite;`
+        pub cipher_suite: &'a [u8],
+        /// `HPKEPublicKey init_key;`
+        pub init_key: &'a [u8],
+        /// `LeafNode leaf_node;`
+        pub leaf_node: &'a [u8],
+        /// `Extension extensions<V>;` with its length
+        pub extensions: &'a [u8],
+        /// `opaque signature<V>;`
+        pub signature: &'a [u8],
+    }
+
+    /// `KeyPackage` (RFC 9420, section 10), and where its fields are. Of the message that the bytes begin with; and the rest of them.
+    pub fn key_package_locate(bytes: &[u8]) -> Result<(KeyPackageFields<'_>, &[u8]), Rejected> {
+        let mut found = foreign::KeyPackageFields::default();
+        // SAFETY: so many bytes are at the pointer, and nothing changes them during the call, which keeps no pointer.
+        let said = unsafe { foreign::mls_key_package_locate(bytes.as_ptr(), bytes.len(), &mut found) };
+        let (_, rest) = split_as(bytes, said)?;
+        let fields = KeyPackageFields {
+            version: found.version.of(bytes),
+            cipher_suite: found.cipher_suite.of(bytes),
+            init_key: found.init_key.of(bytes),
+            leaf_node: found.leaf_node.of(bytes),
+            extensions: found.extensions.of(bytes),
+            signature: found.signature.of(bytes),
+        };
+        Ok((fields, rest))
+    }
+
+    /// Where the fields of a `Welcome` are (RFC 9420, section 12.4.3.1). Of `opaque` it is the bytes without their length.
+    #[derive(Clone, Copy, PartialEq, Eq, Debug)]
+    pub struct WelcomeFields<'a> {
+        /// `CipherSuite cipher_suite;`
+        pub cipher_suite: &'a [u8],
+        /// `EncryptedGroupSecrets secrets<V>;` with its length
+        pub secrets: &'a [u8],
+        /// `opaque encrypted_group_info<V>;`
+        pub encrypted_group_info: &'a [u8],
+    }
+
+    /// `Welcome` (RFC 9420, section 12.4.3.1), and where its fields are. Of the message that the bytes begin with; and the rest of them.
+    pub fn welcome_locate(bytes: &[u8]) -> Result<(WelcomeFields<'_>, &[u8]), Rejected> {
+        let mut found = foreign::WelcomeFields::default();
+        // SAFETY: so many bytes are at the pointer, and nothing changes them during the call, which keeps no pointer.
+        let said = unsafe { foreign::mls_welcome_locate(bytes.as_ptr(), bytes.len(), &mut found) };
+        let (_, rest) = split_as(bytes, said)?;
+        let fields = WelcomeFields {
+            cipher_suite: found.cipher_suite.of(bytes),
+            secrets: found.secrets.of(bytes),
+            encrypted_group_info: found.encrypted_group_info.of(bytes),
+        };
+        Ok((fields, rest))
+    }
+}

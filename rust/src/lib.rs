@@ -1,0 +1,86 @@
+//! Whether bytes are a message of TLS 1.3 ([`tls13`]) or MLS ([`mls`]), told without a value and without memory.
+//!
+//! The functions are proved, in Rattle, and linked as static libraries: bytes are accepted exactly if they begin with an encoding
+//! of the message, and what is accepted is the message's canonical encoding. `docs/CALLERS.md` of the repository says what is
+//! proved and what is trusted.
+//!
+//! ```
+//! use tls_codec_border::{Error, Rejected, exactly, tls13};
+//!
+//! // an alert of two bytes, and what comes after it
+//! assert_eq!(tls13::alert(&[2, 42, 0xee]), Ok((&[2, 42][..], &[0xee][..])));
+//!
+//! // nothing may come after it
+//! assert_eq!(exactly(tls13::alert(&[2, 42])), Ok(&[2, 42][..]));
+//! let left = Rejected { error: Error::TrailingData, at: 2 };
+//! assert_eq!(exactly(tls13::alert(&[2, 42, 0xee])), Err(left));
+//!
+//! // why, and which field: the description isn't there
+//! let cut = Rejected { error: Error::EndOfStream, at: 1 };
+//! assert_eq!(tls13::alert(&[2]), Err(cut));
+//! ```
+#![no_std]
+#![warn(missing_docs)]
+
+mod exports;
+
+use core::fmt;
+use exports::{Outcome, Span};
+pub use exports::{Error, mls, tls_codec, tls13};
+
+/// Why bytes are rejected, and where.
+#[derive(Clone, Copy, PartialEq, Eq, Debug)]
+pub struct Rejected {
+    /// The error that the decoder has too.
+    pub error: Error,
+    /// Where the first byte of the rejected field is; of `TrailingData` the first byte that is left.
+    pub at: usize,
+}
+
+impl fmt::Display for Rejected {
+    fn fmt(&self, f: &mut fmt::Formatter<'_>) -> fmt::Result {
+        write!(f, "{:?} at byte {}", self.error, self.at)
+    }
+}
+
+impl core::error::Error for Rejected {}
+
+/// The message, if nothing comes after it.
+pub fn exactly<'a>(found: Result<(&'a [u8], &'a [u8]), Rejected>) -> Result<&'a [u8], Rejected> {
+    let (message, rest) = found?;
+    if !rest.is_empty() {
+        return Err(Rejected {
+            error: Error::TrailingData,
+            at: message.len(),
+        });
+    }
+    Ok(message)
+}
+
+/// What a validator says of bytes.
+fn split(
+    bytes: &[u8],
+    validate: unsafe extern "C" fn(*const u8, usize) -> Outcome,
+) -> Result<(&[u8], &[u8]), Rejected> {
+    // SAFETY: so many bytes are at the pointer, and nothing changes them during the call, which keeps no pointer.
+    let said = unsafe { validate(bytes.as_ptr(), bytes.len()) };
+    split_as(bytes, said)
+}
+
+/// The bytes as a call says that they are to be split.
+fn split_as(bytes: &[u8], said: Outcome) -> Result<(&[u8], &[u8]), Rejected> {
+    if said.status != 0 {
+        return Err(Rejected {
+            error: Error::of(&said),
+            at: said.at,
+        });
+    }
+    Ok(bytes.split_at(said.taken))
+}
+
+impl Span {
+    /// The bytes at this place.
+    fn of(self, bytes: &[u8]) -> &[u8] {
+        &bytes[self.offset..][..self.size]
+    }
+}

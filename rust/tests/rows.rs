@@ -1,0 +1,128 @@
+//! The rows of `test_outcome` and of `c/tests/tls13.tsv`: what each message's validator says.
+use std::fs;
+use tls_codec_border::{Error, Rejected, exactly, mls, tls_codec, tls13};
+
+type Split<'a> = Result<(&'a [u8], &'a [u8]), Rejected>;
+
+fn split<'a>(name: &str, bytes: &'a [u8]) -> Split<'a> {
+    let call = match name {
+        "mls_message" => mls::message,
+        "mls_public_message" => mls::public_message,
+        "mls_private_message" => mls::private_message,
+        "mls_framed_content" => mls::framed_content,
+        "mls_sender_data" => mls::sender_data,
+        "mls_welcome" => mls::welcome,
+        "mls_group_secrets" => mls::group_secrets,
+        "mls_group_info" => mls::group_info,
+        "mls_group_context" => mls::group_context,
+        "mls_commit" => mls::commit,
+        "mls_proposal" => mls::proposal,
+        "mls_key_package" => mls::key_package,
+        "mls_leaf_node" => mls::leaf_node,
+        "mls_ratchet_tree" => mls::ratchet_tree,
+        "tls13_tls_plaintext" => tls13::tls_plaintext,
+        "tls13_tls_ciphertext" => tls13::tls_ciphertext,
+        "tls13_alert" => tls13::alert,
+        "tls13_handshake" => tls13::handshake,
+        "tls13_client_hello" => tls13::client_hello,
+        "tls13_server_hello" => tls13::server_hello,
+        "tls13_encrypted_extensions" => tls13::encrypted_extensions,
+        "tls13_certificate_request" => tls13::certificate_request,
+        "tls13_certificate" => tls13::certificate,
+        "tls13_certificate_verify" => tls13::certificate_verify,
+        "tls13_new_session_ticket" => tls13::new_session_ticket,
+        "tls13_key_update" => tls13::key_update,
+        other => panic!("no message {other}"),
+    };
+    call(bytes)
+}
+
+fn bytes_of(digits: &str) -> Vec<u8> {
+    if digits == "-" {
+        return Vec::new();
+    }
+    let byte = |at| u8::from_str_radix(&digits[at..at + 2], 16).expect("hex");
+    (0..digits.len()).step_by(2).map(byte).collect()
+}
+
+fn error_of(status: u64, detail: u64) -> Error {
+    match status {
+        2 => Error::InvalidVectorLength,
+        5 => Error::DecodingError,
+        6 => Error::EndOfStream,
+        7 => Error::TrailingData,
+        8 => Error::UnknownValue(detail),
+        other => panic!("no row has status {other}"),
+    }
+}
+
+#[test]
+fn each_row_of_mls_is_told() {
+    are_told(concat!(env!("CARGO_MANIFEST_DIR"), "/../crates/test_outcome/stdout"));
+}
+
+#[test]
+fn each_row_of_tls13_is_told() {
+    are_told(concat!(env!("CARGO_MANIFEST_DIR"), "/../c/tests/tls13.tsv"));
+}
+
+fn are_told(file: &str) {
+    let text = fs::read_to_string(file).expect("the rows are there");
+    for row in text.lines() {
+        let columns: Vec<&str> = row.split('\t').collect();
+        let bytes = bytes_of(columns[1]);
+        let said: Vec<u64> = columns[2].split(' ').map(|it| it.parse().expect("a number")).collect();
+        let wanted = match said[0] {
+            0 => Ok(bytes.split_at(said[1] as usize)),
+            status => Err(Rejected { error: error_of(status, said[3]), at: said[2] as usize }),
+        };
+        assert_eq!(split(columns[0], &bytes), wanted, "{row}");
+    }
+    assert!(text.lines().count() > 100);
+}
+
+#[test]
+fn fields_are_slices() {
+    let message = bytes_of("01fa0000000000000007010001a102a2a3ee");
+    let (found, rest) = mls::private_message_locate(&message).expect("a message");
+    assert_eq!(found.group_id, [0xfa]);
+    assert_eq!(found.epoch, 7u64.to_be_bytes());
+    assert_eq!(found.content_type, [1]);
+    assert!(found.authenticated_data.is_empty());
+    assert_eq!(found.encrypted_sender_data, [0xa1]);
+    assert_eq!(found.ciphertext, [0xa2, 0xa3]);
+    assert_eq!(rest, [0xee]);
+    let cut = mls::private_message_locate(&message[..16]);
+    assert_eq!(cut.map(|_| ()), Err(Rejected { error: Error::DecodingError, at: 14 }));
+}
+
+#[test]
+fn contents_are_slices() {
+    assert_eq!(tls_codec::opaque_v_locate(&[2, 7, 8, 9]), Ok((&[7, 8][..], &[9][..])));
+    assert_eq!(tls_codec::opaque_u8_locate(&[1, 7]), Ok((&[7][..], &[][..])));
+    assert_eq!(tls_codec::opaque_u16_locate(&[0, 1, 7]), Ok((&[7][..], &[][..])));
+    assert_eq!(tls_codec::opaque_u24_locate(&[0, 0, 0, 7]), Ok((&[][..], &[7][..])));
+    let wide = Rejected { error: Error::InvalidVectorLength, at: 0 };
+    assert_eq!(tls_codec::varint(&[0x40, 1]), Err(wide));
+    assert_eq!(tls_codec::varint(&[0x40, 64, 9]), Ok((&[0x40, 64][..], &[9][..])));
+}
+
+#[test]
+fn nothing_may_be_left() {
+    assert_eq!(exactly(tls13::alert(&[1, 0])), Ok(&[1, 0][..]));
+    let left = Rejected { error: Error::TrailingData, at: 2 };
+    assert_eq!(exactly(tls13::alert(&[1, 0, 7])), Err(left));
+    assert_eq!(left.to_string(), "TrailingData at byte 2");
+    let none = Rejected { error: Error::EndOfStream, at: 0 };
+    assert_eq!(exactly(mls::message(&[])), Err(none));
+}
+
+#[test]
+fn calls_from_threads_agree() {
+    let wanted = tls13::alert(&[2, 42]);
+    let calls = || (0..10_000).all(|_| tls13::alert(&[2, 42]) == wanted);
+    std::thread::scope(|scope| {
+        let threads: Vec<_> = (0..4).map(|_| scope.spawn(calls)).collect();
+        assert!(threads.into_iter().all(|it| it.join().expect("a thread ends")));
+    });
+}

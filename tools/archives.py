@@ -1,0 +1,60 @@
+#!/usr/bin/env python3
+"""archives.py [FOLDER]: proves the static libraries and puts their archives into a folder, c/out if none is given.
+
+They are built over the libraries that `rt ci` left in crates/*/out/rlib. Where some aren't there, `rt lib` proves and builds all that
+is wanted, which takes longer.
+"""
+from __future__ import annotations
+
+import pathlib
+import shutil
+import subprocess
+import sys
+
+sys.dont_write_bytecode = True
+from libraries import CRATES, TOP, Libraries
+
+
+class NotBuilt(Exception):
+    """What was said where no archive came of it."""
+
+
+def is_left_by_ci(libraries: Libraries, crate: str) -> bool:
+    """Whether `rt ci` built all that a static library stands on. A library that another command built has a stamp, and fits no others."""
+    stamps = [(libraries.rlib(it).parent / "stamp").is_file() for it in libraries.below(crate)]
+    return not libraries.lacking(crate) and not any(stamps)
+
+
+def ran(words: list[str], crate: str) -> None:
+    how = {"stdin": subprocess.DEVNULL, "stdout": subprocess.PIPE, "stderr": subprocess.STDOUT}
+    said = subprocess.run(words, cwd=CRATES / crate, text=True, errors="replace", **how)
+    if said.returncode:
+        raise NotBuilt(f"{crate}: {said.stdout[-3000:]}")
+
+
+def build(libraries: Libraries, crate: str, folder: pathlib.Path) -> None:
+    """Proves a static library, and puts its archive into the folder."""
+    archive = folder / f"lib{crate}.a"
+    if is_left_by_ci(libraries, crate):
+        toolchain = ["--toolchain", f"{libraries.kit}/toolchain", "-o", str(archive.resolve())]
+        return ran([f"{libraries.kit}/bin/rattle", "build", *libraries.words(crate), *toolchain], crate)
+    ran(["rt", "lib"], crate)
+    shutil.copyfile(CRATES / crate / "out" / archive.name, archive)
+
+
+def main() -> int:
+    folder = pathlib.Path(sys.argv[1]) if sys.argv[1:] else TOP / "c" / "out"
+    folder.mkdir(parents=True, exist_ok=True)
+    libraries = Libraries()
+    try:
+        for crate in libraries.static:
+            build(libraries, crate, folder)
+            print(folder / f"lib{crate}.a", flush=True)
+    except (NotBuilt, OSError) as error:
+        print(error)
+        return 1
+    return 0
+
+
+if __name__ == "__main__":
+    sys.exit(main())

@@ -1,0 +1,315 @@
+#!/usr/bin/env python3
+"""exports.py [--write]: compares what callers in C and Rust declare with what the static libraries export, or writes it.
+
+Each static library of crates.txt is read, each function that it exports, and of `tls_codec_outcome` the struct and the numbers of
+the errors. By these are written: c/include/tls_codec/*.h, c/tests/exports.inc and rust/src/exports.rs. The last line is
+'N passed, N failed', a file each, and the status is 1 if one failed.
+"""
+from __future__ import annotations
+
+import functools
+import pathlib
+import re
+import sys
+from dataclasses import dataclass
+
+TOP = pathlib.Path(__file__).resolve().parent.parent
+WRITTEN = "Written by tools/exports.py"
+EXPORT = re.compile(r'((?:^///.*\n)+)#\[unsafe\(no_mangle\)\]\npub extern "C" fn (\w+)\(([^)]*)\) -> (\w+)', re.M)
+STRUCT = re.compile(r"((?:^///.*\n)+)#\[repr\(C\)\]\n(?:#.*\n)*pub struct (\w+) \{\n((?:    .*\n)*)\}", re.M)
+FIELD = re.compile(r"((?:^    ///.*\n)+)    pub (\w+): (\w+),", re.M)
+NUMBER = re.compile(r"^        Error::(\w+)(\(_\))? => (\d+),$", re.M)
+C = {"u32": "uint32_t", "u64": "uint64_t", "usize": "size_t"}
+# The libraries whose structs cross, and what their names begin with in C.
+STRUCTS = {"tls_codec_outcome": "tls_codec", "mls_fields": "mls"}
+LONGEST = 100
+SAFE = "so many bytes are at the pointer, and nothing changes them during the call, which keeps no pointer."
+
+
+class Unread(Exception):
+    """The sources have something that isn't read here."""
+
+
+@dataclass
+class Export:
+    """A function that a static library exports."""
+
+    name: str
+    text: str
+    parameters: list[tuple[str, str]]
+    result: str
+
+    def prototype(self) -> str:
+        words = [word for name, kind in self.parameters for word in in_c(name, kind)]
+        return f"{type_in_c(self.result)} {self.name}({', '.join(words)});"
+
+    def declaration(self) -> str:
+        words = [word for name, kind in self.parameters for word in in_rust(name, kind)]
+        return f"pub fn {self.name}({', '.join(words)}) -> {self.result};"
+
+
+def in_c(name: str, kind: str) -> list[str]:
+    """A parameter of a prototype: a slice is a pointer and a length, and `Global` has no bytes."""
+    if kind == "Global":
+        return []
+    if kind == "&[u8]":
+        return [f"const uint8_t *{name}", "size_t length"]
+    if kind.removeprefix("&mut ") in structs():
+        return [f"{type_in_c(kind.removeprefix('&mut '))} *{name}"]
+    raise Unread(f"{name}: {kind}")
+
+
+def in_rust(name: str, kind: str) -> list[str]:
+    if kind == "Global":
+        return []
+    if kind == "&[u8]":
+        return [f"{name}: *const u8", "length: usize"]
+    if kind.removeprefix("&mut ") in structs():
+        return [f"{name}: {kind}"]
+    raise Unread(f"{name}: {kind}")
+
+
+@dataclass
+class Struct:
+    """A struct that crosses, in a library of STRUCTS."""
+
+    text: str
+    crate: str
+    fields: list[tuple[str, str, str]]
+
+
+@functools.cache
+def structs() -> dict[str, Struct]:
+    found = {}
+    for crate in STRUCTS:
+        for path in sorted((TOP / "crates" / crate / "src").glob("*.rt")):
+            for text, name, inside in STRUCT.findall(path.read_text(encoding="utf-8")):
+                fields = [(words_of(it), field, kind) for it, field, kind in FIELD.findall(inside)]
+                found[name] = Struct(words_of(text), crate, fields)
+    return found
+
+
+def type_in_c(kind: str) -> str:
+    """`KeyPackageFields` of MLS as `mls_key_package_fields`."""
+    if kind in C:
+        return C[kind]
+    name = re.sub(r"(?<=[a-z])(?=[A-Z])|(?<=[A-Z])(?=[A-Z][a-z])", "_", kind).lower()
+    prefix = STRUCTS[structs()[kind].crate]
+    return name if name.startswith(prefix) else f"{prefix}_{name}"
+
+
+def struct_in_c(kind: str) -> list[str]:
+    name, lines = type_in_c(kind), comment(structs()[kind].text)
+    lines.append(f"typedef struct {name} {{")
+    for text, field, field_kind in structs()[kind].fields:
+        lines += [*comment(text, "  "), f"  {type_in_c(field_kind)} {field};"]
+    return [*lines, f"}} {name};"]
+
+
+def words_of(text: str) -> str:
+    """What the lines of a doc comment say."""
+    return " ".join(it.strip().removeprefix("///").strip() for it in text.strip().splitlines())
+
+
+def libraries() -> list[str]:
+    """The static libraries of crates.txt."""
+    return re.findall(r"^(\w+) staticlib:", (TOP / "crates.txt").read_text(encoding="utf-8"), re.M)
+
+
+def source_of(crate: str, file: str = "lib.rt") -> str:
+    return (TOP / "crates" / crate / "src" / file).read_text(encoding="utf-8")
+
+
+def exports_of(crate: str) -> list[Export]:
+    text = "\n".join(it.read_text(encoding="utf-8") for it in sorted((TOP / "crates" / crate / "src").glob("*.rt")))
+    found = []
+    for comment, name, inside, result in EXPORT.findall(text):
+        pairs = [tuple(it.strip().split(": ", 1)) for it in inside.split(",") if it.strip()]
+        found.append(Export(name, words_of(comment), pairs, result))
+    if len(found) != text.count("no_mangle"):
+        raise Unread(f"{crate}: {text.count('no_mangle')} exports, of which {len(found)} are read")
+    return found
+
+
+def about(crate: str) -> str:
+    """What the first lines of a static library say of it."""
+    lines = [it[3:].strip() for it in source_of(crate).splitlines() if it.startswith("//!")]
+    return " ".join(lines)
+
+
+def numbers() -> list[tuple[str, bool, int]]:
+    """The errors' names, whether they have a value, and their numbers."""
+    found = [(name, bool(value), int(number)) for name, value, number in NUMBER.findall(source_of("tls_codec_outcome", "numbers.rt"))]
+    if [number for _, _, number in found] != list(range(1, 11)):
+        raise Unread(f"the numbers of the errors are {found}")
+    return found
+
+
+def spaced(name: str) -> str:
+    """`EndOfStream` as `END_OF_STREAM`."""
+    return re.sub(r"(?<=[a-z])(?=[A-Z])", "_", name).upper()
+
+
+def comment(text: str, indent: str = "") -> list[str]:
+    """A comment of C, in lines that aren't too long."""
+    for name, in_c_name in (("[`ACCEPTED`]", "TLS_CODEC_ACCEPTED"), ("`UnknownValue`", "TLS_CODEC_UNKNOWN_VALUE"), ("`", "")):
+        text = text.replace(name, in_c_name)
+    lines, line = [], f"{indent}/*"
+    for word in f"{text} */".split():
+        if len(line) + len(word) >= LONGEST and word != "*/":
+            lines.append(line)
+            line = f"{indent}  "
+        line += f" {word}"
+    return [*lines, line]
+
+
+def guarded(name: str, crates: str, body: list[str]) -> str:
+    """A header's text."""
+    guard = f"TLS_CODEC_{name.upper()}_H"
+    head = [f"/* {WRITTEN} from crates/{crates}/src. Don't edit. */", f"#ifndef {guard}", f"#define {guard}", ""]
+    return "\n".join([*head, *body, "", "#endif", ""])
+
+
+def outcome_header() -> str:
+    names = [("Accepted", False, 0), *numbers()]
+    body = ["#include <stddef.h>", "#include <stdint.h>", ""]
+    body += ["/* A call's status. The numbers don't change. */", "enum tls_codec_status {"]
+    body += [f"  TLS_CODEC_{spaced(name)} = {number}," for name, _, number in names[:-1]]
+    body += [f"  TLS_CODEC_{spaced(names[-1][0])} = {names[-1][2]}", "};", ""]
+    for it in structs():
+        body += [*struct_in_c(it), ""] if structs()[it].crate == "tls_codec_outcome" else []
+    body += ["/* The status if all of the bytes are to be used: TLS_CODEC_TRAILING_DATA if one is left. */"]
+    body += ["static inline uint32_t tls_codec_exactly(tls_codec_outcome said, size_t length) {"]
+    body += ["  int is_left = said.status == TLS_CODEC_ACCEPTED && said.taken != length;"]
+    body += ["  return is_left ? (uint32_t)TLS_CODEC_TRAILING_DATA : said.status;", "}", ""]
+    body += ["/* The name of a status, as \"EndOfStream\"; \"?\" of another number. */"]
+    body += ["static inline const char *tls_codec_status_name(uint32_t status) {", "  switch (status) {"]
+    body += [f'  case TLS_CODEC_{spaced(name)}: return "{name}";' for name, _, _ in names]
+    body += ['  default: return "?";', "  }", "}"]
+    return guarded("outcome", "tls_codec_outcome", body)
+
+
+def header(crate: str) -> str:
+    name = crate.removesuffix("_c")
+    body = [*comment(about(crate)), "", '#include "outcome.h"', "", "#ifdef __cplusplus", 'extern "C" {', "#endif"]
+    taken = {kind.removeprefix("&mut ") for it in exports_of(crate) for _, kind in it.parameters}
+    for it in structs():
+        body += ["", *struct_in_c(it)] if it in taken and structs()[it].crate != "tls_codec_outcome" else []
+    for it in exports_of(crate):
+        body += ["", *comment(it.text), it.prototype()]
+    return guarded(name, crate, [*body, "", "#ifdef __cplusplus", "}", "#endif"])
+
+
+def table() -> str:
+    """The lines by which tests in C find a message's calls."""
+    found = [(it.name.rpartition("_"), it) for crate in libraries() for it in exports_of(crate)]
+    lines = ["#ifdef MESSAGE", *[f"MESSAGE({name})" for (name, _, call), _ in found if call == "validate"]]
+    lines += ["#endif", "#ifdef LOCATED"]
+    lines += [f"LOCATED({name}, {type_in_c(taken_by(it))})" for (name, _, call), it in found if call == "locate"]
+    return "\n".join([f"/* {WRITTEN}. Don't edit. */", *lines, "#endif", ""])
+
+
+def struct_in_rust(kind: str) -> list[str]:
+    lines = [f"/// {structs()[kind].text}", "#[repr(C)]", "#[derive(Clone, Copy, Default)]", f"pub struct {kind} {{"]
+    return [*lines, *[f"    pub {name}: {field}," for _, name, field in structs()[kind].fields], "}"]
+
+
+def taken_by(export: Export) -> str:
+    """The struct that a function fills."""
+    return export.parameters[1][1].removeprefix("&mut ")
+
+
+def content_in_rust(export: Export, name: str) -> list[str]:
+    """The function that finds one content."""
+    lines = ["", f"    /// {export.text} That content, and the rest of the bytes.", f"    pub fn {name}(bytes: &[u8]) -> Result<(&[u8], &[u8]), Rejected> {{"]
+    lines += ["        let mut found = Span::default();", f"        // SAFETY: {SAFE}"]
+    lines += [f"        let said = unsafe {{ foreign::{export.name}(bytes.as_ptr(), bytes.len(), &mut found) }};"]
+    return [*lines, "        let (_, rest) = split_as(bytes, said)?;", "        Ok((found.of(bytes), rest))", "    }"]
+
+
+def located_in_rust(module: str, export: Export) -> list[str]:
+    """A struct of slices, and the function that finds them."""
+    kind, name = taken_by(export), export.name.removeprefix(f"{module}_")
+    if kind == "Span":
+        return content_in_rust(export, name)
+    it = structs()[kind]
+    lines = ["", f"    /// {it.text}", "    #[derive(Clone, Copy, PartialEq, Eq, Debug)]", f"    pub struct {kind}<'a> {{"]
+    for text, field, _ in it.fields:
+        lines += [f"        /// {text}", f"        pub {field}: &'a [u8],"]
+    lines += ["    }", "", f"    /// {export.text} Of the message that the bytes begin with; and the rest of them.", f"    pub fn {name}(bytes: &[u8]) -> Result<({kind}<'_>, &[u8]), Rejected> {{"]
+    lines += [f"        let mut found = foreign::{kind}::default();"]
+    lines += [f"        // SAFETY: {SAFE}"]
+    lines += [f"        let said = unsafe {{ foreign::{export.name}(bytes.as_ptr(), bytes.len(), &mut found) }};"]
+    lines += ["        let (_, rest) = split_as(bytes, said)?;", f"        let fields = {kind} {{"]
+    lines += [f"            {field}: found.{field}.of(bytes)," for _, field, _ in it.fields]
+    return [*lines, "        };", "        Ok((fields, rest))", "    }"]
+
+
+def module_in_rust(crate: str) -> list[str]:
+    """A static library's functions, as those of a module."""
+    name, exports = crate.removesuffix("_c"), exports_of(crate)
+    whole = [it for it in exports if it.name.endswith("_validate")]
+    located = [it for it in exports if it.name.endswith("_locate")]
+    taken = dict.fromkeys(taken_by(it) for it in located if taken_by(it) != "Span")
+    used = ["Rejected", "split", *(["split_as"] if located else [])]
+    if len(taken) < len(located) and not taken:
+        used.insert(1, "Span")
+    body = ["", f"/// {about(crate)}", f"pub mod {name} {{", f"    use crate::{{{', '.join(used)}}};", "", "    mod foreign {"]
+    body += [f"        use crate::{{Outcome{', Span' if located else ''}}};" if located else "        use crate::Outcome;", ""]
+    for it in taken:
+        body += [f"        {line}" for line in struct_in_rust(it)] + [""]
+    body += [f'        #[link(name = "{crate}", kind = "static")]', '        unsafe extern "C" {']
+    body += [f"            {it.declaration()}" for it in exports]
+    body += ["        }", "    }"]
+    for it in whole:
+        short = it.name.removesuffix("_validate").removeprefix(f"{name}_")
+        body += ["", f"    /// {it.text} The message that the bytes begin with, and the rest of them."]
+        body += [f"    pub fn {short}(bytes: &[u8]) -> Result<(&[u8], &[u8]), Rejected> {{"]
+        body += [f"        split(bytes, foreign::{it.name})", "    }"]
+    for it in located:
+        body += located_in_rust(name, it)
+    return [*body, "}"]
+
+
+def exports_rust() -> str:
+    """The module of rust/ that declares the validators."""
+    body = [f"//! {WRITTEN}. Don't edit.", "#![allow(missing_docs)]", ""]
+    body += struct_in_rust("Outcome")
+    body = body[:-1]
+    body += ["}", "", "/// Why bytes are rejected.", "#[derive(Clone, Copy, PartialEq, Eq, Debug)]", "#[non_exhaustive]", "pub enum Error {"]
+    values = [name for name, value, _ in numbers() if name == "UnknownValue"]
+    for name, _, number in numbers():
+        body += [f"    /// Status {number}.", f"    {name}(u64)," if name in values else f"    {name},"]
+    body += ["    /// A status that these declarations don't have.", "    Other(u32),", "}", ""]
+    body += ["impl Error {", "    pub(crate) fn of(said: &Outcome) -> Error {", "        match said.status {"]
+    for name, _, number in numbers():
+        body += [f"            {number} => Error::{name}(said.detail)," if name in values else f"            {number} => Error::{name},"]
+    body += ["            other => Error::Other(other),", "        }", "    }", "}"]
+    body += ["", *struct_in_rust("Span")]
+    for crate in libraries():
+        body += module_in_rust(crate)
+    return "\n".join([*body, ""])
+
+
+def files() -> dict[pathlib.Path, str]:
+    include = TOP / "c" / "include" / "tls_codec"
+    headers = {include / f"{it.removesuffix('_c')}.h": header(it) for it in libraries()}
+    others = {include / "outcome.h": outcome_header(), TOP / "c" / "tests" / "exports.inc": table()}
+    return {**headers, **others, TOP / "rust" / "src" / "exports.rs": exports_rust()}
+
+
+def main() -> int:
+    failed = 0
+    for path, text in files().items():
+        if "--write" in sys.argv[1:]:
+            path.parent.mkdir(parents=True, exist_ok=True)
+            path.write_text(text, encoding="utf-8")
+        is_same = path.is_file() and path.read_text(encoding="utf-8") == text
+        failed += not is_same
+        print(f"{path.relative_to(TOP)}: {'ok' if is_same else 'FAILED: tools/exports.py --write writes another text'}")
+    print(f"{len(files()) - failed} passed, {failed} failed")
+    return 1 if failed else 0
+
+
+if __name__ == "__main__":
+    sys.exit(main())

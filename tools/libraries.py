@@ -1,0 +1,44 @@
+"""The crates of crates.txt, and the words by which rattle finds what `rt ci` built of them."""
+from __future__ import annotations
+
+import pathlib
+import shutil
+
+TOP = pathlib.Path(__file__).resolve().parent.parent
+CRATES = TOP / "crates"
+
+
+class Libraries:
+    def __init__(self) -> None:
+        lines = (TOP / "crates.txt").read_text().splitlines()
+        named = [it.partition(":") for it in lines if ":" in it and not it.startswith("#")]
+        self.uses = {name.split()[0]: uses.split() for name, _, uses in named}
+        self.static = [name.split()[0] for name, _, _ in named if "staticlib" in name.split()]
+        found = shutil.which("rt")
+        self.kit = pathlib.Path(found).resolve().parent.parent if found else pathlib.Path()
+
+    def below(self, crate: str) -> list[str]:
+        """The repository's libraries that a crate uses, directly or not."""
+        found: list[str] = []
+        for it in self.uses[crate]:
+            if it in self.uses:
+                found += [more for more in [*self.below(it), it] if more not in found]
+        return found
+
+    def rlib(self, crate: str) -> pathlib.Path:
+        return CRATES / crate / "out" / "rlib" / f"{crate}.rlib"
+
+    def lacking(self, crate: str) -> list[str]:
+        return [it for it in self.below(crate) if not (self.rlib(it) / "format").is_file()]
+
+    def words(self, crate: str) -> list[str]:
+        kit = self.kit
+        root = "src/main.rt" if (CRATES / crate / "src" / "main.rt").is_file() else "src/lib.rt"
+        said = ["--crate-name", crate, root, "--extern", f"std={kit}/rlibs/std.rlib", "-L", f"dependency={kit}/rlibs"]
+        for it in self.uses[crate]:
+            said += ["--extern", f"{it}={self.rlib(it) if it in self.uses else f'{kit}/rlibs/{it}.rlib'}"]
+        for it in self.below(crate):
+            said += ["-L", f"dependency={self.rlib(it).parent}"]
+        logic = ["--antt-project", f"{kit}/rattle/logic/antt-project.json", "--logic-built", f"{kit}/logic_built"]
+        crate_type = ["--crate-type", "staticlib"] if crate in self.static else []
+        return [*said, *logic, "--links", f"{crate}=", "--jobs", "1", *crate_type]
