@@ -45,7 +45,8 @@ pub extern "C" fn tls_codec_opaque_v_locate(bytes: &[u8], content: &mut Span) ->
 #[unsafe(no_mangle)]
 pub extern "C" fn tls_codec_opaque_u8_locate(bytes: &[u8], content: &mut Span) -> Outcome
     ensures status { Decides (counted_bytes_format (fixed_field 1)) bytes.now result.status }
-    ensures taken { IsTaken (counted_bytes_format (fixed_field 1)) bytes.now result.status result.taken }
+    ensures taken { IsTaken (counted_bytes_format (fixed_field 1)) bytes.now result.status
+        result.taken }
     ensures rejected { IsRejection ⟦<TlsByteVecU8 as DeserializeBytes>⟧.names
         ⟦<TlsByteVecU8 as Validate>⟧.places bytes.now result.status result.at result.detail }
     ensures content { result.status ≡ 0 → IsContentFrom (fixed_field 1) bytes.now 0 content.new }
@@ -62,7 +63,8 @@ pub extern "C" fn tls_codec_opaque_u8_locate(bytes: &[u8], content: &mut Span) -
 #[unsafe(no_mangle)]
 pub extern "C" fn tls_codec_opaque_u16_locate(bytes: &[u8], content: &mut Span) -> Outcome
     ensures status { Decides (counted_bytes_format (fixed_field 2)) bytes.now result.status }
-    ensures taken { IsTaken (counted_bytes_format (fixed_field 2)) bytes.now result.status result.taken }
+    ensures taken { IsTaken (counted_bytes_format (fixed_field 2)) bytes.now result.status
+        result.taken }
     ensures rejected { IsRejection ⟦<TlsByteVecU16 as DeserializeBytes>⟧.names
         ⟦<TlsByteVecU16 as Validate>⟧.places bytes.now result.status result.at result.detail }
     ensures content { result.status ≡ 0 → IsContentFrom (fixed_field 2) bytes.now 0 content.new }
@@ -79,7 +81,8 @@ pub extern "C" fn tls_codec_opaque_u16_locate(bytes: &[u8], content: &mut Span) 
 #[unsafe(no_mangle)]
 pub extern "C" fn tls_codec_opaque_u24_locate(bytes: &[u8], content: &mut Span) -> Outcome
     ensures status { Decides (counted_bytes_format (fixed_field 3)) bytes.now result.status }
-    ensures taken { IsTaken (counted_bytes_format (fixed_field 3)) bytes.now result.status result.taken }
+    ensures taken { IsTaken (counted_bytes_format (fixed_field 3)) bytes.now result.status
+        result.taken }
     ensures rejected { IsRejection ⟦<TlsByteVecU24 as DeserializeBytes>⟧.names
         ⟦<TlsByteVecU24 as Validate>⟧.places bytes.now result.status result.at result.detail }
     ensures content { result.status ≡ 0 → IsContentFrom (fixed_field 3) bytes.now 0 content.new }
