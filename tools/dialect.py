@@ -26,7 +26,7 @@ WORDS = {
     r"in (?:its|their) place": "instead",
     r"(?:is|are|was|were) looked at": "is checked",
     r"hands? on": "returns, passes",
-    r"is none": "there is no ..",
+    r"it is none": "there is no ..",
     r"of its kind|of their kind": "the same",
     r"is told": "is reported",
     r"one's own": "your own",
@@ -44,7 +44,7 @@ def prose(text):
     for line in text.split("\n"):
         if line.strip().startswith("```"):
             inside, line = not inside, ""
-        lines.append("" if inside else re.sub(r"\]\([^)]*\)", "]", re.sub(r"`[^`]*`", "`", line)))
+        lines.append("" if inside else re.sub(r"\]\([^)]*\)", "]", re.sub(r"(`+).*?\1", "`", line)))
     return "\n".join(lines)
 
 
