@@ -31,6 +31,9 @@ WORDS = {
     r"one's own": "your own",
     r"lest|hence|thereby|therein|thereof": "so",
     r"likewise": "in the same way",
+    r"lent": "borrowed",
+    r"wants?": "needs; running out of",
+    r"(?:tells?|told)(?! (?:apart|from))": "reports, says, shows",
     r"nowhere else": "only here",
 }
 PATTERN = re.compile("|".join(rf"(\b(?:{word})\b)" for word in WORDS), re.I)
