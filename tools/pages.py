@@ -8,6 +8,7 @@
 - A name in `code` that is a path under crates/, docs/, tools/ or .ci/, or has an underscore in it, has to occur in the repository;
   names of what was before, in CHANGELOG.md, and a few of elsewhere don't.
 - No line is one that a merge left.
+- No word is one of the dialect (tools/dialect.py), and the short reading lists of docs/MAP.md are closed (tools/reading.py).
 - The pictures are what tools/pictures.py draws.
 
 Prints a line for each place that doesn't match, and last 'N passed, N failed', which counts pages and pictures; the exit status is 1 if
@@ -19,7 +20,9 @@ import sys
 
 TOP = pathlib.Path(__file__).resolve().parent.parent
 sys.dont_write_bytecode = True
+import dialect
 import pictures
+import reading
 
 PAGES = [*sorted(TOP.glob("*.md")), *sorted((TOP / "docs").glob("*.md"))]
 FENCE = re.compile(r"^ *```")
@@ -152,9 +155,14 @@ def main():
         found = [*check_quotes(lines, files), *check_links(page, lines), *check_merged(lines)]
         if page.name != "CHANGELOG.md":
             found += check_names(lines, words)
+        if page.relative_to(TOP).as_posix() not in dialect.NOT_YET:
+            found += ((number, f"{word!r}: {better}") for number, word, better in dialect.findings(page))
         for number, text in sorted(found):
             print(f"{page.relative_to(TOP)}:{number}: {text}")
             failed.add(page)
+    for text in reading.findings()[0]:
+        print(text)
+        failed.add(TOP / "docs/MAP.md")
     for name, draw in pictures.PICTURES.items():
         if (TOP / "docs" / name).read_text() != draw(False).svg():
             print(f"docs/{name}: not as tools/pictures.py draws it")

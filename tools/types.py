@@ -6,6 +6,7 @@ that has a decoder has a line of names for it, and each that has `PartialEq` a l
 stands under the generic type that it names. Types that a context decides stand in `contexts.rt`, and are held to the traits in a context
 too: such a type has no format but one for each context, so its line is one of `SameFormat` and not of `Means`. Each that has a decoder
 from a slice, and each of `tls_codec_cases`, is validated by an impl in `tls_codec_validate`, without a context or in one.
+Each has a row in docs/API.md, with its crate and its traits, and so have the types of std that `tls_codec_base` gives them to.
 Prints what is missing; the last line is 'N passed, N failed', a type each.
 """
 import pathlib
@@ -14,6 +15,7 @@ import sys
 
 CRATES = pathlib.Path(__file__).resolve().parent.parent / "crates"
 TABLE = CRATES / "tls_codec/src"
+PAGE = CRATES.parent / "docs/API.md"
 EXPORT = re.compile(r"pub use (\w+)::\{([^}]*)\};", re.S)
 NAME = re.compile(r"[A-Z]\w*")
 # an impl of a trait for a type, with or without parameters
@@ -70,18 +72,60 @@ def not_validated(name, traits, validated):
             yield f"tls_codec_validate: no {tells} for {name}"
 
 
+# the letters of docs/API.md; D is both decoders
+LETTERS = {"Serialize": "S", "SerializeBytes": "B", "Deserialize": "D", "DeserializeBytes": "D"}
+
+
+def rows():
+    """Each row of the table of types in docs/API.md: the names in its first cell, without their widths, its crate and letters."""
+    section = PAGE.read_text().split("\n## ")[1]
+    for line in section.split("\n"):
+        cells = [cell.strip() for cell in line.split("|")]
+        if line.startswith("| `") and len(cells) > 4:
+            names = {unnumbered(name) for name in re.findall(r"\w+", cells[1])}
+            for stem, least, most in re.findall(r"`(\w+?)(\d)` to `\1(\d)`", cells[1]):
+                names |= {f"{stem}{number}" for number in range(int(least), int(most) + 1)}
+            yield names, cells[2], set(cells[3].split())
+
+
+def unnumbered(name):
+    """The name of a family's member without its width, since a row of the page is for all widths."""
+    return re.sub(r"(?<=[a-z])U(?:8|16|24|32)$", "", name)
+
+
+def not_in_page(crate, name, traits, page):
+    """What the row of a type in docs/API.md lacks or says wrongly."""
+    where = "base" if crate == "tls_codec_wire" else crate.removeprefix("tls_codec_")
+    letters = {LETTERS[trait] for trait in traits & LETTERS.keys()}
+    found = [row for row in page if unnumbered(name) in row[0] and row[1] == where]
+    if not found:
+        yield f"docs/API.md: no row for {name} of {where}"
+    elif any(row[2] != letters for row in found):
+        yield f"docs/API.md: {name} has {' '.join(sorted(letters))}"
+
+
 def main():
     types, contexts, equality = ((TABLE / page).read_text() for page in ("types.rt", "contexts.rt", "equality.rt"))
     types += contexts
     names = list(exported())
     by_crate = {crate: traits_of(crate) for crate in {crate for crate, _ in names}}
     validated = traits_of("tls_codec_validate")
+    page, decided = list(rows()), PAGE.read_text().split("\n## In a context\n")[1].split("\n## ")[0]
     passed, failed = 0, 0
     for crate, name in names:
         # (an impl for a type of wire stands in base)
         traits = by_crate[crate].get(name, set()) | by_crate["tls_codec_base"].get(name, set())
         if traits & {"Size", "SizeFor"}:
             lacks = [*missing(name, traits, types, equality), *not_validated(name, traits, validated)]
+            if "Size" in traits:
+                lacks += not_in_page(crate, name, traits, page)
+            elif not re.search(rf"\b{name}\b", decided):
+                lacks.append(f"docs/API.md: no row for {name} in a context")
+            print("".join(f"{line}\n" for line in lacks), end="")
+            passed, failed = passed + (not lacks), failed + bool(lacks)
+    for name, traits in sorted(by_crate["tls_codec_base"].items()):
+        if "Size" in traits and name not in {name for _, name in names}:
+            lacks = list(not_in_page("tls_codec_base", name, traits, page))
             print("".join(f"{line}\n" for line in lacks), end="")
             passed, failed = passed + (not lacks), failed + bool(lacks)
     for name, traits in sorted(traits_of("tls_codec_cases").items()):
