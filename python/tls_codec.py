@@ -2,6 +2,8 @@
 
     cc -shared -o libtls_codec.so -Wl,--whole-archive libmls_c.a libtls13_c.a libtls_codec_c.a -Wl,--no-whole-archive
 
+The decoders want libmls_check_c.a, libtls13_check_c.a and libtls_codec_heap.a in it too.
+
     codec = Codec("./libtls_codec.so")
     message, rest = codec.split("mls_key_package", data)
 
@@ -31,14 +33,14 @@ class Rejected(ValueError):
 
 
 class Codec:
-    """The validators of a shared object."""
+    """The validators of a shared object, and its decoders."""
 
     def __init__(self, path: str) -> None:
         self.library = ctypes.CDLL(path)
 
-    def outcome(self, message: str, data: bytes) -> Outcome:
-        """What the validator of the message says, which is named as in the headers, without `_validate`."""
-        call = self.library[f"{message}_validate"]
+    def outcome(self, message: str, data: bytes, by: str = "validate") -> Outcome:
+        """What the validator of the message says, which is named as in the headers, without `_validate`; by "check" the decoder."""
+        call = self.library[f"{message}_{by}"]
         call.restype, call.argtypes = Outcome, [ctypes.c_char_p, ctypes.c_size_t]
         return call(data, len(data))
 
