@@ -2,6 +2,8 @@
 
     cc -shared -o libtls_codec.so -Wl,--whole-archive libmls_c.a libtls13_c.a libtls_codec_c.a -Wl,--no-whole-archive
 
+The decoders want libmls_check_c.a, libtls13_check_c.a and libtls_codec_heap.a in it too.
+
     codec = Codec("./libtls_codec.so")
     message, rest = codec.split("mls_key_package", data)
     fields = codec.fields("mls_welcome", ["cipher_suite", "secrets", "encrypted_group_info"], data)
@@ -45,7 +47,7 @@ class Rejected(ValueError):
 
 
 class Codec:
-    """The validators of a shared object."""
+    """The validators of a shared object, and its decoders."""
 
     def __init__(self, path: str) -> None:
         self.library = ctypes.CDLL(path)

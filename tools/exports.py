@@ -116,6 +116,11 @@ def libraries() -> list[str]:
     return re.findall(r"^(\w+) staticlib:", (TOP / "crates.txt").read_text(encoding="utf-8"), re.M)
 
 
+def decoders() -> list[str]:
+    """Those that want a heap."""
+    return [it for it in libraries() if it.endswith("_check_c")]
+
+
 def source_of(crate: str, file: str = "lib.rt") -> str:
     return (TOP / "crates" / crate / "src" / file).read_text(encoding="utf-8")
 
@@ -134,7 +139,7 @@ def exports_of(crate: str) -> list[Export]:
 def about(crate: str) -> str:
     """What the first lines of a static library say of it."""
     lines = [it[3:].strip() for it in source_of(crate).splitlines() if it.startswith("//!")]
-    return " ".join(lines)
+    return " ".join(it for it in lines if it)
 
 
 def numbers() -> list[tuple[str, bool, int]]:
@@ -203,7 +208,8 @@ def header(crate: str) -> str:
 def table() -> str:
     """The lines by which tests in C find a message's calls."""
     found = [(it.name.rpartition("_"), it) for crate in libraries() for it in exports_of(crate)]
-    lines = ["#ifdef MESSAGE", *[f"MESSAGE({name})" for (name, _, call), _ in found if call == "validate"]]
+    calls = {call: [name for (name, _, other), _ in found if other == call] for call in ("validate", "check")}
+    lines = ["#ifdef MESSAGE", *[f"MESSAGE({name})" for name in calls["validate"] if name in calls["check"]]]
     lines += ["#endif", "#ifdef LOCATED"]
     lines += [f"LOCATED({name}, {type_in_c(taken_by(it))})" for (name, _, call), it in found if call == "locate"]
     lines += ["#endif", "#ifdef LISTED", *[f"LISTED({name})" for (name, _, call), _ in found if call == "next"]]
@@ -263,6 +269,19 @@ def located_in_rust(module: str, export: Export) -> list[str]:
     return [*lines, "        };", "        Ok((fields, rest))", "    }"]
 
 
+def decoders_in_rust(crate: str) -> list[str]:
+    """The functions of a static library of decoders, as those of a module that a feature adds."""
+    name, exports = crate.removesuffix("_c"), exports_of(crate)
+    body = ["", f"/// {about(crate)}", '#[cfg(feature = "check")]', f"pub mod {name} {{", "    use crate::{Error, decode};", ""]
+    body += ["    mod foreign {", "        use crate::Outcome;", "", f'        #[link(name = "{crate}", kind = "static")]']
+    body += ['        unsafe extern "C" {', *[f"            {it.declaration()}" for it in exports], "        }", "    }"]
+    for it in exports:
+        short = it.name.removesuffix("_check").removeprefix(f"{name.removesuffix('_check')}_")
+        body += ["", f"    /// {it.text} The message that the bytes begin with, and the rest of them."]
+        body += [f"    pub fn {short}(bytes: &[u8]) -> Result<(&[u8], &[u8]), Error> {{", f"        decode(bytes, foreign::{it.name})", "    }"]
+    return [*body, "}"]
+
+
 def module_in_rust(crate: str) -> list[str]:
     """A static library's functions, as those of a module."""
     name, exports = crate.removesuffix("_c"), exports_of(crate)
@@ -313,7 +332,7 @@ def exports_rust() -> str:
     body += ["            other => Error::Other(other),", "        }", "    }", "}"]
     body += ["", *struct_in_rust("Span")]
     for crate in libraries():
-        body += module_in_rust(crate)
+        body += decoders_in_rust(crate) if crate in decoders() else module_in_rust(crate)
     return "\n".join([*body, ""])
 
 

@@ -461,6 +461,92 @@ pub mod tls13 {
     }
 }
 
+/// Whether bytes begin with a message of TLS 1.3, told by its decoder, which makes the value and drops it. `OutOfMemory`: memory was refused, and nothing is said of the bytes. No place is told: `at` is 0.
+#[cfg(feature = "check")]
+pub mod tls13_check {
+    use crate::{Error, decode};
+
+    mod foreign {
+        use crate::Outcome;
+
+        #[link(name = "tls13_check_c", kind = "static")]
+        unsafe extern "C" {
+            pub fn tls13_tls_plaintext_check(bytes: *const u8, length: usize) -> Outcome;
+            pub fn tls13_tls_ciphertext_check(bytes: *const u8, length: usize) -> Outcome;
+            pub fn tls13_alert_check(bytes: *const u8, length: usize) -> Outcome;
+            pub fn tls13_handshake_check(bytes: *const u8, length: usize) -> Outcome;
+            pub fn tls13_client_hello_check(bytes: *const u8, length: usize) -> Outcome;
+            pub fn tls13_server_hello_check(bytes: *const u8, length: usize) -> Outcome;
+            pub fn tls13_encrypted_extensions_check(bytes: *const u8, length: usize) -> Outcome;
+            pub fn tls13_certificate_request_check(bytes: *const u8, length: usize) -> Outcome;
+            pub fn tls13_certificate_check(bytes: *const u8, length: usize) -> Outcome;
+            pub fn tls13_certificate_verify_check(bytes: *const u8, length: usize) -> Outcome;
+            pub fn tls13_new_session_ticket_check(bytes: *const u8, length: usize) -> Outcome;
+            pub fn tls13_key_update_check(bytes: *const u8, length: usize) -> Outcome;
+        }
+    }
+
+    /// `TLSPlaintext` (RFC 8446, appendix B.1). The message that the bytes begin with, and the rest of them.
+    pub fn tls_plaintext(bytes: &[u8]) -> Result<(&[u8], &[u8]), Error> {
+        decode(bytes, foreign::tls13_tls_plaintext_check)
+    }
+
+    /// `TLSCiphertext` (RFC 8446, appendix B.1). The message that the bytes begin with, and the rest of them.
+    pub fn tls_ciphertext(bytes: &[u8]) -> Result<(&[u8], &[u8]), Error> {
+        decode(bytes, foreign::tls13_tls_ciphertext_check)
+    }
+
+    /// `Alert` (RFC 8446, appendix B.2). The message that the bytes begin with, and the rest of them.
+    pub fn alert(bytes: &[u8]) -> Result<(&[u8], &[u8]), Error> {
+        decode(bytes, foreign::tls13_alert_check)
+    }
+
+    /// `Handshake` (RFC 8446, appendix B.3). The message that the bytes begin with, and the rest of them.
+    pub fn handshake(bytes: &[u8]) -> Result<(&[u8], &[u8]), Error> {
+        decode(bytes, foreign::tls13_handshake_check)
+    }
+
+    /// `ClientHello` (RFC 8446, appendix B.3.1). The message that the bytes begin with, and the rest of them.
+    pub fn client_hello(bytes: &[u8]) -> Result<(&[u8], &[u8]), Error> {
+        decode(bytes, foreign::tls13_client_hello_check)
+    }
+
+    /// `ServerHello` (RFC 8446, appendix B.3.1). The message that the bytes begin with, and the rest of them.
+    pub fn server_hello(bytes: &[u8]) -> Result<(&[u8], &[u8]), Error> {
+        decode(bytes, foreign::tls13_server_hello_check)
+    }
+
+    /// `EncryptedExtensions` (RFC 8446, appendix B.3.2). The message that the bytes begin with, and the rest of them.
+    pub fn encrypted_extensions(bytes: &[u8]) -> Result<(&[u8], &[u8]), Error> {
+        decode(bytes, foreign::tls13_encrypted_extensions_check)
+    }
+
+    /// `CertificateRequest` (RFC 8446, appendix B.3.2). The message that the bytes begin with, and the rest of them.
+    pub fn certificate_request(bytes: &[u8]) -> Result<(&[u8], &[u8]), Error> {
+        decode(bytes, foreign::tls13_certificate_request_check)
+    }
+
+    /// `Certificate` (RFC 8446, appendix B.3.3). The message that the bytes begin with, and the rest of them.
+    pub fn certificate(bytes: &[u8]) -> Result<(&[u8], &[u8]), Error> {
+        decode(bytes, foreign::tls13_certificate_check)
+    }
+
+    /// `CertificateVerify` (RFC 8446, appendix B.3.3). The message that the bytes begin with, and the rest of them.
+    pub fn certificate_verify(bytes: &[u8]) -> Result<(&[u8], &[u8]), Error> {
+        decode(bytes, foreign::tls13_certificate_verify_check)
+    }
+
+    /// `NewSessionTicket` (RFC 8446, appendix B.3.4). The message that the bytes begin with, and the rest of them.
+    pub fn new_session_ticket(bytes: &[u8]) -> Result<(&[u8], &[u8]), Error> {
+        decode(bytes, foreign::tls13_new_session_ticket_check)
+    }
+
+    /// `KeyUpdate` (RFC 8446, appendix B.3.5). The message that the bytes begin with, and the rest of them.
+    pub fn key_update(bytes: &[u8]) -> Result<(&[u8], &[u8]), Error> {
+        decode(bytes, foreign::tls13_key_update_check)
+    }
+}
+
 /// Whether bytes begin with a message of MLS, told without memory.
 pub mod mls {
     use crate::{Elements, Rejected, split, split_as};
@@ -792,5 +878,103 @@ pub mod mls {
     /// `EncryptedGroupSecrets` of a `Welcome` (RFC 9420, section 12.4.3.1): each of a list, of which these are the bytes after its length.
     pub fn encrypted_group_secrets_elements(content: &[u8]) -> Elements<'_> {
         Elements::of(content, foreign::mls_encrypted_group_secrets_next)
+    }
+}
+
+/// Whether bytes begin with a message of MLS, told by its decoder, which makes the value and drops it. `OutOfMemory`: memory was refused, and nothing is said of the bytes. No place is told: `at` is 0.
+#[cfg(feature = "check")]
+pub mod mls_check {
+    use crate::{Error, decode};
+
+    mod foreign {
+        use crate::Outcome;
+
+        #[link(name = "mls_check_c", kind = "static")]
+        unsafe extern "C" {
+            pub fn mls_message_check(bytes: *const u8, length: usize) -> Outcome;
+            pub fn mls_public_message_check(bytes: *const u8, length: usize) -> Outcome;
+            pub fn mls_private_message_check(bytes: *const u8, length: usize) -> Outcome;
+            pub fn mls_framed_content_check(bytes: *const u8, length: usize) -> Outcome;
+            pub fn mls_sender_data_check(bytes: *const u8, length: usize) -> Outcome;
+            pub fn mls_welcome_check(bytes: *const u8, length: usize) -> Outcome;
+            pub fn mls_group_secrets_check(bytes: *const u8, length: usize) -> Outcome;
+            pub fn mls_group_info_check(bytes: *const u8, length: usize) -> Outcome;
+            pub fn mls_group_context_check(bytes: *const u8, length: usize) -> Outcome;
+            pub fn mls_commit_check(bytes: *const u8, length: usize) -> Outcome;
+            pub fn mls_proposal_check(bytes: *const u8, length: usize) -> Outcome;
+            pub fn mls_key_package_check(bytes: *const u8, length: usize) -> Outcome;
+            pub fn mls_leaf_node_check(bytes: *const u8, length: usize) -> Outcome;
+            pub fn mls_ratchet_tree_check(bytes: *const u8, length: usize) -> Outcome;
+        }
+    }
+
+    /// `MLSMessage` (RFC 9420, section 6). The message that the bytes begin with, and the rest of them.
+    pub fn message(bytes: &[u8]) -> Result<(&[u8], &[u8]), Error> {
+        decode(bytes, foreign::mls_message_check)
+    }
+
+    /// `PublicMessage` (RFC 9420, section 6.2). The message that the bytes begin with, and the rest of them.
+    pub fn public_message(bytes: &[u8]) -> Result<(&[u8], &[u8]), Error> {
+        decode(bytes, foreign::mls_public_message_check)
+    }
+
+    /// `PrivateMessage` (RFC 9420, section 6.3). The message that the bytes begin with, and the rest of them.
+    pub fn private_message(bytes: &[u8]) -> Result<(&[u8], &[u8]), Error> {
+        decode(bytes, foreign::mls_private_message_check)
+    }
+
+    /// `FramedContent` (RFC 9420, section 6). The message that the bytes begin with, and the rest of them.
+    pub fn framed_content(bytes: &[u8]) -> Result<(&[u8], &[u8]), Error> {
+        decode(bytes, foreign::mls_framed_content_check)
+    }
+
+    /// `SenderData` (RFC 9420, section 6.3.2). The message that the bytes begin with, and the rest of them.
+    pub fn sender_data(bytes: &[u8]) -> Result<(&[u8], &[u8]), Error> {
+        decode(bytes, foreign::mls_sender_data_check)
+    }
+
+    /// `Welcome` (RFC 9420, section 12.4.3.1). The message that the bytes begin with, and the rest of them.
+    pub fn welcome(bytes: &[u8]) -> Result<(&[u8], &[u8]), Error> {
+        decode(bytes, foreign::mls_welcome_check)
+    }
+
+    /// `GroupSecrets` (RFC 9420, section 12.4.3.1). The message that the bytes begin with, and the rest of them.
+    pub fn group_secrets(bytes: &[u8]) -> Result<(&[u8], &[u8]), Error> {
+        decode(bytes, foreign::mls_group_secrets_check)
+    }
+
+    /// `GroupInfo` (RFC 9420, section 12.4.3). The message that the bytes begin with, and the rest of them.
+    pub fn group_info(bytes: &[u8]) -> Result<(&[u8], &[u8]), Error> {
+        decode(bytes, foreign::mls_group_info_check)
+    }
+
+    /// `GroupContext` (RFC 9420, section 8.1). The message that the bytes begin with, and the rest of them.
+    pub fn group_context(bytes: &[u8]) -> Result<(&[u8], &[u8]), Error> {
+        decode(bytes, foreign::mls_group_context_check)
+    }
+
+    /// `Commit` (RFC 9420, section 12.4). The message that the bytes begin with, and the rest of them.
+    pub fn commit(bytes: &[u8]) -> Result<(&[u8], &[u8]), Error> {
+        decode(bytes, foreign::mls_commit_check)
+    }
+
+    /// `Proposal` (RFC 9420, section 12.1). The message that the bytes begin with, and the rest of them.
+    pub fn proposal(bytes: &[u8]) -> Result<(&[u8], &[u8]), Error> {
+        decode(bytes, foreign::mls_proposal_check)
+    }
+
+    /// `KeyPackage` (RFC 9420, section 10). The message that the bytes begin with, and the rest of them.
+    pub fn key_package(bytes: &[u8]) -> Result<(&[u8], &[u8]), Error> {
+        decode(bytes, foreign::mls_key_package_check)
+    }
+
+    /// `LeafNode` (RFC 9420, section 7.2). The message that the bytes begin with, and the rest of them.
+    pub fn leaf_node(bytes: &[u8]) -> Result<(&[u8], &[u8]), Error> {
+        decode(bytes, foreign::mls_leaf_node_check)
+    }
+
+    /// `RatchetTree` (RFC 9420, section 12.4.3.3). The message that the bytes begin with, and the rest of them.
+    pub fn ratchet_tree(bytes: &[u8]) -> Result<(&[u8], &[u8]), Error> {
+        decode(bytes, foreign::mls_ratchet_tree_check)
     }
 }
