@@ -16,7 +16,7 @@ def main() -> int:
             said = (0, len(codec.split(name, data)[0]), 0, 0)
         except Rejected as rejected:
             said = (rejected.status, 0, rejected.at, rejected.detail)
-        decoded = codec.outcome(name, data, "check")
+        decoded = codec.outcome(f"{name}_check", data)
         is_alike = (decoded.status, decoded.taken, decoded.at, decoded.detail) == (status, taken, 0, detail)
         if said != (status, taken, at, detail) or not is_alike:
             failed += 1

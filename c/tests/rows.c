@@ -154,7 +154,7 @@ int main(int count, char **words) {
     rows++;
     int is_well = is_told(name, "validator", it->validate(bytes, length), validated);
     is_well &= !decoded || is_told(name, "decoder", it->check(bytes, length), decoded);
-    is_well &= are_placed(it, bytes, length, fields ? fields : "");
+    is_well &= !decoded || are_placed(it, bytes, length, fields ? fields : "");
     failed += !(is_sound_with_each_bit_turned(it, bytes, length) && is_well);
     free(bytes);
   }

@@ -89,6 +89,62 @@ fn split_as(bytes: &[u8], said: Outcome) -> Result<(&[u8], &[u8]), Rejected> {
     Ok(bytes.split_at(said.taken))
 }
 
+type Next = unsafe extern "C" fn(*const u8, usize, &mut Span, &mut Span) -> Outcome;
+
+/// The elements of a list, one after another. After one that is rejected there are no more.
+///
+/// ```
+/// use tls_codec_border::{Error, Rejected, tls13};
+///
+/// // two extensions, of which the second one's length says more than there is
+/// let mut list = tls13::extension_elements(&[0, 10, 0, 0, 0, 43, 0, 1]);
+/// assert_eq!(list.next(), Some(Ok(&[0, 10, 0, 0][..])));
+/// assert_eq!(list.next(), Some(Err(Rejected { error: Error::EndOfStream, at: 6 })));
+/// assert_eq!(list.next(), None);
+/// ```
+#[derive(Clone)]
+pub struct Elements<'a> {
+    content: &'a [u8],
+    left: Span,
+    next: Next,
+}
+
+impl<'a> Elements<'a> {
+    fn of(content: &'a [u8], next: Next) -> Elements<'a> {
+        let left = Span {
+            offset: 0,
+            size: content.len(),
+        };
+        Elements { content, left, next }
+    }
+}
+
+impl<'a> Iterator for Elements<'a> {
+    type Item = Result<&'a [u8], Rejected>;
+
+    fn next(&mut self) -> Option<Self::Item> {
+        if self.left.size == 0 {
+            return None;
+        }
+        let from = self.left.offset;
+        let mut element = Span::default();
+        // SAFETY: so many bytes are at the pointer, and nothing changes them during the call, which keeps no pointer.
+        let said = unsafe {
+            (self.next)(self.content.as_ptr(), self.content.len(), &mut self.left, &mut element)
+        };
+        if said.status != 0 {
+            self.left.size = 0;
+            return Some(Err(Rejected {
+                error: Error::of(&said),
+                at: from + said.at,
+            }));
+        }
+        Some(Ok(element.of(self.content)))
+    }
+}
+
+impl core::iter::FusedIterator for Elements<'_> {}
+
 impl Span {
     /// The bytes at this place.
     fn of(self, bytes: &[u8]) -> &[u8] {
