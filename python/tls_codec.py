@@ -2,12 +2,19 @@
 
     cc -shared -o libtls_codec.so -Wl,--whole-archive libmls_c.a libtls13_c.a libtls_codec_c.a -Wl,--no-whole-archive
 
+The decoders want libmls_check_c.a, libtls13_check_c.a and libtls_codec_heap.a in it too.
+
     codec = Codec("./libtls_codec.so")
     message, rest = codec.split("mls_key_package", data)
+    fields = codec.fields("mls_welcome", ["cipher_suite", "secrets", "encrypted_group_info"], data)
+    for extension in codec.elements("mls_extension", content): ...
 
 docs/CALLERS.md says what is proved and what is trusted.
 """
+from __future__ import annotations
+
 import ctypes
+from collections.abc import Iterator
 
 STATUSES = [
     "Accepted", "EncodingError", "InvalidVectorLength", "InvalidWriteLength", "InvalidInput", "DecodingError", "EndOfStream",
@@ -21,6 +28,15 @@ class Outcome(ctypes.Structure):
     _fields_ = [("status", ctypes.c_uint32), ("taken", ctypes.c_size_t), ("at", ctypes.c_size_t), ("detail", ctypes.c_uint64)]
 
 
+class Span(ctypes.Structure):
+    """A place in some bytes, as in tls_codec/outcome.h."""
+
+    _fields_ = [("offset", ctypes.c_size_t), ("size", ctypes.c_size_t)]
+
+    def of(self, data: bytes) -> bytes:
+        return data[self.offset : self.offset + self.size]
+
+
 class Rejected(ValueError):
     """Why bytes are rejected: the error's name, where the rejected field begins, and the value that isn't known."""
 
@@ -31,23 +47,49 @@ class Rejected(ValueError):
 
 
 class Codec:
-    """The validators of a shared object."""
+    """The validators of a shared object, and its decoders."""
 
     def __init__(self, path: str) -> None:
         self.library = ctypes.CDLL(path)
 
-    def outcome(self, message: str, data: bytes) -> Outcome:
-        """What the validator of the message says, which is named as in the headers, without `_validate`."""
-        call = self.library[f"{message}_validate"]
-        call.restype, call.argtypes = Outcome, [ctypes.c_char_p, ctypes.c_size_t]
-        return call(data, len(data))
+    def outcome(self, name: str, data: bytes, *filled: object) -> Outcome:
+        """What a function says of the bytes, which is named as in the headers. It is given what it is to fill."""
+        call = self.library[name]
+        call.restype, call.argtypes = Outcome, [ctypes.c_char_p, ctypes.c_size_t, *[ctypes.c_void_p] * len(filled)]
+        return call(data, len(data), *map(ctypes.byref, filled))
 
-    def split(self, message: str, data: bytes) -> tuple[bytes, bytes]:
-        """The message that the bytes begin with, and the rest of them."""
-        said = self.outcome(message, data)
+    def accepted(self, name: str, data: bytes, *filled: object) -> Outcome:
+        """The same of bytes that are accepted."""
+        said = self.outcome(name, data, *filled)
         if said.status:
             raise Rejected(said.status, said.at, said.detail)
+        return said
+
+    def split(self, message: str, data: bytes) -> tuple[bytes, bytes]:
+        """The message that the bytes begin with, and the rest of them. The message is named as in the headers, without `_validate`."""
+        said = self.accepted(f"{message}_validate", data)
         return data[: said.taken], data[said.taken :]
+
+    def fields(self, message: str, names: list[str], data: bytes) -> dict[str, bytes]:
+        """The first fields of the message that the bytes begin with, by the names that its struct has in the headers, in that order."""
+        spans = (Span * 16)()  # room for any struct
+        self.accepted(f"{message}_locate", data, spans)
+        return {name: span.of(data) for name, span in zip(names, spans)}
+
+    def elements(self, element: str, content: bytes) -> Iterator[bytes]:
+        """The elements of a list, of which these are the bytes after its length: named as in the headers, without `_next`."""
+        left, found = Span(0, len(content)), Span()
+        while left.size:
+            said, at = self.outcome(f"{element}_next", content, left, found), left.offset
+            if said.status:
+                raise Rejected(said.status, at + said.at, said.detail)
+            yield found.of(content)
+
+    def message_kind(self, data: bytes) -> int:
+        """The kind of the MLSMessage that the bytes begin with: 1 is a public message, 5 a key package."""
+        kind = ctypes.c_uint16()
+        self.accepted("mls_message_kind", data, kind)
+        return kind.value
 
     def exactly(self, message: str, data: bytes) -> None:
         """Returns if all of the bytes are one message."""

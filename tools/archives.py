@@ -1,8 +1,9 @@
 #!/usr/bin/env python3
-"""archives.py [FOLDER]: proves the static libraries and puts their archives into a folder, c/out if none is given.
+"""archives.py [FOLDER [TARGET]]: proves the static libraries and puts their archives into a folder, c/out if none is given.
 
 They are built over the libraries that `rt ci` left in crates/*/out/rlib. Where some aren't there, `rt lib` proves and builds all that
-is wanted, which takes longer.
+is wanted, which takes longer. Beside them lies libtls_codec_heap.a, which decoders want: malloc and free by the names by which Rattle calls
+them. TARGET is x86_64-unknown-linux-gnu if none is given. For aarch64-unknown-linux-gnu the kit has no such heap.
 """
 from __future__ import annotations
 
@@ -13,6 +14,9 @@ import sys
 
 sys.dont_write_bytecode = True
 from libraries import CRATES, TOP, Libraries
+
+HEAP = "libtls_codec_heap.a"
+TARGET = "x86_64-unknown-linux-gnu"
 
 
 class NotBuilt(Exception):
@@ -32,23 +36,30 @@ def ran(words: list[str], crate: str) -> None:
         raise NotBuilt(f"{crate}: {said.stdout[-3000:]}")
 
 
-def build(libraries: Libraries, crate: str, folder: pathlib.Path) -> None:
+def build(libraries: Libraries, crate: str, folder: pathlib.Path, target: str = TARGET) -> None:
     """Proves a static library, and puts its archive into the folder."""
     archive = folder / f"lib{crate}.a"
     if is_left_by_ci(libraries, crate):
         toolchain = ["--toolchain", f"{libraries.kit}/toolchain", "-o", str(archive.resolve())]
-        return ran([f"{libraries.kit}/bin/rattle", "build", *libraries.words(crate), *toolchain], crate)
-    ran(["rt", "lib"], crate)
+        return ran([f"{libraries.kit}/bin/rattle", "build", *libraries.words(crate), "--target", target, *toolchain], crate)
+    ran(["rt", "lib", "--target", target], crate)
     shutil.copyfile(CRATES / crate / "out" / archive.name, archive)
+
+
+def put_heap(libraries: Libraries, folder: pathlib.Path) -> None:
+    shutil.copyfile(libraries.kit / "c" / "liblibc_c.a", folder / HEAP)
 
 
 def main() -> int:
     folder = pathlib.Path(sys.argv[1]) if sys.argv[1:] else TOP / "c" / "out"
     folder.mkdir(parents=True, exist_ok=True)
+    target = sys.argv[2] if sys.argv[2:] else TARGET
     libraries = Libraries()
     try:
+        if target == TARGET:
+            put_heap(libraries, folder)
         for crate in libraries.static:
-            build(libraries, crate, folder)
+            build(libraries, crate, folder, target)
             print(folder / f"lib{crate}.a", flush=True)
     except (NotBuilt, OSError) as error:
         print(error)

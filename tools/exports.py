@@ -19,9 +19,9 @@ EXPORT = re.compile(r'((?:^///.*\n)+)#\[unsafe\(no_mangle\)\]\npub extern "C" fn
 STRUCT = re.compile(r"((?:^///.*\n)+)#\[repr\(C\)\]\n(?:#.*\n)*pub struct (\w+) \{\n((?:    .*\n)*)\}", re.M)
 FIELD = re.compile(r"((?:^    ///.*\n)+)    pub (\w+): (\w+),", re.M)
 NUMBER = re.compile(r"^        Error::(\w+)(\(_\))? => (\d+),$", re.M)
-C = {"u32": "uint32_t", "u64": "uint64_t", "usize": "size_t"}
+C = {"u16": "uint16_t", "u32": "uint32_t", "u64": "uint64_t", "usize": "size_t"}
 # The libraries whose structs cross, and what their names begin with in C.
-STRUCTS = {"tls_codec_outcome": "tls_codec", "mls_fields": "mls"}
+STRUCTS = {"tls_codec_outcome": "tls_codec", "mls_fields": "mls", "tls13_fields": "tls13"}
 LONGEST = 100
 SAFE = "so many bytes are at the pointer, and nothing changes them during the call, which keeps no pointer."
 
@@ -54,7 +54,7 @@ def in_c(name: str, kind: str) -> list[str]:
         return []
     if kind == "&[u8]":
         return [f"const uint8_t *{name}", "size_t length"]
-    if kind.removeprefix("&mut ") in structs():
+    if kind.removeprefix("&mut ") in (*C, *structs()):
         return [f"{type_in_c(kind.removeprefix('&mut '))} *{name}"]
     raise Unread(f"{name}: {kind}")
 
@@ -64,7 +64,7 @@ def in_rust(name: str, kind: str) -> list[str]:
         return []
     if kind == "&[u8]":
         return [f"{name}: *const u8", "length: usize"]
-    if kind.removeprefix("&mut ") in structs():
+    if kind.removeprefix("&mut ") in (*C, *structs()):
         return [f"{name}: {kind}"]
     raise Unread(f"{name}: {kind}")
 
@@ -116,6 +116,11 @@ def libraries() -> list[str]:
     return re.findall(r"^(\w+) staticlib:", (TOP / "crates.txt").read_text(encoding="utf-8"), re.M)
 
 
+def decoders() -> list[str]:
+    """Those that want a heap."""
+    return [it for it in libraries() if it.endswith("_check_c")]
+
+
 def source_of(crate: str, file: str = "lib.rt") -> str:
     return (TOP / "crates" / crate / "src" / file).read_text(encoding="utf-8")
 
@@ -134,7 +139,7 @@ def exports_of(crate: str) -> list[Export]:
 def about(crate: str) -> str:
     """What the first lines of a static library say of it."""
     lines = [it[3:].strip() for it in source_of(crate).splitlines() if it.startswith("//!")]
-    return " ".join(lines)
+    return " ".join(it for it in lines if it)
 
 
 def numbers() -> list[tuple[str, bool, int]]:
@@ -203,9 +208,11 @@ def header(crate: str) -> str:
 def table() -> str:
     """The lines by which tests in C find a message's calls."""
     found = [(it.name.rpartition("_"), it) for crate in libraries() for it in exports_of(crate)]
-    lines = ["#ifdef MESSAGE", *[f"MESSAGE({name})" for (name, _, call), _ in found if call == "validate"]]
+    calls = {call: [name for (name, _, other), _ in found if other == call] for call in ("validate", "check")}
+    lines = ["#ifdef MESSAGE", *[f"MESSAGE({name})" for name in calls["validate"] if name in calls["check"]]]
     lines += ["#endif", "#ifdef LOCATED"]
     lines += [f"LOCATED({name}, {type_in_c(taken_by(it))})" for (name, _, call), it in found if call == "locate"]
+    lines += ["#endif", "#ifdef LISTED", *[f"LISTED({name})" for (name, _, call), _ in found if call == "next"]]
     return "\n".join([f"/* {WRITTEN}. Don't edit. */", *lines, "#endif", ""])
 
 
@@ -219,12 +226,29 @@ def taken_by(export: Export) -> str:
     return export.parameters[1][1].removeprefix("&mut ")
 
 
-def content_in_rust(export: Export, name: str) -> list[str]:
-    """The function that finds one content."""
-    lines = ["", f"    /// {export.text} That content, and the rest of the bytes.", f"    pub fn {name}(bytes: &[u8]) -> Result<(&[u8], &[u8]), Rejected> {{"]
-    lines += ["        let mut found = Span::default();", f"        // SAFETY: {SAFE}"]
+def found_in_rust(export: Export, name: str, text: str, kinds: tuple[str, str, str]) -> list[str]:
+    """The function that finds one thing: its type, what is passed to be filled, and what is returned of that."""
+    returned, filled, found = kinds
+    lines = ["", f"    /// {export.text} {text}, and the rest of the bytes.", f"    pub fn {name}(bytes: &[u8]) -> Result<({returned}, &[u8]), Rejected> {{"]
+    lines += [f"        let mut found = {filled};", f"        // SAFETY: {SAFE}"]
     lines += [f"        let said = unsafe {{ foreign::{export.name}(bytes.as_ptr(), bytes.len(), &mut found) }};"]
-    return [*lines, "        let (_, rest) = split_as(bytes, said)?;", "        Ok((found.of(bytes), rest))", "    }"]
+    return [*lines, "        let (_, rest) = split_as(bytes, said)?;", f"        Ok(({found}, rest))", "    }"]
+
+
+def content_in_rust(export: Export, name: str) -> list[str]:
+    return found_in_rust(export, name, "That content", ("&[u8]", "Span::default()", "found.of(bytes)"))
+
+
+def kind_in_rust(export: Export, name: str) -> list[str]:
+    kind = taken_by(export)
+    return found_in_rust(export, name, "Its number", (kind, f"0{kind}", "found"))
+
+
+def elements_in_rust(export: Export, name: str) -> list[str]:
+    """The iterator over the elements of a list."""
+    text = export.text.partition(": the next one")[0]
+    lines = ["", f"    /// {text}: each of a list, of which these are the bytes after its length."]
+    return [*lines, f"    pub fn {name}_elements(content: &[u8]) -> Elements<'_> {{", f"        Elements::of(content, foreign::{export.name})", "    }"]
 
 
 def located_in_rust(module: str, export: Export) -> list[str]:
@@ -245,15 +269,32 @@ def located_in_rust(module: str, export: Export) -> list[str]:
     return [*lines, "        };", "        Ok((fields, rest))", "    }"]
 
 
+def decoders_in_rust(crate: str) -> list[str]:
+    """The functions of a static library of decoders, as those of a module that a feature adds."""
+    name, exports = crate.removesuffix("_c"), exports_of(crate)
+    body = ["", f"/// {about(crate)}", '#[cfg(feature = "check")]', f"pub mod {name} {{", "    use crate::{Error, decode};", ""]
+    body += ["    mod foreign {", "        use crate::Outcome;", "", f'        #[link(name = "{crate}", kind = "static")]']
+    body += ['        unsafe extern "C" {', *[f"            {it.declaration()}" for it in exports], "        }", "    }"]
+    for it in exports:
+        short = it.name.removesuffix("_check").removeprefix(f"{name.removesuffix('_check')}_")
+        body += ["", f"    /// {it.text} The message that the bytes begin with, and the rest of them."]
+        body += [f"    pub fn {short}(bytes: &[u8]) -> Result<(&[u8], &[u8]), Error> {{", f"        decode(bytes, foreign::{it.name})", "    }"]
+    return [*body, "}"]
+
+
 def module_in_rust(crate: str) -> list[str]:
     """A static library's functions, as those of a module."""
     name, exports = crate.removesuffix("_c"), exports_of(crate)
     whole = [it for it in exports if it.name.endswith("_validate")]
     located = [it for it in exports if it.name.endswith("_locate")]
     taken = dict.fromkeys(taken_by(it) for it in located if taken_by(it) != "Span")
+    kinds = [it for it in exports if it.name.endswith("_kind")]
+    lists = [it for it in exports if it.name.endswith("_next")]
     used = ["Rejected", "split", *(["split_as"] if located else [])]
     if len(taken) < len(located) and not taken:
         used.insert(1, "Span")
+    if lists:
+        used.insert(0, "Elements")
     body = ["", f"/// {about(crate)}", f"pub mod {name} {{", f"    use crate::{{{', '.join(used)}}};", "", "    mod foreign {"]
     body += [f"        use crate::{{Outcome{', Span' if located else ''}}};" if located else "        use crate::Outcome;", ""]
     for it in taken:
@@ -268,6 +309,10 @@ def module_in_rust(crate: str) -> list[str]:
         body += [f"        split(bytes, foreign::{it.name})", "    }"]
     for it in located:
         body += located_in_rust(name, it)
+    for it in kinds:
+        body += kind_in_rust(it, it.name.removeprefix(f"{name}_"))
+    for it in lists:
+        body += elements_in_rust(it, it.name.removesuffix("_next").removeprefix(f"{name}_"))
     return [*body, "}"]
 
 
@@ -287,7 +332,7 @@ def exports_rust() -> str:
     body += ["            other => Error::Other(other),", "        }", "    }", "}"]
     body += ["", *struct_in_rust("Span")]
     for crate in libraries():
-        body += module_in_rust(crate)
+        body += decoders_in_rust(crate) if crate in decoders() else module_in_rust(crate)
     return "\n".join([*body, ""])
 
 

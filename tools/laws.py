@@ -110,9 +110,9 @@ class Type:
         if not self.law:
             yield "no law"
             return
-        if not re.search(rf"ensures bytes \{{ \(c : Tree\) → SameBytes \((?:part_)?means ", self.law) or f"⟦<{self.name}" not in self.law:
+        if not re.search(rf"ensures bytes \{{ \(c : Tree\) →\s+SameBytes \((?:part_)?means ", self.law) or f"⟦<{self.name}" not in self.law:
             yield "no law says its bytes"
-        if f"↔ {self.name}Says " not in self.law or not self.clauses:
+        if f"({self.name}Says " not in self.law or not self.clauses:
             yield "no law says its values"
         for name in re.findall(r' means \w+ "([^"]*)"', self.law):
             if not is_name_of(name, self.name):

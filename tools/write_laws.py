@@ -27,6 +27,17 @@ def is_number(word):
     return word[0].isdigit()
 
 
+def clause(name, *words):
+    """A clause of a contract, on as few lines of 100 columns as its words allow."""
+    lines = [f"    ensures {name} {{"]
+    for word in [*words[:-1], f"{words[-1]} }}"]:
+        if len(lines[-1]) + 1 + len(word) <= 100:
+            lines[-1] += f" {word}"
+        else:
+            lines.append(f"        {word}")
+    return "\n".join(lines) + "\n"
+
+
 class Parser:
     def __init__(self, text):
         self.words, self.at = tokens(text), 0
@@ -808,8 +819,10 @@ use Rattle.{self.laws}.specs.Definitions.{{{self.crate}}}
             module = "laws" if len(parts) == 1 else f"laws_{of}"
             modules.append(module)
             self.module(module, part)
-        self.file("src/lib.rt", f"""//! That the messages of `{self.crate}` are those of their text, `{self.text_name}.tls`: read its lines in `specs/Text.antt`, and in
-//! `specs/Says.antt` which field has which name. Nothing here does anything when it runs.
+        self.file("src/lib.rt", f"""//! That the messages of `{self.crate}` are those of their text, `{self.text_name}.tls`.
+//!
+//! Read its lines in `specs/Text.antt`, and in `specs/Says.antt` which field has which name.
+//! Nothing here does anything when it runs.
 #![tactic(auto)]
 ghost use Rattle.std.specs.Prelude.{{◌≡◌}};
 ghost use Rattle.tls_presentation.specs.Cut.{{signs}};
@@ -827,10 +840,9 @@ pub fn text_is_printed()
 """)
 
     def module(self, module, types):
-        ghost = f"""ghost use Rattle.std.specs.Prelude.{{◌↔◌, ℕ, List}};
-ghost use Rattle.tls_codec_grammar.specs.Tree.{{Tree}};
-ghost use Rattle.tls_codec_grammar.specs.Grammar.{{Direction}};
+        ghost = f"""ghost use Rattle.tls_codec_grammar.specs.Tree.{{Tree}};
 ghost use Rattle.tls_presentation.specs.Meaning.{{SameBytes, means, part_means}};
+ghost use Rattle.tls_presentation.specs.Says.{{SpelledAs}};
 ghost use Rattle.{self.laws}.specs.Definitions.{{{self.crate}}};
 """
         ghost += f"ghost use Rattle.{self.laws}.specs.Says.{{{', '.join(one.name + 'Says' for one in types)}}};\n"
@@ -848,33 +860,29 @@ ghost use Rattle.{self.laws}.specs.Definitions.{{{self.crate}}};
         contexts = sorted({one.context for one in types if one.context and one.context[0].isupper()})
         rust = sorted({one.name for one in types} | set(contexts))
         sizes = sorted({"SizeFor" if one.context else "Size" for one in types})
-        out = f"//! Each type of `{self.crate}` has the bytes that its text means, and each value's bytes are those of its parts, by their names.\n{ghost}\n"
+        out = f"//! Each type of `{self.crate}` has the bytes that its text means.\n//! Each value's bytes are those of its parts, by their names.\n{ghost}\n"
         out += f"use {self.crate}::{{{', '.join(rust)}}};\nuse tls_codec::{{{', '.join(sizes)}}};\n"
         for one in types:
             size = f"⟦<{one.rust} as Size>⟧" if not one.is_in_context else f"⟦<{one.rust} as SizeFor<{one.context}>>⟧"
             fmt = f"({size}.format_for c)" if one.is_in_context else f"{size}.format"
             c, quant = ("c ", "(c : Tree) ") if one.is_in_context else ("", "")
-            out += f"""
-/// `{one.name}`.
-pub fn {one.word}_is_as_printed()
-    ensures bytes {{ (c : Tree) → SameBytes ({self.means(one)})
-        {fmt} }}
-    ensures values {{ {quant}(v : {one.name}) (d : Direction) (b : List ℕ) →
-        {fmt}.spells d b ({size}.plain v)
-        ↔ {one.name}Says {c}v d b }}
-{self.names_clause(one)}{{}}
-"""
+            clauses = [
+                clause("bytes", "(c : Tree) →", f"SameBytes ({self.means(one)})", fmt),
+                clause("values", f"{quant}(v : {one.name}) →", f"SpelledAs {fmt}", f"({size}.plain v)", f"({one.name}Says {c}v)".replace("  ", " ")),
+                *self.names_clauses(one),
+            ]
+            out += f"\n/// `{one.name}`.\npub fn {one.word}_is_as_printed()\n{''.join(clauses)}{{}}\n"
             self.answer(module, one)
         self.file(f"src/{module}.rt", out)
 
-    def names_clause(self, one):
+    def names_clauses(self, one):
         """That names are the text's: those of a registry's numbers, or of an enum's values."""
         name = quoted(self.definition(one) or "")
         if one.is_named_values(name):
-            return f"    ensures names {{ (v : {one.name}) → value_number {self.crate} {name} ({one.word}_name v)\n        ≡ {one.word}_code v }}\n"
+            return [clause("names", f"(v : {one.name}) →", f"value_number {self.crate} {name}", f"({one.word}_name v)", f"≡ {one.word}_code v")]
         if one.is_registry:
-            return f"    ensures names {{ {one.word}_names ≡ names_in {self.crate} {name} }}\n"
-        return ""
+            return [clause("names", f"{one.word}_names ≡", f"names_in {self.crate} {name}")]
+        return []
 
     def answer(self, module, one):
         fn = f"{one.word}_is_as_printed"

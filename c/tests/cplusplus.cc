@@ -1,5 +1,7 @@
 // The headers in C++: each in any order, and called.
 #include <tls_codec/tls_codec.h>
+#include <tls_codec/tls13_check.h>
+#include <tls_codec/mls_check.h>
 #include <tls_codec/tls13.h>
 #include <tls_codec/mls.h>
 #include <tls_codec/outcome.h>
@@ -8,9 +10,10 @@
 
 int main() {
   const uint8_t alert[] = {1, 0, 0xee};
-  const bool is_alert = tls13_alert_validate(alert, sizeof alert).taken == 2;
+  const bool is_alert = tls13_alert_validate(alert, sizeof alert).taken == 2 && tls13_alert_check(alert, sizeof alert).taken == 2;
   const uint8_t suite[] = {0, 1};
   const tls_codec_outcome said = mls_welcome_validate(suite, sizeof suite);
+  const tls_codec_outcome decoded = mls_welcome_check(suite, sizeof suite);
   const tls_codec_outcome none = mls_message_validate(nullptr, 0);
   const uint8_t varint[] = {0x3f, 0xee};
   const tls_codec_outcome one = tls_codec_varint_validate(varint, sizeof varint);
@@ -20,6 +23,7 @@ int main() {
                           content.size == 2;
   const bool is_kept = tls_codec_opaque_v_locate(opaque + 1, 2, &content).status == TLS_CODEC_DECODING_ERROR && content.offset == 2;
   const bool is_well = is_alert && is_content && is_kept && said.status == TLS_CODEC_END_OF_STREAM && said.at == 2 && one.taken == 1 &&
+                       decoded.status == TLS_CODEC_END_OF_STREAM && decoded.at == 0 &&
                        none.status == TLS_CODEC_END_OF_STREAM &&
                        tls_codec_exactly(one, sizeof varint) == TLS_CODEC_TRAILING_DATA &&
                        std::strcmp(tls_codec_status_name(none.status), "EndOfStream") == 0;

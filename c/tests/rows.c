@@ -1,25 +1,28 @@
-/* rows FILE: what the validator says of each row of test_outcome or tls13.tsv, and where the fields are. Then each bit is turned in its turn.
+/* rows FILE: what the validator and the decoder say of each row of test_outcome or tls13.tsv, and where the fields are. Then each bit is turned
+ * in its turn, and the two are compared.
  *
- * A row has a message's name, hex or `-`, what the validator is to say, as `STATUS TAKEN AT DETAIL`; of test_outcome what the decoder says,
- * which isn't called here, and of some accepted messages where their fields are. The bytes lie in a block of their own size, so that a tool that
- * watches memory sees a read past them. */
+ * A row has a message's name, hex or `-`, what the validator is to say, as `STATUS TAKEN AT DETAIL`; of test_outcome what the decoder is to
+ * say, and of some accepted messages where their fields are. The bytes lie in a block of their own size, so that a tool that watches memory
+ * sees a read past them. */
 #include <inttypes.h>
 #include <stdio.h>
 #include <stdlib.h>
 #include <string.h>
 #include <tls_codec/mls.h>
+#include <tls_codec/mls_check.h>
 #include <tls_codec/tls13.h>
+#include <tls_codec/tls13_check.h>
 #include <tls_codec/tls_codec.h>
 
 typedef tls_codec_outcome call(const uint8_t *bytes, size_t length);
 
 struct message {
   const char *name;
-  call *validate;
+  call *validate, *check;
 };
 
 static const struct message messages[] = {
-#define MESSAGE(name) {#name, name##_validate},
+#define MESSAGE(name) {#name, name##_validate, name##_check},
 #include "exports.inc"
 #undef MESSAGE
 };
@@ -75,6 +78,12 @@ static int are_in(const struct located *it, size_t taken) {
   return end == taken;
 }
 
+/* Whether the decoder says the same, but for the place. */
+static int is_decoded_alike(const struct message *it, tls_codec_outcome said, const uint8_t *bytes, size_t length) {
+  said.at = 0;
+  return is_same(it->check(bytes, length), said);
+}
+
 /* What has to be so of any bytes. */
 static int is_sound(const struct message *it, const uint8_t *bytes, size_t length) {
   tls_codec_outcome said = it->validate(bytes, length);
@@ -82,6 +91,7 @@ static int is_sound(const struct message *it, const uint8_t *bytes, size_t lengt
   int is_accepted = said.status == TLS_CODEC_ACCEPTED;
   int is_well = is_accepted ? said.taken <= length && !said.at && !said.detail
                             : !said.taken && said.at <= length && said.status < TLS_CODEC_OUT_OF_MEMORY;
+  is_well &= is_decoded_alike(it, said, bytes, length);
   if (!found.count) return is_well;
   return is_well && is_same(said, found.said) && (is_accepted ? are_in(&found, said.taken) : is_kept(&found));
 }
@@ -110,11 +120,11 @@ static int are_placed(const struct message *it, const uint8_t *bytes, size_t len
   return 0;
 }
 
-static int is_told(const char *name, tls_codec_outcome said, const char *wanted) {
+static int is_told(const char *name, const char *call, tls_codec_outcome said, const char *wanted) {
   char text[128];
   snprintf(text, sizeof text, "%" PRIu32 " %zu %zu %" PRIu64, said.status, said.taken, said.at, said.detail);
   if (strcmp(text, wanted) == 0) return 1;
-  printf("%s: the validator says %s (%s), and not %s\n", name, text, tls_codec_status_name(said.status), wanted);
+  printf("%s: the %s says %s (%s), and not %s\n", name, call, text, tls_codec_status_name(said.status), wanted);
   return 0;
 }
 
@@ -133,7 +143,7 @@ int main(int count, char **words) {
   int rows = 0, failed = 0;
   while (fgets(line, sizeof line, file)) {
     char *name = strtok(line, "\t"), *digits = strtok(NULL, "\t"), *validated = strtok(NULL, "\t\n");
-    const char *fields = strtok(NULL, "\t\n") ? strtok(NULL, "\n") : NULL;
+    const char *decoded = strtok(NULL, "\t\n"), *fields = decoded ? strtok(NULL, "\n") : NULL;
     const struct message *it = validated ? find(name) : NULL;
     size_t length;
     uint8_t *bytes = it ? bytes_of(digits, &length) : NULL;
@@ -142,8 +152,9 @@ int main(int count, char **words) {
       return 2;
     }
     rows++;
-    int is_well = is_told(name, it->validate(bytes, length), validated);
-    is_well &= are_placed(it, bytes, length, fields ? fields : "");
+    int is_well = is_told(name, "validator", it->validate(bytes, length), validated);
+    is_well &= !decoded || is_told(name, "decoder", it->check(bytes, length), decoded);
+    is_well &= !decoded || are_placed(it, bytes, length, fields ? fields : "");
     failed += !(is_sound_with_each_bit_turned(it, bytes, length) && is_well);
     free(bytes);
   }

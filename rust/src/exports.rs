@@ -126,13 +126,82 @@ pub mod tls_codec {
 
 /// Whether bytes begin with a message of TLS 1.3, told without memory.
 pub mod tls13 {
-    use crate::{Rejected, split};
+    use crate::{Elements, Rejected, split, split_as};
 
     mod foreign {
-        use crate::Outcome;
+        use crate::{Outcome, Span};
+
+        /// Where the fields of a `ClientHello` are (RFC 8446, section 4.1.2). Of `opaque` it is the bytes without their length.
+        #[repr(C)]
+        #[derive(Clone, Copy, Default)]
+        pub struct ClientHelloFields {
+            pub legacy_version: Span,
+            pub random: Span,
+            pub legacy_session_id: Span,
+            pub cipher_suites: Span,
+            pub legacy_compression_methods: Span,
+            pub extensions: Span,
+        }
+
+        /// Where the fields of a `ServerHello` are (RFC 8446, section 4.1.3). Of `opaque` it is the bytes without their length.
+        #[repr(C)]
+        #[derive(Clone, Copy, Default)]
+        pub struct ServerHelloFields {
+            pub legacy_version: Span,
+            pub random: Span,
+            pub legacy_session_id_echo: Span,
+            pub cipher_suite: Span,
+            pub legacy_compression_method: Span,
+            pub extensions: Span,
+        }
+
+        /// Where the fields of a `Certificate` are (RFC 8446, section 4.4.2). Of `opaque` it is the bytes without their length.
+        #[repr(C)]
+        #[derive(Clone, Copy, Default)]
+        pub struct CertificateFields {
+            pub certificate_request_context: Span,
+            pub certificate_list: Span,
+        }
+
+        /// Where the fields of a `CertificateVerify` are (RFC 8446, section 4.4.3). Of `opaque` it is the bytes without their length.
+        #[repr(C)]
+        #[derive(Clone, Copy, Default)]
+        pub struct CertificateVerifyFields {
+            pub algorithm: Span,
+            pub signature: Span,
+        }
+
+        /// Where the fields of a `NewSessionTicket` are (RFC 8446, section 4.6.1). Of `opaque` it is the bytes without their length.
+        #[repr(C)]
+        #[derive(Clone, Copy, Default)]
+        pub struct NewSessionTicketFields {
+            pub ticket_lifetime: Span,
+            pub ticket_age_add: Span,
+            pub ticket_nonce: Span,
+            pub ticket: Span,
+            pub extensions: Span,
+        }
+
+        /// Where the fields of a `TLSPlaintext` are (RFC 8446, section 5.1). Of `opaque` it is the bytes without their length.
+        #[repr(C)]
+        #[derive(Clone, Copy, Default)]
+        pub struct TLSPlaintextFields {
+            pub kind: Span,
+            pub legacy_record_version: Span,
+            pub fragment: Span,
+        }
 
         #[link(name = "tls13_c", kind = "static")]
         unsafe extern "C" {
+            pub fn tls13_extension_next(bytes: *const u8, length: usize, left: &mut Span, element: &mut Span) -> Outcome;
+            pub fn tls13_key_share_entry_next(bytes: *const u8, length: usize, left: &mut Span, element: &mut Span) -> Outcome;
+            pub fn tls13_certificate_entry_next(bytes: *const u8, length: usize, left: &mut Span, element: &mut Span) -> Outcome;
+            pub fn tls13_client_hello_locate(bytes: *const u8, length: usize, fields: &mut ClientHelloFields) -> Outcome;
+            pub fn tls13_server_hello_locate(bytes: *const u8, length: usize, fields: &mut ServerHelloFields) -> Outcome;
+            pub fn tls13_certificate_locate(bytes: *const u8, length: usize, fields: &mut CertificateFields) -> Outcome;
+            pub fn tls13_certificate_verify_locate(bytes: *const u8, length: usize, fields: &mut CertificateVerifyFields) -> Outcome;
+            pub fn tls13_new_session_ticket_locate(bytes: *const u8, length: usize, fields: &mut NewSessionTicketFields) -> Outcome;
+            pub fn tls13_tls_plaintext_locate(bytes: *const u8, length: usize, fields: &mut TLSPlaintextFields) -> Outcome;
             pub fn tls13_tls_plaintext_validate(bytes: *const u8, length: usize) -> Outcome;
             pub fn tls13_tls_ciphertext_validate(bytes: *const u8, length: usize) -> Outcome;
             pub fn tls13_alert_validate(bytes: *const u8, length: usize) -> Outcome;
@@ -207,11 +276,280 @@ pub mod tls13 {
     pub fn key_update(bytes: &[u8]) -> Result<(&[u8], &[u8]), Rejected> {
         split(bytes, foreign::tls13_key_update_validate)
     }
+
+    /// Where the fields of a `ClientHello` are (RFC 8446, section 4.1.2). Of `opaque` it is the bytes without their length.
+    #[derive(Clone, Copy, PartialEq, Eq, Debug)]
+    pub struct ClientHelloFields<'a> {
+        /// `ProtocolVersion legacy_version = 0x0303;`
+        pub legacy_version: &'a [u8],
+        /// `Random random;`
+        pub random: &'a [u8],
+        /// `opaque legacy_session_id<0..32>;`
+        pub legacy_session_id: &'a [u8],
+        /// `CipherSuite cipher_suites<2..2^16-2>;` with its length
+        pub cipher_suites: &'a [u8],
+        /// `opaque legacy_compression_methods<1..2^8-1>;`
+        pub legacy_compression_methods: &'a [u8],
+        /// `Extension extensions<8..2^16-1>;` with its length
+        pub extensions: &'a [u8],
+    }
+
+    /// `ClientHello` (RFC 8446, section 4.1.2), and where its fields are. Of the message that the bytes begin with; and the rest of them.
+    pub fn client_hello_locate(bytes: &[u8]) -> Result<(ClientHelloFields<'_>, &[u8]), Rejected> {
+        let mut found = foreign::ClientHelloFields::default();
+        // SAFETY: so many bytes are at the pointer, and nothing changes them during the call, which keeps no pointer.
+        let said = unsafe { foreign::tls13_client_hello_locate(bytes.as_ptr(), bytes.len(), &mut found) };
+        let (_, rest) = split_as(bytes, said)?;
+        let fields = ClientHelloFields {
+            legacy_version: found.legacy_version.of(bytes),
+            random: found.random.of(bytes),
+            legacy_session_id: found.legacy_session_id.of(bytes),
+            cipher_suites: found.cipher_suites.of(bytes),
+            legacy_compression_methods: found.legacy_compression_methods.of(bytes),
+            extensions: found.extensions.of(bytes),
+        };
+        Ok((fields, rest))
+    }
+
+    /// Where the fields of a `ServerHello` are (RFC 8446, section 4.1.3). Of `opaque` it is the bytes without their length.
+    #[derive(Clone, Copy, PartialEq, Eq, Debug)]
+    pub struct ServerHelloFields<'a> {
+        /// `ProtocolVersion legacy_version = 0x0303;`
+        pub legacy_version: &'a [u8],
+        /// `Random random;`
+        pub random: &'a [u8],
+        /// `opaque legacy_session_id_echo<0..32>;`
+        pub legacy_session_id_echo: &'a [u8],
+        /// `CipherSuite cipher_suite;`
+        pub cipher_suite: &'a [u8],
+        /// `uint8 legacy_compression_method = 0;`
+        pub legacy_compression_method: &'a [u8],
+        /// `Extension extensions<6..2^16-1>;` with its length
+        pub extensions: &'a [u8],
+    }
+
+    /// `ServerHello` (RFC 8446, section 4.1.3), and where its fields are. Of the message that the bytes begin with; and the rest of them.
+    pub fn server_hello_locate(bytes: &[u8]) -> Result<(ServerHelloFields<'_>, &[u8]), Rejected> {
+        let mut found = foreign::ServerHelloFields::default();
+        // SAFETY: so many bytes are at the pointer, and nothing changes them during the call, which keeps no pointer.
+        let said = unsafe { foreign::tls13_server_hello_locate(bytes.as_ptr(), bytes.len(), &mut found) };
+        let (_, rest) = split_as(bytes, said)?;
+        let fields = ServerHelloFields {
+            legacy_version: found.legacy_version.of(bytes),
+            random: found.random.of(bytes),
+            legacy_session_id_echo: found.legacy_session_id_echo.of(bytes),
+            cipher_suite: found.cipher_suite.of(bytes),
+            legacy_compression_method: found.legacy_compression_method.of(bytes),
+            extensions: found.extensions.of(bytes),
+        };
+        Ok((fields, rest))
+    }
+
+    /// Where the fields of a `Certificate` are (RFC 8446, section 4.4.2). Of `opaque` it is the bytes without their length.
+    #[derive(Clone, Copy, PartialEq, Eq, Debug)]
+    pub struct CertificateFields<'a> {
+        /// `opaque certificate_request_context<0..2^8-1>;`
+        pub certificate_request_context: &'a [u8],
+        /// `CertificateEntry certificate_list<0..2^24-1>;` with its length
+        pub certificate_list: &'a [u8],
+    }
+
+    /// `Certificate` (RFC 8446, section 4.4.2), and where its fields are. Of the message that the bytes begin with; and the rest of them.
+    pub fn certificate_locate(bytes: &[u8]) -> Result<(CertificateFields<'_>, &[u8]), Rejected> {
+        let mut found = foreign::CertificateFields::default();
+        // SAFETY: so many bytes are at the pointer, and nothing changes them during the call, which keeps no pointer.
+        let said = unsafe { foreign::tls13_certificate_locate(bytes.as_ptr(), bytes.len(), &mut found) };
+        let (_, rest) = split_as(bytes, said)?;
+        let fields = CertificateFields {
+            certificate_request_context: found.certificate_request_context.of(bytes),
+            certificate_list: found.certificate_list.of(bytes),
+        };
+        Ok((fields, rest))
+    }
+
+    /// Where the fields of a `CertificateVerify` are (RFC 8446, section 4.4.3). Of `opaque` it is the bytes without their length.
+    #[derive(Clone, Copy, PartialEq, Eq, Debug)]
+    pub struct CertificateVerifyFields<'a> {
+        /// `SignatureScheme algorithm;`
+        pub algorithm: &'a [u8],
+        /// `opaque signature<0..2^16-1>;`
+        pub signature: &'a [u8],
+    }
+
+    /// `CertificateVerify` (RFC 8446, section 4.4.3), and where its fields are. Of the message that the bytes begin with; and the rest of them.
+    pub fn certificate_verify_locate(bytes: &[u8]) -> Result<(CertificateVerifyFields<'_>, &[u8]), Rejected> {
+        let mut found = foreign::CertificateVerifyFields::default();
+        // SAFETY: so many bytes are at the pointer, and nothing changes them during the call, which keeps no pointer.
+        let said = unsafe { foreign::tls13_certificate_verify_locate(bytes.as_ptr(), bytes.len(), &mut found) };
+        let (_, rest) = split_as(bytes, said)?;
+        let fields = CertificateVerifyFields {
+            algorithm: found.algorithm.of(bytes),
+            signature: found.signature.of(bytes),
+        };
+        Ok((fields, rest))
+    }
+
+    /// Where the fields of a `NewSessionTicket` are (RFC 8446, section 4.6.1). Of `opaque` it is the bytes without their length.
+    #[derive(Clone, Copy, PartialEq, Eq, Debug)]
+    pub struct NewSessionTicketFields<'a> {
+        /// `uint32 ticket_lifetime;`
+        pub ticket_lifetime: &'a [u8],
+        /// `uint32 ticket_age_add;`
+        pub ticket_age_add: &'a [u8],
+        /// `opaque ticket_nonce<0..2^8-1>;`
+        pub ticket_nonce: &'a [u8],
+        /// `opaque ticket<1..2^16-1>;`
+        pub ticket: &'a [u8],
+        /// `Extension extensions<0..2^16-2>;` with its length
+        pub extensions: &'a [u8],
+    }
+
+    /// `NewSessionTicket` (RFC 8446, section 4.6.1), and where its fields are. Of the message that the bytes begin with; and the rest of them.
+    pub fn new_session_ticket_locate(bytes: &[u8]) -> Result<(NewSessionTicketFields<'_>, &[u8]), Rejected> {
+        let mut found = foreign::NewSessionTicketFields::default();
+        // SAFETY: so many bytes are at the pointer, and nothing changes them during the call, which keeps no pointer.
+        let said = unsafe { foreign::tls13_new_session_ticket_locate(bytes.as_ptr(), bytes.len(), &mut found) };
+        let (_, rest) = split_as(bytes, said)?;
+        let fields = NewSessionTicketFields {
+            ticket_lifetime: found.ticket_lifetime.of(bytes),
+            ticket_age_add: found.ticket_age_add.of(bytes),
+            ticket_nonce: found.ticket_nonce.of(bytes),
+            ticket: found.ticket.of(bytes),
+            extensions: found.extensions.of(bytes),
+        };
+        Ok((fields, rest))
+    }
+
+    /// Where the fields of a `TLSPlaintext` are (RFC 8446, section 5.1). Of `opaque` it is the bytes without their length.
+    #[derive(Clone, Copy, PartialEq, Eq, Debug)]
+    pub struct TLSPlaintextFields<'a> {
+        /// `ContentType type;`
+        pub kind: &'a [u8],
+        /// `ProtocolVersion legacy_record_version;`
+        pub legacy_record_version: &'a [u8],
+        /// `opaque fragment[TLSPlaintext.length];`
+        pub fragment: &'a [u8],
+    }
+
+    /// `TLSPlaintext` (RFC 8446, section 5.1), and where its fields are. Of the message that the bytes begin with; and the rest of them.
+    pub fn tls_plaintext_locate(bytes: &[u8]) -> Result<(TLSPlaintextFields<'_>, &[u8]), Rejected> {
+        let mut found = foreign::TLSPlaintextFields::default();
+        // SAFETY: so many bytes are at the pointer, and nothing changes them during the call, which keeps no pointer.
+        let said = unsafe { foreign::tls13_tls_plaintext_locate(bytes.as_ptr(), bytes.len(), &mut found) };
+        let (_, rest) = split_as(bytes, said)?;
+        let fields = TLSPlaintextFields {
+            kind: found.kind.of(bytes),
+            legacy_record_version: found.legacy_record_version.of(bytes),
+            fragment: found.fragment.of(bytes),
+        };
+        Ok((fields, rest))
+    }
+
+    /// `Extension` (RFC 8446, section 4.2): each of a list, of which these are the bytes after its length.
+    pub fn extension_elements(content: &[u8]) -> Elements<'_> {
+        Elements::of(content, foreign::tls13_extension_next)
+    }
+
+    /// `KeyShareEntry` (RFC 8446, section 4.2.8): each of a list, of which these are the bytes after its length.
+    pub fn key_share_entry_elements(content: &[u8]) -> Elements<'_> {
+        Elements::of(content, foreign::tls13_key_share_entry_next)
+    }
+
+    /// `CertificateEntry` of a `Certificate` (RFC 8446, section 4.4.2): each of a list, of which these are the bytes after its length.
+    pub fn certificate_entry_elements(content: &[u8]) -> Elements<'_> {
+        Elements::of(content, foreign::tls13_certificate_entry_next)
+    }
+}
+
+/// Whether bytes begin with a message of TLS 1.3, told by its decoder, which makes the value and drops it. `OutOfMemory`: memory was refused, and nothing is said of the bytes. No place is told: `at` is 0.
+#[cfg(feature = "check")]
+pub mod tls13_check {
+    use crate::{Error, decode};
+
+    mod foreign {
+        use crate::Outcome;
+
+        #[link(name = "tls13_check_c", kind = "static")]
+        unsafe extern "C" {
+            pub fn tls13_tls_plaintext_check(bytes: *const u8, length: usize) -> Outcome;
+            pub fn tls13_tls_ciphertext_check(bytes: *const u8, length: usize) -> Outcome;
+            pub fn tls13_alert_check(bytes: *const u8, length: usize) -> Outcome;
+            pub fn tls13_handshake_check(bytes: *const u8, length: usize) -> Outcome;
+            pub fn tls13_client_hello_check(bytes: *const u8, length: usize) -> Outcome;
+            pub fn tls13_server_hello_check(bytes: *const u8, length: usize) -> Outcome;
+            pub fn tls13_encrypted_extensions_check(bytes: *const u8, length: usize) -> Outcome;
+            pub fn tls13_certificate_request_check(bytes: *const u8, length: usize) -> Outcome;
+            pub fn tls13_certificate_check(bytes: *const u8, length: usize) -> Outcome;
+            pub fn tls13_certificate_verify_check(bytes: *const u8, length: usize) -> Outcome;
+            pub fn tls13_new_session_ticket_check(bytes: *const u8, length: usize) -> Outcome;
+            pub fn tls13_key_update_check(bytes: *const u8, length: usize) -> Outcome;
+        }
+    }
+
+    /// `TLSPlaintext` (RFC 8446, appendix B.1). The message that the bytes begin with, and the rest of them.
+    pub fn tls_plaintext(bytes: &[u8]) -> Result<(&[u8], &[u8]), Error> {
+        decode(bytes, foreign::tls13_tls_plaintext_check)
+    }
+
+    /// `TLSCiphertext` (RFC 8446, appendix B.1). The message that the bytes begin with, and the rest of them.
+    pub fn tls_ciphertext(bytes: &[u8]) -> Result<(&[u8], &[u8]), Error> {
+        decode(bytes, foreign::tls13_tls_ciphertext_check)
+    }
+
+    /// `Alert` (RFC 8446, appendix B.2). The message that the bytes begin with, and the rest of them.
+    pub fn alert(bytes: &[u8]) -> Result<(&[u8], &[u8]), Error> {
+        decode(bytes, foreign::tls13_alert_check)
+    }
+
+    /// `Handshake` (RFC 8446, appendix B.3). The message that the bytes begin with, and the rest of them.
+    pub fn handshake(bytes: &[u8]) -> Result<(&[u8], &[u8]), Error> {
+        decode(bytes, foreign::tls13_handshake_check)
+    }
+
+    /// `ClientHello` (RFC 8446, appendix B.3.1). The message that the bytes begin with, and the rest of them.
+    pub fn client_hello(bytes: &[u8]) -> Result<(&[u8], &[u8]), Error> {
+        decode(bytes, foreign::tls13_client_hello_check)
+    }
+
+    /// `ServerHello` (RFC 8446, appendix B.3.1). The message that the bytes begin with, and the rest of them.
+    pub fn server_hello(bytes: &[u8]) -> Result<(&[u8], &[u8]), Error> {
+        decode(bytes, foreign::tls13_server_hello_check)
+    }
+
+    /// `EncryptedExtensions` (RFC 8446, appendix B.3.2). The message that the bytes begin with, and the rest of them.
+    pub fn encrypted_extensions(bytes: &[u8]) -> Result<(&[u8], &[u8]), Error> {
+        decode(bytes, foreign::tls13_encrypted_extensions_check)
+    }
+
+    /// `CertificateRequest` (RFC 8446, appendix B.3.2). The message that the bytes begin with, and the rest of them.
+    pub fn certificate_request(bytes: &[u8]) -> Result<(&[u8], &[u8]), Error> {
+        decode(bytes, foreign::tls13_certificate_request_check)
+    }
+
+    /// `Certificate` (RFC 8446, appendix B.3.3). The message that the bytes begin with, and the rest of them.
+    pub fn certificate(bytes: &[u8]) -> Result<(&[u8], &[u8]), Error> {
+        decode(bytes, foreign::tls13_certificate_check)
+    }
+
+    /// `CertificateVerify` (RFC 8446, appendix B.3.3). The message that the bytes begin with, and the rest of them.
+    pub fn certificate_verify(bytes: &[u8]) -> Result<(&[u8], &[u8]), Error> {
+        decode(bytes, foreign::tls13_certificate_verify_check)
+    }
+
+    /// `NewSessionTicket` (RFC 8446, appendix B.3.4). The message that the bytes begin with, and the rest of them.
+    pub fn new_session_ticket(bytes: &[u8]) -> Result<(&[u8], &[u8]), Error> {
+        decode(bytes, foreign::tls13_new_session_ticket_check)
+    }
+
+    /// `KeyUpdate` (RFC 8446, appendix B.3.5). The message that the bytes begin with, and the rest of them.
+    pub fn key_update(bytes: &[u8]) -> Result<(&[u8], &[u8]), Error> {
+        decode(bytes, foreign::tls13_key_update_check)
+    }
 }
 
 /// Whether bytes begin with a message of MLS, told without memory.
 pub mod mls {
-    use crate::{Rejected, split, split_as};
+    use crate::{Elements, Rejected, split, split_as};
 
     mod foreign {
         use crate::{Outcome, Span};
@@ -270,11 +608,16 @@ pub mod mls {
 
         #[link(name = "mls_c", kind = "static")]
         unsafe extern "C" {
+            pub fn mls_extension_next(bytes: *const u8, length: usize, left: &mut Span, element: &mut Span) -> Outcome;
+            pub fn mls_optional_node_next(bytes: *const u8, length: usize, left: &mut Span, element: &mut Span) -> Outcome;
+            pub fn mls_proposal_or_ref_next(bytes: *const u8, length: usize, left: &mut Span, element: &mut Span) -> Outcome;
+            pub fn mls_encrypted_group_secrets_next(bytes: *const u8, length: usize, left: &mut Span, element: &mut Span) -> Outcome;
             pub fn mls_message_locate(bytes: *const u8, length: usize, fields: &mut MLSMessageFields) -> Outcome;
             pub fn mls_private_message_locate(bytes: *const u8, length: usize, fields: &mut PrivateMessageFields) -> Outcome;
             pub fn mls_framed_content_locate(bytes: *const u8, length: usize, fields: &mut FramedContentFields) -> Outcome;
             pub fn mls_key_package_locate(bytes: *const u8, length: usize, fields: &mut KeyPackageFields) -> Outcome;
             pub fn mls_welcome_locate(bytes: *const u8, length: usize, fields: &mut WelcomeFields) -> Outcome;
+            pub fn mls_message_kind(bytes: *const u8, length: usize, kind: &mut u16) -> Outcome;
             pub fn mls_message_validate(bytes: *const u8, length: usize) -> Outcome;
             pub fn mls_public_message_validate(bytes: *const u8, length: usize) -> Outcome;
             pub fn mls_private_message_validate(bytes: *const u8, length: usize) -> Outcome;
@@ -506,5 +849,132 @@ pub mod mls {
             encrypted_group_info: found.encrypted_group_info.of(bytes),
         };
         Ok((fields, rest))
+    }
+
+    /// `MLSMessage` (RFC 9420, section 6), and its `WireFormat`: 1 is a public message, 2 a private message, 3 a welcome, 4 a group info, 5 a key package. Its number, and the rest of the bytes.
+    pub fn message_kind(bytes: &[u8]) -> Result<(u16, &[u8]), Rejected> {
+        let mut found = 0u16;
+        // SAFETY: so many bytes are at the pointer, and nothing changes them during the call, which keeps no pointer.
+        let said = unsafe { foreign::mls_message_kind(bytes.as_ptr(), bytes.len(), &mut found) };
+        let (_, rest) = split_as(bytes, said)?;
+        Ok((found, rest))
+    }
+
+    /// `Extension` (RFC 9420, section 7.2): each of a list, of which these are the bytes after its length.
+    pub fn extension_elements(content: &[u8]) -> Elements<'_> {
+        Elements::of(content, foreign::mls_extension_next)
+    }
+
+    /// `optional<Node>` of a `RatchetTree` (RFC 9420, section 12.4.3.3): each of a list, of which these are the bytes after its length.
+    pub fn optional_node_elements(content: &[u8]) -> Elements<'_> {
+        Elements::of(content, foreign::mls_optional_node_next)
+    }
+
+    /// `ProposalOrRef` of a `Commit` (RFC 9420, section 12.4): each of a list, of which these are the bytes after its length.
+    pub fn proposal_or_ref_elements(content: &[u8]) -> Elements<'_> {
+        Elements::of(content, foreign::mls_proposal_or_ref_next)
+    }
+
+    /// `EncryptedGroupSecrets` of a `Welcome` (RFC 9420, section 12.4.3.1): each of a list, of which these are the bytes after its length.
+    pub fn encrypted_group_secrets_elements(content: &[u8]) -> Elements<'_> {
+        Elements::of(content, foreign::mls_encrypted_group_secrets_next)
+    }
+}
+
+/// Whether bytes begin with a message of MLS, told by its decoder, which makes the value and drops it. `OutOfMemory`: memory was refused, and nothing is said of the bytes. No place is told: `at` is 0.
+#[cfg(feature = "check")]
+pub mod mls_check {
+    use crate::{Error, decode};
+
+    mod foreign {
+        use crate::Outcome;
+
+        #[link(name = "mls_check_c", kind = "static")]
+        unsafe extern "C" {
+            pub fn mls_message_check(bytes: *const u8, length: usize) -> Outcome;
+            pub fn mls_public_message_check(bytes: *const u8, length: usize) -> Outcome;
+            pub fn mls_private_message_check(bytes: *const u8, length: usize) -> Outcome;
+            pub fn mls_framed_content_check(bytes: *const u8, length: usize) -> Outcome;
+            pub fn mls_sender_data_check(bytes: *const u8, length: usize) -> Outcome;
+            pub fn mls_welcome_check(bytes: *const u8, length: usize) -> Outcome;
+            pub fn mls_group_secrets_check(bytes: *const u8, length: usize) -> Outcome;
+            pub fn mls_group_info_check(bytes: *const u8, length: usize) -> Outcome;
+            pub fn mls_group_context_check(bytes: *const u8, length: usize) -> Outcome;
+            pub fn mls_commit_check(bytes: *const u8, length: usize) -> Outcome;
+            pub fn mls_proposal_check(bytes: *const u8, length: usize) -> Outcome;
+            pub fn mls_key_package_check(bytes: *const u8, length: usize) -> Outcome;
+            pub fn mls_leaf_node_check(bytes: *const u8, length: usize) -> Outcome;
+            pub fn mls_ratchet_tree_check(bytes: *const u8, length: usize) -> Outcome;
+        }
+    }
+
+    /// `MLSMessage` (RFC 9420, section 6). The message that the bytes begin with, and the rest of them.
+    pub fn message(bytes: &[u8]) -> Result<(&[u8], &[u8]), Error> {
+        decode(bytes, foreign::mls_message_check)
+    }
+
+    /// `PublicMessage` (RFC 9420, section 6.2). The message that the bytes begin with, and the rest of them.
+    pub fn public_message(bytes: &[u8]) -> Result<(&[u8], &[u8]), Error> {
+        decode(bytes, foreign::mls_public_message_check)
+    }
+
+    /// `PrivateMessage` (RFC 9420, section 6.3). The message that the bytes begin with, and the rest of them.
+    pub fn private_message(bytes: &[u8]) -> Result<(&[u8], &[u8]), Error> {
+        decode(bytes, foreign::mls_private_message_check)
+    }
+
+    /// `FramedContent` (RFC 9420, section 6). The message that the bytes begin with, and the rest of them.
+    pub fn framed_content(bytes: &[u8]) -> Result<(&[u8], &[u8]), Error> {
+        decode(bytes, foreign::mls_framed_content_check)
+    }
+
+    /// `SenderData` (RFC 9420, section 6.3.2). The message that the bytes begin with, and the rest of them.
+    pub fn sender_data(bytes: &[u8]) -> Result<(&[u8], &[u8]), Error> {
+        decode(bytes, foreign::mls_sender_data_check)
+    }
+
+    /// `Welcome` (RFC 9420, section 12.4.3.1). The message that the bytes begin with, and the rest of them.
+    pub fn welcome(bytes: &[u8]) -> Result<(&[u8], &[u8]), Error> {
+        decode(bytes, foreign::mls_welcome_check)
+    }
+
+    /// `GroupSecrets` (RFC 9420, section 12.4.3.1). The message that the bytes begin with, and the rest of them.
+    pub fn group_secrets(bytes: &[u8]) -> Result<(&[u8], &[u8]), Error> {
+        decode(bytes, foreign::mls_group_secrets_check)
+    }
+
+    /// `GroupInfo` (RFC 9420, section 12.4.3). The message that the bytes begin with, and the rest of them.
+    pub fn group_info(bytes: &[u8]) -> Result<(&[u8], &[u8]), Error> {
+        decode(bytes, foreign::mls_group_info_check)
+    }
+
+    /// `GroupContext` (RFC 9420, section 8.1). The message that the bytes begin with, and the rest of them.
+    pub fn group_context(bytes: &[u8]) -> Result<(&[u8], &[u8]), Error> {
+        decode(bytes, foreign::mls_group_context_check)
+    }
+
+    /// `Commit` (RFC 9420, section 12.4). The message that the bytes begin with, and the rest of them.
+    pub fn commit(bytes: &[u8]) -> Result<(&[u8], &[u8]), Error> {
+        decode(bytes, foreign::mls_commit_check)
+    }
+
+    /// `Proposal` (RFC 9420, section 12.1). The message that the bytes begin with, and the rest of them.
+    pub fn proposal(bytes: &[u8]) -> Result<(&[u8], &[u8]), Error> {
+        decode(bytes, foreign::mls_proposal_check)
+    }
+
+    /// `KeyPackage` (RFC 9420, section 10). The message that the bytes begin with, and the rest of them.
+    pub fn key_package(bytes: &[u8]) -> Result<(&[u8], &[u8]), Error> {
+        decode(bytes, foreign::mls_key_package_check)
+    }
+
+    /// `LeafNode` (RFC 9420, section 7.2). The message that the bytes begin with, and the rest of them.
+    pub fn leaf_node(bytes: &[u8]) -> Result<(&[u8], &[u8]), Error> {
+        decode(bytes, foreign::mls_leaf_node_check)
+    }
+
+    /// `RatchetTree` (RFC 9420, section 12.4.3.3). The message that the bytes begin with, and the rest of them.
+    pub fn ratchet_tree(bytes: &[u8]) -> Result<(&[u8], &[u8]), Error> {
+        decode(bytes, foreign::mls_ratchet_tree_check)
     }
 }

@@ -2,7 +2,7 @@
 //!
 //! The functions are proved, in Rattle, and linked as static libraries: bytes are accepted exactly if they begin with an encoding
 //! of the message, and what is accepted is the message's canonical encoding. `docs/CALLERS.md` of the repository says what is
-//! proved and what is trusted.
+//! proved and what is trusted. The feature `check` adds the decoders, which make the value and drop it, and so ask for memory.
 //!
 //! ```
 //! use tls_codec_border::{Error, Rejected, exactly, tls13};
@@ -27,6 +27,8 @@ mod exports;
 use core::fmt;
 use exports::{Outcome, Span};
 pub use exports::{Error, mls, tls_codec, tls13};
+#[cfg(feature = "check")]
+pub use exports::{mls_check, tls13_check};
 
 /// Why bytes are rejected, and where.
 #[derive(Clone, Copy, PartialEq, Eq, Debug)]
@@ -57,14 +59,23 @@ pub fn exactly<'a>(found: Result<(&'a [u8], &'a [u8]), Rejected>) -> Result<&'a 
     Ok(message)
 }
 
-/// What a validator says of bytes.
+/// What a call says of bytes.
 fn split(
     bytes: &[u8],
-    validate: unsafe extern "C" fn(*const u8, usize) -> Outcome,
+    call: unsafe extern "C" fn(*const u8, usize) -> Outcome,
 ) -> Result<(&[u8], &[u8]), Rejected> {
     // SAFETY: so many bytes are at the pointer, and nothing changes them during the call, which keeps no pointer.
-    let said = unsafe { validate(bytes.as_ptr(), bytes.len()) };
+    let said = unsafe { call(bytes.as_ptr(), bytes.len()) };
     split_as(bytes, said)
+}
+
+/// What a decoder says of bytes. It tells no place.
+#[cfg(feature = "check")]
+fn decode(
+    bytes: &[u8],
+    check: unsafe extern "C" fn(*const u8, usize) -> Outcome,
+) -> Result<(&[u8], &[u8]), Error> {
+    split(bytes, check).map_err(|it| it.error)
 }
 
 /// The bytes as a call says that they are to be split.
@@ -77,6 +88,62 @@ fn split_as(bytes: &[u8], said: Outcome) -> Result<(&[u8], &[u8]), Rejected> {
     }
     Ok(bytes.split_at(said.taken))
 }
+
+type Next = unsafe extern "C" fn(*const u8, usize, &mut Span, &mut Span) -> Outcome;
+
+/// The elements of a list, one after another. After one that is rejected there are no more.
+///
+/// ```
+/// use tls_codec_border::{Error, Rejected, tls13};
+///
+/// // two extensions, of which the second one's length says more than there is
+/// let mut list = tls13::extension_elements(&[0, 10, 0, 0, 0, 43, 0, 1]);
+/// assert_eq!(list.next(), Some(Ok(&[0, 10, 0, 0][..])));
+/// assert_eq!(list.next(), Some(Err(Rejected { error: Error::EndOfStream, at: 6 })));
+/// assert_eq!(list.next(), None);
+/// ```
+#[derive(Clone)]
+pub struct Elements<'a> {
+    content: &'a [u8],
+    left: Span,
+    next: Next,
+}
+
+impl<'a> Elements<'a> {
+    fn of(content: &'a [u8], next: Next) -> Elements<'a> {
+        let left = Span {
+            offset: 0,
+            size: content.len(),
+        };
+        Elements { content, left, next }
+    }
+}
+
+impl<'a> Iterator for Elements<'a> {
+    type Item = Result<&'a [u8], Rejected>;
+
+    fn next(&mut self) -> Option<Self::Item> {
+        if self.left.size == 0 {
+            return None;
+        }
+        let from = self.left.offset;
+        let mut element = Span::default();
+        // SAFETY: so many bytes are at the pointer, and nothing changes them during the call, which keeps no pointer.
+        let said = unsafe {
+            (self.next)(self.content.as_ptr(), self.content.len(), &mut self.left, &mut element)
+        };
+        if said.status != 0 {
+            self.left.size = 0;
+            return Some(Err(Rejected {
+                error: Error::of(&said),
+                at: from + said.at,
+            }));
+        }
+        Some(Ok(element.of(self.content)))
+    }
+}
+
+impl core::iter::FusedIterator for Elements<'_> {}
 
 impl Span {
     /// The bytes at this place.

@@ -1,4 +1,7 @@
 //! The rows of `test_outcome` and of `c/tests/tls13.tsv`: what each message's validator says.
+mod common;
+
+use common::{bytes_of, error_of};
 use std::fs;
 use tls_codec_border::{Error, Rejected, exactly, mls, tls_codec, tls13};
 
@@ -35,25 +38,6 @@ fn split<'a>(name: &str, bytes: &'a [u8]) -> Split<'a> {
         other => panic!("no message {other}"),
     };
     call(bytes)
-}
-
-fn bytes_of(digits: &str) -> Vec<u8> {
-    if digits == "-" {
-        return Vec::new();
-    }
-    let byte = |at| u8::from_str_radix(&digits[at..at + 2], 16).expect("hex");
-    (0..digits.len()).step_by(2).map(byte).collect()
-}
-
-fn error_of(status: u64, detail: u64) -> Error {
-    match status {
-        2 => Error::InvalidVectorLength,
-        5 => Error::DecodingError,
-        6 => Error::EndOfStream,
-        7 => Error::TrailingData,
-        8 => Error::UnknownValue(detail),
-        other => panic!("no row has status {other}"),
-    }
 }
 
 #[test]

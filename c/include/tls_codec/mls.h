@@ -79,6 +79,20 @@ typedef struct mls_welcome_fields {
   tls_codec_span encrypted_group_info;
 } mls_welcome_fields;
 
+/* Extension (RFC 9420, section 7.2): the next one of a list. left is moved behind it. */
+tls_codec_outcome mls_extension_next(const uint8_t *bytes, size_t length, tls_codec_span *left, tls_codec_span *element);
+
+/* optional<Node> of a RatchetTree (RFC 9420, section 12.4.3.3): the next one. left is moved behind
+   it. */
+tls_codec_outcome mls_optional_node_next(const uint8_t *bytes, size_t length, tls_codec_span *left, tls_codec_span *element);
+
+/* ProposalOrRef of a Commit (RFC 9420, section 12.4): the next one. left is moved behind it. */
+tls_codec_outcome mls_proposal_or_ref_next(const uint8_t *bytes, size_t length, tls_codec_span *left, tls_codec_span *element);
+
+/* EncryptedGroupSecrets of a Welcome (RFC 9420, section 12.4.3.1): the next one. left is moved
+   behind it. */
+tls_codec_outcome mls_encrypted_group_secrets_next(const uint8_t *bytes, size_t length, tls_codec_span *left, tls_codec_span *element);
+
 /* MLSMessage (RFC 9420, section 6), and where its fields are. */
 tls_codec_outcome mls_message_locate(const uint8_t *bytes, size_t length, mls_message_fields *fields);
 
@@ -93,6 +107,10 @@ tls_codec_outcome mls_key_package_locate(const uint8_t *bytes, size_t length, ml
 
 /* Welcome (RFC 9420, section 12.4.3.1), and where its fields are. */
 tls_codec_outcome mls_welcome_locate(const uint8_t *bytes, size_t length, mls_welcome_fields *fields);
+
+/* MLSMessage (RFC 9420, section 6), and its WireFormat: 1 is a public message, 2 a private message,
+   3 a welcome, 4 a group info, 5 a key package. */
+tls_codec_outcome mls_message_kind(const uint8_t *bytes, size_t length, uint16_t *kind);
 
 /* MLSMessage (RFC 9420, section 6). */
 tls_codec_outcome mls_message_validate(const uint8_t *bytes, size_t length);

@@ -10,6 +10,112 @@
 extern "C" {
 #endif
 
+/* Where the fields of a Certificate are (RFC 8446, section 4.4.2). Of opaque it is the bytes
+   without their length. */
+typedef struct tls13_certificate_fields {
+  /* opaque certificate_request_context<0..2^8-1>; */
+  tls_codec_span certificate_request_context;
+  /* CertificateEntry certificate_list<0..2^24-1>; with its length */
+  tls_codec_span certificate_list;
+} tls13_certificate_fields;
+
+/* Where the fields of a CertificateVerify are (RFC 8446, section 4.4.3). Of opaque it is the bytes
+   without their length. */
+typedef struct tls13_certificate_verify_fields {
+  /* SignatureScheme algorithm; */
+  tls_codec_span algorithm;
+  /* opaque signature<0..2^16-1>; */
+  tls_codec_span signature;
+} tls13_certificate_verify_fields;
+
+/* Where the fields of a ClientHello are (RFC 8446, section 4.1.2). Of opaque it is the bytes
+   without their length. */
+typedef struct tls13_client_hello_fields {
+  /* ProtocolVersion legacy_version = 0x0303; */
+  tls_codec_span legacy_version;
+  /* Random random; */
+  tls_codec_span random;
+  /* opaque legacy_session_id<0..32>; */
+  tls_codec_span legacy_session_id;
+  /* CipherSuite cipher_suites<2..2^16-2>; with its length */
+  tls_codec_span cipher_suites;
+  /* opaque legacy_compression_methods<1..2^8-1>; */
+  tls_codec_span legacy_compression_methods;
+  /* Extension extensions<8..2^16-1>; with its length */
+  tls_codec_span extensions;
+} tls13_client_hello_fields;
+
+/* Where the fields of a NewSessionTicket are (RFC 8446, section 4.6.1). Of opaque it is the bytes
+   without their length. */
+typedef struct tls13_new_session_ticket_fields {
+  /* uint32 ticket_lifetime; */
+  tls_codec_span ticket_lifetime;
+  /* uint32 ticket_age_add; */
+  tls_codec_span ticket_age_add;
+  /* opaque ticket_nonce<0..2^8-1>; */
+  tls_codec_span ticket_nonce;
+  /* opaque ticket<1..2^16-1>; */
+  tls_codec_span ticket;
+  /* Extension extensions<0..2^16-2>; with its length */
+  tls_codec_span extensions;
+} tls13_new_session_ticket_fields;
+
+/* Where the fields of a ServerHello are (RFC 8446, section 4.1.3). Of opaque it is the bytes
+   without their length. */
+typedef struct tls13_server_hello_fields {
+  /* ProtocolVersion legacy_version = 0x0303; */
+  tls_codec_span legacy_version;
+  /* Random random; */
+  tls_codec_span random;
+  /* opaque legacy_session_id_echo<0..32>; */
+  tls_codec_span legacy_session_id_echo;
+  /* CipherSuite cipher_suite; */
+  tls_codec_span cipher_suite;
+  /* uint8 legacy_compression_method = 0; */
+  tls_codec_span legacy_compression_method;
+  /* Extension extensions<6..2^16-1>; with its length */
+  tls_codec_span extensions;
+} tls13_server_hello_fields;
+
+/* Where the fields of a TLSPlaintext are (RFC 8446, section 5.1). Of opaque it is the bytes without
+   their length. */
+typedef struct tls13_tls_plaintext_fields {
+  /* ContentType type; */
+  tls_codec_span kind;
+  /* ProtocolVersion legacy_record_version; */
+  tls_codec_span legacy_record_version;
+  /* opaque fragment[TLSPlaintext.length]; */
+  tls_codec_span fragment;
+} tls13_tls_plaintext_fields;
+
+/* Extension (RFC 8446, section 4.2): the next one of a list. left is moved behind it. */
+tls_codec_outcome tls13_extension_next(const uint8_t *bytes, size_t length, tls_codec_span *left, tls_codec_span *element);
+
+/* KeyShareEntry (RFC 8446, section 4.2.8): the next one of a list. left is moved behind it. */
+tls_codec_outcome tls13_key_share_entry_next(const uint8_t *bytes, size_t length, tls_codec_span *left, tls_codec_span *element);
+
+/* CertificateEntry of a Certificate (RFC 8446, section 4.4.2): the next one. left is moved behind
+   it. */
+tls_codec_outcome tls13_certificate_entry_next(const uint8_t *bytes, size_t length, tls_codec_span *left, tls_codec_span *element);
+
+/* ClientHello (RFC 8446, section 4.1.2), and where its fields are. */
+tls_codec_outcome tls13_client_hello_locate(const uint8_t *bytes, size_t length, tls13_client_hello_fields *fields);
+
+/* ServerHello (RFC 8446, section 4.1.3), and where its fields are. */
+tls_codec_outcome tls13_server_hello_locate(const uint8_t *bytes, size_t length, tls13_server_hello_fields *fields);
+
+/* Certificate (RFC 8446, section 4.4.2), and where its fields are. */
+tls_codec_outcome tls13_certificate_locate(const uint8_t *bytes, size_t length, tls13_certificate_fields *fields);
+
+/* CertificateVerify (RFC 8446, section 4.4.3), and where its fields are. */
+tls_codec_outcome tls13_certificate_verify_locate(const uint8_t *bytes, size_t length, tls13_certificate_verify_fields *fields);
+
+/* NewSessionTicket (RFC 8446, section 4.6.1), and where its fields are. */
+tls_codec_outcome tls13_new_session_ticket_locate(const uint8_t *bytes, size_t length, tls13_new_session_ticket_fields *fields);
+
+/* TLSPlaintext (RFC 8446, section 5.1), and where its fields are. */
+tls_codec_outcome tls13_tls_plaintext_locate(const uint8_t *bytes, size_t length, tls13_tls_plaintext_fields *fields);
+
 /* TLSPlaintext (RFC 8446, appendix B.1). */
 tls_codec_outcome tls13_tls_plaintext_validate(const uint8_t *bytes, size_t length);
 

@@ -1,8 +1,8 @@
-//! Each type of `ct` has the bytes that its text means, and each value's bytes are those of its parts, by their names.
-ghost use Rattle.std.specs.Prelude.{◌↔◌, ℕ, List};
+//! Each type of `ct` has the bytes that its text means.
+//! Each value's bytes are those of its parts, by their names.
 ghost use Rattle.tls_codec_grammar.specs.Tree.{Tree};
-ghost use Rattle.tls_codec_grammar.specs.Grammar.{Direction};
 ghost use Rattle.tls_presentation.specs.Meaning.{SameBytes, means, part_means};
+ghost use Rattle.tls_presentation.specs.Says.{SpelledAs};
 ghost use Rattle.ct_laws.specs.Definitions.{ct};
 ghost use Rattle.ct_laws.specs.Says.{DigitallySignedSays, HashAlgorithmSays, LogEntrySays, LogEntryTypeDataSays, LogIDSays, MerkleLeafTypeSays, MerkleTreeLeafSays, PreCertSays, PrecertChainEntrySays, SignatureAlgorithmSays, SignatureAndHashAlgorithmSays, SignatureTypeSays, SignatureTypeCertificateTimestampSays, SignatureTypeTreeHashSays, SignedCertificateTimestampSays, SignedCertificateTimestampListSays, SignedCertificateTimestampTBSSays, TimestampedEntrySays, TimestampedEntryLogEntryTypeDataSays, TreeHeadSignatureSays, VersionSays, X509ChainEntrySays};
 ghost use Rattle.ct.specs.declared.digitally_signed.DigitallySigned.{DigitallySigned};
@@ -48,93 +48,81 @@ use tls_codec::Size;
 pub fn digitally_signed_is_as_printed()
     ensures bytes { (c : Tree) → SameBytes (means ct "DigitallySigned" c)
         ⟦<DigitallySigned as Size>⟧.format }
-    ensures values { (v : DigitallySigned) (d : Direction) (b : List ℕ) →
-        ⟦<DigitallySigned as Size>⟧.format.spells d b (⟦<DigitallySigned as Size>⟧.plain v)
-        ↔ DigitallySignedSays v d b }
+    ensures values { (v : DigitallySigned) → SpelledAs ⟦<DigitallySigned as Size>⟧.format
+        (⟦<DigitallySigned as Size>⟧.plain v) (DigitallySignedSays v) }
 {}
 
 /// `HashAlgorithm`.
 pub fn hash_algorithm_is_as_printed()
     ensures bytes { (c : Tree) → SameBytes (means ct "HashAlgorithm" c)
         ⟦<HashAlgorithm as Size>⟧.format }
-    ensures values { (v : HashAlgorithm) (d : Direction) (b : List ℕ) →
-        ⟦<HashAlgorithm as Size>⟧.format.spells d b (⟦<HashAlgorithm as Size>⟧.plain v)
-        ↔ HashAlgorithmSays v d b }
+    ensures values { (v : HashAlgorithm) → SpelledAs ⟦<HashAlgorithm as Size>⟧.format
+        (⟦<HashAlgorithm as Size>⟧.plain v) (HashAlgorithmSays v) }
     ensures names { hash_algorithm_names ≡ names_in ct "HashAlgorithm" }
 {}
 
 /// `LogEntry`.
 pub fn log_entry_is_as_printed()
-    ensures bytes { (c : Tree) → SameBytes (means ct "LogEntry" c)
-        ⟦<LogEntry as Size>⟧.format }
-    ensures values { (v : LogEntry) (d : Direction) (b : List ℕ) →
-        ⟦<LogEntry as Size>⟧.format.spells d b (⟦<LogEntry as Size>⟧.plain v)
-        ↔ LogEntrySays v d b }
+    ensures bytes { (c : Tree) → SameBytes (means ct "LogEntry" c) ⟦<LogEntry as Size>⟧.format }
+    ensures values { (v : LogEntry) → SpelledAs ⟦<LogEntry as Size>⟧.format
+        (⟦<LogEntry as Size>⟧.plain v) (LogEntrySays v) }
 {}
 
 /// `LogEntryTypeData`.
 pub fn log_entry_type_data_is_as_printed()
-    ensures bytes { (c : Tree) → SameBytes (part_means ct "SignedCertificateTimestampTBS" "signed_entry" c)
+    ensures bytes { (c : Tree) →
+        SameBytes (part_means ct "SignedCertificateTimestampTBS" "signed_entry" c)
         ⟦<LogEntryTypeData as Size>⟧.format }
-    ensures values { (v : LogEntryTypeData) (d : Direction) (b : List ℕ) →
-        ⟦<LogEntryTypeData as Size>⟧.format.spells d b (⟦<LogEntryTypeData as Size>⟧.plain v)
-        ↔ LogEntryTypeDataSays v d b }
+    ensures values { (v : LogEntryTypeData) → SpelledAs ⟦<LogEntryTypeData as Size>⟧.format
+        (⟦<LogEntryTypeData as Size>⟧.plain v) (LogEntryTypeDataSays v) }
 {}
 
 /// `LogID`.
 pub fn log_id_is_as_printed()
-    ensures bytes { (c : Tree) → SameBytes (means ct "LogID" c)
-        ⟦<LogID as Size>⟧.format }
-    ensures values { (v : LogID) (d : Direction) (b : List ℕ) →
-        ⟦<LogID as Size>⟧.format.spells d b (⟦<LogID as Size>⟧.plain v)
-        ↔ LogIDSays v d b }
+    ensures bytes { (c : Tree) → SameBytes (means ct "LogID" c) ⟦<LogID as Size>⟧.format }
+    ensures values { (v : LogID) → SpelledAs ⟦<LogID as Size>⟧.format (⟦<LogID as Size>⟧.plain v)
+        (LogIDSays v) }
 {}
 
 /// `MerkleLeafType`.
 pub fn merkle_leaf_type_is_as_printed()
     ensures bytes { (c : Tree) → SameBytes (means ct "MerkleLeafType" c)
         ⟦<MerkleLeafType as Size>⟧.format }
-    ensures values { (v : MerkleLeafType) (d : Direction) (b : List ℕ) →
-        ⟦<MerkleLeafType as Size>⟧.format.spells d b (⟦<MerkleLeafType as Size>⟧.plain v)
-        ↔ MerkleLeafTypeSays v d b }
-    ensures names { (v : MerkleLeafType) → value_number ct "MerkleLeafType" (merkle_leaf_type_name v)
-        ≡ merkle_leaf_type_code v }
+    ensures values { (v : MerkleLeafType) → SpelledAs ⟦<MerkleLeafType as Size>⟧.format
+        (⟦<MerkleLeafType as Size>⟧.plain v) (MerkleLeafTypeSays v) }
+    ensures names { (v : MerkleLeafType) → value_number ct "MerkleLeafType"
+        (merkle_leaf_type_name v) ≡ merkle_leaf_type_code v }
 {}
 
 /// `MerkleTreeLeaf`.
 pub fn merkle_tree_leaf_is_as_printed()
     ensures bytes { (c : Tree) → SameBytes (means ct "MerkleTreeLeaf" c)
         ⟦<MerkleTreeLeaf as Size>⟧.format }
-    ensures values { (v : MerkleTreeLeaf) (d : Direction) (b : List ℕ) →
-        ⟦<MerkleTreeLeaf as Size>⟧.format.spells d b (⟦<MerkleTreeLeaf as Size>⟧.plain v)
-        ↔ MerkleTreeLeafSays v d b }
+    ensures values { (v : MerkleTreeLeaf) → SpelledAs ⟦<MerkleTreeLeaf as Size>⟧.format
+        (⟦<MerkleTreeLeaf as Size>⟧.plain v) (MerkleTreeLeafSays v) }
 {}
 
 /// `PreCert`.
 pub fn pre_cert_is_as_printed()
-    ensures bytes { (c : Tree) → SameBytes (means ct "PreCert" c)
-        ⟦<PreCert as Size>⟧.format }
-    ensures values { (v : PreCert) (d : Direction) (b : List ℕ) →
-        ⟦<PreCert as Size>⟧.format.spells d b (⟦<PreCert as Size>⟧.plain v)
-        ↔ PreCertSays v d b }
+    ensures bytes { (c : Tree) → SameBytes (means ct "PreCert" c) ⟦<PreCert as Size>⟧.format }
+    ensures values { (v : PreCert) → SpelledAs ⟦<PreCert as Size>⟧.format
+        (⟦<PreCert as Size>⟧.plain v) (PreCertSays v) }
 {}
 
 /// `PrecertChainEntry`.
 pub fn precert_chain_entry_is_as_printed()
     ensures bytes { (c : Tree) → SameBytes (means ct "PrecertChainEntry" c)
         ⟦<PrecertChainEntry as Size>⟧.format }
-    ensures values { (v : PrecertChainEntry) (d : Direction) (b : List ℕ) →
-        ⟦<PrecertChainEntry as Size>⟧.format.spells d b (⟦<PrecertChainEntry as Size>⟧.plain v)
-        ↔ PrecertChainEntrySays v d b }
+    ensures values { (v : PrecertChainEntry) → SpelledAs ⟦<PrecertChainEntry as Size>⟧.format
+        (⟦<PrecertChainEntry as Size>⟧.plain v) (PrecertChainEntrySays v) }
 {}
 
 /// `SignatureAlgorithm`.
 pub fn signature_algorithm_is_as_printed()
     ensures bytes { (c : Tree) → SameBytes (means ct "SignatureAlgorithm" c)
         ⟦<SignatureAlgorithm as Size>⟧.format }
-    ensures values { (v : SignatureAlgorithm) (d : Direction) (b : List ℕ) →
-        ⟦<SignatureAlgorithm as Size>⟧.format.spells d b (⟦<SignatureAlgorithm as Size>⟧.plain v)
-        ↔ SignatureAlgorithmSays v d b }
+    ensures values { (v : SignatureAlgorithm) → SpelledAs ⟦<SignatureAlgorithm as Size>⟧.format
+        (⟦<SignatureAlgorithm as Size>⟧.plain v) (SignatureAlgorithmSays v) }
     ensures names { signature_algorithm_names ≡ names_in ct "SignatureAlgorithm" }
 {}
 
@@ -142,109 +130,106 @@ pub fn signature_algorithm_is_as_printed()
 pub fn signature_and_hash_algorithm_is_as_printed()
     ensures bytes { (c : Tree) → SameBytes (means ct "SignatureAndHashAlgorithm" c)
         ⟦<SignatureAndHashAlgorithm as Size>⟧.format }
-    ensures values { (v : SignatureAndHashAlgorithm) (d : Direction) (b : List ℕ) →
-        ⟦<SignatureAndHashAlgorithm as Size>⟧.format.spells d b (⟦<SignatureAndHashAlgorithm as Size>⟧.plain v)
-        ↔ SignatureAndHashAlgorithmSays v d b }
+    ensures values { (v : SignatureAndHashAlgorithm) →
+        SpelledAs ⟦<SignatureAndHashAlgorithm as Size>⟧.format
+        (⟦<SignatureAndHashAlgorithm as Size>⟧.plain v) (SignatureAndHashAlgorithmSays v) }
 {}
 
 /// `SignatureType`.
 pub fn signature_type_is_as_printed()
     ensures bytes { (c : Tree) → SameBytes (means ct "SignatureType" c)
         ⟦<SignatureType as Size>⟧.format }
-    ensures values { (v : SignatureType) (d : Direction) (b : List ℕ) →
-        ⟦<SignatureType as Size>⟧.format.spells d b (⟦<SignatureType as Size>⟧.plain v)
-        ↔ SignatureTypeSays v d b }
+    ensures values { (v : SignatureType) → SpelledAs ⟦<SignatureType as Size>⟧.format
+        (⟦<SignatureType as Size>⟧.plain v) (SignatureTypeSays v) }
     ensures names { signature_type_names ≡ names_in ct "SignatureType" }
 {}
 
 /// `SignatureTypeCertificateTimestamp`.
 pub fn signature_type_certificate_timestamp_is_as_printed()
-    ensures bytes { (c : Tree) → SameBytes (part_means ct "SignedCertificateTimestampTBS" "signature_type" c)
+    ensures bytes { (c : Tree) →
+        SameBytes (part_means ct "SignedCertificateTimestampTBS" "signature_type" c)
         ⟦<SignatureTypeCertificateTimestamp as Size>⟧.format }
-    ensures values { (v : SignatureTypeCertificateTimestamp) (d : Direction) (b : List ℕ) →
-        ⟦<SignatureTypeCertificateTimestamp as Size>⟧.format.spells d b (⟦<SignatureTypeCertificateTimestamp as Size>⟧.plain v)
-        ↔ SignatureTypeCertificateTimestampSays v d b }
+    ensures values { (v : SignatureTypeCertificateTimestamp) →
+        SpelledAs ⟦<SignatureTypeCertificateTimestamp as Size>⟧.format
+        (⟦<SignatureTypeCertificateTimestamp as Size>⟧.plain v)
+        (SignatureTypeCertificateTimestampSays v) }
 {}
 
 /// `SignatureTypeTreeHash`.
 pub fn signature_type_tree_hash_is_as_printed()
     ensures bytes { (c : Tree) → SameBytes (part_means ct "TreeHeadSignature" "signature_type" c)
         ⟦<SignatureTypeTreeHash as Size>⟧.format }
-    ensures values { (v : SignatureTypeTreeHash) (d : Direction) (b : List ℕ) →
-        ⟦<SignatureTypeTreeHash as Size>⟧.format.spells d b (⟦<SignatureTypeTreeHash as Size>⟧.plain v)
-        ↔ SignatureTypeTreeHashSays v d b }
+    ensures values { (v : SignatureTypeTreeHash) →
+        SpelledAs ⟦<SignatureTypeTreeHash as Size>⟧.format
+        (⟦<SignatureTypeTreeHash as Size>⟧.plain v) (SignatureTypeTreeHashSays v) }
 {}
 
 /// `SignedCertificateTimestamp`.
 pub fn signed_certificate_timestamp_is_as_printed()
     ensures bytes { (c : Tree) → SameBytes (means ct "SignedCertificateTimestamp" c)
         ⟦<SignedCertificateTimestamp as Size>⟧.format }
-    ensures values { (v : SignedCertificateTimestamp) (d : Direction) (b : List ℕ) →
-        ⟦<SignedCertificateTimestamp as Size>⟧.format.spells d b (⟦<SignedCertificateTimestamp as Size>⟧.plain v)
-        ↔ SignedCertificateTimestampSays v d b }
+    ensures values { (v : SignedCertificateTimestamp) →
+        SpelledAs ⟦<SignedCertificateTimestamp as Size>⟧.format
+        (⟦<SignedCertificateTimestamp as Size>⟧.plain v) (SignedCertificateTimestampSays v) }
 {}
 
 /// `SignedCertificateTimestampList`.
 pub fn signed_certificate_timestamp_list_is_as_printed()
     ensures bytes { (c : Tree) → SameBytes (means ct "SignedCertificateTimestampList" c)
         ⟦<SignedCertificateTimestampList as Size>⟧.format }
-    ensures values { (v : SignedCertificateTimestampList) (d : Direction) (b : List ℕ) →
-        ⟦<SignedCertificateTimestampList as Size>⟧.format.spells d b (⟦<SignedCertificateTimestampList as Size>⟧.plain v)
-        ↔ SignedCertificateTimestampListSays v d b }
+    ensures values { (v : SignedCertificateTimestampList) →
+        SpelledAs ⟦<SignedCertificateTimestampList as Size>⟧.format
+        (⟦<SignedCertificateTimestampList as Size>⟧.plain v)
+        (SignedCertificateTimestampListSays v) }
 {}
 
 /// `SignedCertificateTimestampTBS`.
 pub fn signed_certificate_timestamp_tbs_is_as_printed()
     ensures bytes { (c : Tree) → SameBytes (means ct "SignedCertificateTimestampTBS" c)
         ⟦<SignedCertificateTimestampTBS as Size>⟧.format }
-    ensures values { (v : SignedCertificateTimestampTBS) (d : Direction) (b : List ℕ) →
-        ⟦<SignedCertificateTimestampTBS as Size>⟧.format.spells d b (⟦<SignedCertificateTimestampTBS as Size>⟧.plain v)
-        ↔ SignedCertificateTimestampTBSSays v d b }
+    ensures values { (v : SignedCertificateTimestampTBS) →
+        SpelledAs ⟦<SignedCertificateTimestampTBS as Size>⟧.format
+        (⟦<SignedCertificateTimestampTBS as Size>⟧.plain v) (SignedCertificateTimestampTBSSays v) }
 {}
 
 /// `TimestampedEntry`.
 pub fn timestamped_entry_is_as_printed()
     ensures bytes { (c : Tree) → SameBytes (means ct "TimestampedEntry" c)
         ⟦<TimestampedEntry as Size>⟧.format }
-    ensures values { (v : TimestampedEntry) (d : Direction) (b : List ℕ) →
-        ⟦<TimestampedEntry as Size>⟧.format.spells d b (⟦<TimestampedEntry as Size>⟧.plain v)
-        ↔ TimestampedEntrySays v d b }
+    ensures values { (v : TimestampedEntry) → SpelledAs ⟦<TimestampedEntry as Size>⟧.format
+        (⟦<TimestampedEntry as Size>⟧.plain v) (TimestampedEntrySays v) }
 {}
 
 /// `TimestampedEntryLogEntryTypeData`.
 pub fn timestamped_entry_log_entry_type_data_is_as_printed()
     ensures bytes { (c : Tree) → SameBytes (part_means ct "TimestampedEntry" "signed_entry" c)
         ⟦<TimestampedEntryLogEntryTypeData as Size>⟧.format }
-    ensures values { (v : TimestampedEntryLogEntryTypeData) (d : Direction) (b : List ℕ) →
-        ⟦<TimestampedEntryLogEntryTypeData as Size>⟧.format.spells d b (⟦<TimestampedEntryLogEntryTypeData as Size>⟧.plain v)
-        ↔ TimestampedEntryLogEntryTypeDataSays v d b }
+    ensures values { (v : TimestampedEntryLogEntryTypeData) →
+        SpelledAs ⟦<TimestampedEntryLogEntryTypeData as Size>⟧.format
+        (⟦<TimestampedEntryLogEntryTypeData as Size>⟧.plain v)
+        (TimestampedEntryLogEntryTypeDataSays v) }
 {}
 
 /// `TreeHeadSignature`.
 pub fn tree_head_signature_is_as_printed()
     ensures bytes { (c : Tree) → SameBytes (means ct "TreeHeadSignature" c)
         ⟦<TreeHeadSignature as Size>⟧.format }
-    ensures values { (v : TreeHeadSignature) (d : Direction) (b : List ℕ) →
-        ⟦<TreeHeadSignature as Size>⟧.format.spells d b (⟦<TreeHeadSignature as Size>⟧.plain v)
-        ↔ TreeHeadSignatureSays v d b }
+    ensures values { (v : TreeHeadSignature) → SpelledAs ⟦<TreeHeadSignature as Size>⟧.format
+        (⟦<TreeHeadSignature as Size>⟧.plain v) (TreeHeadSignatureSays v) }
 {}
 
 /// `Version`.
 pub fn version_is_as_printed()
-    ensures bytes { (c : Tree) → SameBytes (means ct "Version" c)
-        ⟦<Version as Size>⟧.format }
-    ensures values { (v : Version) (d : Direction) (b : List ℕ) →
-        ⟦<Version as Size>⟧.format.spells d b (⟦<Version as Size>⟧.plain v)
-        ↔ VersionSays v d b }
-    ensures names { (v : Version) → value_number ct "Version" (version_name v)
-        ≡ version_code v }
+    ensures bytes { (c : Tree) → SameBytes (means ct "Version" c) ⟦<Version as Size>⟧.format }
+    ensures values { (v : Version) → SpelledAs ⟦<Version as Size>⟧.format
+        (⟦<Version as Size>⟧.plain v) (VersionSays v) }
+    ensures names { (v : Version) → value_number ct "Version" (version_name v) ≡ version_code v }
 {}
 
 /// `X509ChainEntry`.
 pub fn x509_chain_entry_is_as_printed()
     ensures bytes { (c : Tree) → SameBytes (means ct "X509ChainEntry" c)
         ⟦<X509ChainEntry as Size>⟧.format }
-    ensures values { (v : X509ChainEntry) (d : Direction) (b : List ℕ) →
-        ⟦<X509ChainEntry as Size>⟧.format.spells d b (⟦<X509ChainEntry as Size>⟧.plain v)
-        ↔ X509ChainEntrySays v d b }
+    ensures values { (v : X509ChainEntry) → SpelledAs ⟦<X509ChainEntry as Size>⟧.format
+        (⟦<X509ChainEntry as Size>⟧.plain v) (X509ChainEntrySays v) }
 {}

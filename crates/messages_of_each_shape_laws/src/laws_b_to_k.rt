@@ -1,8 +1,8 @@
-//! Each type of `messages_of_each_shape` has the bytes that its text means, and each value's bytes are those of its parts, by their names.
-ghost use Rattle.std.specs.Prelude.{◌↔◌, ℕ, List};
+//! Each type of `messages_of_each_shape` has the bytes that its text means.
+//! Each value's bytes are those of its parts, by their names.
 ghost use Rattle.tls_codec_grammar.specs.Tree.{Tree};
-ghost use Rattle.tls_codec_grammar.specs.Grammar.{Direction};
 ghost use Rattle.tls_presentation.specs.Meaning.{SameBytes, means, part_means};
+ghost use Rattle.tls_presentation.specs.Says.{SpelledAs};
 ghost use Rattle.messages_of_each_shape_laws.specs.Definitions.{messages_of_each_shape};
 ghost use Rattle.messages_of_each_shape_laws.specs.Says.{BearerSays, BeatSays, BodyKindSays, BodyKindDataSays, BoundedSays, ByVersionSays, CarrierSays, CertificateTypeSays, CertificateTypeDataSays, ClientCertTypeExtensionSays, ClientOrServerExtensionSays, ContentTypeDataSays, EmptyTypeSays, EntriesSays, EntrySays, FormX04Says, FramedSays, HeaderSays, IdentitySays, KindBodySays};
 ghost use Rattle.messages_of_each_shape.specs.declared.bearer.Bearer.{Bearer};
@@ -43,123 +43,121 @@ use tls_codec::{Size, SizeFor};
 pub fn bearer_is_as_printed()
     ensures bytes { (c : Tree) → SameBytes (means messages_of_each_shape "Bearer" c)
         ⟦<Bearer as Size>⟧.format }
-    ensures values { (v : Bearer) (d : Direction) (b : List ℕ) →
-        ⟦<Bearer as Size>⟧.format.spells d b (⟦<Bearer as Size>⟧.plain v)
-        ↔ BearerSays v d b }
+    ensures values { (v : Bearer) → SpelledAs ⟦<Bearer as Size>⟧.format (⟦<Bearer as Size>⟧.plain v)
+        (BearerSays v) }
 {}
 
 /// `Beat`.
 pub fn beat_is_as_printed()
     ensures bytes { (c : Tree) → SameBytes (means messages_of_each_shape "Beat" c)
         ⟦<Beat as Size>⟧.format }
-    ensures values { (v : Beat) (d : Direction) (b : List ℕ) →
-        ⟦<Beat as Size>⟧.format.spells d b (⟦<Beat as Size>⟧.plain v)
-        ↔ BeatSays v d b }
+    ensures values { (v : Beat) → SpelledAs ⟦<Beat as Size>⟧.format (⟦<Beat as Size>⟧.plain v)
+        (BeatSays v) }
 {}
 
 /// `BodyKind`.
 pub fn body_kind_is_as_printed()
     ensures bytes { (c : Tree) → SameBytes (means messages_of_each_shape "BodyKind" c)
         ⟦<BodyKind as Size>⟧.format }
-    ensures values { (v : BodyKind) (d : Direction) (b : List ℕ) →
-        ⟦<BodyKind as Size>⟧.format.spells d b (⟦<BodyKind as Size>⟧.plain v)
-        ↔ BodyKindSays v d b }
-    ensures names { (v : BodyKind) → value_number messages_of_each_shape "BodyKind" (body_kind_name v)
-        ≡ body_kind_code v }
+    ensures values { (v : BodyKind) → SpelledAs ⟦<BodyKind as Size>⟧.format
+        (⟦<BodyKind as Size>⟧.plain v) (BodyKindSays v) }
+    ensures names { (v : BodyKind) → value_number messages_of_each_shape "BodyKind"
+        (body_kind_name v) ≡ body_kind_code v }
 {}
 
 /// `BodyKindData`.
 pub fn body_kind_data_is_as_printed()
     ensures bytes { (c : Tree) → SameBytes (part_means messages_of_each_shape "KindBody" "body" c)
         (⟦<BodyKindData as SizeFor<BodyKind>>⟧.format_for c) }
-    ensures values { (c : Tree) (v : BodyKindData) (d : Direction) (b : List ℕ) →
-        (⟦<BodyKindData as SizeFor<BodyKind>>⟧.format_for c).spells d b (⟦<BodyKindData as SizeFor<BodyKind>>⟧.plain v)
-        ↔ BodyKindDataSays c v d b }
+    ensures values { (c : Tree) (v : BodyKindData) →
+        SpelledAs (⟦<BodyKindData as SizeFor<BodyKind>>⟧.format_for c)
+        (⟦<BodyKindData as SizeFor<BodyKind>>⟧.plain v) (BodyKindDataSays c v) }
 {}
 
 /// `Bounded`.
 pub fn bounded_is_as_printed()
     ensures bytes { (c : Tree) → SameBytes (means messages_of_each_shape "Bounded" c)
         ⟦<Bounded as Size>⟧.format }
-    ensures values { (v : Bounded) (d : Direction) (b : List ℕ) →
-        ⟦<Bounded as Size>⟧.format.spells d b (⟦<Bounded as Size>⟧.plain v)
-        ↔ BoundedSays v d b }
+    ensures values { (v : Bounded) → SpelledAs ⟦<Bounded as Size>⟧.format
+        (⟦<Bounded as Size>⟧.plain v) (BoundedSays v) }
 {}
 
 /// `ByVersion`.
 pub fn by_version_is_as_printed()
     ensures bytes { (c : Tree) → SameBytes (means messages_of_each_shape "ByVersion" c)
         (⟦<ByVersion as SizeFor<u16>>⟧.format_for c) }
-    ensures values { (c : Tree) (v : ByVersion) (d : Direction) (b : List ℕ) →
-        (⟦<ByVersion as SizeFor<u16>>⟧.format_for c).spells d b (⟦<ByVersion as SizeFor<u16>>⟧.plain v)
-        ↔ ByVersionSays c v d b }
+    ensures values { (c : Tree) (v : ByVersion) →
+        SpelledAs (⟦<ByVersion as SizeFor<u16>>⟧.format_for c)
+        (⟦<ByVersion as SizeFor<u16>>⟧.plain v) (ByVersionSays c v) }
 {}
 
 /// `Carrier`.
 pub fn carrier_is_as_printed()
     ensures bytes { (c : Tree) → SameBytes (means messages_of_each_shape "Carrier" c)
         ⟦<Carrier as Size>⟧.format }
-    ensures values { (v : Carrier) (d : Direction) (b : List ℕ) →
-        ⟦<Carrier as Size>⟧.format.spells d b (⟦<Carrier as Size>⟧.plain v)
-        ↔ CarrierSays v d b }
+    ensures values { (v : Carrier) → SpelledAs ⟦<Carrier as Size>⟧.format
+        (⟦<Carrier as Size>⟧.plain v) (CarrierSays v) }
 {}
 
 /// `CertificateType`.
 pub fn certificate_type_is_as_printed()
     ensures bytes { (c : Tree) → SameBytes (means messages_of_each_shape "CertificateType" c)
         ⟦<CertificateType as Size>⟧.format }
-    ensures values { (v : CertificateType) (d : Direction) (b : List ℕ) →
-        ⟦<CertificateType as Size>⟧.format.spells d b (⟦<CertificateType as Size>⟧.plain v)
-        ↔ CertificateTypeSays v d b }
-    ensures names { (v : CertificateType) → value_number messages_of_each_shape "CertificateType" (certificate_type_name v)
-        ≡ certificate_type_code v }
+    ensures values { (v : CertificateType) → SpelledAs ⟦<CertificateType as Size>⟧.format
+        (⟦<CertificateType as Size>⟧.plain v) (CertificateTypeSays v) }
+    ensures names { (v : CertificateType) → value_number messages_of_each_shape "CertificateType"
+        (certificate_type_name v) ≡ certificate_type_code v }
 {}
 
 /// `CertificateTypeData`.
 pub fn certificate_type_data_is_as_printed()
     ensures bytes { (c : Tree) → SameBytes (part_means messages_of_each_shape "Entry" "body" c)
         (⟦<CertificateTypeData as SizeFor<CertificateType>>⟧.format_for c) }
-    ensures values { (c : Tree) (v : CertificateTypeData) (d : Direction) (b : List ℕ) →
-        (⟦<CertificateTypeData as SizeFor<CertificateType>>⟧.format_for c).spells d b (⟦<CertificateTypeData as SizeFor<CertificateType>>⟧.plain v)
-        ↔ CertificateTypeDataSays c v d b }
+    ensures values { (c : Tree) (v : CertificateTypeData) →
+        SpelledAs (⟦<CertificateTypeData as SizeFor<CertificateType>>⟧.format_for c)
+        (⟦<CertificateTypeData as SizeFor<CertificateType>>⟧.plain v)
+        (CertificateTypeDataSays c v) }
 {}
 
 /// `ClientCertTypeExtension`.
 pub fn client_cert_type_extension_is_as_printed()
-    ensures bytes { (c : Tree) → SameBytes (means messages_of_each_shape "ClientCertTypeExtension" c)
+    ensures bytes { (c : Tree) →
+        SameBytes (means messages_of_each_shape "ClientCertTypeExtension" c)
         (⟦<ClientCertTypeExtension as SizeFor<ClientOrServerExtension>>⟧.format_for c) }
-    ensures values { (c : Tree) (v : ClientCertTypeExtension) (d : Direction) (b : List ℕ) →
-        (⟦<ClientCertTypeExtension as SizeFor<ClientOrServerExtension>>⟧.format_for c).spells d b (⟦<ClientCertTypeExtension as SizeFor<ClientOrServerExtension>>⟧.plain v)
-        ↔ ClientCertTypeExtensionSays c v d b }
+    ensures values { (c : Tree) (v : ClientCertTypeExtension) →
+        SpelledAs (⟦<ClientCertTypeExtension as SizeFor<ClientOrServerExtension>>⟧.format_for c)
+        (⟦<ClientCertTypeExtension as SizeFor<ClientOrServerExtension>>⟧.plain v)
+        (ClientCertTypeExtensionSays c v) }
 {}
 
 /// `ClientOrServerExtension`.
 pub fn client_or_server_extension_is_as_printed()
-    ensures bytes { (c : Tree) → SameBytes (means messages_of_each_shape "ClientOrServerExtension" c)
+    ensures bytes { (c : Tree) →
+        SameBytes (means messages_of_each_shape "ClientOrServerExtension" c)
         ⟦<ClientOrServerExtension as Size>⟧.format }
-    ensures values { (v : ClientOrServerExtension) (d : Direction) (b : List ℕ) →
-        ⟦<ClientOrServerExtension as Size>⟧.format.spells d b (⟦<ClientOrServerExtension as Size>⟧.plain v)
-        ↔ ClientOrServerExtensionSays v d b }
-    ensures names { (v : ClientOrServerExtension) → value_number messages_of_each_shape "ClientOrServerExtension" (client_or_server_extension_name v)
-        ≡ client_or_server_extension_code v }
+    ensures values { (v : ClientOrServerExtension) →
+        SpelledAs ⟦<ClientOrServerExtension as Size>⟧.format
+        (⟦<ClientOrServerExtension as Size>⟧.plain v) (ClientOrServerExtensionSays v) }
+    ensures names { (v : ClientOrServerExtension) →
+        value_number messages_of_each_shape "ClientOrServerExtension"
+        (client_or_server_extension_name v) ≡ client_or_server_extension_code v }
 {}
 
 /// `ContentTypeData`.
 pub fn content_type_data_is_as_printed()
-    ensures bytes { (c : Tree) → SameBytes (part_means messages_of_each_shape "Framed" "content_type" c)
+    ensures bytes { (c : Tree) →
+        SameBytes (part_means messages_of_each_shape "Framed" "content_type" c)
         ⟦<ContentTypeData as Size>⟧.format }
-    ensures values { (v : ContentTypeData) (d : Direction) (b : List ℕ) →
-        ⟦<ContentTypeData as Size>⟧.format.spells d b (⟦<ContentTypeData as Size>⟧.plain v)
-        ↔ ContentTypeDataSays v d b }
+    ensures values { (v : ContentTypeData) → SpelledAs ⟦<ContentTypeData as Size>⟧.format
+        (⟦<ContentTypeData as Size>⟧.plain v) (ContentTypeDataSays v) }
 {}
 
 /// `EmptyType`.
 pub fn empty_type_is_as_printed()
     ensures bytes { (c : Tree) → SameBytes (means messages_of_each_shape "Empty" c)
         ⟦<EmptyType as Size>⟧.format }
-    ensures values { (v : EmptyType) (d : Direction) (b : List ℕ) →
-        ⟦<EmptyType as Size>⟧.format.spells d b (⟦<EmptyType as Size>⟧.plain v)
-        ↔ EmptyTypeSays v d b }
+    ensures values { (v : EmptyType) → SpelledAs ⟦<EmptyType as Size>⟧.format
+        (⟦<EmptyType as Size>⟧.plain v) (EmptyTypeSays v) }
     ensures names { empty_type_names ≡ names_in messages_of_each_shape "Empty" }
 {}
 
@@ -167,61 +165,57 @@ pub fn empty_type_is_as_printed()
 pub fn entries_is_as_printed()
     ensures bytes { (c : Tree) → SameBytes (means messages_of_each_shape "Entries" c)
         (⟦<Entries as SizeFor<CertificateType>>⟧.format_for c) }
-    ensures values { (c : Tree) (v : Entries) (d : Direction) (b : List ℕ) →
-        (⟦<Entries as SizeFor<CertificateType>>⟧.format_for c).spells d b (⟦<Entries as SizeFor<CertificateType>>⟧.plain v)
-        ↔ EntriesSays c v d b }
+    ensures values { (c : Tree) (v : Entries) →
+        SpelledAs (⟦<Entries as SizeFor<CertificateType>>⟧.format_for c)
+        (⟦<Entries as SizeFor<CertificateType>>⟧.plain v) (EntriesSays c v) }
 {}
 
 /// `Entry`.
 pub fn entry_is_as_printed()
     ensures bytes { (c : Tree) → SameBytes (means messages_of_each_shape "Entry" c)
         (⟦<Entry as SizeFor<CertificateType>>⟧.format_for c) }
-    ensures values { (c : Tree) (v : Entry) (d : Direction) (b : List ℕ) →
-        (⟦<Entry as SizeFor<CertificateType>>⟧.format_for c).spells d b (⟦<Entry as SizeFor<CertificateType>>⟧.plain v)
-        ↔ EntrySays c v d b }
+    ensures values { (c : Tree) (v : Entry) →
+        SpelledAs (⟦<Entry as SizeFor<CertificateType>>⟧.format_for c)
+        (⟦<Entry as SizeFor<CertificateType>>⟧.plain v) (EntrySays c v) }
 {}
 
 /// `FormX04`.
 pub fn form_x04_is_as_printed()
     ensures bytes { (c : Tree) → SameBytes (part_means messages_of_each_shape "Point" "form" c)
         ⟦<FormX04 as Size>⟧.format }
-    ensures values { (v : FormX04) (d : Direction) (b : List ℕ) →
-        ⟦<FormX04 as Size>⟧.format.spells d b (⟦<FormX04 as Size>⟧.plain v)
-        ↔ FormX04Says v d b }
+    ensures values { (v : FormX04) → SpelledAs ⟦<FormX04 as Size>⟧.format
+        (⟦<FormX04 as Size>⟧.plain v) (FormX04Says v) }
 {}
 
 /// `Framed`.
 pub fn framed_is_as_printed()
     ensures bytes { (c : Tree) → SameBytes (means messages_of_each_shape "Framed" c)
         ⟦<Framed as Size>⟧.format }
-    ensures values { (v : Framed) (d : Direction) (b : List ℕ) →
-        ⟦<Framed as Size>⟧.format.spells d b (⟦<Framed as Size>⟧.plain v)
-        ↔ FramedSays v d b }
+    ensures values { (v : Framed) → SpelledAs ⟦<Framed as Size>⟧.format (⟦<Framed as Size>⟧.plain v)
+        (FramedSays v) }
 {}
 
 /// `Header`.
 pub fn header_is_as_printed()
     ensures bytes { (c : Tree) → SameBytes (means messages_of_each_shape "Header" c)
         ⟦<Header as Size>⟧.format }
-    ensures values { (v : Header) (d : Direction) (b : List ℕ) →
-        ⟦<Header as Size>⟧.format.spells d b (⟦<Header as Size>⟧.plain v)
-        ↔ HeaderSays v d b }
+    ensures values { (v : Header) → SpelledAs ⟦<Header as Size>⟧.format (⟦<Header as Size>⟧.plain v)
+        (HeaderSays v) }
 {}
 
 /// `Identity`.
 pub fn identity_is_as_printed()
     ensures bytes { (c : Tree) → SameBytes (means messages_of_each_shape "Identity" c)
         ⟦<Identity as Size>⟧.format }
-    ensures values { (v : Identity) (d : Direction) (b : List ℕ) →
-        ⟦<Identity as Size>⟧.format.spells d b (⟦<Identity as Size>⟧.plain v)
-        ↔ IdentitySays v d b }
+    ensures values { (v : Identity) → SpelledAs ⟦<Identity as Size>⟧.format
+        (⟦<Identity as Size>⟧.plain v) (IdentitySays v) }
 {}
 
 /// `KindBody`.
 pub fn kind_body_is_as_printed()
     ensures bytes { (c : Tree) → SameBytes (means messages_of_each_shape "KindBody" c)
         (⟦<KindBody as SizeFor<BodyKind>>⟧.format_for c) }
-    ensures values { (c : Tree) (v : KindBody) (d : Direction) (b : List ℕ) →
-        (⟦<KindBody as SizeFor<BodyKind>>⟧.format_for c).spells d b (⟦<KindBody as SizeFor<BodyKind>>⟧.plain v)
-        ↔ KindBodySays c v d b }
+    ensures values { (c : Tree) (v : KindBody) →
+        SpelledAs (⟦<KindBody as SizeFor<BodyKind>>⟧.format_for c)
+        (⟦<KindBody as SizeFor<BodyKind>>⟧.plain v) (KindBodySays c v) }
 {}

@@ -1,8 +1,8 @@
-//! Each type of `messages_of_each_shape` has the bytes that its text means, and each value's bytes are those of its parts, by their names.
-ghost use Rattle.std.specs.Prelude.{◌↔◌, ℕ, List};
+//! Each type of `messages_of_each_shape` has the bytes that its text means.
+//! Each value's bytes are those of its parts, by their names.
 ghost use Rattle.tls_codec_grammar.specs.Tree.{Tree};
-ghost use Rattle.tls_codec_grammar.specs.Grammar.{Direction};
 ghost use Rattle.tls_presentation.specs.Meaning.{SameBytes, means, part_means};
+ghost use Rattle.tls_presentation.specs.Says.{SpelledAs};
 ghost use Rattle.messages_of_each_shape_laws.specs.Definitions.{messages_of_each_shape};
 ghost use Rattle.messages_of_each_shape_laws.specs.Says.{LevelSays, LineSays, ListsSays, MagicX0102Says, NameTypeSays, NameTypeDataSays, NameTypeHostNameSays, NamedSays, NodeTBSSays, NodeTBSOriginSays, PixelSays, PointSays, ServerNameSays, SessionTicketSays, SizedTypeSays, ThreeDataSays, TreesSays, VersionDataSays, VersionXfefdSays, VersionedSays, WideSays};
 ghost use Rattle.messages_of_each_shape.specs.declared.level.Level.{Level};
@@ -42,9 +42,8 @@ use tls_codec::{Size, SizeFor};
 pub fn level_is_as_printed()
     ensures bytes { (c : Tree) → SameBytes (means messages_of_each_shape "Level" c)
         ⟦<Level as Size>⟧.format }
-    ensures values { (v : Level) (d : Direction) (b : List ℕ) →
-        ⟦<Level as Size>⟧.format.spells d b (⟦<Level as Size>⟧.plain v)
-        ↔ LevelSays v d b }
+    ensures values { (v : Level) → SpelledAs ⟦<Level as Size>⟧.format (⟦<Level as Size>⟧.plain v)
+        (LevelSays v) }
     ensures names { (v : Level) → value_number messages_of_each_shape "Level" (level_name v)
         ≡ level_code v }
 {}
@@ -53,36 +52,33 @@ pub fn level_is_as_printed()
 pub fn line_is_as_printed()
     ensures bytes { (c : Tree) → SameBytes (means messages_of_each_shape "Line" c)
         ⟦<Line as Size>⟧.format }
-    ensures values { (v : Line) (d : Direction) (b : List ℕ) →
-        ⟦<Line as Size>⟧.format.spells d b (⟦<Line as Size>⟧.plain v)
-        ↔ LineSays v d b }
+    ensures values { (v : Line) → SpelledAs ⟦<Line as Size>⟧.format (⟦<Line as Size>⟧.plain v)
+        (LineSays v) }
 {}
 
 /// `Lists`.
 pub fn lists_is_as_printed()
     ensures bytes { (c : Tree) → SameBytes (means messages_of_each_shape "Lists" c)
         ⟦<Lists as Size>⟧.format }
-    ensures values { (v : Lists) (d : Direction) (b : List ℕ) →
-        ⟦<Lists as Size>⟧.format.spells d b (⟦<Lists as Size>⟧.plain v)
-        ↔ ListsSays v d b }
+    ensures values { (v : Lists) → SpelledAs ⟦<Lists as Size>⟧.format (⟦<Lists as Size>⟧.plain v)
+        (ListsSays v) }
 {}
 
 /// `MagicX0102`.
 pub fn magic_x0102_is_as_printed()
-    ensures bytes { (c : Tree) → SameBytes (part_means messages_of_each_shape "session_ticket" "magic" c)
+    ensures bytes { (c : Tree) →
+        SameBytes (part_means messages_of_each_shape "session_ticket" "magic" c)
         ⟦<MagicX0102 as Size>⟧.format }
-    ensures values { (v : MagicX0102) (d : Direction) (b : List ℕ) →
-        ⟦<MagicX0102 as Size>⟧.format.spells d b (⟦<MagicX0102 as Size>⟧.plain v)
-        ↔ MagicX0102Says v d b }
+    ensures values { (v : MagicX0102) → SpelledAs ⟦<MagicX0102 as Size>⟧.format
+        (⟦<MagicX0102 as Size>⟧.plain v) (MagicX0102Says v) }
 {}
 
 /// `NameType`.
 pub fn name_type_is_as_printed()
     ensures bytes { (c : Tree) → SameBytes (means messages_of_each_shape "NameType" c)
         ⟦<NameType as Size>⟧.format }
-    ensures values { (v : NameType) (d : Direction) (b : List ℕ) →
-        ⟦<NameType as Size>⟧.format.spells d b (⟦<NameType as Size>⟧.plain v)
-        ↔ NameTypeSays v d b }
+    ensures values { (v : NameType) → SpelledAs ⟦<NameType as Size>⟧.format
+        (⟦<NameType as Size>⟧.plain v) (NameTypeSays v) }
     ensures names { name_type_names ≡ names_in messages_of_each_shape "NameType" }
 {}
 
@@ -90,142 +86,130 @@ pub fn name_type_is_as_printed()
 pub fn name_type_data_is_as_printed()
     ensures bytes { (c : Tree) → SameBytes (part_means messages_of_each_shape "Bearer" "body" c)
         (⟦<NameTypeData as SizeFor<NameType>>⟧.format_for c) }
-    ensures values { (c : Tree) (v : NameTypeData) (d : Direction) (b : List ℕ) →
-        (⟦<NameTypeData as SizeFor<NameType>>⟧.format_for c).spells d b (⟦<NameTypeData as SizeFor<NameType>>⟧.plain v)
-        ↔ NameTypeDataSays c v d b }
+    ensures values { (c : Tree) (v : NameTypeData) →
+        SpelledAs (⟦<NameTypeData as SizeFor<NameType>>⟧.format_for c)
+        (⟦<NameTypeData as SizeFor<NameType>>⟧.plain v) (NameTypeDataSays c v) }
 {}
 
 /// `NameTypeHostName`.
 pub fn name_type_host_name_is_as_printed()
-    ensures bytes { (c : Tree) → SameBytes (part_means messages_of_each_shape "ServerName" "name_type" c)
+    ensures bytes { (c : Tree) →
+        SameBytes (part_means messages_of_each_shape "ServerName" "name_type" c)
         ⟦<NameTypeHostName as Size>⟧.format }
-    ensures values { (v : NameTypeHostName) (d : Direction) (b : List ℕ) →
-        ⟦<NameTypeHostName as Size>⟧.format.spells d b (⟦<NameTypeHostName as Size>⟧.plain v)
-        ↔ NameTypeHostNameSays v d b }
+    ensures values { (v : NameTypeHostName) → SpelledAs ⟦<NameTypeHostName as Size>⟧.format
+        (⟦<NameTypeHostName as Size>⟧.plain v) (NameTypeHostNameSays v) }
 {}
 
 /// `Named`.
 pub fn named_is_as_printed()
     ensures bytes { (c : Tree) → SameBytes (means messages_of_each_shape "Named" c)
         ⟦<Named as Size>⟧.format }
-    ensures values { (v : Named) (d : Direction) (b : List ℕ) →
-        ⟦<Named as Size>⟧.format.spells d b (⟦<Named as Size>⟧.plain v)
-        ↔ NamedSays v d b }
+    ensures values { (v : Named) → SpelledAs ⟦<Named as Size>⟧.format (⟦<Named as Size>⟧.plain v)
+        (NamedSays v) }
 {}
 
 /// `NodeTBS`.
 pub fn node_tbs_is_as_printed()
     ensures bytes { (c : Tree) → SameBytes (means messages_of_each_shape "NodeTBS" c)
         ⟦<NodeTBS<'static> as Size>⟧.format }
-    ensures values { (v : NodeTBS) (d : Direction) (b : List ℕ) →
-        ⟦<NodeTBS<'static> as Size>⟧.format.spells d b (⟦<NodeTBS<'static> as Size>⟧.plain v)
-        ↔ NodeTBSSays v d b }
+    ensures values { (v : NodeTBS) → SpelledAs ⟦<NodeTBS<'static> as Size>⟧.format
+        (⟦<NodeTBS<'static> as Size>⟧.plain v) (NodeTBSSays v) }
 {}
 
 /// `NodeTBSOrigin`.
 pub fn node_tbs_origin_is_as_printed()
-    ensures bytes { (c : Tree) → SameBytes (part_means messages_of_each_shape "NodeTBS" "node_source" c)
+    ensures bytes { (c : Tree) →
+        SameBytes (part_means messages_of_each_shape "NodeTBS" "node_source" c)
         ⟦<NodeTBSOrigin<'static> as Size>⟧.format }
-    ensures values { (v : NodeTBSOrigin) (d : Direction) (b : List ℕ) →
-        ⟦<NodeTBSOrigin<'static> as Size>⟧.format.spells d b (⟦<NodeTBSOrigin<'static> as Size>⟧.plain v)
-        ↔ NodeTBSOriginSays v d b }
+    ensures values { (v : NodeTBSOrigin) → SpelledAs ⟦<NodeTBSOrigin<'static> as Size>⟧.format
+        (⟦<NodeTBSOrigin<'static> as Size>⟧.plain v) (NodeTBSOriginSays v) }
 {}
 
 /// `Pixel`.
 pub fn pixel_is_as_printed()
     ensures bytes { (c : Tree) → SameBytes (means messages_of_each_shape "Pixel" c)
         ⟦<Pixel as Size>⟧.format }
-    ensures values { (v : Pixel) (d : Direction) (b : List ℕ) →
-        ⟦<Pixel as Size>⟧.format.spells d b (⟦<Pixel as Size>⟧.plain v)
-        ↔ PixelSays v d b }
+    ensures values { (v : Pixel) → SpelledAs ⟦<Pixel as Size>⟧.format (⟦<Pixel as Size>⟧.plain v)
+        (PixelSays v) }
 {}
 
 /// `Point`.
 pub fn point_is_as_printed()
     ensures bytes { (c : Tree) → SameBytes (means messages_of_each_shape "Point" c)
         ⟦<Point as Size>⟧.format }
-    ensures values { (v : Point) (d : Direction) (b : List ℕ) →
-        ⟦<Point as Size>⟧.format.spells d b (⟦<Point as Size>⟧.plain v)
-        ↔ PointSays v d b }
+    ensures values { (v : Point) → SpelledAs ⟦<Point as Size>⟧.format (⟦<Point as Size>⟧.plain v)
+        (PointSays v) }
 {}
 
 /// `ServerName`.
 pub fn server_name_is_as_printed()
     ensures bytes { (c : Tree) → SameBytes (means messages_of_each_shape "ServerName" c)
         ⟦<ServerName as Size>⟧.format }
-    ensures values { (v : ServerName) (d : Direction) (b : List ℕ) →
-        ⟦<ServerName as Size>⟧.format.spells d b (⟦<ServerName as Size>⟧.plain v)
-        ↔ ServerNameSays v d b }
+    ensures values { (v : ServerName) → SpelledAs ⟦<ServerName as Size>⟧.format
+        (⟦<ServerName as Size>⟧.plain v) (ServerNameSays v) }
 {}
 
 /// `SessionTicket`.
 pub fn session_ticket_is_as_printed()
     ensures bytes { (c : Tree) → SameBytes (means messages_of_each_shape "session_ticket" c)
         ⟦<SessionTicket as Size>⟧.format }
-    ensures values { (v : SessionTicket) (d : Direction) (b : List ℕ) →
-        ⟦<SessionTicket as Size>⟧.format.spells d b (⟦<SessionTicket as Size>⟧.plain v)
-        ↔ SessionTicketSays v d b }
+    ensures values { (v : SessionTicket) → SpelledAs ⟦<SessionTicket as Size>⟧.format
+        (⟦<SessionTicket as Size>⟧.plain v) (SessionTicketSays v) }
 {}
 
 /// `SizedType`.
 pub fn sized_type_is_as_printed()
     ensures bytes { (c : Tree) → SameBytes (means messages_of_each_shape "Sized" c)
         ⟦<SizedType as Size>⟧.format }
-    ensures values { (v : SizedType) (d : Direction) (b : List ℕ) →
-        ⟦<SizedType as Size>⟧.format.spells d b (⟦<SizedType as Size>⟧.plain v)
-        ↔ SizedTypeSays v d b }
+    ensures values { (v : SizedType) → SpelledAs ⟦<SizedType as Size>⟧.format
+        (⟦<SizedType as Size>⟧.plain v) (SizedTypeSays v) }
 {}
 
 /// `ThreeData`.
 pub fn three_data_is_as_printed()
     ensures bytes { (c : Tree) → SameBytes (means messages_of_each_shape "ThreeData" c)
         ⟦<ThreeData as Size>⟧.format }
-    ensures values { (v : ThreeData) (d : Direction) (b : List ℕ) →
-        ⟦<ThreeData as Size>⟧.format.spells d b (⟦<ThreeData as Size>⟧.plain v)
-        ↔ ThreeDataSays v d b }
+    ensures values { (v : ThreeData) → SpelledAs ⟦<ThreeData as Size>⟧.format
+        (⟦<ThreeData as Size>⟧.plain v) (ThreeDataSays v) }
 {}
 
 /// `Trees`.
 pub fn trees_is_as_printed()
     ensures bytes { (c : Tree) → SameBytes (means messages_of_each_shape "Trees" c)
         ⟦<Trees as Size>⟧.format }
-    ensures values { (v : Trees) (d : Direction) (b : List ℕ) →
-        ⟦<Trees as Size>⟧.format.spells d b (⟦<Trees as Size>⟧.plain v)
-        ↔ TreesSays v d b }
+    ensures values { (v : Trees) → SpelledAs ⟦<Trees as Size>⟧.format (⟦<Trees as Size>⟧.plain v)
+        (TreesSays v) }
 {}
 
 /// `VersionData`.
 pub fn version_data_is_as_printed()
     ensures bytes { (c : Tree) → SameBytes (part_means messages_of_each_shape "Sized" "contents" c)
         ⟦<VersionData as Size>⟧.format }
-    ensures values { (v : VersionData) (d : Direction) (b : List ℕ) →
-        ⟦<VersionData as Size>⟧.format.spells d b (⟦<VersionData as Size>⟧.plain v)
-        ↔ VersionDataSays v d b }
+    ensures values { (v : VersionData) → SpelledAs ⟦<VersionData as Size>⟧.format
+        (⟦<VersionData as Size>⟧.plain v) (VersionDataSays v) }
 {}
 
 /// `VersionXfefd`.
 pub fn version_xfefd_is_as_printed()
-    ensures bytes { (c : Tree) → SameBytes (part_means messages_of_each_shape "session_ticket" "version" c)
+    ensures bytes { (c : Tree) →
+        SameBytes (part_means messages_of_each_shape "session_ticket" "version" c)
         ⟦<VersionXfefd as Size>⟧.format }
-    ensures values { (v : VersionXfefd) (d : Direction) (b : List ℕ) →
-        ⟦<VersionXfefd as Size>⟧.format.spells d b (⟦<VersionXfefd as Size>⟧.plain v)
-        ↔ VersionXfefdSays v d b }
+    ensures values { (v : VersionXfefd) → SpelledAs ⟦<VersionXfefd as Size>⟧.format
+        (⟦<VersionXfefd as Size>⟧.plain v) (VersionXfefdSays v) }
 {}
 
 /// `Versioned`.
 pub fn versioned_is_as_printed()
     ensures bytes { (c : Tree) → SameBytes (means messages_of_each_shape "Versioned" c)
         ⟦<Versioned as Size>⟧.format }
-    ensures values { (v : Versioned) (d : Direction) (b : List ℕ) →
-        ⟦<Versioned as Size>⟧.format.spells d b (⟦<Versioned as Size>⟧.plain v)
-        ↔ VersionedSays v d b }
+    ensures values { (v : Versioned) → SpelledAs ⟦<Versioned as Size>⟧.format
+        (⟦<Versioned as Size>⟧.plain v) (VersionedSays v) }
 {}
 
 /// `Wide`.
 pub fn wide_is_as_printed()
     ensures bytes { (c : Tree) → SameBytes (means messages_of_each_shape "Wide" c)
         ⟦<Wide as Size>⟧.format }
-    ensures values { (v : Wide) (d : Direction) (b : List ℕ) →
-        ⟦<Wide as Size>⟧.format.spells d b (⟦<Wide as Size>⟧.plain v)
-        ↔ WideSays v d b }
+    ensures values { (v : Wide) → SpelledAs ⟦<Wide as Size>⟧.format (⟦<Wide as Size>⟧.plain v)
+        (WideSays v) }
 {}

@@ -1,5 +1,7 @@
-//! That the messages of `messages_of_each_shape` are those of their text, `each_shape.tls`: read its lines in `specs/Text.antt`, and in
-//! `specs/Says.antt` which field has which name. Nothing here does anything when it runs.
+//! That the messages of `messages_of_each_shape` are those of their text, `each_shape.tls`.
+//!
+//! Read its lines in `specs/Text.antt`, and in `specs/Says.antt` which field has which name.
+//! Nothing here does anything when it runs.
 #![tactic(auto)]
 
 ghost use Rattle.std.specs.Prelude.{◌≡◌};

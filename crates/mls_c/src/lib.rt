@@ -1,7 +1,9 @@
 //! Whether bytes begin with a message of MLS, told without memory.
 #![tactic(auto)]
 
+mod elements;
 mod fields;
+mod kind;
 
 ghost use Rattle.mls.specs.MLSMessage.{mls_message_format};
 ghost use Rattle.mls.specs.PublicMessage.{public_message_format};

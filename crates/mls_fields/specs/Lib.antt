@@ -4,3 +4,4 @@ pub mod PrivateMessageFields
 pub mod FramedContentFields
 pub mod KeyPackageFields
 pub mod WelcomeFields
+pub mod Kind

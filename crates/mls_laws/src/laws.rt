@@ -1,8 +1,8 @@
-//! Each type of `mls` has the bytes that its text means, and each value's bytes are those of its parts, by their names.
-ghost use Rattle.std.specs.Prelude.{◌↔◌, ℕ, List};
+//! Each type of `mls` has the bytes that its text means.
+//! Each value's bytes are those of its parts, by their names.
 ghost use Rattle.tls_codec_grammar.specs.Tree.{Tree};
-ghost use Rattle.tls_codec_grammar.specs.Grammar.{Direction};
 ghost use Rattle.tls_presentation.specs.Meaning.{SameBytes, means, part_means};
+ghost use Rattle.tls_presentation.specs.Says.{SpelledAs};
 ghost use Rattle.mls_laws.specs.Definitions.{mls};
 ghost use Rattle.mls_laws.specs.Says.{AuthenticatedContentSays, AuthenticatedContentTBMSays, ConfirmedTranscriptHashInputSays, ContentTypeSays, ContentTypeDataSays, FramedContentSays, FramedContentAuthDataSays, FramedContentTBSSays, InterimTranscriptHashInputSays, MLSMessageSays, PrivateContentSays, PrivateContentAADSays, PrivateMessageSays, PrivateMessageContentSays, PublicMessageSays, SenderSays, SenderDataSays, SenderDataAADSays, SenderTypeSays, WireFormatSays, WireFormatDataSays};
 ghost use Rattle.mls.specs.declared.authenticated_content.AuthenticatedContent.{AuthenticatedContent};
@@ -45,36 +45,35 @@ use tls_codec::{Size, SizeFor};
 pub fn authenticated_content_is_as_printed()
     ensures bytes { (c : Tree) → SameBytes (means mls "AuthenticatedContent" c)
         ⟦<AuthenticatedContent as Size>⟧.format }
-    ensures values { (v : AuthenticatedContent) (d : Direction) (b : List ℕ) →
-        ⟦<AuthenticatedContent as Size>⟧.format.spells d b (⟦<AuthenticatedContent as Size>⟧.plain v)
-        ↔ AuthenticatedContentSays v d b }
+    ensures values { (v : AuthenticatedContent) → SpelledAs ⟦<AuthenticatedContent as Size>⟧.format
+        (⟦<AuthenticatedContent as Size>⟧.plain v) (AuthenticatedContentSays v) }
 {}
 
 /// `AuthenticatedContentTBM`.
 pub fn authenticated_content_tbm_is_as_printed()
     ensures bytes { (c : Tree) → SameBytes (means mls "AuthenticatedContentTBM" c)
         ⟦<AuthenticatedContentTBM<'static> as Size>⟧.format }
-    ensures values { (v : AuthenticatedContentTBM) (d : Direction) (b : List ℕ) →
-        ⟦<AuthenticatedContentTBM<'static> as Size>⟧.format.spells d b (⟦<AuthenticatedContentTBM<'static> as Size>⟧.plain v)
-        ↔ AuthenticatedContentTBMSays v d b }
+    ensures values { (v : AuthenticatedContentTBM) →
+        SpelledAs ⟦<AuthenticatedContentTBM<'static> as Size>⟧.format
+        (⟦<AuthenticatedContentTBM<'static> as Size>⟧.plain v) (AuthenticatedContentTBMSays v) }
 {}
 
 /// `ConfirmedTranscriptHashInput`.
 pub fn confirmed_transcript_hash_input_is_as_printed()
     ensures bytes { (c : Tree) → SameBytes (means mls "ConfirmedTranscriptHashInput" c)
         ⟦<ConfirmedTranscriptHashInput<'static> as Size>⟧.format }
-    ensures values { (v : ConfirmedTranscriptHashInput) (d : Direction) (b : List ℕ) →
-        ⟦<ConfirmedTranscriptHashInput<'static> as Size>⟧.format.spells d b (⟦<ConfirmedTranscriptHashInput<'static> as Size>⟧.plain v)
-        ↔ ConfirmedTranscriptHashInputSays v d b }
+    ensures values { (v : ConfirmedTranscriptHashInput) →
+        SpelledAs ⟦<ConfirmedTranscriptHashInput<'static> as Size>⟧.format
+        (⟦<ConfirmedTranscriptHashInput<'static> as Size>⟧.plain v)
+        (ConfirmedTranscriptHashInputSays v) }
 {}
 
 /// `ContentType`.
 pub fn content_type_is_as_printed()
     ensures bytes { (c : Tree) → SameBytes (means mls "ContentType" c)
         ⟦<ContentType as Size>⟧.format }
-    ensures values { (v : ContentType) (d : Direction) (b : List ℕ) →
-        ⟦<ContentType as Size>⟧.format.spells d b (⟦<ContentType as Size>⟧.plain v)
-        ↔ ContentTypeSays v d b }
+    ensures values { (v : ContentType) → SpelledAs ⟦<ContentType as Size>⟧.format
+        (⟦<ContentType as Size>⟧.plain v) (ContentTypeSays v) }
     ensures names { (v : ContentType) → value_number mls "ContentType" (content_type_name v)
         ≡ content_type_code v }
 {}
@@ -83,135 +82,127 @@ pub fn content_type_is_as_printed()
 pub fn content_type_data_is_as_printed()
     ensures bytes { (c : Tree) → SameBytes (part_means mls "FramedContent" "content_type" c)
         ⟦<ContentTypeData as Size>⟧.format }
-    ensures values { (v : ContentTypeData) (d : Direction) (b : List ℕ) →
-        ⟦<ContentTypeData as Size>⟧.format.spells d b (⟦<ContentTypeData as Size>⟧.plain v)
-        ↔ ContentTypeDataSays v d b }
+    ensures values { (v : ContentTypeData) → SpelledAs ⟦<ContentTypeData as Size>⟧.format
+        (⟦<ContentTypeData as Size>⟧.plain v) (ContentTypeDataSays v) }
 {}
 
 /// `FramedContent`.
 pub fn framed_content_is_as_printed()
     ensures bytes { (c : Tree) → SameBytes (means mls "FramedContent" c)
         ⟦<FramedContent as Size>⟧.format }
-    ensures values { (v : FramedContent) (d : Direction) (b : List ℕ) →
-        ⟦<FramedContent as Size>⟧.format.spells d b (⟦<FramedContent as Size>⟧.plain v)
-        ↔ FramedContentSays v d b }
+    ensures values { (v : FramedContent) → SpelledAs ⟦<FramedContent as Size>⟧.format
+        (⟦<FramedContent as Size>⟧.plain v) (FramedContentSays v) }
 {}
 
 /// `FramedContentAuthData`.
 pub fn framed_content_auth_data_is_as_printed()
     ensures bytes { (c : Tree) → SameBytes (means mls "FramedContentAuthData" c)
         (⟦<FramedContentAuthData as SizeFor<ContentType>>⟧.format_for c) }
-    ensures values { (c : Tree) (v : FramedContentAuthData) (d : Direction) (b : List ℕ) →
-        (⟦<FramedContentAuthData as SizeFor<ContentType>>⟧.format_for c).spells d b (⟦<FramedContentAuthData as SizeFor<ContentType>>⟧.plain v)
-        ↔ FramedContentAuthDataSays c v d b }
+    ensures values { (c : Tree) (v : FramedContentAuthData) →
+        SpelledAs (⟦<FramedContentAuthData as SizeFor<ContentType>>⟧.format_for c)
+        (⟦<FramedContentAuthData as SizeFor<ContentType>>⟧.plain v)
+        (FramedContentAuthDataSays c v) }
 {}
 
 /// `FramedContentTBS`.
 pub fn framed_content_tbs_is_as_printed()
     ensures bytes { (c : Tree) → SameBytes (means mls "FramedContentTBS" c)
         ⟦<FramedContentTBS<'static> as Size>⟧.format }
-    ensures values { (v : FramedContentTBS) (d : Direction) (b : List ℕ) →
-        ⟦<FramedContentTBS<'static> as Size>⟧.format.spells d b (⟦<FramedContentTBS<'static> as Size>⟧.plain v)
-        ↔ FramedContentTBSSays v d b }
+    ensures values { (v : FramedContentTBS) → SpelledAs ⟦<FramedContentTBS<'static> as Size>⟧.format
+        (⟦<FramedContentTBS<'static> as Size>⟧.plain v) (FramedContentTBSSays v) }
 {}
 
 /// `InterimTranscriptHashInput`.
 pub fn interim_transcript_hash_input_is_as_printed()
     ensures bytes { (c : Tree) → SameBytes (means mls "InterimTranscriptHashInput" c)
         ⟦<InterimTranscriptHashInput<'static> as Size>⟧.format }
-    ensures values { (v : InterimTranscriptHashInput) (d : Direction) (b : List ℕ) →
-        ⟦<InterimTranscriptHashInput<'static> as Size>⟧.format.spells d b (⟦<InterimTranscriptHashInput<'static> as Size>⟧.plain v)
-        ↔ InterimTranscriptHashInputSays v d b }
+    ensures values { (v : InterimTranscriptHashInput) →
+        SpelledAs ⟦<InterimTranscriptHashInput<'static> as Size>⟧.format
+        (⟦<InterimTranscriptHashInput<'static> as Size>⟧.plain v)
+        (InterimTranscriptHashInputSays v) }
 {}
 
 /// `MLSMessage`.
 pub fn mls_message_is_as_printed()
     ensures bytes { (c : Tree) → SameBytes (means mls "MLSMessage" c)
         ⟦<MLSMessage as Size>⟧.format }
-    ensures values { (v : MLSMessage) (d : Direction) (b : List ℕ) →
-        ⟦<MLSMessage as Size>⟧.format.spells d b (⟦<MLSMessage as Size>⟧.plain v)
-        ↔ MLSMessageSays v d b }
+    ensures values { (v : MLSMessage) → SpelledAs ⟦<MLSMessage as Size>⟧.format
+        (⟦<MLSMessage as Size>⟧.plain v) (MLSMessageSays v) }
 {}
 
 /// `PrivateContent`.
 pub fn private_content_is_as_printed()
     ensures bytes { (c : Tree) → SameBytes (part_means mls "PrivateMessageContent" "content" c)
         (⟦<PrivateContent as SizeFor<ContentType>>⟧.format_for c) }
-    ensures values { (c : Tree) (v : PrivateContent) (d : Direction) (b : List ℕ) →
-        (⟦<PrivateContent as SizeFor<ContentType>>⟧.format_for c).spells d b (⟦<PrivateContent as SizeFor<ContentType>>⟧.plain v)
-        ↔ PrivateContentSays c v d b }
+    ensures values { (c : Tree) (v : PrivateContent) →
+        SpelledAs (⟦<PrivateContent as SizeFor<ContentType>>⟧.format_for c)
+        (⟦<PrivateContent as SizeFor<ContentType>>⟧.plain v) (PrivateContentSays c v) }
 {}
 
 /// `PrivateContentAAD`.
 pub fn private_content_aad_is_as_printed()
     ensures bytes { (c : Tree) → SameBytes (means mls "PrivateContentAAD" c)
         ⟦<PrivateContentAAD<'static> as Size>⟧.format }
-    ensures values { (v : PrivateContentAAD) (d : Direction) (b : List ℕ) →
-        ⟦<PrivateContentAAD<'static> as Size>⟧.format.spells d b (⟦<PrivateContentAAD<'static> as Size>⟧.plain v)
-        ↔ PrivateContentAADSays v d b }
+    ensures values { (v : PrivateContentAAD) →
+        SpelledAs ⟦<PrivateContentAAD<'static> as Size>⟧.format
+        (⟦<PrivateContentAAD<'static> as Size>⟧.plain v) (PrivateContentAADSays v) }
 {}
 
 /// `PrivateMessage`.
 pub fn private_message_is_as_printed()
     ensures bytes { (c : Tree) → SameBytes (means mls "PrivateMessage" c)
         ⟦<PrivateMessage as Size>⟧.format }
-    ensures values { (v : PrivateMessage) (d : Direction) (b : List ℕ) →
-        ⟦<PrivateMessage as Size>⟧.format.spells d b (⟦<PrivateMessage as Size>⟧.plain v)
-        ↔ PrivateMessageSays v d b }
+    ensures values { (v : PrivateMessage) → SpelledAs ⟦<PrivateMessage as Size>⟧.format
+        (⟦<PrivateMessage as Size>⟧.plain v) (PrivateMessageSays v) }
 {}
 
 /// `PrivateMessageContent`.
 pub fn private_message_content_is_as_printed()
     ensures bytes { (c : Tree) → SameBytes (means mls "PrivateMessageContent" c)
         (⟦<PrivateMessageContent as SizeFor<ContentType>>⟧.format_for c) }
-    ensures values { (c : Tree) (v : PrivateMessageContent) (d : Direction) (b : List ℕ) →
-        (⟦<PrivateMessageContent as SizeFor<ContentType>>⟧.format_for c).spells d b (⟦<PrivateMessageContent as SizeFor<ContentType>>⟧.plain v)
-        ↔ PrivateMessageContentSays c v d b }
+    ensures values { (c : Tree) (v : PrivateMessageContent) →
+        SpelledAs (⟦<PrivateMessageContent as SizeFor<ContentType>>⟧.format_for c)
+        (⟦<PrivateMessageContent as SizeFor<ContentType>>⟧.plain v)
+        (PrivateMessageContentSays c v) }
 {}
 
 /// `PublicMessage`.
 pub fn public_message_is_as_printed()
     ensures bytes { (c : Tree) → SameBytes (means mls "PublicMessage" c)
         ⟦<PublicMessage as Size>⟧.format }
-    ensures values { (v : PublicMessage) (d : Direction) (b : List ℕ) →
-        ⟦<PublicMessage as Size>⟧.format.spells d b (⟦<PublicMessage as Size>⟧.plain v)
-        ↔ PublicMessageSays v d b }
+    ensures values { (v : PublicMessage) → SpelledAs ⟦<PublicMessage as Size>⟧.format
+        (⟦<PublicMessage as Size>⟧.plain v) (PublicMessageSays v) }
 {}
 
 /// `Sender`.
 pub fn sender_is_as_printed()
-    ensures bytes { (c : Tree) → SameBytes (means mls "Sender" c)
-        ⟦<Sender as Size>⟧.format }
-    ensures values { (v : Sender) (d : Direction) (b : List ℕ) →
-        ⟦<Sender as Size>⟧.format.spells d b (⟦<Sender as Size>⟧.plain v)
-        ↔ SenderSays v d b }
+    ensures bytes { (c : Tree) → SameBytes (means mls "Sender" c) ⟦<Sender as Size>⟧.format }
+    ensures values { (v : Sender) → SpelledAs ⟦<Sender as Size>⟧.format (⟦<Sender as Size>⟧.plain v)
+        (SenderSays v) }
 {}
 
 /// `SenderData`.
 pub fn sender_data_is_as_printed()
     ensures bytes { (c : Tree) → SameBytes (means mls "SenderData" c)
         ⟦<SenderData as Size>⟧.format }
-    ensures values { (v : SenderData) (d : Direction) (b : List ℕ) →
-        ⟦<SenderData as Size>⟧.format.spells d b (⟦<SenderData as Size>⟧.plain v)
-        ↔ SenderDataSays v d b }
+    ensures values { (v : SenderData) → SpelledAs ⟦<SenderData as Size>⟧.format
+        (⟦<SenderData as Size>⟧.plain v) (SenderDataSays v) }
 {}
 
 /// `SenderDataAAD`.
 pub fn sender_data_aad_is_as_printed()
     ensures bytes { (c : Tree) → SameBytes (means mls "SenderDataAAD" c)
         ⟦<SenderDataAAD<'static> as Size>⟧.format }
-    ensures values { (v : SenderDataAAD) (d : Direction) (b : List ℕ) →
-        ⟦<SenderDataAAD<'static> as Size>⟧.format.spells d b (⟦<SenderDataAAD<'static> as Size>⟧.plain v)
-        ↔ SenderDataAADSays v d b }
+    ensures values { (v : SenderDataAAD) → SpelledAs ⟦<SenderDataAAD<'static> as Size>⟧.format
+        (⟦<SenderDataAAD<'static> as Size>⟧.plain v) (SenderDataAADSays v) }
 {}
 
 /// `SenderType`.
 pub fn sender_type_is_as_printed()
     ensures bytes { (c : Tree) → SameBytes (means mls "SenderType" c)
         ⟦<SenderType as Size>⟧.format }
-    ensures values { (v : SenderType) (d : Direction) (b : List ℕ) →
-        ⟦<SenderType as Size>⟧.format.spells d b (⟦<SenderType as Size>⟧.plain v)
-        ↔ SenderTypeSays v d b }
+    ensures values { (v : SenderType) → SpelledAs ⟦<SenderType as Size>⟧.format
+        (⟦<SenderType as Size>⟧.plain v) (SenderTypeSays v) }
     ensures names { (v : SenderType) → value_number mls "SenderType" (sender_type_name v)
         ≡ sender_type_code v }
 {}
@@ -220,9 +211,8 @@ pub fn sender_type_is_as_printed()
 pub fn wire_format_is_as_printed()
     ensures bytes { (c : Tree) → SameBytes (means mls "WireFormat" c)
         ⟦<WireFormat as Size>⟧.format }
-    ensures values { (v : WireFormat) (d : Direction) (b : List ℕ) →
-        ⟦<WireFormat as Size>⟧.format.spells d b (⟦<WireFormat as Size>⟧.plain v)
-        ↔ WireFormatSays v d b }
+    ensures values { (v : WireFormat) → SpelledAs ⟦<WireFormat as Size>⟧.format
+        (⟦<WireFormat as Size>⟧.plain v) (WireFormatSays v) }
     ensures names { wire_format_names ≡ names_in mls "WireFormat" }
 {}
 
@@ -230,7 +220,6 @@ pub fn wire_format_is_as_printed()
 pub fn wire_format_data_is_as_printed()
     ensures bytes { (c : Tree) → SameBytes (part_means mls "MLSMessage" "wire_format" c)
         ⟦<WireFormatData as Size>⟧.format }
-    ensures values { (v : WireFormatData) (d : Direction) (b : List ℕ) →
-        ⟦<WireFormatData as Size>⟧.format.spells d b (⟦<WireFormatData as Size>⟧.plain v)
-        ↔ WireFormatDataSays v d b }
+    ensures values { (v : WireFormatData) → SpelledAs ⟦<WireFormatData as Size>⟧.format
+        (⟦<WireFormatData as Size>⟧.plain v) (WireFormatDataSays v) }
 {}

@@ -1,8 +1,8 @@
-//! Each type of `mls_leaf` has the bytes that its text means, and each value's bytes are those of its parts, by their names.
-ghost use Rattle.std.specs.Prelude.{◌↔◌, ℕ, List};
+//! Each type of `mls_leaf` has the bytes that its text means.
+//! Each value's bytes are those of its parts, by their names.
 ghost use Rattle.tls_codec_grammar.specs.Tree.{Tree};
-ghost use Rattle.tls_codec_grammar.specs.Grammar.{Direction};
 ghost use Rattle.tls_presentation.specs.Meaning.{SameBytes, means, part_means};
+ghost use Rattle.tls_presentation.specs.Says.{SpelledAs};
 ghost use Rattle.mls_leaf_laws.specs.Definitions.{mls_leaf};
 ghost use Rattle.mls_leaf_laws.specs.Says.{CapabilitiesSays, CertificateSays, CipherSuiteSays, CredentialSays, CredentialTypeSays, EncryptContextSays, ExtensionSays, ExtensionTypeSays, KeyPackageSays, KeyPackageTBSSays, LeafNodeSays, LeafNodeHashInputSays, LeafNodeOriginSays, LeafNodeTBSSays, LeafNodeTBSOriginSays, LifetimeSays, NodeSays, ParentHashInputSays, ParentNodeSays, ParentNodeHashInputSays, ProposalTypeSays, ProtocolVersionSays, RatchetTreeSays, SignContentSays, TreeHashInputSays};
 ghost use Rattle.mls_leaf.specs.declared.capabilities.Capabilities.{Capabilities};
@@ -50,27 +50,24 @@ use tls_codec::Size;
 pub fn capabilities_is_as_printed()
     ensures bytes { (c : Tree) → SameBytes (means mls_leaf "Capabilities" c)
         ⟦<Capabilities as Size>⟧.format }
-    ensures values { (v : Capabilities) (d : Direction) (b : List ℕ) →
-        ⟦<Capabilities as Size>⟧.format.spells d b (⟦<Capabilities as Size>⟧.plain v)
-        ↔ CapabilitiesSays v d b }
+    ensures values { (v : Capabilities) → SpelledAs ⟦<Capabilities as Size>⟧.format
+        (⟦<Capabilities as Size>⟧.plain v) (CapabilitiesSays v) }
 {}
 
 /// `Certificate`.
 pub fn certificate_is_as_printed()
     ensures bytes { (c : Tree) → SameBytes (means mls_leaf "Certificate" c)
         ⟦<Certificate as Size>⟧.format }
-    ensures values { (v : Certificate) (d : Direction) (b : List ℕ) →
-        ⟦<Certificate as Size>⟧.format.spells d b (⟦<Certificate as Size>⟧.plain v)
-        ↔ CertificateSays v d b }
+    ensures values { (v : Certificate) → SpelledAs ⟦<Certificate as Size>⟧.format
+        (⟦<Certificate as Size>⟧.plain v) (CertificateSays v) }
 {}
 
 /// `CipherSuite`.
 pub fn cipher_suite_is_as_printed()
     ensures bytes { (c : Tree) → SameBytes (means mls_leaf "CipherSuite" c)
         ⟦<CipherSuite as Size>⟧.format }
-    ensures values { (v : CipherSuite) (d : Direction) (b : List ℕ) →
-        ⟦<CipherSuite as Size>⟧.format.spells d b (⟦<CipherSuite as Size>⟧.plain v)
-        ↔ CipherSuiteSays v d b }
+    ensures values { (v : CipherSuite) → SpelledAs ⟦<CipherSuite as Size>⟧.format
+        (⟦<CipherSuite as Size>⟧.plain v) (CipherSuiteSays v) }
     ensures names { cipher_suite_names ≡ names_in mls_leaf "CipherSuite" }
 {}
 
@@ -78,18 +75,16 @@ pub fn cipher_suite_is_as_printed()
 pub fn credential_is_as_printed()
     ensures bytes { (c : Tree) → SameBytes (means mls_leaf "Credential" c)
         ⟦<Credential as Size>⟧.format }
-    ensures values { (v : Credential) (d : Direction) (b : List ℕ) →
-        ⟦<Credential as Size>⟧.format.spells d b (⟦<Credential as Size>⟧.plain v)
-        ↔ CredentialSays v d b }
+    ensures values { (v : Credential) → SpelledAs ⟦<Credential as Size>⟧.format
+        (⟦<Credential as Size>⟧.plain v) (CredentialSays v) }
 {}
 
 /// `CredentialType`.
 pub fn credential_type_is_as_printed()
     ensures bytes { (c : Tree) → SameBytes (means mls_leaf "CredentialType" c)
         ⟦<CredentialType as Size>⟧.format }
-    ensures values { (v : CredentialType) (d : Direction) (b : List ℕ) →
-        ⟦<CredentialType as Size>⟧.format.spells d b (⟦<CredentialType as Size>⟧.plain v)
-        ↔ CredentialTypeSays v d b }
+    ensures values { (v : CredentialType) → SpelledAs ⟦<CredentialType as Size>⟧.format
+        (⟦<CredentialType as Size>⟧.plain v) (CredentialTypeSays v) }
     ensures names { credential_type_names ≡ names_in mls_leaf "CredentialType" }
 {}
 
@@ -97,27 +92,24 @@ pub fn credential_type_is_as_printed()
 pub fn encrypt_context_is_as_printed()
     ensures bytes { (c : Tree) → SameBytes (means mls_leaf "EncryptContext" c)
         ⟦<EncryptContext<'static> as Size>⟧.format }
-    ensures values { (v : EncryptContext) (d : Direction) (b : List ℕ) →
-        ⟦<EncryptContext<'static> as Size>⟧.format.spells d b (⟦<EncryptContext<'static> as Size>⟧.plain v)
-        ↔ EncryptContextSays v d b }
+    ensures values { (v : EncryptContext) → SpelledAs ⟦<EncryptContext<'static> as Size>⟧.format
+        (⟦<EncryptContext<'static> as Size>⟧.plain v) (EncryptContextSays v) }
 {}
 
 /// `Extension`.
 pub fn extension_is_as_printed()
     ensures bytes { (c : Tree) → SameBytes (means mls_leaf "Extension" c)
         ⟦<Extension as Size>⟧.format }
-    ensures values { (v : Extension) (d : Direction) (b : List ℕ) →
-        ⟦<Extension as Size>⟧.format.spells d b (⟦<Extension as Size>⟧.plain v)
-        ↔ ExtensionSays v d b }
+    ensures values { (v : Extension) → SpelledAs ⟦<Extension as Size>⟧.format
+        (⟦<Extension as Size>⟧.plain v) (ExtensionSays v) }
 {}
 
 /// `ExtensionType`.
 pub fn extension_type_is_as_printed()
     ensures bytes { (c : Tree) → SameBytes (means mls_leaf "ExtensionType" c)
         ⟦<ExtensionType as Size>⟧.format }
-    ensures values { (v : ExtensionType) (d : Direction) (b : List ℕ) →
-        ⟦<ExtensionType as Size>⟧.format.spells d b (⟦<ExtensionType as Size>⟧.plain v)
-        ↔ ExtensionTypeSays v d b }
+    ensures values { (v : ExtensionType) → SpelledAs ⟦<ExtensionType as Size>⟧.format
+        (⟦<ExtensionType as Size>⟧.plain v) (ExtensionTypeSays v) }
     ensures names { extension_type_names ≡ names_in mls_leaf "ExtensionType" }
 {}
 
@@ -125,117 +117,104 @@ pub fn extension_type_is_as_printed()
 pub fn key_package_is_as_printed()
     ensures bytes { (c : Tree) → SameBytes (means mls_leaf "KeyPackage" c)
         ⟦<KeyPackage as Size>⟧.format }
-    ensures values { (v : KeyPackage) (d : Direction) (b : List ℕ) →
-        ⟦<KeyPackage as Size>⟧.format.spells d b (⟦<KeyPackage as Size>⟧.plain v)
-        ↔ KeyPackageSays v d b }
+    ensures values { (v : KeyPackage) → SpelledAs ⟦<KeyPackage as Size>⟧.format
+        (⟦<KeyPackage as Size>⟧.plain v) (KeyPackageSays v) }
 {}
 
 /// `KeyPackageTBS`.
 pub fn key_package_tbs_is_as_printed()
     ensures bytes { (c : Tree) → SameBytes (means mls_leaf "KeyPackageTBS" c)
         ⟦<KeyPackageTBS<'static> as Size>⟧.format }
-    ensures values { (v : KeyPackageTBS) (d : Direction) (b : List ℕ) →
-        ⟦<KeyPackageTBS<'static> as Size>⟧.format.spells d b (⟦<KeyPackageTBS<'static> as Size>⟧.plain v)
-        ↔ KeyPackageTBSSays v d b }
+    ensures values { (v : KeyPackageTBS) → SpelledAs ⟦<KeyPackageTBS<'static> as Size>⟧.format
+        (⟦<KeyPackageTBS<'static> as Size>⟧.plain v) (KeyPackageTBSSays v) }
 {}
 
 /// `LeafNode`.
 pub fn leaf_node_is_as_printed()
     ensures bytes { (c : Tree) → SameBytes (means mls_leaf "LeafNode" c)
         ⟦<LeafNode as Size>⟧.format }
-    ensures values { (v : LeafNode) (d : Direction) (b : List ℕ) →
-        ⟦<LeafNode as Size>⟧.format.spells d b (⟦<LeafNode as Size>⟧.plain v)
-        ↔ LeafNodeSays v d b }
+    ensures values { (v : LeafNode) → SpelledAs ⟦<LeafNode as Size>⟧.format
+        (⟦<LeafNode as Size>⟧.plain v) (LeafNodeSays v) }
 {}
 
 /// `LeafNodeHashInput`.
 pub fn leaf_node_hash_input_is_as_printed()
     ensures bytes { (c : Tree) → SameBytes (means mls_leaf "LeafNodeHashInput" c)
         ⟦<LeafNodeHashInput as Size>⟧.format }
-    ensures values { (v : LeafNodeHashInput) (d : Direction) (b : List ℕ) →
-        ⟦<LeafNodeHashInput as Size>⟧.format.spells d b (⟦<LeafNodeHashInput as Size>⟧.plain v)
-        ↔ LeafNodeHashInputSays v d b }
+    ensures values { (v : LeafNodeHashInput) → SpelledAs ⟦<LeafNodeHashInput as Size>⟧.format
+        (⟦<LeafNodeHashInput as Size>⟧.plain v) (LeafNodeHashInputSays v) }
 {}
 
 /// `LeafNodeOrigin`.
 pub fn leaf_node_origin_is_as_printed()
     ensures bytes { (c : Tree) → SameBytes (part_means mls_leaf "LeafNode" "leaf_node_source" c)
         ⟦<LeafNodeOrigin as Size>⟧.format }
-    ensures values { (v : LeafNodeOrigin) (d : Direction) (b : List ℕ) →
-        ⟦<LeafNodeOrigin as Size>⟧.format.spells d b (⟦<LeafNodeOrigin as Size>⟧.plain v)
-        ↔ LeafNodeOriginSays v d b }
+    ensures values { (v : LeafNodeOrigin) → SpelledAs ⟦<LeafNodeOrigin as Size>⟧.format
+        (⟦<LeafNodeOrigin as Size>⟧.plain v) (LeafNodeOriginSays v) }
 {}
 
 /// `LeafNodeTBS`.
 pub fn leaf_node_tbs_is_as_printed()
     ensures bytes { (c : Tree) → SameBytes (means mls_leaf "LeafNodeTBS" c)
         ⟦<LeafNodeTBS<'static> as Size>⟧.format }
-    ensures values { (v : LeafNodeTBS) (d : Direction) (b : List ℕ) →
-        ⟦<LeafNodeTBS<'static> as Size>⟧.format.spells d b (⟦<LeafNodeTBS<'static> as Size>⟧.plain v)
-        ↔ LeafNodeTBSSays v d b }
+    ensures values { (v : LeafNodeTBS) → SpelledAs ⟦<LeafNodeTBS<'static> as Size>⟧.format
+        (⟦<LeafNodeTBS<'static> as Size>⟧.plain v) (LeafNodeTBSSays v) }
 {}
 
 /// `LeafNodeTBSOrigin`.
 pub fn leaf_node_tbs_origin_is_as_printed()
     ensures bytes { (c : Tree) → SameBytes (part_means mls_leaf "LeafNodeTBS" "leaf_node_source" c)
         ⟦<LeafNodeTBSOrigin<'static> as Size>⟧.format }
-    ensures values { (v : LeafNodeTBSOrigin) (d : Direction) (b : List ℕ) →
-        ⟦<LeafNodeTBSOrigin<'static> as Size>⟧.format.spells d b (⟦<LeafNodeTBSOrigin<'static> as Size>⟧.plain v)
-        ↔ LeafNodeTBSOriginSays v d b }
+    ensures values { (v : LeafNodeTBSOrigin) →
+        SpelledAs ⟦<LeafNodeTBSOrigin<'static> as Size>⟧.format
+        (⟦<LeafNodeTBSOrigin<'static> as Size>⟧.plain v) (LeafNodeTBSOriginSays v) }
 {}
 
 /// `Lifetime`.
 pub fn lifetime_is_as_printed()
     ensures bytes { (c : Tree) → SameBytes (means mls_leaf "Lifetime" c)
         ⟦<Lifetime as Size>⟧.format }
-    ensures values { (v : Lifetime) (d : Direction) (b : List ℕ) →
-        ⟦<Lifetime as Size>⟧.format.spells d b (⟦<Lifetime as Size>⟧.plain v)
-        ↔ LifetimeSays v d b }
+    ensures values { (v : Lifetime) → SpelledAs ⟦<Lifetime as Size>⟧.format
+        (⟦<Lifetime as Size>⟧.plain v) (LifetimeSays v) }
 {}
 
 /// `Node`.
 pub fn node_is_as_printed()
-    ensures bytes { (c : Tree) → SameBytes (means mls_leaf "Node" c)
-        ⟦<Node as Size>⟧.format }
-    ensures values { (v : Node) (d : Direction) (b : List ℕ) →
-        ⟦<Node as Size>⟧.format.spells d b (⟦<Node as Size>⟧.plain v)
-        ↔ NodeSays v d b }
+    ensures bytes { (c : Tree) → SameBytes (means mls_leaf "Node" c) ⟦<Node as Size>⟧.format }
+    ensures values { (v : Node) → SpelledAs ⟦<Node as Size>⟧.format (⟦<Node as Size>⟧.plain v)
+        (NodeSays v) }
 {}
 
 /// `ParentHashInput`.
 pub fn parent_hash_input_is_as_printed()
     ensures bytes { (c : Tree) → SameBytes (means mls_leaf "ParentHashInput" c)
         ⟦<ParentHashInput<'static> as Size>⟧.format }
-    ensures values { (v : ParentHashInput) (d : Direction) (b : List ℕ) →
-        ⟦<ParentHashInput<'static> as Size>⟧.format.spells d b (⟦<ParentHashInput<'static> as Size>⟧.plain v)
-        ↔ ParentHashInputSays v d b }
+    ensures values { (v : ParentHashInput) → SpelledAs ⟦<ParentHashInput<'static> as Size>⟧.format
+        (⟦<ParentHashInput<'static> as Size>⟧.plain v) (ParentHashInputSays v) }
 {}
 
 /// `ParentNode`.
 pub fn parent_node_is_as_printed()
     ensures bytes { (c : Tree) → SameBytes (means mls_leaf "ParentNode" c)
         ⟦<ParentNode as Size>⟧.format }
-    ensures values { (v : ParentNode) (d : Direction) (b : List ℕ) →
-        ⟦<ParentNode as Size>⟧.format.spells d b (⟦<ParentNode as Size>⟧.plain v)
-        ↔ ParentNodeSays v d b }
+    ensures values { (v : ParentNode) → SpelledAs ⟦<ParentNode as Size>⟧.format
+        (⟦<ParentNode as Size>⟧.plain v) (ParentNodeSays v) }
 {}
 
 /// `ParentNodeHashInput`.
 pub fn parent_node_hash_input_is_as_printed()
     ensures bytes { (c : Tree) → SameBytes (means mls_leaf "ParentNodeHashInput" c)
         ⟦<ParentNodeHashInput as Size>⟧.format }
-    ensures values { (v : ParentNodeHashInput) (d : Direction) (b : List ℕ) →
-        ⟦<ParentNodeHashInput as Size>⟧.format.spells d b (⟦<ParentNodeHashInput as Size>⟧.plain v)
-        ↔ ParentNodeHashInputSays v d b }
+    ensures values { (v : ParentNodeHashInput) → SpelledAs ⟦<ParentNodeHashInput as Size>⟧.format
+        (⟦<ParentNodeHashInput as Size>⟧.plain v) (ParentNodeHashInputSays v) }
 {}
 
 /// `ProposalType`.
 pub fn proposal_type_is_as_printed()
     ensures bytes { (c : Tree) → SameBytes (means mls_leaf "ProposalType" c)
         ⟦<ProposalType as Size>⟧.format }
-    ensures values { (v : ProposalType) (d : Direction) (b : List ℕ) →
-        ⟦<ProposalType as Size>⟧.format.spells d b (⟦<ProposalType as Size>⟧.plain v)
-        ↔ ProposalTypeSays v d b }
+    ensures values { (v : ProposalType) → SpelledAs ⟦<ProposalType as Size>⟧.format
+        (⟦<ProposalType as Size>⟧.plain v) (ProposalTypeSays v) }
     ensures names { proposal_type_names ≡ names_in mls_leaf "ProposalType" }
 {}
 
@@ -243,9 +222,8 @@ pub fn proposal_type_is_as_printed()
 pub fn protocol_version_is_as_printed()
     ensures bytes { (c : Tree) → SameBytes (means mls_leaf "ProtocolVersion" c)
         ⟦<ProtocolVersion as Size>⟧.format }
-    ensures values { (v : ProtocolVersion) (d : Direction) (b : List ℕ) →
-        ⟦<ProtocolVersion as Size>⟧.format.spells d b (⟦<ProtocolVersion as Size>⟧.plain v)
-        ↔ ProtocolVersionSays v d b }
+    ensures values { (v : ProtocolVersion) → SpelledAs ⟦<ProtocolVersion as Size>⟧.format
+        (⟦<ProtocolVersion as Size>⟧.plain v) (ProtocolVersionSays v) }
     ensures names { protocol_version_names ≡ names_in mls_leaf "ProtocolVersion" }
 {}
 
@@ -253,25 +231,22 @@ pub fn protocol_version_is_as_printed()
 pub fn ratchet_tree_is_as_printed()
     ensures bytes { (c : Tree) → SameBytes (means mls_leaf "RatchetTree" c)
         ⟦<RatchetTree as Size>⟧.format }
-    ensures values { (v : RatchetTree) (d : Direction) (b : List ℕ) →
-        ⟦<RatchetTree as Size>⟧.format.spells d b (⟦<RatchetTree as Size>⟧.plain v)
-        ↔ RatchetTreeSays v d b }
+    ensures values { (v : RatchetTree) → SpelledAs ⟦<RatchetTree as Size>⟧.format
+        (⟦<RatchetTree as Size>⟧.plain v) (RatchetTreeSays v) }
 {}
 
 /// `SignContent`.
 pub fn sign_content_is_as_printed()
     ensures bytes { (c : Tree) → SameBytes (means mls_leaf "SignContent" c)
         ⟦<SignContent<'static> as Size>⟧.format }
-    ensures values { (v : SignContent) (d : Direction) (b : List ℕ) →
-        ⟦<SignContent<'static> as Size>⟧.format.spells d b (⟦<SignContent<'static> as Size>⟧.plain v)
-        ↔ SignContentSays v d b }
+    ensures values { (v : SignContent) → SpelledAs ⟦<SignContent<'static> as Size>⟧.format
+        (⟦<SignContent<'static> as Size>⟧.plain v) (SignContentSays v) }
 {}
 
 /// `TreeHashInput`.
 pub fn tree_hash_input_is_as_printed()
     ensures bytes { (c : Tree) → SameBytes (means mls_leaf "TreeHashInput" c)
         ⟦<TreeHashInput as Size>⟧.format }
-    ensures values { (v : TreeHashInput) (d : Direction) (b : List ℕ) →
-        ⟦<TreeHashInput as Size>⟧.format.spells d b (⟦<TreeHashInput as Size>⟧.plain v)
-        ↔ TreeHashInputSays v d b }
+    ensures values { (v : TreeHashInput) → SpelledAs ⟦<TreeHashInput as Size>⟧.format
+        (⟦<TreeHashInput as Size>⟧.plain v) (TreeHashInputSays v) }
 {}

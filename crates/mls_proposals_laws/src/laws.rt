@@ -1,8 +1,8 @@
-//! Each type of `mls_proposals` has the bytes that its text means, and each value's bytes are those of its parts, by their names.
-ghost use Rattle.std.specs.Prelude.{◌↔◌, ℕ, List};
+//! Each type of `mls_proposals` has the bytes that its text means.
+//! Each value's bytes are those of its parts, by their names.
 ghost use Rattle.tls_codec_grammar.specs.Tree.{Tree};
-ghost use Rattle.tls_codec_grammar.specs.Grammar.{Direction};
 ghost use Rattle.tls_presentation.specs.Meaning.{SameBytes, means, part_means};
+ghost use Rattle.tls_presentation.specs.Says.{SpelledAs};
 ghost use Rattle.mls_proposals_laws.specs.Definitions.{mls_proposals};
 ghost use Rattle.mls_proposals_laws.specs.Says.{AddSays, CommitSays, EncryptedGroupSecretsSays, ExternalInitSays, ExternalPubSays, ExternalSenderSays, ExternalSendersSays, GroupContextSays, GroupContextExtensionsSays, GroupInfoSays, GroupInfoTBSSays, GroupSecretsSays, HPKECiphertextSays, KDFLabelSays, PSKLabelSays, PSKOriginSays, PathSecretSays, PreSharedKeySays, PreSharedKeyIDSays, ProposalSays, ProposalOrRefSays, ProtocolVersionMls10Says, ReInitSays, RefHashInputSays, RemoveSays, RequiredCapabilitiesSays, ResumptionPSKUsageSays, UpdateSays, UpdatePathSays, UpdatePathNodeSays, WelcomeSays};
 ghost use Rattle.mls_proposals.specs.declared.add.Add.{Add};
@@ -51,281 +51,251 @@ use tls_codec::Size;
 
 /// `Add`.
 pub fn add_is_as_printed()
-    ensures bytes { (c : Tree) → SameBytes (means mls_proposals "Add" c)
-        ⟦<Add as Size>⟧.format }
-    ensures values { (v : Add) (d : Direction) (b : List ℕ) →
-        ⟦<Add as Size>⟧.format.spells d b (⟦<Add as Size>⟧.plain v)
-        ↔ AddSays v d b }
+    ensures bytes { (c : Tree) → SameBytes (means mls_proposals "Add" c) ⟦<Add as Size>⟧.format }
+    ensures values { (v : Add) → SpelledAs ⟦<Add as Size>⟧.format (⟦<Add as Size>⟧.plain v)
+        (AddSays v) }
 {}
 
 /// `Commit`.
 pub fn commit_is_as_printed()
     ensures bytes { (c : Tree) → SameBytes (means mls_proposals "Commit" c)
         ⟦<Commit as Size>⟧.format }
-    ensures values { (v : Commit) (d : Direction) (b : List ℕ) →
-        ⟦<Commit as Size>⟧.format.spells d b (⟦<Commit as Size>⟧.plain v)
-        ↔ CommitSays v d b }
+    ensures values { (v : Commit) → SpelledAs ⟦<Commit as Size>⟧.format (⟦<Commit as Size>⟧.plain v)
+        (CommitSays v) }
 {}
 
 /// `EncryptedGroupSecrets`.
 pub fn encrypted_group_secrets_is_as_printed()
     ensures bytes { (c : Tree) → SameBytes (means mls_proposals "EncryptedGroupSecrets" c)
         ⟦<EncryptedGroupSecrets as Size>⟧.format }
-    ensures values { (v : EncryptedGroupSecrets) (d : Direction) (b : List ℕ) →
-        ⟦<EncryptedGroupSecrets as Size>⟧.format.spells d b (⟦<EncryptedGroupSecrets as Size>⟧.plain v)
-        ↔ EncryptedGroupSecretsSays v d b }
+    ensures values { (v : EncryptedGroupSecrets) →
+        SpelledAs ⟦<EncryptedGroupSecrets as Size>⟧.format
+        (⟦<EncryptedGroupSecrets as Size>⟧.plain v) (EncryptedGroupSecretsSays v) }
 {}
 
 /// `ExternalInit`.
 pub fn external_init_is_as_printed()
     ensures bytes { (c : Tree) → SameBytes (means mls_proposals "ExternalInit" c)
         ⟦<ExternalInit as Size>⟧.format }
-    ensures values { (v : ExternalInit) (d : Direction) (b : List ℕ) →
-        ⟦<ExternalInit as Size>⟧.format.spells d b (⟦<ExternalInit as Size>⟧.plain v)
-        ↔ ExternalInitSays v d b }
+    ensures values { (v : ExternalInit) → SpelledAs ⟦<ExternalInit as Size>⟧.format
+        (⟦<ExternalInit as Size>⟧.plain v) (ExternalInitSays v) }
 {}
 
 /// `ExternalPub`.
 pub fn external_pub_is_as_printed()
     ensures bytes { (c : Tree) → SameBytes (means mls_proposals "ExternalPub" c)
         ⟦<ExternalPub as Size>⟧.format }
-    ensures values { (v : ExternalPub) (d : Direction) (b : List ℕ) →
-        ⟦<ExternalPub as Size>⟧.format.spells d b (⟦<ExternalPub as Size>⟧.plain v)
-        ↔ ExternalPubSays v d b }
+    ensures values { (v : ExternalPub) → SpelledAs ⟦<ExternalPub as Size>⟧.format
+        (⟦<ExternalPub as Size>⟧.plain v) (ExternalPubSays v) }
 {}
 
 /// `ExternalSender`.
 pub fn external_sender_is_as_printed()
     ensures bytes { (c : Tree) → SameBytes (means mls_proposals "ExternalSender" c)
         ⟦<ExternalSender as Size>⟧.format }
-    ensures values { (v : ExternalSender) (d : Direction) (b : List ℕ) →
-        ⟦<ExternalSender as Size>⟧.format.spells d b (⟦<ExternalSender as Size>⟧.plain v)
-        ↔ ExternalSenderSays v d b }
+    ensures values { (v : ExternalSender) → SpelledAs ⟦<ExternalSender as Size>⟧.format
+        (⟦<ExternalSender as Size>⟧.plain v) (ExternalSenderSays v) }
 {}
 
 /// `ExternalSenders`.
 pub fn external_senders_is_as_printed()
     ensures bytes { (c : Tree) → SameBytes (means mls_proposals "ExternalSenders" c)
         ⟦<ExternalSenders as Size>⟧.format }
-    ensures values { (v : ExternalSenders) (d : Direction) (b : List ℕ) →
-        ⟦<ExternalSenders as Size>⟧.format.spells d b (⟦<ExternalSenders as Size>⟧.plain v)
-        ↔ ExternalSendersSays v d b }
+    ensures values { (v : ExternalSenders) → SpelledAs ⟦<ExternalSenders as Size>⟧.format
+        (⟦<ExternalSenders as Size>⟧.plain v) (ExternalSendersSays v) }
 {}
 
 /// `GroupContext`.
 pub fn group_context_is_as_printed()
     ensures bytes { (c : Tree) → SameBytes (means mls_proposals "GroupContext" c)
         ⟦<GroupContext as Size>⟧.format }
-    ensures values { (v : GroupContext) (d : Direction) (b : List ℕ) →
-        ⟦<GroupContext as Size>⟧.format.spells d b (⟦<GroupContext as Size>⟧.plain v)
-        ↔ GroupContextSays v d b }
+    ensures values { (v : GroupContext) → SpelledAs ⟦<GroupContext as Size>⟧.format
+        (⟦<GroupContext as Size>⟧.plain v) (GroupContextSays v) }
 {}
 
 /// `GroupContextExtensions`.
 pub fn group_context_extensions_is_as_printed()
     ensures bytes { (c : Tree) → SameBytes (means mls_proposals "GroupContextExtensions" c)
         ⟦<GroupContextExtensions as Size>⟧.format }
-    ensures values { (v : GroupContextExtensions) (d : Direction) (b : List ℕ) →
-        ⟦<GroupContextExtensions as Size>⟧.format.spells d b (⟦<GroupContextExtensions as Size>⟧.plain v)
-        ↔ GroupContextExtensionsSays v d b }
+    ensures values { (v : GroupContextExtensions) →
+        SpelledAs ⟦<GroupContextExtensions as Size>⟧.format
+        (⟦<GroupContextExtensions as Size>⟧.plain v) (GroupContextExtensionsSays v) }
 {}
 
 /// `GroupInfo`.
 pub fn group_info_is_as_printed()
     ensures bytes { (c : Tree) → SameBytes (means mls_proposals "GroupInfo" c)
         ⟦<GroupInfo as Size>⟧.format }
-    ensures values { (v : GroupInfo) (d : Direction) (b : List ℕ) →
-        ⟦<GroupInfo as Size>⟧.format.spells d b (⟦<GroupInfo as Size>⟧.plain v)
-        ↔ GroupInfoSays v d b }
+    ensures values { (v : GroupInfo) → SpelledAs ⟦<GroupInfo as Size>⟧.format
+        (⟦<GroupInfo as Size>⟧.plain v) (GroupInfoSays v) }
 {}
 
 /// `GroupInfoTBS`.
 pub fn group_info_tbs_is_as_printed()
     ensures bytes { (c : Tree) → SameBytes (means mls_proposals "GroupInfoTBS" c)
         ⟦<GroupInfoTBS<'static> as Size>⟧.format }
-    ensures values { (v : GroupInfoTBS) (d : Direction) (b : List ℕ) →
-        ⟦<GroupInfoTBS<'static> as Size>⟧.format.spells d b (⟦<GroupInfoTBS<'static> as Size>⟧.plain v)
-        ↔ GroupInfoTBSSays v d b }
+    ensures values { (v : GroupInfoTBS) → SpelledAs ⟦<GroupInfoTBS<'static> as Size>⟧.format
+        (⟦<GroupInfoTBS<'static> as Size>⟧.plain v) (GroupInfoTBSSays v) }
 {}
 
 /// `GroupSecrets`.
 pub fn group_secrets_is_as_printed()
     ensures bytes { (c : Tree) → SameBytes (means mls_proposals "GroupSecrets" c)
         ⟦<GroupSecrets as Size>⟧.format }
-    ensures values { (v : GroupSecrets) (d : Direction) (b : List ℕ) →
-        ⟦<GroupSecrets as Size>⟧.format.spells d b (⟦<GroupSecrets as Size>⟧.plain v)
-        ↔ GroupSecretsSays v d b }
+    ensures values { (v : GroupSecrets) → SpelledAs ⟦<GroupSecrets as Size>⟧.format
+        (⟦<GroupSecrets as Size>⟧.plain v) (GroupSecretsSays v) }
 {}
 
 /// `HPKECiphertext`.
 pub fn hpke_ciphertext_is_as_printed()
     ensures bytes { (c : Tree) → SameBytes (means mls_proposals "HPKECiphertext" c)
         ⟦<HPKECiphertext as Size>⟧.format }
-    ensures values { (v : HPKECiphertext) (d : Direction) (b : List ℕ) →
-        ⟦<HPKECiphertext as Size>⟧.format.spells d b (⟦<HPKECiphertext as Size>⟧.plain v)
-        ↔ HPKECiphertextSays v d b }
+    ensures values { (v : HPKECiphertext) → SpelledAs ⟦<HPKECiphertext as Size>⟧.format
+        (⟦<HPKECiphertext as Size>⟧.plain v) (HPKECiphertextSays v) }
 {}
 
 /// `KDFLabel`.
 pub fn kdf_label_is_as_printed()
     ensures bytes { (c : Tree) → SameBytes (means mls_proposals "KDFLabel" c)
         ⟦<KDFLabel<'static> as Size>⟧.format }
-    ensures values { (v : KDFLabel) (d : Direction) (b : List ℕ) →
-        ⟦<KDFLabel<'static> as Size>⟧.format.spells d b (⟦<KDFLabel<'static> as Size>⟧.plain v)
-        ↔ KDFLabelSays v d b }
+    ensures values { (v : KDFLabel) → SpelledAs ⟦<KDFLabel<'static> as Size>⟧.format
+        (⟦<KDFLabel<'static> as Size>⟧.plain v) (KDFLabelSays v) }
 {}
 
 /// `PSKLabel`.
 pub fn psk_label_is_as_printed()
     ensures bytes { (c : Tree) → SameBytes (means mls_proposals "PSKLabel" c)
         ⟦<PSKLabel<'static> as Size>⟧.format }
-    ensures values { (v : PSKLabel) (d : Direction) (b : List ℕ) →
-        ⟦<PSKLabel<'static> as Size>⟧.format.spells d b (⟦<PSKLabel<'static> as Size>⟧.plain v)
-        ↔ PSKLabelSays v d b }
+    ensures values { (v : PSKLabel) → SpelledAs ⟦<PSKLabel<'static> as Size>⟧.format
+        (⟦<PSKLabel<'static> as Size>⟧.plain v) (PSKLabelSays v) }
 {}
 
 /// `PSKOrigin`.
 pub fn psk_origin_is_as_printed()
     ensures bytes { (c : Tree) → SameBytes (part_means mls_proposals "PreSharedKeyID" "psktype" c)
         ⟦<PSKOrigin as Size>⟧.format }
-    ensures values { (v : PSKOrigin) (d : Direction) (b : List ℕ) →
-        ⟦<PSKOrigin as Size>⟧.format.spells d b (⟦<PSKOrigin as Size>⟧.plain v)
-        ↔ PSKOriginSays v d b }
+    ensures values { (v : PSKOrigin) → SpelledAs ⟦<PSKOrigin as Size>⟧.format
+        (⟦<PSKOrigin as Size>⟧.plain v) (PSKOriginSays v) }
 {}
 
 /// `PathSecret`.
 pub fn path_secret_is_as_printed()
     ensures bytes { (c : Tree) → SameBytes (means mls_proposals "PathSecret" c)
         ⟦<PathSecret as Size>⟧.format }
-    ensures values { (v : PathSecret) (d : Direction) (b : List ℕ) →
-        ⟦<PathSecret as Size>⟧.format.spells d b (⟦<PathSecret as Size>⟧.plain v)
-        ↔ PathSecretSays v d b }
+    ensures values { (v : PathSecret) → SpelledAs ⟦<PathSecret as Size>⟧.format
+        (⟦<PathSecret as Size>⟧.plain v) (PathSecretSays v) }
 {}
 
 /// `PreSharedKey`.
 pub fn pre_shared_key_is_as_printed()
     ensures bytes { (c : Tree) → SameBytes (means mls_proposals "PreSharedKey" c)
         ⟦<PreSharedKey as Size>⟧.format }
-    ensures values { (v : PreSharedKey) (d : Direction) (b : List ℕ) →
-        ⟦<PreSharedKey as Size>⟧.format.spells d b (⟦<PreSharedKey as Size>⟧.plain v)
-        ↔ PreSharedKeySays v d b }
+    ensures values { (v : PreSharedKey) → SpelledAs ⟦<PreSharedKey as Size>⟧.format
+        (⟦<PreSharedKey as Size>⟧.plain v) (PreSharedKeySays v) }
 {}
 
 /// `PreSharedKeyID`.
 pub fn pre_shared_key_id_is_as_printed()
     ensures bytes { (c : Tree) → SameBytes (means mls_proposals "PreSharedKeyID" c)
         ⟦<PreSharedKeyID as Size>⟧.format }
-    ensures values { (v : PreSharedKeyID) (d : Direction) (b : List ℕ) →
-        ⟦<PreSharedKeyID as Size>⟧.format.spells d b (⟦<PreSharedKeyID as Size>⟧.plain v)
-        ↔ PreSharedKeyIDSays v d b }
+    ensures values { (v : PreSharedKeyID) → SpelledAs ⟦<PreSharedKeyID as Size>⟧.format
+        (⟦<PreSharedKeyID as Size>⟧.plain v) (PreSharedKeyIDSays v) }
 {}
 
 /// `Proposal`.
 pub fn proposal_is_as_printed()
     ensures bytes { (c : Tree) → SameBytes (means mls_proposals "Proposal" c)
         ⟦<Proposal as Size>⟧.format }
-    ensures values { (v : Proposal) (d : Direction) (b : List ℕ) →
-        ⟦<Proposal as Size>⟧.format.spells d b (⟦<Proposal as Size>⟧.plain v)
-        ↔ ProposalSays v d b }
+    ensures values { (v : Proposal) → SpelledAs ⟦<Proposal as Size>⟧.format
+        (⟦<Proposal as Size>⟧.plain v) (ProposalSays v) }
 {}
 
 /// `ProposalOrRef`.
 pub fn proposal_or_ref_is_as_printed()
     ensures bytes { (c : Tree) → SameBytes (means mls_proposals "ProposalOrRef" c)
         ⟦<ProposalOrRef as Size>⟧.format }
-    ensures values { (v : ProposalOrRef) (d : Direction) (b : List ℕ) →
-        ⟦<ProposalOrRef as Size>⟧.format.spells d b (⟦<ProposalOrRef as Size>⟧.plain v)
-        ↔ ProposalOrRefSays v d b }
+    ensures values { (v : ProposalOrRef) → SpelledAs ⟦<ProposalOrRef as Size>⟧.format
+        (⟦<ProposalOrRef as Size>⟧.plain v) (ProposalOrRefSays v) }
 {}
 
 /// `ProtocolVersionMls10`.
 pub fn protocol_version_mls10_is_as_printed()
     ensures bytes { (c : Tree) → SameBytes (part_means mls_proposals "GroupContext" "version" c)
         ⟦<ProtocolVersionMls10 as Size>⟧.format }
-    ensures values { (v : ProtocolVersionMls10) (d : Direction) (b : List ℕ) →
-        ⟦<ProtocolVersionMls10 as Size>⟧.format.spells d b (⟦<ProtocolVersionMls10 as Size>⟧.plain v)
-        ↔ ProtocolVersionMls10Says v d b }
+    ensures values { (v : ProtocolVersionMls10) → SpelledAs ⟦<ProtocolVersionMls10 as Size>⟧.format
+        (⟦<ProtocolVersionMls10 as Size>⟧.plain v) (ProtocolVersionMls10Says v) }
 {}
 
 /// `ReInit`.
 pub fn re_init_is_as_printed()
     ensures bytes { (c : Tree) → SameBytes (means mls_proposals "ReInit" c)
         ⟦<ReInit as Size>⟧.format }
-    ensures values { (v : ReInit) (d : Direction) (b : List ℕ) →
-        ⟦<ReInit as Size>⟧.format.spells d b (⟦<ReInit as Size>⟧.plain v)
-        ↔ ReInitSays v d b }
+    ensures values { (v : ReInit) → SpelledAs ⟦<ReInit as Size>⟧.format (⟦<ReInit as Size>⟧.plain v)
+        (ReInitSays v) }
 {}
 
 /// `RefHashInput`.
 pub fn ref_hash_input_is_as_printed()
     ensures bytes { (c : Tree) → SameBytes (means mls_proposals "RefHashInput" c)
         ⟦<RefHashInput<'static> as Size>⟧.format }
-    ensures values { (v : RefHashInput) (d : Direction) (b : List ℕ) →
-        ⟦<RefHashInput<'static> as Size>⟧.format.spells d b (⟦<RefHashInput<'static> as Size>⟧.plain v)
-        ↔ RefHashInputSays v d b }
+    ensures values { (v : RefHashInput) → SpelledAs ⟦<RefHashInput<'static> as Size>⟧.format
+        (⟦<RefHashInput<'static> as Size>⟧.plain v) (RefHashInputSays v) }
 {}
 
 /// `Remove`.
 pub fn remove_is_as_printed()
     ensures bytes { (c : Tree) → SameBytes (means mls_proposals "Remove" c)
         ⟦<Remove as Size>⟧.format }
-    ensures values { (v : Remove) (d : Direction) (b : List ℕ) →
-        ⟦<Remove as Size>⟧.format.spells d b (⟦<Remove as Size>⟧.plain v)
-        ↔ RemoveSays v d b }
+    ensures values { (v : Remove) → SpelledAs ⟦<Remove as Size>⟧.format (⟦<Remove as Size>⟧.plain v)
+        (RemoveSays v) }
 {}
 
 /// `RequiredCapabilities`.
 pub fn required_capabilities_is_as_printed()
     ensures bytes { (c : Tree) → SameBytes (means mls_proposals "RequiredCapabilities" c)
         ⟦<RequiredCapabilities as Size>⟧.format }
-    ensures values { (v : RequiredCapabilities) (d : Direction) (b : List ℕ) →
-        ⟦<RequiredCapabilities as Size>⟧.format.spells d b (⟦<RequiredCapabilities as Size>⟧.plain v)
-        ↔ RequiredCapabilitiesSays v d b }
+    ensures values { (v : RequiredCapabilities) → SpelledAs ⟦<RequiredCapabilities as Size>⟧.format
+        (⟦<RequiredCapabilities as Size>⟧.plain v) (RequiredCapabilitiesSays v) }
 {}
 
 /// `ResumptionPSKUsage`.
 pub fn resumption_psk_usage_is_as_printed()
     ensures bytes { (c : Tree) → SameBytes (means mls_proposals "ResumptionPSKUsage" c)
         ⟦<ResumptionPSKUsage as Size>⟧.format }
-    ensures values { (v : ResumptionPSKUsage) (d : Direction) (b : List ℕ) →
-        ⟦<ResumptionPSKUsage as Size>⟧.format.spells d b (⟦<ResumptionPSKUsage as Size>⟧.plain v)
-        ↔ ResumptionPSKUsageSays v d b }
-    ensures names { (v : ResumptionPSKUsage) → value_number mls_proposals "ResumptionPSKUsage" (resumption_psk_usage_name v)
-        ≡ resumption_psk_usage_code v }
+    ensures values { (v : ResumptionPSKUsage) → SpelledAs ⟦<ResumptionPSKUsage as Size>⟧.format
+        (⟦<ResumptionPSKUsage as Size>⟧.plain v) (ResumptionPSKUsageSays v) }
+    ensures names { (v : ResumptionPSKUsage) → value_number mls_proposals "ResumptionPSKUsage"
+        (resumption_psk_usage_name v) ≡ resumption_psk_usage_code v }
 {}
 
 /// `Update`.
 pub fn update_is_as_printed()
     ensures bytes { (c : Tree) → SameBytes (means mls_proposals "Update" c)
         ⟦<Update as Size>⟧.format }
-    ensures values { (v : Update) (d : Direction) (b : List ℕ) →
-        ⟦<Update as Size>⟧.format.spells d b (⟦<Update as Size>⟧.plain v)
-        ↔ UpdateSays v d b }
+    ensures values { (v : Update) → SpelledAs ⟦<Update as Size>⟧.format (⟦<Update as Size>⟧.plain v)
+        (UpdateSays v) }
 {}
 
 /// `UpdatePath`.
 pub fn update_path_is_as_printed()
     ensures bytes { (c : Tree) → SameBytes (means mls_proposals "UpdatePath" c)
         ⟦<UpdatePath as Size>⟧.format }
-    ensures values { (v : UpdatePath) (d : Direction) (b : List ℕ) →
-        ⟦<UpdatePath as Size>⟧.format.spells d b (⟦<UpdatePath as Size>⟧.plain v)
-        ↔ UpdatePathSays v d b }
+    ensures values { (v : UpdatePath) → SpelledAs ⟦<UpdatePath as Size>⟧.format
+        (⟦<UpdatePath as Size>⟧.plain v) (UpdatePathSays v) }
 {}
 
 /// `UpdatePathNode`.
 pub fn update_path_node_is_as_printed()
     ensures bytes { (c : Tree) → SameBytes (means mls_proposals "UpdatePathNode" c)
         ⟦<UpdatePathNode as Size>⟧.format }
-    ensures values { (v : UpdatePathNode) (d : Direction) (b : List ℕ) →
-        ⟦<UpdatePathNode as Size>⟧.format.spells d b (⟦<UpdatePathNode as Size>⟧.plain v)
-        ↔ UpdatePathNodeSays v d b }
+    ensures values { (v : UpdatePathNode) → SpelledAs ⟦<UpdatePathNode as Size>⟧.format
+        (⟦<UpdatePathNode as Size>⟧.plain v) (UpdatePathNodeSays v) }
 {}
 
 /// `Welcome`.
 pub fn welcome_is_as_printed()
     ensures bytes { (c : Tree) → SameBytes (means mls_proposals "Welcome" c)
         ⟦<Welcome as Size>⟧.format }
-    ensures values { (v : Welcome) (d : Direction) (b : List ℕ) →
-        ⟦<Welcome as Size>⟧.format.spells d b (⟦<Welcome as Size>⟧.plain v)
-        ↔ WelcomeSays v d b }
+    ensures values { (v : Welcome) → SpelledAs ⟦<Welcome as Size>⟧.format
+        (⟦<Welcome as Size>⟧.plain v) (WelcomeSays v) }
 {}

@@ -1,6 +1,9 @@
 //! Whether bytes begin with a message of TLS 1.3, told without memory.
 #![tactic(auto)]
 
+mod elements;
+mod fields;
+
 ghost use Rattle.tls13.specs.TLSPlaintext.{tls_plaintext_format};
 ghost use Rattle.tls13.specs.TLSCiphertext.{tls_ciphertext_format};
 ghost use Rattle.tls13.specs.Alert.{alert_format};

@@ -1,8 +1,8 @@
-//! Each type of `tls13` has the bytes that its text means, and each value's bytes are those of its parts, by their names.
-ghost use Rattle.std.specs.Prelude.{◌↔◌, ℕ, List};
+//! Each type of `tls13` has the bytes that its text means.
+//! Each value's bytes are those of its parts, by their names.
 ghost use Rattle.tls_codec_grammar.specs.Tree.{Tree};
-ghost use Rattle.tls_codec_grammar.specs.Grammar.{Direction};
 ghost use Rattle.tls_presentation.specs.Meaning.{SameBytes, means, part_means};
+ghost use Rattle.tls_presentation.specs.Says.{SpelledAs};
 ghost use Rattle.tls13_laws.specs.Definitions.{tls13};
 ghost use Rattle.tls13_laws.specs.Says.{AlertSays, AlertDescriptionSays, AlertLevelSays, CertificateSays, CertificateAuthoritiesExtensionSays, CertificateEntrySays, CertificateRequestSays, CertificateTypeSays, CertificateVerifySays, ClientHelloSays, ContentTypeSays, ContentTypeApplicationDataSays, CookieSays, EarlyDataIndicationSays, EmptyTypeSays, EncryptedExtensionsSays, EndOfEarlyDataSays, ExtensionSays, ExtensionTypeSays, HandshakeSays, HandshakeTypeSays, KeyShareClientHelloSays, KeyShareEntrySays, KeyShareHelloRetryRequestSays, KeyShareServerHelloSays, KeyUpdateSays, KeyUpdateRequestSays};
 ghost use Rattle.tls13.specs.declared.alert.Alert.{Alert};
@@ -54,20 +54,17 @@ use tls13::{
 
 /// `Alert`.
 pub fn alert_is_as_printed()
-    ensures bytes { (c : Tree) → SameBytes (means tls13 "Alert" c)
-        ⟦<Alert as Size>⟧.format }
-    ensures values { (v : Alert) (d : Direction) (b : List ℕ) →
-        ⟦<Alert as Size>⟧.format.spells d b (⟦<Alert as Size>⟧.plain v)
-        ↔ AlertSays v d b }
+    ensures bytes { (c : Tree) → SameBytes (means tls13 "Alert" c) ⟦<Alert as Size>⟧.format }
+    ensures values { (v : Alert) → SpelledAs ⟦<Alert as Size>⟧.format (⟦<Alert as Size>⟧.plain v)
+        (AlertSays v) }
 {}
 
 /// `AlertDescription`.
 pub fn alert_description_is_as_printed()
     ensures bytes { (c : Tree) → SameBytes (means tls13 "AlertDescription" c)
         ⟦<AlertDescription as Size>⟧.format }
-    ensures values { (v : AlertDescription) (d : Direction) (b : List ℕ) →
-        ⟦<AlertDescription as Size>⟧.format.spells d b (⟦<AlertDescription as Size>⟧.plain v)
-        ↔ AlertDescriptionSays v d b }
+    ensures values { (v : AlertDescription) → SpelledAs ⟦<AlertDescription as Size>⟧.format
+        (⟦<AlertDescription as Size>⟧.plain v) (AlertDescriptionSays v) }
     ensures names { alert_description_names ≡ names_in tls13 "AlertDescription" }
 {}
 
@@ -75,9 +72,8 @@ pub fn alert_description_is_as_printed()
 pub fn alert_level_is_as_printed()
     ensures bytes { (c : Tree) → SameBytes (means tls13 "AlertLevel" c)
         ⟦<AlertLevel as Size>⟧.format }
-    ensures values { (v : AlertLevel) (d : Direction) (b : List ℕ) →
-        ⟦<AlertLevel as Size>⟧.format.spells d b (⟦<AlertLevel as Size>⟧.plain v)
-        ↔ AlertLevelSays v d b }
+    ensures values { (v : AlertLevel) → SpelledAs ⟦<AlertLevel as Size>⟧.format
+        (⟦<AlertLevel as Size>⟧.plain v) (AlertLevelSays v) }
     ensures names { alert_level_names ≡ names_in tls13 "AlertLevel" }
 {}
 
@@ -85,74 +81,68 @@ pub fn alert_level_is_as_printed()
 pub fn certificate_is_as_printed()
     ensures bytes { (c : Tree) → SameBytes (means tls13 "Certificate" c)
         ⟦<Certificate as Size>⟧.format }
-    ensures values { (v : Certificate) (d : Direction) (b : List ℕ) →
-        ⟦<Certificate as Size>⟧.format.spells d b (⟦<Certificate as Size>⟧.plain v)
-        ↔ CertificateSays v d b }
+    ensures values { (v : Certificate) → SpelledAs ⟦<Certificate as Size>⟧.format
+        (⟦<Certificate as Size>⟧.plain v) (CertificateSays v) }
 {}
 
 /// `CertificateAuthoritiesExtension`.
 pub fn certificate_authorities_extension_is_as_printed()
     ensures bytes { (c : Tree) → SameBytes (means tls13 "CertificateAuthoritiesExtension" c)
         ⟦<CertificateAuthoritiesExtension as Size>⟧.format }
-    ensures values { (v : CertificateAuthoritiesExtension) (d : Direction) (b : List ℕ) →
-        ⟦<CertificateAuthoritiesExtension as Size>⟧.format.spells d b (⟦<CertificateAuthoritiesExtension as Size>⟧.plain v)
-        ↔ CertificateAuthoritiesExtensionSays v d b }
+    ensures values { (v : CertificateAuthoritiesExtension) →
+        SpelledAs ⟦<CertificateAuthoritiesExtension as Size>⟧.format
+        (⟦<CertificateAuthoritiesExtension as Size>⟧.plain v)
+        (CertificateAuthoritiesExtensionSays v) }
 {}
 
 /// `CertificateEntry`.
 pub fn certificate_entry_is_as_printed()
     ensures bytes { (c : Tree) → SameBytes (means tls13 "CertificateEntry" c)
         ⟦<CertificateEntry as Size>⟧.format }
-    ensures values { (v : CertificateEntry) (d : Direction) (b : List ℕ) →
-        ⟦<CertificateEntry as Size>⟧.format.spells d b (⟦<CertificateEntry as Size>⟧.plain v)
-        ↔ CertificateEntrySays v d b }
+    ensures values { (v : CertificateEntry) → SpelledAs ⟦<CertificateEntry as Size>⟧.format
+        (⟦<CertificateEntry as Size>⟧.plain v) (CertificateEntrySays v) }
 {}
 
 /// `CertificateRequest`.
 pub fn certificate_request_is_as_printed()
     ensures bytes { (c : Tree) → SameBytes (means tls13 "CertificateRequest" c)
         ⟦<CertificateRequest as Size>⟧.format }
-    ensures values { (v : CertificateRequest) (d : Direction) (b : List ℕ) →
-        ⟦<CertificateRequest as Size>⟧.format.spells d b (⟦<CertificateRequest as Size>⟧.plain v)
-        ↔ CertificateRequestSays v d b }
+    ensures values { (v : CertificateRequest) → SpelledAs ⟦<CertificateRequest as Size>⟧.format
+        (⟦<CertificateRequest as Size>⟧.plain v) (CertificateRequestSays v) }
 {}
 
 /// `CertificateType`.
 pub fn certificate_type_is_as_printed()
     ensures bytes { (c : Tree) → SameBytes (means tls13 "CertificateType" c)
         ⟦<CertificateType as Size>⟧.format }
-    ensures values { (v : CertificateType) (d : Direction) (b : List ℕ) →
-        ⟦<CertificateType as Size>⟧.format.spells d b (⟦<CertificateType as Size>⟧.plain v)
-        ↔ CertificateTypeSays v d b }
-    ensures names { (v : CertificateType) → value_number tls13 "CertificateType" (certificate_type_name v)
-        ≡ certificate_type_code v }
+    ensures values { (v : CertificateType) → SpelledAs ⟦<CertificateType as Size>⟧.format
+        (⟦<CertificateType as Size>⟧.plain v) (CertificateTypeSays v) }
+    ensures names { (v : CertificateType) → value_number tls13 "CertificateType"
+        (certificate_type_name v) ≡ certificate_type_code v }
 {}
 
 /// `CertificateVerify`.
 pub fn certificate_verify_is_as_printed()
     ensures bytes { (c : Tree) → SameBytes (means tls13 "CertificateVerify" c)
         ⟦<CertificateVerify as Size>⟧.format }
-    ensures values { (v : CertificateVerify) (d : Direction) (b : List ℕ) →
-        ⟦<CertificateVerify as Size>⟧.format.spells d b (⟦<CertificateVerify as Size>⟧.plain v)
-        ↔ CertificateVerifySays v d b }
+    ensures values { (v : CertificateVerify) → SpelledAs ⟦<CertificateVerify as Size>⟧.format
+        (⟦<CertificateVerify as Size>⟧.plain v) (CertificateVerifySays v) }
 {}
 
 /// `ClientHello`.
 pub fn client_hello_is_as_printed()
     ensures bytes { (c : Tree) → SameBytes (means tls13 "ClientHello" c)
         ⟦<ClientHello as Size>⟧.format }
-    ensures values { (v : ClientHello) (d : Direction) (b : List ℕ) →
-        ⟦<ClientHello as Size>⟧.format.spells d b (⟦<ClientHello as Size>⟧.plain v)
-        ↔ ClientHelloSays v d b }
+    ensures values { (v : ClientHello) → SpelledAs ⟦<ClientHello as Size>⟧.format
+        (⟦<ClientHello as Size>⟧.plain v) (ClientHelloSays v) }
 {}
 
 /// `ContentType`.
 pub fn content_type_is_as_printed()
     ensures bytes { (c : Tree) → SameBytes (means tls13 "ContentType" c)
         ⟦<ContentType as Size>⟧.format }
-    ensures values { (v : ContentType) (d : Direction) (b : List ℕ) →
-        ⟦<ContentType as Size>⟧.format.spells d b (⟦<ContentType as Size>⟧.plain v)
-        ↔ ContentTypeSays v d b }
+    ensures values { (v : ContentType) → SpelledAs ⟦<ContentType as Size>⟧.format
+        (⟦<ContentType as Size>⟧.plain v) (ContentTypeSays v) }
     ensures names { content_type_names ≡ names_in tls13 "ContentType" }
 {}
 
@@ -160,72 +150,64 @@ pub fn content_type_is_as_printed()
 pub fn content_type_application_data_is_as_printed()
     ensures bytes { (c : Tree) → SameBytes (part_means tls13 "TLSCiphertext" "opaque_type" c)
         ⟦<ContentTypeApplicationData as Size>⟧.format }
-    ensures values { (v : ContentTypeApplicationData) (d : Direction) (b : List ℕ) →
-        ⟦<ContentTypeApplicationData as Size>⟧.format.spells d b (⟦<ContentTypeApplicationData as Size>⟧.plain v)
-        ↔ ContentTypeApplicationDataSays v d b }
+    ensures values { (v : ContentTypeApplicationData) →
+        SpelledAs ⟦<ContentTypeApplicationData as Size>⟧.format
+        (⟦<ContentTypeApplicationData as Size>⟧.plain v) (ContentTypeApplicationDataSays v) }
 {}
 
 /// `Cookie`.
 pub fn cookie_is_as_printed()
-    ensures bytes { (c : Tree) → SameBytes (means tls13 "Cookie" c)
-        ⟦<Cookie as Size>⟧.format }
-    ensures values { (v : Cookie) (d : Direction) (b : List ℕ) →
-        ⟦<Cookie as Size>⟧.format.spells d b (⟦<Cookie as Size>⟧.plain v)
-        ↔ CookieSays v d b }
+    ensures bytes { (c : Tree) → SameBytes (means tls13 "Cookie" c) ⟦<Cookie as Size>⟧.format }
+    ensures values { (v : Cookie) → SpelledAs ⟦<Cookie as Size>⟧.format (⟦<Cookie as Size>⟧.plain v)
+        (CookieSays v) }
 {}
 
 /// `EarlyDataIndication`.
 pub fn early_data_indication_is_as_printed()
     ensures bytes { (c : Tree) → SameBytes (means tls13 "EarlyDataIndication" c)
         (⟦<EarlyDataIndication as SizeFor<HandshakeType>>⟧.format_for c) }
-    ensures values { (c : Tree) (v : EarlyDataIndication) (d : Direction) (b : List ℕ) →
-        (⟦<EarlyDataIndication as SizeFor<HandshakeType>>⟧.format_for c).spells d b (⟦<EarlyDataIndication as SizeFor<HandshakeType>>⟧.plain v)
-        ↔ EarlyDataIndicationSays c v d b }
+    ensures values { (c : Tree) (v : EarlyDataIndication) →
+        SpelledAs (⟦<EarlyDataIndication as SizeFor<HandshakeType>>⟧.format_for c)
+        (⟦<EarlyDataIndication as SizeFor<HandshakeType>>⟧.plain v) (EarlyDataIndicationSays c v) }
 {}
 
 /// `EmptyType`.
 pub fn empty_type_is_as_printed()
-    ensures bytes { (c : Tree) → SameBytes (means tls13 "Empty" c)
-        ⟦<EmptyType as Size>⟧.format }
-    ensures values { (v : EmptyType) (d : Direction) (b : List ℕ) →
-        ⟦<EmptyType as Size>⟧.format.spells d b (⟦<EmptyType as Size>⟧.plain v)
-        ↔ EmptyTypeSays v d b }
+    ensures bytes { (c : Tree) → SameBytes (means tls13 "Empty" c) ⟦<EmptyType as Size>⟧.format }
+    ensures values { (v : EmptyType) → SpelledAs ⟦<EmptyType as Size>⟧.format
+        (⟦<EmptyType as Size>⟧.plain v) (EmptyTypeSays v) }
 {}
 
 /// `EncryptedExtensions`.
 pub fn encrypted_extensions_is_as_printed()
     ensures bytes { (c : Tree) → SameBytes (means tls13 "EncryptedExtensions" c)
         ⟦<EncryptedExtensions as Size>⟧.format }
-    ensures values { (v : EncryptedExtensions) (d : Direction) (b : List ℕ) →
-        ⟦<EncryptedExtensions as Size>⟧.format.spells d b (⟦<EncryptedExtensions as Size>⟧.plain v)
-        ↔ EncryptedExtensionsSays v d b }
+    ensures values { (v : EncryptedExtensions) → SpelledAs ⟦<EncryptedExtensions as Size>⟧.format
+        (⟦<EncryptedExtensions as Size>⟧.plain v) (EncryptedExtensionsSays v) }
 {}
 
 /// `EndOfEarlyData`.
 pub fn end_of_early_data_is_as_printed()
     ensures bytes { (c : Tree) → SameBytes (means tls13 "EndOfEarlyData" c)
         ⟦<EndOfEarlyData as Size>⟧.format }
-    ensures values { (v : EndOfEarlyData) (d : Direction) (b : List ℕ) →
-        ⟦<EndOfEarlyData as Size>⟧.format.spells d b (⟦<EndOfEarlyData as Size>⟧.plain v)
-        ↔ EndOfEarlyDataSays v d b }
+    ensures values { (v : EndOfEarlyData) → SpelledAs ⟦<EndOfEarlyData as Size>⟧.format
+        (⟦<EndOfEarlyData as Size>⟧.plain v) (EndOfEarlyDataSays v) }
 {}
 
 /// `Extension`.
 pub fn extension_is_as_printed()
     ensures bytes { (c : Tree) → SameBytes (means tls13 "Extension" c)
         ⟦<Extension as Size>⟧.format }
-    ensures values { (v : Extension) (d : Direction) (b : List ℕ) →
-        ⟦<Extension as Size>⟧.format.spells d b (⟦<Extension as Size>⟧.plain v)
-        ↔ ExtensionSays v d b }
+    ensures values { (v : Extension) → SpelledAs ⟦<Extension as Size>⟧.format
+        (⟦<Extension as Size>⟧.plain v) (ExtensionSays v) }
 {}
 
 /// `ExtensionType`.
 pub fn extension_type_is_as_printed()
     ensures bytes { (c : Tree) → SameBytes (means tls13 "ExtensionType" c)
         ⟦<ExtensionType as Size>⟧.format }
-    ensures values { (v : ExtensionType) (d : Direction) (b : List ℕ) →
-        ⟦<ExtensionType as Size>⟧.format.spells d b (⟦<ExtensionType as Size>⟧.plain v)
-        ↔ ExtensionTypeSays v d b }
+    ensures values { (v : ExtensionType) → SpelledAs ⟦<ExtensionType as Size>⟧.format
+        (⟦<ExtensionType as Size>⟧.plain v) (ExtensionTypeSays v) }
     ensures names { extension_type_names ≡ names_in tls13 "ExtensionType" }
 {}
 
@@ -233,18 +215,16 @@ pub fn extension_type_is_as_printed()
 pub fn handshake_is_as_printed()
     ensures bytes { (c : Tree) → SameBytes (means tls13 "Handshake" c)
         ⟦<Handshake as Size>⟧.format }
-    ensures values { (v : Handshake) (d : Direction) (b : List ℕ) →
-        ⟦<Handshake as Size>⟧.format.spells d b (⟦<Handshake as Size>⟧.plain v)
-        ↔ HandshakeSays v d b }
+    ensures values { (v : Handshake) → SpelledAs ⟦<Handshake as Size>⟧.format
+        (⟦<Handshake as Size>⟧.plain v) (HandshakeSays v) }
 {}
 
 /// `HandshakeType`.
 pub fn handshake_type_is_as_printed()
     ensures bytes { (c : Tree) → SameBytes (means tls13 "HandshakeType" c)
         ⟦<HandshakeType as Size>⟧.format }
-    ensures values { (v : HandshakeType) (d : Direction) (b : List ℕ) →
-        ⟦<HandshakeType as Size>⟧.format.spells d b (⟦<HandshakeType as Size>⟧.plain v)
-        ↔ HandshakeTypeSays v d b }
+    ensures values { (v : HandshakeType) → SpelledAs ⟦<HandshakeType as Size>⟧.format
+        (⟦<HandshakeType as Size>⟧.plain v) (HandshakeTypeSays v) }
     ensures names { (v : HandshakeType) → value_number tls13 "HandshakeType" (handshake_type_name v)
         ≡ handshake_type_code v }
 {}
@@ -253,54 +233,49 @@ pub fn handshake_type_is_as_printed()
 pub fn key_share_client_hello_is_as_printed()
     ensures bytes { (c : Tree) → SameBytes (means tls13 "KeyShareClientHello" c)
         ⟦<KeyShareClientHello as Size>⟧.format }
-    ensures values { (v : KeyShareClientHello) (d : Direction) (b : List ℕ) →
-        ⟦<KeyShareClientHello as Size>⟧.format.spells d b (⟦<KeyShareClientHello as Size>⟧.plain v)
-        ↔ KeyShareClientHelloSays v d b }
+    ensures values { (v : KeyShareClientHello) → SpelledAs ⟦<KeyShareClientHello as Size>⟧.format
+        (⟦<KeyShareClientHello as Size>⟧.plain v) (KeyShareClientHelloSays v) }
 {}
 
 /// `KeyShareEntry`.
 pub fn key_share_entry_is_as_printed()
     ensures bytes { (c : Tree) → SameBytes (means tls13 "KeyShareEntry" c)
         ⟦<KeyShareEntry as Size>⟧.format }
-    ensures values { (v : KeyShareEntry) (d : Direction) (b : List ℕ) →
-        ⟦<KeyShareEntry as Size>⟧.format.spells d b (⟦<KeyShareEntry as Size>⟧.plain v)
-        ↔ KeyShareEntrySays v d b }
+    ensures values { (v : KeyShareEntry) → SpelledAs ⟦<KeyShareEntry as Size>⟧.format
+        (⟦<KeyShareEntry as Size>⟧.plain v) (KeyShareEntrySays v) }
 {}
 
 /// `KeyShareHelloRetryRequest`.
 pub fn key_share_hello_retry_request_is_as_printed()
     ensures bytes { (c : Tree) → SameBytes (means tls13 "KeyShareHelloRetryRequest" c)
         ⟦<KeyShareHelloRetryRequest as Size>⟧.format }
-    ensures values { (v : KeyShareHelloRetryRequest) (d : Direction) (b : List ℕ) →
-        ⟦<KeyShareHelloRetryRequest as Size>⟧.format.spells d b (⟦<KeyShareHelloRetryRequest as Size>⟧.plain v)
-        ↔ KeyShareHelloRetryRequestSays v d b }
+    ensures values { (v : KeyShareHelloRetryRequest) →
+        SpelledAs ⟦<KeyShareHelloRetryRequest as Size>⟧.format
+        (⟦<KeyShareHelloRetryRequest as Size>⟧.plain v) (KeyShareHelloRetryRequestSays v) }
 {}
 
 /// `KeyShareServerHello`.
 pub fn key_share_server_hello_is_as_printed()
     ensures bytes { (c : Tree) → SameBytes (means tls13 "KeyShareServerHello" c)
         ⟦<KeyShareServerHello as Size>⟧.format }
-    ensures values { (v : KeyShareServerHello) (d : Direction) (b : List ℕ) →
-        ⟦<KeyShareServerHello as Size>⟧.format.spells d b (⟦<KeyShareServerHello as Size>⟧.plain v)
-        ↔ KeyShareServerHelloSays v d b }
+    ensures values { (v : KeyShareServerHello) → SpelledAs ⟦<KeyShareServerHello as Size>⟧.format
+        (⟦<KeyShareServerHello as Size>⟧.plain v) (KeyShareServerHelloSays v) }
 {}
 
 /// `KeyUpdate`.
 pub fn key_update_is_as_printed()
     ensures bytes { (c : Tree) → SameBytes (means tls13 "KeyUpdate" c)
         ⟦<KeyUpdate as Size>⟧.format }
-    ensures values { (v : KeyUpdate) (d : Direction) (b : List ℕ) →
-        ⟦<KeyUpdate as Size>⟧.format.spells d b (⟦<KeyUpdate as Size>⟧.plain v)
-        ↔ KeyUpdateSays v d b }
+    ensures values { (v : KeyUpdate) → SpelledAs ⟦<KeyUpdate as Size>⟧.format
+        (⟦<KeyUpdate as Size>⟧.plain v) (KeyUpdateSays v) }
 {}
 
 /// `KeyUpdateRequest`.
 pub fn key_update_request_is_as_printed()
     ensures bytes { (c : Tree) → SameBytes (means tls13 "KeyUpdateRequest" c)
         ⟦<KeyUpdateRequest as Size>⟧.format }
-    ensures values { (v : KeyUpdateRequest) (d : Direction) (b : List ℕ) →
-        ⟦<KeyUpdateRequest as Size>⟧.format.spells d b (⟦<KeyUpdateRequest as Size>⟧.plain v)
-        ↔ KeyUpdateRequestSays v d b }
-    ensures names { (v : KeyUpdateRequest) → value_number tls13 "KeyUpdateRequest" (key_update_request_name v)
-        ≡ key_update_request_code v }
+    ensures values { (v : KeyUpdateRequest) → SpelledAs ⟦<KeyUpdateRequest as Size>⟧.format
+        (⟦<KeyUpdateRequest as Size>⟧.plain v) (KeyUpdateRequestSays v) }
+    ensures names { (v : KeyUpdateRequest) → value_number tls13 "KeyUpdateRequest"
+        (key_update_request_name v) ≡ key_update_request_code v }
 {}

@@ -1,10 +1,10 @@
 -- Fields of a message, by their places in its bytes.
 use Rattle.std.specs.Prelude.{◌≡◌, ◌≤◌, ◌+◌, ◌-◌, ℕ, List, length, take, drop}
-use Rattle.tls_codec_grammar.specs.Tree.{number_trees}
-use Rattle.tls_codec_grammar.specs.Grammar.{Reading}
+use Rattle.tls_codec_grammar.specs.Tree.{Number, number_trees}
+use Rattle.tls_codec_grammar.specs.Grammar.{Reading, number}
 use Rattle.tls_codec_grammar.specs.Field.{Field}
 use Rattle.tls_codec_grammar.specs.Format.{Format, counted_bytes_format}
-use Rattle.tls_codec_grammar.specs.Decoding.{BeginsSome}
+use Rattle.tls_codec_grammar.specs.Decoding.{Begins, BeginsSome}
 use Rattle.tls_codec_base.specs.Refusals.{IsSpelling}
 use Rattle.tls_codec_outcome.specs.declared.fields.Span.{Span}
 
@@ -27,6 +27,11 @@ pub record IsContent (field : Field) (x : List ℕ) (from offset size : ℕ) : T
   pub after : from ≤ offset
   pub within : offset + size ≤ length x
   pub spelled : (counted_bytes_format field).spells Reading (bytes_at from (offset + size - from) x) (number_trees (bytes_at offset size x))
+
+-- the tag of k bytes that begins at the place
+pub record IsTagAt (k : ℕ) (x : List ℕ) (from tag : ℕ) : Type 0 where
+  pub rest : List ℕ
+  pub begins : Begins (number k) (drop from x) (Number tag) rest
 
 -- ---- by spans
 

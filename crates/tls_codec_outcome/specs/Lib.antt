@@ -2,3 +2,4 @@
 pub mod Numbers
 pub mod Outcomes
 pub mod Fields
+pub mod Elements

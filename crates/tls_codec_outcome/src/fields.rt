@@ -1,10 +1,10 @@
 //! Where the fields of a message are.
 ghost use Rattle.std.specs.Prelude.{◌≡◌, ◌<◌, ◌^◌, drop};
-ghost use Rattle.tls_codec_grammar.specs.Format.{counted_bytes_format};
-ghost use Rattle.tls_codec_outcome.specs.Fields.{BeginsAt, IsContentFrom, IsFieldFrom, span_end};
+ghost use Rattle.tls_codec_grammar.specs.Format.{counted_bytes_format, number_format};
+ghost use Rattle.tls_codec_outcome.specs.Fields.{BeginsAt, IsContentFrom, IsFieldFrom, IsTagAt, span_end};
 
 use tls_codec_base::{LengthField, opaque};
-use tls_codec_validate::Validate;
+use tls_codec_validate::{Validate, split_u16};
 
 /// A place in some bytes.
 #[repr(C)]
@@ -57,8 +57,18 @@ pub fn content_at<F: LengthField>(bytes: &[u8], from: usize) -> Span
     }
 }
 
-// The bytes from a place on.
-fn behind(bytes: &[u8], from: usize) -> &[u8]
+/// The tag of two bytes at a place, if there is one.
+pub fn tag_at(bytes: &[u8], from: usize) -> u16
+    ensures { BeginsAt (number_format 2) bytes.now from → IsTagAt 2 bytes.now from result }
+{
+    match split_u16(behind(bytes, from)) {
+        Ok((tag, _)) => tag,
+        Err(_) => 0,
+    }
+}
+
+/// The bytes from a place on.
+pub(crate) fn behind(bytes: &[u8], from: usize) -> &[u8]
     ensures { result.now ≡ drop from bytes.now }
 {
     bytes.get(from..).unwrap_or(&[])

@@ -1,5 +1,5 @@
 -- The bytes that a text says for a value: those of its parts, one after another, each found by its name.
-use Rattle.std.specs.Prelude.{◌≡◌, ℕ, List, [], ◌∷◌, true, false, Option, Some, None, codes, map, bytes_eq}
+use Rattle.std.specs.Prelude.{◌≡◌, ◌↔◌, ℕ, List, [], ◌∷◌, true, false, Option, Some, None, codes, map, bytes_eq}
 use Prim.Native.String.{String}
 use Rattle.tls_codec_wire.specs.Digits.{Digits}
 use Rattle.tls_codec_grammar.specs.Tree.{Tree, Number, Empty, Join}
@@ -23,6 +23,10 @@ called name tree = (codes name, tree)
 abbrev pub found : List Member → Name → Tree
 found [] name = Join Empty (Number 0)
 found (m ∷ ms) name = elim (bytes_eq m.0 name) as (λ b. Tree) [ true ↦ m.1 | false ↦ found ms name ]
+
+-- a value's bytes, read or written, are just those that the text says
+abbrev pub SpelledAs : Format → Tree → (Direction → List ℕ → Type 0) → Type 0
+SpelledAs f tree said = (d : Direction) (b : List ℕ) → f.spells d b tree ↔ said d b
 
 -- the parts' bytes, one after another (RFC 8446, section 3.6)
 abbrev pub in_row : List Format → List Tree → Direction → List ℕ → Type 0

@@ -1,0 +1,60 @@
+/* Written by tools/exports.py from crates/mls_check_c/src. Don't edit. */
+#ifndef TLS_CODEC_MLS_CHECK_H
+#define TLS_CODEC_MLS_CHECK_H
+
+/* Whether bytes begin with a message of MLS, told by its decoder, which makes the value and drops
+   it. OutOfMemory: memory was refused, and nothing is said of the bytes. No place is told: at is 0. */
+
+#include "outcome.h"
+
+#ifdef __cplusplus
+extern "C" {
+#endif
+
+/* MLSMessage (RFC 9420, section 6). */
+tls_codec_outcome mls_message_check(const uint8_t *bytes, size_t length);
+
+/* PublicMessage (RFC 9420, section 6.2). */
+tls_codec_outcome mls_public_message_check(const uint8_t *bytes, size_t length);
+
+/* PrivateMessage (RFC 9420, section 6.3). */
+tls_codec_outcome mls_private_message_check(const uint8_t *bytes, size_t length);
+
+/* FramedContent (RFC 9420, section 6). */
+tls_codec_outcome mls_framed_content_check(const uint8_t *bytes, size_t length);
+
+/* SenderData (RFC 9420, section 6.3.2). */
+tls_codec_outcome mls_sender_data_check(const uint8_t *bytes, size_t length);
+
+/* Welcome (RFC 9420, section 12.4.3.1). */
+tls_codec_outcome mls_welcome_check(const uint8_t *bytes, size_t length);
+
+/* GroupSecrets (RFC 9420, section 12.4.3.1). */
+tls_codec_outcome mls_group_secrets_check(const uint8_t *bytes, size_t length);
+
+/* GroupInfo (RFC 9420, section 12.4.3). */
+tls_codec_outcome mls_group_info_check(const uint8_t *bytes, size_t length);
+
+/* GroupContext (RFC 9420, section 8.1). */
+tls_codec_outcome mls_group_context_check(const uint8_t *bytes, size_t length);
+
+/* Commit (RFC 9420, section 12.4). */
+tls_codec_outcome mls_commit_check(const uint8_t *bytes, size_t length);
+
+/* Proposal (RFC 9420, section 12.1). */
+tls_codec_outcome mls_proposal_check(const uint8_t *bytes, size_t length);
+
+/* KeyPackage (RFC 9420, section 10). */
+tls_codec_outcome mls_key_package_check(const uint8_t *bytes, size_t length);
+
+/* LeafNode (RFC 9420, section 7.2). */
+tls_codec_outcome mls_leaf_node_check(const uint8_t *bytes, size_t length);
+
+/* RatchetTree (RFC 9420, section 12.4.3.3). */
+tls_codec_outcome mls_ratchet_tree_check(const uint8_t *bytes, size_t length);
+
+#ifdef __cplusplus
+}
+#endif
+
+#endif

@@ -1,0 +1,55 @@
+/* Written by tools/exports.py from crates/tls13_check_c/src. Don't edit. */
+#ifndef TLS_CODEC_TLS13_CHECK_H
+#define TLS_CODEC_TLS13_CHECK_H
+
+/* Whether bytes begin with a message of TLS 1.3, told by its decoder, which makes the value and
+   drops it. OutOfMemory: memory was refused, and nothing is said of the bytes. No place is told: at
+   is 0. */
+
+#include "outcome.h"
+
+#ifdef __cplusplus
+extern "C" {
+#endif
+
+/* TLSPlaintext (RFC 8446, appendix B.1). */
+tls_codec_outcome tls13_tls_plaintext_check(const uint8_t *bytes, size_t length);
+
+/* TLSCiphertext (RFC 8446, appendix B.1). */
+tls_codec_outcome tls13_tls_ciphertext_check(const uint8_t *bytes, size_t length);
+
+/* Alert (RFC 8446, appendix B.2). */
+tls_codec_outcome tls13_alert_check(const uint8_t *bytes, size_t length);
+
+/* Handshake (RFC 8446, appendix B.3). */
+tls_codec_outcome tls13_handshake_check(const uint8_t *bytes, size_t length);
+
+/* ClientHello (RFC 8446, appendix B.3.1). */
+tls_codec_outcome tls13_client_hello_check(const uint8_t *bytes, size_t length);
+
+/* ServerHello (RFC 8446, appendix B.3.1). */
+tls_codec_outcome tls13_server_hello_check(const uint8_t *bytes, size_t length);
+
+/* EncryptedExtensions (RFC 8446, appendix B.3.2). */
+tls_codec_outcome tls13_encrypted_extensions_check(const uint8_t *bytes, size_t length);
+
+/* CertificateRequest (RFC 8446, appendix B.3.2). */
+tls_codec_outcome tls13_certificate_request_check(const uint8_t *bytes, size_t length);
+
+/* Certificate (RFC 8446, appendix B.3.3). */
+tls_codec_outcome tls13_certificate_check(const uint8_t *bytes, size_t length);
+
+/* CertificateVerify (RFC 8446, appendix B.3.3). */
+tls_codec_outcome tls13_certificate_verify_check(const uint8_t *bytes, size_t length);
+
+/* NewSessionTicket (RFC 8446, appendix B.3.4). */
+tls_codec_outcome tls13_new_session_ticket_check(const uint8_t *bytes, size_t length);
+
+/* KeyUpdate (RFC 8446, appendix B.3.5). */
+tls_codec_outcome tls13_key_update_check(const uint8_t *bytes, size_t length);
+
+#ifdef __cplusplus
+}
+#endif
+
+#endif

@@ -1,0 +1,141 @@
+/* places FILE: what is filled for each row of test_places: places of fields and of elements, and kinds.
+ *
+ * A row has a function's name, hex or `-`, what the last call is to say, as `STATUS TAKEN AT DETAIL`, and what it is to fill, or `-`. The
+ * bytes of `NAME_next` are those of a list after its length; each of their bits is turned in its turn. The bytes lie in a block of their own
+ * size, so that a tool that watches memory sees a read past them. */
+#include <inttypes.h>
+#include <stdio.h>
+#include <stdlib.h>
+#include <string.h>
+#include <tls_codec/mls.h>
+#include <tls_codec/tls13.h>
+#include <tls_codec/tls_codec.h>
+
+typedef tls_codec_outcome next(const uint8_t *bytes, size_t length, tls_codec_span *left, tls_codec_span *element);
+
+struct list {
+  const char *name;
+  next *next;
+};
+
+static const struct list lists[] = {
+#define LISTED(element) {#element "_next", element##_next},
+#include "exports.inc"
+#undef LISTED
+};
+
+struct told {
+  tls_codec_outcome said;
+  char filled[4096];
+};
+
+static const struct list *find(const char *name) {
+  for (size_t i = 0; i < sizeof lists / sizeof *lists; i++)
+    if (strcmp(lists[i].name, name) == 0) return &lists[i];
+  return NULL;
+}
+
+static void add(struct told *it, tls_codec_span place) {
+  size_t used = strlen(it->filled);
+  snprintf(it->filled + used, sizeof it->filled - used, "%s%zu+%zu", used ? " " : "", place.offset, place.size);
+}
+
+static int is_place(tls_codec_span it, size_t offset, size_t size) { return it.offset == offset && it.size == size; }
+
+/* Goes over a list. Returns whether each call moves what is left behind the element, or, if it rejects the bytes, moves nothing. */
+static int go_over(next *next, const uint8_t *bytes, size_t length, struct told *told) {
+  tls_codec_span left = {0, length}, element = {7, 8};
+  do {
+    tls_codec_span old = left, before = element;
+    told->said = next(bytes, length, &left, &element);
+    size_t taken = told->said.taken;
+    if (told->said.status != TLS_CODEC_ACCEPTED)
+      return !taken && is_place(left, old.offset, old.size) && is_place(element, before.offset, before.size);
+    if (!taken || taken > old.size || !is_place(element, old.offset, taken) || !is_place(left, old.offset + taken, old.size - taken)) return 0;
+    add(told, element);
+  } while (left.size);
+  return 1;
+}
+
+static int is_sound_with_each_bit_turned(next *next, uint8_t *bytes, size_t length) {
+  int failed = 0;
+  for (size_t bit = 0; bit < 8 * length; bit++) {
+    struct told told = {{0, 0, 0, 0}, ""};
+    bytes[bit / 8] ^= (uint8_t)(1u << bit % 8);
+    failed += !go_over(next, bytes, length, &told);
+    bytes[bit / 8] ^= (uint8_t)(1u << bit % 8);
+  }
+  return failed == 0;
+}
+
+/* Calls the function of this name. Returns whether there is one, and its calls are sound. */
+static int call(const char *name, uint8_t *bytes, size_t length, struct told *told) {
+  const struct list *list = find(name);
+  if (list) return go_over(list->next, bytes, length, told) && is_sound_with_each_bit_turned(list->next, bytes, length);
+  if (strcmp(name, "mls_message_kind") == 0) {
+    uint16_t kind = 77;
+    told->said = mls_message_kind(bytes, length, &kind);
+    if (told->said.status != TLS_CODEC_ACCEPTED) return kind == 77;
+    sprintf(told->filled, "%d", kind);
+    return 1;
+  }
+#define LOCATED(message, fields)                                                                      \
+  if (strcmp(name, #message "_locate") == 0) {                                                        \
+    fields it;                                                                                        \
+    tls_codec_span places[sizeof it / sizeof(tls_codec_span)];                                        \
+    told->said = message##_locate(bytes, length, &it);                                                \
+    if (told->said.status != TLS_CODEC_ACCEPTED) return 1;                                            \
+    memcpy(places, &it, sizeof it);                                                                   \
+    for (size_t i = 0; i < sizeof places / sizeof *places; i++) add(told, places[i]);                 \
+    return 1;                                                                                         \
+  }
+#include "exports.inc"
+#undef LOCATED
+  return 0;
+}
+
+/* What is left ends behind the bytes, or begins there: no call reads past them. */
+static int are_bounds_kept(void) {
+  static const uint8_t bytes[] = {0, 10, 0, 0};
+  tls_codec_span left = {0, 9}, element = {7, 8};
+  int is_well = tls13_extension_next(bytes, 4, &left, &element).taken == 4 && is_place(element, 0, 4) && is_place(left, 4, 5);
+  is_well &= tls13_extension_next(bytes, 4, &left, &element).status == TLS_CODEC_END_OF_STREAM && is_place(left, 4, 5);
+  left.offset = SIZE_MAX;
+  is_well &= tls13_extension_next(bytes, 4, &left, &element).status == TLS_CODEC_END_OF_STREAM && is_place(left, SIZE_MAX, 5);
+  left.offset = 0, left.size = 3;
+  is_well &= tls13_extension_next(bytes, 4, &left, &element).status == TLS_CODEC_END_OF_STREAM && is_place(element, 0, 4);
+  if (!is_well) printf("tls13_extension_next: a place that isn't in the bytes is told otherwise\n");
+  return is_well;
+}
+
+static int is_told(const char *name, char *digits, const char *said, const char *filled) {
+  struct told told = {{0, 0, 0, 0}, ""};
+  char text[128];
+  size_t length = strcmp(digits, "-") == 0 ? 0 : strlen(digits) / 2;
+  uint8_t *bytes = malloc(length ? length : 1);
+  if (!bytes) return 0;
+  for (size_t i = 0; i < length; i++) sscanf(digits + 2 * i, "%2" SCNx8, &bytes[i]);
+  int is_sound = call(name, bytes, length, &told);
+  free(bytes);
+  snprintf(text, sizeof text, "%" PRIu32 " %zu %zu %" PRIu64, told.said.status, told.said.taken, told.said.at, told.said.detail);
+  const char *found = *told.filled ? told.filled : "-";
+  if (is_sound && strcmp(text, said) == 0 && strcmp(found, filled) == 0) return 1;
+  printf("%s %s: %s, %s, and not %s, %s%s\n", name, digits, text, found, said, filled, is_sound ? "" : "; its calls aren't sound");
+  return 0;
+}
+
+int main(int count, char **words) {
+  static char line[1 << 17];
+  FILE *file = count > 1 ? fopen(words[1], "r") : NULL;
+  if (!file) return 2;
+  int rows = 0, failed = !are_bounds_kept();
+  while (fgets(line, sizeof line, file)) {
+    char *name = strtok(line, "\t"), *digits = strtok(NULL, "\t"), *said = strtok(NULL, "\t"), *filled = strtok(NULL, "\n");
+    if (!filled) return 2;
+    rows++;
+    failed += !is_told(name, digits, said, filled);
+  }
+  fclose(file);
+  printf("%d rows, %d failed\n", rows, failed);
+  return failed || !rows;
+}

@@ -1,0 +1,29 @@
+//! The kind of a message, once it is validated.
+ghost use Rattle.std.specs.Prelude.{◌≡◌, ◌≢◌};
+ghost use Rattle.mls.specs.MLSMessage.{mls_message_format};
+ghost use Rattle.mls_fields.specs.Kind.{IsKind};
+ghost use Rattle.tls_codec_outcome.specs.Outcomes.{Decides, IsRejection, IsTaken};
+
+use mls::MLSMessage;
+use mls_fields::kind_of;
+use tls_codec::DeserializeBytes;
+use tls_codec_outcome::{ACCEPTED, Outcome, validate};
+use tls_codec_validate::Validate;
+
+/// `MLSMessage` (RFC 9420, section 6), and its `WireFormat`: 1 is a public message, 2 a private message, 3 a welcome, 4 a
+/// group info, 5 a key package.
+#[unsafe(no_mangle)]
+pub extern "C" fn mls_message_kind(bytes: &[u8], kind: &mut u16) -> Outcome
+    ensures status { Decides mls_message_format bytes.now result.status }
+    ensures taken { IsTaken mls_message_format bytes.now result.status result.taken }
+    ensures rejected { IsRejection ⟦<MLSMessage as DeserializeBytes>⟧.names
+        ⟦<MLSMessage as Validate>⟧.places bytes.now result.status result.at result.detail }
+    ensures kind { result.status ≡ 0 → IsKind bytes.now kind.new }
+    ensures kept { result.status ≢ 0 → kind.new ≡ kind.old }
+{
+    let said = validate::<MLSMessage>(bytes);
+    if said.status == ACCEPTED {
+        *kind = kind_of(bytes);
+    }
+    said
+}

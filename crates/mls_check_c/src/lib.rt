@@ -1,0 +1,196 @@
+//! Whether bytes begin with a message of MLS, told by its decoder, which makes the value and drops it.
+//!
+//! `OutOfMemory`: memory was refused, and nothing is said of the bytes. No place is told: `at` is 0.
+#![tactic(auto)]
+
+ghost use Rattle.std.specs.Prelude.{◌≡◌};
+ghost use Rattle.mls.specs.MLSMessage.{mls_message_format};
+ghost use Rattle.mls.specs.PublicMessage.{public_message_format};
+ghost use Rattle.mls.specs.PrivateMessage.{private_message_format};
+ghost use Rattle.mls.specs.FramedContent.{framed_content_format};
+ghost use Rattle.mls.specs.SenderData.{sender_data_format};
+ghost use Rattle.mls_proposals.specs.Welcome.{welcome_format};
+ghost use Rattle.mls_proposals.specs.GroupSecrets.{group_secrets_format};
+ghost use Rattle.mls_proposals.specs.GroupInfo.{group_info_format};
+ghost use Rattle.mls_proposals.specs.GroupContext.{group_context_format};
+ghost use Rattle.mls_proposals.specs.Commit.{commit_format};
+ghost use Rattle.mls_proposals.specs.Proposal.{proposal_format};
+ghost use Rattle.mls_leaf.specs.KeyPackage.{key_package_format};
+ghost use Rattle.mls_leaf.specs.LeafNode.{leaf_node_format};
+ghost use Rattle.mls_leaf.specs.RatchetTree.{ratchet_tree_format};
+ghost use Rattle.tls_codec_outcome.specs.Outcomes.{DecidesInMemory, IsNamed, IsTaken};
+
+use mls::{FramedContent, MLSMessage, PrivateMessage, PublicMessage, SenderData};
+use mls_leaf::{KeyPackage, LeafNode, RatchetTree};
+use mls_proposals::{Commit, GroupContext, GroupInfo, GroupSecrets, Proposal, Welcome};
+use std::alloc::Global;
+use tls_codec::DeserializeBytes;
+use tls_codec_outcome::{Outcome, check};
+
+/// `MLSMessage` (RFC 9420, section 6).
+#[unsafe(no_mangle)]
+pub extern "C" fn mls_message_check(alloc: Global, bytes: &[u8]) -> Outcome
+    ensures status { DecidesInMemory mls_message_format bytes.now result.status }
+    ensures taken { IsTaken mls_message_format bytes.now result.status result.taken }
+    ensures detail { IsNamed ⟦<MLSMessage as DeserializeBytes>⟧.names bytes.now result.status
+        result.detail }
+    ensures at { result.at ≡ 0 }
+{
+    check::<MLSMessage>(alloc, bytes)
+}
+
+/// `PublicMessage` (RFC 9420, section 6.2).
+#[unsafe(no_mangle)]
+pub extern "C" fn mls_public_message_check(alloc: Global, bytes: &[u8]) -> Outcome
+    ensures status { DecidesInMemory public_message_format bytes.now result.status }
+    ensures taken { IsTaken public_message_format bytes.now result.status result.taken }
+    ensures detail { IsNamed ⟦<PublicMessage as DeserializeBytes>⟧.names bytes.now result.status
+        result.detail }
+    ensures at { result.at ≡ 0 }
+{
+    check::<PublicMessage>(alloc, bytes)
+}
+
+/// `PrivateMessage` (RFC 9420, section 6.3).
+#[unsafe(no_mangle)]
+pub extern "C" fn mls_private_message_check(alloc: Global, bytes: &[u8]) -> Outcome
+    ensures status { DecidesInMemory private_message_format bytes.now result.status }
+    ensures taken { IsTaken private_message_format bytes.now result.status result.taken }
+    ensures detail { IsNamed ⟦<PrivateMessage as DeserializeBytes>⟧.names bytes.now result.status
+        result.detail }
+    ensures at { result.at ≡ 0 }
+{
+    check::<PrivateMessage>(alloc, bytes)
+}
+
+/// `FramedContent` (RFC 9420, section 6).
+#[unsafe(no_mangle)]
+pub extern "C" fn mls_framed_content_check(alloc: Global, bytes: &[u8]) -> Outcome
+    ensures status { DecidesInMemory framed_content_format bytes.now result.status }
+    ensures taken { IsTaken framed_content_format bytes.now result.status result.taken }
+    ensures detail { IsNamed ⟦<FramedContent as DeserializeBytes>⟧.names bytes.now result.status
+        result.detail }
+    ensures at { result.at ≡ 0 }
+{
+    check::<FramedContent>(alloc, bytes)
+}
+
+/// `SenderData` (RFC 9420, section 6.3.2).
+#[unsafe(no_mangle)]
+pub extern "C" fn mls_sender_data_check(alloc: Global, bytes: &[u8]) -> Outcome
+    ensures status { DecidesInMemory sender_data_format bytes.now result.status }
+    ensures taken { IsTaken sender_data_format bytes.now result.status result.taken }
+    ensures detail { IsNamed ⟦<SenderData as DeserializeBytes>⟧.names bytes.now result.status
+        result.detail }
+    ensures at { result.at ≡ 0 }
+{
+    check::<SenderData>(alloc, bytes)
+}
+
+/// `Welcome` (RFC 9420, section 12.4.3.1).
+#[unsafe(no_mangle)]
+pub extern "C" fn mls_welcome_check(alloc: Global, bytes: &[u8]) -> Outcome
+    ensures status { DecidesInMemory welcome_format bytes.now result.status }
+    ensures taken { IsTaken welcome_format bytes.now result.status result.taken }
+    ensures detail { IsNamed ⟦<Welcome as DeserializeBytes>⟧.names bytes.now result.status
+        result.detail }
+    ensures at { result.at ≡ 0 }
+{
+    check::<Welcome>(alloc, bytes)
+}
+
+/// `GroupSecrets` (RFC 9420, section 12.4.3.1).
+#[unsafe(no_mangle)]
+pub extern "C" fn mls_group_secrets_check(alloc: Global, bytes: &[u8]) -> Outcome
+    ensures status { DecidesInMemory group_secrets_format bytes.now result.status }
+    ensures taken { IsTaken group_secrets_format bytes.now result.status result.taken }
+    ensures detail { IsNamed ⟦<GroupSecrets as DeserializeBytes>⟧.names bytes.now result.status
+        result.detail }
+    ensures at { result.at ≡ 0 }
+{
+    check::<GroupSecrets>(alloc, bytes)
+}
+
+/// `GroupInfo` (RFC 9420, section 12.4.3).
+#[unsafe(no_mangle)]
+pub extern "C" fn mls_group_info_check(alloc: Global, bytes: &[u8]) -> Outcome
+    ensures status { DecidesInMemory group_info_format bytes.now result.status }
+    ensures taken { IsTaken group_info_format bytes.now result.status result.taken }
+    ensures detail { IsNamed ⟦<GroupInfo as DeserializeBytes>⟧.names bytes.now result.status
+        result.detail }
+    ensures at { result.at ≡ 0 }
+{
+    check::<GroupInfo>(alloc, bytes)
+}
+
+/// `GroupContext` (RFC 9420, section 8.1).
+#[unsafe(no_mangle)]
+pub extern "C" fn mls_group_context_check(alloc: Global, bytes: &[u8]) -> Outcome
+    ensures status { DecidesInMemory group_context_format bytes.now result.status }
+    ensures taken { IsTaken group_context_format bytes.now result.status result.taken }
+    ensures detail { IsNamed ⟦<GroupContext as DeserializeBytes>⟧.names bytes.now result.status
+        result.detail }
+    ensures at { result.at ≡ 0 }
+{
+    check::<GroupContext>(alloc, bytes)
+}
+
+/// `Commit` (RFC 9420, section 12.4).
+#[unsafe(no_mangle)]
+pub extern "C" fn mls_commit_check(alloc: Global, bytes: &[u8]) -> Outcome
+    ensures status { DecidesInMemory commit_format bytes.now result.status }
+    ensures taken { IsTaken commit_format bytes.now result.status result.taken }
+    ensures detail { IsNamed ⟦<Commit as DeserializeBytes>⟧.names bytes.now result.status
+        result.detail }
+    ensures at { result.at ≡ 0 }
+{
+    check::<Commit>(alloc, bytes)
+}
+
+/// `Proposal` (RFC 9420, section 12.1).
+#[unsafe(no_mangle)]
+pub extern "C" fn mls_proposal_check(alloc: Global, bytes: &[u8]) -> Outcome
+    ensures status { DecidesInMemory proposal_format bytes.now result.status }
+    ensures taken { IsTaken proposal_format bytes.now result.status result.taken }
+    ensures detail { IsNamed ⟦<Proposal as DeserializeBytes>⟧.names bytes.now result.status
+        result.detail }
+    ensures at { result.at ≡ 0 }
+{
+    check::<Proposal>(alloc, bytes)
+}
+
+/// `KeyPackage` (RFC 9420, section 10).
+#[unsafe(no_mangle)]
+pub extern "C" fn mls_key_package_check(alloc: Global, bytes: &[u8]) -> Outcome
+    ensures status { DecidesInMemory key_package_format bytes.now result.status }
+    ensures taken { IsTaken key_package_format bytes.now result.status result.taken }
+    ensures detail { IsNamed ⟦<KeyPackage as DeserializeBytes>⟧.names bytes.now result.status
+        result.detail }
+    ensures at { result.at ≡ 0 }
+{
+    check::<KeyPackage>(alloc, bytes)
+}
+
+/// `LeafNode` (RFC 9420, section 7.2).
+#[unsafe(no_mangle)]
+pub extern "C" fn mls_leaf_node_check(alloc: Global, bytes: &[u8]) -> Outcome
+    ensures status { DecidesInMemory leaf_node_format bytes.now result.status }
+    ensures taken { IsTaken leaf_node_format bytes.now result.status result.taken }
+    ensures detail { IsNamed ⟦<LeafNode as DeserializeBytes>⟧.names bytes.now result.status
+        result.detail }
+    ensures at { result.at ≡ 0 }
+{
+    check::<LeafNode>(alloc, bytes)
+}
+
+/// `RatchetTree` (RFC 9420, section 12.4.3.3).
+#[unsafe(no_mangle)]
+pub extern "C" fn mls_ratchet_tree_check(alloc: Global, bytes: &[u8]) -> Outcome
+    ensures status { DecidesInMemory ratchet_tree_format bytes.now result.status }
+    ensures taken { IsTaken ratchet_tree_format bytes.now result.status result.taken }
+    ensures detail { IsNamed ⟦<RatchetTree as DeserializeBytes>⟧.names bytes.now result.status
+        result.detail }
+    ensures at { result.at ≡ 0 }
+{
+    check::<RatchetTree>(alloc, bytes)
+}

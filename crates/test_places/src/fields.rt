@@ -1,0 +1,72 @@
+//! Where the fields of messages of TLS 1.3 are.
+use crate::{Told, add};
+use std::alloc::{AllocError, Global};
+use tls_codec_outcome::{ACCEPTED, Span, validate};
+use tls_codec_validate::Validate;
+use tls13::{
+    Certificate, CertificateVerify, ClientHello, NewSessionTicket, ServerHello, TLSPlaintext,
+};
+use tls13_fields::{
+    CertificateFields, CertificateVerifyFields, ClientHelloFields, NewSessionTicketFields,
+    ServerHelloFields, TLSPlaintextFields,
+};
+
+/// The places of the fields of the message that the bytes begin with. None: no call has this name.
+pub fn told(alloc: Global, name: &str, bytes: &[u8]) -> Result<Option<Told>, AllocError> {
+    let told = match name {
+        "tls13_client_hello_locate" => {
+            let it = ClientHelloFields::of(bytes);
+            let front = [it.legacy_version, it.random, it.legacy_session_id];
+            let back = [
+                it.cipher_suites,
+                it.legacy_compression_methods,
+                it.extensions,
+            ];
+            located::<ClientHello>(alloc, bytes, &front, &back)?
+        }
+        "tls13_server_hello_locate" => {
+            let it = ServerHelloFields::of(bytes);
+            let front = [it.legacy_version, it.random, it.legacy_session_id_echo];
+            let back = [it.cipher_suite, it.legacy_compression_method, it.extensions];
+            located::<ServerHello>(alloc, bytes, &front, &back)?
+        }
+        "tls13_certificate_locate" => {
+            let it = CertificateFields::of(bytes);
+            let all = [it.certificate_request_context, it.certificate_list];
+            located::<Certificate>(alloc, bytes, &all, &[])?
+        }
+        "tls13_certificate_verify_locate" => {
+            let it = CertificateVerifyFields::of(bytes);
+            located::<CertificateVerify>(alloc, bytes, &[it.algorithm, it.signature], &[])?
+        }
+        "tls13_new_session_ticket_locate" => {
+            let it = NewSessionTicketFields::of(bytes);
+            let front = [it.ticket_lifetime, it.ticket_age_add, it.ticket_nonce];
+            located::<NewSessionTicket>(alloc, bytes, &front, &[it.ticket, it.extensions])?
+        }
+        "tls13_tls_plaintext_locate" => {
+            let it = TLSPlaintextFields::of(bytes);
+            let all = [it.kind, it.legacy_record_version, it.fragment];
+            located::<TLSPlaintext>(alloc, bytes, &all, &[])?
+        }
+        _ => return Ok(None),
+    };
+    Ok(Some(told))
+}
+
+// What the validator says, and the places if it accepts.
+fn located<T: Validate>(
+    alloc: Global,
+    bytes: &[u8],
+    front: &[Span],
+    back: &[Span],
+) -> Result<Told, AllocError> {
+    let said = validate::<T>(bytes);
+    let mut places = String::new(alloc);
+    if said.status == ACCEPTED {
+        for place in front.iter().chain(back) {
+            add(&mut places, *place)?;
+        }
+    }
+    Ok((said, places))
+}

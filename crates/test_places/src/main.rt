@@ -1,0 +1,83 @@
+//! What callers in other languages are told of places, as one stored run.
+//!
+//! They are those of the fields of messages of TLS 1.3 and of the elements of lists; and the kind of a message of MLS.
+//! Each row of standard input has a function's name in the static libraries and the hex of some bytes, `-` for none, with a
+//! tab between. The program prints the row again. After it come what the call says, as `STATUS TAKEN AT DETAIL`, and what
+//! it fills: places as `OFFSET+SIZE`, a kind as a number, `-` for nothing. Of `NAME_next` the bytes are those of a list
+//! after its length. It is called until none is left or one is rejected: the row has what the last call says, and where
+//! each element is.
+//!
+//! The static libraries export the calls that are made here. Callers in C, Rust and Python are tested by the same rows.
+#![tactic(auto)]
+
+mod elements;
+mod fields;
+mod kinds;
+
+use std::alloc::{AllocError, Global};
+use std::io;
+use std::io::{BufRead, BufReader, BufWriter, Write};
+use tls_codec_outcome::{Outcome, Span};
+
+// What the last call says, and what is filled.
+type Told = (Outcome, String);
+
+fn main(rt: HostRuntime) -> io::Result<()> {
+    let alloc = rt.alloc();
+    let mut out = BufWriter::new(alloc, io::writer(&rt))?;
+    for row in BufReader::new(alloc, rt.reader())?.lines(alloc) {
+        let row = row?;
+        let answer = answer_of(alloc, row.as_str())?;
+        writeln!(out, "{row}\t{answer}")?;
+    }
+    out.flush()
+}
+
+fn answer_of(alloc: Global, row: &str) -> Result<String, AllocError> {
+    let Some((name, digits)) = row.split_once('\t') else {
+        return "no row".to_string(alloc);
+    };
+    let Some(bytes) = bytes_of(alloc, digits) else {
+        return "no hex".to_string(alloc);
+    };
+    let Some((said, filled)) = told(alloc, name, &bytes)? else {
+        return "no call".to_string(alloc);
+    };
+    let Outcome {
+        status,
+        taken,
+        at,
+        detail,
+    } = said;
+    let filled = if filled.is_empty() {
+        "-"
+    } else {
+        filled.as_str()
+    };
+    format!(in alloc; "{status} {taken} {at} {detail}\t{filled}")
+}
+
+fn told(alloc: Global, name: &str, bytes: &[u8]) -> Result<Option<Told>, AllocError> {
+    if let Some(told) = elements::told(alloc, name, bytes)? {
+        return Ok(Some(told));
+    }
+    if let Some(told) = fields::told(alloc, name, bytes)? {
+        return Ok(Some(told));
+    }
+    kinds::told(alloc, name, bytes)
+}
+
+// The bytes that hex digits stand for; `-` is none.
+fn bytes_of(alloc: Global, digits: &str) -> Option<Vec<u8>> {
+    match digits {
+        "-" => Some(Vec::new(alloc)),
+        _ => hex::decode(alloc, digits).ok(),
+    }
+}
+
+// One more place.
+fn add(places: &mut String, place: Span) -> Result<(), AllocError> {
+    let Span { offset, size } = place;
+    let before = if places.is_empty() { "" } else { " " };
+    write!(places, "{before}{offset}+{size}")
+}

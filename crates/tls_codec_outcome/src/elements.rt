@@ -1,0 +1,44 @@
+//! The elements of a list, one after another.
+ghost use Rattle.std.specs.Prelude.{◌≡◌, ◌≢◌};
+ghost use Rattle.tls_codec_outcome.specs.Elements.{IsNext, left_in};
+ghost use Rattle.tls_codec_outcome.specs.Fields.{bytes_at};
+ghost use Rattle.tls_codec_outcome.specs.Outcomes.{Decides, IsRejection, IsTaken};
+
+use crate::calls::validate;
+use crate::fields::{Span, behind};
+use crate::outcome::{ACCEPTED, Outcome};
+use tls_codec_validate::Validate;
+
+/// The element that the place begins with, of a list of which the bytes there are left. What is left then is behind it.
+///
+/// It says what [`validate`] does of the bytes that are left. If those are rejected, both places are as they were.
+pub fn next<T: Validate>(bytes: &[u8], left: &mut Span, element: &mut Span) -> Outcome
+    ensures status { Decides T.format (left_in bytes.now left.old) result.status }
+    ensures taken { IsTaken T.format (left_in bytes.now left.old) result.status result.taken }
+    ensures rejected { IsRejection T.names T.places (left_in bytes.now left.old) result.status
+        result.at result.detail }
+    ensures element { result.status ≡ 0 → IsNext T.format bytes.now left.old element.new left.new }
+    ensures kept { result.status ≢ 0 → (left.new ≡ left.old) × (element.new ≡ element.old) }
+{
+    let Span { offset, size } = *left;
+    let said = validate::<T>(place(bytes, offset, size));
+    if said.status == ACCEPTED {
+        *element = Span {
+            offset,
+            size: said.taken,
+        };
+        *left = Span {
+            offset: offset.saturating_add(said.taken),
+            size: size.saturating_sub(said.taken),
+        };
+    }
+    said
+}
+
+// So many bytes from an offset on, or those that are there.
+fn place(bytes: &[u8], offset: usize, size: usize) -> &[u8]
+    ensures { result.now ≡ bytes_at offset size bytes.now }
+{
+    let here = behind(bytes, offset);
+    here.get(..size).unwrap_or(here)
+}

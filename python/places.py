@@ -1,0 +1,53 @@
+"""places.py LIBRARY ROWS: what the module finds for each row of `test_places`."""
+import sys
+
+sys.dont_write_bytecode = True
+from tls_codec import Codec, Rejected
+
+
+def found(codec: Codec, name: str, data: bytes, count: int) -> tuple[list[bytes] | int, tuple[int, int, int]]:
+    """What is found, and the numbers of what is rejected after it."""
+    call, _, kind = name.rpartition("_")
+    parts: list[bytes] = []
+    try:
+        if kind == "kind":
+            return codec.message_kind(data), (0, 0, 0)
+        if kind == "locate":
+            return list(codec.fields(call, [str(it) for it in range(count)], data).values()), (0, 0, 0)
+        for element in codec.elements(call, data):
+            parts.append(element)
+        return parts, (0, 0, 0)
+    except Rejected as rejected:
+        return parts, (rejected.status, rejected.at, rejected.detail)
+
+
+def wanted(name: str, data: bytes, said: str, filled: str) -> tuple[list[bytes] | int, tuple[int, int, int]]:
+    """The same as the row has it: of an element that is rejected its place is behind those before it."""
+    status, _, at, detail = map(int, said.split())
+    if name == "mls_message_kind" and not status:
+        return int(filled), (0, 0, 0)
+    places = [tuple(map(int, it.split("+"))) for it in filled.split() if it != "-"]
+    if name.endswith("_next"):
+        at += sum(size for _, size in places)
+    is_rejected = status and (data or not name.endswith("_next"))
+    return [data[offset : offset + size] for offset, size in places], (status, at, detail) if is_rejected else (0, 0, 0)
+
+
+def main() -> int:
+    codec, failed = Codec(sys.argv[1]), 0
+    with open(sys.argv[2], encoding="utf-8") as file:
+        rows = [line.rstrip("\n").split("\t") for line in file]
+    for name, digits, said, filled in rows:
+        data = b"" if digits == "-" else bytes.fromhex(digits)
+        # a rejected message leaves as much room as any has
+        count = filled.count("+") or 8
+        is_told = found(codec, name, data, count) == wanted(name, data, said, filled)
+        if not is_told:
+            failed += 1
+            print(f"{name} {digits}: {found(codec, name, data, count)}, and not {said}, {filled}")
+    print(f"{len(rows)} rows, {failed} failed")
+    return 1 if failed or len(rows) < 100 else 0
+
+
+if __name__ == "__main__":
+    sys.exit(main())

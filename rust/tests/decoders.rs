@@ -1,0 +1,148 @@
+//! Decoders: the rows, and beside the validators changed rows and random bytes, for three seconds or `TLS_CODEC_SECONDS`.
+#![cfg(feature = "check")]
+
+mod common;
+
+use common::{bytes_of, error_of};
+use std::time::{Duration, Instant};
+use std::{env, fs};
+use tls_codec_border::{Error, Rejected, mls, mls_check, tls13, tls13_check};
+
+struct Message {
+    name: &'static str,
+    validate: fn(&[u8]) -> Result<(&[u8], &[u8]), Rejected>,
+    decode: fn(&[u8]) -> Result<(&[u8], &[u8]), Error>,
+}
+
+macro_rules! messages {
+    ($($validators:ident $decoders:ident: $($name:ident)*;)*) => {
+        &[$($(Message {
+            name: concat!(stringify!($validators), "_", stringify!($name)),
+            validate: $validators::$name,
+            decode: $decoders::$name,
+        },)*)*]
+    };
+}
+
+const MESSAGES: &[Message] = messages! {
+    mls mls_check: message public_message private_message framed_content sender_data welcome group_secrets group_info
+        group_context commit proposal key_package leaf_node ratchet_tree;
+    tls13 tls13_check: tls_plaintext tls_ciphertext alert handshake client_hello server_hello encrypted_extensions
+        certificate_request certificate certificate_verify new_session_ticket key_update;
+};
+
+struct Row {
+    message: &'static Message,
+    bytes: Vec<u8>,
+    decoded: Result<usize, Error>,
+}
+
+impl Row {
+    /// Of test_outcome a column says what the decoder says. It is what the validator says, but for the place.
+    fn of(line: &str) -> Row {
+        let columns: Vec<&str> = line.split('\t').collect();
+        let said = columns.get(3).unwrap_or(&columns[2]);
+        let said: Vec<u64> = said.split(' ').map(|it| it.parse().expect("a number")).collect();
+        Row {
+            message: MESSAGES.iter().find(|it| it.name == columns[0]).expect("a message"),
+            bytes: bytes_of(columns[1]),
+            decoded: match said[0] {
+                0 => Ok(said[1] as usize),
+                status => Err(error_of(status, said[3])),
+            },
+        }
+    }
+}
+
+fn rows() -> Vec<Row> {
+    let top = concat!(env!("CARGO_MANIFEST_DIR"), "/..");
+    let files = ["crates/test_outcome/stdout", "c/tests/tls13.tsv"];
+    let read = |it| fs::read_to_string(format!("{top}/{it}")).expect("the rows are there");
+    files.map(read).iter().flat_map(|it| it.lines()).map(Row::of).collect()
+}
+
+/// xorshift64* from one seed: a longer run begins as a shorter one.
+struct Random(u64);
+
+impl Random {
+    fn next(&mut self) -> u64 {
+        self.0 ^= self.0 >> 12;
+        self.0 ^= self.0 << 25;
+        self.0 ^= self.0 >> 27;
+        self.0.wrapping_mul(0x2545_f491_4f6c_dd1d)
+    }
+
+    fn below(&mut self, limit: usize) -> usize {
+        (self.next() >> 33) as usize % limit
+    }
+
+    fn pick<'a, T>(&mut self, all: &'a [T]) -> &'a T {
+        &all[self.below(all.len())]
+    }
+}
+
+/// Bytes that lengths, tags and their widths begin with.
+const EDGES: [u8; 12] = [0, 1, 2, 3, 0x3f, 0x40, 0x41, 0x7f, 0x80, 0xbf, 0xc0, 0xff];
+
+fn change(random: &mut Random, bytes: &mut Vec<u8>, other: &[u8]) {
+    let at = random.below(bytes.len() + 1);
+    match random.below(8) {
+        0 => bytes.truncate(at),
+        1 => bytes.insert(at, *random.pick(&EDGES)),
+        2 => {
+            bytes.truncate(at);
+            bytes.extend_from_slice(&other[random.below(other.len() + 1)..]);
+        }
+        3 => bytes.extend_from_within(at..),
+        _ if at == bytes.len() => bytes.push(random.next() as u8),
+        4 => bytes[at] ^= 1 << random.below(8),
+        5 => bytes[at] = *random.pick(&EDGES),
+        6 => bytes[at] = bytes[at].wrapping_sub(1),
+        // a length, perhaps, and its content, each by one more
+        _ => {
+            bytes[at] = bytes[at].wrapping_add(1);
+            bytes.insert(at + 1, random.next() as u8);
+        }
+    }
+}
+
+/// A message's name, and a row of it with up to four changes; or one time in 16 random bytes.
+fn input(random: &mut Random, rows: &[Row]) -> (&'static Message, Vec<u8>) {
+    let row = random.pick(rows);
+    if random.below(16) == 0 {
+        let length = random.below(40);
+        return (row.message, (0..length).map(|_| random.next() as u8).collect());
+    }
+    let mut bytes = row.bytes.clone();
+    for _ in 0..random.below(5) {
+        let other = random.pick(rows);
+        change(random, &mut bytes, &other.bytes);
+    }
+    (row.message, bytes)
+}
+
+#[test]
+fn each_row_is_decoded() {
+    let rows = rows();
+    for row in &rows {
+        let wanted = row.decoded.map(|taken| row.bytes.split_at(taken));
+        assert_eq!((row.message.decode)(&row.bytes), wanted, "{} {:02x?}", row.message.name, row.bytes);
+    }
+    assert!(MESSAGES.iter().all(|it| rows.iter().any(|row| row.message.name == it.name && row.decoded.is_ok())));
+}
+
+/// That both accept the same bytes and take as many of them follows from their contracts. That they name one error is tested alone.
+#[test]
+fn validators_and_decoders_agree() {
+    let seconds = env::var("TLS_CODEC_SECONDS").map_or(3, |it| it.parse().expect("a number of seconds"));
+    let (rows, end) = (rows(), Instant::now() + Duration::from_secs(seconds));
+    let (mut random, mut accepted, mut rejected) = (Random(0x9e37_79b9_7f4a_7c15), 0u64, 0u64);
+    while Instant::now() < end {
+        let (message, bytes) = input(&mut random, &rows);
+        let validated = (message.validate)(&bytes).map_err(|it| it.error);
+        assert_eq!((message.decode)(&bytes), validated, "{} {bytes:02x?}", message.name);
+        *if validated.is_ok() { &mut accepted } else { &mut rejected } += 1;
+    }
+    println!("{accepted} inputs accepted, {rejected} rejected");
+    assert!(accepted > 1000 && rejected > 1000, "{accepted} inputs accepted, {rejected} rejected");
+}

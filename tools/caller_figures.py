@@ -1,0 +1,80 @@
+#!/usr/bin/env python3
+"""caller_figures.py [ARCHIVES [BENCH]]: the figures of docs/CALLERS.md, of the archives in a folder, c/out if none is given.
+
+The size of each archive; how much stack calls touch at most, over the rows that tools/callers has; and by `valgrind --tool=callgrind` the
+instructions of `NAME_validate` from C on the key package and the private message of tls_codec_bench. With BENCH, the built program of that
+crate, those of `tls_validate_prefix` in Rattle too, which takes a minute.
+"""
+from __future__ import annotations
+
+import pathlib
+import re
+import subprocess
+import sys
+import tempfile
+
+sys.dont_write_bytecode = True
+import exports
+import instructions
+from libraries import CRATES, TOP
+
+ROWS = [CRATES / "test_outcome" / "stdout", TOP / "c" / "tests" / "tls13.tsv"]
+TIMED = {"mls_key_package": ("KEY_PACKAGE", "KeyPackage"), "mls_private_message": ("PRIVATE_MESSAGE", "PrivateMessage")}
+
+
+def said(words: list[object]) -> str:
+    return subprocess.run([str(it) for it in words], stdout=subprocess.PIPE, stderr=subprocess.STDOUT, text=True, check=True).stdout
+
+
+def size(archive: pathlib.Path) -> int:
+    """The bytes of code and constants."""
+    return sum(int(line.split()[0]) for line in said(["size", archive]).splitlines()[1:])
+
+
+def bench_bytes(name: str) -> bytes:
+    """A message that the tests of tls_codec_bench have."""
+    text = (CRATES / "tls_codec_bench" / "src" / "tests" / "messages.rt").read_text(encoding="utf-8")
+    inside = re.search(rf"static {name}: \[u8; \d+\] = \[(.*?)\];", text, re.S)
+    return bytes(int(it, 16) for it in re.findall("0x([0-9a-f]{2})", inside.group(1)))
+
+
+def stack(program: pathlib.Path) -> None:
+    most: dict[str, list[int]] = {}
+    for rows in ROWS:
+        for line in said([program, rows]).splitlines():
+            name, *calls = line.split()
+            family = name.partition("_")[0]
+            most[family] = [max(pair) for pair in zip(map(int, calls), most.get(family, [0, 0]))]
+    for family, (validator, decoder) in most.items():
+        print(f"stack of {family}: validators {validator} bytes, decoders {decoder}")
+
+
+def counted(program: pathlib.Path, row: pathlib.Path, call: str) -> int:
+    """The instructions of one call."""
+    words = ["valgrind", "--tool=callgrind", "--callgrind-out-file=/dev/null", f"--toggle-collect={call}", program, row]
+    return int(re.search(r"Collected : (\d+)", said(words)).group(1))
+
+
+def main() -> int:
+    archives = pathlib.Path(sys.argv[1]) if sys.argv[1:] else TOP / "c" / "out"
+    built = [archives / f"lib{it}.a" for it in exports.libraries()]
+    for it in built:
+        print(f"{it.name}: {size(it)} bytes")
+    in_rattle = instructions.rows(str(pathlib.Path(sys.argv[2]).resolve()), False) if sys.argv[2:] else {}
+    with tempfile.TemporaryDirectory(prefix="caller_figures-") as folder:
+        program, row = pathlib.Path(folder) / "figures", pathlib.Path(folder) / "row"
+        source = TOP / "c" / "tests" / "figures.c"
+        words = ["cc", "-std=c99", "-O2", "-pthread", "-I", TOP / "c" / "include", "-o", program, source, *built]
+        said([*words, archives / "libtls_codec_heap.a", "-Wl,-z,now"])
+        stack(program)
+        for message, (name, case) in TIMED.items():
+            data = bench_bytes(name)
+            row.write_text(f"{message}\t{data.hex()}\n")
+            beside = in_rattle.get(case, {})
+            told = f", in Rattle {beside['validate']:.0f}" if beside else ""
+            print(f"{message}_validate of {len(data)} bytes: {counted(program, row, f'{message}_validate')} instructions{told}")
+    return 0
+
+
+if __name__ == "__main__":
+    sys.exit(main())

@@ -1,0 +1,172 @@
+#!/usr/bin/env python3
+"""faults.py: crates that say other than their text, in code, specs and answers at once. Their laws must be refused.
+
+crates/NAME_laws/faults/*.fault changes the text from which the crate NAME was written, as a wrong reader of it would:
+
+    refused: Point values       the type whose law must be refused, and by which clauses
+    old: opaque x<V>; opaque y<V>;
+    new: opaque y<V>; opaque x<V>;
+
+`tlsgen` writes the crate from the changed text, and write_laws.py its laws; the lines that are quoted, and their definitions, stay those of the
+text. So all below the laws agrees with itself. One copy of a crate has all its faults. Just these laws must be refused, by just these
+clauses, each for a goal of its own; all others must be proved. They are checked as a part of the copy, of which nothing else is proved
+anew: they are about its specs.
+
+It runs after `rt ci`, over the libraries in crates/*/out/rlib. The last line is 'N passed, N failed'.
+"""
+from __future__ import annotations
+
+import dataclasses
+import pathlib
+import re
+import shutil
+import subprocess
+import sys
+import tempfile
+
+sys.dont_write_bytecode = True
+import laws
+import verdicts
+import written
+from libraries import CRATES, TOP, Libraries
+
+DATA = CRATES / "tlsgen" / "data"
+# Pages of the laws that are the text's, and stay.
+OF_TEXT = ("Text", "Notes", "Definitions")
+
+
+@dataclasses.dataclass(frozen=True)
+class Fault:
+    name: str
+    refused: dict[str, set[str]]
+    changes: list[tuple[str, str]]
+
+
+def read(path: pathlib.Path) -> Fault:
+    refused, changes, old = {}, [], ""
+    for line in path.read_text().splitlines():
+        word, _, text = line.partition(": ")
+        if word == "refused":
+            name, *clauses = text.split()
+            refused[name] = set(clauses)
+        elif word == "old":
+            old = text
+        elif word.startswith("new"):
+            changes.append((old, text))
+    assert refused and changes, path
+    return Fault(path.stem, refused, changes)
+
+
+def with_faults(text: str, faults: list[Fault]) -> str:
+    for old, new in (change for fault in faults for change in fault.changes):
+        assert text.count(old) == 1, f"not once in the text: {old}"
+        text = text.replace(old, new)
+    return text
+
+
+def written_from(data: pathlib.Path, crate: str, to: pathlib.Path) -> None:
+    """What `tlsgen` writes for the texts of this folder, built without proof."""
+    _, text, more = written.RUNS[crate]
+    with tempfile.TemporaryDirectory() as cases:
+        pathlib.Path(cases, "crate").touch()
+        pathlib.Path(cases, "crate.args").write_text("\n".join([f"{text}.tls", "--crate", crate, *more]) + "\n")
+        words = [word for it in sorted(data.iterdir()) for word in ("--data", f"{it.name}={it}")]
+        ran = subprocess.run(["rt", "try", "--cases", cases, *words], cwd=CRATES / "tlsgen", capture_output=True, text=True)
+    assert re.search(r"^case=crate run=ended status=0 ", ran.stdout + ran.stderr, re.M), ran.stdout[-2000:] + ran.stderr[-2000:]
+    for path, code in re.findall(r"^=== (\S+)\n(.*?)(?=^=== |\Z)", ran.stdout, re.M | re.S):
+        file = to / path
+        file.parent.mkdir(parents=True, exist_ok=True)
+        file.write_text(code)
+
+
+def one_crate(crate: str, room: pathlib.Path) -> list[str]:
+    """Makes the laws modules of the crate itself; returns these modules' names."""
+    below, above = room / "crates" / crate, room / "crates" / f"{crate}_laws"
+
+    def moved(code: str) -> str:
+        code = re.sub(rf"Rattle\.{crate}_laws\.(specs|proofs)\.([A-Z])", rf"Rattle.{crate}.\1.OfLaws\2", code)
+        return code.replace(f"Rattle.{crate}_laws.", f"Rattle.{crate}.").replace(f"use {crate}::", "use crate::")
+
+    modules = []
+    for page in sorted(above.glob("src/laws*.rt")):
+        modules.append(page.stem)
+        (below / "src" / page.name).write_text(moved(page.read_text()))
+    for page in sorted(above.glob("proofs/laws*/**/*.antt")):
+        file = below / page.relative_to(above)
+        file.parent.mkdir(parents=True)
+        file.write_text(moved(page.read_text()))
+    for part in ("specs", "proofs"):
+        pages = [it for it in sorted((above / part).glob("*.antt")) if it.stem != "Lib"]
+        for page in pages:
+            (below / part / f"OfLaws{page.name}").write_text(moved(page.read_text()))
+        with (below / part / "Lib.antt").open("a") as names:
+            names.writelines(f"pub mod OfLaws{it.stem}\n" for it in pages)
+    root = below / "src" / "lib.rt"
+    root.write_text(root.read_text() + "".join(f"pub mod {it};\n" for it in modules))
+    return modules
+
+
+def checked(libraries: Libraries, crate: str, room: pathlib.Path, modules: list[str]) -> str:
+    libraries.uses[crate] = list(dict.fromkeys([*libraries.uses[crate], *(it for it in libraries.uses[f"{crate}_laws"] if it != crate)]))
+    words = [f"{libraries.kit}/bin/rattle", "check", *libraries.words(crate), *(word for it in modules for word in ("--only", it))]
+    how = {"stdin": subprocess.DEVNULL, "stdout": subprocess.PIPE, "stderr": subprocess.STDOUT}
+    return subprocess.run(words, cwd=room / "crates" / crate, text=True, errors="replace", **how).stdout
+
+
+def clauses_refused(said: str, crate: str, room: pathlib.Path) -> dict[str, set[str]]:
+    """Of each type the clauses of its law for which an answer is no proof; '?' if the law isn't proved for another reason."""
+    found: dict[str, set[str]] = {}
+    errors = [it.groups() for it in re.finditer(r"^\./proofs/(\S+):\d+:\d+: error: `([^`]+)`: (.*)", said, re.M)]
+    open_goals = [(file, name) for file, name, text in errors if verdicts.NO_PROOF.match(text)]
+    for page in sorted((room / "crates" / crate / "specs").glob("[!O]*.antt")) + sorted((room / "crates" / crate / "specs").glob("O[!f]*.antt")):
+        word = re.search(r"^abbrev pub (\w+)_plain ", page.read_text(), re.M)
+        law = word and re.search(rf"^fn {crate}::(\w+::{word[1]}_is_as_printed): (.*)", said, re.M)
+        if not law:
+            continue
+        answers = f"{law[1].replace('::', '/')}/Answers.antt"
+        clauses = {name.removeprefix("returns-clause-") for file, name in open_goals if file == answers}
+        clauses |= {{"saying": "values", "naming": "names"}[name.removeprefix(f"{word[1]}_")] for _, name in open_goals if name in (f"{word[1]}_saying", f"{word[1]}_naming")}
+        if law[2] != "proved" or clauses:
+            found[page.stem] = clauses or {"?"}
+    return found
+
+
+def prepared(crate: str, faults: list[Fault], room: pathlib.Path) -> list[str]:
+    text = laws.TEXTS[crate]
+    data = room / "crates" / "tlsgen" / "data"
+    shutil.copytree(DATA, data)
+    (data / f"{text}.tls").write_text(with_faults((data / f"{text}.tls").read_text(), faults))
+    written_from(data, crate, room / "crates" / crate)
+    shutil.copytree(TOP / "tools", room / "tools")
+    subprocess.run([sys.executable, room / "tools" / "write_laws.py", crate, text], check=True, stdout=subprocess.DEVNULL)
+    for page in (CRATES / f"{crate}_laws" / "specs").glob("*.antt"):
+        if any(it in page.stem for it in OF_TEXT):
+            shutil.copy(page, room / "crates" / f"{crate}_laws" / "specs" / page.name)
+    return one_crate(crate, room)
+
+
+def main() -> int:
+    libraries = Libraries()
+    passed = failed = 0
+    for folder in sorted(CRATES.glob("*_laws/faults")):
+        crate = folder.parent.name.removesuffix("_laws")
+        faults = [read(it) for it in sorted(folder.glob("*.fault"))]
+        with tempfile.TemporaryDirectory(prefix="faults-") as it:
+            room = pathlib.Path(it)
+            said = checked(libraries, crate, room, prepared(crate, faults, room))
+            refused = clauses_refused(said, crate, room)
+        proved = len(re.findall(rf"^fn {crate}::\w+::\w+_is_as_printed: proved$", said, re.M))
+        for fault in faults:
+            is_so = all(refused.pop(name, set()) == clauses for name, clauses in list(fault.refused.items()))
+            told = ", ".join(f"{name} by {' and '.join(sorted(clauses))}" for name, clauses in fault.refused.items())
+            print(f"{crate}: {fault.name}: {'refused' if is_so else 'NOT REFUSED AS IT SAYS'}: {told}")
+            passed, failed = passed + is_so, failed + (not is_so)
+        is_rest_proved = not refused and proved > 0
+        print(f"{crate}: {proved} other laws are proved" if is_rest_proved else f"{crate}: refused too: {refused or said[-2000:]}")
+        passed, failed = passed + is_rest_proved, failed + (not is_rest_proved)
+    print(f"{passed} passed, {failed} failed")
+    return 1 if failed or not passed else 0
+
+
+if __name__ == "__main__":
+    sys.exit(main())
