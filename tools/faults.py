@@ -33,6 +33,8 @@ from libraries import CRATES, TOP, Libraries
 DATA = CRATES / "tlsgen" / "data"
 # Pages of the laws that are the text's, and stay.
 OF_TEXT = ("Text", "Notes", "Definitions")
+# How the names of pages begin that a crate takes over from its laws.
+OF_LAWS = "OfLaws"
 
 
 @dataclasses.dataclass(frozen=True)
@@ -84,7 +86,7 @@ def one_crate(crate: str, room: pathlib.Path) -> list[str]:
     below, above = room / "crates" / crate, room / "crates" / f"{crate}_laws"
 
     def moved(code: str) -> str:
-        code = re.sub(rf"Rattle\.{crate}_laws\.(specs|proofs)\.([A-Z])", rf"Rattle.{crate}.\1.OfLaws\2", code)
+        code = re.sub(rf"Rattle\.{crate}_laws\.(specs|proofs)\.([A-Z])", rf"Rattle.{crate}.\1.{OF_LAWS}\2", code)
         return code.replace(f"Rattle.{crate}_laws.", f"Rattle.{crate}.").replace(f"use {crate}::", "use crate::")
 
     modules = []
@@ -98,9 +100,9 @@ def one_crate(crate: str, room: pathlib.Path) -> list[str]:
     for part in ("specs", "proofs"):
         pages = [it for it in sorted((above / part).glob("*.antt")) if it.stem != "Lib"]
         for page in pages:
-            (below / part / f"OfLaws{page.name}").write_text(moved(page.read_text()))
+            (below / part / f"{OF_LAWS}{page.name}").write_text(moved(page.read_text()))
         with (below / part / "Lib.antt").open("a") as names:
-            names.writelines(f"pub mod OfLaws{it.stem}\n" for it in pages)
+            names.writelines(f"pub mod {OF_LAWS}{it.stem}\n" for it in pages)
     root = below / "src" / "lib.rt"
     root.write_text(root.read_text() + "".join(f"pub mod {it};\n" for it in modules))
     return modules
@@ -118,8 +120,8 @@ def clauses_refused(said: str, crate: str, room: pathlib.Path) -> dict[str, set[
     found: dict[str, set[str]] = {}
     errors = [it.groups() for it in re.finditer(r"^\./proofs/(\S+):\d+:\d+: error: `([^`]+)`: (.*)", said, re.M)]
     open_goals = [(file, name) for file, name, text in errors if verdicts.NO_PROOF.match(text)]
-    for page in sorted((room / "crates" / crate / "specs").glob("[!O]*.antt")) + sorted((room / "crates" / crate / "specs").glob("O[!f]*.antt")):
-        word = re.search(r"^abbrev pub (\w+)_plain ", page.read_text(), re.M)
+    for page in sorted((room / "crates" / crate / "specs").glob("*.antt")):
+        word = not page.stem.startswith(OF_LAWS) and re.search(r"^abbrev pub (\w+)_plain ", page.read_text(), re.M)
         law = word and re.search(rf"^fn {crate}::(\w+::{word[1]}_is_as_printed): (.*)", said, re.M)
         if not law:
             continue
@@ -157,7 +159,7 @@ def main() -> int:
             refused = clauses_refused(said, crate, room)
         proved = len(re.findall(rf"^fn {crate}::\w+::\w+_is_as_printed: proved$", said, re.M))
         for fault in faults:
-            is_so = all(refused.pop(name, set()) == clauses for name, clauses in list(fault.refused.items()))
+            is_so = all([refused.pop(name, set()) == clauses for name, clauses in fault.refused.items()])
             told = ", ".join(f"{name} by {' and '.join(sorted(clauses))}" for name, clauses in fault.refused.items())
             print(f"{crate}: {fault.name}: {'refused' if is_so else 'NOT REFUSED AS IT SAYS'}: {told}")
             passed, failed = passed + is_so, failed + (not is_so)
