@@ -25,7 +25,7 @@ module _ (first : Format) (laws : MeetsLaws first) (variants : Variants) (x : Li
       let left = leaves_behind first x 0 size p in
       let place : 0 + size ≡ size = omega arith in
       let same : middle ≡ drop size x =
-          (one_front first.spells x first.announced laws.spelled left.value v (drop (0 + size) x) middle left.begins here).1 ∙ ap (λ (n : ℕ). drop n x) place in
+      (one_front first.spells x first.announced laws.spelled left.value v (drop (0 + size) x) middle left.begins here).1 ∙ ap (λ (n : ℕ). drop n x) place in
       let behind = tagged.rest ++ (q.second.rest ++ rest) in
       let number_here : Begins (number 2) middle (Number t) behind = record {
         front = tagged.front;
