@@ -91,6 +91,18 @@ class Codec:
         self.accepted("mls_message_kind", data, kind)
         return kind.value
 
+    def framed_content_tbs(self, wire_format: int, content: bytes, context: bytes = b"") -> bytes:
+        """What is signed of a message of MLS, by the encodings of its FramedContent and, if it is signed too, of its GroupContext."""
+        call, out = self.library["mls_framed_content_tbs_encode"], ctypes.create_string_buffer(4 + len(content) + len(context))
+        call.restype, pair = Outcome, [ctypes.c_char_p, ctypes.c_size_t]
+        call.argtypes = [ctypes.c_uint16, *pair, *pair, ctypes.c_void_p, ctypes.c_size_t]
+        said = call(wire_format, content, len(content), context, len(context), out, len(out))
+        if said.status:
+            raise Rejected(said.status, said.at, said.detail)
+        if said.taken != len(out):
+            raise Rejected(STATUSES.index("TrailingData"), said.taken)
+        return out.raw
+
     def exactly(self, message: str, data: bytes) -> None:
         """Returns if all of the bytes are one message."""
         found, rest = self.split(message, data)

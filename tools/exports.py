@@ -48,12 +48,19 @@ class Export:
         return f"pub fn {self.name}({', '.join(words)}) -> {self.result};"
 
 
+def length_of(name: str) -> str:
+    """The parameter that has the length of this one."""
+    return "length" if name == "bytes" else f"{name}_length"
+
+
 def in_c(name: str, kind: str) -> list[str]:
     """A parameter of a prototype: a slice is a pointer and a length, and `Global` has no bytes."""
     if kind == "Global":
         return []
-    if kind == "&[u8]":
-        return [f"const uint8_t *{name}", "size_t length"]
+    if kind in ("&[u8]", "&mut [u8]"):
+        return [f"{'const ' if kind == '&[u8]' else ''}uint8_t *{name}", f"size_t {length_of(name)}"]
+    if kind in C:
+        return [f"{C[kind]} {name}"]
     if kind.removeprefix("&mut ") in (*C, *structs()):
         return [f"{type_in_c(kind.removeprefix('&mut '))} *{name}"]
     raise Unread(f"{name}: {kind}")
@@ -62,8 +69,8 @@ def in_c(name: str, kind: str) -> list[str]:
 def in_rust(name: str, kind: str) -> list[str]:
     if kind == "Global":
         return []
-    if kind == "&[u8]":
-        return [f"{name}: *const u8", "length: usize"]
+    if kind in ("&[u8]", "&mut [u8]"):
+        return [f"{name}: *{'const' if kind == '&[u8]' else 'mut'} u8", f"{length_of(name)}: usize"]
     if kind.removeprefix("&mut ") in (*C, *structs()):
         return [f"{name}: {kind}"]
     raise Unread(f"{name}: {kind}")
@@ -269,6 +276,19 @@ def located_in_rust(module: str, export: Export) -> list[str]:
     return [*lines, "        };", "        Ok((fields, rest))", "    }"]
 
 
+def encoder_in_rust(export: Export, name: str) -> list[str]:
+    """The function that writes into a buffer, and returns what it wrote if all of it is accepted."""
+    taken = [it if kind != "Global" else None for it, kind in export.parameters]
+    kinds = dict(export.parameters)
+    passed = [f"{it}.as{'_mut' if kinds[it] == '&mut [u8]' else ''}_ptr(), {it}.len()" if kinds[it].endswith("[u8]") else it for it in taken]
+    parameters = ", ".join(f"{it}: {kind}" for it, kind in export.parameters).replace("&mut [u8]", "&'a mut [u8]")
+    lines = ["", f"    /// {export.text} It returns all bytes that are written, if they are accepted.", f"    pub fn {name}<'a>({parameters}) -> Result<&'a [u8], Rejected> {{"]
+    lines += ["        // SAFETY: so many bytes are at each pointer, and nothing else changes or reads them during the call, which keeps none."]
+    lines += [f"        let said = unsafe {{ foreign::{export.name}({', '.join(passed)}) }};"]
+    sizes = [f"{it}.len()" for it in taken if kinds[it] == "&[u8]"]
+    return [*lines, f"        written_as(out, 4 + {' + '.join(sizes)}, said)", "    }"]
+
+
 def decoders_in_rust(crate: str) -> list[str]:
     """The functions of a static library of decoders, as those of a module that a feature adds."""
     name, exports = crate.removesuffix("_c"), exports_of(crate)
@@ -290,11 +310,14 @@ def module_in_rust(crate: str) -> list[str]:
     taken = dict.fromkeys(taken_by(it) for it in located if taken_by(it) != "Span")
     kinds = [it for it in exports if it.name.endswith("_kind")]
     lists = [it for it in exports if it.name.endswith("_next")]
+    encoders = [it for it in exports if it.name.endswith("_encode")]
     used = ["Rejected", "split", *(["split_as"] if located else [])]
     if len(taken) < len(located) and not taken:
         used.insert(1, "Span")
     if lists:
         used.insert(0, "Elements")
+    if encoders:
+        used.append("written_as")
     body = ["", f"/// {about(crate)}", f"pub mod {name} {{", f"    use crate::{{{', '.join(used)}}};", "", "    mod foreign {"]
     body += [f"        use crate::{{Outcome{', Span' if located else ''}}};" if located else "        use crate::Outcome;", ""]
     for it in taken:
@@ -311,6 +334,8 @@ def module_in_rust(crate: str) -> list[str]:
         body += located_in_rust(name, it)
     for it in kinds:
         body += kind_in_rust(it, it.name.removeprefix(f"{name}_"))
+    for it in encoders:
+        body += encoder_in_rust(it, it.name.removesuffix("_encode").removeprefix(f"{name}_"))
     for it in lists:
         body += elements_in_rust(it, it.name.removesuffix("_next").removeprefix(f"{name}_"))
     return [*body, "}"]

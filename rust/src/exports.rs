@@ -549,7 +549,7 @@ pub mod tls13_check {
 
 /// Whether bytes begin with a message of MLS, told without memory.
 pub mod mls {
-    use crate::{Elements, Rejected, split, split_as};
+    use crate::{Elements, Rejected, split, split_as, written_as};
 
     mod foreign {
         use crate::{Outcome, Span};
@@ -632,6 +632,7 @@ pub mod mls {
             pub fn mls_key_package_validate(bytes: *const u8, length: usize) -> Outcome;
             pub fn mls_leaf_node_validate(bytes: *const u8, length: usize) -> Outcome;
             pub fn mls_ratchet_tree_validate(bytes: *const u8, length: usize) -> Outcome;
+            pub fn mls_framed_content_tbs_encode(wire_format: u16, content: *const u8, content_length: usize, context: *const u8, context_length: usize, out: *mut u8, out_length: usize) -> Outcome;
         }
     }
 
@@ -858,6 +859,13 @@ pub mod mls {
         let said = unsafe { foreign::mls_message_kind(bytes.as_ptr(), bytes.len(), &mut found) };
         let (_, rest) = split_as(bytes, said)?;
         Ok((found, rest))
+    }
+
+    /// `FramedContentTBS` (RFC 9420, section 6.1): writes the bytes that are signed of a message into a buffer: the version, the wire format (1 or 2), the encoding of a `FramedContent`, and that of a `GroupContext` if the sender is a member or a new member that commits; else the context is empty. The result is that of validation for the bytes that are written, and `at` counts from the first of them. If the buffer has less than `4 + content_length + context_length` bytes, nothing is written, and the status is that of `InvalidWriteLength`. It returns all bytes that are written, if they are accepted.
+    pub fn framed_content_tbs<'a>(wire_format: u16, content: &[u8], context: &[u8], out: &'a mut [u8]) -> Result<&'a [u8], Rejected> {
+        // SAFETY: so many bytes are at each pointer, and nothing else changes or reads them during the call, which keeps none.
+        let said = unsafe { foreign::mls_framed_content_tbs_encode(wire_format, content.as_ptr(), content.len(), context.as_ptr(), context.len(), out.as_mut_ptr(), out.len()) };
+        written_as(out, 4 + content.len() + context.len(), said)
     }
 
     /// `Extension` (RFC 9420, section 7.2): each of a list, of which these are the bytes after its length.

@@ -89,6 +89,12 @@ fn split_as(bytes: &[u8], said: Outcome) -> Result<(&[u8], &[u8]), Rejected> {
     Ok(bytes.split_at(said.taken))
 }
 
+/// The bytes that a call wrote, if all of them are accepted.
+fn written_as(out: &mut [u8], size: usize, said: Outcome) -> Result<&[u8], Rejected> {
+    let out: &[u8] = out;
+    exactly(split_as(out.get(..size).unwrap_or(out), said))
+}
+
 type Next = unsafe extern "C" fn(*const u8, usize, &mut Span, &mut Span) -> Outcome;
 
 /// The elements of a list, one after another. After one that is rejected there are no more.

@@ -154,6 +154,14 @@ tls_codec_outcome mls_leaf_node_validate(const uint8_t *bytes, size_t length);
 /* RatchetTree (RFC 9420, section 12.4.3.3). */
 tls_codec_outcome mls_ratchet_tree_validate(const uint8_t *bytes, size_t length);
 
+/* FramedContentTBS (RFC 9420, section 6.1): writes the bytes that are signed of a message into a
+   buffer: the version, the wire format (1 or 2), the encoding of a FramedContent, and that of a
+   GroupContext if the sender is a member or a new member that commits; else the context is empty.
+   The result is that of validation for the bytes that are written, and at counts from the first of
+   them. If the buffer has less than 4 + content_length + context_length bytes, nothing is written,
+   and the status is that of InvalidWriteLength. */
+tls_codec_outcome mls_framed_content_tbs_encode(uint16_t wire_format, const uint8_t *content, size_t content_length, const uint8_t *context, size_t context_length, uint8_t *out, size_t out_length);
+
 #ifdef __cplusplus
 }
 #endif

@@ -4,6 +4,7 @@
 mod elements;
 mod fields;
 mod kind;
+mod signed;
 
 ghost use Rattle.mls.specs.MLSMessage.{mls_message_format};
 ghost use Rattle.mls.specs.PublicMessage.{public_message_format};

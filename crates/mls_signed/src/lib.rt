@@ -4,3 +4,6 @@
 mod signed_content;
 
 pub use signed_content::{FramedContentTBSParts, framed_content_tbs};
+
+#[cfg(test)]
+mod tests;

@@ -30,7 +30,10 @@ pub fn framed_content_tbs(
         ⟦<FramedContentTBSParts as Validate>⟧.places
         (tbs_bytes wire_format content.now context.now) result }
 {
-    let size = content.len().saturating_add(context.len()).saturating_add(4);
+    let size = content
+        .len()
+        .saturating_add(context.len())
+        .saturating_add(4);
     if out.len() < size {
         return None;
     }

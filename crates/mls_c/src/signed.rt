@@ -1,0 +1,49 @@
+//! What is signed of a message, written from its parts' encodings.
+ghost use Rattle.std.specs.Prelude.{◌≡◌, ◌<◌, ◌≤◌, ◌++◌, drop, length};
+ghost use Rattle.mls.specs.FramedContentTBS.{framed_content_tbs_format};
+ghost use Rattle.mls_signed.specs.Signed.{tbs_bytes};
+ghost use Rattle.tls_codec_outcome.specs.Outcomes.{Decides, IsRejection, IsTaken};
+
+use mls_signed::{FramedContentTBSParts, framed_content_tbs};
+use tls_codec::DeserializeBytes;
+use tls_codec_outcome::Outcome;
+use tls_codec_validate::Validate;
+
+/// `FramedContentTBS` (RFC 9420, section 6.1): writes the bytes that are signed of a message into a buffer: the version, the wire
+/// format (1 or 2), the encoding of a `FramedContent`, and that of a `GroupContext` if the sender is a member or a new member
+/// that commits; else the context is empty. The result is that of validation for the bytes that are written, and `at` counts
+/// from the first of them. If the buffer has less than `4 + content_length + context_length` bytes, nothing is written, and
+/// the status is that of `InvalidWriteLength`.
+#[unsafe(no_mangle)]
+pub extern "C" fn mls_framed_content_tbs_encode(
+    wire_format: u16,
+    content: &[u8],
+    context: &[u8],
+    out: &mut [u8],
+) -> Outcome
+    ensures status { length (tbs_bytes wire_format content.now context.now) ≤ length out.old
+        → Decides framed_content_tbs_format (tbs_bytes wire_format content.now context.now)
+        result.status }
+    ensures taken { length (tbs_bytes wire_format content.now context.now) ≤ length out.old
+        → IsTaken framed_content_tbs_format (tbs_bytes wire_format content.now context.now)
+        result.status result.taken }
+    ensures rejected { length (tbs_bytes wire_format content.now context.now) ≤ length out.old
+        → IsRejection ⟦<FramedContentTBSParts as DeserializeBytes>⟧.names
+        ⟦<FramedContentTBSParts as Validate>⟧.places
+        (tbs_bytes wire_format content.now context.now) result.status result.at result.detail }
+    ensures written { length (tbs_bytes wire_format content.now context.now) ≤ length out.old
+        → out.new ≡ tbs_bytes wire_format content.now context.now
+        ++ drop (length (tbs_bytes wire_format content.now context.now)) out.old }
+    ensures no_room { length out.old < length (tbs_bytes wire_format content.now context.now)
+        → (result ≡ record { status = 3; taken = 0; at = 0; detail = 0 }) × (out.new ≡ out.old) }
+{
+    framed_content_tbs(wire_format, content, context, out).unwrap_or(NO_ROOM)
+}
+
+// The answer for a buffer with too little room.
+const NO_ROOM: Outcome = Outcome {
+    status: 3,
+    taken: 0,
+    at: 0,
+    detail: 0,
+};

@@ -1,0 +1,28 @@
+#!/usr/bin/env python3
+"""signed.py OBJECT FILE: what is written to be signed, for each row of c/tests/signed.tsv, by the module tls_codec. The status is 1 if a row differs."""
+import sys
+
+from tls_codec import STATUSES, Codec, Rejected
+
+
+def told(codec: Codec, columns: list[str]) -> str:
+    """What is written, or why it is rejected."""
+    content, context = (bytes.fromhex("" if it == "-" else it) for it in columns[1:3])
+    try:
+        return codec.framed_content_tbs(int(columns[0]), content, context).hex()
+    except Rejected as error:
+        return str(error)
+
+
+def wanted(columns: list[str]) -> str:
+    status, taken, at, _ = map(int, columns[3].split())
+    if status:
+        return f"{STATUSES[status]} at byte {at}"
+    return columns[4] if taken == len(columns[4]) // 2 else f"TrailingData at byte {taken}"
+
+
+codec = Codec(sys.argv[1])
+rows = [line.rstrip("\n").split("\t") for line in open(sys.argv[2], encoding="utf-8")]
+failed = [it for it in rows if told(codec, it) != wanted(it)]
+print(f"{len(rows)} rows, {len(failed)} failed", *failed, sep="\n")
+sys.exit(bool(failed or not rows))
