@@ -1,5 +1,5 @@
 -- What is signed of a message, in bytes.
-use Rattle.std.specs.Prelude.{◌≡◌, ◌<◌, ◌++◌, ℕ, List, [], ◌∷◌, Option, Some, None, length, drop}
+use Rattle.std.specs.Prelude.{◌≡◌, ◌<◌, ◌++◌, ℕ, List, ◌∷◌, Option, Some, None, length, drop}
 use Rattle.std.specs.Int.{w16, to_be_bytes}
 use Rattle.mls.specs.FramedContentTBS.{framed_content_tbs_format}
 use Rattle.tls_codec_base.specs.Refusals.{SliceNames}
