@@ -10,7 +10,7 @@ import sys
 
 TOP = pathlib.Path(__file__).resolve().parent.parent
 # pages that aren't rewritten yet
-NOT_YET = {"docs/CALLERS.md"}
+NOT_YET = set()
 
 WORDS = {
     r"(?:of|by|over|upon) (?:which|whom)": "a sentence of its own, or `whose`",
