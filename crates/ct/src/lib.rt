@@ -27,8 +27,8 @@ pub mod x509_chain_entry;
 
 pub use digitally_signed::{DigitallySigned, DigitallySignedView};
 pub use hash_algorithm::HashAlgorithm;
-pub use log_entry::LogEntry;
-pub use log_entry_type_data::LogEntryTypeData;
+pub use log_entry::{LogEntry, LogEntryView};
+pub use log_entry_type_data::{LogEntryTypeData, LogEntryTypeDataView};
 pub use log_id::{LogID, LogIDView};
 pub use merkle_leaf_type::MerkleLeafType;
 pub use merkle_tree_leaf::{MerkleTreeLeaf, MerkleTreeLeafView};
@@ -50,7 +50,9 @@ pub use signed_certificate_timestamp_tbs::{
     SignedCertificateTimestampTBS, SignedCertificateTimestampTBSView,
 };
 pub use timestamped_entry::{TimestampedEntry, TimestampedEntryView};
-pub use timestamped_entry_log_entry_type_data::TimestampedEntryLogEntryTypeData;
+pub use timestamped_entry_log_entry_type_data::{
+    TimestampedEntryLogEntryTypeData, TimestampedEntryLogEntryTypeDataView,
+};
 pub use tree_head_signature::{TreeHeadSignature, TreeHeadSignatureView};
 pub use version::Version;
 pub use x509_chain_entry::{X509ChainEntry, X509ChainEntryView};

@@ -2,8 +2,10 @@
 ghost use Rattle.std.specs.Prelude.{◌≡◌, IsTrue};
 ghost use Rattle.tls_codec.specs.OwnMessages.{no_variant_names, no_variant_source_names, tagged_names, tagged_source_names, variant_names, variant_source_names};
 ghost use Rattle.tls_codec_validate.specs.TaggedPlaces.{no_variant_places, tagged_places, variant_places};
-ghost use Rattle.ct.specs.LogEntry.{log_entry_format, log_entry_meets, log_entry_plain, log_entry_tag};
+ghost use Rattle.ct.specs.LogEntry.{log_entry_format, log_entry_meets, log_entry_plain, log_entry_tag, log_entry_variants};
 ghost use Rattle.ct.specs.declared.log_entry.LogEntry.{LogEntry};
+ghost use Rattle.tls_codec_views.specs.Views.{IsCase};
+ghost use Rattle.ct.specs.declared.log_entry.LogEntryView.{LogEntryView};
 
 use crate::{PrecertChainEntry, X509ChainEntry};
 use std::alloc::Global;
@@ -11,6 +13,7 @@ use tls_codec::{
     Deserialize, DeserializeBytes, Error, Lent, Serialize, Sink, Size, Source, unknown_value,
 };
 use tls_codec_validate::{Rejected, Validate, split_u16};
+use tls_codec_views::{Choice, Encoded};
 
 const X509_ENTRY: u16 = 0;
 
@@ -142,6 +145,39 @@ impl Validate for LogEntry {
                 error: unknown_value(u64::from(tag)),
                 rest: whole,
             }),
+        }
+    }
+}
+
+impl Choice for LogEntry {
+    type Tag = u16;
+
+    ghost variants = { log_entry_variants };
+
+    ghost as_choice = { λ bytes is. is };
+}
+
+/// The encoding of a [`LogEntry`], by its case and fields.
+#[derive(Drop)]
+pub enum LogEntryView<'a> {
+    /// `case x509_entry: X509ChainEntry;`
+    X509Entry(Encoded<'a, X509ChainEntry>),
+    /// `case precert_entry: PrecertChainEntry;`
+    PrecertEntry(Encoded<'a, PrecertChainEntry>),
+}
+
+impl<'a> From<Encoded<'a, LogEntry>> for LogEntryView<'a> {
+    ghost from_gives = { λ whole view. elim view as (λ v. Type 0) [
+      | LogEntryView.X509Entry a0 ↦ IsCase 2 0 whole a0
+      | LogEntryView.PrecertEntry a0 ↦ IsCase 2 1 whole a0
+    ] };
+
+    fn from(whole: Encoded<'a, LogEntry>) -> LogEntryView<'a> {
+        let (tag, parts) = whole.case();
+        match tag {
+            0 => LogEntryView::X509Entry(Encoded::alone(parts)),
+            1 => LogEntryView::PrecertEntry(Encoded::alone(parts)),
+            _ => unreachable!(),
         }
     }
 }

@@ -2,8 +2,10 @@
 ghost use Rattle.std.specs.Prelude.{◌≡◌, IsTrue};
 ghost use Rattle.tls_codec.specs.OwnMessages.{no_variant_names, no_variant_source_names, tagged_names, tagged_source_names, variant_names, variant_source_names};
 ghost use Rattle.tls_codec_validate.specs.TaggedPlaces.{no_variant_places, tagged_places, variant_places};
-ghost use Rattle.ct.specs.LogEntryTypeData.{log_entry_type_data_format, log_entry_type_data_meets, log_entry_type_data_plain, log_entry_type_data_tag};
+ghost use Rattle.ct.specs.LogEntryTypeData.{log_entry_type_data_format, log_entry_type_data_meets, log_entry_type_data_plain, log_entry_type_data_tag, log_entry_type_data_variants};
 ghost use Rattle.ct.specs.declared.log_entry_type_data.LogEntryTypeData.{LogEntryTypeData};
+ghost use Rattle.tls_codec_views.specs.Views.{IsCase};
+ghost use Rattle.ct.specs.declared.log_entry_type_data.LogEntryTypeDataView.{LogEntryTypeDataView};
 
 use crate::{ASN1Cert, PreCert};
 use std::alloc::Global;
@@ -11,6 +13,7 @@ use tls_codec::{
     Deserialize, DeserializeBytes, Error, Lent, Serialize, Sink, Size, Source, unknown_value,
 };
 use tls_codec_validate::{Rejected, Validate, split_u16};
+use tls_codec_views::{Choice, Encoded};
 
 const X509_ENTRY: u16 = 0;
 
@@ -142,6 +145,39 @@ impl Validate for LogEntryTypeData {
                 error: unknown_value(u64::from(tag)),
                 rest: whole,
             }),
+        }
+    }
+}
+
+impl Choice for LogEntryTypeData {
+    type Tag = u16;
+
+    ghost variants = { log_entry_type_data_variants };
+
+    ghost as_choice = { λ bytes is. is };
+}
+
+/// The encoding of a [`LogEntryTypeData`], by its case and fields.
+#[derive(Drop)]
+pub enum LogEntryTypeDataView<'a> {
+    /// `case x509_entry: ASN.1Cert;`
+    X509Entry(Encoded<'a, ASN1Cert>),
+    /// `case precert_entry: PreCert;`
+    PrecertEntry(Encoded<'a, PreCert>),
+}
+
+impl<'a> From<Encoded<'a, LogEntryTypeData>> for LogEntryTypeDataView<'a> {
+    ghost from_gives = { λ whole view. elim view as (λ v. Type 0) [
+      | LogEntryTypeDataView.X509Entry a0 ↦ IsCase 2 0 whole a0
+      | LogEntryTypeDataView.PrecertEntry a0 ↦ IsCase 2 1 whole a0
+    ] };
+
+    fn from(whole: Encoded<'a, LogEntryTypeData>) -> LogEntryTypeDataView<'a> {
+        let (tag, parts) = whole.case();
+        match tag {
+            0 => LogEntryTypeDataView::X509Entry(Encoded::alone(parts)),
+            1 => LogEntryTypeDataView::PrecertEntry(Encoded::alone(parts)),
+            _ => unreachable!(),
         }
     }
 }

@@ -14,6 +14,7 @@ use tls_codec::{
     Deserialize, DeserializeBytes, Error, Serialize, Sink, Size, Source, unknown_value,
 };
 use tls_codec_validate::{Rejected, Validate, split_u8};
+use tls_codec_views::{Encoded, Numbered, Told};
 
 /// `MerkleLeafType` (RFC 6962, section 3.4).
 #[derive(PartialEq, Eq, PartialOrd, Ord, Hash, Debug, Clone, Copy)]
@@ -145,6 +146,23 @@ impl Validate for MerkleLeafType {
                 error: unknown_value(u64::from(tag)),
                 rest: whole,
             }),
+        }
+    }
+}
+
+impl Numbered for MerkleLeafType {
+    type Tag = u8;
+
+    ghost has = { merkle_leaf_type_has };
+
+    ghost as_values = { λ bytes is. is };
+}
+
+impl Told for MerkleLeafType {
+    fn told(encoded: &Encoded<'_, MerkleLeafType>) -> MerkleLeafType {
+        match encoded.number() {
+            0 => MerkleLeafType::TimestampedEntry,
+            _ => unreachable!(),
         }
     }
 }

@@ -14,6 +14,7 @@ use tls_codec::{
     Deserialize, DeserializeBytes, Error, Serialize, Sink, Size, Source, unknown_value,
 };
 use tls_codec_validate::{Rejected, Validate, split_u8};
+use tls_codec_views::{Encoded, Numbered, Told};
 
 /// `SignatureTypeCertificateTimestamp`.
 #[derive(PartialEq, Eq, PartialOrd, Ord, Hash, Debug, Clone, Copy)]
@@ -149,6 +150,25 @@ impl Validate for SignatureTypeCertificateTimestamp {
                 error: unknown_value(u64::from(tag)),
                 rest: whole,
             }),
+        }
+    }
+}
+
+impl Numbered for SignatureTypeCertificateTimestamp {
+    type Tag = u8;
+
+    ghost has = { signature_type_certificate_timestamp_has };
+
+    ghost as_values = { λ bytes is. is };
+}
+
+impl Told for SignatureTypeCertificateTimestamp {
+    fn told(
+        encoded: &Encoded<'_, SignatureTypeCertificateTimestamp>,
+    ) -> SignatureTypeCertificateTimestamp {
+        match encoded.number() {
+            0 => SignatureTypeCertificateTimestamp::CertificateTimestamp,
+            _ => unreachable!(),
         }
     }
 }

@@ -14,6 +14,7 @@ use tls_codec::{
     Deserialize, DeserializeBytes, Error, Serialize, Sink, Size, Source, unknown_value,
 };
 use tls_codec_validate::{Rejected, Validate, split_u8};
+use tls_codec_views::{Encoded, Numbered, Told};
 
 /// `SignatureTypeTreeHash`.
 #[derive(PartialEq, Eq, PartialOrd, Ord, Hash, Debug, Clone, Copy)]
@@ -148,6 +149,23 @@ impl Validate for SignatureTypeTreeHash {
                 error: unknown_value(u64::from(tag)),
                 rest: whole,
             }),
+        }
+    }
+}
+
+impl Numbered for SignatureTypeTreeHash {
+    type Tag = u8;
+
+    ghost has = { signature_type_tree_hash_has };
+
+    ghost as_values = { λ bytes is. is };
+}
+
+impl Told for SignatureTypeTreeHash {
+    fn told(encoded: &Encoded<'_, SignatureTypeTreeHash>) -> SignatureTypeTreeHash {
+        match encoded.number() {
+            1 => SignatureTypeTreeHash::TreeHash,
+            _ => unreachable!(),
         }
     }
 }

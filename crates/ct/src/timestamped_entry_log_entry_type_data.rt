@@ -2,8 +2,10 @@
 ghost use Rattle.std.specs.Prelude.{◌≡◌, IsTrue};
 ghost use Rattle.tls_codec.specs.OwnMessages.{no_variant_names, no_variant_source_names, tagged_names, tagged_source_names, variant_names, variant_source_names};
 ghost use Rattle.tls_codec_validate.specs.TaggedPlaces.{no_variant_places, tagged_places, variant_places};
-ghost use Rattle.ct.specs.TimestampedEntryLogEntryTypeData.{timestamped_entry_log_entry_type_data_format, timestamped_entry_log_entry_type_data_meets, timestamped_entry_log_entry_type_data_plain, timestamped_entry_log_entry_type_data_tag};
+ghost use Rattle.ct.specs.TimestampedEntryLogEntryTypeData.{timestamped_entry_log_entry_type_data_format, timestamped_entry_log_entry_type_data_meets, timestamped_entry_log_entry_type_data_plain, timestamped_entry_log_entry_type_data_tag, timestamped_entry_log_entry_type_data_variants};
 ghost use Rattle.ct.specs.declared.timestamped_entry_log_entry_type_data.TimestampedEntryLogEntryTypeData.{TimestampedEntryLogEntryTypeData};
+ghost use Rattle.tls_codec_views.specs.Views.{IsCase};
+ghost use Rattle.ct.specs.declared.timestamped_entry_log_entry_type_data.TimestampedEntryLogEntryTypeDataView.{TimestampedEntryLogEntryTypeDataView};
 
 use crate::{ASN1Cert, PreCert};
 use std::alloc::Global;
@@ -11,6 +13,7 @@ use tls_codec::{
     Deserialize, DeserializeBytes, Error, Lent, Serialize, Sink, Size, Source, unknown_value,
 };
 use tls_codec_validate::{Rejected, Validate, split_u16};
+use tls_codec_views::{Choice, Encoded};
 
 const X509_ENTRY: u16 = 0;
 
@@ -152,6 +155,42 @@ impl Validate for TimestampedEntryLogEntryTypeData {
                 error: unknown_value(u64::from(tag)),
                 rest: whole,
             }),
+        }
+    }
+}
+
+impl Choice for TimestampedEntryLogEntryTypeData {
+    type Tag = u16;
+
+    ghost variants = { timestamped_entry_log_entry_type_data_variants };
+
+    ghost as_choice = { λ bytes is. is };
+}
+
+/// The encoding of a [`TimestampedEntryLogEntryTypeData`], by its case and fields.
+#[derive(Drop)]
+pub enum TimestampedEntryLogEntryTypeDataView<'a> {
+    /// `case x509_entry: ASN.1Cert;`
+    X509Entry(Encoded<'a, ASN1Cert>),
+    /// `case precert_entry: PreCert;`
+    PrecertEntry(Encoded<'a, PreCert>),
+}
+
+impl<'a> From<Encoded<'a, TimestampedEntryLogEntryTypeData>>
+    for TimestampedEntryLogEntryTypeDataView<'a> {
+    ghost from_gives = { λ whole view. elim view as (λ v. Type 0) [
+      | TimestampedEntryLogEntryTypeDataView.X509Entry a0 ↦ IsCase 2 0 whole a0
+      | TimestampedEntryLogEntryTypeDataView.PrecertEntry a0 ↦ IsCase 2 1 whole a0
+    ] };
+
+    fn from(
+        whole: Encoded<'a, TimestampedEntryLogEntryTypeData>,
+    ) -> TimestampedEntryLogEntryTypeDataView<'a> {
+        let (tag, parts) = whole.case();
+        match tag {
+            0 => TimestampedEntryLogEntryTypeDataView::X509Entry(Encoded::alone(parts)),
+            1 => TimestampedEntryLogEntryTypeDataView::PrecertEntry(Encoded::alone(parts)),
+            _ => unreachable!(),
         }
     }
 }

@@ -14,6 +14,7 @@ use tls_codec::{
     Deserialize, DeserializeBytes, Error, Serialize, Sink, Size, Source, unknown_value,
 };
 use tls_codec_validate::{Rejected, Validate, split_u8};
+use tls_codec_views::{Encoded, Numbered, Told};
 
 /// `Version` (RFC 6962, section 3.2).
 #[derive(PartialEq, Eq, PartialOrd, Ord, Hash, Debug, Clone, Copy)]
@@ -141,6 +142,23 @@ impl Validate for Version {
                 error: unknown_value(u64::from(tag)),
                 rest: whole,
             }),
+        }
+    }
+}
+
+impl Numbered for Version {
+    type Tag = u8;
+
+    ghost has = { version_has };
+
+    ghost as_values = { λ bytes is. is };
+}
+
+impl Told for Version {
+    fn told(encoded: &Encoded<'_, Version>) -> Version {
+        match encoded.number() {
+            0 => Version::V1,
+            _ => unreachable!(),
         }
     }
 }

@@ -18,6 +18,7 @@ use tls_codec_cases::Selector;
 use tls_codec_validate::{
     Keyed, Rejected, TagFirst, TagKeyed, Validate, ValidateKeyed, split_u8, validate_tag_first,
 };
+use tls_codec_views::{Encoded, Numbered, Told};
 
 /// `BodyKind`.
 #[derive(PartialEq, Eq, PartialOrd, Ord, Hash, Debug, Clone, Copy)]
@@ -163,6 +164,24 @@ impl Validate for BodyKind {
                 error: unknown_value(u64::from(tag)),
                 rest: whole,
             }),
+        }
+    }
+}
+
+impl Numbered for BodyKind {
+    type Tag = u8;
+
+    ghost has = { body_kind_has };
+
+    ghost as_values = { λ bytes is. is };
+}
+
+impl Told for BodyKind {
+    fn told(encoded: &Encoded<'_, BodyKind>) -> BodyKind {
+        match encoded.number() {
+            1 => BodyKind::Chat,
+            2 => BodyKind::File,
+            _ => unreachable!(),
         }
     }
 }

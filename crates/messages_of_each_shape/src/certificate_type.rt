@@ -18,6 +18,7 @@ use tls_codec_cases::Selector;
 use tls_codec_validate::{
     Keyed, Rejected, TagFirst, TagKeyed, Validate, ValidateKeyed, split_u8, validate_tag_first,
 };
+use tls_codec_views::{Encoded, Numbered, Told};
 
 /// `CertificateType`.
 ///
@@ -170,6 +171,24 @@ impl Validate for CertificateType {
                 error: unknown_value(u64::from(tag)),
                 rest: whole,
             }),
+        }
+    }
+}
+
+impl Numbered for CertificateType {
+    type Tag = u8;
+
+    ghost has = { certificate_type_has };
+
+    ghost as_values = { λ bytes is. is };
+}
+
+impl Told for CertificateType {
+    fn told(encoded: &Encoded<'_, CertificateType>) -> CertificateType {
+        match encoded.number() {
+            0 => CertificateType::X509,
+            2 => CertificateType::RawPublicKey,
+            _ => unreachable!(),
         }
     }
 }

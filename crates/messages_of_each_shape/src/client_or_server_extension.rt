@@ -18,6 +18,7 @@ use tls_codec_cases::Selector;
 use tls_codec_validate::{
     Keyed, Rejected, TagFirst, TagKeyed, Validate, ValidateKeyed, split_u8, validate_tag_first,
 };
+use tls_codec_views::{Encoded, Numbered, Told};
 
 /// `ClientOrServerExtension`.
 #[derive(PartialEq, Eq, PartialOrd, Ord, Hash, Debug, Clone, Copy)]
@@ -171,6 +172,24 @@ impl Validate for ClientOrServerExtension {
                 error: unknown_value(u64::from(tag)),
                 rest: whole,
             }),
+        }
+    }
+}
+
+impl Numbered for ClientOrServerExtension {
+    type Tag = u8;
+
+    ghost has = { client_or_server_extension_has };
+
+    ghost as_values = { λ bytes is. is };
+}
+
+impl Told for ClientOrServerExtension {
+    fn told(encoded: &Encoded<'_, ClientOrServerExtension>) -> ClientOrServerExtension {
+        match encoded.number() {
+            0 => ClientOrServerExtension::Client,
+            1 => ClientOrServerExtension::Server,
+            _ => unreachable!(),
         }
     }
 }

@@ -1,9 +1,11 @@
 //! [`ContentTypeData`].
-ghost use Rattle.std.specs.Prelude.{◌≡◌, ◌&&◌, IsTrue};
+ghost use Rattle.std.specs.Prelude.{◌≡◌, ◌&&◌, ◌++◌, IsTrue};
 ghost use Rattle.tls_codec.specs.OwnMessages.{no_variant_names, no_variant_source_names, tagged_names, tagged_source_names, variant_names, variant_source_names};
 ghost use Rattle.tls_codec_validate.specs.TaggedPlaces.{no_variant_places, tagged_places, variant_places};
-ghost use Rattle.messages_of_each_shape.specs.ContentTypeData.{content_type_data_format, content_type_data_meets, content_type_data_plain, content_type_data_tag};
+ghost use Rattle.messages_of_each_shape.specs.ContentTypeData.{content_type_data_format, content_type_data_meets, content_type_data_plain, content_type_data_tag, content_type_data_variants};
 ghost use Rattle.messages_of_each_shape.specs.declared.content_type_data.ContentTypeData.{ContentTypeData};
+ghost use Rattle.tls_codec_views.specs.Views.{IsCase};
+ghost use Rattle.messages_of_each_shape.specs.declared.content_type_data.ContentTypeDataView.{ContentTypeDataView};
 
 use std::alloc::Global;
 use tls_codec::{
@@ -11,6 +13,7 @@ use tls_codec::{
     unknown_value,
 };
 use tls_codec_validate::{Rejected, Validate, split_u8};
+use tls_codec_views::{Choice, Encoded};
 
 const APPLICATION: u8 = 1;
 
@@ -205,6 +208,67 @@ impl Validate for ContentTypeData {
                 error: unknown_value(u64::from(tag)),
                 rest: whole,
             }),
+        }
+    }
+}
+
+impl Choice for ContentTypeData {
+    type Tag = u8;
+
+    ghost variants = { content_type_data_variants };
+
+    ghost as_choice = { λ bytes is. is };
+}
+
+/// The encoding of a [`ContentTypeData`], by its case and fields.
+#[derive(Drop)]
+pub enum ContentTypeDataView<'a> {
+    /// `case application:`
+    Application {
+        /// `opaque authenticated_data<V>;`
+        authenticated_data: Encoded<'a, VLBytes>,
+        /// `opaque application_data<V>;`
+        application_data: Encoded<'a, VLBytes>,
+    },
+    /// `case proposal:`
+    Proposal {
+        /// `opaque authenticated_data<V>;`
+        authenticated_data: Encoded<'a, VLBytes>,
+        /// `opaque proposal<V>;`
+        proposal: Encoded<'a, VLBytes>,
+        /// `uint8 level;`
+        level: Encoded<'a, u8>,
+    },
+}
+
+impl<'a> From<Encoded<'a, ContentTypeData>> for ContentTypeDataView<'a> {
+    ghost from_gives = { λ whole view. elim view as (λ v. Type 0) [
+      | ContentTypeDataView.Application a0 a1 ↦ IsCase 1 1 whole (a0 ++ a1)
+      | ContentTypeDataView.Proposal a0 a1 a2 ↦ IsCase 1 2 whole ((a0 ++ a1) ++ a2)
+    ] };
+
+    fn from(whole: Encoded<'a, ContentTypeData>) -> ContentTypeDataView<'a> {
+        let (tag, parts) = whole.case();
+        match tag {
+            1 => {
+                let (authenticated_data, application_data) = Encoded::<(VLBytes, VLBytes)>::known(
+                    parts,
+                ).split();
+                ContentTypeDataView::Application {
+                    authenticated_data,
+                    application_data,
+                }
+            }
+            2 => {
+                let (parts_0, level) = Encoded::<((VLBytes, VLBytes), u8)>::known(parts).split();
+                let (authenticated_data, proposal) = parts_0.split();
+                ContentTypeDataView::Proposal {
+                    authenticated_data,
+                    proposal,
+                    level,
+                }
+            }
+            _ => unreachable!(),
         }
     }
 }

@@ -14,6 +14,7 @@ use tls_codec::{
     Deserialize, DeserializeBytes, Error, Serialize, Sink, Size, Source, unknown_value,
 };
 use tls_codec_validate::{Rejected, Validate, split_u8};
+use tls_codec_views::{Encoded, Numbered, Told};
 
 /// `FormX04`.
 #[derive(PartialEq, Eq, PartialOrd, Ord, Hash, Debug, Clone, Copy)]
@@ -141,6 +142,23 @@ impl Validate for FormX04 {
                 error: unknown_value(u64::from(tag)),
                 rest: whole,
             }),
+        }
+    }
+}
+
+impl Numbered for FormX04 {
+    type Tag = u8;
+
+    ghost has = { form_x04_has };
+
+    ghost as_values = { λ bytes is. is };
+}
+
+impl Told for FormX04 {
+    fn told(encoded: &Encoded<'_, FormX04>) -> FormX04 {
+        match encoded.number() {
+            4 => FormX04::X04,
+            _ => unreachable!(),
         }
     }
 }

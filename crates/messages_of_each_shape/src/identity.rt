@@ -1,9 +1,11 @@
 //! [`Identity`].
-ghost use Rattle.std.specs.Prelude.{◌≡◌, ◌&&◌, IsTrue, true};
+ghost use Rattle.std.specs.Prelude.{[], ◌≡◌, ◌&&◌, ◌++◌, IsTrue, true};
 ghost use Rattle.tls_codec.specs.OwnMessages.{no_variant_names, no_variant_source_names, nothing_names, nothing_source_names, tagged_names, tagged_source_names, variant_names, variant_source_names};
 ghost use Rattle.tls_codec_validate.specs.TaggedPlaces.{no_variant_places, nothing_places, tagged_places, variant_places};
-ghost use Rattle.messages_of_each_shape.specs.Identity.{identity_format, identity_meets, identity_plain, identity_tag};
+ghost use Rattle.messages_of_each_shape.specs.Identity.{identity_format, identity_meets, identity_plain, identity_tag, identity_variants};
 ghost use Rattle.messages_of_each_shape.specs.declared.identity.Identity.{Identity};
+ghost use Rattle.tls_codec_views.specs.Views.{IsCase};
+ghost use Rattle.messages_of_each_shape.specs.declared.identity.IdentityView.{IdentityView};
 
 use crate::{Key, Level, NameType};
 use std::alloc::Global;
@@ -12,6 +14,7 @@ use tls_codec::{
     unknown_value,
 };
 use tls_codec_validate::{Rejected, Validate, split_u16};
+use tls_codec_views::{Choice, Encoded};
 
 const FULL: u16 = 4;
 
@@ -166,6 +169,63 @@ impl Validate for Identity {
                 error: unknown_value(u64::from(tag)),
                 rest: whole,
             }),
+        }
+    }
+}
+
+impl Choice for Identity {
+    type Tag = u16;
+
+    ghost variants = { identity_variants };
+
+    ghost as_choice = { λ bytes is. is };
+}
+
+/// The encoding of a [`Identity`], by its case and fields.
+#[derive(Drop)]
+pub enum IdentityView<'a> {
+    /// `case full:`
+    Full {
+        /// `NameType name_type;`
+        name_type: Encoded<'a, NameType>,
+        /// `Level level;`
+        level: Encoded<'a, Level>,
+        /// `Key key;`
+        key: Encoded<'a, Key>,
+        /// `uint32 since;`
+        since: Encoded<'a, u32>,
+        /// `optional<Key> last;`
+        last: Encoded<'a, Option<Key>>,
+    },
+    /// `case anonymous:`
+    Anonymous,
+}
+
+impl<'a> From<Encoded<'a, Identity>> for IdentityView<'a> {
+    ghost from_gives = { λ whole view. elim view as (λ v. Type 0) [
+      | IdentityView.Full a0 a1 a2 a3 a4 ↦ IsCase 2 4 whole ((a0 ++ (a1 ++ a2)) ++ (a3 ++ a4))
+      | IdentityView.Anonymous ↦ IsCase 2 5 whole []
+    ] };
+
+    fn from(whole: Encoded<'a, Identity>) -> IdentityView<'a> {
+        let (tag, parts) = whole.case();
+        match tag {
+            4 => {
+                let (parts_0, parts_1) = Encoded::<
+                    ((NameType, Level, Key), (u32, Option<Key>)),
+                >::known(parts).split();
+                let (name_type, level, key) = parts_0.split();
+                let (since, last) = parts_1.split();
+                IdentityView::Full {
+                    name_type,
+                    level,
+                    key,
+                    since,
+                    last,
+                }
+            }
+            5 => IdentityView::Anonymous,
+            _ => unreachable!(),
         }
     }
 }

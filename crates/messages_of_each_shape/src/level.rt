@@ -14,6 +14,7 @@ use tls_codec::{
     Deserialize, DeserializeBytes, Error, Serialize, Sink, Size, Source, unknown_value,
 };
 use tls_codec_validate::{Rejected, Validate, split_u16};
+use tls_codec_views::{Encoded, Numbered, Told};
 
 /// `Level`.
 ///
@@ -157,6 +158,25 @@ impl Validate for Level {
                 error: unknown_value(u64::from(tag)),
                 rest: whole,
             }),
+        }
+    }
+}
+
+impl Numbered for Level {
+    type Tag = u16;
+
+    ghost has = { level_has };
+
+    ghost as_values = { λ bytes is. is };
+}
+
+impl Told for Level {
+    fn told(encoded: &Encoded<'_, Level>) -> Level {
+        match encoded.number() {
+            1 => Level::Low,
+            256 => Level::Middle,
+            65535 => Level::High,
+            _ => unreachable!(),
         }
     }
 }

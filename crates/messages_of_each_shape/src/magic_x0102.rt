@@ -14,6 +14,7 @@ use tls_codec::{
     Deserialize, DeserializeBytes, Error, Serialize, Sink, Size, Source, unknown_value,
 };
 use tls_codec_validate::{Rejected, Validate, split_u16};
+use tls_codec_views::{Encoded, Numbered, Told};
 
 /// `MagicX0102`.
 #[derive(PartialEq, Eq, PartialOrd, Ord, Hash, Debug, Clone, Copy)]
@@ -142,6 +143,23 @@ impl Validate for MagicX0102 {
                 error: unknown_value(u64::from(tag)),
                 rest: whole,
             }),
+        }
+    }
+}
+
+impl Numbered for MagicX0102 {
+    type Tag = u16;
+
+    ghost has = { magic_x0102_has };
+
+    ghost as_values = { λ bytes is. is };
+}
+
+impl Told for MagicX0102 {
+    fn told(encoded: &Encoded<'_, MagicX0102>) -> MagicX0102 {
+        match encoded.number() {
+            258 => MagicX0102::X0102,
+            _ => unreachable!(),
         }
     }
 }

@@ -14,6 +14,7 @@ use tls_codec::{
     Deserialize, DeserializeBytes, Error, Serialize, Sink, Size, Source, unknown_value,
 };
 use tls_codec_validate::{Rejected, Validate, split_u8};
+use tls_codec_views::{Encoded, Numbered, Told};
 
 /// `NameTypeHostName`.
 #[derive(PartialEq, Eq, PartialOrd, Ord, Hash, Debug, Clone, Copy)]
@@ -145,6 +146,23 @@ impl Validate for NameTypeHostName {
                 error: unknown_value(u64::from(tag)),
                 rest: whole,
             }),
+        }
+    }
+}
+
+impl Numbered for NameTypeHostName {
+    type Tag = u8;
+
+    ghost has = { name_type_host_name_has };
+
+    ghost as_values = { λ bytes is. is };
+}
+
+impl Told for NameTypeHostName {
+    fn told(encoded: &Encoded<'_, NameTypeHostName>) -> NameTypeHostName {
+        match encoded.number() {
+            0 => NameTypeHostName::HostName,
+            _ => unreachable!(),
         }
     }
 }

@@ -1,7 +1,9 @@
 //! [`VersionData`].
 ghost use Rattle.std.specs.Prelude.{◌≡◌, ◌&&◌, IsTrue, true};
-ghost use Rattle.messages_of_each_shape.specs.VersionData.{version_data_format, version_data_meets, version_data_plain, version_data_tag};
+ghost use Rattle.messages_of_each_shape.specs.VersionData.{version_data_format, version_data_meets, version_data_plain, version_data_tag, version_data_variants};
 ghost use Rattle.messages_of_each_shape.specs.declared.version_data.VersionData.{VersionData};
+ghost use Rattle.tls_codec_views.specs.Views.{IsCase};
+ghost use Rattle.messages_of_each_shape.specs.declared.version_data.VersionDataView.{VersionDataView};
 
 use crate::Key;
 use std::alloc::Global;
@@ -11,6 +13,7 @@ use tls_codec::{
 };
 use tls_codec_cases::{Case, Enclosed, Or, Tagged, append_as, write_as};
 use tls_codec_validate::{Rejected, Validate};
+use tls_codec_views::{Choice, Encoded};
 
 /// `uint16 version` of `Sized`, and what comes after each.
 #[derive(PartialEq, Eq, Debug, Clone, Drop)]
@@ -123,6 +126,43 @@ impl Validate for VersionData {
 
     fn tls_validate_prefix(whole: &[u8]) -> Result<&[u8], Rejected<'_>> {
         <Cases>::tls_validate_prefix(whole)
+    }
+}
+
+impl Choice for VersionData {
+    type Tag = u16;
+
+    ghost variants = { version_data_variants };
+
+    ghost as_choice = { λ bytes is. is };
+}
+
+/// The encoding of a [`VersionData`], by its case and fields.
+#[derive(Drop)]
+pub enum VersionDataView<'a> {
+    /// `case case_7:`
+    Case7(Encoded<'a, Enclosed<u16, (u8, VLBytes)>>),
+    /// `case case_9:`
+    Case9(Encoded<'a, Enclosed<u16, ()>>),
+    /// `case case_11: Key;`
+    Case11(Encoded<'a, Enclosed<u16, Key>>),
+}
+
+impl<'a> From<Encoded<'a, VersionData>> for VersionDataView<'a> {
+    ghost from_gives = { λ whole view. elim view as (λ v. Type 0) [
+      | VersionDataView.Case7 a0 ↦ IsCase 2 7 whole a0
+      | VersionDataView.Case9 a0 ↦ IsCase 2 9 whole a0
+      | VersionDataView.Case11 a0 ↦ IsCase 2 11 whole a0
+    ] };
+
+    fn from(whole: Encoded<'a, VersionData>) -> VersionDataView<'a> {
+        let (tag, parts) = whole.case();
+        match tag {
+            7 => VersionDataView::Case7(Encoded::known(parts)),
+            9 => VersionDataView::Case9(Encoded::known(parts)),
+            11 => VersionDataView::Case11(Encoded::known(parts)),
+            _ => unreachable!(),
+        }
     }
 }
 

@@ -14,6 +14,7 @@ use tls_codec::{
     Deserialize, DeserializeBytes, Error, Serialize, Sink, Size, Source, unknown_value,
 };
 use tls_codec_validate::{Rejected, Validate, split_u16};
+use tls_codec_views::{Encoded, Numbered, Told};
 
 /// `VersionXfefd`.
 #[derive(PartialEq, Eq, PartialOrd, Ord, Hash, Debug, Clone, Copy)]
@@ -142,6 +143,23 @@ impl Validate for VersionXfefd {
                 error: unknown_value(u64::from(tag)),
                 rest: whole,
             }),
+        }
+    }
+}
+
+impl Numbered for VersionXfefd {
+    type Tag = u16;
+
+    ghost has = { version_xfefd_has };
+
+    ghost as_values = { λ bytes is. is };
+}
+
+impl Told for VersionXfefd {
+    fn told(encoded: &Encoded<'_, VersionXfefd>) -> VersionXfefd {
+        match encoded.number() {
+            65277 => VersionXfefd::Xfefd,
+            _ => unreachable!(),
         }
     }
 }

@@ -18,6 +18,7 @@ use tls_codec_cases::Selector;
 use tls_codec_validate::{
     Keyed, Rejected, TagFirst, TagKeyed, Validate, ValidateKeyed, split_u8, validate_tag_first,
 };
+use tls_codec_views::{Encoded, Numbered, Told};
 
 /// `ContentType` (RFC 9420, section 6).
 #[derive(PartialEq, Eq, PartialOrd, Ord, Hash, Debug, Clone, Copy)]
@@ -169,6 +170,25 @@ impl Validate for ContentType {
                 error: unknown_value(u64::from(tag)),
                 rest: whole,
             }),
+        }
+    }
+}
+
+impl Numbered for ContentType {
+    type Tag = u8;
+
+    ghost has = { content_type_has };
+
+    ghost as_values = { λ bytes is. is };
+}
+
+impl Told for ContentType {
+    fn told(encoded: &Encoded<'_, ContentType>) -> ContentType {
+        match encoded.number() {
+            1 => ContentType::Application,
+            2 => ContentType::Proposal,
+            3 => ContentType::Commit,
+            _ => unreachable!(),
         }
     }
 }

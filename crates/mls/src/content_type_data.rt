@@ -3,8 +3,10 @@ ghost use Rattle.std.specs.Prelude.{◌≡◌, IsTrue};
 ghost use Rattle.mls.specs.ContentType.{content_type_code};
 ghost use Rattle.tls_codec.specs.OwnMessages.{no_variant_names, no_variant_source_names, tagged_names, tagged_source_names, variant_names, variant_source_names};
 ghost use Rattle.tls_codec_validate.specs.TaggedPlaces.{no_variant_places, tagged_places, variant_places};
-ghost use Rattle.mls.specs.ContentTypeData.{content_type_data_format, content_type_data_meets, content_type_data_plain, content_type_data_tag};
+ghost use Rattle.mls.specs.ContentTypeData.{content_type_data_format, content_type_data_meets, content_type_data_plain, content_type_data_tag, content_type_data_variants};
 ghost use Rattle.mls.specs.declared.content_type_data.ContentTypeData.{ContentTypeData};
+ghost use Rattle.tls_codec_views.specs.Views.{IsCase};
+ghost use Rattle.mls.specs.declared.content_type_data.ContentTypeDataView.{ContentTypeDataView};
 ghost use Rattle.mls.specs.ContentTypeData.{content_type_data_content_type};
 ghost use Rattle.std.proofs.Common.{refl};
 ghost use Rattle.mls.specs.ContentTypeData.{content_type_data_variants};
@@ -20,6 +22,7 @@ use tls_codec_cases::{Holds, Selector};
 use tls_codec_validate::{
     HoldsKey, Keyed, Rejected, TagFirst, Validate, ValidateKeyed, split_u8, validate_tag_first,
 };
+use tls_codec_views::{Choice, Encoded};
 
 const APPLICATION: u8 = 1;
 
@@ -167,6 +170,43 @@ impl Validate for ContentTypeData {
                 error: unknown_value(u64::from(tag)),
                 rest: whole,
             }),
+        }
+    }
+}
+
+impl Choice for ContentTypeData {
+    type Tag = u8;
+
+    ghost variants = { content_type_data_variants };
+
+    ghost as_choice = { λ bytes is. is };
+}
+
+/// The encoding of a [`ContentTypeData`], by its case and fields.
+#[derive(Drop)]
+pub enum ContentTypeDataView<'a> {
+    /// `case application: opaque application_data<V>;`
+    Application(Encoded<'a, VLBytes>),
+    /// `case proposal: Proposal proposal;`
+    Proposal(Encoded<'a, Proposal>),
+    /// `case commit: Commit commit;`
+    Commit(Encoded<'a, Commit>),
+}
+
+impl<'a> From<Encoded<'a, ContentTypeData>> for ContentTypeDataView<'a> {
+    ghost from_gives = { λ whole view. elim view as (λ v. Type 0) [
+      | ContentTypeDataView.Application a0 ↦ IsCase 1 1 whole a0
+      | ContentTypeDataView.Proposal a0 ↦ IsCase 1 2 whole a0
+      | ContentTypeDataView.Commit a0 ↦ IsCase 1 3 whole a0
+    ] };
+
+    fn from(whole: Encoded<'a, ContentTypeData>) -> ContentTypeDataView<'a> {
+        let (tag, parts) = whole.case();
+        match tag {
+            1 => ContentTypeDataView::Application(Encoded::alone(parts)),
+            2 => ContentTypeDataView::Proposal(Encoded::alone(parts)),
+            3 => ContentTypeDataView::Commit(Encoded::alone(parts)),
+            _ => unreachable!(),
         }
     }
 }

@@ -1,10 +1,12 @@
 //! [`Sender`].
-ghost use Rattle.std.specs.Prelude.{◌≡◌, IsTrue, true};
+ghost use Rattle.std.specs.Prelude.{[], ◌≡◌, IsTrue, true};
 ghost use Rattle.mls.specs.SenderType.{sender_type_code};
 ghost use Rattle.tls_codec.specs.OwnMessages.{no_variant_names, no_variant_source_names, nothing_names, nothing_source_names, tagged_names, tagged_source_names, variant_names, variant_source_names};
 ghost use Rattle.tls_codec_validate.specs.TaggedPlaces.{no_variant_places, nothing_places, tagged_places, variant_places};
-ghost use Rattle.mls.specs.Sender.{sender_format, sender_meets, sender_plain, sender_tag};
+ghost use Rattle.mls.specs.Sender.{sender_format, sender_meets, sender_plain, sender_tag, sender_variants};
 ghost use Rattle.mls.specs.declared.sender.Sender.{Sender};
+ghost use Rattle.tls_codec_views.specs.Views.{IsCase};
+ghost use Rattle.mls.specs.declared.sender.SenderView.{SenderView};
 ghost use Rattle.mls.specs.Sender.{sender_sender_type};
 ghost use Rattle.std.proofs.Common.{refl};
 ghost use Rattle.mls.specs.Sender.{sender_variants};
@@ -18,6 +20,7 @@ use tls_codec_cases::{Holds, Selector};
 use tls_codec_validate::{
     HoldsKey, Keyed, Rejected, TagFirst, Validate, ValidateKeyed, split_u8, validate_tag_first,
 };
+use tls_codec_views::{Choice, Encoded};
 
 const MEMBER: u8 = 1;
 
@@ -156,6 +159,47 @@ impl Validate for Sender {
                 error: unknown_value(u64::from(tag)),
                 rest: whole,
             }),
+        }
+    }
+}
+
+impl Choice for Sender {
+    type Tag = u8;
+
+    ghost variants = { sender_variants };
+
+    ghost as_choice = { λ bytes is. is };
+}
+
+/// The encoding of a [`Sender`], by its case and fields.
+#[derive(Drop)]
+pub enum SenderView<'a> {
+    /// `case member: uint32 leaf_index;`
+    Member(Encoded<'a, u32>),
+    /// `case external: uint32 sender_index;`
+    External(Encoded<'a, u32>),
+    /// `case new_member_commit:`
+    NewMemberCommit,
+    /// `case new_member_proposal:`
+    NewMemberProposal,
+}
+
+impl<'a> From<Encoded<'a, Sender>> for SenderView<'a> {
+    ghost from_gives = { λ whole view. elim view as (λ v. Type 0) [
+      | SenderView.Member a0 ↦ IsCase 1 1 whole a0
+      | SenderView.External a0 ↦ IsCase 1 2 whole a0
+      | SenderView.NewMemberCommit ↦ IsCase 1 4 whole []
+      | SenderView.NewMemberProposal ↦ IsCase 1 3 whole []
+    ] };
+
+    fn from(whole: Encoded<'a, Sender>) -> SenderView<'a> {
+        let (tag, parts) = whole.case();
+        match tag {
+            1 => SenderView::Member(Encoded::alone(parts)),
+            2 => SenderView::External(Encoded::alone(parts)),
+            4 => SenderView::NewMemberCommit,
+            3 => SenderView::NewMemberProposal,
+            _ => unreachable!(),
         }
     }
 }

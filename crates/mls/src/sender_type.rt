@@ -18,6 +18,7 @@ use tls_codec_cases::Selector;
 use tls_codec_validate::{
     Keyed, Rejected, TagFirst, TagKeyed, Validate, ValidateKeyed, split_u8, validate_tag_first,
 };
+use tls_codec_views::{Encoded, Numbered, Told};
 
 /// `SenderType` (RFC 9420, section 6).
 #[derive(PartialEq, Eq, PartialOrd, Ord, Hash, Debug, Clone, Copy)]
@@ -174,6 +175,26 @@ impl Validate for SenderType {
                 error: unknown_value(u64::from(tag)),
                 rest: whole,
             }),
+        }
+    }
+}
+
+impl Numbered for SenderType {
+    type Tag = u8;
+
+    ghost has = { sender_type_has };
+
+    ghost as_values = { λ bytes is. is };
+}
+
+impl Told for SenderType {
+    fn told(encoded: &Encoded<'_, SenderType>) -> SenderType {
+        match encoded.number() {
+            1 => SenderType::Member,
+            2 => SenderType::External,
+            3 => SenderType::NewMemberProposal,
+            4 => SenderType::NewMemberCommit,
+            _ => unreachable!(),
         }
     }
 }

@@ -2,8 +2,10 @@
 ghost use Rattle.std.specs.Prelude.{◌≡◌, IsTrue};
 ghost use Rattle.tls_codec.specs.OwnMessages.{no_variant_names, no_variant_source_names, tagged_names, tagged_source_names, variant_names, variant_source_names};
 ghost use Rattle.tls_codec_validate.specs.TaggedPlaces.{no_variant_places, tagged_places, variant_places};
-ghost use Rattle.mls.specs.WireFormatData.{wire_format_data_format, wire_format_data_meets, wire_format_data_plain, wire_format_data_tag};
+ghost use Rattle.mls.specs.WireFormatData.{wire_format_data_format, wire_format_data_meets, wire_format_data_plain, wire_format_data_tag, wire_format_data_variants};
 ghost use Rattle.mls.specs.declared.wire_format_data.WireFormatData.{WireFormatData};
+ghost use Rattle.tls_codec_views.specs.Views.{IsCase};
+ghost use Rattle.mls.specs.declared.wire_format_data.WireFormatDataView.{WireFormatDataView};
 
 use crate::{PrivateMessage, PublicMessage, WireFormat};
 use mls_leaf::KeyPackage;
@@ -13,6 +15,7 @@ use tls_codec::{
     Deserialize, DeserializeBytes, Error, Lent, Serialize, Sink, Size, Source, unknown_value,
 };
 use tls_codec_validate::{Rejected, Validate, split_u16};
+use tls_codec_views::{Choice, Encoded};
 
 const MLS_PUBLIC_MESSAGE: u16 = 1;
 
@@ -236,6 +239,51 @@ impl Validate for WireFormatData {
                 error: unknown_value(u64::from(tag)),
                 rest: whole,
             }),
+        }
+    }
+}
+
+impl Choice for WireFormatData {
+    type Tag = u16;
+
+    ghost variants = { wire_format_data_variants };
+
+    ghost as_choice = { λ bytes is. is };
+}
+
+/// The encoding of a [`WireFormatData`], by its case and fields.
+#[derive(Drop)]
+pub enum WireFormatDataView<'a> {
+    /// `case mls_public_message: PublicMessage public_message;`
+    MlsPublicMessage(Encoded<'a, PublicMessage>),
+    /// `case mls_private_message: PrivateMessage private_message;`
+    MlsPrivateMessage(Encoded<'a, PrivateMessage>),
+    /// `case mls_welcome: Welcome welcome;`
+    MlsWelcome(Encoded<'a, Welcome>),
+    /// `case mls_group_info: GroupInfo group_info;`
+    MlsGroupInfo(Encoded<'a, GroupInfo>),
+    /// `case mls_key_package: KeyPackage key_package;`
+    MlsKeyPackage(Encoded<'a, KeyPackage>),
+}
+
+impl<'a> From<Encoded<'a, WireFormatData>> for WireFormatDataView<'a> {
+    ghost from_gives = { λ whole view. elim view as (λ v. Type 0) [
+      | WireFormatDataView.MlsPublicMessage a0 ↦ IsCase 2 1 whole a0
+      | WireFormatDataView.MlsPrivateMessage a0 ↦ IsCase 2 2 whole a0
+      | WireFormatDataView.MlsWelcome a0 ↦ IsCase 2 3 whole a0
+      | WireFormatDataView.MlsGroupInfo a0 ↦ IsCase 2 4 whole a0
+      | WireFormatDataView.MlsKeyPackage a0 ↦ IsCase 2 5 whole a0
+    ] };
+
+    fn from(whole: Encoded<'a, WireFormatData>) -> WireFormatDataView<'a> {
+        let (tag, parts) = whole.case();
+        match tag {
+            1 => WireFormatDataView::MlsPublicMessage(Encoded::alone(parts)),
+            2 => WireFormatDataView::MlsPrivateMessage(Encoded::alone(parts)),
+            3 => WireFormatDataView::MlsWelcome(Encoded::alone(parts)),
+            4 => WireFormatDataView::MlsGroupInfo(Encoded::alone(parts)),
+            5 => WireFormatDataView::MlsKeyPackage(Encoded::alone(parts)),
+            _ => unreachable!(),
         }
     }
 }

@@ -2,8 +2,10 @@
 ghost use Rattle.std.specs.Prelude.{◌≡◌, IsTrue};
 ghost use Rattle.tls_codec.specs.OwnMessages.{no_variant_names, no_variant_source_names, tagged_names, tagged_source_names, variant_names, variant_source_names};
 ghost use Rattle.tls_codec_validate.specs.TaggedPlaces.{no_variant_places, tagged_places, variant_places};
-ghost use Rattle.mls_leaf.specs.Credential.{credential_format, credential_meets, credential_plain, credential_tag};
+ghost use Rattle.mls_leaf.specs.Credential.{credential_format, credential_meets, credential_plain, credential_tag, credential_variants};
 ghost use Rattle.mls_leaf.specs.declared.credential.Credential.{Credential};
+ghost use Rattle.tls_codec_views.specs.Views.{IsCase};
+ghost use Rattle.mls_leaf.specs.declared.credential.CredentialView.{CredentialView};
 
 use crate::{Certificate, CredentialType};
 use std::alloc::Global;
@@ -12,6 +14,7 @@ use tls_codec::{
     unknown_value,
 };
 use tls_codec_validate::{Rejected, Validate, split_u16};
+use tls_codec_views::{Choice, Encoded};
 
 const BASIC: u16 = 1;
 
@@ -123,6 +126,39 @@ impl Validate for Credential {
                 error: unknown_value(u64::from(tag)),
                 rest: whole,
             }),
+        }
+    }
+}
+
+impl Choice for Credential {
+    type Tag = u16;
+
+    ghost variants = { credential_variants };
+
+    ghost as_choice = { λ bytes is. is };
+}
+
+/// The encoding of a [`Credential`], by its case and fields.
+#[derive(Drop)]
+pub enum CredentialView<'a> {
+    /// `case basic: opaque identity<V>;`
+    Basic(Encoded<'a, VLBytes>),
+    /// `case x509: Certificate certificates<V>;`
+    X509(Encoded<'a, Vec<Certificate>>),
+}
+
+impl<'a> From<Encoded<'a, Credential>> for CredentialView<'a> {
+    ghost from_gives = { λ whole view. elim view as (λ v. Type 0) [
+      | CredentialView.Basic a0 ↦ IsCase 2 1 whole a0
+      | CredentialView.X509 a0 ↦ IsCase 2 2 whole a0
+    ] };
+
+    fn from(whole: Encoded<'a, Credential>) -> CredentialView<'a> {
+        let (tag, parts) = whole.case();
+        match tag {
+            1 => CredentialView::Basic(Encoded::alone(parts)),
+            2 => CredentialView::X509(Encoded::alone(parts)),
+            _ => unreachable!(),
         }
     }
 }

@@ -1,9 +1,11 @@
 //! [`LeafNodeOrigin`].
-ghost use Rattle.std.specs.Prelude.{◌≡◌, IsTrue, true};
+ghost use Rattle.std.specs.Prelude.{[], ◌≡◌, IsTrue, true};
 ghost use Rattle.tls_codec.specs.OwnMessages.{no_variant_names, no_variant_source_names, nothing_names, nothing_source_names, tagged_names, tagged_source_names, variant_names, variant_source_names};
 ghost use Rattle.tls_codec_validate.specs.TaggedPlaces.{no_variant_places, nothing_places, tagged_places, variant_places};
-ghost use Rattle.mls_leaf.specs.LeafNodeOrigin.{leaf_node_origin_format, leaf_node_origin_meets, leaf_node_origin_plain, leaf_node_origin_tag};
+ghost use Rattle.mls_leaf.specs.LeafNodeOrigin.{leaf_node_origin_format, leaf_node_origin_meets, leaf_node_origin_plain, leaf_node_origin_tag, leaf_node_origin_variants};
 ghost use Rattle.mls_leaf.specs.declared.leaf_node_origin.LeafNodeOrigin.{LeafNodeOrigin};
+ghost use Rattle.tls_codec_views.specs.Views.{IsCase};
+ghost use Rattle.mls_leaf.specs.declared.leaf_node_origin.LeafNodeOriginView.{LeafNodeOriginView};
 
 use crate::Lifetime;
 use std::alloc::Global;
@@ -12,6 +14,7 @@ use tls_codec::{
     unknown_value,
 };
 use tls_codec_validate::{Rejected, Validate, split_u8};
+use tls_codec_views::{Choice, Encoded};
 
 const KEY_PACKAGE: u8 = 1;
 
@@ -151,6 +154,43 @@ impl Validate for LeafNodeOrigin {
                 error: unknown_value(u64::from(tag)),
                 rest: whole,
             }),
+        }
+    }
+}
+
+impl Choice for LeafNodeOrigin {
+    type Tag = u8;
+
+    ghost variants = { leaf_node_origin_variants };
+
+    ghost as_choice = { λ bytes is. is };
+}
+
+/// The encoding of a [`LeafNodeOrigin`], by its case and fields.
+#[derive(Drop)]
+pub enum LeafNodeOriginView<'a> {
+    /// `case key_package: Lifetime lifetime;`
+    KeyPackage(Encoded<'a, Lifetime>),
+    /// `case update:`
+    Update,
+    /// `case commit: opaque parent_hash<V>;`
+    Commit(Encoded<'a, VLBytes>),
+}
+
+impl<'a> From<Encoded<'a, LeafNodeOrigin>> for LeafNodeOriginView<'a> {
+    ghost from_gives = { λ whole view. elim view as (λ v. Type 0) [
+      | LeafNodeOriginView.KeyPackage a0 ↦ IsCase 1 1 whole a0
+      | LeafNodeOriginView.Update ↦ IsCase 1 2 whole []
+      | LeafNodeOriginView.Commit a0 ↦ IsCase 1 3 whole a0
+    ] };
+
+    fn from(whole: Encoded<'a, LeafNodeOrigin>) -> LeafNodeOriginView<'a> {
+        let (tag, parts) = whole.case();
+        match tag {
+            1 => LeafNodeOriginView::KeyPackage(Encoded::alone(parts)),
+            2 => LeafNodeOriginView::Update,
+            3 => LeafNodeOriginView::Commit(Encoded::alone(parts)),
+            _ => unreachable!(),
         }
     }
 }

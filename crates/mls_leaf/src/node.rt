@@ -2,8 +2,10 @@
 ghost use Rattle.std.specs.Prelude.{◌≡◌, IsTrue};
 ghost use Rattle.tls_codec.specs.OwnMessages.{no_variant_names, no_variant_source_names, tagged_names, tagged_source_names, variant_names, variant_source_names};
 ghost use Rattle.tls_codec_validate.specs.TaggedPlaces.{no_variant_places, tagged_places, variant_places};
-ghost use Rattle.mls_leaf.specs.Node.{node_format, node_meets, node_plain, node_tag};
+ghost use Rattle.mls_leaf.specs.Node.{node_format, node_meets, node_plain, node_tag, node_variants};
 ghost use Rattle.mls_leaf.specs.declared.node.Node.{Node};
+ghost use Rattle.tls_codec_views.specs.Views.{IsCase};
+ghost use Rattle.mls_leaf.specs.declared.node.NodeView.{NodeView};
 
 use crate::{LeafNode, ParentNode};
 use std::alloc::Global;
@@ -11,6 +13,7 @@ use tls_codec::{
     Deserialize, DeserializeBytes, Error, Lent, Serialize, Sink, Size, Source, unknown_value,
 };
 use tls_codec_validate::{Rejected, Validate, split_u8};
+use tls_codec_views::{Choice, Encoded};
 
 const LEAF: u8 = 1;
 
@@ -121,6 +124,39 @@ impl Validate for Node {
                 error: unknown_value(u64::from(tag)),
                 rest: whole,
             }),
+        }
+    }
+}
+
+impl Choice for Node {
+    type Tag = u8;
+
+    ghost variants = { node_variants };
+
+    ghost as_choice = { λ bytes is. is };
+}
+
+/// The encoding of a [`Node`], by its case and fields.
+#[derive(Drop)]
+pub enum NodeView<'a> {
+    /// `case leaf: LeafNode leaf_node;`
+    Leaf(Encoded<'a, LeafNode>),
+    /// `case parent: ParentNode parent_node;`
+    Parent(Encoded<'a, ParentNode>),
+}
+
+impl<'a> From<Encoded<'a, Node>> for NodeView<'a> {
+    ghost from_gives = { λ whole view. elim view as (λ v. Type 0) [
+      | NodeView.Leaf a0 ↦ IsCase 1 1 whole a0
+      | NodeView.Parent a0 ↦ IsCase 1 2 whole a0
+    ] };
+
+    fn from(whole: Encoded<'a, Node>) -> NodeView<'a> {
+        let (tag, parts) = whole.case();
+        match tag {
+            1 => NodeView::Leaf(Encoded::alone(parts)),
+            2 => NodeView::Parent(Encoded::alone(parts)),
+            _ => unreachable!(),
         }
     }
 }

@@ -2,8 +2,10 @@
 ghost use Rattle.std.specs.Prelude.{◌≡◌, IsTrue};
 ghost use Rattle.tls_codec.specs.OwnMessages.{no_variant_names, no_variant_source_names, tagged_names, tagged_source_names, variant_names, variant_source_names};
 ghost use Rattle.tls_codec_validate.specs.TaggedPlaces.{no_variant_places, tagged_places, variant_places};
-ghost use Rattle.mls_leaf.specs.TreeHashInput.{tree_hash_input_format, tree_hash_input_meets, tree_hash_input_plain, tree_hash_input_tag};
+ghost use Rattle.mls_leaf.specs.TreeHashInput.{tree_hash_input_format, tree_hash_input_meets, tree_hash_input_plain, tree_hash_input_tag, tree_hash_input_variants};
 ghost use Rattle.mls_leaf.specs.declared.tree_hash_input.TreeHashInput.{TreeHashInput};
+ghost use Rattle.tls_codec_views.specs.Views.{IsCase};
+ghost use Rattle.mls_leaf.specs.declared.tree_hash_input.TreeHashInputView.{TreeHashInputView};
 
 use crate::{LeafNodeHashInput, ParentNodeHashInput};
 use std::alloc::Global;
@@ -11,6 +13,7 @@ use tls_codec::{
     Deserialize, DeserializeBytes, Error, Lent, Serialize, Sink, Size, Source, unknown_value,
 };
 use tls_codec_validate::{Rejected, Validate, split_u8};
+use tls_codec_views::{Choice, Encoded};
 
 const LEAF: u8 = 1;
 
@@ -124,6 +127,39 @@ impl Validate for TreeHashInput {
                 error: unknown_value(u64::from(tag)),
                 rest: whole,
             }),
+        }
+    }
+}
+
+impl Choice for TreeHashInput {
+    type Tag = u8;
+
+    ghost variants = { tree_hash_input_variants };
+
+    ghost as_choice = { λ bytes is. is };
+}
+
+/// The encoding of a [`TreeHashInput`], by its case and fields.
+#[derive(Drop)]
+pub enum TreeHashInputView<'a> {
+    /// `case leaf: LeafNodeHashInput leaf_node;`
+    Leaf(Encoded<'a, LeafNodeHashInput>),
+    /// `case parent: ParentNodeHashInput parent_node;`
+    Parent(Encoded<'a, ParentNodeHashInput>),
+}
+
+impl<'a> From<Encoded<'a, TreeHashInput>> for TreeHashInputView<'a> {
+    ghost from_gives = { λ whole view. elim view as (λ v. Type 0) [
+      | TreeHashInputView.Leaf a0 ↦ IsCase 1 1 whole a0
+      | TreeHashInputView.Parent a0 ↦ IsCase 1 2 whole a0
+    ] };
+
+    fn from(whole: Encoded<'a, TreeHashInput>) -> TreeHashInputView<'a> {
+        let (tag, parts) = whole.case();
+        match tag {
+            1 => TreeHashInputView::Leaf(Encoded::alone(parts)),
+            2 => TreeHashInputView::Parent(Encoded::alone(parts)),
+            _ => unreachable!(),
         }
     }
 }

@@ -2,8 +2,10 @@
 ghost use Rattle.std.specs.Prelude.{◌≡◌, IsTrue};
 ghost use Rattle.tls_codec.specs.OwnMessages.{no_variant_names, no_variant_source_names, tagged_names, tagged_source_names, variant_names, variant_source_names};
 ghost use Rattle.tls_codec_validate.specs.TaggedPlaces.{no_variant_places, tagged_places, variant_places};
-ghost use Rattle.mls_proposals.specs.Proposal.{proposal_format, proposal_meets, proposal_plain, proposal_tag};
+ghost use Rattle.mls_proposals.specs.Proposal.{proposal_format, proposal_meets, proposal_plain, proposal_tag, proposal_variants};
 ghost use Rattle.mls_proposals.specs.declared.proposal.Proposal.{Proposal};
+ghost use Rattle.tls_codec_views.specs.Views.{IsCase};
+ghost use Rattle.mls_proposals.specs.declared.proposal.ProposalView.{ProposalView};
 
 use crate::{Add, ExternalInit, GroupContextExtensions, PreSharedKey, ReInit, Remove, Update};
 use mls_leaf::ProposalType;
@@ -12,6 +14,7 @@ use tls_codec::{
     Deserialize, DeserializeBytes, Error, Lent, Serialize, Sink, Size, Source, unknown_value,
 };
 use tls_codec_validate::{Rejected, Validate, split_u16};
+use tls_codec_views::{Choice, Encoded};
 
 const ADD: u16 = 1;
 
@@ -255,6 +258,59 @@ impl Validate for Proposal {
                 error: unknown_value(u64::from(tag)),
                 rest: whole,
             }),
+        }
+    }
+}
+
+impl Choice for Proposal {
+    type Tag = u16;
+
+    ghost variants = { proposal_variants };
+
+    ghost as_choice = { λ bytes is. is };
+}
+
+/// The encoding of a [`Proposal`], by its case and fields.
+#[derive(Drop)]
+pub enum ProposalView<'a> {
+    /// `case add: Add add;`
+    Add(Encoded<'a, Add>),
+    /// `case update: Update update;`
+    Update(Encoded<'a, Update>),
+    /// `case remove: Remove remove;`
+    Remove(Encoded<'a, Remove>),
+    /// `case psk: PreSharedKey psk;`
+    Psk(Encoded<'a, PreSharedKey>),
+    /// `case reinit: ReInit reinit;`
+    Reinit(Encoded<'a, ReInit>),
+    /// `case external_init: ExternalInit external_init;`
+    ExternalInit(Encoded<'a, ExternalInit>),
+    /// `case group_context_extensions: GroupContextExtensions group_context_extensions;`
+    GroupContextExtensions(Encoded<'a, GroupContextExtensions>),
+}
+
+impl<'a> From<Encoded<'a, Proposal>> for ProposalView<'a> {
+    ghost from_gives = { λ whole view. elim view as (λ v. Type 0) [
+      | ProposalView.Add a0 ↦ IsCase 2 1 whole a0
+      | ProposalView.Update a0 ↦ IsCase 2 2 whole a0
+      | ProposalView.Remove a0 ↦ IsCase 2 3 whole a0
+      | ProposalView.Psk a0 ↦ IsCase 2 4 whole a0
+      | ProposalView.Reinit a0 ↦ IsCase 2 5 whole a0
+      | ProposalView.ExternalInit a0 ↦ IsCase 2 6 whole a0
+      | ProposalView.GroupContextExtensions a0 ↦ IsCase 2 7 whole a0
+    ] };
+
+    fn from(whole: Encoded<'a, Proposal>) -> ProposalView<'a> {
+        let (tag, parts) = whole.case();
+        match tag {
+            1 => ProposalView::Add(Encoded::alone(parts)),
+            2 => ProposalView::Update(Encoded::alone(parts)),
+            3 => ProposalView::Remove(Encoded::alone(parts)),
+            4 => ProposalView::Psk(Encoded::alone(parts)),
+            5 => ProposalView::Reinit(Encoded::alone(parts)),
+            6 => ProposalView::ExternalInit(Encoded::alone(parts)),
+            7 => ProposalView::GroupContextExtensions(Encoded::alone(parts)),
+            _ => unreachable!(),
         }
     }
 }

@@ -2,8 +2,10 @@
 ghost use Rattle.std.specs.Prelude.{◌≡◌, IsTrue};
 ghost use Rattle.tls_codec.specs.OwnMessages.{no_variant_names, no_variant_source_names, tagged_names, tagged_source_names, variant_names, variant_source_names};
 ghost use Rattle.tls_codec_validate.specs.TaggedPlaces.{no_variant_places, tagged_places, variant_places};
-ghost use Rattle.mls_proposals.specs.ProposalOrRef.{proposal_or_ref_format, proposal_or_ref_meets, proposal_or_ref_plain, proposal_or_ref_tag};
+ghost use Rattle.mls_proposals.specs.ProposalOrRef.{proposal_or_ref_format, proposal_or_ref_meets, proposal_or_ref_plain, proposal_or_ref_tag, proposal_or_ref_variants};
 ghost use Rattle.mls_proposals.specs.declared.proposal_or_ref.ProposalOrRef.{ProposalOrRef};
+ghost use Rattle.tls_codec_views.specs.Views.{IsCase};
+ghost use Rattle.mls_proposals.specs.declared.proposal_or_ref.ProposalOrRefView.{ProposalOrRefView};
 
 use crate::{Proposal, ProposalRef};
 use std::alloc::Global;
@@ -11,6 +13,7 @@ use tls_codec::{
     Deserialize, DeserializeBytes, Error, Lent, Serialize, Sink, Size, Source, unknown_value,
 };
 use tls_codec_validate::{Rejected, Validate, split_u8};
+use tls_codec_views::{Choice, Encoded};
 
 const PROPOSAL: u8 = 1;
 
@@ -129,6 +132,39 @@ impl Validate for ProposalOrRef {
                 error: unknown_value(u64::from(tag)),
                 rest: whole,
             }),
+        }
+    }
+}
+
+impl Choice for ProposalOrRef {
+    type Tag = u8;
+
+    ghost variants = { proposal_or_ref_variants };
+
+    ghost as_choice = { λ bytes is. is };
+}
+
+/// The encoding of a [`ProposalOrRef`], by its case and fields.
+#[derive(Drop)]
+pub enum ProposalOrRefView<'a> {
+    /// `case proposal: Proposal proposal;`
+    Proposal(Encoded<'a, Proposal>),
+    /// `case reference: ProposalRef reference;`
+    Reference(Encoded<'a, ProposalRef>),
+}
+
+impl<'a> From<Encoded<'a, ProposalOrRef>> for ProposalOrRefView<'a> {
+    ghost from_gives = { λ whole view. elim view as (λ v. Type 0) [
+      | ProposalOrRefView.Proposal a0 ↦ IsCase 1 1 whole a0
+      | ProposalOrRefView.Reference a0 ↦ IsCase 1 2 whole a0
+    ] };
+
+    fn from(whole: Encoded<'a, ProposalOrRef>) -> ProposalOrRefView<'a> {
+        let (tag, parts) = whole.case();
+        match tag {
+            1 => ProposalOrRefView::Proposal(Encoded::alone(parts)),
+            2 => ProposalOrRefView::Reference(Encoded::alone(parts)),
+            _ => unreachable!(),
         }
     }
 }

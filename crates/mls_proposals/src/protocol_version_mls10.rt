@@ -14,6 +14,7 @@ use tls_codec::{
     Deserialize, DeserializeBytes, Error, Serialize, Sink, Size, Source, unknown_value,
 };
 use tls_codec_validate::{Rejected, Validate, split_u16};
+use tls_codec_views::{Encoded, Numbered, Told};
 
 /// `ProtocolVersionMls10`.
 #[derive(PartialEq, Eq, PartialOrd, Ord, Hash, Debug, Clone, Copy)]
@@ -148,6 +149,23 @@ impl Validate for ProtocolVersionMls10 {
                 error: unknown_value(u64::from(tag)),
                 rest: whole,
             }),
+        }
+    }
+}
+
+impl Numbered for ProtocolVersionMls10 {
+    type Tag = u16;
+
+    ghost has = { protocol_version_mls10_has };
+
+    ghost as_values = { λ bytes is. is };
+}
+
+impl Told for ProtocolVersionMls10 {
+    fn told(encoded: &Encoded<'_, ProtocolVersionMls10>) -> ProtocolVersionMls10 {
+        match encoded.number() {
+            1 => ProtocolVersionMls10::Mls10,
+            _ => unreachable!(),
         }
     }
 }

@@ -1,9 +1,11 @@
 //! [`PSKOrigin`].
-ghost use Rattle.std.specs.Prelude.{◌≡◌, ◌&&◌, IsTrue};
+ghost use Rattle.std.specs.Prelude.{◌≡◌, ◌&&◌, ◌++◌, IsTrue};
 ghost use Rattle.tls_codec.specs.OwnMessages.{no_variant_names, no_variant_source_names, tagged_names, tagged_source_names, variant_names, variant_source_names};
 ghost use Rattle.tls_codec_validate.specs.TaggedPlaces.{no_variant_places, tagged_places, variant_places};
-ghost use Rattle.mls_proposals.specs.PSKOrigin.{psk_origin_format, psk_origin_meets, psk_origin_plain, psk_origin_tag};
+ghost use Rattle.mls_proposals.specs.PSKOrigin.{psk_origin_format, psk_origin_meets, psk_origin_plain, psk_origin_tag, psk_origin_variants};
 ghost use Rattle.mls_proposals.specs.declared.psk_origin.PSKOrigin.{PSKOrigin};
+ghost use Rattle.tls_codec_views.specs.Views.{IsCase};
+ghost use Rattle.mls_proposals.specs.declared.psk_origin.PSKOriginView.{PSKOriginView};
 
 use crate::ResumptionPSKUsage;
 use std::alloc::Global;
@@ -12,6 +14,7 @@ use tls_codec::{
     unknown_value,
 };
 use tls_codec_validate::{Rejected, Validate, split_u8};
+use tls_codec_views::{Choice, Encoded};
 
 const EXTERNAL: u8 = 1;
 
@@ -159,6 +162,56 @@ impl Validate for PSKOrigin {
                 error: unknown_value(u64::from(tag)),
                 rest: whole,
             }),
+        }
+    }
+}
+
+impl Choice for PSKOrigin {
+    type Tag = u8;
+
+    ghost variants = { psk_origin_variants };
+
+    ghost as_choice = { λ bytes is. is };
+}
+
+/// The encoding of a [`PSKOrigin`], by its case and fields.
+#[derive(Drop)]
+pub enum PSKOriginView<'a> {
+    /// `case external: opaque psk_id<V>;`
+    External(Encoded<'a, VLBytes>),
+    /// `case resumption:`
+    Resumption {
+        /// `ResumptionPSKUsage usage;`
+        usage: Encoded<'a, ResumptionPSKUsage>,
+        /// `opaque psk_group_id<V>;`
+        psk_group_id: Encoded<'a, VLBytes>,
+        /// `uint64 psk_epoch;`
+        psk_epoch: Encoded<'a, u64>,
+    },
+}
+
+impl<'a> From<Encoded<'a, PSKOrigin>> for PSKOriginView<'a> {
+    ghost from_gives = { λ whole view. elim view as (λ v. Type 0) [
+      | PSKOriginView.External a0 ↦ IsCase 1 1 whole a0
+      | PSKOriginView.Resumption a0 a1 a2 ↦ IsCase 1 2 whole ((a0 ++ a1) ++ a2)
+    ] };
+
+    fn from(whole: Encoded<'a, PSKOrigin>) -> PSKOriginView<'a> {
+        let (tag, parts) = whole.case();
+        match tag {
+            1 => PSKOriginView::External(Encoded::alone(parts)),
+            2 => {
+                let (parts_0, psk_epoch) = Encoded::<((ResumptionPSKUsage, VLBytes), u64)>::known(
+                    parts,
+                ).split();
+                let (usage, psk_group_id) = parts_0.split();
+                PSKOriginView::Resumption {
+                    usage,
+                    psk_group_id,
+                    psk_epoch,
+                }
+            }
+            _ => unreachable!(),
         }
     }
 }

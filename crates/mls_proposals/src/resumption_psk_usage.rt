@@ -14,6 +14,7 @@ use tls_codec::{
     Deserialize, DeserializeBytes, Error, Serialize, Sink, Size, Source, unknown_value,
 };
 use tls_codec_validate::{Rejected, Validate, split_u8};
+use tls_codec_views::{Encoded, Numbered, Told};
 
 /// `ResumptionPSKUsage` (RFC 9420, section 8.4).
 #[derive(PartialEq, Eq, PartialOrd, Ord, Hash, Debug, Clone, Copy)]
@@ -159,6 +160,25 @@ impl Validate for ResumptionPSKUsage {
                 error: unknown_value(u64::from(tag)),
                 rest: whole,
             }),
+        }
+    }
+}
+
+impl Numbered for ResumptionPSKUsage {
+    type Tag = u8;
+
+    ghost has = { resumption_psk_usage_has };
+
+    ghost as_values = { λ bytes is. is };
+}
+
+impl Told for ResumptionPSKUsage {
+    fn told(encoded: &Encoded<'_, ResumptionPSKUsage>) -> ResumptionPSKUsage {
+        match encoded.number() {
+            1 => ResumptionPSKUsage::Application,
+            2 => ResumptionPSKUsage::Reinit,
+            3 => ResumptionPSKUsage::Branch,
+            _ => unreachable!(),
         }
     }
 }

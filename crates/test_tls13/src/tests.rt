@@ -7,3 +7,4 @@ mod hellos;
 mod inner;
 mod names;
 mod records;
+mod views;

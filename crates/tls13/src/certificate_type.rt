@@ -14,6 +14,7 @@ use tls_codec::{
     Deserialize, DeserializeBytes, Error, Serialize, Sink, Size, Source, unknown_value,
 };
 use tls_codec_validate::{Rejected, Validate, split_u8};
+use tls_codec_views::{Encoded, Numbered, Told};
 
 /// `CertificateType` (RFC 8446, appendix B.3.3).
 #[derive(PartialEq, Eq, PartialOrd, Ord, Hash, Debug, Clone, Copy)]
@@ -159,6 +160,25 @@ impl Validate for CertificateType {
                 error: unknown_value(u64::from(tag)),
                 rest: whole,
             }),
+        }
+    }
+}
+
+impl Numbered for CertificateType {
+    type Tag = u8;
+
+    ghost has = { certificate_type_has };
+
+    ghost as_values = { λ bytes is. is };
+}
+
+impl Told for CertificateType {
+    fn told(encoded: &Encoded<'_, CertificateType>) -> CertificateType {
+        match encoded.number() {
+            0 => CertificateType::X509,
+            1 => CertificateType::OpenPGPReserved,
+            2 => CertificateType::RawPublicKey,
+            _ => unreachable!(),
         }
     }
 }

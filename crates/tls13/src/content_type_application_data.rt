@@ -14,6 +14,7 @@ use tls_codec::{
     Deserialize, DeserializeBytes, Error, Serialize, Sink, Size, Source, unknown_value,
 };
 use tls_codec_validate::{Rejected, Validate, split_u8};
+use tls_codec_views::{Encoded, Numbered, Told};
 
 /// `ContentTypeApplicationData`.
 #[derive(PartialEq, Eq, PartialOrd, Ord, Hash, Debug, Clone, Copy)]
@@ -148,6 +149,23 @@ impl Validate for ContentTypeApplicationData {
                 error: unknown_value(u64::from(tag)),
                 rest: whole,
             }),
+        }
+    }
+}
+
+impl Numbered for ContentTypeApplicationData {
+    type Tag = u8;
+
+    ghost has = { content_type_application_data_has };
+
+    ghost as_values = { λ bytes is. is };
+}
+
+impl Told for ContentTypeApplicationData {
+    fn told(encoded: &Encoded<'_, ContentTypeApplicationData>) -> ContentTypeApplicationData {
+        match encoded.number() {
+            23 => ContentTypeApplicationData::ApplicationData,
+            _ => unreachable!(),
         }
     }
 }

@@ -1,8 +1,10 @@
 //! [`Handshake`].
 ghost use Rattle.std.specs.Prelude.{◌≡◌, IsTrue};
 ghost use Rattle.tls13.specs.HandshakeType.{handshake_type_code};
-ghost use Rattle.tls13.specs.Handshake.{handshake_format, handshake_meets, handshake_plain, handshake_tag};
+ghost use Rattle.tls13.specs.Handshake.{handshake_format, handshake_meets, handshake_plain, handshake_tag, handshake_variants};
 ghost use Rattle.tls13.specs.declared.handshake.Handshake.{Handshake};
+ghost use Rattle.tls_codec_views.specs.Views.{IsCase};
+ghost use Rattle.tls13.specs.declared.handshake.HandshakeView.{HandshakeView};
 
 use crate::{
     Certificate, CertificateRequest, CertificateVerify, ClientHello, EncryptedExtensions,
@@ -15,6 +17,7 @@ use tls_codec::{
 };
 use tls_codec_cases::{Case, Enclosed, Or, Tagged, append_as, write_as};
 use tls_codec_validate::{Rejected, Validate};
+use tls_codec_views::{Choice, Encoded};
 
 /// `HandshakeType msg_type` of `Handshake` (RFC 8446, appendix B.3), and what comes after
 /// each.
@@ -213,6 +216,71 @@ impl Validate for Handshake {
 
     fn tls_validate_prefix(whole: &[u8]) -> Result<&[u8], Rejected<'_>> {
         <Cases>::tls_validate_prefix(whole)
+    }
+}
+
+impl Choice for Handshake {
+    type Tag = u8;
+
+    ghost variants = { handshake_variants };
+
+    ghost as_choice = { λ bytes is. is };
+}
+
+/// The encoding of a [`Handshake`], by its case and fields.
+#[derive(Drop)]
+pub enum HandshakeView<'a> {
+    /// `case client_hello: ClientHello;`
+    ClientHello(Encoded<'a, Enclosed<U24, ClientHello>>),
+    /// `case server_hello: ServerHello;`
+    ServerHello(Encoded<'a, Enclosed<U24, ServerHello>>),
+    /// `case end_of_early_data: EndOfEarlyData;`
+    EndOfEarlyData(Encoded<'a, Enclosed<U24, EndOfEarlyData>>),
+    /// `case encrypted_extensions: EncryptedExtensions;`
+    EncryptedExtensions(Encoded<'a, Enclosed<U24, EncryptedExtensions>>),
+    /// `case certificate_request: CertificateRequest;`
+    CertificateRequest(Encoded<'a, Enclosed<U24, CertificateRequest>>),
+    /// `case certificate: Certificate;`
+    Certificate(Encoded<'a, Enclosed<U24, Certificate>>),
+    /// `case certificate_verify: CertificateVerify;`
+    CertificateVerify(Encoded<'a, Enclosed<U24, CertificateVerify>>),
+    /// `case finished: opaque verify_data[Hash.length];`
+    Finished(Encoded<'a, TlsByteVecU24>),
+    /// `case new_session_ticket: NewSessionTicket;`
+    NewSessionTicket(Encoded<'a, Enclosed<U24, NewSessionTicket>>),
+    /// `case key_update: KeyUpdate;`
+    KeyUpdate(Encoded<'a, Enclosed<U24, KeyUpdate>>),
+}
+
+impl<'a> From<Encoded<'a, Handshake>> for HandshakeView<'a> {
+    ghost from_gives = { λ whole view. elim view as (λ v. Type 0) [
+      | HandshakeView.ClientHello a0 ↦ IsCase 1 1 whole a0
+      | HandshakeView.ServerHello a0 ↦ IsCase 1 2 whole a0
+      | HandshakeView.EndOfEarlyData a0 ↦ IsCase 1 5 whole a0
+      | HandshakeView.EncryptedExtensions a0 ↦ IsCase 1 8 whole a0
+      | HandshakeView.CertificateRequest a0 ↦ IsCase 1 13 whole a0
+      | HandshakeView.Certificate a0 ↦ IsCase 1 11 whole a0
+      | HandshakeView.CertificateVerify a0 ↦ IsCase 1 15 whole a0
+      | HandshakeView.Finished a0 ↦ IsCase 1 20 whole a0
+      | HandshakeView.NewSessionTicket a0 ↦ IsCase 1 4 whole a0
+      | HandshakeView.KeyUpdate a0 ↦ IsCase 1 24 whole a0
+    ] };
+
+    fn from(whole: Encoded<'a, Handshake>) -> HandshakeView<'a> {
+        let (tag, parts) = whole.case();
+        match tag {
+            1 => HandshakeView::ClientHello(Encoded::known(parts)),
+            2 => HandshakeView::ServerHello(Encoded::known(parts)),
+            5 => HandshakeView::EndOfEarlyData(Encoded::known(parts)),
+            8 => HandshakeView::EncryptedExtensions(Encoded::known(parts)),
+            13 => HandshakeView::CertificateRequest(Encoded::known(parts)),
+            11 => HandshakeView::Certificate(Encoded::known(parts)),
+            15 => HandshakeView::CertificateVerify(Encoded::known(parts)),
+            20 => HandshakeView::Finished(Encoded::known(parts)),
+            4 => HandshakeView::NewSessionTicket(Encoded::known(parts)),
+            24 => HandshakeView::KeyUpdate(Encoded::known(parts)),
+            _ => unreachable!(),
+        }
     }
 }
 

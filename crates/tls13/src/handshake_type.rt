@@ -18,6 +18,7 @@ use tls_codec_cases::Selector;
 use tls_codec_validate::{
     Keyed, Rejected, TagFirst, TagKeyed, Validate, ValidateKeyed, split_u8, validate_tag_first,
 };
+use tls_codec_views::{Encoded, Numbered, Told};
 
 /// `HandshakeType` (RFC 8446, appendix B.3).
 #[derive(PartialEq, Eq, PartialOrd, Ord, Hash, Debug, Clone, Copy)]
@@ -254,6 +255,42 @@ impl Validate for HandshakeType {
                 error: unknown_value(u64::from(tag)),
                 rest: whole,
             }),
+        }
+    }
+}
+
+impl Numbered for HandshakeType {
+    type Tag = u8;
+
+    ghost has = { handshake_type_has };
+
+    ghost as_values = { λ bytes is. is };
+}
+
+impl Told for HandshakeType {
+    fn told(encoded: &Encoded<'_, HandshakeType>) -> HandshakeType {
+        match encoded.number() {
+            0 => HandshakeType::HelloRequestReserved,
+            1 => HandshakeType::ClientHello,
+            2 => HandshakeType::ServerHello,
+            3 => HandshakeType::HelloVerifyRequestReserved,
+            4 => HandshakeType::NewSessionTicket,
+            5 => HandshakeType::EndOfEarlyData,
+            6 => HandshakeType::HelloRetryRequestReserved,
+            8 => HandshakeType::EncryptedExtensions,
+            11 => HandshakeType::Certificate,
+            12 => HandshakeType::ServerKeyExchangeReserved,
+            13 => HandshakeType::CertificateRequest,
+            14 => HandshakeType::ServerHelloDoneReserved,
+            15 => HandshakeType::CertificateVerify,
+            16 => HandshakeType::ClientKeyExchangeReserved,
+            20 => HandshakeType::Finished,
+            21 => HandshakeType::CertificateUrlReserved,
+            22 => HandshakeType::CertificateStatusReserved,
+            23 => HandshakeType::SupplementalDataReserved,
+            24 => HandshakeType::KeyUpdate,
+            254 => HandshakeType::MessageHash,
+            _ => unreachable!(),
         }
     }
 }

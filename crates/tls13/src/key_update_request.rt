@@ -14,6 +14,7 @@ use tls_codec::{
     Deserialize, DeserializeBytes, Error, Serialize, Sink, Size, Source, unknown_value,
 };
 use tls_codec_validate::{Rejected, Validate, split_u8};
+use tls_codec_views::{Encoded, Numbered, Told};
 
 /// `KeyUpdateRequest` (RFC 8446, appendix B.3.5).
 #[derive(PartialEq, Eq, PartialOrd, Ord, Hash, Debug, Clone, Copy)]
@@ -154,6 +155,24 @@ impl Validate for KeyUpdateRequest {
                 error: unknown_value(u64::from(tag)),
                 rest: whole,
             }),
+        }
+    }
+}
+
+impl Numbered for KeyUpdateRequest {
+    type Tag = u8;
+
+    ghost has = { key_update_request_has };
+
+    ghost as_values = { λ bytes is. is };
+}
+
+impl Told for KeyUpdateRequest {
+    fn told(encoded: &Encoded<'_, KeyUpdateRequest>) -> KeyUpdateRequest {
+        match encoded.number() {
+            0 => KeyUpdateRequest::UpdateNotRequested,
+            1 => KeyUpdateRequest::UpdateRequested,
+            _ => unreachable!(),
         }
     }
 }

@@ -14,6 +14,7 @@ use tls_codec::{
     Deserialize, DeserializeBytes, Error, Serialize, Sink, Size, Source, unknown_value,
 };
 use tls_codec_validate::{Rejected, Validate, split_u8};
+use tls_codec_views::{Encoded, Numbered, Told};
 
 /// `LegacyCompressionMethodX00`.
 #[derive(PartialEq, Eq, PartialOrd, Ord, Hash, Debug, Clone, Copy)]
@@ -148,6 +149,23 @@ impl Validate for LegacyCompressionMethodX00 {
                 error: unknown_value(u64::from(tag)),
                 rest: whole,
             }),
+        }
+    }
+}
+
+impl Numbered for LegacyCompressionMethodX00 {
+    type Tag = u8;
+
+    ghost has = { legacy_compression_method_x00_has };
+
+    ghost as_values = { λ bytes is. is };
+}
+
+impl Told for LegacyCompressionMethodX00 {
+    fn told(encoded: &Encoded<'_, LegacyCompressionMethodX00>) -> LegacyCompressionMethodX00 {
+        match encoded.number() {
+            0 => LegacyCompressionMethodX00::X00,
+            _ => unreachable!(),
         }
     }
 }

@@ -70,7 +70,7 @@ pub use encrypted_extensions::EncryptedExtensions;
 pub use end_of_early_data::EndOfEarlyData;
 pub use extension::{Extension, ExtensionView};
 pub use extension_type::ExtensionType;
-pub use handshake::Handshake;
+pub use handshake::{Handshake, HandshakeView};
 pub use handshake_type::HandshakeType;
 pub use key_share_client_hello::KeyShareClientHello;
 pub use key_share_entry::{KeyShareEntry, KeyShareEntryView};

@@ -14,6 +14,7 @@ use tls_codec::{
     Deserialize, DeserializeBytes, Error, Serialize, Sink, Size, Source, unknown_value,
 };
 use tls_codec_validate::{Rejected, Validate, split_u16};
+use tls_codec_views::{Encoded, Numbered, Told};
 
 /// `ProtocolVersionX0303`.
 #[derive(PartialEq, Eq, PartialOrd, Ord, Hash, Debug, Clone, Copy)]
@@ -148,6 +149,23 @@ impl Validate for ProtocolVersionX0303 {
                 error: unknown_value(u64::from(tag)),
                 rest: whole,
             }),
+        }
+    }
+}
+
+impl Numbered for ProtocolVersionX0303 {
+    type Tag = u16;
+
+    ghost has = { protocol_version_x0303_has };
+
+    ghost as_values = { λ bytes is. is };
+}
+
+impl Told for ProtocolVersionX0303 {
+    fn told(encoded: &Encoded<'_, ProtocolVersionX0303>) -> ProtocolVersionX0303 {
+        match encoded.number() {
+            771 => ProtocolVersionX0303::X0303,
+            _ => unreachable!(),
         }
     }
 }

@@ -2,7 +2,9 @@
 use Rattle.std.specs.Prelude.{◌≡◌, ℕ, List, ◌++◌, [], length, Option, Some, None, Result, Ok, Err}
 use Rattle.std.specs.Borrow.{Bor}
 use Rattle.tls_codec_grammar.specs.Field.{Field}
-use Rattle.tls_codec_grammar.specs.Grammar.{Grammar}
+use Rattle.tls_codec_grammar.specs.Tree.{Number}
+use Rattle.tls_codec_grammar.specs.Grammar.{Grammar, number}
+use Rattle.tls_codec_grammar.specs.Decoding.{Begins}
 use Rattle.tls_codec_grammar.specs.Format.{Format}
 use Rattle.tls_codec_base.specs.Refusals.{IsSpelling}
 use Rattle.tls_codec_validate.specs.declared.rejected.Rejected.{Rejected}
@@ -23,3 +25,7 @@ pub record IsAfterLength (field : Field) (x inside : List ℕ) : Type 0 where
 abbrev pub GivesElement : Grammar → List ℕ → Option (List ℕ) → List ℕ → Type 0
 GivesElement spells x None left = (x ≡ []) × (left ≡ [])
 GivesElement spells x (Some element) left = (x ≡ element ++ left) × IsSpelling spells element
+
+-- a tag in k bytes comes first in x, and is this number; these bytes are the rest
+abbrev pub IsCase : ℕ → ℕ → List ℕ → List ℕ → Type 0
+IsCase k tag x parts = Begins (number k) x (Number tag) parts

@@ -1,7 +1,7 @@
 //! [`Encoded`]: bytes that are one encoding.
 ghost use Rattle.std.specs.Prelude.{◌≡◌, ◌⊎◌, ◌++◌, ℕ, IfErr, IfOk, List};
 ghost use Rattle.tls_codec_grammar.specs.Decoding.{BeginsSome};
-ghost use Rattle.tls_codec_grammar.specs.Grammar.{Reading};
+ghost use Rattle.tls_codec_grammar.specs.Grammar.{Reading, fields, nothing};
 ghost use Rattle.tls_codec_base.specs.Paths.{NoMemory};
 ghost use Rattle.tls_codec_base.specs.Refusals.{IsSpelling};
 ghost use Rattle.tls_codec_validate.specs.Places.{IsTrailing, RejectedAt};
@@ -74,6 +74,23 @@ impl<'a, T: Validate> Encoded<'a, T> {
             },
             behind,
         ))
+    }
+
+    /// Bytes of which it is proved that they are one encoding. They aren't validated again.
+    pub fn known(bytes: &'a [u8]) -> Encoded<'a, T>
+        requires { IsSpelling T.format.spells bytes.now }
+        ensures { result ≡ bytes.now }
+    {
+        let of = PhantomData;
+        Encoded { bytes, of }
+    }
+
+    /// Bytes of which it is proved that they are one part and nothing else.
+    pub fn alone(bytes: &'a [u8]) -> Encoded<'a, T>
+        requires { IsSpelling (fields T.format.spells nothing) bytes.now }
+        ensures { result ≡ bytes.now }
+    {
+        Encoded::known(bytes)
     }
 
     /// The bytes.

@@ -4,11 +4,13 @@
 //!
 //! - [`Encoded`]: bytes that are one encoding of a type. What it is made of is borrowed from the same bytes: `split` for
 //!   pairs and triples, `payload` for options and boxes, `content` for byte vectors, `as_str` for texts, `elements` for
-//!   lists, `get` for integers, `parts` for messages of your own.
+//!   lists, `get` for integers, `parts` and `case` for messages of your own.
 //! - [`Elements`]: the elements of a list, one by one.
-//! - [`Parted`]: a message of your own, which is encoded as its parts are.
+//! - [`Parted`]: a message of your own, which is encoded as its parts are. [`Choice`]: an enum of your own, of which an encoding
+//!   has one case. [`Numbered`]: one of numbers alone.
 #![tactic(auto)]
 
+mod choices;
 mod content;
 mod elements;
 mod encoded;
@@ -17,6 +19,7 @@ mod parted;
 mod payloads;
 mod products;
 
+pub use choices::{Choice, Numbered};
 pub use elements::Elements;
 pub use encoded::Encoded;
 pub use numbers::Told;

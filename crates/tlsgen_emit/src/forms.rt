@@ -9,6 +9,7 @@ use crate::owners::Owner;
 use crate::parts::{Part, cases_of, has, has_bare, values_of};
 use crate::rows::Row;
 use crate::template::Holes;
+use crate::templates::views::{AFTER_TAG, IN_A_ROW};
 use crate::templates::{
     Templates, choices, opens, selectors, structs, structs_in_context, structs_on_tags,
     sums as templates, values,
@@ -143,7 +144,8 @@ impl<'a> Form<'a> {
         self.holes.set_all(alloc, &texts)?;
         self.holes
             .set_all(alloc, if self.is_lent { &LENT } else { &NOT_LENT })?;
-        self.holes.set("doc", doc(alloc, message.doc.as_str())?)
+        self.holes.set("doc", doc(alloc, message.doc.as_str())?)?;
+        views::set_name(alloc, names, &mut self.holes, message)
     }
 
     // Sets the holes of its fields, or its parts.
@@ -212,7 +214,7 @@ impl<'a> Form<'a> {
         let row = Row::of(alloc, names, of, self.is_lent, members, uses)?;
         row.set(alloc, &mut self.holes)?;
         self.set_read(alloc, members.len())?;
-        views::set(alloc, names, &mut self.holes, &row, message)?;
+        views::set(alloc, &mut self.holes, &row)?;
         if !is_in_context {
             return add_names(&mut self.cases, &CASES_OF_ROW);
         }
@@ -332,12 +334,13 @@ impl<'a> Form<'a> {
             Kind::Choice => self.set_names(alloc)?,
             _ => {}
         }
-        lines::set(
-            alloc,
-            &mut self.holes,
-            &self.parts,
-            self.kind.templates().texts,
-        )
+        let (holes, parts) = (&mut self.holes, self.parts.as_slice());
+        lines::set(alloc, holes, parts, self.kind.templates().texts)?;
+        match self.kind {
+            Kind::Choice => views::set_cases(alloc, holes, parts, &IN_A_ROW),
+            Kind::Sum => views::set_cases(alloc, holes, parts, &AFTER_TAG),
+            _ => Ok(()),
+        }
     }
 
     // Sets the holes `nothing` and `names_use`: what the decoders take of the codec.

@@ -33,10 +33,11 @@ impl<'a> Text<'a> {
     }
 
     // Whether it has a word, or the sign of an operator, as `◌≡◌`. Code has `Some` in clauses alone with a blank behind
-    // it.
+    // it, and `[]` with one before it.
     fn has(&self, word: &str) -> bool {
         match word {
             "Some" => self.has_sign("Some ("),
+            "[]" => self.has_sign(" []"),
             _ if word.contains(is_between_words) => self.has_sign(word.trim_matches('◌')),
             _ => self.words.contains(word),
         }

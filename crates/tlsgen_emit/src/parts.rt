@@ -1,12 +1,12 @@
 //! The values or the cases of a message.
 
-use crate::contents;
 use crate::docs::doc;
 use crate::owners::Owner;
 use crate::rows::Row;
 use crate::template::Holes;
 use crate::types::Names;
 use crate::uses::Uses;
+use crate::{contents, views};
 use std::alloc::{AllocError, Global};
 use tlsgen_model::plan::{Value, Variant};
 
@@ -83,6 +83,7 @@ fn case(
     ];
     let mut part = Part::of(alloc, holes, variant.fields.len(), at, &texts, variant.tag)?;
     row.set(alloc, &mut part.holes)?;
+    views::set_of_case(alloc, &mut part.holes, row)?;
     part.set_fields(alloc)?;
     Ok(part)
 }

@@ -239,9 +239,10 @@ impl Row {
         listed(alloc, self.fields.as_slice(), template, "")
     }
 
-    /// The lines that take the encoding of the tuple apart.
-    pub fn splits(&self, alloc: Global) -> Result<String, AllocError> {
-        views::splits(alloc, self.each(alloc, "$name$")?.as_slice(), &self.nesting)
+    /// The lines that take `whole` apart, the encoding of the tuple.
+    pub fn splits(&self, alloc: Global, whole: &str) -> Result<String, AllocError> {
+        let names = self.each(alloc, "$name$")?;
+        views::splits(alloc, names.as_slice(), &self.nesting, whole)
     }
 
     // A text for each part.

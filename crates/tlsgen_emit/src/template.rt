@@ -82,7 +82,8 @@ impl Holes {
         Ok(())
     }
 
-    fn has(&self, word: &str) -> bool {
+    /// Whether something stands for a hole.
+    pub fn has(&self, word: &str) -> bool {
         self.all.iter().any(|hole| hole.word == word)
     }
 

@@ -1,27 +1,25 @@
-//! The view of a struct: its encoding, by its fields.
+//! The view of a struct or of an enum with cases: its encoding, by its fields.
 
 use crate::joining::Join;
+use crate::lines::{self, Lines};
 use crate::nesting::Nesting;
+use crate::parts::Part;
 use crate::rows::Row;
 use crate::template::Holes;
-use crate::templates::views::{NONE, VIEW};
+use crate::templates::views::{NONE, OF_CASES, OF_FIELDS, USES};
 use crate::thens;
 use crate::types::Names;
 use std::alloc::{AllocError, Global};
 use tlsgen_model::plan::{Body, Element, Member, Message, Shape};
 
-/// The name of a message's view, if it has one: it is a struct with fields that nothing decides, it isn't lent, and nothing
-/// else has the name. A list of messages that is alone has none: the prover fails at its `Parted`, by a fault of its own.
+/// The name of a message's view, if it has one: it is a struct with fields or an enum with cases, nothing decides which it
+/// has, it isn't lent, and nothing else has the name.
 pub fn name_of(
     alloc: Global,
     names: &Names<'_>,
     message: &Message,
 ) -> Result<Option<String>, AllocError> {
-    let Body::Fields(members) = &message.body else {
-        return Ok(None);
-    };
-    let is_decided = message.context.is_some() || thens::giver_of(members).is_some();
-    if message.is_lent || is_decided || members.is_empty() || is_list(members) {
+    if message.is_lent || !is_viewed(message) {
         return Ok(None);
     }
     let name = format!(in alloc; "{}View", message.name)?;
@@ -29,6 +27,19 @@ pub fn name_of(
         return Ok(None);
     }
     Ok(Some(name))
+}
+
+// A list of messages that is alone isn't viewed: the prover fails at its `Parted`, by a fault of its own.
+fn is_viewed(message: &Message) -> bool {
+    if message.context.is_some() {
+        return false;
+    }
+    match &message.body {
+        Body::Fields(members) if thens::giver_of(members).is_some() => false,
+        Body::Fields(members) => !members.is_empty() && !is_list(members),
+        Body::Choice { .. } | Body::Sum { .. } => true,
+        Body::Values { .. } => false,
+    }
 }
 
 // Whether a list of messages, after a length, is alone.
@@ -40,29 +51,61 @@ fn is_list(members: &[Member]) -> bool {
     is_counted && !only.of.is_optional && matches!(only.of.element, Element::Message(_))
 }
 
-/// Sets the hole `view` of a struct with these fields.
-pub fn set(
+/// Sets the hole `view_name` of a message, and those of what the clauses of its view take; or those of one without a view.
+pub fn set_name(
     alloc: Global,
     names: &Names<'_>,
     holes: &mut Holes,
-    row: &Row,
     message: &Message,
 ) -> Result<(), AllocError> {
     let Some(name) = name_of(alloc, names, message)? else {
         return holes.set_each(alloc, &NONE);
     };
     holes.set("view_name", name)?;
-    holes.set("viewed", row.listed(alloc, VIEWED)?)?;
-    holes.set(
-        "view_bytes",
-        row.nested(alloc, "view.$name$", Join::Bytes, " ")?,
-    )?;
-    holes.set("splits", row.splits(alloc)?)?;
-    holes.set_each(alloc, &VIEW)
+    holes.set_each(alloc, &USES)
 }
 
-const VIEWED: &str = "    /// `$declared$`
+/// Sets the hole `view` of a struct with these fields, if it has a view.
+pub fn set(alloc: Global, holes: &mut Holes, row: &Row) -> Result<(), AllocError> {
+    if !holes.has("view_name") {
+        return Ok(());
+    }
+    holes.set("viewed", row.listed(alloc, IN_STRUCT)?)?;
+    let bytes = row.nested(alloc, "view.$name$", Join::Bytes, " ")?;
+    holes.set("view_bytes", bytes)?;
+    holes.set("view_splits", row.splits(alloc, "whole.parts()")?)?;
+    holes.set_each(alloc, &OF_FIELDS)
+}
+
+/// Sets the holes `viewed`, `view_bytes` and `view_splits` of a case with these fields.
+pub fn set_of_case(alloc: Global, holes: &mut Holes, row: &Row) -> Result<(), AllocError> {
+    holes.set("viewed", row.listed(alloc, IN_VARIANT)?)?;
+    let bytes = row.nested(alloc, "a$at$", Join::Bytes, " ")?;
+    holes.set("view_bytes", bytes)?;
+    let whole = holes.filled(alloc, "Encoded::<$types$>::known(parts)")?;
+    holes.set("view_splits", row.splits(alloc, whole.as_str())?)
+}
+
+/// Sets the hole `view` of an enum with these cases, by texts with a line for each, if it has a view.
+pub fn set_cases(
+    alloc: Global,
+    holes: &mut Holes,
+    parts: &[Part],
+    texts: &[Lines],
+) -> Result<(), AllocError> {
+    if !holes.has("view_name") {
+        return Ok(());
+    }
+    lines::set(alloc, holes, parts, texts)?;
+    holes.set_each(alloc, &OF_CASES)
+}
+
+const IN_STRUCT: &str = "    /// `$declared$`
 $comment$    pub $name$: Encoded<'a, $type$>,
+";
+
+const IN_VARIANT: &str = "        /// `$declared$`
+$comment$        $name$: Encoded<'a, $type$>,
 ";
 
 // A name that is bound, and the lines that take apart what it names.
@@ -72,18 +115,22 @@ struct Bound {
     lines: String,
 }
 
-/// The lines that take `whole.parts()` apart, the encoding of a tuple of these fields: each tuple after the one that it is
-/// in.
-pub fn splits(alloc: Global, fields: &[String], nesting: &Nesting) -> Result<String, AllocError> {
+/// The lines that take `whole` apart, the encoding of a tuple of these fields: each tuple after the one that it is in.
+pub fn splits(
+    alloc: Global,
+    fields: &[String],
+    nesting: &Nesting,
+    whole: &str,
+) -> Result<String, AllocError> {
     let fields = of_fields(alloc, fields)?;
     let parts = grouped(alloc, &fields, nesting.parts.as_slice(), "part")?;
     let groups = grouped(alloc, &parts, nesting.counts.as_slice(), "parts")?;
     match groups.as_slice() {
         [only] => {
             let name = only.name.as_str();
-            format!(in alloc; "        let {name} = whole.parts();\n")
+            format!(in alloc; "        let {name} = {whole};\n")
         }
-        all => split(alloc, all, "whole.parts()"),
+        all => split(alloc, all, whole),
     }
 }
 

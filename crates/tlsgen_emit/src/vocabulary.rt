@@ -17,7 +17,8 @@ pub static PRELUDE: [&str; 12] = [
 ];
 
 /// What the clauses of code take of std.
-pub static CLAUSES: [&str; 11] = [
+pub static CLAUSES: [&str; 12] = [
+    "[]",
     "◌≡◌",
     "◌&&◌",
     "◌++◌",
@@ -227,7 +228,7 @@ pub static VALIDATION: [&str; 15] = [
 ];
 
 /// What code takes of views.
-pub static VIEWING: [&str; 3] = ["Encoded", "Parted", "Told"];
+pub static VIEWING: [&str; 5] = ["Choice", "Encoded", "Numbered", "Parted", "Told"];
 
 /// The lemmas of validation that answers cite.
 pub static PLACING: [&str; 9] = [

@@ -1,8 +1,13 @@
-//! A key package of MLS by its fields, where they lie.
+//! Messages of MLS by their fields and cases, where they lie.
 
 use crate::tests::mls_messages::KEY_PACKAGE;
 use crate::tests::same;
-use mls_leaf::{CipherSuite, KeyPackage, KeyPackageView, LeafNodeView, ProtocolVersion};
+use mls::{Sender, SenderType, SenderView};
+use mls_leaf::{
+    CipherSuite, CredentialView, KeyPackage, KeyPackageView, LeafNode, LeafNodeOriginView,
+    LeafNodeView, LifetimeView, ProtocolVersion,
+};
+use mls_proposals::{PSKOrigin, PSKOriginView, ResumptionPSKUsage};
 use tls_codec_views::Encoded;
 
 #[test]
@@ -31,4 +36,60 @@ fn a_key_package_by_its_fields(rt: HostRuntime) {
         b"\0\x01\x05alice".as_slice(),
     );
     same(&rt, leaf.signature.content(), [0xf7u8, 0xf8].as_slice());
+}
+
+// Its credential and its source (sections 5.3 and 7.2).
+#[test]
+fn a_leaf_by_its_cases(rt: HostRuntime) {
+    let Ok(leaf) = Encoded::<LeafNode>::new(&KEY_PACKAGE[11..70]) else {
+        panic!(rt; "no leaf node");
+    };
+    let leaf = LeafNodeView::from(leaf);
+    let CredentialView::Basic(identity) = CredentialView::from(leaf.credential) else {
+        panic!(rt; "no basic credential");
+    };
+    same(&rt, identity.content(), b"alice".as_slice());
+    let LeafNodeOriginView::KeyPackage(lifetime) = LeafNodeOriginView::from(leaf.leaf_node_source)
+    else {
+        panic!(rt; "no leaf of a key package");
+    };
+    let lifetime = LifetimeView::from(lifetime);
+    same(&rt, lifetime.not_before.get(), 5);
+    same(&rt, lifetime.not_after.get(), 6);
+}
+
+// A sender that has nothing but its type (section 6).
+#[test]
+fn a_case_without_fields(rt: HostRuntime) {
+    let Ok(sender) = Encoded::<Sender>::new(&[4]) else {
+        panic!(rt; "no sender");
+    };
+    let SenderView::NewMemberCommit = SenderView::from(sender) else {
+        panic!(rt; "no new member");
+    };
+    let Ok(sender_type) = Encoded::<SenderType>::new(&[2]) else {
+        panic!(rt; "no sender type");
+    };
+    same(&rt, sender_type.number(), 2);
+    same(&rt, sender_type.get(), SenderType::External);
+}
+
+// A pre-shared key of a group's resumption (section 8.4): usage branch, a group and an epoch.
+#[test]
+fn a_case_of_three_fields(rt: HostRuntime) {
+    let bytes = [2, 3, 2, 0xc1, 0xc2, 0, 0, 0, 0, 0, 0, 0, 7];
+    let Ok(key) = Encoded::<PSKOrigin>::new(&bytes) else {
+        panic!(rt; "no pre-shared key");
+    };
+    let PSKOriginView::Resumption {
+        usage,
+        psk_group_id,
+        psk_epoch,
+    } = PSKOriginView::from(key)
+    else {
+        panic!(rt; "no resumption");
+    };
+    same(&rt, usage.get(), ResumptionPSKUsage::Branch);
+    same(&rt, psk_group_id.content(), [0xc1u8, 0xc2].as_slice());
+    same(&rt, psk_epoch.get(), 7);
 }

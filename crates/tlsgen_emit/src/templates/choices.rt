@@ -19,9 +19,9 @@ pub fn templates() -> Templates {
 }
 
 const GHOST_USES: &str =
-    "$tag_use$$names_use$ghost use Rattle.$crate$.specs.$name$.{$module$_format, $module$_meets, $module$_plain, $module$_tag};
+    "$tag_use$$names_use$ghost use Rattle.$crate$.specs.$name$.{$module$_format, $module$_meets, $module$_plain, $module$_tag$variants_taken$};
 ghost use Rattle.$crate$.specs.declared.$module$.$name$.{$name$};
-";
+$view_use$";
 
 /// What the decoders of one that isn't lent take of the codec.
 pub static NAMES_USE: &str =
@@ -334,7 +334,7 @@ $validates$            _ => Err(Rejected {
         }
     }
 }
-";
+$view$";
 
 pub const LAW: &str = "$tag_method$$from_contents$
 /// Two are equal exactly where they are of one case, and each field is.

@@ -35,7 +35,8 @@ pub fn chosen() -> Templates {
 }
 
 /// A case in a length, which it fills.
-pub static ENCLOSED: [(&str, &str); 6] = [
+pub static ENCLOSED: [(&str, &str); 7] = [
+    ("after_tag", "Enclosed<$field$, $types$>"),
     ("case", "Case<$number$, Enclosed<$field$, $types$>>"),
     (
         "lent_case",
@@ -54,7 +55,8 @@ pub static ENCLOSED: [(&str, &str); 6] = [
 ];
 
 /// A case alone.
-pub static ALONE: [(&str, &str); 6] = [
+pub static ALONE: [(&str, &str); 7] = [
+    ("after_tag", "$types$"),
     ("case", "Case<$number$, $types$>"),
     ("lent_case", "Case<$number$, $lent_types$>"),
     ("made", "Case($lent$)"),
@@ -155,9 +157,9 @@ $takes$    }
 ";
 
 const TAGGED_GHOST_USES: &str =
-    "$tag_use$ghost use Rattle.$crate$.specs.$name$.{$module$_format, $module$_meets, $module$_plain, $module$_tag};
+    "$tag_use$ghost use Rattle.$crate$.specs.$name$.{$module$_format, $module$_meets, $module$_plain, $module$_tag$variants_taken$};
 ghost use Rattle.$crate$.specs.declared.$module$.$name$.{$name$};
-";
+$view_use$";
 
 const TAGGED_CODE: &str = "$enum$
 impl Size for $name$ {
@@ -215,7 +217,7 @@ impl Validate for $name$ {
         <Cases>::tls_validate_prefix(whole)
     }
 }
-";
+$view$";
 
 const CHOSEN_GHOST_USES: &str =
     "ghost use Rattle.$crate$.specs.$name$.{$module$_format_for, $module$_meets_for, $module$_plain, $module$_tag};

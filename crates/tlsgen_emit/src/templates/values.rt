@@ -1,6 +1,6 @@
 //! An enum of numbers alone: its values are read and written as their numbers.
 
-use super::Templates;
+use super::{Templates, views};
 use crate::lines::Lines;
 
 /// The templates.
@@ -25,7 +25,8 @@ ghost use Rattle.$crate$.specs.$name$.{$module$_code, $module$_format, $module$_
 ghost use Rattle.$crate$.specs.declared.$module$.$name$.{$name$};
 ";
 
-static TEXTS: [Lines; 8] = [
+static TEXTS: [Lines; 9] = [
+    views::NUMBERED,
     Lines {
         hole: "variants",
         before: "",
@@ -226,7 +227,7 @@ impl Validate for $name$ {
         }
     }
 }
-$keyed$";
+$numbered$$keyed$";
 
 const LAW: &str = "
 /// Two are equal exactly where their numbers are.
