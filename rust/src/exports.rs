@@ -131,6 +131,14 @@ pub mod tls13 {
     mod foreign {
         use crate::{Outcome, Span};
 
+        /// Where the fields of a `Handshake` are (RFC 8446, section 4).
+        #[repr(C)]
+        #[derive(Clone, Copy, Default)]
+        pub struct HandshakeFields {
+            pub msg_type: Span,
+            pub body: Span,
+        }
+
         /// Where the fields of a `ClientHello` are (RFC 8446, section 4.1.2). Of `opaque` it is the bytes without their length.
         #[repr(C)]
         #[derive(Clone, Copy, Default)]
@@ -152,6 +160,21 @@ pub mod tls13 {
             pub legacy_session_id_echo: Span,
             pub cipher_suite: Span,
             pub legacy_compression_method: Span,
+            pub extensions: Span,
+        }
+
+        /// Where the fields of an `EncryptedExtensions` are (RFC 8446, section 4.3.1).
+        #[repr(C)]
+        #[derive(Clone, Copy, Default)]
+        pub struct EncryptedExtensionsFields {
+            pub extensions: Span,
+        }
+
+        /// Where the fields of a `CertificateRequest` are (RFC 8446, section 4.3.2). Of `opaque` it is the bytes without their length.
+        #[repr(C)]
+        #[derive(Clone, Copy, Default)]
+        pub struct CertificateRequestFields {
+            pub certificate_request_context: Span,
             pub extensions: Span,
         }
 
@@ -182,6 +205,13 @@ pub mod tls13 {
             pub extensions: Span,
         }
 
+        /// Where the fields of a `KeyUpdate` are (RFC 8446, section 4.6.3).
+        #[repr(C)]
+        #[derive(Clone, Copy, Default)]
+        pub struct KeyUpdateFields {
+            pub request_update: Span,
+        }
+
         /// Where the fields of a `TLSPlaintext` are (RFC 8446, section 5.1). Of `opaque` it is the bytes without their length.
         #[repr(C)]
         #[derive(Clone, Copy, Default)]
@@ -191,17 +221,40 @@ pub mod tls13 {
             pub fragment: Span,
         }
 
+        /// Where the fields of a `TLSCiphertext` are (RFC 8446, section 5.2). Of `opaque` it is the bytes without their length.
+        #[repr(C)]
+        #[derive(Clone, Copy, Default)]
+        pub struct TLSCiphertextFields {
+            pub opaque_type: Span,
+            pub legacy_record_version: Span,
+            pub encrypted_record: Span,
+        }
+
+        /// Where the fields of an `Alert` are (RFC 8446, section 6).
+        #[repr(C)]
+        #[derive(Clone, Copy, Default)]
+        pub struct AlertFields {
+            pub level: Span,
+            pub description: Span,
+        }
+
         #[link(name = "tls13_c", kind = "static")]
         unsafe extern "C" {
             pub fn tls13_extension_next(bytes: *const u8, length: usize, left: &mut Span, element: &mut Span) -> Outcome;
             pub fn tls13_key_share_entry_next(bytes: *const u8, length: usize, left: &mut Span, element: &mut Span) -> Outcome;
             pub fn tls13_certificate_entry_next(bytes: *const u8, length: usize, left: &mut Span, element: &mut Span) -> Outcome;
+            pub fn tls13_handshake_locate(bytes: *const u8, length: usize, fields: &mut HandshakeFields) -> Outcome;
             pub fn tls13_client_hello_locate(bytes: *const u8, length: usize, fields: &mut ClientHelloFields) -> Outcome;
             pub fn tls13_server_hello_locate(bytes: *const u8, length: usize, fields: &mut ServerHelloFields) -> Outcome;
+            pub fn tls13_encrypted_extensions_locate(bytes: *const u8, length: usize, fields: &mut EncryptedExtensionsFields) -> Outcome;
+            pub fn tls13_certificate_request_locate(bytes: *const u8, length: usize, fields: &mut CertificateRequestFields) -> Outcome;
             pub fn tls13_certificate_locate(bytes: *const u8, length: usize, fields: &mut CertificateFields) -> Outcome;
             pub fn tls13_certificate_verify_locate(bytes: *const u8, length: usize, fields: &mut CertificateVerifyFields) -> Outcome;
             pub fn tls13_new_session_ticket_locate(bytes: *const u8, length: usize, fields: &mut NewSessionTicketFields) -> Outcome;
+            pub fn tls13_key_update_locate(bytes: *const u8, length: usize, fields: &mut KeyUpdateFields) -> Outcome;
             pub fn tls13_tls_plaintext_locate(bytes: *const u8, length: usize, fields: &mut TLSPlaintextFields) -> Outcome;
+            pub fn tls13_tls_ciphertext_locate(bytes: *const u8, length: usize, fields: &mut TLSCiphertextFields) -> Outcome;
+            pub fn tls13_alert_locate(bytes: *const u8, length: usize, fields: &mut AlertFields) -> Outcome;
             pub fn tls13_tls_plaintext_validate(bytes: *const u8, length: usize) -> Outcome;
             pub fn tls13_tls_ciphertext_validate(bytes: *const u8, length: usize) -> Outcome;
             pub fn tls13_alert_validate(bytes: *const u8, length: usize) -> Outcome;
@@ -277,6 +330,28 @@ pub mod tls13 {
         split(bytes, foreign::tls13_key_update_validate)
     }
 
+    /// Where the fields of a `Handshake` are (RFC 8446, section 4).
+    #[derive(Clone, Copy, PartialEq, Eq, Debug)]
+    pub struct HandshakeFields<'a> {
+        /// `HandshakeType msg_type;`
+        pub msg_type: &'a [u8],
+        /// What its case has, with its length: a `ClientHello`, a `ServerHello`, ..
+        pub body: &'a [u8],
+    }
+
+    /// `Handshake` (RFC 8446, section 4), and where its fields are. Of the message that the bytes begin with; and the rest of them.
+    pub fn handshake_locate(bytes: &[u8]) -> Result<(HandshakeFields<'_>, &[u8]), Rejected> {
+        let mut found = foreign::HandshakeFields::default();
+        // SAFETY: so many bytes are at the pointer, and nothing changes them during the call, which keeps no pointer.
+        let said = unsafe { foreign::tls13_handshake_locate(bytes.as_ptr(), bytes.len(), &mut found) };
+        let (_, rest) = split_as(bytes, said)?;
+        let fields = HandshakeFields {
+            msg_type: found.msg_type.of(bytes),
+            body: found.body.of(bytes),
+        };
+        Ok((fields, rest))
+    }
+
     /// Where the fields of a `ClientHello` are (RFC 8446, section 4.1.2). Of `opaque` it is the bytes without their length.
     #[derive(Clone, Copy, PartialEq, Eq, Debug)]
     pub struct ClientHelloFields<'a> {
@@ -340,6 +415,47 @@ pub mod tls13 {
             legacy_session_id_echo: found.legacy_session_id_echo.of(bytes),
             cipher_suite: found.cipher_suite.of(bytes),
             legacy_compression_method: found.legacy_compression_method.of(bytes),
+            extensions: found.extensions.of(bytes),
+        };
+        Ok((fields, rest))
+    }
+
+    /// Where the fields of an `EncryptedExtensions` are (RFC 8446, section 4.3.1).
+    #[derive(Clone, Copy, PartialEq, Eq, Debug)]
+    pub struct EncryptedExtensionsFields<'a> {
+        /// `Extension extensions<0..2^16-1>;` with its length
+        pub extensions: &'a [u8],
+    }
+
+    /// `EncryptedExtensions` (RFC 8446, section 4.3.1), and where its fields are. Of the message that the bytes begin with; and the rest of them.
+    pub fn encrypted_extensions_locate(bytes: &[u8]) -> Result<(EncryptedExtensionsFields<'_>, &[u8]), Rejected> {
+        let mut found = foreign::EncryptedExtensionsFields::default();
+        // SAFETY: so many bytes are at the pointer, and nothing changes them during the call, which keeps no pointer.
+        let said = unsafe { foreign::tls13_encrypted_extensions_locate(bytes.as_ptr(), bytes.len(), &mut found) };
+        let (_, rest) = split_as(bytes, said)?;
+        let fields = EncryptedExtensionsFields {
+            extensions: found.extensions.of(bytes),
+        };
+        Ok((fields, rest))
+    }
+
+    /// Where the fields of a `CertificateRequest` are (RFC 8446, section 4.3.2). Of `opaque` it is the bytes without their length.
+    #[derive(Clone, Copy, PartialEq, Eq, Debug)]
+    pub struct CertificateRequestFields<'a> {
+        /// `opaque certificate_request_context<0..2^8-1>;`
+        pub certificate_request_context: &'a [u8],
+        /// `Extension extensions<2..2^16-1>;` with its length
+        pub extensions: &'a [u8],
+    }
+
+    /// `CertificateRequest` (RFC 8446, section 4.3.2), and where its fields are. Of the message that the bytes begin with; and the rest of them.
+    pub fn certificate_request_locate(bytes: &[u8]) -> Result<(CertificateRequestFields<'_>, &[u8]), Rejected> {
+        let mut found = foreign::CertificateRequestFields::default();
+        // SAFETY: so many bytes are at the pointer, and nothing changes them during the call, which keeps no pointer.
+        let said = unsafe { foreign::tls13_certificate_request_locate(bytes.as_ptr(), bytes.len(), &mut found) };
+        let (_, rest) = split_as(bytes, said)?;
+        let fields = CertificateRequestFields {
+            certificate_request_context: found.certificate_request_context.of(bytes),
             extensions: found.extensions.of(bytes),
         };
         Ok((fields, rest))
@@ -420,6 +536,25 @@ pub mod tls13 {
         Ok((fields, rest))
     }
 
+    /// Where the fields of a `KeyUpdate` are (RFC 8446, section 4.6.3).
+    #[derive(Clone, Copy, PartialEq, Eq, Debug)]
+    pub struct KeyUpdateFields<'a> {
+        /// `KeyUpdateRequest request_update;`
+        pub request_update: &'a [u8],
+    }
+
+    /// `KeyUpdate` (RFC 8446, section 4.6.3), and where its fields are. Of the message that the bytes begin with; and the rest of them.
+    pub fn key_update_locate(bytes: &[u8]) -> Result<(KeyUpdateFields<'_>, &[u8]), Rejected> {
+        let mut found = foreign::KeyUpdateFields::default();
+        // SAFETY: so many bytes are at the pointer, and nothing changes them during the call, which keeps no pointer.
+        let said = unsafe { foreign::tls13_key_update_locate(bytes.as_ptr(), bytes.len(), &mut found) };
+        let (_, rest) = split_as(bytes, said)?;
+        let fields = KeyUpdateFields {
+            request_update: found.request_update.of(bytes),
+        };
+        Ok((fields, rest))
+    }
+
     /// Where the fields of a `TLSPlaintext` are (RFC 8446, section 5.1). Of `opaque` it is the bytes without their length.
     #[derive(Clone, Copy, PartialEq, Eq, Debug)]
     pub struct TLSPlaintextFields<'a> {
@@ -441,6 +576,53 @@ pub mod tls13 {
             kind: found.kind.of(bytes),
             legacy_record_version: found.legacy_record_version.of(bytes),
             fragment: found.fragment.of(bytes),
+        };
+        Ok((fields, rest))
+    }
+
+    /// Where the fields of a `TLSCiphertext` are (RFC 8446, section 5.2). Of `opaque` it is the bytes without their length.
+    #[derive(Clone, Copy, PartialEq, Eq, Debug)]
+    pub struct TLSCiphertextFields<'a> {
+        /// `ContentType opaque_type = application_data;`
+        pub opaque_type: &'a [u8],
+        /// `ProtocolVersion legacy_record_version = 0x0303;`
+        pub legacy_record_version: &'a [u8],
+        /// `opaque encrypted_record[TLSCiphertext.length];`
+        pub encrypted_record: &'a [u8],
+    }
+
+    /// `TLSCiphertext` (RFC 8446, section 5.2), and where its fields are. Of the message that the bytes begin with; and the rest of them.
+    pub fn tls_ciphertext_locate(bytes: &[u8]) -> Result<(TLSCiphertextFields<'_>, &[u8]), Rejected> {
+        let mut found = foreign::TLSCiphertextFields::default();
+        // SAFETY: so many bytes are at the pointer, and nothing changes them during the call, which keeps no pointer.
+        let said = unsafe { foreign::tls13_tls_ciphertext_locate(bytes.as_ptr(), bytes.len(), &mut found) };
+        let (_, rest) = split_as(bytes, said)?;
+        let fields = TLSCiphertextFields {
+            opaque_type: found.opaque_type.of(bytes),
+            legacy_record_version: found.legacy_record_version.of(bytes),
+            encrypted_record: found.encrypted_record.of(bytes),
+        };
+        Ok((fields, rest))
+    }
+
+    /// Where the fields of an `Alert` are (RFC 8446, section 6).
+    #[derive(Clone, Copy, PartialEq, Eq, Debug)]
+    pub struct AlertFields<'a> {
+        /// `AlertLevel level;`
+        pub level: &'a [u8],
+        /// `AlertDescription description;`
+        pub description: &'a [u8],
+    }
+
+    /// `Alert` (RFC 8446, section 6), and where its fields are. Of the message that the bytes begin with; and the rest of them.
+    pub fn alert_locate(bytes: &[u8]) -> Result<(AlertFields<'_>, &[u8]), Rejected> {
+        let mut found = foreign::AlertFields::default();
+        // SAFETY: so many bytes are at the pointer, and nothing changes them during the call, which keeps no pointer.
+        let said = unsafe { foreign::tls13_alert_locate(bytes.as_ptr(), bytes.len(), &mut found) };
+        let (_, rest) = split_as(bytes, said)?;
+        let fields = AlertFields {
+            level: found.level.of(bytes),
+            description: found.description.of(bytes),
         };
         Ok((fields, rest))
     }
@@ -554,12 +736,21 @@ pub mod mls {
     mod foreign {
         use crate::{Outcome, Span};
 
-        /// Where the fields of an `MLSMessage` are (RFC 9420, section 6). Of `opaque` it is the bytes without their length.
+        /// Where the fields of an `MLSMessage` are (RFC 9420, section 6).
         #[repr(C)]
         #[derive(Clone, Copy, Default)]
         pub struct MLSMessageFields {
             pub version: Span,
             pub wire_format: Span,
+        }
+
+        /// Where the fields of a `PublicMessage` are (RFC 9420, section 6.2).
+        #[repr(C)]
+        #[derive(Clone, Copy, Default)]
+        pub struct PublicMessageFields {
+            pub content: Span,
+            pub auth: Span,
+            pub membership_tag: Span,
         }
 
         /// Where the fields of a `PrivateMessage` are (RFC 9420, section 6.3). Of `opaque` it is the bytes without their length.
@@ -585,6 +776,15 @@ pub mod mls {
             pub content_type: Span,
         }
 
+        /// Where the fields of a `SenderData` are (RFC 9420, section 6.3.2).
+        #[repr(C)]
+        #[derive(Clone, Copy, Default)]
+        pub struct SenderDataFields {
+            pub leaf_index: Span,
+            pub generation: Span,
+            pub reuse_guard: Span,
+        }
+
         /// Where the fields of a `KeyPackage` are (RFC 9420, section 10). Of `opaque` it is the bytes without their length.
         #[repr(C)]
         #[derive(Clone, Copy, Default)]
@@ -593,6 +793,19 @@ pub mod mls {
             pub cipher_suite: Span,
             pub init_key: Span,
             pub leaf_node: Span,
+            pub extensions: Span,
+            pub signature: Span,
+        }
+
+        /// Where the fields of a `LeafNode` are (RFC 9420, section 7.2). Of `opaque` it is the bytes without their length.
+        #[repr(C)]
+        #[derive(Clone, Copy, Default)]
+        pub struct LeafNodeFields {
+            pub encryption_key: Span,
+            pub signature_key: Span,
+            pub credential: Span,
+            pub capabilities: Span,
+            pub leaf_node_source: Span,
             pub extensions: Span,
             pub signature: Span,
         }
@@ -606,6 +819,55 @@ pub mod mls {
             pub encrypted_group_info: Span,
         }
 
+        /// Where the fields of a `GroupSecrets` are (RFC 9420, section 12.4.3.1). Of `opaque` it is the bytes without their length.
+        #[repr(C)]
+        #[derive(Clone, Copy, Default)]
+        pub struct GroupSecretsFields {
+            pub joiner_secret: Span,
+            pub path_secret: Span,
+            pub psks: Span,
+        }
+
+        /// Where the fields of a `GroupInfo` are (RFC 9420, section 12.4.3). Of `opaque` it is the bytes without their length.
+        #[repr(C)]
+        #[derive(Clone, Copy, Default)]
+        pub struct GroupInfoFields {
+            pub group_context: Span,
+            pub extensions: Span,
+            pub confirmation_tag: Span,
+            pub signer: Span,
+            pub signature: Span,
+        }
+
+        /// Where the fields of a `GroupContext` are (RFC 9420, section 8.1). Of `opaque` it is the bytes without their length.
+        #[repr(C)]
+        #[derive(Clone, Copy, Default)]
+        pub struct GroupContextFields {
+            pub version: Span,
+            pub cipher_suite: Span,
+            pub group_id: Span,
+            pub epoch: Span,
+            pub tree_hash: Span,
+            pub confirmed_transcript_hash: Span,
+            pub extensions: Span,
+        }
+
+        /// Where the fields of a `Commit` are (RFC 9420, section 12.4).
+        #[repr(C)]
+        #[derive(Clone, Copy, Default)]
+        pub struct CommitFields {
+            pub proposals: Span,
+            pub path: Span,
+        }
+
+        /// Where the fields of a `Proposal` are (RFC 9420, section 12.1).
+        #[repr(C)]
+        #[derive(Clone, Copy, Default)]
+        pub struct ProposalFields {
+            pub proposal_type: Span,
+            pub body: Span,
+        }
+
         #[link(name = "mls_c", kind = "static")]
         unsafe extern "C" {
             pub fn mls_extension_next(bytes: *const u8, length: usize, left: &mut Span, element: &mut Span) -> Outcome;
@@ -613,10 +875,18 @@ pub mod mls {
             pub fn mls_proposal_or_ref_next(bytes: *const u8, length: usize, left: &mut Span, element: &mut Span) -> Outcome;
             pub fn mls_encrypted_group_secrets_next(bytes: *const u8, length: usize, left: &mut Span, element: &mut Span) -> Outcome;
             pub fn mls_message_locate(bytes: *const u8, length: usize, fields: &mut MLSMessageFields) -> Outcome;
+            pub fn mls_public_message_locate(bytes: *const u8, length: usize, fields: &mut PublicMessageFields) -> Outcome;
             pub fn mls_private_message_locate(bytes: *const u8, length: usize, fields: &mut PrivateMessageFields) -> Outcome;
             pub fn mls_framed_content_locate(bytes: *const u8, length: usize, fields: &mut FramedContentFields) -> Outcome;
+            pub fn mls_sender_data_locate(bytes: *const u8, length: usize, fields: &mut SenderDataFields) -> Outcome;
             pub fn mls_key_package_locate(bytes: *const u8, length: usize, fields: &mut KeyPackageFields) -> Outcome;
+            pub fn mls_leaf_node_locate(bytes: *const u8, length: usize, fields: &mut LeafNodeFields) -> Outcome;
             pub fn mls_welcome_locate(bytes: *const u8, length: usize, fields: &mut WelcomeFields) -> Outcome;
+            pub fn mls_group_secrets_locate(bytes: *const u8, length: usize, fields: &mut GroupSecretsFields) -> Outcome;
+            pub fn mls_group_info_locate(bytes: *const u8, length: usize, fields: &mut GroupInfoFields) -> Outcome;
+            pub fn mls_group_context_locate(bytes: *const u8, length: usize, fields: &mut GroupContextFields) -> Outcome;
+            pub fn mls_commit_locate(bytes: *const u8, length: usize, fields: &mut CommitFields) -> Outcome;
+            pub fn mls_proposal_locate(bytes: *const u8, length: usize, fields: &mut ProposalFields) -> Outcome;
             pub fn mls_message_kind(bytes: *const u8, length: usize, kind: &mut u16) -> Outcome;
             pub fn mls_message_validate(bytes: *const u8, length: usize) -> Outcome;
             pub fn mls_public_message_validate(bytes: *const u8, length: usize) -> Outcome;
@@ -706,7 +976,7 @@ pub mod mls {
         split(bytes, foreign::mls_ratchet_tree_validate)
     }
 
-    /// Where the fields of an `MLSMessage` are (RFC 9420, section 6). Of `opaque` it is the bytes without their length.
+    /// Where the fields of an `MLSMessage` are (RFC 9420, section 6).
     #[derive(Clone, Copy, PartialEq, Eq, Debug)]
     pub struct MLSMessageFields<'a> {
         /// `ProtocolVersion version = mls10;`
@@ -724,6 +994,31 @@ pub mod mls {
         let fields = MLSMessageFields {
             version: found.version.of(bytes),
             wire_format: found.wire_format.of(bytes),
+        };
+        Ok((fields, rest))
+    }
+
+    /// Where the fields of a `PublicMessage` are (RFC 9420, section 6.2).
+    #[derive(Clone, Copy, PartialEq, Eq, Debug)]
+    pub struct PublicMessageFields<'a> {
+        /// `FramedContent content;`
+        pub content: &'a [u8],
+        /// `FramedContentAuthData auth;`
+        pub auth: &'a [u8],
+        /// `MAC membership_tag;` with its length; no bytes if the sender is no member
+        pub membership_tag: &'a [u8],
+    }
+
+    /// `PublicMessage` (RFC 9420, section 6.2), and where its fields are. Of the message that the bytes begin with; and the rest of them.
+    pub fn public_message_locate(bytes: &[u8]) -> Result<(PublicMessageFields<'_>, &[u8]), Rejected> {
+        let mut found = foreign::PublicMessageFields::default();
+        // SAFETY: so many bytes are at the pointer, and nothing changes them during the call, which keeps no pointer.
+        let said = unsafe { foreign::mls_public_message_locate(bytes.as_ptr(), bytes.len(), &mut found) };
+        let (_, rest) = split_as(bytes, said)?;
+        let fields = PublicMessageFields {
+            content: found.content.of(bytes),
+            auth: found.auth.of(bytes),
+            membership_tag: found.membership_tag.of(bytes),
         };
         Ok((fields, rest))
     }
@@ -793,6 +1088,31 @@ pub mod mls {
         Ok((fields, rest))
     }
 
+    /// Where the fields of a `SenderData` are (RFC 9420, section 6.3.2).
+    #[derive(Clone, Copy, PartialEq, Eq, Debug)]
+    pub struct SenderDataFields<'a> {
+        /// `uint32 leaf_index;`
+        pub leaf_index: &'a [u8],
+        /// `uint32 generation;`
+        pub generation: &'a [u8],
+        /// `opaque reuse_guard[4];`
+        pub reuse_guard: &'a [u8],
+    }
+
+    /// `SenderData` (RFC 9420, section 6.3.2), and where its fields are. Of the message that the bytes begin with; and the rest of them.
+    pub fn sender_data_locate(bytes: &[u8]) -> Result<(SenderDataFields<'_>, &[u8]), Rejected> {
+        let mut found = foreign::SenderDataFields::default();
+        // SAFETY: so many bytes are at the pointer, and nothing changes them during the call, which keeps no pointer.
+        let said = unsafe { foreign::mls_sender_data_locate(bytes.as_ptr(), bytes.len(), &mut found) };
+        let (_, rest) = split_as(bytes, said)?;
+        let fields = SenderDataFields {
+            leaf_index: found.leaf_index.of(bytes),
+            generation: found.generation.of(bytes),
+            reuse_guard: found.reuse_guard.of(bytes),
+        };
+        Ok((fields, rest))
+    }
+
     /// Where the fields of a `KeyPackage` are (RFC 9420, section 10). Of `opaque` it is the bytes without their length.
     #[derive(Clone, Copy, PartialEq, Eq, Debug)]
     pub struct KeyPackageFields<'a> {
@@ -827,6 +1147,43 @@ pub mod mls {
         Ok((fields, rest))
     }
 
+    /// Where the fields of a `LeafNode` are (RFC 9420, section 7.2). Of `opaque` it is the bytes without their length.
+    #[derive(Clone, Copy, PartialEq, Eq, Debug)]
+    pub struct LeafNodeFields<'a> {
+        /// `HPKEPublicKey encryption_key;`
+        pub encryption_key: &'a [u8],
+        /// `SignaturePublicKey signature_key;`
+        pub signature_key: &'a [u8],
+        /// `Credential credential;`
+        pub credential: &'a [u8],
+        /// `Capabilities capabilities;`
+        pub capabilities: &'a [u8],
+        /// `LeafNodeSource leaf_node_source;` and what its case has
+        pub leaf_node_source: &'a [u8],
+        /// `Extension extensions<V>;` with its length
+        pub extensions: &'a [u8],
+        /// `opaque signature<V>;`
+        pub signature: &'a [u8],
+    }
+
+    /// `LeafNode` (RFC 9420, section 7.2), and where its fields are. Of the message that the bytes begin with; and the rest of them.
+    pub fn leaf_node_locate(bytes: &[u8]) -> Result<(LeafNodeFields<'_>, &[u8]), Rejected> {
+        let mut found = foreign::LeafNodeFields::default();
+        // SAFETY: so many bytes are at the pointer, and nothing changes them during the call, which keeps no pointer.
+        let said = unsafe { foreign::mls_leaf_node_locate(bytes.as_ptr(), bytes.len(), &mut found) };
+        let (_, rest) = split_as(bytes, said)?;
+        let fields = LeafNodeFields {
+            encryption_key: found.encryption_key.of(bytes),
+            signature_key: found.signature_key.of(bytes),
+            credential: found.credential.of(bytes),
+            capabilities: found.capabilities.of(bytes),
+            leaf_node_source: found.leaf_node_source.of(bytes),
+            extensions: found.extensions.of(bytes),
+            signature: found.signature.of(bytes),
+        };
+        Ok((fields, rest))
+    }
+
     /// Where the fields of a `Welcome` are (RFC 9420, section 12.4.3.1). Of `opaque` it is the bytes without their length.
     #[derive(Clone, Copy, PartialEq, Eq, Debug)]
     pub struct WelcomeFields<'a> {
@@ -848,6 +1205,143 @@ pub mod mls {
             cipher_suite: found.cipher_suite.of(bytes),
             secrets: found.secrets.of(bytes),
             encrypted_group_info: found.encrypted_group_info.of(bytes),
+        };
+        Ok((fields, rest))
+    }
+
+    /// Where the fields of a `GroupSecrets` are (RFC 9420, section 12.4.3.1). Of `opaque` it is the bytes without their length.
+    #[derive(Clone, Copy, PartialEq, Eq, Debug)]
+    pub struct GroupSecretsFields<'a> {
+        /// `opaque joiner_secret<V>;`
+        pub joiner_secret: &'a [u8],
+        /// `optional<PathSecret> path_secret;`
+        pub path_secret: &'a [u8],
+        /// `PreSharedKeyID psks<V>;` with its length
+        pub psks: &'a [u8],
+    }
+
+    /// `GroupSecrets` (RFC 9420, section 12.4.3.1), and where its fields are. Of the message that the bytes begin with; and the rest of them.
+    pub fn group_secrets_locate(bytes: &[u8]) -> Result<(GroupSecretsFields<'_>, &[u8]), Rejected> {
+        let mut found = foreign::GroupSecretsFields::default();
+        // SAFETY: so many bytes are at the pointer, and nothing changes them during the call, which keeps no pointer.
+        let said = unsafe { foreign::mls_group_secrets_locate(bytes.as_ptr(), bytes.len(), &mut found) };
+        let (_, rest) = split_as(bytes, said)?;
+        let fields = GroupSecretsFields {
+            joiner_secret: found.joiner_secret.of(bytes),
+            path_secret: found.path_secret.of(bytes),
+            psks: found.psks.of(bytes),
+        };
+        Ok((fields, rest))
+    }
+
+    /// Where the fields of a `GroupInfo` are (RFC 9420, section 12.4.3). Of `opaque` it is the bytes without their length.
+    #[derive(Clone, Copy, PartialEq, Eq, Debug)]
+    pub struct GroupInfoFields<'a> {
+        /// `GroupContext group_context;`
+        pub group_context: &'a [u8],
+        /// `Extension extensions<V>;` with its length
+        pub extensions: &'a [u8],
+        /// `MAC confirmation_tag;`
+        pub confirmation_tag: &'a [u8],
+        /// `uint32 signer;`
+        pub signer: &'a [u8],
+        /// `opaque signature<V>;`
+        pub signature: &'a [u8],
+    }
+
+    /// `GroupInfo` (RFC 9420, section 12.4.3), and where its fields are. Of the message that the bytes begin with; and the rest of them.
+    pub fn group_info_locate(bytes: &[u8]) -> Result<(GroupInfoFields<'_>, &[u8]), Rejected> {
+        let mut found = foreign::GroupInfoFields::default();
+        // SAFETY: so many bytes are at the pointer, and nothing changes them during the call, which keeps no pointer.
+        let said = unsafe { foreign::mls_group_info_locate(bytes.as_ptr(), bytes.len(), &mut found) };
+        let (_, rest) = split_as(bytes, said)?;
+        let fields = GroupInfoFields {
+            group_context: found.group_context.of(bytes),
+            extensions: found.extensions.of(bytes),
+            confirmation_tag: found.confirmation_tag.of(bytes),
+            signer: found.signer.of(bytes),
+            signature: found.signature.of(bytes),
+        };
+        Ok((fields, rest))
+    }
+
+    /// Where the fields of a `GroupContext` are (RFC 9420, section 8.1). Of `opaque` it is the bytes without their length.
+    #[derive(Clone, Copy, PartialEq, Eq, Debug)]
+    pub struct GroupContextFields<'a> {
+        /// `ProtocolVersion version = mls10;`
+        pub version: &'a [u8],
+        /// `CipherSuite cipher_suite;`
+        pub cipher_suite: &'a [u8],
+        /// `opaque group_id<V>;`
+        pub group_id: &'a [u8],
+        /// `uint64 epoch;`
+        pub epoch: &'a [u8],
+        /// `opaque tree_hash<V>;`
+        pub tree_hash: &'a [u8],
+        /// `opaque confirmed_transcript_hash<V>;`
+        pub confirmed_transcript_hash: &'a [u8],
+        /// `Extension extensions<V>;` with its length
+        pub extensions: &'a [u8],
+    }
+
+    /// `GroupContext` (RFC 9420, section 8.1), and where its fields are. Of the message that the bytes begin with; and the rest of them.
+    pub fn group_context_locate(bytes: &[u8]) -> Result<(GroupContextFields<'_>, &[u8]), Rejected> {
+        let mut found = foreign::GroupContextFields::default();
+        // SAFETY: so many bytes are at the pointer, and nothing changes them during the call, which keeps no pointer.
+        let said = unsafe { foreign::mls_group_context_locate(bytes.as_ptr(), bytes.len(), &mut found) };
+        let (_, rest) = split_as(bytes, said)?;
+        let fields = GroupContextFields {
+            version: found.version.of(bytes),
+            cipher_suite: found.cipher_suite.of(bytes),
+            group_id: found.group_id.of(bytes),
+            epoch: found.epoch.of(bytes),
+            tree_hash: found.tree_hash.of(bytes),
+            confirmed_transcript_hash: found.confirmed_transcript_hash.of(bytes),
+            extensions: found.extensions.of(bytes),
+        };
+        Ok((fields, rest))
+    }
+
+    /// Where the fields of a `Commit` are (RFC 9420, section 12.4).
+    #[derive(Clone, Copy, PartialEq, Eq, Debug)]
+    pub struct CommitFields<'a> {
+        /// `ProposalOrRef proposals<V>;` with its length
+        pub proposals: &'a [u8],
+        /// `optional<UpdatePath> path;`
+        pub path: &'a [u8],
+    }
+
+    /// `Commit` (RFC 9420, section 12.4), and where its fields are. Of the message that the bytes begin with; and the rest of them.
+    pub fn commit_locate(bytes: &[u8]) -> Result<(CommitFields<'_>, &[u8]), Rejected> {
+        let mut found = foreign::CommitFields::default();
+        // SAFETY: so many bytes are at the pointer, and nothing changes them during the call, which keeps no pointer.
+        let said = unsafe { foreign::mls_commit_locate(bytes.as_ptr(), bytes.len(), &mut found) };
+        let (_, rest) = split_as(bytes, said)?;
+        let fields = CommitFields {
+            proposals: found.proposals.of(bytes),
+            path: found.path.of(bytes),
+        };
+        Ok((fields, rest))
+    }
+
+    /// Where the fields of a `Proposal` are (RFC 9420, section 12.1).
+    #[derive(Clone, Copy, PartialEq, Eq, Debug)]
+    pub struct ProposalFields<'a> {
+        /// `ProposalType proposal_type;`
+        pub proposal_type: &'a [u8],
+        /// What its case has: an `Add`, an `Update`, ..
+        pub body: &'a [u8],
+    }
+
+    /// `Proposal` (RFC 9420, section 12.1), and where its fields are. Of the message that the bytes begin with; and the rest of them.
+    pub fn proposal_locate(bytes: &[u8]) -> Result<(ProposalFields<'_>, &[u8]), Rejected> {
+        let mut found = foreign::ProposalFields::default();
+        // SAFETY: so many bytes are at the pointer, and nothing changes them during the call, which keeps no pointer.
+        let said = unsafe { foreign::mls_proposal_locate(bytes.as_ptr(), bytes.len(), &mut found) };
+        let (_, rest) = split_as(bytes, said)?;
+        let fields = ProposalFields {
+            proposal_type: found.proposal_type.of(bytes),
+            body: found.body.of(bytes),
         };
         Ok((fields, rest))
     }

@@ -29,6 +29,16 @@ fn fields<'a>(name: &str, bytes: &'a [u8]) -> Option<Fields<'a>> {
         "tls13_certificate_verify_locate" => tls13::certificate_verify_locate(bytes).map(|(it, _)| vec![it.algorithm, it.signature]),
         "tls13_new_session_ticket_locate" => tls13::new_session_ticket_locate(bytes)
             .map(|(it, _)| vec![it.ticket_lifetime, it.ticket_age_add, it.ticket_nonce, it.ticket, it.extensions]),
+        "tls13_handshake_locate" => tls13::handshake_locate(bytes).map(|(it, _)| vec![it.msg_type, it.body]),
+        "tls13_encrypted_extensions_locate" => tls13::encrypted_extensions_locate(bytes).map(|(it, _)| vec![it.extensions]),
+        "tls13_certificate_request_locate" => {
+            tls13::certificate_request_locate(bytes).map(|(it, _)| vec![it.certificate_request_context, it.extensions])
+        }
+        "tls13_key_update_locate" => tls13::key_update_locate(bytes).map(|(it, _)| vec![it.request_update]),
+        "tls13_tls_ciphertext_locate" => {
+            tls13::tls_ciphertext_locate(bytes).map(|(it, _)| vec![it.opaque_type, it.legacy_record_version, it.encrypted_record])
+        }
+        "tls13_alert_locate" => tls13::alert_locate(bytes).map(|(it, _)| vec![it.level, it.description]),
         "tls13_tls_plaintext_locate" => {
             tls13::tls_plaintext_locate(bytes).map(|(it, _)| vec![it.kind, it.legacy_record_version, it.fragment])
         }
@@ -63,6 +73,7 @@ impl Row {
             2 => Error::InvalidVectorLength,
             5 => Error::DecodingError,
             6 => Error::EndOfStream,
+            7 => Error::TrailingData,
             8 => Error::UnknownValue(self.said[3]),
             other => panic!("no row has status {other}"),
         };

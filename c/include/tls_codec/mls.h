@@ -10,6 +10,14 @@
 extern "C" {
 #endif
 
+/* Where the fields of a Commit are (RFC 9420, section 12.4). */
+typedef struct mls_commit_fields {
+  /* ProposalOrRef proposals<V>; with its length */
+  tls_codec_span proposals;
+  /* optional<UpdatePath> path; */
+  tls_codec_span path;
+} mls_commit_fields;
+
 /* Where the fields of a FramedContent are (RFC 9420, section 6). Of opaque it is the bytes without
    their length. */
 typedef struct mls_framed_content_fields {
@@ -24,6 +32,51 @@ typedef struct mls_framed_content_fields {
   /* ContentType content_type; and the content after it */
   tls_codec_span content_type;
 } mls_framed_content_fields;
+
+/* Where the fields of a GroupContext are (RFC 9420, section 8.1). Of opaque it is the bytes without
+   their length. */
+typedef struct mls_group_context_fields {
+  /* ProtocolVersion version = mls10; */
+  tls_codec_span version;
+  /* CipherSuite cipher_suite; */
+  tls_codec_span cipher_suite;
+  /* opaque group_id<V>; */
+  tls_codec_span group_id;
+  /* uint64 epoch; */
+  tls_codec_span epoch;
+  /* opaque tree_hash<V>; */
+  tls_codec_span tree_hash;
+  /* opaque confirmed_transcript_hash<V>; */
+  tls_codec_span confirmed_transcript_hash;
+  /* Extension extensions<V>; with its length */
+  tls_codec_span extensions;
+} mls_group_context_fields;
+
+/* Where the fields of a GroupInfo are (RFC 9420, section 12.4.3). Of opaque it is the bytes without
+   their length. */
+typedef struct mls_group_info_fields {
+  /* GroupContext group_context; */
+  tls_codec_span group_context;
+  /* Extension extensions<V>; with its length */
+  tls_codec_span extensions;
+  /* MAC confirmation_tag; */
+  tls_codec_span confirmation_tag;
+  /* uint32 signer; */
+  tls_codec_span signer;
+  /* opaque signature<V>; */
+  tls_codec_span signature;
+} mls_group_info_fields;
+
+/* Where the fields of a GroupSecrets are (RFC 9420, section 12.4.3.1). Of opaque it is the bytes
+   without their length. */
+typedef struct mls_group_secrets_fields {
+  /* opaque joiner_secret<V>; */
+  tls_codec_span joiner_secret;
+  /* optional<PathSecret> path_secret; */
+  tls_codec_span path_secret;
+  /* PreSharedKeyID psks<V>; with its length */
+  tls_codec_span psks;
+} mls_group_secrets_fields;
 
 /* Where the fields of a KeyPackage are (RFC 9420, section 10). Of opaque it is the bytes without
    their length. */
@@ -42,8 +95,26 @@ typedef struct mls_key_package_fields {
   tls_codec_span signature;
 } mls_key_package_fields;
 
-/* Where the fields of an MLSMessage are (RFC 9420, section 6). Of opaque it is the bytes without
+/* Where the fields of a LeafNode are (RFC 9420, section 7.2). Of opaque it is the bytes without
    their length. */
+typedef struct mls_leaf_node_fields {
+  /* HPKEPublicKey encryption_key; */
+  tls_codec_span encryption_key;
+  /* SignaturePublicKey signature_key; */
+  tls_codec_span signature_key;
+  /* Credential credential; */
+  tls_codec_span credential;
+  /* Capabilities capabilities; */
+  tls_codec_span capabilities;
+  /* LeafNodeSource leaf_node_source; and what its case has */
+  tls_codec_span leaf_node_source;
+  /* Extension extensions<V>; with its length */
+  tls_codec_span extensions;
+  /* opaque signature<V>; */
+  tls_codec_span signature;
+} mls_leaf_node_fields;
+
+/* Where the fields of an MLSMessage are (RFC 9420, section 6). */
 typedef struct mls_message_fields {
   /* ProtocolVersion version = mls10; */
   tls_codec_span version;
@@ -67,6 +138,34 @@ typedef struct mls_private_message_fields {
   /* opaque ciphertext<V>; */
   tls_codec_span ciphertext;
 } mls_private_message_fields;
+
+/* Where the fields of a Proposal are (RFC 9420, section 12.1). */
+typedef struct mls_proposal_fields {
+  /* ProposalType proposal_type; */
+  tls_codec_span proposal_type;
+  /* What its case has: an Add, an Update, .. */
+  tls_codec_span body;
+} mls_proposal_fields;
+
+/* Where the fields of a PublicMessage are (RFC 9420, section 6.2). */
+typedef struct mls_public_message_fields {
+  /* FramedContent content; */
+  tls_codec_span content;
+  /* FramedContentAuthData auth; */
+  tls_codec_span auth;
+  /* MAC membership_tag; with its length; no bytes if the sender is no member */
+  tls_codec_span membership_tag;
+} mls_public_message_fields;
+
+/* Where the fields of a SenderData are (RFC 9420, section 6.3.2). */
+typedef struct mls_sender_data_fields {
+  /* uint32 leaf_index; */
+  tls_codec_span leaf_index;
+  /* uint32 generation; */
+  tls_codec_span generation;
+  /* opaque reuse_guard[4]; */
+  tls_codec_span reuse_guard;
+} mls_sender_data_fields;
 
 /* Where the fields of a Welcome are (RFC 9420, section 12.4.3.1). Of opaque it is the bytes without
    their length. */
@@ -96,17 +195,41 @@ tls_codec_outcome mls_encrypted_group_secrets_next(const uint8_t *bytes, size_t 
 /* MLSMessage (RFC 9420, section 6), and where its fields are. */
 tls_codec_outcome mls_message_locate(const uint8_t *bytes, size_t length, mls_message_fields *fields);
 
+/* PublicMessage (RFC 9420, section 6.2), and where its fields are. */
+tls_codec_outcome mls_public_message_locate(const uint8_t *bytes, size_t length, mls_public_message_fields *fields);
+
 /* PrivateMessage (RFC 9420, section 6.3), and where its fields are. */
 tls_codec_outcome mls_private_message_locate(const uint8_t *bytes, size_t length, mls_private_message_fields *fields);
 
 /* FramedContent (RFC 9420, section 6), with which a PublicMessage begins, and where its fields are. */
 tls_codec_outcome mls_framed_content_locate(const uint8_t *bytes, size_t length, mls_framed_content_fields *fields);
 
+/* SenderData (RFC 9420, section 6.3.2), and where its fields are. */
+tls_codec_outcome mls_sender_data_locate(const uint8_t *bytes, size_t length, mls_sender_data_fields *fields);
+
 /* KeyPackage (RFC 9420, section 10), and where its fields are. */
 tls_codec_outcome mls_key_package_locate(const uint8_t *bytes, size_t length, mls_key_package_fields *fields);
 
+/* LeafNode (RFC 9420, section 7.2), and where its fields are. */
+tls_codec_outcome mls_leaf_node_locate(const uint8_t *bytes, size_t length, mls_leaf_node_fields *fields);
+
 /* Welcome (RFC 9420, section 12.4.3.1), and where its fields are. */
 tls_codec_outcome mls_welcome_locate(const uint8_t *bytes, size_t length, mls_welcome_fields *fields);
+
+/* GroupSecrets (RFC 9420, section 12.4.3.1), and where its fields are. */
+tls_codec_outcome mls_group_secrets_locate(const uint8_t *bytes, size_t length, mls_group_secrets_fields *fields);
+
+/* GroupInfo (RFC 9420, section 12.4.3), and where its fields are. */
+tls_codec_outcome mls_group_info_locate(const uint8_t *bytes, size_t length, mls_group_info_fields *fields);
+
+/* GroupContext (RFC 9420, section 8.1), and where its fields are. */
+tls_codec_outcome mls_group_context_locate(const uint8_t *bytes, size_t length, mls_group_context_fields *fields);
+
+/* Commit (RFC 9420, section 12.4), and where its fields are. */
+tls_codec_outcome mls_commit_locate(const uint8_t *bytes, size_t length, mls_commit_fields *fields);
+
+/* Proposal (RFC 9420, section 12.1), and where its fields are. */
+tls_codec_outcome mls_proposal_locate(const uint8_t *bytes, size_t length, mls_proposal_fields *fields);
 
 /* MLSMessage (RFC 9420, section 6), and its WireFormat: 1 is a public message, 2 a private message,
    3 a welcome, 4 a group info, 5 a key package. */

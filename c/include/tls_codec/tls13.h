@@ -10,6 +10,14 @@
 extern "C" {
 #endif
 
+/* Where the fields of an Alert are (RFC 8446, section 6). */
+typedef struct tls13_alert_fields {
+  /* AlertLevel level; */
+  tls_codec_span level;
+  /* AlertDescription description; */
+  tls_codec_span description;
+} tls13_alert_fields;
+
 /* Where the fields of a Certificate are (RFC 8446, section 4.4.2). Of opaque it is the bytes
    without their length. */
 typedef struct tls13_certificate_fields {
@@ -18,6 +26,15 @@ typedef struct tls13_certificate_fields {
   /* CertificateEntry certificate_list<0..2^24-1>; with its length */
   tls_codec_span certificate_list;
 } tls13_certificate_fields;
+
+/* Where the fields of a CertificateRequest are (RFC 8446, section 4.3.2). Of opaque it is the bytes
+   without their length. */
+typedef struct tls13_certificate_request_fields {
+  /* opaque certificate_request_context<0..2^8-1>; */
+  tls_codec_span certificate_request_context;
+  /* Extension extensions<2..2^16-1>; with its length */
+  tls_codec_span extensions;
+} tls13_certificate_request_fields;
 
 /* Where the fields of a CertificateVerify are (RFC 8446, section 4.4.3). Of opaque it is the bytes
    without their length. */
@@ -44,6 +61,26 @@ typedef struct tls13_client_hello_fields {
   /* Extension extensions<8..2^16-1>; with its length */
   tls_codec_span extensions;
 } tls13_client_hello_fields;
+
+/* Where the fields of an EncryptedExtensions are (RFC 8446, section 4.3.1). */
+typedef struct tls13_encrypted_extensions_fields {
+  /* Extension extensions<0..2^16-1>; with its length */
+  tls_codec_span extensions;
+} tls13_encrypted_extensions_fields;
+
+/* Where the fields of a Handshake are (RFC 8446, section 4). */
+typedef struct tls13_handshake_fields {
+  /* HandshakeType msg_type; */
+  tls_codec_span msg_type;
+  /* What its case has, with its length: a ClientHello, a ServerHello, .. */
+  tls_codec_span body;
+} tls13_handshake_fields;
+
+/* Where the fields of a KeyUpdate are (RFC 8446, section 4.6.3). */
+typedef struct tls13_key_update_fields {
+  /* KeyUpdateRequest request_update; */
+  tls_codec_span request_update;
+} tls13_key_update_fields;
 
 /* Where the fields of a NewSessionTicket are (RFC 8446, section 4.6.1). Of opaque it is the bytes
    without their length. */
@@ -77,6 +114,17 @@ typedef struct tls13_server_hello_fields {
   tls_codec_span extensions;
 } tls13_server_hello_fields;
 
+/* Where the fields of a TLSCiphertext are (RFC 8446, section 5.2). Of opaque it is the bytes
+   without their length. */
+typedef struct tls13_tls_ciphertext_fields {
+  /* ContentType opaque_type = application_data; */
+  tls_codec_span opaque_type;
+  /* ProtocolVersion legacy_record_version = 0x0303; */
+  tls_codec_span legacy_record_version;
+  /* opaque encrypted_record[TLSCiphertext.length]; */
+  tls_codec_span encrypted_record;
+} tls13_tls_ciphertext_fields;
+
 /* Where the fields of a TLSPlaintext are (RFC 8446, section 5.1). Of opaque it is the bytes without
    their length. */
 typedef struct tls13_tls_plaintext_fields {
@@ -98,11 +146,20 @@ tls_codec_outcome tls13_key_share_entry_next(const uint8_t *bytes, size_t length
    it. */
 tls_codec_outcome tls13_certificate_entry_next(const uint8_t *bytes, size_t length, tls_codec_span *left, tls_codec_span *element);
 
+/* Handshake (RFC 8446, section 4), and where its fields are. */
+tls_codec_outcome tls13_handshake_locate(const uint8_t *bytes, size_t length, tls13_handshake_fields *fields);
+
 /* ClientHello (RFC 8446, section 4.1.2), and where its fields are. */
 tls_codec_outcome tls13_client_hello_locate(const uint8_t *bytes, size_t length, tls13_client_hello_fields *fields);
 
 /* ServerHello (RFC 8446, section 4.1.3), and where its fields are. */
 tls_codec_outcome tls13_server_hello_locate(const uint8_t *bytes, size_t length, tls13_server_hello_fields *fields);
+
+/* EncryptedExtensions (RFC 8446, section 4.3.1), and where its fields are. */
+tls_codec_outcome tls13_encrypted_extensions_locate(const uint8_t *bytes, size_t length, tls13_encrypted_extensions_fields *fields);
+
+/* CertificateRequest (RFC 8446, section 4.3.2), and where its fields are. */
+tls_codec_outcome tls13_certificate_request_locate(const uint8_t *bytes, size_t length, tls13_certificate_request_fields *fields);
 
 /* Certificate (RFC 8446, section 4.4.2), and where its fields are. */
 tls_codec_outcome tls13_certificate_locate(const uint8_t *bytes, size_t length, tls13_certificate_fields *fields);
@@ -113,8 +170,17 @@ tls_codec_outcome tls13_certificate_verify_locate(const uint8_t *bytes, size_t l
 /* NewSessionTicket (RFC 8446, section 4.6.1), and where its fields are. */
 tls_codec_outcome tls13_new_session_ticket_locate(const uint8_t *bytes, size_t length, tls13_new_session_ticket_fields *fields);
 
+/* KeyUpdate (RFC 8446, section 4.6.3), and where its fields are. */
+tls_codec_outcome tls13_key_update_locate(const uint8_t *bytes, size_t length, tls13_key_update_fields *fields);
+
 /* TLSPlaintext (RFC 8446, section 5.1), and where its fields are. */
 tls_codec_outcome tls13_tls_plaintext_locate(const uint8_t *bytes, size_t length, tls13_tls_plaintext_fields *fields);
+
+/* TLSCiphertext (RFC 8446, section 5.2), and where its fields are. */
+tls_codec_outcome tls13_tls_ciphertext_locate(const uint8_t *bytes, size_t length, tls13_tls_ciphertext_fields *fields);
+
+/* Alert (RFC 8446, section 6), and where its fields are. */
+tls_codec_outcome tls13_alert_locate(const uint8_t *bytes, size_t length, tls13_alert_fields *fields);
 
 /* TLSPlaintext (RFC 8446, appendix B.1). */
 tls_codec_outcome tls13_tls_plaintext_validate(const uint8_t *bytes, size_t length);

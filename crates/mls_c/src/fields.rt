@@ -1,23 +1,41 @@
 //! Where the fields of a message are, once it is validated.
 ghost use Rattle.std.specs.Prelude.{◌≡◌, ◌≢◌};
 ghost use Rattle.mls.specs.MLSMessage.{mls_message_format};
+ghost use Rattle.mls.specs.PublicMessage.{public_message_format};
 ghost use Rattle.mls.specs.PrivateMessage.{private_message_format};
 ghost use Rattle.mls.specs.FramedContent.{framed_content_format};
+ghost use Rattle.mls.specs.SenderData.{sender_data_format};
 ghost use Rattle.mls_leaf.specs.KeyPackage.{key_package_format};
+ghost use Rattle.mls_leaf.specs.LeafNode.{leaf_node_format};
 ghost use Rattle.mls_proposals.specs.Welcome.{welcome_format};
+ghost use Rattle.mls_proposals.specs.GroupSecrets.{group_secrets_format};
+ghost use Rattle.mls_proposals.specs.GroupInfo.{group_info_format};
+ghost use Rattle.mls_proposals.specs.GroupContext.{group_context_format};
+ghost use Rattle.mls_proposals.specs.Commit.{commit_format};
+ghost use Rattle.mls_proposals.specs.Proposal.{proposal_format};
 ghost use Rattle.mls_fields.specs.MLSMessageFields.{AreMLSMessageFields};
+ghost use Rattle.mls_fields.specs.PublicMessageFields.{ArePublicMessageFields};
 ghost use Rattle.mls_fields.specs.PrivateMessageFields.{ArePrivateMessageFields};
 ghost use Rattle.mls_fields.specs.FramedContentFields.{AreFramedContentFields};
+ghost use Rattle.mls_fields.specs.SenderDataFields.{AreSenderDataFields};
 ghost use Rattle.mls_fields.specs.KeyPackageFields.{AreKeyPackageFields};
+ghost use Rattle.mls_fields.specs.LeafNodeFields.{AreLeafNodeFields};
 ghost use Rattle.mls_fields.specs.WelcomeFields.{AreWelcomeFields};
+ghost use Rattle.mls_fields.specs.GroupSecretsFields.{AreGroupSecretsFields};
+ghost use Rattle.mls_fields.specs.GroupInfoFields.{AreGroupInfoFields};
+ghost use Rattle.mls_fields.specs.GroupContextFields.{AreGroupContextFields};
+ghost use Rattle.mls_fields.specs.CommitFields.{AreCommitFields};
+ghost use Rattle.mls_fields.specs.ProposalFields.{AreProposalFields};
 ghost use Rattle.tls_codec_outcome.specs.Outcomes.{Decides, IsRejection, IsTaken};
 
-use mls::{FramedContent, MLSMessage, PrivateMessage};
+use mls::{FramedContent, MLSMessage, PrivateMessage, PublicMessage, SenderData};
 use mls_fields::{
-    FramedContentFields, KeyPackageFields, MLSMessageFields, PrivateMessageFields, WelcomeFields,
+    CommitFields, FramedContentFields, GroupContextFields, GroupInfoFields, GroupSecretsFields,
+    KeyPackageFields, LeafNodeFields, MLSMessageFields, PrivateMessageFields, ProposalFields,
+    PublicMessageFields, SenderDataFields, WelcomeFields,
 };
-use mls_leaf::KeyPackage;
-use mls_proposals::Welcome;
+use mls_leaf::{KeyPackage, LeafNode};
+use mls_proposals::{Commit, GroupContext, GroupInfo, GroupSecrets, Proposal, Welcome};
 use tls_codec::DeserializeBytes;
 use tls_codec_outcome::{ACCEPTED, Outcome, validate};
 use tls_codec_validate::Validate;
@@ -35,6 +53,26 @@ pub extern "C" fn mls_message_locate(bytes: &[u8], fields: &mut MLSMessageFields
     let said = validate::<MLSMessage>(bytes);
     if said.status == ACCEPTED {
         *fields = MLSMessageFields::of(bytes);
+    }
+    said
+}
+
+/// `PublicMessage` (RFC 9420, section 6.2), and where its fields are.
+#[unsafe(no_mangle)]
+pub extern "C" fn mls_public_message_locate(
+    bytes: &[u8],
+    fields: &mut PublicMessageFields,
+) -> Outcome
+    ensures status { Decides public_message_format bytes.now result.status }
+    ensures taken { IsTaken public_message_format bytes.now result.status result.taken }
+    ensures rejected { IsRejection ⟦<PublicMessage as DeserializeBytes>⟧.names
+        ⟦<PublicMessage as Validate>⟧.places bytes.now result.status result.at result.detail }
+    ensures fields { result.status ≡ 0 → ArePublicMessageFields bytes.now fields.new }
+    ensures kept { result.status ≢ 0 → fields.new ≡ fields.old }
+{
+    let said = validate::<PublicMessage>(bytes);
+    if said.status == ACCEPTED {
+        *fields = PublicMessageFields::of(bytes);
     }
     said
 }
@@ -79,6 +117,23 @@ pub extern "C" fn mls_framed_content_locate(
     said
 }
 
+/// `SenderData` (RFC 9420, section 6.3.2), and where its fields are.
+#[unsafe(no_mangle)]
+pub extern "C" fn mls_sender_data_locate(bytes: &[u8], fields: &mut SenderDataFields) -> Outcome
+    ensures status { Decides sender_data_format bytes.now result.status }
+    ensures taken { IsTaken sender_data_format bytes.now result.status result.taken }
+    ensures rejected { IsRejection ⟦<SenderData as DeserializeBytes>⟧.names
+        ⟦<SenderData as Validate>⟧.places bytes.now result.status result.at result.detail }
+    ensures fields { result.status ≡ 0 → AreSenderDataFields bytes.now fields.new }
+    ensures kept { result.status ≢ 0 → fields.new ≡ fields.old }
+{
+    let said = validate::<SenderData>(bytes);
+    if said.status == ACCEPTED {
+        *fields = SenderDataFields::of(bytes);
+    }
+    said
+}
+
 /// `KeyPackage` (RFC 9420, section 10), and where its fields are.
 #[unsafe(no_mangle)]
 pub extern "C" fn mls_key_package_locate(bytes: &[u8], fields: &mut KeyPackageFields) -> Outcome
@@ -96,6 +151,23 @@ pub extern "C" fn mls_key_package_locate(bytes: &[u8], fields: &mut KeyPackageFi
     said
 }
 
+/// `LeafNode` (RFC 9420, section 7.2), and where its fields are.
+#[unsafe(no_mangle)]
+pub extern "C" fn mls_leaf_node_locate(bytes: &[u8], fields: &mut LeafNodeFields) -> Outcome
+    ensures status { Decides leaf_node_format bytes.now result.status }
+    ensures taken { IsTaken leaf_node_format bytes.now result.status result.taken }
+    ensures rejected { IsRejection ⟦<LeafNode as DeserializeBytes>⟧.names
+        ⟦<LeafNode as Validate>⟧.places bytes.now result.status result.at result.detail }
+    ensures fields { result.status ≡ 0 → AreLeafNodeFields bytes.now fields.new }
+    ensures kept { result.status ≢ 0 → fields.new ≡ fields.old }
+{
+    let said = validate::<LeafNode>(bytes);
+    if said.status == ACCEPTED {
+        *fields = LeafNodeFields::of(bytes);
+    }
+    said
+}
+
 /// `Welcome` (RFC 9420, section 12.4.3.1), and where its fields are.
 #[unsafe(no_mangle)]
 pub extern "C" fn mls_welcome_locate(bytes: &[u8], fields: &mut WelcomeFields) -> Outcome
@@ -109,6 +181,91 @@ pub extern "C" fn mls_welcome_locate(bytes: &[u8], fields: &mut WelcomeFields) -
     let said = validate::<Welcome>(bytes);
     if said.status == ACCEPTED {
         *fields = WelcomeFields::of(bytes);
+    }
+    said
+}
+
+/// `GroupSecrets` (RFC 9420, section 12.4.3.1), and where its fields are.
+#[unsafe(no_mangle)]
+pub extern "C" fn mls_group_secrets_locate(bytes: &[u8], fields: &mut GroupSecretsFields) -> Outcome
+    ensures status { Decides group_secrets_format bytes.now result.status }
+    ensures taken { IsTaken group_secrets_format bytes.now result.status result.taken }
+    ensures rejected { IsRejection ⟦<GroupSecrets as DeserializeBytes>⟧.names
+        ⟦<GroupSecrets as Validate>⟧.places bytes.now result.status result.at result.detail }
+    ensures fields { result.status ≡ 0 → AreGroupSecretsFields bytes.now fields.new }
+    ensures kept { result.status ≢ 0 → fields.new ≡ fields.old }
+{
+    let said = validate::<GroupSecrets>(bytes);
+    if said.status == ACCEPTED {
+        *fields = GroupSecretsFields::of(bytes);
+    }
+    said
+}
+
+/// `GroupInfo` (RFC 9420, section 12.4.3), and where its fields are.
+#[unsafe(no_mangle)]
+pub extern "C" fn mls_group_info_locate(bytes: &[u8], fields: &mut GroupInfoFields) -> Outcome
+    ensures status { Decides group_info_format bytes.now result.status }
+    ensures taken { IsTaken group_info_format bytes.now result.status result.taken }
+    ensures rejected { IsRejection ⟦<GroupInfo as DeserializeBytes>⟧.names
+        ⟦<GroupInfo as Validate>⟧.places bytes.now result.status result.at result.detail }
+    ensures fields { result.status ≡ 0 → AreGroupInfoFields bytes.now fields.new }
+    ensures kept { result.status ≢ 0 → fields.new ≡ fields.old }
+{
+    let said = validate::<GroupInfo>(bytes);
+    if said.status == ACCEPTED {
+        *fields = GroupInfoFields::of(bytes);
+    }
+    said
+}
+
+/// `GroupContext` (RFC 9420, section 8.1), and where its fields are.
+#[unsafe(no_mangle)]
+pub extern "C" fn mls_group_context_locate(bytes: &[u8], fields: &mut GroupContextFields) -> Outcome
+    ensures status { Decides group_context_format bytes.now result.status }
+    ensures taken { IsTaken group_context_format bytes.now result.status result.taken }
+    ensures rejected { IsRejection ⟦<GroupContext as DeserializeBytes>⟧.names
+        ⟦<GroupContext as Validate>⟧.places bytes.now result.status result.at result.detail }
+    ensures fields { result.status ≡ 0 → AreGroupContextFields bytes.now fields.new }
+    ensures kept { result.status ≢ 0 → fields.new ≡ fields.old }
+{
+    let said = validate::<GroupContext>(bytes);
+    if said.status == ACCEPTED {
+        *fields = GroupContextFields::of(bytes);
+    }
+    said
+}
+
+/// `Commit` (RFC 9420, section 12.4), and where its fields are.
+#[unsafe(no_mangle)]
+pub extern "C" fn mls_commit_locate(bytes: &[u8], fields: &mut CommitFields) -> Outcome
+    ensures status { Decides commit_format bytes.now result.status }
+    ensures taken { IsTaken commit_format bytes.now result.status result.taken }
+    ensures rejected { IsRejection ⟦<Commit as DeserializeBytes>⟧.names
+        ⟦<Commit as Validate>⟧.places bytes.now result.status result.at result.detail }
+    ensures fields { result.status ≡ 0 → AreCommitFields bytes.now fields.new }
+    ensures kept { result.status ≢ 0 → fields.new ≡ fields.old }
+{
+    let said = validate::<Commit>(bytes);
+    if said.status == ACCEPTED {
+        *fields = CommitFields::of(bytes);
+    }
+    said
+}
+
+/// `Proposal` (RFC 9420, section 12.1), and where its fields are.
+#[unsafe(no_mangle)]
+pub extern "C" fn mls_proposal_locate(bytes: &[u8], fields: &mut ProposalFields) -> Outcome
+    ensures status { Decides proposal_format bytes.now result.status }
+    ensures taken { IsTaken proposal_format bytes.now result.status result.taken }
+    ensures rejected { IsRejection ⟦<Proposal as DeserializeBytes>⟧.names
+        ⟦<Proposal as Validate>⟧.places bytes.now result.status result.at result.detail }
+    ensures fields { result.status ≡ 0 → AreProposalFields bytes.now fields.new }
+    ensures kept { result.status ≢ 0 → fields.new ≡ fields.old }
+{
+    let said = validate::<Proposal>(bytes);
+    if said.status == ACCEPTED {
+        *fields = ProposalFields::of(bytes);
     }
     said
 }

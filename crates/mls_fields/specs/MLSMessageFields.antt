@@ -1,8 +1,8 @@
 -- The fields of MLSMessage.
 use Rattle.std.specs.Prelude.{ℕ, List}
-use Rattle.tls_codec_outcome.specs.Fields.{IsContentFrom, IsFieldFrom, span_end}
-use Rattle.mls_proposals.specs.ProtocolVersionMls10.{protocol_version_mls10_format}
+use Rattle.tls_codec_outcome.specs.Fields.{IsFieldFrom, span_end}
 use Rattle.mls.specs.WireFormatData.{wire_format_data_format}
+use Rattle.mls_proposals.specs.ProtocolVersionMls10.{protocol_version_mls10_format}
 use Rattle.mls_fields.specs.declared.mls_message.MLSMessageFields.{MLSMessageFields}
 
 -- x begins with them, one behind the other

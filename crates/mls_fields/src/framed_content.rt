@@ -1,11 +1,11 @@
 //! The fields of `FramedContent`.
 ghost use Rattle.mls.specs.FramedContent.{framed_content_format};
-ghost use Rattle.tls_codec_outcome.specs.Fields.{BeginsAt};
+ghost use Rattle.tls_codec_outcome.specs.Fields.{Located};
 ghost use Rattle.mls_fields.specs.FramedContentFields.{AreFramedContentFields};
 
 use mls::{ContentTypeData, Sender};
 use tls_codec::TlsVarInt;
-use tls_codec_outcome::{Span, content_at, field_at};
+use tls_codec_outcome::{Content, Locate, Span, Whole};
 
 /// Where the fields of a `FramedContent` are (RFC 9420, section 6). Of `opaque` it is the bytes without their length.
 #[repr(C)]
@@ -23,17 +23,19 @@ pub struct FramedContentFields {
     pub content_type: Span,
 }
 
+type Parts = (
+    (Content<TlsVarInt>, Whole<u64>, Whole<Sender>),
+    (Content<TlsVarInt>, Whole<ContentTypeData>),
+);
+
 impl FramedContentFields {
     /// Those of the message that begins the bytes, if there is one.
     pub fn of(bytes: &[u8]) -> FramedContentFields
-        ensures { BeginsAt framed_content_format bytes.now 0 → AreFramedContentFields bytes.now
-            result }
+        ensures { Located framed_content_format AreFramedContentFields bytes.now result }
     {
-        let group_id = content_at::<TlsVarInt>(bytes, 0);
-        let epoch = field_at::<u64>(bytes, group_id.end());
-        let sender = field_at::<Sender>(bytes, epoch.end());
-        let authenticated_data = content_at::<TlsVarInt>(bytes, sender.end());
-        let content_type = field_at::<ContentTypeData>(bytes, authenticated_data.end());
+        let (((group_id, epoch, sender), (authenticated_data, content_type)), _) = <Parts>::locate(
+            bytes, 0,
+        );
         FramedContentFields {
             group_id,
             epoch,

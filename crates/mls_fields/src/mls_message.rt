@@ -1,13 +1,13 @@
 //! The fields of `MLSMessage`.
 ghost use Rattle.mls.specs.MLSMessage.{mls_message_format};
-ghost use Rattle.tls_codec_outcome.specs.Fields.{BeginsAt};
+ghost use Rattle.tls_codec_outcome.specs.Fields.{Located};
 ghost use Rattle.mls_fields.specs.MLSMessageFields.{AreMLSMessageFields};
 
 use mls::WireFormatData;
 use mls_proposals::ProtocolVersionMls10;
-use tls_codec_outcome::{Span, field_at};
+use tls_codec_outcome::{Locate, Span, Whole};
 
-/// Where the fields of an `MLSMessage` are (RFC 9420, section 6). Of `opaque` it is the bytes without their length.
+/// Where the fields of an `MLSMessage` are (RFC 9420, section 6).
 #[repr(C)]
 #[derive(Clone, Copy, PartialEq, Eq, Debug)]
 pub struct MLSMessageFields {
@@ -17,13 +17,14 @@ pub struct MLSMessageFields {
     pub wire_format: Span,
 }
 
+type Parts = (Whole<ProtocolVersionMls10>, Whole<WireFormatData>);
+
 impl MLSMessageFields {
     /// Those of the message that begins the bytes, if there is one.
     pub fn of(bytes: &[u8]) -> MLSMessageFields
-        ensures { BeginsAt mls_message_format bytes.now 0 → AreMLSMessageFields bytes.now result }
+        ensures { Located mls_message_format AreMLSMessageFields bytes.now result }
     {
-        let version = field_at::<ProtocolVersionMls10>(bytes, 0);
-        let wire_format = field_at::<WireFormatData>(bytes, version.end());
+        let ((version, wire_format), _) = <Parts>::locate(bytes, 0);
         MLSMessageFields {
             version,
             wire_format,

@@ -1,12 +1,12 @@
 //! The fields of `Welcome`.
 ghost use Rattle.mls_proposals.specs.Welcome.{welcome_format};
-ghost use Rattle.tls_codec_outcome.specs.Fields.{BeginsAt};
+ghost use Rattle.tls_codec_outcome.specs.Fields.{Located};
 ghost use Rattle.mls_fields.specs.WelcomeFields.{AreWelcomeFields};
 
 use mls_leaf::CipherSuite;
 use mls_proposals::EncryptedGroupSecrets;
 use tls_codec::TlsVarInt;
-use tls_codec_outcome::{Span, content_at, field_at};
+use tls_codec_outcome::{Content, Locate, Span, Whole};
 
 /// Where the fields of a `Welcome` are (RFC 9420, section 12.4.3.1). Of `opaque` it is the bytes without their length.
 #[repr(C)]
@@ -20,14 +20,18 @@ pub struct WelcomeFields {
     pub encrypted_group_info: Span,
 }
 
+type Parts = (
+    Whole<CipherSuite>,
+    Whole<Vec<EncryptedGroupSecrets>>,
+    Content<TlsVarInt>,
+);
+
 impl WelcomeFields {
     /// Those of the message that begins the bytes, if there is one.
     pub fn of(bytes: &[u8]) -> WelcomeFields
-        ensures { BeginsAt welcome_format bytes.now 0 → AreWelcomeFields bytes.now result }
+        ensures { Located welcome_format AreWelcomeFields bytes.now result }
     {
-        let cipher_suite = field_at::<CipherSuite>(bytes, 0);
-        let secrets = field_at::<Vec<EncryptedGroupSecrets>>(bytes, cipher_suite.end());
-        let encrypted_group_info = content_at::<TlsVarInt>(bytes, secrets.end());
+        let ((cipher_suite, secrets, encrypted_group_info), _) = <Parts>::locate(bytes, 0);
         WelcomeFields {
             cipher_suite,
             secrets,

@@ -1,6 +1,8 @@
 //! Where the fields of a message are.
 use mls_fields::{
-    FramedContentFields, KeyPackageFields, MLSMessageFields, PrivateMessageFields, WelcomeFields,
+    CommitFields, FramedContentFields, GroupContextFields, GroupInfoFields, GroupSecretsFields,
+    KeyPackageFields, LeafNodeFields, MLSMessageFields, PrivateMessageFields, ProposalFields,
+    PublicMessageFields, SenderDataFields, WelcomeFields,
 };
 use std::alloc::{AllocError, Global};
 use tls_codec_outcome::Span;
@@ -11,6 +13,10 @@ pub fn located(alloc: Global, name: &str, bytes: &[u8]) -> Result<Vec<Span>, All
         "mls_message" => {
             let it = MLSMessageFields::of(bytes);
             [it.version, it.wire_format].to_vec(alloc)
+        }
+        "mls_public_message" => {
+            let it = PublicMessageFields::of(bytes);
+            [it.content, it.auth, it.membership_tag].to_vec(alloc)
         }
         "mls_private_message" => {
             let it = PrivateMessageFields::of(bytes);
@@ -27,15 +33,67 @@ pub fn located(alloc: Global, name: &str, bytes: &[u8]) -> Result<Vec<Span>, All
             let front = [it.group_id, it.epoch, it.sender];
             both(alloc, &front, &[it.authenticated_data, it.content_type])
         }
+        "mls_sender_data" => {
+            let it = SenderDataFields::of(bytes);
+            [it.leaf_index, it.generation, it.reuse_guard].to_vec(alloc)
+        }
+        _ => located_of_a_group(alloc, name, bytes),
+    }
+}
+
+// Of messages that don't frame a content.
+fn located_of_a_group(alloc: Global, name: &str, bytes: &[u8]) -> Result<Vec<Span>, AllocError> {
+    match name {
+        "mls_welcome" => {
+            let it = WelcomeFields::of(bytes);
+            let all = [it.cipher_suite, it.secrets, it.encrypted_group_info];
+            all.to_vec(alloc)
+        }
+        "mls_group_secrets" => {
+            let it = GroupSecretsFields::of(bytes);
+            [it.joiner_secret, it.path_secret, it.psks].to_vec(alloc)
+        }
+        "mls_group_info" => {
+            let it = GroupInfoFields::of(bytes);
+            let front = [it.group_context, it.extensions, it.confirmation_tag];
+            both(alloc, &front, &[it.signer, it.signature])
+        }
+        "mls_group_context" => {
+            let it = GroupContextFields::of(bytes);
+            let front = [it.version, it.cipher_suite, it.group_id, it.epoch];
+            let back = [it.tree_hash, it.confirmed_transcript_hash, it.extensions];
+            both(alloc, &front, &back)
+        }
+        "mls_commit" => {
+            let it = CommitFields::of(bytes);
+            [it.proposals, it.path].to_vec(alloc)
+        }
+        "mls_proposal" => {
+            let it = ProposalFields::of(bytes);
+            [it.proposal_type, it.body].to_vec(alloc)
+        }
+        _ => located_of_a_member(alloc, name, bytes),
+    }
+}
+
+// Of what a member has in the tree.
+fn located_of_a_member(alloc: Global, name: &str, bytes: &[u8]) -> Result<Vec<Span>, AllocError> {
+    match name {
         "mls_key_package" => {
             let it = KeyPackageFields::of(bytes);
             let front = [it.version, it.cipher_suite, it.init_key];
             both(alloc, &front, &[it.leaf_node, it.extensions, it.signature])
         }
-        "mls_welcome" => {
-            let it = WelcomeFields::of(bytes);
-            let all = [it.cipher_suite, it.secrets, it.encrypted_group_info];
-            all.to_vec(alloc)
+        "mls_leaf_node" => {
+            let it = LeafNodeFields::of(bytes);
+            let front = [it.encryption_key, it.signature_key, it.credential];
+            let back = [
+                it.capabilities,
+                it.leaf_node_source,
+                it.extensions,
+                it.signature,
+            ];
+            both(alloc, &front, &back)
         }
         _ => Ok(Vec::new(alloc)),
     }

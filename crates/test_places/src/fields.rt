@@ -4,11 +4,13 @@ use std::alloc::{AllocError, Global};
 use tls_codec_outcome::{ACCEPTED, Span, validate};
 use tls_codec_validate::Validate;
 use tls13::{
-    Certificate, CertificateVerify, ClientHello, NewSessionTicket, ServerHello, TLSPlaintext,
+    Alert, Certificate, CertificateRequest, CertificateVerify, ClientHello, EncryptedExtensions,
+    Handshake, KeyUpdate, NewSessionTicket, ServerHello, TLSCiphertext, TLSPlaintext,
 };
 use tls13_fields::{
-    CertificateFields, CertificateVerifyFields, ClientHelloFields, NewSessionTicketFields,
-    ServerHelloFields, TLSPlaintextFields,
+    AlertFields, CertificateFields, CertificateRequestFields, CertificateVerifyFields,
+    ClientHelloFields, EncryptedExtensionsFields, HandshakeFields, KeyUpdateFields,
+    NewSessionTicketFields, ServerHelloFields, TLSCiphertextFields, TLSPlaintextFields,
 };
 
 /// The places of the fields of the message that the bytes begin with. None: no call has this name.
@@ -44,10 +46,47 @@ pub fn told(alloc: Global, name: &str, bytes: &[u8]) -> Result<Option<Told>, All
             let front = [it.ticket_lifetime, it.ticket_age_add, it.ticket_nonce];
             located::<NewSessionTicket>(alloc, bytes, &front, &[it.ticket, it.extensions])?
         }
+        _ => return told_of_others(alloc, name, bytes),
+    };
+    Ok(Some(told))
+}
+
+fn told_of_others(alloc: Global, name: &str, bytes: &[u8]) -> Result<Option<Told>, AllocError> {
+    let told = match name {
+        "tls13_handshake_locate" => {
+            let it = HandshakeFields::of(bytes);
+            located::<Handshake>(alloc, bytes, &[it.msg_type, it.body], &[])?
+        }
+        "tls13_encrypted_extensions_locate" => {
+            let it = EncryptedExtensionsFields::of(bytes);
+            located::<EncryptedExtensions>(alloc, bytes, &[it.extensions], &[])?
+        }
+        "tls13_certificate_request_locate" => {
+            let it = CertificateRequestFields::of(bytes);
+            let all = [it.certificate_request_context, it.extensions];
+            located::<CertificateRequest>(alloc, bytes, &all, &[])?
+        }
+        "tls13_key_update_locate" => {
+            let it = KeyUpdateFields::of(bytes);
+            located::<KeyUpdate>(alloc, bytes, &[it.request_update], &[])?
+        }
         "tls13_tls_plaintext_locate" => {
             let it = TLSPlaintextFields::of(bytes);
             let all = [it.kind, it.legacy_record_version, it.fragment];
             located::<TLSPlaintext>(alloc, bytes, &all, &[])?
+        }
+        "tls13_tls_ciphertext_locate" => {
+            let it = TLSCiphertextFields::of(bytes);
+            let all = [
+                it.opaque_type,
+                it.legacy_record_version,
+                it.encrypted_record,
+            ];
+            located::<TLSCiphertext>(alloc, bytes, &all, &[])?
+        }
+        "tls13_alert_locate" => {
+            let it = AlertFields::of(bytes);
+            located::<Alert>(alloc, bytes, &[it.level, it.description], &[])?
         }
         _ => return Ok(None),
     };

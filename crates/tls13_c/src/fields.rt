@@ -1,29 +1,60 @@
 //! Where the fields of a message are, once it is validated.
 ghost use Rattle.std.specs.Prelude.{◌≡◌, ◌≢◌};
+ghost use Rattle.tls13.specs.Handshake.{handshake_format};
 ghost use Rattle.tls13.specs.ClientHello.{client_hello_format};
 ghost use Rattle.tls13.specs.ServerHello.{server_hello_format};
+ghost use Rattle.tls13.specs.EncryptedExtensions.{encrypted_extensions_format};
+ghost use Rattle.tls13.specs.CertificateRequest.{certificate_request_format};
 ghost use Rattle.tls13.specs.Certificate.{certificate_format};
 ghost use Rattle.tls13.specs.CertificateVerify.{certificate_verify_format};
 ghost use Rattle.tls13.specs.NewSessionTicket.{new_session_ticket_format};
+ghost use Rattle.tls13.specs.KeyUpdate.{key_update_format};
 ghost use Rattle.tls13.specs.TLSPlaintext.{tls_plaintext_format};
+ghost use Rattle.tls13.specs.TLSCiphertext.{tls_ciphertext_format};
+ghost use Rattle.tls13.specs.Alert.{alert_format};
+ghost use Rattle.tls13_fields.specs.HandshakeFields.{AreHandshakeFields};
 ghost use Rattle.tls13_fields.specs.ClientHelloFields.{AreClientHelloFields};
 ghost use Rattle.tls13_fields.specs.ServerHelloFields.{AreServerHelloFields};
+ghost use Rattle.tls13_fields.specs.EncryptedExtensionsFields.{AreEncryptedExtensionsFields};
+ghost use Rattle.tls13_fields.specs.CertificateRequestFields.{AreCertificateRequestFields};
 ghost use Rattle.tls13_fields.specs.CertificateFields.{AreCertificateFields};
 ghost use Rattle.tls13_fields.specs.CertificateVerifyFields.{AreCertificateVerifyFields};
 ghost use Rattle.tls13_fields.specs.NewSessionTicketFields.{AreNewSessionTicketFields};
+ghost use Rattle.tls13_fields.specs.KeyUpdateFields.{AreKeyUpdateFields};
 ghost use Rattle.tls13_fields.specs.TLSPlaintextFields.{AreTLSPlaintextFields};
+ghost use Rattle.tls13_fields.specs.TLSCiphertextFields.{AreTLSCiphertextFields};
+ghost use Rattle.tls13_fields.specs.AlertFields.{AreAlertFields};
 ghost use Rattle.tls_codec_outcome.specs.Outcomes.{Decides, IsRejection, IsTaken};
 
 use tls_codec::DeserializeBytes;
 use tls_codec_outcome::{ACCEPTED, Outcome, validate};
 use tls_codec_validate::Validate;
 use tls13::{
-    Certificate, CertificateVerify, ClientHello, NewSessionTicket, ServerHello, TLSPlaintext,
+    Alert, Certificate, CertificateRequest, CertificateVerify, ClientHello, EncryptedExtensions,
+    Handshake, KeyUpdate, NewSessionTicket, ServerHello, TLSCiphertext, TLSPlaintext,
 };
 use tls13_fields::{
-    CertificateFields, CertificateVerifyFields, ClientHelloFields, NewSessionTicketFields,
-    ServerHelloFields, TLSPlaintextFields,
+    AlertFields, CertificateFields, CertificateRequestFields, CertificateVerifyFields,
+    ClientHelloFields, EncryptedExtensionsFields, HandshakeFields, KeyUpdateFields,
+    NewSessionTicketFields, ServerHelloFields, TLSCiphertextFields, TLSPlaintextFields,
 };
+
+/// `Handshake` (RFC 8446, section 4), and where its fields are.
+#[unsafe(no_mangle)]
+pub extern "C" fn tls13_handshake_locate(bytes: &[u8], fields: &mut HandshakeFields) -> Outcome
+    ensures status { Decides handshake_format bytes.now result.status }
+    ensures taken { IsTaken handshake_format bytes.now result.status result.taken }
+    ensures rejected { IsRejection ⟦<Handshake as DeserializeBytes>⟧.names
+        ⟦<Handshake as Validate>⟧.places bytes.now result.status result.at result.detail }
+    ensures fields { result.status ≡ 0 → AreHandshakeFields bytes.now fields.new }
+    ensures kept { result.status ≢ 0 → fields.new ≡ fields.old }
+{
+    let said = validate::<Handshake>(bytes);
+    if said.status == ACCEPTED {
+        *fields = HandshakeFields::of(bytes);
+    }
+    said
+}
 
 /// `ClientHello` (RFC 8446, section 4.1.2), and where its fields are.
 #[unsafe(no_mangle)]
@@ -55,6 +86,46 @@ pub extern "C" fn tls13_server_hello_locate(bytes: &[u8], fields: &mut ServerHel
     let said = validate::<ServerHello>(bytes);
     if said.status == ACCEPTED {
         *fields = ServerHelloFields::of(bytes);
+    }
+    said
+}
+
+/// `EncryptedExtensions` (RFC 8446, section 4.3.1), and where its fields are.
+#[unsafe(no_mangle)]
+pub extern "C" fn tls13_encrypted_extensions_locate(
+    bytes: &[u8],
+    fields: &mut EncryptedExtensionsFields,
+) -> Outcome
+    ensures status { Decides encrypted_extensions_format bytes.now result.status }
+    ensures taken { IsTaken encrypted_extensions_format bytes.now result.status result.taken }
+    ensures rejected { IsRejection ⟦<EncryptedExtensions as DeserializeBytes>⟧.names
+        ⟦<EncryptedExtensions as Validate>⟧.places bytes.now result.status result.at result.detail }
+    ensures fields { result.status ≡ 0 → AreEncryptedExtensionsFields bytes.now fields.new }
+    ensures kept { result.status ≢ 0 → fields.new ≡ fields.old }
+{
+    let said = validate::<EncryptedExtensions>(bytes);
+    if said.status == ACCEPTED {
+        *fields = EncryptedExtensionsFields::of(bytes);
+    }
+    said
+}
+
+/// `CertificateRequest` (RFC 8446, section 4.3.2), and where its fields are.
+#[unsafe(no_mangle)]
+pub extern "C" fn tls13_certificate_request_locate(
+    bytes: &[u8],
+    fields: &mut CertificateRequestFields,
+) -> Outcome
+    ensures status { Decides certificate_request_format bytes.now result.status }
+    ensures taken { IsTaken certificate_request_format bytes.now result.status result.taken }
+    ensures rejected { IsRejection ⟦<CertificateRequest as DeserializeBytes>⟧.names
+        ⟦<CertificateRequest as Validate>⟧.places bytes.now result.status result.at result.detail }
+    ensures fields { result.status ≡ 0 → AreCertificateRequestFields bytes.now fields.new }
+    ensures kept { result.status ≢ 0 → fields.new ≡ fields.old }
+{
+    let said = validate::<CertificateRequest>(bytes);
+    if said.status == ACCEPTED {
+        *fields = CertificateRequestFields::of(bytes);
     }
     said
 }
@@ -116,6 +187,23 @@ pub extern "C" fn tls13_new_session_ticket_locate(
     said
 }
 
+/// `KeyUpdate` (RFC 8446, section 4.6.3), and where its fields are.
+#[unsafe(no_mangle)]
+pub extern "C" fn tls13_key_update_locate(bytes: &[u8], fields: &mut KeyUpdateFields) -> Outcome
+    ensures status { Decides key_update_format bytes.now result.status }
+    ensures taken { IsTaken key_update_format bytes.now result.status result.taken }
+    ensures rejected { IsRejection ⟦<KeyUpdate as DeserializeBytes>⟧.names
+        ⟦<KeyUpdate as Validate>⟧.places bytes.now result.status result.at result.detail }
+    ensures fields { result.status ≡ 0 → AreKeyUpdateFields bytes.now fields.new }
+    ensures kept { result.status ≢ 0 → fields.new ≡ fields.old }
+{
+    let said = validate::<KeyUpdate>(bytes);
+    if said.status == ACCEPTED {
+        *fields = KeyUpdateFields::of(bytes);
+    }
+    said
+}
+
 /// `TLSPlaintext` (RFC 8446, section 5.1), and where its fields are.
 #[unsafe(no_mangle)]
 pub extern "C" fn tls13_tls_plaintext_locate(
@@ -132,6 +220,43 @@ pub extern "C" fn tls13_tls_plaintext_locate(
     let said = validate::<TLSPlaintext>(bytes);
     if said.status == ACCEPTED {
         *fields = TLSPlaintextFields::of(bytes);
+    }
+    said
+}
+
+/// `TLSCiphertext` (RFC 8446, section 5.2), and where its fields are.
+#[unsafe(no_mangle)]
+pub extern "C" fn tls13_tls_ciphertext_locate(
+    bytes: &[u8],
+    fields: &mut TLSCiphertextFields,
+) -> Outcome
+    ensures status { Decides tls_ciphertext_format bytes.now result.status }
+    ensures taken { IsTaken tls_ciphertext_format bytes.now result.status result.taken }
+    ensures rejected { IsRejection ⟦<TLSCiphertext as DeserializeBytes>⟧.names
+        ⟦<TLSCiphertext as Validate>⟧.places bytes.now result.status result.at result.detail }
+    ensures fields { result.status ≡ 0 → AreTLSCiphertextFields bytes.now fields.new }
+    ensures kept { result.status ≢ 0 → fields.new ≡ fields.old }
+{
+    let said = validate::<TLSCiphertext>(bytes);
+    if said.status == ACCEPTED {
+        *fields = TLSCiphertextFields::of(bytes);
+    }
+    said
+}
+
+/// `Alert` (RFC 8446, section 6), and where its fields are.
+#[unsafe(no_mangle)]
+pub extern "C" fn tls13_alert_locate(bytes: &[u8], fields: &mut AlertFields) -> Outcome
+    ensures status { Decides alert_format bytes.now result.status }
+    ensures taken { IsTaken alert_format bytes.now result.status result.taken }
+    ensures rejected { IsRejection ⟦<Alert as DeserializeBytes>⟧.names
+        ⟦<Alert as Validate>⟧.places bytes.now result.status result.at result.detail }
+    ensures fields { result.status ≡ 0 → AreAlertFields bytes.now fields.new }
+    ensures kept { result.status ≢ 0 → fields.new ≡ fields.old }
+{
+    let said = validate::<Alert>(bytes);
+    if said.status == ACCEPTED {
+        *fields = AlertFields::of(bytes);
     }
     said
 }

@@ -1,10 +1,10 @@
 //! The fields of `Certificate`.
 ghost use Rattle.tls13.specs.Certificate.{certificate_format};
-ghost use Rattle.tls_codec_outcome.specs.Fields.{BeginsAt};
+ghost use Rattle.tls_codec_outcome.specs.Fields.{Located};
 ghost use Rattle.tls13_fields.specs.CertificateFields.{AreCertificateFields};
 
 use tls_codec::TlsVecU24;
-use tls_codec_outcome::{Span, content_at, field_at};
+use tls_codec_outcome::{Content, Locate, Span, Whole};
 use tls13::CertificateEntry;
 
 /// Where the fields of a `Certificate` are (RFC 8446, section 4.4.2). Of `opaque` it is the bytes without their length.
@@ -17,16 +17,14 @@ pub struct CertificateFields {
     pub certificate_list: Span,
 }
 
+type Parts = (Content<u8>, Whole<TlsVecU24<CertificateEntry>>);
+
 impl CertificateFields {
     /// Those of the message that begins the bytes, if there is one.
     pub fn of(bytes: &[u8]) -> CertificateFields
-        ensures { BeginsAt certificate_format bytes.now 0 → AreCertificateFields bytes.now result }
+        ensures { Located certificate_format AreCertificateFields bytes.now result }
     {
-        let certificate_request_context = content_at::<u8>(bytes, 0);
-        let certificate_list = field_at::<TlsVecU24<CertificateEntry>>(
-            bytes,
-            certificate_request_context.end(),
-        );
+        let ((certificate_request_context, certificate_list), _) = <Parts>::locate(bytes, 0);
         CertificateFields {
             certificate_request_context,
             certificate_list,

@@ -1,10 +1,10 @@
 //! The fields of `ClientHello`.
 ghost use Rattle.tls13.specs.ClientHello.{client_hello_format};
-ghost use Rattle.tls_codec_outcome.specs.Fields.{BeginsAt};
+ghost use Rattle.tls_codec_outcome.specs.Fields.{Located};
 ghost use Rattle.tls13_fields.specs.ClientHelloFields.{AreClientHelloFields};
 
 use tls_codec::{TlsVec, Within};
-use tls_codec_outcome::{Span, content_at, field_at};
+use tls_codec_outcome::{Content, Locate, Span, Whole};
 use tls13::{CipherSuite, Extension, ProtocolVersionX0303, Random};
 
 /// Where the fields of a `ClientHello` are (RFC 8446, section 4.1.2). Of `opaque` it is the bytes without their length.
@@ -25,26 +25,31 @@ pub struct ClientHelloFields {
     pub extensions: Span,
 }
 
+type Parts = (
+    (
+        Whole<ProtocolVersionX0303>,
+        Whole<Random>,
+        Content<Within<u8, 0, 32>>,
+    ),
+    (
+        Whole<TlsVec<Within<u16, 2, 65534>, CipherSuite>>,
+        Content<Within<u8, 1, 255>>,
+        Whole<TlsVec<Within<u16, 8, 65535>, Extension>>,
+    ),
+);
+
 impl ClientHelloFields {
     /// Those of the message that begins the bytes, if there is one.
     pub fn of(bytes: &[u8]) -> ClientHelloFields
-        ensures { BeginsAt client_hello_format bytes.now 0 → AreClientHelloFields bytes.now result }
+        ensures { Located client_hello_format AreClientHelloFields bytes.now result }
     {
-        let legacy_version = field_at::<ProtocolVersionX0303>(bytes, 0);
-        let random = field_at::<Random>(bytes, legacy_version.end());
-        let legacy_session_id = content_at::<Within<u8, 0, 32>>(bytes, random.end());
-        let cipher_suites = field_at::<TlsVec<Within<u16, 2, 65534>, CipherSuite>>(
-            bytes,
-            legacy_session_id.end(),
-        );
-        let legacy_compression_methods = content_at::<Within<u8, 1, 255>>(
-            bytes,
-            cipher_suites.end(),
-        );
-        let extensions = field_at::<TlsVec<Within<u16, 8, 65535>, Extension>>(
-            bytes,
-            legacy_compression_methods.end(),
-        );
+        let (
+            (
+                (legacy_version, random, legacy_session_id),
+                (cipher_suites, legacy_compression_methods, extensions),
+            ),
+            _,
+        ) = <Parts>::locate(bytes, 0);
         ClientHelloFields {
             legacy_version,
             random,

@@ -1,10 +1,10 @@
 //! The fields of `NewSessionTicket`.
 ghost use Rattle.tls13.specs.NewSessionTicket.{new_session_ticket_format};
-ghost use Rattle.tls_codec_outcome.specs.Fields.{BeginsAt};
+ghost use Rattle.tls_codec_outcome.specs.Fields.{Located};
 ghost use Rattle.tls13_fields.specs.NewSessionTicketFields.{AreNewSessionTicketFields};
 
 use tls_codec::{TlsVec, Within};
-use tls_codec_outcome::{Span, content_at, field_at};
+use tls_codec_outcome::{Content, Locate, Span, Whole};
 use tls13::Extension;
 
 /// Where the fields of a `NewSessionTicket` are (RFC 8446, section 4.6.1). Of `opaque` it is the bytes without their length.
@@ -23,17 +23,21 @@ pub struct NewSessionTicketFields {
     pub extensions: Span,
 }
 
+type Parts = (
+    (Whole<u32>, Whole<u32>, Content<u8>),
+    (
+        Content<Within<u16, 1, 65535>>,
+        Whole<TlsVec<Within<u16, 0, 65534>, Extension>>,
+    ),
+);
+
 impl NewSessionTicketFields {
     /// Those of the message that begins the bytes, if there is one.
     pub fn of(bytes: &[u8]) -> NewSessionTicketFields
-        ensures { BeginsAt new_session_ticket_format bytes.now 0
-            → AreNewSessionTicketFields bytes.now result }
+        ensures { Located new_session_ticket_format AreNewSessionTicketFields bytes.now result }
     {
-        let ticket_lifetime = field_at::<u32>(bytes, 0);
-        let ticket_age_add = field_at::<u32>(bytes, ticket_lifetime.end());
-        let ticket_nonce = content_at::<u8>(bytes, ticket_age_add.end());
-        let ticket = content_at::<Within<u16, 1, 65535>>(bytes, ticket_nonce.end());
-        let extensions = field_at::<TlsVec<Within<u16, 0, 65534>, Extension>>(bytes, ticket.end());
+        let (((ticket_lifetime, ticket_age_add, ticket_nonce), (ticket, extensions)), _) =
+            <Parts>::locate(bytes, 0);
         NewSessionTicketFields {
             ticket_lifetime,
             ticket_age_add,

@@ -1,3 +1,5 @@
+mod CasePlaces
+mod DecidedPlaces
 pub mod FieldPlaces
 pub mod Tags
 mod Telling

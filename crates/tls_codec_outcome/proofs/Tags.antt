@@ -5,7 +5,7 @@ use Rattle.tls_codec_grammar.specs.Grammar.{number}
 use Rattle.tls_codec_grammar.specs.Decoding.{Begins}
 use Rattle.tls_codec_base.proofs.BothPaths.{one_front}
 use Rattle.tls_codec_outcome.specs.Fields.{BeginsAt, IsField, IsTagAt}
-use Rattle.tls_codec_outcome.proofs.FieldPlaces.{leaves_behind}
+use Rattle.tls_codec_outcome.specs.Ends.{leaves_behind}
 
 module _ (first : Format) (laws : MeetsLaws first) (variants : Variants) (x : List ℕ) (size tag : ℕ) (p : IsField first x 0 size) (told : BeginsAt (number_format 2) x size → IsTagAt 2 x size tag) where
   abbrev whole : Format

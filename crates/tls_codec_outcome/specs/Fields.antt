@@ -17,6 +17,10 @@ pub record BeginsAt (f : Format) (x : List ℕ) (from : ℕ) : Type 0 where
   pub within : from ≤ length x
   pub begins : BeginsSome f.spells (drop from x)
 
+-- of an encoding that the bytes begin with, this was found
+abbrev pub Located : {Found : Type 0} → Format → (List ℕ → Found → Type 0) → List ℕ → Found → Type 0
+Located f are x found = BeginsAt f x 0 → are x found
+
 -- the bytes there are an encoding
 pub record IsField (f : Format) (x : List ℕ) (from size : ℕ) : Type 0 where
   pub within : from + size ≤ length x

@@ -3,3 +3,6 @@ pub mod Numbers
 pub mod Outcomes
 pub mod Fields
 pub mod Elements
+pub mod Ends
+pub mod Cases
+pub mod Decided

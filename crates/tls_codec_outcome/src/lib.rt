@@ -5,19 +5,26 @@
 //! - [`Outcome`]: what a call says.
 //! - [`validate`]: whether bytes begin with an encoding, without memory. [`check`]: the same by the decoder, which makes the
 //!   value.
-//! - [`Span`], [`field_at`], [`content_at`]: where the fields of a message are. [`tag_at`]: the tag of one.
+//! - [`Locate`]: where the parts of a message are, each a [`Span`]. [`Whole`], [`Content`], [`Case`], [`Deciding`]: a part; a tuple of parts is
+//!   one too. [`field_at`], [`content_at`], [`tag_at`]: one alone.
 //! - [`next`]: the elements of a list, one after another.
 //! - [`status_of`], [`detail_of`]: the numbers of an error.
 #![tactic(auto)]
 
 mod calls;
+mod case;
+mod decided;
 mod elements;
 mod fields;
+mod locate;
 mod numbers;
 mod outcome;
 
 pub use calls::{check, validate};
+pub use case::{Case, Tagged};
+pub use decided::Deciding;
 pub use elements::next;
 pub use fields::{Span, content_at, field_at, tag_at};
+pub use locate::{Content, Locate, Whole};
 pub use numbers::{detail_of, status_of};
 pub use outcome::{ACCEPTED, Outcome};

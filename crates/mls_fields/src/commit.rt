@@ -1,0 +1,29 @@
+//! The fields of `Commit`.
+ghost use Rattle.mls_proposals.specs.Commit.{commit_format};
+ghost use Rattle.tls_codec_outcome.specs.Fields.{Located};
+ghost use Rattle.mls_fields.specs.CommitFields.{AreCommitFields};
+
+use mls_proposals::{ProposalOrRef, UpdatePath};
+use tls_codec_outcome::{Locate, Span, Whole};
+
+/// Where the fields of a `Commit` are (RFC 9420, section 12.4).
+#[repr(C)]
+#[derive(Clone, Copy, PartialEq, Eq, Debug)]
+pub struct CommitFields {
+    /// `ProposalOrRef proposals<V>;` with its length
+    pub proposals: Span,
+    /// `optional<UpdatePath> path;`
+    pub path: Span,
+}
+
+type Parts = (Whole<Vec<ProposalOrRef>>, Whole<Option<UpdatePath>>);
+
+impl CommitFields {
+    /// Those of the message that begins the bytes, if there is one.
+    pub fn of(bytes: &[u8]) -> CommitFields
+        ensures { Located commit_format AreCommitFields bytes.now result }
+    {
+        let ((proposals, path), _) = <Parts>::locate(bytes, 0);
+        CommitFields { proposals, path }
+    }
+}

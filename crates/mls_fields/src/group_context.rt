@@ -1,0 +1,64 @@
+//! The fields of `GroupContext`.
+ghost use Rattle.mls_proposals.specs.GroupContext.{group_context_format};
+ghost use Rattle.tls_codec_outcome.specs.Fields.{Located};
+ghost use Rattle.mls_fields.specs.GroupContextFields.{AreGroupContextFields};
+
+use mls_leaf::{CipherSuite, Extension};
+use mls_proposals::ProtocolVersionMls10;
+use tls_codec::TlsVarInt;
+use tls_codec_outcome::{Content, Locate, Span, Whole};
+
+/// Where the fields of a `GroupContext` are (RFC 9420, section 8.1). Of `opaque` it is the bytes without their length.
+#[repr(C)]
+#[derive(Clone, Copy, PartialEq, Eq, Debug)]
+pub struct GroupContextFields {
+    /// `ProtocolVersion version = mls10;`
+    pub version: Span,
+    /// `CipherSuite cipher_suite;`
+    pub cipher_suite: Span,
+    /// `opaque group_id<V>;`
+    pub group_id: Span,
+    /// `uint64 epoch;`
+    pub epoch: Span,
+    /// `opaque tree_hash<V>;`
+    pub tree_hash: Span,
+    /// `opaque confirmed_transcript_hash<V>;`
+    pub confirmed_transcript_hash: Span,
+    /// `Extension extensions<V>;` with its length
+    pub extensions: Span,
+}
+
+type Parts = (
+    (
+        Whole<ProtocolVersionMls10>,
+        Whole<CipherSuite>,
+        Content<TlsVarInt>,
+    ),
+    (Whole<u64>, Content<TlsVarInt>),
+    (Content<TlsVarInt>, Whole<Vec<Extension>>),
+);
+
+impl GroupContextFields {
+    /// Those of the message that begins the bytes, if there is one.
+    pub fn of(bytes: &[u8]) -> GroupContextFields
+        ensures { Located group_context_format AreGroupContextFields bytes.now result }
+    {
+        let (
+            (
+                (version, cipher_suite, group_id),
+                (epoch, tree_hash),
+                (confirmed_transcript_hash, extensions),
+            ),
+            _,
+        ) = <Parts>::locate(bytes, 0);
+        GroupContextFields {
+            version,
+            cipher_suite,
+            group_id,
+            epoch,
+            tree_hash,
+            confirmed_transcript_hash,
+            extensions,
+        }
+    }
+}

@@ -1,0 +1,51 @@
+//! The fields of `GroupInfo`.
+ghost use Rattle.mls_proposals.specs.GroupInfo.{group_info_format};
+ghost use Rattle.tls_codec_outcome.specs.Fields.{Located};
+ghost use Rattle.mls_fields.specs.GroupInfoFields.{AreGroupInfoFields};
+
+use mls_leaf::Extension;
+use mls_proposals::GroupContext;
+use tls_codec::TlsVarInt;
+use tls_codec_outcome::{Content, Locate, Span, Whole};
+
+/// Where the fields of a `GroupInfo` are (RFC 9420, section 12.4.3). Of `opaque` it is the bytes without their length.
+#[repr(C)]
+#[derive(Clone, Copy, PartialEq, Eq, Debug)]
+pub struct GroupInfoFields {
+    /// `GroupContext group_context;`
+    pub group_context: Span,
+    /// `Extension extensions<V>;` with its length
+    pub extensions: Span,
+    /// `MAC confirmation_tag;`
+    pub confirmation_tag: Span,
+    /// `uint32 signer;`
+    pub signer: Span,
+    /// `opaque signature<V>;`
+    pub signature: Span,
+}
+
+type Parts = (
+    (
+        Whole<GroupContext>,
+        Whole<Vec<Extension>>,
+        Content<TlsVarInt>,
+    ),
+    (Whole<u32>, Content<TlsVarInt>),
+);
+
+impl GroupInfoFields {
+    /// Those of the message that begins the bytes, if there is one.
+    pub fn of(bytes: &[u8]) -> GroupInfoFields
+        ensures { Located group_info_format AreGroupInfoFields bytes.now result }
+    {
+        let (((group_context, extensions, confirmation_tag), (signer, signature)), _) =
+            <Parts>::locate(bytes, 0);
+        GroupInfoFields {
+            group_context,
+            extensions,
+            confirmation_tag,
+            signer,
+            signature,
+        }
+    }
+}

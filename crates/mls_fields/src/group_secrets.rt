@@ -1,0 +1,40 @@
+//! The fields of `GroupSecrets`.
+ghost use Rattle.mls_proposals.specs.GroupSecrets.{group_secrets_format};
+ghost use Rattle.tls_codec_outcome.specs.Fields.{Located};
+ghost use Rattle.mls_fields.specs.GroupSecretsFields.{AreGroupSecretsFields};
+
+use mls_proposals::{PathSecret, PreSharedKeyID};
+use tls_codec::TlsVarInt;
+use tls_codec_outcome::{Content, Locate, Span, Whole};
+
+/// Where the fields of a `GroupSecrets` are (RFC 9420, section 12.4.3.1). Of `opaque` it is the bytes without their length.
+#[repr(C)]
+#[derive(Clone, Copy, PartialEq, Eq, Debug)]
+pub struct GroupSecretsFields {
+    /// `opaque joiner_secret<V>;`
+    pub joiner_secret: Span,
+    /// `optional<PathSecret> path_secret;`
+    pub path_secret: Span,
+    /// `PreSharedKeyID psks<V>;` with its length
+    pub psks: Span,
+}
+
+type Parts = (
+    Content<TlsVarInt>,
+    Whole<Option<PathSecret>>,
+    Whole<Vec<PreSharedKeyID>>,
+);
+
+impl GroupSecretsFields {
+    /// Those of the message that begins the bytes, if there is one.
+    pub fn of(bytes: &[u8]) -> GroupSecretsFields
+        ensures { Located group_secrets_format AreGroupSecretsFields bytes.now result }
+    {
+        let ((joiner_secret, path_secret, psks), _) = <Parts>::locate(bytes, 0);
+        GroupSecretsFields {
+            joiner_secret,
+            path_secret,
+            psks,
+        }
+    }
+}

@@ -1,0 +1,59 @@
+//! The fields of `LeafNode`.
+ghost use Rattle.mls_leaf.specs.LeafNode.{leaf_node_format};
+ghost use Rattle.tls_codec_outcome.specs.Fields.{Located};
+ghost use Rattle.mls_fields.specs.LeafNodeFields.{AreLeafNodeFields};
+
+use mls_leaf::{Capabilities, Credential, Extension, LeafNodeOrigin};
+use tls_codec::TlsVarInt;
+use tls_codec_outcome::{Content, Locate, Span, Whole};
+
+/// Where the fields of a `LeafNode` are (RFC 9420, section 7.2). Of `opaque` it is the bytes without their length.
+#[repr(C)]
+#[derive(Clone, Copy, PartialEq, Eq, Debug)]
+pub struct LeafNodeFields {
+    /// `HPKEPublicKey encryption_key;`
+    pub encryption_key: Span,
+    /// `SignaturePublicKey signature_key;`
+    pub signature_key: Span,
+    /// `Credential credential;`
+    pub credential: Span,
+    /// `Capabilities capabilities;`
+    pub capabilities: Span,
+    /// `LeafNodeSource leaf_node_source;` and what its case has
+    pub leaf_node_source: Span,
+    /// `Extension extensions<V>;` with its length
+    pub extensions: Span,
+    /// `opaque signature<V>;`
+    pub signature: Span,
+}
+
+type Parts = (
+    (Content<TlsVarInt>, Content<TlsVarInt>, Whole<Credential>),
+    (Whole<Capabilities>, Whole<LeafNodeOrigin>),
+    (Whole<Vec<Extension>>, Content<TlsVarInt>),
+);
+
+impl LeafNodeFields {
+    /// Those of the message that begins the bytes, if there is one.
+    pub fn of(bytes: &[u8]) -> LeafNodeFields
+        ensures { Located leaf_node_format AreLeafNodeFields bytes.now result }
+    {
+        let (
+            (
+                (encryption_key, signature_key, credential),
+                (capabilities, leaf_node_source),
+                (extensions, signature),
+            ),
+            _,
+        ) = <Parts>::locate(bytes, 0);
+        LeafNodeFields {
+            encryption_key,
+            signature_key,
+            credential,
+            capabilities,
+            leaf_node_source,
+            extensions,
+            signature,
+        }
+    }
+}

@@ -1,0 +1,46 @@
+//! The tag of a `Proposal`, and what its case has.
+ghost use Rattle.mls_proposals.specs.Proposal.{proposal_format, proposal_variants};
+ghost use Rattle.tls_codec_outcome.specs.Fields.{Located};
+ghost use Rattle.mls_fields.specs.ProposalFields.{AreProposalFields};
+
+use mls_proposals::Proposal;
+use tls_codec_outcome::{Case, Locate, Span, Tagged};
+
+/// Where the fields of a `Proposal` are (RFC 9420, section 12.1).
+#[repr(C)]
+#[derive(Clone, Copy, PartialEq, Eq, Debug)]
+pub struct ProposalFields {
+    /// `ProposalType proposal_type;`
+    pub proposal_type: Span,
+    /// What its case has: an `Add`, an `Update`, ..
+    pub body: Span,
+}
+
+struct Cases {}
+
+impl Tagged for Cases {
+    ghost WIDE = { 2 };
+
+    const WIDE: usize = 2;
+
+    type Whole = Proposal;
+
+    ghost variants = { proposal_variants };
+
+    ghost is_tagged = { λ bytes v is. is };
+
+    ghost has_tagged = { λ bytes v is. is };
+}
+
+impl ProposalFields {
+    /// Those of the message that begins the bytes, if there is one.
+    pub fn of(bytes: &[u8]) -> ProposalFields
+        ensures { Located proposal_format AreProposalFields bytes.now result }
+    {
+        let ((proposal_type, body), _) = <Case<Cases>>::locate(bytes, 0);
+        ProposalFields {
+            proposal_type,
+            body,
+        }
+    }
+}

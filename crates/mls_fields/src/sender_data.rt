@@ -1,0 +1,34 @@
+//! The fields of `SenderData`.
+ghost use Rattle.mls.specs.SenderData.{sender_data_format};
+ghost use Rattle.tls_codec_outcome.specs.Fields.{Located};
+ghost use Rattle.mls_fields.specs.SenderDataFields.{AreSenderDataFields};
+
+use tls_codec_outcome::{Locate, Span, Whole};
+
+/// Where the fields of a `SenderData` are (RFC 9420, section 6.3.2).
+#[repr(C)]
+#[derive(Clone, Copy, PartialEq, Eq, Debug)]
+pub struct SenderDataFields {
+    /// `uint32 leaf_index;`
+    pub leaf_index: Span,
+    /// `uint32 generation;`
+    pub generation: Span,
+    /// `opaque reuse_guard[4];`
+    pub reuse_guard: Span,
+}
+
+type Parts = (Whole<u32>, Whole<u32>, Whole<[u8; 4]>);
+
+impl SenderDataFields {
+    /// Those of the message that begins the bytes, if there is one.
+    pub fn of(bytes: &[u8]) -> SenderDataFields
+        ensures { Located sender_data_format AreSenderDataFields bytes.now result }
+    {
+        let ((leaf_index, generation, reuse_guard), _) = <Parts>::locate(bytes, 0);
+        SenderDataFields {
+            leaf_index,
+            generation,
+            reuse_guard,
+        }
+    }
+}

@@ -1,0 +1,33 @@
+//! The fields of `CertificateRequest`.
+ghost use Rattle.tls13.specs.CertificateRequest.{certificate_request_format};
+ghost use Rattle.tls_codec_outcome.specs.Fields.{Located};
+ghost use Rattle.tls13_fields.specs.CertificateRequestFields.{AreCertificateRequestFields};
+
+use tls_codec::{TlsVec, Within};
+use tls_codec_outcome::{Content, Locate, Span, Whole};
+use tls13::Extension;
+
+/// Where the fields of a `CertificateRequest` are (RFC 8446, section 4.3.2). Of `opaque` it is the bytes without their length.
+#[repr(C)]
+#[derive(Clone, Copy, PartialEq, Eq, Debug)]
+pub struct CertificateRequestFields {
+    /// `opaque certificate_request_context<0..2^8-1>;`
+    pub certificate_request_context: Span,
+    /// `Extension extensions<2..2^16-1>;` with its length
+    pub extensions: Span,
+}
+
+type Parts = (Content<u8>, Whole<TlsVec<Within<u16, 2, 65535>, Extension>>);
+
+impl CertificateRequestFields {
+    /// Those of the message that begins the bytes, if there is one.
+    pub fn of(bytes: &[u8]) -> CertificateRequestFields
+        ensures { Located certificate_request_format AreCertificateRequestFields bytes.now result }
+    {
+        let ((certificate_request_context, extensions), _) = <Parts>::locate(bytes, 0);
+        CertificateRequestFields {
+            certificate_request_context,
+            extensions,
+        }
+    }
+}

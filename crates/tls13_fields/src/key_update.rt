@@ -1,0 +1,27 @@
+//! The fields of `KeyUpdate`.
+ghost use Rattle.tls13.specs.KeyUpdate.{key_update_format};
+ghost use Rattle.tls_codec_outcome.specs.Fields.{Located};
+ghost use Rattle.tls13_fields.specs.KeyUpdateFields.{AreKeyUpdateFields};
+
+use tls_codec_outcome::{Locate, Span, Whole};
+use tls13::KeyUpdateRequest;
+
+/// Where the fields of a `KeyUpdate` are (RFC 8446, section 4.6.3).
+#[repr(C)]
+#[derive(Clone, Copy, PartialEq, Eq, Debug)]
+pub struct KeyUpdateFields {
+    /// `KeyUpdateRequest request_update;`
+    pub request_update: Span,
+}
+
+type Parts = Whole<KeyUpdateRequest>;
+
+impl KeyUpdateFields {
+    /// Those of the message that begins the bytes, if there is one.
+    pub fn of(bytes: &[u8]) -> KeyUpdateFields
+        ensures { Located key_update_format AreKeyUpdateFields bytes.now result }
+    {
+        let (request_update, _) = <Parts>::locate(bytes, 0);
+        KeyUpdateFields { request_update }
+    }
+}

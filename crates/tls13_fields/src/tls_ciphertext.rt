@@ -1,0 +1,39 @@
+//! The fields of `TLSCiphertext`.
+ghost use Rattle.tls13.specs.TLSCiphertext.{tls_ciphertext_format};
+ghost use Rattle.tls_codec_outcome.specs.Fields.{Located};
+ghost use Rattle.tls13_fields.specs.TLSCiphertextFields.{AreTLSCiphertextFields};
+
+use tls_codec_outcome::{Content, Locate, Span, Whole};
+use tls13::{ContentTypeApplicationData, ProtocolVersionX0303};
+
+/// Where the fields of a `TLSCiphertext` are (RFC 8446, section 5.2). Of `opaque` it is the bytes without their length.
+#[repr(C)]
+#[derive(Clone, Copy, PartialEq, Eq, Debug)]
+pub struct TLSCiphertextFields {
+    /// `ContentType opaque_type = application_data;`
+    pub opaque_type: Span,
+    /// `ProtocolVersion legacy_record_version = 0x0303;`
+    pub legacy_record_version: Span,
+    /// `opaque encrypted_record[TLSCiphertext.length];`
+    pub encrypted_record: Span,
+}
+
+type Parts = (
+    Whole<ContentTypeApplicationData>,
+    Whole<ProtocolVersionX0303>,
+    Content<u16>,
+);
+
+impl TLSCiphertextFields {
+    /// Those of the message that begins the bytes, if there is one.
+    pub fn of(bytes: &[u8]) -> TLSCiphertextFields
+        ensures { Located tls_ciphertext_format AreTLSCiphertextFields bytes.now result }
+    {
+        let ((opaque_type, legacy_record_version, encrypted_record), _) = <Parts>::locate(bytes, 0);
+        TLSCiphertextFields {
+            opaque_type,
+            legacy_record_version,
+            encrypted_record,
+        }
+    }
+}

@@ -1,0 +1,70 @@
+//! Where the parts are that another part decides.
+ghost use Rattle.std.specs.Prelude.{ℕ};
+ghost use Rattle.tls_codec_grammar.specs.Contexts.{then_format};
+ghost use Rattle.tls_codec_grammar.specs.Format.{pair_format};
+ghost use Rattle.tls_codec_grammar.specs.Tree.{Tree};
+ghost use Rattle.tls_codec_grammar.specs.laws.FormatLaws.{pair_meets};
+ghost use Rattle.tls_codec_grammar.specs.laws.ThenLaws.{then_meets};
+ghost use Rattle.tls_codec_outcome.specs.Decided.{AreDecided, decided_ends};
+ghost use Rattle.tls_codec_outcome.specs.Fields.{BeginsAt, IsFieldFrom, span_end};
+
+use crate::fields::{Span, behind};
+use crate::locate::Locate;
+use std::marker::PhantomData;
+use tls_codec_validate::{Keyed, ValidateFor, ValidateKeyed};
+
+/// A part, and two after it whose form its value decides (RFC 8446, section 3.8).
+pub struct Deciding<T, U, V> {
+    of: PhantomData<(T, U, V)>,
+}
+
+impl<T: ValidateKeyed, U: ValidateFor<T>, V: ValidateFor<T>> Locate for Deciding<T, U, V> {
+    type Places = (Span, Span, Span);
+
+    ghost format = { then_format T.format (λ c. pair_format (U.format_for c) (V.format_for c)) };
+
+    ghost end = { λ places. span_end places.2 };
+
+    ghost are_places = { λ x from places. AreDecided T.format U.format_for V.format_for x from
+        places.0 places.1 places.2 };
+
+    fn locate(bytes: &[u8], from: usize) -> ((Span, Span, Span), usize) {
+        match T::tls_validate_keyed(behind(bytes, from)) {
+            Ok((key, rest)) => {
+                let middle = bytes.len().saturating_sub(rest.len());
+                let first = Span {
+                    offset: from,
+                    size: middle.saturating_sub(from),
+                };
+                let second = field_for::<T, U>(&key, bytes, middle);
+                let third = field_for::<T, V>(&key, bytes, second.end());
+                ((first, second, third), third.end())
+            }
+            Err(_) => {
+                let nothing = Span {
+                    offset: from,
+                    size: 0,
+                };
+                ((nothing, nothing, nothing), from)
+            }
+        }
+    }
+
+    ghost lawful = { then_meets T.lawful (λ c. pair_meets (U.lawful c) (V.lawful c)) };
+
+    ghost ends = { λ x from places are. decided_ends T.format U.format_for V.format_for x from
+        places.0 places.1 places.2 are };
+}
+
+/// The field of this type at a place in each context that has the key, if one begins there.
+fn field_for<X: Keyed, T: ValidateFor<X>>(key: &X::Key, bytes: &[u8], from: usize) -> Span
+    ensures { (c : Tree) → X.is_key key.now c → BeginsAt (T.format_for c) bytes.now from
+        → IsFieldFrom (T.format_for c) bytes.now from result }
+{
+    let here = behind(bytes, from);
+    let size = match T::tls_validate_prefix_for(key, here) {
+        Ok(rest) => here.len().saturating_sub(rest.len()),
+        Err(_) => 0,
+    };
+    Span { offset: from, size }
+}
