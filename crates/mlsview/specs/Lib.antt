@@ -1,2 +1,0 @@
--- Whether an input is a message.
-pub mod View

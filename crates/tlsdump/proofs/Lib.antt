@@ -1,0 +1,4 @@
+-- Lemmas.
+mod Rowed
+mod Named
+mod Dumped

@@ -1,0 +1,20 @@
+-- The bytes of lines, in a row.
+use Rattle.std.specs.Prelude.{◌≡◌, ℕ, List, [], ◌∷◌, ◌++◌, Option, Some, None, ⊤}
+use Rattle.tlsdump.specs.declared.walk.line.Line.{Line}
+use Rattle.tlsdump.specs.declared.walk.Walked.{Walked}
+
+-- the bytes that the lines show, in a row
+abbrev pub row : List Line → List ℕ
+row [] = []
+row (line ∷ lines) = line.bytes.now ++ row lines
+
+-- nothing is left, unless a field is refused
+abbrev pub IsAll : Option ℕ → List ℕ → Type 0
+IsAll None rest = rest ≡ []
+IsAll (Some refused_at) rest = ⊤
+
+-- the lines show the first of the bytes, none left out or shown twice; and all of them, unless a field is refused
+pub record ShowsInOrder (bytes : List ℕ) (refused_at : Option ℕ) (walked : Walked) : Type 0 where
+  pub rest : List ℕ
+  pub whole : bytes ≡ row walked.lines.items ++ rest
+  pub all : IsAll refused_at rest

@@ -1,0 +1,126 @@
+//! What is printed of some bytes.
+
+use crate::dump::Dump;
+use crate::expected::{push_expected, push_found};
+use crate::json::{push_tree, text};
+use crate::show::{Layout, begin, push_label, push_lines};
+use crate::walk::line::{Label, Line};
+use crate::walk::stop::{Stop, path};
+use serde_json::{Map, Value, put};
+use std::alloc::{AllocError, Global};
+use tls_codec::Error;
+
+/// What is printed.
+#[derive(Drop)]
+pub struct Answer {
+    /// The messages, up to a refused field.
+    pub shown: String,
+    /// Why there is none at the end, and nothing if there is no reason.
+    pub refusal: String,
+}
+
+/// The lines of messages in a row.
+pub fn tree(alloc: Global, layout: Layout, dump: &Dump<'_>) -> Result<Answer, AllocError> {
+    let mut shown = String::new(alloc);
+    let mut start = 0;
+    for walked in &dump.messages {
+        start = push_lines(alloc, &mut shown, layout, start, walked.lines.as_slice())?;
+    }
+    if let Some(refused) = &dump.refused {
+        push_lines(
+            alloc,
+            &mut shown,
+            layout,
+            start,
+            refused.walked.lines.as_slice(),
+        )?;
+        if let Some(stop) = &refused.walked.stop {
+            begin(
+                &mut shown,
+                layout,
+                start.saturating_add(refused.at),
+                stop.depth,
+            )?;
+            push_label(&mut shown, stop.label)?;
+            shown.push_str(": refused\n")?;
+        }
+    }
+    let refusal = refusal(alloc, start, dump)?;
+    Ok(Answer { shown, refusal })
+}
+
+/// Messages in a row as JSON, with the name of their type.
+pub fn json(alloc: Global, of: &str, dump: &Dump<'_>) -> Result<Answer, AllocError> {
+    let mut messages = Vec::new(alloc);
+    let mut members = Map::new(alloc);
+    let mut start = 0;
+    for walked in &dump.messages {
+        start = push_tree(alloc, &mut messages, start, walked.lines.as_slice())?;
+    }
+    let refusal = refusal(alloc, start, dump)?;
+    if let Some(refused) = &dump.refused {
+        push_tree(alloc, &mut messages, start, refused.walked.lines.as_slice())?;
+        let at = start.saturating_add(refused.at);
+        put(&mut members, alloc, "refused_at", Value::from(at as u64))?;
+        text(&mut members, alloc, "refusal", refusal.as_str())?;
+    }
+    text(&mut members, alloc, "type", of)?;
+    put(&mut members, alloc, "messages", Value::Array(messages))?;
+    let mut shown = Value::Object(members).to_string_pretty(alloc)?;
+    shown.push_str("\n")?;
+    Ok(Answer { shown, refusal })
+}
+
+// The line of a refusal, if there is one: `refused at byte 21, in content.sender.leaf_index:
+// EndOfStream: expected uint32 leaf_index, 3 bytes are left`
+fn refusal(alloc: Global, start: usize, dump: &Dump<'_>) -> Result<String, AllocError> {
+    let mut out = String::new(alloc);
+    let Some(refused) = &dump.refused else {
+        return Ok(out);
+    };
+    let at = start.saturating_add(refused.at);
+    write!(out, "refused at byte {at}")?;
+    let Some(stop) = &refused.walked.stop else {
+        out.push_str(": ")?;
+        push_error(&mut out, refused.error)?;
+        return Ok(out);
+    };
+    out.push_str(", in ")?;
+    push_path(alloc, &mut out, stop, refused.walked.lines.as_slice())?;
+    out.push_str(": ")?;
+    push_error(&mut out, refused.error)?;
+    out.push_str(": expected ")?;
+    push_expected(&mut out, stop.expected)?;
+    out.push_str(", ")?;
+    push_found(&mut out, stop.found)?;
+    Ok(out)
+}
+
+// `content.proposals[1].type`, or `message` for all of it.
+fn push_path<'a>(
+    alloc: Global,
+    out: &mut String,
+    stop: &Stop<'a>,
+    lines: &[Line<'a>],
+) -> Result<(), AllocError> {
+    let mut labels = path(alloc, lines, stop.depth)?;
+    labels.push(stop.label)?;
+    for (position, label) in labels.iter().enumerate() {
+        if let Label::Field(_) = label {
+            if position > 0 {
+                out.push_str(".")?;
+            }
+        }
+        push_label(out, *label)?;
+    }
+    Ok(())
+}
+
+// An error as its `Debug` prints it.
+fn push_error(out: &mut String, error: Error) -> Result<(), AllocError> {
+    match error {
+        Error::UnknownValue(value) => write!(out, "UnknownValue({value})"),
+        Error::DecodingError(text) => write!(out, "DecodingError(\"{text}\")"),
+        _ => out.push_str(error.name()),
+    }
+}

@@ -1,0 +1,141 @@
+//! The messages that bytes are, one after another.
+ghost use Rattle.std.specs.Prelude.{◌≡◌, ◌<◌, ◌++◌, ℕ, List, length};
+ghost use Rattle.std.specs.Prelude.{IfOk, IsTrue, false, ⊤};
+ghost use Rattle.tlsdump.specs.Dumps.{IsDump, IsNoLess, IsRefused, Tells};
+ghost use Rattle.tlsdump.specs.Kinds.{FirstNamed};
+ghost use Rattle.tlsdump.specs.Protocols.{kinds_of};
+
+use crate::kinds::Kind;
+use crate::walk::layouts::Layouts;
+use crate::walk::{Walked, lines_of};
+use std::alloc::{AllocError, Global};
+use tls_codec::Error;
+use tls_codec_validate::Rejected;
+
+/// What bytes are.
+#[derive(Drop)]
+pub struct Dump<'a> {
+    /// The lines of each message.
+    pub messages: Vec<Walked<'a>>,
+    /// Why what is left after them begins with none.
+    pub refused: Option<Refused<'a>>,
+}
+
+/// Bytes that begin with no message.
+#[derive(Drop)]
+pub struct Refused<'a> {
+    /// The lines up to the refused field.
+    pub walked: Walked<'a>,
+    /// The position of the refused field.
+    pub at: usize,
+    pub error: Error,
+}
+
+// What bytes begin with.
+#[derive(Drop)]
+enum Part<'a> {
+    // A message, and what is behind it.
+    Message(Walked<'a>, &'a [u8]),
+    NoMessage(Refused<'a>),
+}
+
+/// The messages of one kind that bytes are in a row, at least one, or those before a refused field.
+pub fn dump_of<'a>(
+    alloc: Global,
+    layouts: &'a Layouts,
+    kind: Kind<'a>,
+    bytes: &'a [u8],
+) -> Result<Dump<'a>, AllocError>
+    ensures { IfOk result (λ dump. FirstNamed (kinds_of kind.entry.protocol) kind.entry.name.now
+        (λ k. IsDump k.format bytes.now dump) ⊤) }
+{
+    let mut messages = Vec::new(alloc);
+    let mut rest = bytes;
+    'messages: loop {
+        match part_of(alloc, layouts, kind, rest)? {
+            Part::NoMessage(refused) => {
+                return Ok(Dump {
+                    messages,
+                    refused: Some(refused),
+                });
+            }
+            Part::Message(walked, behind) => {
+                messages.push(walked)?;
+                if is_end(rest, behind) {
+                    return Ok(Dump {
+                        messages,
+                        refused: None,
+                    });
+                }
+                rest = behind;
+            }
+        }
+    }
+}
+
+// Whether no message comes behind one: nothing is left, or as much as before, which would be shown
+// for ever.
+fn is_end(rest: &[u8], behind: &[u8]) -> bool
+    ensures ends { IsTrue result → IsNoLess rest.now behind.now }
+    ensures goes_on { result ≡ false → length behind.now < length rest.now }
+{
+    behind.is_empty() || behind.len() >= rest.len()
+}
+
+// The message that bytes begin with. If they begin with none, the lines go up to the field that the
+// validator of the type refuses.
+fn part_of<'a>(
+    alloc: Global,
+    layouts: &'a Layouts,
+    kind: Kind<'a>,
+    bytes: &'a [u8],
+) -> Result<Part<'a>, AllocError>
+    ensures { IfOk result (λ part. FirstNamed (kinds_of kind.entry.protocol) kind.entry.name.now
+        (λ k. Tells k.format bytes.now part) ⊤) }
+{
+    match kind.protocol.check(kind.name, bytes) {
+        Some(Ok(rest)) => {
+            let message = before(bytes, rest);
+            let walked = lines_of(alloc, layouts, kind.name, message, None)?;
+            Ok(Part::Message(walked, rest))
+        }
+        Some(Err(rejected)) => {
+            let refused = none_of(alloc, layouts, kind, bytes, rejected)?;
+            Ok(Part::NoMessage(refused))
+        }
+        None => {
+            let walked = lines_of(alloc, layouts, kind.name, bytes, None)?;
+            Ok(Part::Message(walked, &[]))
+        }
+    }
+}
+
+// What is in front of the rest.
+fn before<'a>(bytes: &'a [u8], rest: &[u8]) -> &'a [u8]
+    ensures { (front : List ℕ) → bytes.now ≡ front ++ rest.now → result.now ≡ front }
+{
+    let length = bytes.len().saturating_sub(rest.len());
+    match bytes.split_at_checked(length) {
+        Some((front, _)) => front,
+        None => bytes,
+    }
+}
+
+// The lines up to a refused field.
+fn none_of<'a>(
+    alloc: Global,
+    layouts: &'a Layouts,
+    kind: Kind<'a>,
+    bytes: &'a [u8],
+    rejected: Rejected<'a>,
+) -> Result<Refused<'a>, AllocError>
+    ensures { IfOk result (IsRefused bytes.now rejected.entry.error) }
+{
+    let at = rejected.at(bytes);
+    let walked = lines_of(alloc, layouts, kind.name, bytes, Some(at))?;
+    Ok(Refused {
+        walked,
+        at,
+        error: rejected.error,
+    })
+}

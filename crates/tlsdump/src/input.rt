@@ -1,0 +1,50 @@
+//! Reading an input.
+
+use std::alloc::{AllocError, Global};
+use std::io::{ErrorKind, Read};
+
+/// The most bytes that the messages of an input have: 16 MiB.
+pub const LONGEST: usize = 16_777_216;
+
+/// The most bytes that the text of an input has: eight for each of the messages'.
+pub const LONGEST_TEXT: usize = 134_217_728;
+
+/// Why an input isn't read.
+#[derive(Clone, Copy, PartialEq, Eq, Debug)]
+pub enum Unread {
+    /// It has more bytes than an input may have.
+    Long,
+    /// It failed.
+    Failed,
+    /// Memory was refused.
+    Memory,
+}
+
+impl From<AllocError> for Unread {
+    fn from(_error: AllocError) -> Unread {
+        Unread::Memory
+    }
+}
+
+/// All that an input has, if it isn't more than this.
+pub fn read<I: Read>(alloc: Global, input: &mut I, most: usize) -> Result<Vec<u8>, Unread> {
+    let mut all = Vec::new(alloc);
+    let mut piece = [0u8; 4096];
+    for _ in 0..u64::MAX {
+        match input.read(&mut piece) {
+            Ok(0) => return Ok(all),
+            Ok(count) => {
+                if let Some(read) = piece.get(..count) {
+                    all.extend_from_slice(read)?;
+                }
+            }
+            Err(error) if error.kind() == ErrorKind::Interrupted => {}
+            Err(error) if error.kind() == ErrorKind::OutOfMemory => return Err(Unread::Memory),
+            Err(_) => return Err(Unread::Failed),
+        }
+        if all.len() > most {
+            return Err(Unread::Long);
+        }
+    }
+    Err(Unread::Long)
+}

@@ -1,0 +1,47 @@
+//! `tlsdump [TYPE] [FILE]` shows messages of MLS, TLS 1.3 and Certificate Transparency as a tree, a
+//! field a line.
+//!
+//! ```text
+//! $ echo 00010002 01fa 0000000000000007 01 00 01a1 02a2a3 | tlsdump
+//! message: MLSMessage
+//!   version: mls10 (0x0001)
+//!   wire_format: mls_private_message (0x0002)
+//!   private_message: PrivateMessage
+//!     group_id: 1 byte fa
+//! ..
+//! ```
+//!
+//! What is no message gives the lines up to the refused field, and on standard error its byte, its
+//! path and what was expected.
+//!
+//! - [`program`]: [`program`](program::program), from its words to its status; [`words`]: the
+//!   command line.
+//! - [`input`]: all that an input has; [`notation`]: the bytes that it spells.
+//! - [`kinds`]: the types, whose messages their proved validators tell from other bytes; [`texts`]:
+//!   what they are made of.
+//! - [`walk`]: the lines of a message; [`dump`]: the messages that bytes are, one after another.
+//! - [`answer`]: what is printed of them; [`show`]: as a tree; [`json`]: as JSON; [`told`]: what
+//!   bytes mean to a reader; [`expected`]: what was expected at a refused field, and what is there.
+#![tactic(auto)]
+
+mod answer;
+mod dump;
+mod expected;
+mod input;
+mod json;
+mod kinds;
+mod notation;
+mod program;
+mod show;
+#[cfg(test)]
+mod tests;
+mod texts;
+mod told;
+mod walk;
+mod words;
+
+use std::process::ExitCode;
+
+fn main(rt: HostRuntime) -> ExitCode {
+    program::program(&rt, rt.stdin())
+}

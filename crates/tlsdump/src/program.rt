@@ -1,0 +1,236 @@
+//! The program, from its words to its status.
+
+use crate::answer::{Answer, json, tree};
+use crate::dump::dump_of;
+use crate::input::{LONGEST, LONGEST_TEXT, Unread, read};
+use crate::kinds::{Kind, Named, PROTOCOLS, Protocol, kind_of, recognised};
+use crate::notation::{NoBytes, Notation, bytes_of};
+use crate::show::Layout;
+use crate::texts::layouts;
+use crate::walk::layouts::name_of;
+use crate::words::command;
+use clap::ArgMatches;
+use std::alloc::{AllocError, Global};
+use std::env::Env;
+use std::io::Read;
+use std::process::ExitCode;
+use std::rt::Files;
+use std::{env, fs};
+use tlsgen_syntax::syntax::Item;
+
+/// Each message was shown.
+const ALL: u8 = 0;
+/// A field was refused.
+const REFUSED: u8 = 1;
+/// The words or the input can't be read.
+const UNREAD: u8 = 2;
+/// Memory or the output failed.
+const FAILED: u8 = 3;
+
+/// All of `main`.
+pub fn program<R: Env + Files + Print + Eprint + AllocGlobal, I: Read + Drop>(
+    rt: &R,
+    input: I,
+) -> ExitCode {
+    match run(rt, input) {
+        Ok(status) => ExitCode::from(status),
+        Err(error) => {
+            let _ = eprintln!(rt; "tlsdump: {error}");
+            ExitCode::from(FAILED)
+        }
+    }
+}
+
+fn run<R: Env + Files + Print + Eprint + AllocGlobal, I: Read + Drop>(
+    rt: &R,
+    input: I,
+) -> anyhow::Result<u8> {
+    let alloc = rt.alloc();
+    let words: Vec<String> = env::args(rt)?.collect(alloc)?;
+    let matches = match command(alloc)?.try_get_matches_from(words.as_slice()) {
+        Ok(matches) => matches,
+        Err(error) => {
+            error.print(rt)?;
+            return Ok(error.exit_code() as u8);
+        }
+    };
+    if matches.get_flag("list") {
+        print!(rt; "{}", list(alloc)?)?;
+        return Ok(ALL);
+    }
+    let word = matches.get_str("TYPE").unwrap_or("auto");
+    let kind = match kind_of(word) {
+        Named::One(kind) => Some(kind),
+        Named::Nothing if word == "auto" => None,
+        unknown => {
+            print_unknown(rt, word, unknown)?;
+            return Ok(UNREAD);
+        }
+    };
+    let Some(bytes) = bytes_from(rt, input, &matches)? else {
+        return Ok(UNREAD);
+    };
+    let found = match kind {
+        None => recognised(bytes.as_slice()),
+        named => named,
+    };
+    let Some(kind) = found else {
+        eprintln!(rt;
+            "tlsdump: the first bytes are those of no MLSMessage and no TLS record: name the TYPE \
+             (--list prints them)"
+        )?;
+        return Ok(UNREAD);
+    };
+    print(rt, kind, &matches, bytes.as_slice())
+}
+
+// Prints why a word names no type.
+fn print_unknown<R: Eprint>(rt: &R, word: &str, named: Named<'_>) -> anyhow::Result<()> {
+    match named {
+        Named::Several => eprintln!(rt;
+            "tlsdump: several types {word}: write mls.{word}, tls.{word} or ct.{word}"
+        )?,
+        _ => eprintln!(rt; "tlsdump: no type {word}: --list prints them")?,
+    }
+    Ok(())
+}
+
+// The bytes that the input spells, or prints why there are none.
+fn bytes_from<R: Files + Eprint + AllocGlobal, I: Read + Drop>(
+    rt: &R,
+    input: I,
+    matches: &ArgMatches<'_>,
+) -> anyhow::Result<Option<Vec<u8>>> {
+    let notation = notation_of(matches);
+    let Some(text) = text_of(rt, input, matches.get_str("FILE"), notation)? else {
+        return Ok(None);
+    };
+    match bytes_of(rt.alloc(), notation, text) {
+        Ok(bytes) if bytes.len() <= LONGEST => return Ok(Some(bytes)),
+        Ok(_) => eprintln!(rt; "tlsdump: the input has more than {LONGEST} bytes of messages")?,
+        Err(NoBytes::Memory) => return Err(AllocError.into()),
+        Err(fault) => print_fault(rt, fault)?,
+    }
+    Ok(None)
+}
+
+// How the words say that the input spells bytes.
+fn notation_of(matches: &ArgMatches<'_>) -> Notation {
+    if matches.get_flag("binary") {
+        Notation::Binary
+    } else if matches.get_flag("base64") {
+        Notation::Base64
+    } else {
+        Notation::Text
+    }
+}
+
+// Prints the messages of a kind.
+fn print<R: Print + Eprint + AllocGlobal>(
+    rt: &R,
+    kind: Kind<'_>,
+    matches: &ArgMatches<'_>,
+    bytes: &[u8],
+) -> anyhow::Result<u8> {
+    let alloc = rt.alloc();
+    let Ok(layouts) = layouts(alloc, kind.protocol) else {
+        return Err(AllocError.into());
+    };
+    let layout = Layout {
+        has_offsets: matches.get_flag("offsets"),
+        is_short: matches.get_flag("short"),
+    };
+    let dump = dump_of(alloc, &layouts, kind, bytes)?;
+    let Answer { shown, refusal } = if matches.get_flag("json") {
+        json(alloc, kind.name, &dump)?
+    } else {
+        tree(alloc, layout, &dump)?
+    };
+    print!(rt; "{shown}")?;
+    if dump.refused.is_none() {
+        return Ok(ALL);
+    }
+    eprintln!(rt; "tlsdump: {refusal}")?;
+    Ok(REFUSED)
+}
+
+// All that the input has, or prints why it isn't read.
+fn text_of<R: Files + Eprint + AllocGlobal, I: Read + Drop>(
+    rt: &R,
+    mut input: I,
+    file: Option<&str>,
+    notation: Notation,
+) -> anyhow::Result<Option<Vec<u8>>> {
+    let alloc = rt.alloc();
+    let most = match notation {
+        Notation::Binary => LONGEST,
+        _ => LONGEST_TEXT,
+    };
+    let found = match file {
+        None => read(alloc, &mut input, most),
+        Some(path) => match fs::open(rt, path) {
+            Ok(mut file) => read(alloc, &mut file, most),
+            Err(error) => {
+                eprintln!(rt; "tlsdump: {path}: {error}")?;
+                return Ok(None);
+            }
+        },
+    };
+    match found {
+        Ok(text) => return Ok(Some(text)),
+        Err(Unread::Long) => eprintln!(rt; "tlsdump: the input has more than {most} bytes")?,
+        Err(Unread::Failed) => eprintln!(rt; "tlsdump: the input failed")?,
+        Err(Unread::Memory) => return Err(AllocError.into()),
+    }
+    Ok(None)
+}
+
+fn print_fault<R: Eprint>(rt: &R, fault: NoBytes) -> anyhow::Result<()> {
+    match fault {
+        NoBytes::Digit { line, column, byte } => eprintln!(rt;
+            "tlsdump: line {line}, column {column}: no hex digit (0x{byte:02x}); --binary takes \
+             the bytes themselves, --base64 base64"
+        )?,
+        NoBytes::Odd(count) => eprintln!(rt;
+            "tlsdump: {count} hex digits, which is no even number; --binary takes the bytes \
+             themselves"
+        )?,
+        NoBytes::Base64 => eprintln!(rt;
+            "tlsdump: the input looks like base64, and is none; --binary takes the bytes \
+             themselves"
+        )?,
+        NoBytes::Memory => eprintln!(rt; "tlsdump: out of memory")?,
+    }
+    Ok(())
+}
+
+// The types, each with the section that has it.
+fn list(alloc: Global) -> Result<String, AllocError> {
+    let mut out = String::new(alloc);
+    for protocol in PROTOCOLS {
+        let Ok(layouts) = layouts(alloc, protocol) else {
+            return Err(AllocError);
+        };
+        for file in layouts.files() {
+            for item in &file.items {
+                push_type(&mut out, protocol, item)?;
+            }
+        }
+    }
+    Ok(out)
+}
+
+// Adds a definition if it is a type.
+fn push_type(out: &mut String, protocol: Protocol, item: &Item) -> Result<(), AllocError> {
+    let name = name_of(item);
+    if protocol.has(name.text.as_str()) {
+        writeln!(
+            out,
+            "{}.{} ({})",
+            protocol.word(),
+            name.text,
+            name.remark.section
+        )?;
+    }
+    Ok(())
+}

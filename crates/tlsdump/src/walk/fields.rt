@@ -1,0 +1,209 @@
+//! Fields of one value, and structs.
+
+use crate::walk::layouts::{Kind, value_name, width_of};
+use crate::walk::line::{Label, Shown, number_of};
+use crate::walk::opened::code_name;
+use crate::walk::scope::Known;
+use crate::walk::stop::{Expected, Found, Halt};
+use crate::walk::tasks::{Leave, Place, Task};
+use crate::walk::{Walk, stop_at};
+use tlsgen_syntax::syntax::{Enum, Field, Part, Said, Struct, Vector};
+
+impl<'a> Walk<'a> {
+    /// One value of a field's type.
+    pub(crate) fn value(&mut self, place: Place<'a>, field: &'a Field) -> Result<(), Halt<'a>> {
+        let of = field.of.text.as_str();
+        if field.is_optional {
+            return self.option(place, field, of);
+        }
+        self.typed(place, of, field.name.text.as_str(), Expected::Field(field))
+    }
+
+    // An option: its tag, and then a value or none.
+    fn option(&mut self, place: Place<'a>, field: &'a Field, of: &'a str) -> Result<(), Halt<'a>> {
+        let at = self.at;
+        let expected = Expected::Tag(of);
+        let Some(tag) = self.take(1) else {
+            return Err(stop_at(place, at, expected, Found::Left(0)));
+        };
+        let number = number_of(tag);
+        self.judge(place, at, expected, Found::Number(number))?;
+        if number == 0 {
+            return self.add(place, tag, Shown::Absent);
+        }
+        if number != 1 {
+            return Err(stop_at(place, at, expected, Found::Number(number)));
+        }
+        self.add(place, tag, Shown::Present(of))?;
+        let within = Place {
+            depth: place.depth.saturating_add(1),
+            label: Label::Field("value"),
+            ..place
+        };
+        match self.kind(of) {
+            Kind::Struct(one) => self.parts(one, within.depth),
+            _ => self.typed(within, of, field.name.text.as_str(), Expected::Field(field)),
+        }
+    }
+
+    /// A value of a type, in a field of this name.
+    pub(crate) fn typed(
+        &mut self,
+        place: Place<'a>,
+        of: &'a str,
+        name: &'a str,
+        expected: Expected<'a>,
+    ) -> Result<(), Halt<'a>> {
+        match self.kind(of) {
+            Kind::Opaque => self.number(place, (of, name), 1, expected, Shown::Number),
+            Kind::Number(width) => self.number(place, (of, name), width, expected, Shown::Number),
+            Kind::Enum(one) => self.code(place, name, one),
+            Kind::Struct(one) => {
+                self.add(place, &[], Shown::Struct(of))?;
+                self.parts(one, place.depth.saturating_add(1))
+            }
+            Kind::Alias(field) => self.alias(place, of, name, field),
+            Kind::Nothing => Err(stop_at(place, self.at, expected, Found::Refused)),
+        }
+    }
+
+    // A value of a type with another name. A number with a name of its own is a code.
+    fn alias(
+        &mut self,
+        place: Place<'a>,
+        of: &'a str,
+        name: &'a str,
+        field: &'a Field,
+    ) -> Result<(), Halt<'a>> {
+        if let (Vector::One, Kind::Number(width)) = (
+            &field.vector,
+            self.kind(field.of.text.as_str()),
+        ) {
+            let expected = Expected::Type(of);
+            return self.number(place, (of, name), width, expected, Shown::Code(None));
+        }
+        let within = Place { owner: of, ..place };
+        self.tasks.push(Task::Field(within, field))?;
+        Ok(())
+    }
+
+    // An integer of so many bytes, of this type and in a field of this name.
+    fn number(
+        &mut self,
+        place: Place<'a>,
+        (of, name): (&'a str, &'a str),
+        width: usize,
+        expected: Expected<'a>,
+        shown: Shown<'a>,
+    ) -> Result<(), Halt<'a>> {
+        let at = self.at;
+        let left = self.rest.len();
+        let Some(bytes) = self.take(width) else {
+            return Err(stop_at(place, at, expected, Found::Left(left)));
+        };
+        let number = number_of(bytes);
+        self.enclose(place, name, at, number, expected)?;
+        self.judge(place, at, expected, Found::Number(number))?;
+        self.scope.set(Known {
+            owner: place.owner,
+            field: name,
+            of,
+            number,
+            name: None,
+        })?;
+        let shown = match shown {
+            Shown::Code(None) => Shown::Code(code_name(of, number)),
+            other => other,
+        };
+        self.add(place, bytes, shown)
+    }
+
+    // Bounds the select right behind a number that counts its bytes.
+    fn enclose(
+        &mut self,
+        place: Place<'a>,
+        name: &'a str,
+        at: usize,
+        number: u64,
+        expected: Expected<'a>,
+    ) -> Result<(), Halt<'a>> {
+        let Some(Task::Select(..)) = self.tasks.last() else {
+            return Ok(());
+        };
+        let Some(Said::Counts) = self.layouts.said(place.owner, name) else {
+            return Ok(());
+        };
+        let count = number as usize;
+        let left = self.rest.len();
+        let Some((content, after)) = self.rest.split_at_checked(count) else {
+            return Err(stop_at(place, at, expected, Found::Announced(count, left)));
+        };
+        let leave = Leave {
+            of: place.owner,
+            after,
+            is_opened: false,
+        };
+        self.rest = content;
+        if let Some(select) = self.tasks.pop() {
+            self.tasks.push(Task::Leave(place, leave))?;
+            self.tasks.push(select)?;
+        }
+        Ok(())
+    }
+
+    // A number of an enum.
+    fn code(&mut self, place: Place<'a>, name: &'a str, one: &'a Enum) -> Result<(), Halt<'a>> {
+        let at = self.at;
+        let left = self.rest.len();
+        let expected = Expected::Value(one);
+        let Some(bytes) = self.take(width_of(one)) else {
+            return Err(stop_at(place, at, expected, Found::Left(left)));
+        };
+        let number = number_of(bytes);
+        let found = value_name(one, number);
+        self.judge(place, at, expected, Found::Number(number))?;
+        if found.is_none() && !one.is_open {
+            return Err(stop_at(place, at, expected, Found::Number(number)));
+        }
+        self.scope.set(Known {
+            owner: place.owner,
+            field: name,
+            of: one.name.text.as_str(),
+            number,
+            name: found,
+        })?;
+        self.add(place, bytes, Shown::Code(found))
+    }
+
+    /// The parts of a struct, still to come.
+    pub(crate) fn parts(&mut self, one: &'a Struct, depth: usize) -> Result<(), Halt<'a>> {
+        let owner = one.name.text.as_str();
+        for part in one.parts.iter().rev() {
+            self.part(owner, part, depth)?;
+        }
+        Ok(())
+    }
+
+    fn part(&mut self, owner: &'a str, part: &'a Part, depth: usize) -> Result<(), Halt<'a>> {
+        let task = match part {
+            Part::Field(field) => Task::Field(
+                Place {
+                    owner,
+                    label: Label::Field(field.name.text.as_str()),
+                    depth,
+                },
+                field,
+            ),
+            Part::Select(select) => Task::Select(
+                Place {
+                    owner,
+                    label: Label::Field(""),
+                    depth,
+                },
+                select,
+            ),
+        };
+        self.tasks.push(task)?;
+        Ok(())
+    }
+}

@@ -1,0 +1,97 @@
+//! Where a walk can't go on.
+
+ghost use Rattle.std.specs.Prelude.{◌≡◌};
+ghost use Rattle.tlsdump.specs.declared.walk.stop.Halt.TheVariants.{Memory};
+
+use crate::walk::line::{Label, Line};
+use std::alloc::{AllocError, AllocFailed, Global};
+use tlsgen_syntax::syntax::{Enum, Field, Select};
+
+/// The field at which a walk can't go on.
+#[derive(Clone, Copy)]
+pub struct Stop<'a> {
+    /// The position of its first byte.
+    pub at: usize,
+    /// How many structs and lists it is in.
+    pub depth: usize,
+    pub label: Label<'a>,
+    pub expected: Expected<'a>,
+    pub found: Found,
+}
+
+/// What is expected at a field.
+#[derive(Clone, Copy)]
+pub enum Expected<'a> {
+    /// What the field is declared as.
+    Field(&'a Field),
+    /// A type.
+    Type(&'a str),
+    /// A value of an enum.
+    Value(&'a Enum),
+    /// A value for which there is a case.
+    Case(&'a Select),
+    /// 0 or 1, before a value of this type.
+    Tag(&'a str),
+    /// The end of this.
+    End(&'a str),
+}
+
+/// What is there.
+#[derive(Clone, Copy)]
+pub enum Found {
+    /// So many bytes, and no more.
+    Left(usize),
+    /// A length of so many bytes, and then so many.
+    Announced(usize, usize),
+    /// A length out of its bounds.
+    Length(usize),
+    /// A length in more bytes than it needs, or one of 2^30 or more.
+    Spelling,
+    /// A number.
+    Number(u64),
+    /// What the decoder refuses, and the walk doesn't.
+    Refused,
+}
+
+/// Why a step isn't made.
+#[derive(Clone, Copy)]
+pub enum Halt<'a> {
+    Stop(Stop<'a>),
+    /// Memory was refused.
+    Memory,
+}
+
+impl From<AllocError> for Halt<'_> {
+    ghost from_gives = { λ _ halt. halt ≡ Memory };
+
+    fn from(_error: AllocError) -> Self {
+        Halt::Memory
+    }
+}
+
+impl<T: Drop> From<AllocFailed<T>> for Halt<'_> {
+    ghost from_gives = { λ _ halt. halt ≡ Memory };
+
+    fn from(_error: AllocFailed<T>) -> Self {
+        Halt::Memory
+    }
+}
+
+/// The labels of the lines that a field at this depth is in, from the outermost one. The first line
+/// is the message itself.
+pub fn path<'a>(
+    alloc: Global,
+    lines: &[Line<'a>],
+    depth: usize,
+) -> Result<Vec<Label<'a>>, AllocError> {
+    let mut labels = Vec::new(alloc);
+    let mut above = depth;
+    for line in lines.iter().rev() {
+        if line.depth < above && line.depth > 0 {
+            labels.push(line.label)?;
+            above = line.depth;
+        }
+    }
+    labels.reverse();
+    Ok(labels)
+}
