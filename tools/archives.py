@@ -11,12 +11,16 @@ import pathlib
 import shutil
 import subprocess
 import sys
+import tempfile
 
 sys.dont_write_bytecode = True
 from libraries import CRATES, TOP, Libraries
 
 HEAP = "libtls_codec_heap.a"
 TARGET = "x86_64-unknown-linux-gnu"
+# Up to which cost LLVM copies a function into its callers; its own bound is 225. Messages of one archive share the validators of their
+# parts, and by that bound most of these stay functions of their own (docs/CALLERS.md, Figures).
+INLINED = 1500
 
 
 class NotBuilt(Exception):
@@ -36,12 +40,27 @@ def ran(words: list[str], crate: str) -> None:
         raise NotBuilt(f"{crate}: {said.stdout[-3000:]}")
 
 
+def toolchain(kit: pathlib.Path, folder: pathlib.Path) -> pathlib.Path:
+    """The kit's toolchain, with a clang that copies more functions into their callers."""
+    own = kit / "toolchain"
+    (folder / "bin").mkdir()
+    (folder / "lib").symlink_to(own / "lib")
+    for it in (own / "bin").iterdir():
+        if it.name != "clang":
+            (folder / "bin" / it.name).symlink_to(it)
+    clang = folder / "bin" / "clang"
+    clang.write_text(f'#!/bin/sh\nexec {own}/bin/clang "$@" -mllvm -inline-threshold={INLINED}\n', encoding="utf-8")
+    clang.chmod(0o755)
+    return folder
+
+
 def build(libraries: Libraries, crate: str, folder: pathlib.Path, target: str = TARGET) -> None:
     """Proves a static library, and puts its archive into the folder."""
     archive = folder / f"lib{crate}.a"
     if is_left_by_ci(libraries, crate):
-        toolchain = ["--toolchain", f"{libraries.kit}/toolchain", "-o", str(archive.resolve())]
-        return ran([f"{libraries.kit}/bin/rattle", "build", *libraries.words(crate), "--target", target, *toolchain], crate)
+        with tempfile.TemporaryDirectory(prefix="toolchain-") as made:
+            compiled = ["--toolchain", str(toolchain(libraries.kit, pathlib.Path(made))), "-o", str(archive.resolve())]
+            return ran([f"{libraries.kit}/bin/rattle", "build", *libraries.words(crate), "--target", target, *compiled], crate)
     ran(["rt", "lib", "--target", target], crate)
     shutil.copyfile(CRATES / crate / "out" / archive.name, archive)
 

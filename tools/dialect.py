@@ -38,8 +38,10 @@ WORDS = {
     r"wants?": "needs; running out of",
     r"(?:tells?|told)(?! (?:apart|from))": "reports, says, shows",
     r"nowhere else": "only here",
+    r"\w+, as `[.;:)]": "such as",
+    r"(?-i:Of) (?:what|whom|your own|a|any)": "for, from, or a sentence with a subject",
 }
-PATTERN = re.compile("|".join(rf"(\b(?:{word})\b)" for word in WORDS), re.I)
+PATTERN = re.compile("|".join(rf"(\b(?:{word})(?!\w))" for word in WORDS), re.I)
 BETTER = list(WORDS.values())
 
 

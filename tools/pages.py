@@ -3,12 +3,12 @@
 
 - A block of code has to occur, line by line and in order, in the file that the words before it name
   (`src/leaf.rt`, `specs/Messages.antt`), or, if they name none, in one file under crates/. Space at both ends of a
-  line doesn't count; c/, python/ and rust/ are read as crates/ is. A block is no quote if it is `console`, or after a line <!-- not quoted -->.
+  line doesn't count; c/, python/ and rust/ are read as crates/ is. A block is no quote if it is `console`, or after a line <!-- not quoted --> or <!-- file: PATH -->.
 - A link that isn't of another site has to lead to a file of the repository, and to a heading of it.
 - A name in `code` that is a path under crates/, docs/, tools/ or .ci/, or has an underscore in it, has to occur in the repository;
   names of what was before, in CHANGELOG.md, and a few of elsewhere don't.
 - No line is one that a merge left.
-- No word is one of the dialect (tools/dialect.py), and the short reading lists of docs/MAP.md are closed (tools/reading.py).
+- No word is one of the dialect (tools/dialect.py). The pages are short, and their reading lists closed (tools/reading.py).
 - The pictures are what tools/pictures.py draws.
 
 Prints a line for each place that doesn't match, and last 'N passed, N failed', which counts pages and pictures; the exit status is 1 if
@@ -26,7 +26,7 @@ import reading
 
 PAGES = [*sorted(TOP.glob("*.md")), *sorted((TOP / "docs").glob("*.md"))]
 FENCE = re.compile(r"^ *```")
-NOT_QUOTED = "<!-- not quoted -->"
+NOT_QUOTED = re.compile(r"<!-- (?:not quoted|file: \S+) -->")
 LINK = re.compile(r"\]\(([^()\s]+)\)")
 CODE = re.compile(r"`([^`]+)`")
 ELSEWHERE = {"conditionally_deserializable", "from_iter", "read_to_end"}
@@ -102,7 +102,7 @@ def anchors(path):
 def check_quotes(lines, files):
     for words, kind, quote in blocks(lines):
         before = [line.strip() for line in words if line.strip()]
-        if not quote or kind == "console" or (before and before[-1] == NOT_QUOTED):
+        if not quote or kind == "console" or (before and NOT_QUOTED.fullmatch(before[-1])):
             continue
         # the last paragraph, and before it the last heading
         start = next((n for n in range(len(before) - 1, -1, -1) if before[n].startswith("#")), None)

@@ -1,5 +1,5 @@
 #!/usr/bin/env python3
-"""Draws the pictures of the pages: `tools/pictures.py` writes message.svg, limits.svg and crates.svg into docs/.
+"""Draws the pictures of the pages: `tools/pictures.py` writes message.svg, limits.svg, crates.svg and tlsdump.svg into docs/.
 
 Each colour is an attribute for light pages, and a style for dark ones. `tools/pictures.py FOLDER dark` writes the dark
 pictures with attributes alone, for a look at them by a program that knows no styles.
@@ -197,15 +197,20 @@ def crates(dark):
     middle = 16 + top + 28
     shown = group(20, middle, 200, programs, 1)
     written = group(240, middle, 210, messages, 1)
-    group(470, middle, 230, generator, 1)
+    writes = group(470, middle, 230, generator, 1)
     low = middle + max(shown, written) + 28
-    group(20, low, 680, library, 3, "lib")
-    p.height = low + 34 + 17 * 3 + 40
+    p.height = low + group(20, low, 680, library, 3, "lib") + 34
     for x in (60, 300):
         arrow(x, 16 + top, x, middle - 1)
     arrow(220, middle + 40, 239, middle + 40)
     arrow(120, middle + shown, 120, low - 1)
     arrow(345, middle + written, 345, low - 1)
+    # tlsdump on the generator's reader
+    p.line(190, middle + shown, 190, low - 14, "ink")
+    p.line(190, low - 14, 585, low - 14, "ink")
+    p.line(585, low - 14, 585, middle + writes, "ink")
+    p.line(585, middle + writes, 581, middle + writes + 6, "ink")
+    p.line(585, middle + writes, 589, middle + writes + 6, "ink")
     # tests on the generator
     p.line(430, 16 + top, 430, middle - 14, "ink")
     p.line(430, middle - 14, 580, middle - 14, "ink")
@@ -219,7 +224,29 @@ def crates(dark):
     return p
 
 
-PICTURES = {"message.svg": message, "limits.svg": limits, "crates.svg": crates}
+def tlsdump(dark):
+    """A terminal with a stored run of tlsdump, and with one that is refused."""
+    folder = TOP / "crates" / "tlsdump" / "runs"
+    shown = (folder / "private_message.stdout").read_text().splitlines()
+    refused = (folder / "refused_identity.stdout").read_text().splitlines()
+    # the row of crates/tlsdump/src/tests.rt for these bytes
+    told = [
+        "tlsdump: refused at byte 15, in leaf_node.credential.identity: DecodingError(\"declared content",
+        "is not there\"): expected opaque identity<V>, its length announces 63 bytes, 5 are left",
+    ]
+    digits = (folder / "refused_identity").read_text().strip()
+    lines = [("ink", "$ tlsdump --binary auto private_message"), *[("soft", line) for line in shown], ("ink", "")]
+    lines += [("ink", f"$ echo {digits} | tlsdump KeyPackage"), *[("soft", line) for line in refused[:-1]]]
+    lines += [("end", refused[-1]), *[("end", line) for line in told]]
+    p = Picture(56 + 17 * len(lines), "A message as tlsdump shows it, and one that it refuses", dark)
+    p.box(12, 12, WIDTH - 24, 32 + 17 * len(lines), "plain", 6)
+    for at, (role, line) in enumerate(lines):
+        depth = len(line) - len(line.lstrip())
+        p.text(26 + 7 * depth, 38 + 17 * at, line.lstrip(), 11.5, role, "start", MONO)
+    return p
+
+
+PICTURES = {"message.svg": message, "limits.svg": limits, "crates.svg": crates, "tlsdump.svg": tlsdump}
 
 
 def main(folder=TOP / "docs", colours="light"):

@@ -1,15 +1,28 @@
 #!/usr/bin/env python3
-"""Checks the two short lists of "What to read" in docs/MAP.md: they are closed, and are as long as the page says.
+"""Checks what the pages ask of a reader: their words, the records of docs/DECISIONS.md, and the short reading lists of docs/MAP.md.
 
-An item `1. **Formats**, 600 lines: ..` lists files under the short names of the crates; a file "to `word`" is read to the line before the
+All pages except docs/DECISIONS.md have at most MOST_WORDS words outside of their blocks: what is between blanks and has a letter, and each
+`code` once.
+Each record of docs/DECISIONS.md, from `### ` on, is a question, begins with its date and commit, and fits on a screen.
+Each error of the library, by its variant and text, has a sentence in docs/REFUSALS.md.
+The two short lists of "What to read" in docs/MAP.md are closed, and are as long as the page says. An item `1. **Formats**, 600 lines: ..` lists files under the short names of the crates; a file "to `word`" is read to the line before the
 first one that has the word. Each word that such a part takes from the specs or declarations of the repository's crates has to be in a part
-of the same list or of the list before, or among the words after "Skip". Prints what isn't so; last 'N passed, N failed', which counts words and lengths.
+of the same list or of the list before, or among the words after "Skip".
+
+Prints what isn't so; last 'N passed, N failed', which counts those words and lengths, records, errors and pages. With the word `words`, it
+prints how many each page has.
 """
 import pathlib
 import re
 import sys
 
 TOP = pathlib.Path(__file__).resolve().parent.parent
+PAGES = [*sorted(TOP.glob("*.md")), *sorted((TOP / "docs").glob("*.md"))]
+RECORDS = TOP / "docs/DECISIONS.md"
+MOST_WORDS = 15_000
+SCREEN = 32
+RECORD = re.compile(r"^### (.*)\n((?:(?!##).*\n)*)", re.M)
+DATED = re.compile(r"\n\*20\d\d-\d\d-\d\d, `[0-9a-f]{8}`\*\n")
 SHORT = {"wire": "tls_codec_wire", "grammar": "tls_codec_grammar", "base": "tls_codec_base"}
 ITEM = re.compile(r"^\d\. \*\*(\w+)\*\*, (\d+) lines: (.*?)(?=^\d\. |^$)", re.M | re.S)
 FILE = re.compile(r"`(wire|grammar|base)/([\w/]+\.(?:antt|rt))`(?:\s+to\s+`([^`]+)`)?")
@@ -24,8 +37,53 @@ def part(crate, path, end):
     return lines[: body[0]] if body else lines
 
 
+def words(page):
+    """How many words a page has outside of its blocks: what is between blanks and has a letter, and each `code` once."""
+    text = re.sub(r"^ *```.*?^ *```", "", page.read_text(), flags=re.M | re.S)
+    text = re.sub(r"(`+).*?\1", "code", re.sub(r"<!--.*?-->", "", text, flags=re.S))
+    return sum(any(sign.isalpha() for sign in word) for word in text.split())
+
+
+def length_findings():
+    """Whether the pages are short enough, and how many were counted."""
+    counted = [page for page in PAGES if page != RECORDS]
+    total = sum(map(words, counted))
+    found = [f"the pages have {total} words, and may have {MOST_WORDS}"] if total > MOST_WORDS else []
+    return found, len(counted)
+
+
+def record_findings():
+    """Which records of docs/DECISIONS.md are no question, have no date or are too long, and how many there are."""
+    found, records = [], RECORD.findall(RECORDS.read_text())
+    for title, text in records:
+        if not title.endswith("?"):
+            found.append(f"docs/DECISIONS.md: no question: {title}")
+        if not DATED.match(text):
+            found.append(f"docs/DECISIONS.md: no date and commit: {title}")
+        if len(text.strip().split("\n")) > SCREEN:
+            found.append(f"docs/DECISIONS.md: more than {SCREEN} lines: {title}")
+    return found, len(records)
+
+
+def sentence_findings():
+    """Which errors of the library have no sentence for a person in docs/REFUSALS.md, and how many there are."""
+    page = (TOP / "docs/REFUSALS.md").read_text()
+    sentences = page[page.index("## For a person to read") :]
+    enum = re.search(r"^pub enum Error \{\n(.*?)^\}", (TOP / "crates/tls_codec_wire/src/error.rt").read_text(), re.M | re.S)[1]
+    code = "".join(path.read_text() for path in sorted((TOP / "crates").glob("tls_codec*/src/**/*.rt")))
+    errors = set(re.findall(r"^    ([A-Z]\w+)", enum, re.M)) - {"DecodingError", "EncodingError"}
+    errors |= {found[0] for found in re.finditer(r'(?:De|En)codingError\("[^"]*"\)', code)}
+    return [f"docs/REFUSALS.md: no sentence for {error}" for error in sorted(errors) if f"`{error}" not in sentences], len(errors)
+
+
 def findings():
-    """What isn't as the page says, and how many words and lengths were checked."""
+    """What isn't so, and how much was checked."""
+    parts = [list_findings(), record_findings(), sentence_findings(), length_findings()]
+    return [line for found, _ in parts for line in found], sum(checked for _, checked in parts)
+
+
+def list_findings():
+    """What isn't as MAP says, and how many words and lengths were checked."""
     page = (TOP / "docs/MAP.md").read_text()
     section = page[page.index("## What to read") :]
     skipped = set(re.findall(r"`(\w+)`", SKIP.search(section)[1]))
@@ -52,6 +110,8 @@ def findings():
 
 
 def main():
+    if sys.argv[1:] == ["words"]:
+        print("".join(f"{words(page):6} {page.relative_to(TOP)}\n" for page in PAGES), end="")
     found, checked = findings()
     print("".join(f"{line}\n" for line in found), end="")
     print(f"{checked - len(found)} passed, {len(found)} failed")

@@ -6,24 +6,93 @@ NAME.stdout what it must print. rt ci runs a program on one input alone, and pro
 """
 import pathlib
 import re
+import shutil
 import subprocess
 import sys
+import tempfile
 
 CRATES = pathlib.Path(__file__).resolve().parent.parent / "crates"
 
 # The exit status of each run.
 STATUS = {
     "tlsview": {"no_spelling": 1, "without_kind": 2, "with_two_kinds": 2, "with_three_kinds": 2},
-    "mlsview": {"private_message": 0, "welcome": 0, "group_info": 0, "key_package": 0, "no_message": 1, "trailing_byte": 1},
+    "tlsdump": {
+        "as_base64": 0,
+        "as_colons": 0,
+        "as_dump": 0,
+        "as_json": 0,
+        "certificate": 0,
+        "certificate_request": 0,
+        "certificate_verify": 0,
+        "client_hello": 0,
+        "encrypted_extensions": 0,
+        "end_of_early_data": 0,
+        "extension_that_is_none": 0,
+        "file": 0,
+        "finished": 0,
+        "group_info": 0,
+        "hello_retry_request": 0,
+        "help": 0,
+        "json_refused": 1,
+        "key_package": 0,
+        "lifetime": 0,
+        "list": 0,
+        "new_session_ticket": 0,
+        "no_file": 2,
+        "no_message": 1,
+        "odd_digits": 2,
+        "private_message": 0,
+        "ratchet_tree": 0,
+        "records": 0,
+        "refused_identity": 1,
+        "refused_length": 1,
+        "refused_list": 1,
+        "refused_session_id": 1,
+        "server_hello": 0,
+        "several_types": 2,
+        "short": 0,
+        "timestamps": 0,
+        "trailing_byte": 1,
+        "two_messages": 0,
+        "unknown_type": 2,
+        "version": 0,
+        "welcome": 0,
+        "wrong_digit": 2,
+        "at_limit": 0,
+        "over_limit": 2,
+    },
 }
+
+# Inputs that aren't stored: the most bytes that tlsdump takes, and one more. They are a length of 0, and then a content.
+MOST = 16 << 20
+MADE = {"at_limit": MOST, "over_limit": MOST + 1}
+SHOWN = {
+    "at_limit": f"message: HPKECiphertext\n  kem_output: 0 bytes\n  ciphertext: {MOST - 5} bytes {'aa' * 16}..\n",
+    "over_limit": "",
+}
+
+
+def make(cases):
+    """Writes the runs that aren't stored."""
+    for name, count in MADE.items():
+        content = count - 5
+        (cases / name).write_bytes(b"\0" + (1 << 31 | content).to_bytes(4) + b"\xaa" * content)
+        (cases / f"{name}.args").write_text("--binary\n--short\nHPKECiphertext\n")
+        (cases / f"{name}.stdout").write_text(SHOWN[name])
 
 
 def main():
     passed = 0
     for program, runs in STATUS.items():
         folder = CRATES / program
-        assert all((folder / "runs" / f"{name}.stdout").is_file() for name in runs), program
-        ran = subprocess.run(["rt", "try", "--cases", "runs"], cwd=folder, capture_output=True, text=True)
+        with tempfile.TemporaryDirectory() as room:
+            cases = pathlib.Path(room, "runs")
+            shutil.copytree(folder / "runs", cases)
+            if program == "tlsdump":
+                make(cases)
+            assert all((cases / f"{name}.stdout").is_file() for name in runs), program
+            words = [word for path in sorted(folder.glob("data/*")) for word in ("--data", f"{path.name}=data/{path.name}")]
+            ran = subprocess.run(["rt", "try", "--cases", cases, *words], cwd=folder, capture_output=True, text=True)
         told = ran.stdout + ran.stderr
         same = [name for name, status in runs.items() if re.search(rf"^case={name} run=ended status={status} .*output=expected ", told, re.M)]
         passed += len(same)

@@ -85,7 +85,7 @@ def rows():
             names = {unnumbered(name) for name in re.findall(r"\w+", cells[1])}
             for stem, least, most in re.findall(r"`(\w+?)(\d)` to `\1(\d)`", cells[1]):
                 names |= {f"{stem}{number}" for number in range(int(least), int(most) + 1)}
-            yield names, cells[2], set(cells[3].split())
+            yield names, cells[2], set(cells[3])
 
 
 def unnumbered(name):
@@ -101,7 +101,7 @@ def not_in_page(crate, name, traits, page):
     if not found:
         yield f"docs/API.md: no row for {name} of {where}"
     elif any(row[2] != letters for row in found):
-        yield f"docs/API.md: {name} has {' '.join(sorted(letters))}"
+        yield f"docs/API.md: {name} has {''.join(sorted(letters))}"
 
 
 def main():

@@ -1,0 +1,561 @@
+#!/usr/bin/env python3
+"""Reads the stored inputs of `tlsdump` anew, by the texts of crates/tlsgen/data, and compares what it prints of them.
+
+It shares no code with `tlsdump`. With --write it writes the outputs (NAME.stdout). A tree has all bytes of its input: each line
+takes them from one reader, which ends at the last one.
+"""
+import base64
+import datetime
+import json
+import pathlib
+import re
+import sys
+
+CRATES = pathlib.Path(__file__).resolve().parent.parent / "crates"
+PROTOCOLS = {"mls": ["mls", "mls_proposals", "mls_leaf"], "tls": ["tls13", "ct"], "ct": ["ct"]}
+WIDTHS = {"opaque": 1, "uint8": 1, "uint16": 2, "uint24": 3, "uint32": 4, "uint64": 8}
+# What no text names: versions and suites of TLS (RFC 8446, sections 4.1.2 and 4.2.1, and appendix B.4).
+TLS_NAMES = {
+    "ProtocolVersion": {0x0301: "TLS 1.0", 0x0302: "TLS 1.1", 0x0303: "TLS 1.2", 0x0304: "TLS 1.3"},
+    "CipherSuite": {
+        0x1301: "TLS_AES_128_GCM_SHA256",
+        0x1302: "TLS_AES_256_GCM_SHA384",
+        0x1303: "TLS_CHACHA20_POLY1305_SHA256",
+        0x1304: "TLS_AES_128_CCM_SHA256",
+        0x1305: "TLS_AES_128_CCM_8_SHA256",
+    },
+}
+# The content of extensions: RFC 9420, section 17.3, and the table in RFC 8446, section 4.2.
+EXTENSIONS = {
+    "application_id": "ApplicationId",
+    "ratchet_tree": "RatchetTree",
+    "required_capabilities": "RequiredCapabilities",
+    "external_pub": "ExternalPub",
+    "external_senders": "ExternalSenders",
+    "supported_groups": "NamedGroupList",
+    "signature_algorithms": "SignatureSchemeList",
+    "signature_algorithms_cert": "SignatureSchemeList",
+    "cookie": "Cookie",
+    "psk_key_exchange_modes": "PskKeyExchangeModes",
+    "certificate_authorities": "CertificateAuthoritiesExtension",
+    "oid_filters": "OIDFilterExtension",
+    "post_handshake_auth": "PostHandshakeAuth",
+    "early_data": "EarlyDataIndication",
+    "supported_versions": "SupportedVersions",
+    "pre_shared_key": "PreSharedKeyExtension",
+}
+OWN = "struct { opaque application_id<V>; } ApplicationId; struct { Handshake messages[rest]; } HandshakeMessages;"
+
+
+class Refused(Exception):
+    """The field that can't be read, with the lines that it is in."""
+
+    def __init__(self, label, depth):
+        self.label, self.depth = label, depth
+
+
+class Text:
+    """The definitions of some texts with their notes, by name."""
+
+    def __init__(self, names):
+        self.enums, self.structs, self.others, self.fixed = {}, {}, {}, {}
+        for name in names:
+            self.define((CRATES / "tlsgen" / "data" / f"{name}.tls").read_text())
+            self.note((CRATES / "tlsgen" / "data" / f"{name}.notes").read_text())
+        self.define(OWN)
+
+    def define(self, text):
+        text = re.sub(r"/\*.*?\*/|//[^\n]*", " ", text, flags=re.S)
+        self.words = re.findall(r"[A-Za-z_][\w.]*(?:-signed)?|0x[0-9a-fA-F]+|\d+|\.\.|\S", text)
+        while self.words:
+            self.definition()
+
+    def next(self, wanted=None):
+        word = self.words.pop(0)
+        assert wanted in (None, word), (wanted, word, self.words[:9])
+        return word
+
+    def number(self):
+        number = int(self.next(), 0)
+        if self.words[0] == "^":
+            self.next()
+            number **= int(self.next())
+            if self.words[0] == "-":
+                self.next()
+                number -= int(self.next())
+        return number
+
+    def definition(self):
+        if self.words[0] == "digitally-signed":
+            self.next()
+        if self.words[0] == "enum":
+            values, most = self.values()
+            self.enums.setdefault(self.next(), (values, (most.bit_length() + 7) // 8))
+            self.next(";")
+        elif self.words[0] == "struct":
+            parts = self.struct()
+            self.structs.setdefault(self.next(), parts)
+            self.next(";")
+        else:
+            field = self.field()
+            self.others.setdefault(field["name"], field)
+
+    def values(self):
+        self.next("enum")
+        self.next("{")
+        values, most = [], 0
+        while self.words[0] != "}":
+            name = None if self.words[0] == "(" else self.next()
+            self.next("(")
+            first = last = self.number()
+            if self.words[0] == "..":
+                self.next()
+                last = self.number()
+            self.next(")")
+            most = max(most, last)
+            if name:
+                values.append((first, last, name))
+            if self.words[0] == ",":
+                self.next()
+        self.next("}")
+        return values, most
+
+    def struct(self):
+        self.next("struct")
+        self.next("{")
+        parts = []
+        while self.words[0] != "}":
+            if self.words[0] == "select":
+                parts.append(self.select())
+            elif self.words[0] == "digitally-signed":
+                self.next()
+                self.struct()
+                self.next(";")
+                parts.append({"of": "DigitallySigned", "name": "signature", "vector": None, "optional": False})
+            else:
+                parts.append(self.field())
+        self.next("}")
+        return parts
+
+    def select(self):
+        self.next("select")
+        self.next("(")
+        path = self.next()
+        self.next(")")
+        self.next("{")
+        cases, labels, fields = [], [], []
+        while self.words[0] != "}":
+            if self.words[0] == "case":
+                self.next()
+                if fields:
+                    labels, fields = [], []
+                labels.append(self.next())
+                self.next(":")
+                if self.words[0] != "case":
+                    cases.append((labels, fields))
+            elif self.words[0] == "struct":
+                self.struct()
+                self.next(";")
+                labels, fields = [], []
+            else:
+                fields.append(self.field())
+        self.next("}")
+        name = None
+        if self.words[0] not in (";", "}"):
+            name = self.next()
+        if self.words[0] == ";":
+            self.next()
+        return {"path": path.split("."), "cases": cases, "name": name}
+
+    def field(self):
+        of, optional = self.next(), False
+        if of == "optional":
+            self.next("<")
+            of, optional = self.next(), True
+            self.next(">")
+        name = None if self.words[0] == ";" else self.next()
+        vector = None
+        if self.words[0] == "[":
+            self.next()
+            vector = ("array", int(self.words[0], 0) if self.words[0].isdigit() else self.words[0].split("."))
+            self.next()
+            self.next("]")
+        elif self.words[0] == "<":
+            self.next()
+            if self.words[0] == "V":
+                self.next()
+                vector = ("V",)
+            else:
+                least = self.number()
+                self.next("..")
+                vector = ("bounds", least, self.number())
+            self.next(">")
+        while self.words[0] != ";":
+            self.next()
+        self.next(";")
+        return {"of": of, "name": name, "vector": vector, "optional": optional}
+
+    def note(self, text):
+        for of, name, value in re.findall(r"^(\w+)\.(\w+) = (\w+);", text, re.M):
+            if value.isdigit():
+                self.enums.setdefault(of, ([], WIDTHS[self.others[of]["of"]]))[0].append((int(value), int(value), name))
+            else:
+                self.fixed[of, name] = value
+
+
+class Reader:
+    """A message, line by line."""
+
+    def __init__(self, text, bytes, protocol, message):
+        self.text, self.bytes, self.protocol, self.message = text, bytes, protocol, message
+        self.at, self.end, self.lines, self.known = 0, len(bytes), [], {}
+
+    def left(self):
+        return self.end - self.at
+
+    def take(self, count, label, depth):
+        if count > self.left():
+            raise Refused(label, depth)
+        self.at += count
+        return self.bytes[self.at - count : self.at]
+
+    def line(self, at, depth, label, shown, **members):
+        self.lines.append({"at": at, "depth": depth, "label": label, "shown": shown, **members})
+        return self.lines[-1]
+
+    def struct(self, of, depth):
+        end = self.end
+        for part in self.text.structs[of]:
+            if "cases" in part:
+                self.select(of, part, depth)
+            else:
+                self.field(of, part, part["name"], depth)
+        if of == "Handshake":
+            if self.left():
+                raise Refused("length", depth)
+            self.end = end
+
+    def select(self, of, select, depth):
+        tag = self.text.fixed.get((of, select["path"][-1])) or self.known[select["path"][-1]]
+        chosen = [fields for labels, fields in select["cases"] if tag in labels]
+        if not chosen:
+            raise Refused("", depth)
+        for field in chosen[0]:
+            name = select["name"] if select["name"] and select["name"][0].islower() else tag
+            self.field(of, field, field["name"] or name, depth)
+
+    def field(self, of, field, label, depth):
+        if field["vector"] is None:
+            return self.value(of, field, label, depth)
+        at = self.at
+        count, width = self.length(of, field, label, depth)
+        if count > self.left():
+            raise Refused(label, depth)
+        if WIDTHS.get(field["of"]) == 1 and not field["optional"]:
+            return self.content(of, label, at, count, width, depth)
+        end, self.end = self.end, self.at + count
+        line = self.line(at, depth, label, "", below="elements")
+        elements = 0
+        try:
+            while self.left():
+                self.value(of, field, f"[{elements}]", depth + 1)
+                elements += 1
+        except Refused:
+            line["shown"] = f"{counted(elements, 'element')}, and one that is refused"
+            raise
+        line["shown"] = counted(elements, "element")
+        self.end = end
+
+    def length(self, of, field, label, depth):
+        kind = field["vector"][0]
+        if kind == "array":
+            count = field["vector"][1]
+            if isinstance(count, list):
+                count = self.left() if of in ("Finished", "HandshakeMessages") else self.known[count[-1]]
+            return count, 0
+        if kind == "bounds":
+            _, least, most = field["vector"]
+            width = (most.bit_length() + 7) // 8
+            count = int.from_bytes(self.take(width, label, depth))
+            if not least <= count <= most:
+                raise Refused(label, depth)
+            return count, width
+        first = self.take(1, label, depth)[0]
+        width = 1 << (first >> 6)
+        if width == 8:
+            raise Refused(label, depth)
+        count = (first & 0x3F) << 8 * (width - 1) | int.from_bytes(self.take(width - 1, label, depth))
+        if width > 1 and count < 1 << (8 * (width // 2) - 2):
+            raise Refused(label, depth)
+        return count, width
+
+    def content(self, of, label, at, count, width, depth):
+        if (of, width) == ("CipherSuite", 0):
+            return self.code(at, label, depth, self.take(count, label, depth), TLS_NAMES["CipherSuite"])
+        start, end, lines, known, opened = self.at, self.end, len(self.lines), dict(self.known), self.opened(of, label, count)
+        if opened:
+            self.end = self.at + count
+            self.line(at, depth, label, opened, below="fields", type=opened)
+            try:
+                self.type(of, opened, None, depth, depth + 1)
+                if self.left():
+                    raise Refused(label, depth)
+                self.end = end
+                return
+            except Refused:
+                del self.lines[lines:]
+                self.at, self.end, self.known = start, end, known
+        bytes = self.take(count, label, depth)
+        self.line(at, depth, label, "", bytes=bytes, told=told(label, bytes), refused=opened)
+
+    # what the bytes of a field are, if that is known
+    def opened(self, of, label, count):
+        if of == "SerializedSCT":
+            return "SignedCertificateTimestamp"
+        if of == "TLSPlaintext":
+            return {"handshake": "HandshakeMessages", "alert": "Alert"}.get(self.known["type"])
+        if (of, label) != ("Extension", "extension_data"):
+            return None
+        name, message = self.known.get("extension_type"), self.known.get("msg_type")
+        if name == "key_share":
+            short = "HelloRetryRequest" if count == 2 else "ServerHello"
+            return {"client_hello": "KeyShareClientHello", "server_hello": f"KeyShare{short}"}.get(message)
+        if (name, message) == ("signed_certificate_timestamp", "certificate"):
+            return "SignedCertificateTimestampList"
+        return EXTENSIONS.get(name)
+
+    def value(self, of, field, label, depth):
+        if not field["optional"]:
+            return self.type(of, field["of"], label, depth, depth + 1)
+        at = self.at
+        tag = self.take(1, label, depth)[0]
+        if tag > 1:
+            raise Refused(label, depth)
+        if not tag:
+            return self.line(at, depth, label, "none", value=None)
+        self.line(at, depth, label, field["of"], below="fields", type=field["of"])
+        self.type(of, field["of"], None, depth, depth + 1)
+
+    # a value of a type; one without a label has its line already
+    def type(self, owner, of, label, depth, below):
+        at = self.at
+        if of in self.text.structs:
+            if label is not None:
+                self.line(at, depth, label, of, below="fields", type=of)
+            return self.struct(of, below)
+        if of in self.text.enums:
+            values, width = self.text.enums[of]
+            bytes = self.take(width, label, depth)
+            names = {int.from_bytes(bytes): name for first, last, name in values if first <= int.from_bytes(bytes) <= last}
+            if not names and self.refuses(of):
+                raise Refused(label, depth)
+            if (owner, of) in CONSTANTS and CONSTANTS[owner, of] not in names.values():
+                raise Refused(label, depth)
+            self.known[label] = names.get(int.from_bytes(bytes))
+            return self.code(at, label, depth, bytes, names)
+        if of in WIDTHS:
+            bytes = self.take(WIDTHS[of], label, depth)
+            number = self.known[label] = int.from_bytes(bytes)
+            if (owner, label) == ("Handshake", "length"):
+                if number > self.left():
+                    raise Refused(label, depth)
+                self.end = self.at + number
+            return self.line(at, depth, label, number_told(label, number), number=number, date=date(label, number))
+        other = self.text.others[of]
+        if other["vector"] is None and other["of"] in WIDTHS:
+            bytes = self.take(WIDTHS[other["of"]], label, depth)
+            return self.code(at, label, depth, bytes, TLS_NAMES.get(of, {}) if self.protocol == "tls" else {})
+        self.field(of, other, label, depth)
+
+    # the RFCs close these (a number without a name is refused), by a select or by their prose
+    def refuses(self, of):
+        return of in ("ContentType", "SenderType", "LeafNodeSource", "PSKType", "ProposalOrRefType", "NodeType", "Version") or (
+            of in ("ResumptionPSKUsage", "KeyUpdateRequest")
+        )
+
+    def code(self, at, label, depth, bytes, names):
+        name = names.get(int.from_bytes(bytes))
+        if name is None and len(bytes) == 2 and bytes[0] == bytes[1] and bytes[0] & 15 == 10:
+            name = "GREASE"
+        digits = f"0x{bytes.hex()}"
+        self.line(at, depth, label, f"{name} ({digits})" if name else digits, number=int.from_bytes(bytes), code=name)
+
+
+# fields that have one value (RFC 9420, sections 6 and 8.1)
+CONSTANTS = {("MLSMessage", "ProtocolVersion"): "mls10", ("GroupContext", "ProtocolVersion"): "mls10"}
+
+
+def counted(count, of):
+    return f"{count} {of}{'' if count == 1 else 's'}"
+
+
+def told(label, bytes):
+    if label not in ("identity", "application_id", "label") or not bytes:
+        return None
+    try:
+        text = bytes.decode()
+    except UnicodeDecodeError:
+        return None
+    printed = all((" " <= one <= "~" and one not in '"\\') or (one > "~" and one.isalnum()) for one in text)
+    return text if printed else None
+
+
+def date(label, number):
+    scale = {"not_before": 1, "not_after": 1, "timestamp": 1000}.get(label)
+    if scale is None or number // scale > 253402207200:
+        return None
+    moment = datetime.datetime(1970, 1, 1) + datetime.timedelta(seconds=number // scale)
+    part = f".{number % scale:03}".rstrip("0") if number % scale else ""
+    return f"{moment.isoformat()}{part}Z"
+
+
+def number_told(label, number):
+    return f"{number} ({date(label, number)})" if date(label, number) else str(number)
+
+
+def show(line, options):
+    shown = line["shown"]
+    if "bytes" in line:
+        bytes = line["bytes"]
+        digits = bytes[:16].hex() + ".." if "--short" in options and len(bytes) > 32 else bytes.hex()
+        shown = f"{counted(len(bytes), 'byte')} {digits}".rstrip()
+        shown += f' "{line["told"]}"' if line["told"] else ""
+        shown += f" (no {line['refused']})" if line["refused"] else ""
+    front = f"{line['at']:>8}  " if "--offsets" in options else ""
+    return f"{front}{'  ' * line['depth']}{line['label']}: {shown}\n"
+
+
+def tree_of(lines):
+    """Lines as JSON's values, of the depth of the first one."""
+    values = []
+    for at, line in enumerate(lines):
+        if line["depth"] != lines[0]["depth"]:
+            continue
+        value = {"offset": line["at"]}
+        label = line["label"]
+        value.update({"index": int(label[1:-1])} if label.startswith("[") else {"name": label})
+        if "below" in line:
+            behind = [n for n in range(at + 1, len(lines)) if lines[n]["depth"] <= line["depth"]] + [len(lines)]
+            value[line["below"]] = tree_of(lines[at + 1 : behind[0]]) if behind[0] > at + 1 else []
+        if "bytes" in line:
+            value["hex"] = line["bytes"].hex()
+            value.update({"text": line["told"]} if line["told"] else {})
+            value.update({"not": line["refused"]} if line["refused"] else {})
+        if "number" in line:
+            value["number"] = line["number"]
+        if "type" in line:
+            value["type"] = line["type"]
+        value.update({"value": line["code"]} if line.get("code") else {"value": None} if "value" in line else {})
+        value.update({"date": line["date"]} if line.get("date") else {})
+        values.append(value)
+    return values
+
+
+def bytes_of(input, options):
+    if "--binary" in options:
+        return input
+    text = input.decode()
+    if re.match(r"[0-9a-f]{8}: ", text):
+        text = "".join(line[10:].split("  ")[0] for line in text.splitlines())
+    digits = re.sub(r"0x|[\s:,]", "", text)
+    return bytes.fromhex(digits) if re.fullmatch(r"[0-9a-fA-F]*", digits) else base64.b64decode(text, validate=False)
+
+
+def named(words, input):
+    """The protocol and the type that the words or the first bytes name."""
+    names = [word for word in words if not word.startswith("--")]
+    if not names or names[0] == "auto":
+        return ("mls", "MLSMessage") if input[0] == 0 else ("tls", "TLSPlaintext")
+    if "." in names[0]:
+        return tuple(names[0].split(".", 1))
+    return next((protocol, names[0]) for protocol in ("ct", "tls", "mls") if names[0] in Text(PROTOCOLS[protocol]).structs)
+
+
+def printed(input, words):
+    bytes = bytes_of(input, words)
+    protocol, of = named(words, bytes)
+    text, at, out, values = Text(PROTOCOLS[protocol]), 0, "", []
+    while True:
+        reader = Reader(text, bytes, protocol, of)
+        reader.at = at
+        refused = None
+        try:
+            reader.type(None, of, "message", 0, 1)
+        except Refused as error:
+            refused = error
+        at = reader.at
+        out += "".join(show(line, words) for line in reader.lines)
+        values += tree_of(reader.lines)
+        if refused:
+            out += f"{'  ' * refused.depth}{refused.label}: refused\n"
+        if refused or at >= len(bytes):
+            break
+    if "--json" in words:
+        value = {"messages": values, "type": of} | ({"refused_at": REFUSED_AT, "refusal": REFUSAL} if refused else {})
+        return json.dumps(value, indent=2, sort_keys=True, ensure_ascii=False) + "\n"
+    return out
+
+
+def listed():
+    """What --list prints: the types of crates/tlsdump/src/kinds, with the sections that the texts' comments name."""
+    out = ""
+    for protocol, file in (("mls", "mls"), ("tls", "tls13"), ("ct", "ct")):
+        names = set(re.findall(r'^ +"(\w+)" =>', (CRATES / "tlsdump" / "src" / "kinds" / f"of_{file}.rt").read_text(), re.M))
+        for text in PROTOCOLS[protocol] if protocol != "tls" else ["tls13"]:
+            rfc = section = ""
+            for line in (CRATES / "tlsgen" / "data" / f"{text}.tls").read_text().splitlines():
+                if found := re.match(r"// (?:---- )?(?:.*\()?(RFC \d+)", line):
+                    rfc = found[1]
+                if found := re.match(r"// ---- (?:RFC \d+, )?((?:section|appendix) [\w.]*\w)", line):
+                    section = found[1]
+                found = re.search(r"^ *} (?:.* )?(\w+);", line)
+                # what a struct signs comes first
+                for name in (f"{found[1]}TBS", found[1]) if found else ():
+                    if name in names:
+                        names.remove(name)
+                        out += f"{protocol}.{name} ({rfc}, {section})\n"
+        assert not names, names
+    return out
+
+
+def main():
+    folder = CRATES / "tlsdump"
+    passed = failed = 0
+    for path in [folder / "stdin", *sorted((folder / "runs").iterdir())]:
+        if path.suffix:
+            continue
+        words = path.with_suffix(".args").read_text().split() if path.with_suffix(".args").exists() else []
+        stored = folder / "stdout" if path.name == "stdin" else path.with_suffix(".stdout")
+        if path.name in BY_HAND:
+            continue
+        if path.name in UNREAD:
+            tree = ""
+        elif path.name == "list":
+            tree = listed()
+        else:
+            tree = printed((folder / "data" / "message" if path.name == "file" else path).read_bytes(), words)
+        if "--write" in sys.argv:
+            stored.write_text(tree)
+        if stored.is_file() and stored.read_text() == tree:
+            passed += 1
+        else:
+            failed += 1
+            print(f"{path.name}: another tree\n{tree}")
+    print(f"{passed} of {passed + failed} stored outputs of tlsdump are what the texts say")
+    print(f"{passed} passed, {failed} failed")
+    sys.exit(failed > 0)
+
+
+# inputs of which nothing is shown
+UNREAD = ("several_types", "unknown_type", "wrong_digit", "odd_digits", "no_file")
+# outputs that are no tree
+BY_HAND = ("help", "version")
+# what is told of the stored run json_refused
+REFUSED_AT = 28
+REFUSAL = (
+    "refused at byte 28, in key_package.leaf_node.capabilities.versions[1]: "
+    'DecodingError("elements do not fill the declared length"): expected ProtocolVersion: mls10 (1), 1 byte is left'
+)
+
+if __name__ == "__main__":
+    main()
