@@ -173,7 +173,7 @@ class Parser:
         if self.has("digitally-signed"):
             self.take("struct")
             return ("signed_struct", self.items(), self.named())
-        is_lent, is_open = self.has("lent"), self.has("open")
+        is_borrowed, is_open = self.has("borrowed"), self.has("open")
         if self.has("enum"):
             return ("enum", is_open, self.values(), self.named())
         if self.has("struct"):
@@ -181,7 +181,7 @@ class Parser:
             parts = []
             while not self.has("}"):
                 parts.append(self.part())
-            return ("struct", is_lent, parts, self.named())
+            return ("struct", is_borrowed, parts, self.named())
         return ("alias", self.field())
 
     def all(self):
@@ -209,7 +209,7 @@ class Parser:
             elif word == "=":
                 out.append(("Equals", path, self.label()))
             elif word == "is":
-                out.append(({"closed": "IsClosed", "open": "IsOpen", "lent": "IsLent"}[self.take()], path))
+                out.append(({"closed": "IsClosed", "open": "IsOpen", "borrowed": "IsBorrowed"}[self.take()], path))
             elif word == "called":
                 out.append(("IsCalled", path, self.take()))
             else:
@@ -485,7 +485,7 @@ class Written:
         code = (ROOT / f"crates/{crate}/src/{self.module}.rt").read_text()
         if self.is_in_context:
             self.context = re.search(r"impl SizeFor<(\w+)> for", code).group(1)
-        self.is_lent = f"pub struct {self.name}<'a>" in code or f"pub enum {self.name}<'a>" in code
+        self.is_borrowed = f"pub struct {self.name}<'a>" in code or f"pub enum {self.name}<'a>" in code
         self.is_bare = bool(re.search(rf"pub struct {self.name};|pub struct {self.name} {{}}", code))
         body = text[text.index(f"abbrev pub {self.word}_plain "):].split("\n\n")[0].split("\n", 1)[1]
         self.clauses = []
@@ -496,7 +496,7 @@ class Written:
 
     @property
     def rust(self):
-        return self.name + ("<'static>" if self.is_lent else "")
+        return self.name + ("<'static>" if self.is_borrowed else "")
 
     @property
     def is_registry(self):
@@ -530,7 +530,7 @@ def pruned(text):
 LONGEST, MOST_TYPES = 370, 32
 
 DEFINITION_USES = """use Rattle.std.specs.Prelude.{List, [], ◌∷◌, Bool, true, Option, Some, None, codes}
-use Rattle.tls_presentation.specs.Definition.{Numeral, One, Array, Variable, Bounded, Is, Bytes, Named, Range, Width, Bare, Ended, Plain, Own, EnumHere, StructHere, Signed, Definition, Enum, Struct, SignedStruct, Alias, Note, CountsRest, FillsRest, FillsZeros, Ends, Equals, IsClosed, IsOpen, IsLent, IsCalled, LeftOut, Has, field, optional, has, is_a, constant, word, counted, value, case, cases_of, select, called, enum, struct, struct_of}
+use Rattle.tls_presentation.specs.Definition.{Numeral, One, Array, Variable, Bounded, Is, Bytes, Named, Range, Width, Bare, Ended, Plain, Own, EnumHere, StructHere, Signed, Definition, Enum, Struct, SignedStruct, Alias, Note, CountsRest, FillsRest, FillsZeros, Ends, Equals, IsClosed, IsOpen, IsBorrowed, IsCalled, LeftOut, Has, field, optional, has, is_a, constant, word, counted, value, case, cases_of, select, called, enum, struct, struct_of}
 """
 
 
@@ -684,7 +684,7 @@ abbrev pub {word} : List ℕ
         if len(trees) != len(shape.parts):
             raise SystemExit(f"{one.name}: {trees} for {shape.parts}")
         members = self.members([part[0] for part in shape.parts], trees)
-        saying = "lent_saying" if one.is_lent and "then_format" not in one.text else "struct_saying"
+        saying = "borrowed_saying" if one.is_borrowed and "then_format" not in one.text else "struct_saying"
         c = "c" if one.is_in_context else "Empty"
         args = f"{crate} {quoted(name)} {c} {members}"
         return [(head, f"says {args}", f"{saying} {args} d b")]
@@ -766,7 +766,7 @@ abbrev pub {word} : List ℕ
         out = "-- Why each value says so.\n" + self.common()
         out += "use Rattle.std.proofs.Common.{◌≡◌, refl}\nuse Rattle.tls_presentation.specs.Says.{value_number}\n"
         out += "use Rattle.std.specs.Prelude.{◌↔◌}\nuse Rattle.tls_presentation.specs.Says.{called}\n"
-        out += "use Rattle.tls_presentation.proofs.Flat.{same_iff}\nuse Rattle.tls_presentation.proofs.Saying.{struct_saying, lent_saying, number_saying, case_saying, choice_saying}\n"
+        out += "use Rattle.tls_presentation.proofs.Flat.{same_iff}\nuse Rattle.tls_presentation.proofs.Saying.{struct_saying, borrowed_saying, number_saying, case_saying, choice_saying}\n"
         out += self.types_used(True)
         out += f"use Rattle.{self.laws}.specs.Says.{{{', '.join(one.name + 'Says' for one in self.types)}}}\n"
         self.file("proofs/Sayings.antt", out + body)

@@ -6,7 +6,7 @@ ghost use Rattle.ct.specs.declared.digitally_signed.DigitallySigned.{DigitallySi
 use crate::SignatureAndHashAlgorithm;
 use std::alloc::Global;
 use tls_codec::{
-    Deserialize, DeserializeBytes, Error, Lent, Serialize, Sink, Size, Source, TlsByteVecU16,
+    ByRef, Deserialize, DeserializeBytes, Error, Serialize, Sink, Size, Source, TlsByteVecU16,
 };
 use tls_codec_cases::append_as;
 use tls_codec_validate::{Rejected, Validate};
@@ -29,7 +29,7 @@ impl Size for DigitallySigned {
     ghost format = { digitally_signed_format };
 
     fn tls_serialized_len(&self) -> usize {
-        (Lent(&self.algorithm), Lent(&self.signature)).tls_serialized_len()
+        (ByRef(&self.algorithm), ByRef(&self.signature)).tls_serialized_len()
     }
 
     ghost lawful = { digitally_signed_meets };
@@ -37,11 +37,11 @@ impl Size for DigitallySigned {
 
 impl Serialize for DigitallySigned {
     fn tls_serialize<W: Sink>(&self, writer: &mut W) -> Result<usize, Error> {
-        (Lent(&self.algorithm), Lent(&self.signature)).tls_serialize(writer)
+        (ByRef(&self.algorithm), ByRef(&self.signature)).tls_serialize(writer)
     }
 
     fn tls_serialize_into(&self, out: &mut Vec<u8>) -> Result<usize, Error> {
-        append_as(self, &(Lent(&self.algorithm), Lent(&self.signature)), out)
+        append_as(self, &(ByRef(&self.algorithm), ByRef(&self.signature)), out)
     }
 }
 

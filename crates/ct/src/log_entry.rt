@@ -10,7 +10,7 @@ ghost use Rattle.ct.specs.declared.log_entry.LogEntryView.{LogEntryView};
 use crate::{PrecertChainEntry, X509ChainEntry};
 use std::alloc::Global;
 use tls_codec::{
-    Deserialize, DeserializeBytes, Error, Lent, Serialize, Sink, Size, Source, unknown_value,
+    ByRef, Deserialize, DeserializeBytes, Error, Serialize, Sink, Size, Source, unknown_value,
 };
 use tls_codec_validate::{Rejected, Validate, split_u16};
 use tls_codec_views::{Choice, Encoded};
@@ -38,11 +38,11 @@ impl Size for LogEntry {
         match self {
             LogEntry::X509Entry(x509_chain_entry) => (
                 X509_ENTRY,
-                Lent(x509_chain_entry),
+                ByRef(x509_chain_entry),
             ).tls_serialized_len(),
             LogEntry::PrecertEntry(precert_chain_entry) => (
                 PRECERT_ENTRY,
-                Lent(precert_chain_entry),
+                ByRef(precert_chain_entry),
             ).tls_serialized_len(),
         }
     }
@@ -55,11 +55,11 @@ impl Serialize for LogEntry {
         match self {
             LogEntry::X509Entry(x509_chain_entry) => (
                 X509_ENTRY,
-                Lent(x509_chain_entry),
+                ByRef(x509_chain_entry),
             ).tls_serialize(writer),
             LogEntry::PrecertEntry(precert_chain_entry) => (
                 PRECERT_ENTRY,
-                Lent(precert_chain_entry),
+                ByRef(precert_chain_entry),
             ).tls_serialize(writer),
         }
     }
@@ -68,11 +68,11 @@ impl Serialize for LogEntry {
         match self {
             LogEntry::X509Entry(x509_chain_entry) => (
                 X509_ENTRY,
-                Lent(x509_chain_entry),
+                ByRef(x509_chain_entry),
             ).tls_serialize_into(out),
             LogEntry::PrecertEntry(precert_chain_entry) => (
                 PRECERT_ENTRY,
-                Lent(precert_chain_entry),
+                ByRef(precert_chain_entry),
             ).tls_serialize_into(out),
         }
     }

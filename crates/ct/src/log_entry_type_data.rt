@@ -10,7 +10,7 @@ ghost use Rattle.ct.specs.declared.log_entry_type_data.LogEntryTypeDataView.{Log
 use crate::{ASN1Cert, PreCert};
 use std::alloc::Global;
 use tls_codec::{
-    Deserialize, DeserializeBytes, Error, Lent, Serialize, Sink, Size, Source, unknown_value,
+    ByRef, Deserialize, DeserializeBytes, Error, Serialize, Sink, Size, Source, unknown_value,
 };
 use tls_codec_validate::{Rejected, Validate, split_u16};
 use tls_codec_views::{Choice, Encoded};
@@ -38,11 +38,11 @@ impl Size for LogEntryTypeData {
         match self {
             LogEntryTypeData::X509Entry(asn_1_cert) => (
                 X509_ENTRY,
-                Lent(asn_1_cert),
+                ByRef(asn_1_cert),
             ).tls_serialized_len(),
             LogEntryTypeData::PrecertEntry(pre_cert) => (
                 PRECERT_ENTRY,
-                Lent(pre_cert),
+                ByRef(pre_cert),
             ).tls_serialized_len(),
         }
     }
@@ -53,12 +53,13 @@ impl Size for LogEntryTypeData {
 impl Serialize for LogEntryTypeData {
     fn tls_serialize<W: Sink>(&self, writer: &mut W) -> Result<usize, Error> {
         match self {
-            LogEntryTypeData::X509Entry(asn_1_cert) => (X509_ENTRY, Lent(asn_1_cert)).tls_serialize(
-                writer,
-            ),
+            LogEntryTypeData::X509Entry(asn_1_cert) => (
+                X509_ENTRY,
+                ByRef(asn_1_cert),
+            ).tls_serialize(writer),
             LogEntryTypeData::PrecertEntry(pre_cert) => (
                 PRECERT_ENTRY,
-                Lent(pre_cert),
+                ByRef(pre_cert),
             ).tls_serialize(writer),
         }
     }
@@ -67,11 +68,11 @@ impl Serialize for LogEntryTypeData {
         match self {
             LogEntryTypeData::X509Entry(asn_1_cert) => (
                 X509_ENTRY,
-                Lent(asn_1_cert),
+                ByRef(asn_1_cert),
             ).tls_serialize_into(out),
             LogEntryTypeData::PrecertEntry(pre_cert) => (
                 PRECERT_ENTRY,
-                Lent(pre_cert),
+                ByRef(pre_cert),
             ).tls_serialize_into(out),
         }
     }

@@ -5,7 +5,7 @@ ghost use Rattle.ct.specs.declared.merkle_tree_leaf.MerkleTreeLeaf.{MerkleTreeLe
 
 use crate::{MerkleLeafType, TimestampedEntry, Version};
 use std::alloc::Global;
-use tls_codec::{Deserialize, DeserializeBytes, Error, Lent, Serialize, Sink, Size, Source};
+use tls_codec::{ByRef, Deserialize, DeserializeBytes, Error, Serialize, Sink, Size, Source};
 use tls_codec_cases::append_as;
 use tls_codec_validate::{Rejected, Validate};
 use tls_codec_views::{Encoded, Parted};
@@ -30,9 +30,9 @@ impl Size for MerkleTreeLeaf {
 
     fn tls_serialized_len(&self) -> usize {
         (
-            Lent(&self.version),
-            Lent(&self.leaf_type),
-            Lent(&self.timestamped_entry),
+            ByRef(&self.version),
+            ByRef(&self.leaf_type),
+            ByRef(&self.timestamped_entry),
         )
             .tls_serialized_len()
     }
@@ -43,9 +43,9 @@ impl Size for MerkleTreeLeaf {
 impl Serialize for MerkleTreeLeaf {
     fn tls_serialize<W: Sink>(&self, writer: &mut W) -> Result<usize, Error> {
         (
-            Lent(&self.version),
-            Lent(&self.leaf_type),
-            Lent(&self.timestamped_entry),
+            ByRef(&self.version),
+            ByRef(&self.leaf_type),
+            ByRef(&self.timestamped_entry),
         )
             .tls_serialize(writer)
     }
@@ -54,9 +54,9 @@ impl Serialize for MerkleTreeLeaf {
         append_as(
             self,
             &(
-                Lent(&self.version),
-                Lent(&self.leaf_type),
-                Lent(&self.timestamped_entry),
+                ByRef(&self.version),
+                ByRef(&self.leaf_type),
+                ByRef(&self.timestamped_entry),
             ),
             out,
         )

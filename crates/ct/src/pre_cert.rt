@@ -5,7 +5,7 @@ ghost use Rattle.ct.specs.declared.pre_cert.PreCert.{PreCert};
 
 use crate::TBSCertificate;
 use std::alloc::Global;
-use tls_codec::{Deserialize, DeserializeBytes, Error, Lent, Serialize, Sink, Size, Source};
+use tls_codec::{ByRef, Deserialize, DeserializeBytes, Error, Serialize, Sink, Size, Source};
 use tls_codec_cases::append_as;
 use tls_codec_validate::{Rejected, Validate};
 use tls_codec_views::{Encoded, Parted};
@@ -27,7 +27,7 @@ impl Size for PreCert {
     ghost format = { pre_cert_format };
 
     fn tls_serialized_len(&self) -> usize {
-        (Lent(&self.issuer_key_hash), Lent(&self.tbs_certificate)).tls_serialized_len()
+        (ByRef(&self.issuer_key_hash), ByRef(&self.tbs_certificate)).tls_serialized_len()
     }
 
     ghost lawful = { pre_cert_meets };
@@ -35,13 +35,13 @@ impl Size for PreCert {
 
 impl Serialize for PreCert {
     fn tls_serialize<W: Sink>(&self, writer: &mut W) -> Result<usize, Error> {
-        (Lent(&self.issuer_key_hash), Lent(&self.tbs_certificate)).tls_serialize(writer)
+        (ByRef(&self.issuer_key_hash), ByRef(&self.tbs_certificate)).tls_serialize(writer)
     }
 
     fn tls_serialize_into(&self, out: &mut Vec<u8>) -> Result<usize, Error> {
         append_as(
             self,
-            &(Lent(&self.issuer_key_hash), Lent(&self.tbs_certificate)),
+            &(ByRef(&self.issuer_key_hash), ByRef(&self.tbs_certificate)),
             out,
         )
     }

@@ -6,7 +6,7 @@ ghost use Rattle.ct.specs.declared.precert_chain_entry.PrecertChainEntry.{Precer
 use crate::ASN1Cert;
 use std::alloc::Global;
 use tls_codec::{
-    Deserialize, DeserializeBytes, Error, Lent, Serialize, Sink, Size, Source, TlsVecU24,
+    ByRef, Deserialize, DeserializeBytes, Error, Serialize, Sink, Size, Source, TlsVecU24,
 };
 use tls_codec_cases::append_as;
 use tls_codec_validate::{Rejected, Validate};
@@ -30,8 +30,8 @@ impl Size for PrecertChainEntry {
 
     fn tls_serialized_len(&self) -> usize {
         (
-            Lent(&self.pre_certificate),
-            Lent(&self.precertificate_chain),
+            ByRef(&self.pre_certificate),
+            ByRef(&self.precertificate_chain),
         )
             .tls_serialized_len()
     }
@@ -42,8 +42,8 @@ impl Size for PrecertChainEntry {
 impl Serialize for PrecertChainEntry {
     fn tls_serialize<W: Sink>(&self, writer: &mut W) -> Result<usize, Error> {
         (
-            Lent(&self.pre_certificate),
-            Lent(&self.precertificate_chain),
+            ByRef(&self.pre_certificate),
+            ByRef(&self.precertificate_chain),
         )
             .tls_serialize(writer)
     }
@@ -52,8 +52,8 @@ impl Serialize for PrecertChainEntry {
         append_as(
             self,
             &(
-                Lent(&self.pre_certificate),
-                Lent(&self.precertificate_chain),
+                ByRef(&self.pre_certificate),
+                ByRef(&self.precertificate_chain),
             ),
             out,
         )

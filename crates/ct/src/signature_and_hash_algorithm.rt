@@ -5,7 +5,7 @@ ghost use Rattle.ct.specs.declared.signature_and_hash_algorithm.SignatureAndHash
 
 use crate::{HashAlgorithm, SignatureAlgorithm};
 use std::alloc::Global;
-use tls_codec::{Deserialize, DeserializeBytes, Error, Lent, Serialize, Sink, Size, Source};
+use tls_codec::{ByRef, Deserialize, DeserializeBytes, Error, Serialize, Sink, Size, Source};
 use tls_codec_cases::append_as;
 use tls_codec_validate::{Rejected, Validate};
 use tls_codec_views::{Encoded, Parted};
@@ -27,7 +27,7 @@ impl Size for SignatureAndHashAlgorithm {
     ghost format = { signature_and_hash_algorithm_format };
 
     fn tls_serialized_len(&self) -> usize {
-        (Lent(&self.hash), Lent(&self.signature)).tls_serialized_len()
+        (ByRef(&self.hash), ByRef(&self.signature)).tls_serialized_len()
     }
 
     ghost lawful = { signature_and_hash_algorithm_meets };
@@ -35,11 +35,11 @@ impl Size for SignatureAndHashAlgorithm {
 
 impl Serialize for SignatureAndHashAlgorithm {
     fn tls_serialize<W: Sink>(&self, writer: &mut W) -> Result<usize, Error> {
-        (Lent(&self.hash), Lent(&self.signature)).tls_serialize(writer)
+        (ByRef(&self.hash), ByRef(&self.signature)).tls_serialize(writer)
     }
 
     fn tls_serialize_into(&self, out: &mut Vec<u8>) -> Result<usize, Error> {
-        append_as(self, &(Lent(&self.hash), Lent(&self.signature)), out)
+        append_as(self, &(ByRef(&self.hash), ByRef(&self.signature)), out)
     }
 }
 

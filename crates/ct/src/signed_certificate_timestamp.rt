@@ -6,7 +6,7 @@ ghost use Rattle.ct.specs.declared.signed_certificate_timestamp.SignedCertificat
 use crate::{CtExtensions, DigitallySigned, LogID, Version};
 use std::alloc::Global;
 use tls_codec::{
-    Deserialize, DeserializeBytes, Error, Lent2, Lent3, Serialize, Sink, Size, Source,
+    ByRef2, ByRef3, Deserialize, DeserializeBytes, Error, Serialize, Sink, Size, Source,
 };
 use tls_codec_cases::append_as;
 use tls_codec_validate::{Rejected, Validate};
@@ -36,8 +36,8 @@ impl Size for SignedCertificateTimestamp {
 
     fn tls_serialized_len(&self) -> usize {
         (
-            Lent3(&self.sct_version, &self.id, &self.timestamp),
-            Lent2(&self.extensions, &self.signature),
+            ByRef3(&self.sct_version, &self.id, &self.timestamp),
+            ByRef2(&self.extensions, &self.signature),
         )
             .tls_serialized_len()
     }
@@ -48,8 +48,8 @@ impl Size for SignedCertificateTimestamp {
 impl Serialize for SignedCertificateTimestamp {
     fn tls_serialize<W: Sink>(&self, writer: &mut W) -> Result<usize, Error> {
         (
-            Lent3(&self.sct_version, &self.id, &self.timestamp),
-            Lent2(&self.extensions, &self.signature),
+            ByRef3(&self.sct_version, &self.id, &self.timestamp),
+            ByRef2(&self.extensions, &self.signature),
         )
             .tls_serialize(writer)
     }
@@ -58,8 +58,8 @@ impl Serialize for SignedCertificateTimestamp {
         append_as(
             self,
             &(
-                Lent3(&self.sct_version, &self.id, &self.timestamp),
-                Lent2(&self.extensions, &self.signature),
+                ByRef3(&self.sct_version, &self.id, &self.timestamp),
+                ByRef2(&self.extensions, &self.signature),
             ),
             out,
         )

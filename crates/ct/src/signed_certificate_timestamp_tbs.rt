@@ -6,7 +6,7 @@ ghost use Rattle.ct.specs.declared.signed_certificate_timestamp_tbs.SignedCertif
 use crate::{CtExtensions, LogEntryTypeData, SignatureTypeCertificateTimestamp, Version};
 use std::alloc::Global;
 use tls_codec::{
-    Deserialize, DeserializeBytes, Error, Lent2, Lent3, Serialize, Sink, Size, Source,
+    ByRef2, ByRef3, Deserialize, DeserializeBytes, Error, Serialize, Sink, Size, Source,
 };
 use tls_codec_cases::append_as;
 use tls_codec_validate::{Rejected, Validate};
@@ -39,8 +39,8 @@ impl Size for SignedCertificateTimestampTBS {
 
     fn tls_serialized_len(&self) -> usize {
         (
-            Lent3(&self.sct_version, &self.signature_type, &self.timestamp),
-            Lent2(&self.signed_entry, &self.extensions),
+            ByRef3(&self.sct_version, &self.signature_type, &self.timestamp),
+            ByRef2(&self.signed_entry, &self.extensions),
         )
             .tls_serialized_len()
     }
@@ -51,8 +51,8 @@ impl Size for SignedCertificateTimestampTBS {
 impl Serialize for SignedCertificateTimestampTBS {
     fn tls_serialize<W: Sink>(&self, writer: &mut W) -> Result<usize, Error> {
         (
-            Lent3(&self.sct_version, &self.signature_type, &self.timestamp),
-            Lent2(&self.signed_entry, &self.extensions),
+            ByRef3(&self.sct_version, &self.signature_type, &self.timestamp),
+            ByRef2(&self.signed_entry, &self.extensions),
         )
             .tls_serialize(writer)
     }
@@ -61,8 +61,8 @@ impl Serialize for SignedCertificateTimestampTBS {
         append_as(
             self,
             &(
-                Lent3(&self.sct_version, &self.signature_type, &self.timestamp),
-                Lent2(&self.signed_entry, &self.extensions),
+                ByRef3(&self.sct_version, &self.signature_type, &self.timestamp),
+                ByRef2(&self.signed_entry, &self.extensions),
             ),
             out,
         )

@@ -5,7 +5,7 @@ ghost use Rattle.ct.specs.declared.timestamped_entry.TimestampedEntry.{Timestamp
 
 use crate::{CtExtensions, TimestampedEntryLogEntryTypeData};
 use std::alloc::Global;
-use tls_codec::{Deserialize, DeserializeBytes, Error, Lent, Serialize, Sink, Size, Source};
+use tls_codec::{ByRef, Deserialize, DeserializeBytes, Error, Serialize, Sink, Size, Source};
 use tls_codec_cases::append_as;
 use tls_codec_validate::{Rejected, Validate};
 use tls_codec_views::{Encoded, Parted};
@@ -30,9 +30,9 @@ impl Size for TimestampedEntry {
 
     fn tls_serialized_len(&self) -> usize {
         (
-            Lent(&self.timestamp),
-            Lent(&self.signed_entry),
-            Lent(&self.extensions),
+            ByRef(&self.timestamp),
+            ByRef(&self.signed_entry),
+            ByRef(&self.extensions),
         )
             .tls_serialized_len()
     }
@@ -43,9 +43,9 @@ impl Size for TimestampedEntry {
 impl Serialize for TimestampedEntry {
     fn tls_serialize<W: Sink>(&self, writer: &mut W) -> Result<usize, Error> {
         (
-            Lent(&self.timestamp),
-            Lent(&self.signed_entry),
-            Lent(&self.extensions),
+            ByRef(&self.timestamp),
+            ByRef(&self.signed_entry),
+            ByRef(&self.extensions),
         )
             .tls_serialize(writer)
     }
@@ -54,9 +54,9 @@ impl Serialize for TimestampedEntry {
         append_as(
             self,
             &(
-                Lent(&self.timestamp),
-                Lent(&self.signed_entry),
-                Lent(&self.extensions),
+                ByRef(&self.timestamp),
+                ByRef(&self.signed_entry),
+                ByRef(&self.extensions),
             ),
             out,
         )

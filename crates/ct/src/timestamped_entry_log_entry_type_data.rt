@@ -10,7 +10,7 @@ ghost use Rattle.ct.specs.declared.timestamped_entry_log_entry_type_data.Timesta
 use crate::{ASN1Cert, PreCert};
 use std::alloc::Global;
 use tls_codec::{
-    Deserialize, DeserializeBytes, Error, Lent, Serialize, Sink, Size, Source, unknown_value,
+    ByRef, Deserialize, DeserializeBytes, Error, Serialize, Sink, Size, Source, unknown_value,
 };
 use tls_codec_validate::{Rejected, Validate, split_u16};
 use tls_codec_views::{Choice, Encoded};
@@ -38,11 +38,11 @@ impl Size for TimestampedEntryLogEntryTypeData {
         match self {
             TimestampedEntryLogEntryTypeData::X509Entry(asn_1_cert) => (
                 X509_ENTRY,
-                Lent(asn_1_cert),
+                ByRef(asn_1_cert),
             ).tls_serialized_len(),
             TimestampedEntryLogEntryTypeData::PrecertEntry(pre_cert) => (
                 PRECERT_ENTRY,
-                Lent(pre_cert),
+                ByRef(pre_cert),
             ).tls_serialized_len(),
         }
     }
@@ -55,11 +55,11 @@ impl Serialize for TimestampedEntryLogEntryTypeData {
         match self {
             TimestampedEntryLogEntryTypeData::X509Entry(asn_1_cert) => (
                 X509_ENTRY,
-                Lent(asn_1_cert),
+                ByRef(asn_1_cert),
             ).tls_serialize(writer),
             TimestampedEntryLogEntryTypeData::PrecertEntry(pre_cert) => (
                 PRECERT_ENTRY,
-                Lent(pre_cert),
+                ByRef(pre_cert),
             ).tls_serialize(writer),
         }
     }
@@ -68,11 +68,11 @@ impl Serialize for TimestampedEntryLogEntryTypeData {
         match self {
             TimestampedEntryLogEntryTypeData::X509Entry(asn_1_cert) => (
                 X509_ENTRY,
-                Lent(asn_1_cert),
+                ByRef(asn_1_cert),
             ).tls_serialize_into(out),
             TimestampedEntryLogEntryTypeData::PrecertEntry(pre_cert) => (
                 PRECERT_ENTRY,
-                Lent(pre_cert),
+                ByRef(pre_cert),
             ).tls_serialize_into(out),
         }
     }

@@ -6,7 +6,7 @@ ghost use Rattle.ct.specs.declared.tree_head_signature.TreeHeadSignature.{TreeHe
 use crate::{SignatureTypeTreeHash, Version};
 use std::alloc::Global;
 use tls_codec::{
-    Deserialize, DeserializeBytes, Error, Lent2, Lent3, Serialize, Sink, Size, Source,
+    ByRef2, ByRef3, Deserialize, DeserializeBytes, Error, Serialize, Sink, Size, Source,
 };
 use tls_codec_cases::append_as;
 use tls_codec_validate::{Rejected, Validate};
@@ -36,8 +36,8 @@ impl Size for TreeHeadSignature {
 
     fn tls_serialized_len(&self) -> usize {
         (
-            Lent3(&self.version, &self.signature_type, &self.timestamp),
-            Lent2(&self.tree_size, &self.sha256_root_hash),
+            ByRef3(&self.version, &self.signature_type, &self.timestamp),
+            ByRef2(&self.tree_size, &self.sha256_root_hash),
         )
             .tls_serialized_len()
     }
@@ -48,8 +48,8 @@ impl Size for TreeHeadSignature {
 impl Serialize for TreeHeadSignature {
     fn tls_serialize<W: Sink>(&self, writer: &mut W) -> Result<usize, Error> {
         (
-            Lent3(&self.version, &self.signature_type, &self.timestamp),
-            Lent2(&self.tree_size, &self.sha256_root_hash),
+            ByRef3(&self.version, &self.signature_type, &self.timestamp),
+            ByRef2(&self.tree_size, &self.sha256_root_hash),
         )
             .tls_serialize(writer)
     }
@@ -58,8 +58,8 @@ impl Serialize for TreeHeadSignature {
         append_as(
             self,
             &(
-                Lent3(&self.version, &self.signature_type, &self.timestamp),
-                Lent2(&self.tree_size, &self.sha256_root_hash),
+                ByRef3(&self.version, &self.signature_type, &self.timestamp),
+                ByRef2(&self.tree_size, &self.sha256_root_hash),
             ),
             out,
         )

@@ -6,7 +6,7 @@ ghost use Rattle.ct.specs.declared.x509_chain_entry.X509ChainEntry.{X509ChainEnt
 use crate::ASN1Cert;
 use std::alloc::Global;
 use tls_codec::{
-    Deserialize, DeserializeBytes, Error, Lent, Serialize, Sink, Size, Source, TlsVecU24,
+    ByRef, Deserialize, DeserializeBytes, Error, Serialize, Sink, Size, Source, TlsVecU24,
 };
 use tls_codec_cases::append_as;
 use tls_codec_validate::{Rejected, Validate};
@@ -29,7 +29,11 @@ impl Size for X509ChainEntry {
     ghost format = { x509_chain_entry_format };
 
     fn tls_serialized_len(&self) -> usize {
-        (Lent(&self.leaf_certificate), Lent(&self.certificate_chain)).tls_serialized_len()
+        (
+            ByRef(&self.leaf_certificate),
+            ByRef(&self.certificate_chain),
+        )
+            .tls_serialized_len()
     }
 
     ghost lawful = { x509_chain_entry_meets };
@@ -37,13 +41,20 @@ impl Size for X509ChainEntry {
 
 impl Serialize for X509ChainEntry {
     fn tls_serialize<W: Sink>(&self, writer: &mut W) -> Result<usize, Error> {
-        (Lent(&self.leaf_certificate), Lent(&self.certificate_chain)).tls_serialize(writer)
+        (
+            ByRef(&self.leaf_certificate),
+            ByRef(&self.certificate_chain),
+        )
+            .tls_serialize(writer)
     }
 
     fn tls_serialize_into(&self, out: &mut Vec<u8>) -> Result<usize, Error> {
         append_as(
             self,
-            &(Lent(&self.leaf_certificate), Lent(&self.certificate_chain)),
+            &(
+                ByRef(&self.leaf_certificate),
+                ByRef(&self.certificate_chain),
+            ),
             out,
         )
     }

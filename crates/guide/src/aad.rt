@@ -1,7 +1,7 @@
 //! [`PrivateContentAad`], a message of four fields.
 ghost use Rattle.guide.specs.Aad.{aad_format, aad_meets, aad_plain};
 
-use tls_codec::{Error, Lent2, Serialize, Sink, Size, VLBytes};
+use tls_codec::{ByRef2, Error, Serialize, Sink, Size, VLBytes};
 
 /// What the encryption of a private message is bound to (`PrivateContentAAD` of RFC 9420, section 6.3.1).
 #[derive(Drop)]
@@ -19,8 +19,8 @@ impl Size for PrivateContentAad {
 
     fn tls_serialized_len(&self) -> usize {
         (
-            Lent2(&self.group_id, &self.epoch),
-            Lent2(&self.content_type, &self.authenticated_data),
+            ByRef2(&self.group_id, &self.epoch),
+            ByRef2(&self.content_type, &self.authenticated_data),
         )
             .tls_serialized_len()
     }
@@ -31,8 +31,8 @@ impl Size for PrivateContentAad {
 impl Serialize for PrivateContentAad {
     fn tls_serialize<W: Sink>(&self, writer: &mut W) -> Result<usize, Error> {
         (
-            Lent2(&self.group_id, &self.epoch),
-            Lent2(&self.content_type, &self.authenticated_data),
+            ByRef2(&self.group_id, &self.epoch),
+            ByRef2(&self.content_type, &self.authenticated_data),
         )
             .tls_serialize(writer)
     }

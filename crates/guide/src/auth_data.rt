@@ -5,8 +5,8 @@ ghost use Rattle.guide.specs.Signed.{auth_data_format_for, auth_data_meets_for, 
 use std::alloc::Global;
 use std::marker::PhantomData;
 use tls_codec::{
-    Always, Condition, DeserializeFor, Error, Lent, LentWhen, SerializeFor, Sink, SizeFor, Source,
-    VLBytes, When,
+    Always, ByRef, ByRefWhen, Condition, DeserializeFor, Error, SerializeFor, Sink, SizeFor,
+    Source, VLBytes, When,
 };
 
 /// What `FramedContentAuthData` of MLS is (RFC 9420, section 6.1): only a commit has a confirmation tag.
@@ -34,11 +34,11 @@ impl SizeFor<u8> for AuthData {
     ghost format_for = { auth_data_format_for };
 
     fn tls_serialized_len_for(&self, content_type: &u8) -> usize {
-        let tag: LentWhen<OfCommit, VLBytes> = LentWhen {
+        let tag: ByRefWhen<OfCommit, VLBytes> = ByRefWhen {
             value: &self.confirmation_tag,
             condition: PhantomData,
         };
-        (Lent(&self.signature), tag).tls_serialized_len_for(content_type)
+        (ByRef(&self.signature), tag).tls_serialized_len_for(content_type)
     }
 
     ghost lawful = { auth_data_meets_for };
@@ -50,11 +50,11 @@ impl SerializeFor<u8> for AuthData {
         content_type: &u8,
         writer: &mut W,
     ) -> Result<usize, Error> {
-        let tag: LentWhen<OfCommit, VLBytes> = LentWhen {
+        let tag: ByRefWhen<OfCommit, VLBytes> = ByRefWhen {
             value: &self.confirmation_tag,
             condition: PhantomData,
         };
-        (Lent(&self.signature), tag).tls_serialize_for(content_type, writer)
+        (ByRef(&self.signature), tag).tls_serialize_for(content_type, writer)
     }
 }
 

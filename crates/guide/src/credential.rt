@@ -5,7 +5,7 @@ ghost use Rattle.guide.specs.Credentials.{credential_format, credential_meets, c
 use std::alloc::Global;
 use std::marker::PhantomData;
 use tls_codec::{
-    Deserialize, DeserializeBytes, Error, Lent, Serialize, Sink, Size, Source, VLBytes,
+    ByRef, Deserialize, DeserializeBytes, Error, Serialize, Sink, Size, Source, VLBytes,
 };
 use tls_codec_cases::{Case, Or, Tagged, append_as, write_as};
 
@@ -18,18 +18,18 @@ pub enum Credential {
 
 type Credentials = Tagged<u16, Or<Case<1, VLBytes>, Case<2, Vec<VLBytes>>>>;
 
-type LentCredentials<'a> = Tagged<
+type BorrowedCredentials<'a> = Tagged<
     u16,
-    Or<Case<1, Lent<'a, VLBytes>>, Case<2, Lent<'a, Vec<VLBytes>>>>,
+    Or<Case<1, ByRef<'a, VLBytes>>, Case<2, ByRef<'a, Vec<VLBytes>>>>,
 >;
 
 impl Credential {
-    fn cases(&self) -> LentCredentials<'_>
-        ensures { ⟦<LentCredentials<'static> as Size>⟧.plain result ≡ credential_plain self.now }
+    fn cases(&self) -> BorrowedCredentials<'_>
+        ensures { ⟦<BorrowedCredentials<'static> as Size>⟧.plain result ≡ credential_plain self.now }
     {
         let cases = match self {
-            Credential::Basic(identity) => Or::First(Case(Lent(identity))),
-            Credential::X509(certificates) => Or::Second(Case(Lent(certificates))),
+            Credential::Basic(identity) => Or::First(Case(ByRef(identity))),
+            Credential::X509(certificates) => Or::Second(Case(ByRef(certificates))),
         };
         Tagged(cases, PhantomData)
     }

@@ -2,7 +2,7 @@
 ghost use Rattle.guide.specs.Guide.{extension_format, extension_meets, extension_plain};
 
 use std::alloc::Global;
-use tls_codec::{Deserialize, Error, Lent, Serialize, Sink, Size, Source, VLBytes};
+use tls_codec::{ByRef, Deserialize, Error, Serialize, Sink, Size, Source, VLBytes};
 
 /// An extension of MLS (RFC 9420, section 7.2): its type, and its data after a variable-length length.
 #[derive(Drop)]
@@ -17,7 +17,7 @@ impl Size for Extension {
     ghost format = { extension_format };
 
     fn tls_serialized_len(&self) -> usize {
-        (Lent(&self.extension_type), Lent(&self.extension_data)).tls_serialized_len()
+        (ByRef(&self.extension_type), ByRef(&self.extension_data)).tls_serialized_len()
     }
 
     ghost lawful = { extension_meets };
@@ -25,7 +25,7 @@ impl Size for Extension {
 
 impl Serialize for Extension {
     fn tls_serialize<W: Sink>(&self, writer: &mut W) -> Result<usize, Error> {
-        (Lent(&self.extension_type), Lent(&self.extension_data)).tls_serialize(writer)
+        (ByRef(&self.extension_type), ByRef(&self.extension_data)).tls_serialize(writer)
     }
 }
 

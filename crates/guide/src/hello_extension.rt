@@ -5,7 +5,7 @@ ghost use Rattle.guide.specs.HelloExtensions.{hello_extension_format, hello_exte
 use std::alloc::Global;
 use std::marker::PhantomData;
 use tls_codec::{
-    Deserialize, DeserializeBytes, Error, Lent, Serialize, Sink, Size, SizeFor, Source,
+    ByRef, Deserialize, DeserializeBytes, Error, Serialize, Sink, Size, SizeFor, Source,
     TlsByteVecU16, TlsVecU8,
 };
 use tls_codec_cases::{Case, Chosen, Else, Enclosed, Or, Other, Tagged, append_as, write_as};
@@ -29,30 +29,30 @@ pub type UnknownExtension = Other<KnownExtensions, u16, TlsByteVecU16>;
 
 pub(crate) type Extensions = Else<KnownExtensions, u16, TlsByteVecU16>;
 
-pub(crate) type LentExtensions<'a> = Else<
-    Or<Case<43, Enclosed<u16, Lent<'a, TlsVecU8<u16>>>>, Case<51, Enclosed<u16, Lent<'a, u16>>>>,
+pub(crate) type BorrowedExtensions<'a> = Else<
+    Or<Case<43, Enclosed<u16, ByRef<'a, TlsVecU8<u16>>>>, Case<51, Enclosed<u16, ByRef<'a, u16>>>>,
     u16,
-    Lent<'a, TlsByteVecU16>,
+    ByRef<'a, TlsByteVecU16>,
 >;
 
 impl HelloExtension {
-    pub(crate) fn cases(&self) -> LentExtensions<'_>
-        ensures { ⟦<Chosen<LentExtensions<'static>> as SizeFor<u16>>⟧.plain (record { 0 = result })
+    pub(crate) fn cases(&self) -> BorrowedExtensions<'_>
+        ensures { ⟦<Chosen<BorrowedExtensions<'static>> as SizeFor<u16>>⟧.plain (record { 0 = result })
             ≡ hello_extension_plain self.now }
     {
         match self {
             HelloExtension::SupportedVersions(versions) => {
-                Else::Known(Or::First(Case(Enclosed(Lent(versions), PhantomData))))
+                Else::Known(Or::First(Case(Enclosed(ByRef(versions), PhantomData))))
             }
             HelloExtension::SelectedGroup(group) => {
-                Else::Known(Or::Second(Case(Enclosed(Lent(group), PhantomData))))
+                Else::Known(Or::Second(Case(Enclosed(ByRef(group), PhantomData))))
             }
-            HelloExtension::Unknown(other) => Else::Unknown(other.lend()),
+            HelloExtension::Unknown(other) => Else::Unknown(other.by_ref()),
         }
     }
 
-    fn tagged(&self) -> Tagged<u16, LentExtensions<'_>>
-        ensures { ⟦<Tagged<u16, LentExtensions<'static>> as Size>⟧.plain result
+    fn tagged(&self) -> Tagged<u16, BorrowedExtensions<'_>>
+        ensures { ⟦<Tagged<u16, BorrowedExtensions<'static>> as Size>⟧.plain result
             ≡ hello_extension_plain self.now }
     {
         Tagged(self.cases(), PhantomData)

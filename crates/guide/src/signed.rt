@@ -4,7 +4,7 @@ ghost use Rattle.guide.specs.Signed.{signed_format, signed_meets, signed_plain};
 use crate::auth_data::AuthData;
 use std::alloc::Global;
 use tls_codec::{
-    Always, Deserialize, Error, Lent, LentIn, LentThen2, Serialize, Sink, Size, Source, Then,
+    Always, ByRef, ByRefIn, ByRefThen2, Deserialize, Error, Serialize, Sink, Size, Source, Then,
     VLBytes,
 };
 
@@ -22,10 +22,10 @@ impl Size for Signed {
     ghost format = { signed_format };
 
     fn tls_serialized_len(&self) -> usize {
-        LentThen2 {
+        ByRefThen2 {
             first: &self.content_type,
-            second: Lent(&self.data),
-            third: LentIn(&self.auth),
+            second: ByRef(&self.data),
+            third: ByRefIn(&self.auth),
         }
         .tls_serialized_len()
     }
@@ -35,10 +35,10 @@ impl Size for Signed {
 
 impl Serialize for Signed {
     fn tls_serialize<W: Sink>(&self, writer: &mut W) -> Result<usize, Error> {
-        LentThen2 {
+        ByRefThen2 {
             first: &self.content_type,
-            second: Lent(&self.data),
-            third: LentIn(&self.auth),
+            second: ByRef(&self.data),
+            third: ByRefIn(&self.auth),
         }
         .tls_serialize(writer)
     }

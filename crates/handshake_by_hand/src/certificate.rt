@@ -5,8 +5,8 @@ use crate::certificate_entry::CertificateEntry;
 use crate::certificate_type::CertificateType;
 use std::alloc::Global;
 use tls_codec::{
-    Always, DeserializeBytesFor, DeserializeFor, Error, Lent, LentIn, SerializeFor, Sink, SizeFor,
-    Source, TlsByteVecU8, TlsVecU24,
+    Always, ByRef, ByRefIn, DeserializeBytesFor, DeserializeFor, Error, SerializeFor, Sink,
+    SizeFor, Source, TlsByteVecU8, TlsVecU24,
 };
 
 /// `Certificate` (RFC 8446, section 4.4.2).
@@ -25,8 +25,8 @@ impl SizeFor<CertificateType> for Certificate {
 
     fn tls_serialized_len_for(&self, certificate_type: &CertificateType) -> usize {
         (
-            Lent(&self.certificate_request_context),
-            LentIn(&self.certificate_list),
+            ByRef(&self.certificate_request_context),
+            ByRefIn(&self.certificate_list),
         )
             .tls_serialized_len_for(certificate_type)
     }
@@ -42,8 +42,8 @@ impl SerializeFor<CertificateType> for Certificate {
         writer: &mut W,
     ) -> Result<usize, Error> {
         (
-            Lent(&self.certificate_request_context),
-            LentIn(&self.certificate_list),
+            ByRef(&self.certificate_request_context),
+            ByRefIn(&self.certificate_list),
         )
             .tls_serialize_for(certificate_type, writer)
     }
@@ -54,8 +54,8 @@ impl SerializeFor<CertificateType> for Certificate {
         out: &mut Vec<u8>,
     ) -> Result<usize, Error> {
         (
-            Lent(&self.certificate_request_context),
-            LentIn(&self.certificate_list),
+            ByRef(&self.certificate_request_context),
+            ByRefIn(&self.certificate_list),
         )
             .tls_serialize_into_for(certificate_type, out)
     }

@@ -5,7 +5,7 @@ ghost use Rattle.handshake_by_hand.specs.Certificates.{certificate_data_format_f
 use crate::certificate_type::CertificateType;
 use std::alloc::Global;
 use tls_codec::{
-    DeserializeBytesFor, DeserializeFor, Error, Lent, SerializeFor, Sink, SizeFor, Source,
+    ByRef, DeserializeBytesFor, DeserializeFor, Error, SerializeFor, Sink, SizeFor, Source,
     TlsByteVec, U24, Within,
 };
 use tls_codec_cases::{Case, Chosen, Or, append_as_for, write_as_for};
@@ -24,18 +24,18 @@ pub enum CertificateData {
 
 type Certificates = Chosen<Or<Case<0, CertificateBytes>, Case<2, CertificateBytes>>>;
 
-type LentCertificates<'a> = Chosen<
-    Or<Case<0, Lent<'a, CertificateBytes>>, Case<2, Lent<'a, CertificateBytes>>>,
+type BorrowedCertificates<'a> = Chosen<
+    Or<Case<0, ByRef<'a, CertificateBytes>>, Case<2, ByRef<'a, CertificateBytes>>>,
 >;
 
 impl CertificateData {
-    fn cases(&self) -> LentCertificates<'_>
-        ensures { ⟦<LentCertificates<'static> as SizeFor<CertificateType>>⟧.plain result
+    fn cases(&self) -> BorrowedCertificates<'_>
+        ensures { ⟦<BorrowedCertificates<'static> as SizeFor<CertificateType>>⟧.plain result
             ≡ certificate_data_plain self.now }
     {
         let cases = match self {
-            CertificateData::X509(cert_data) => Or::First(Case(Lent(cert_data))),
-            CertificateData::RawPublicKey(key_info) => Or::Second(Case(Lent(key_info))),
+            CertificateData::X509(cert_data) => Or::First(Case(ByRef(cert_data))),
+            CertificateData::RawPublicKey(key_info) => Or::Second(Case(ByRef(key_info))),
         };
         Chosen(cases)
     }

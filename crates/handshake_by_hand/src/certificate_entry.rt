@@ -6,8 +6,8 @@ use crate::certificate_type::CertificateType;
 use crate::extension::Extension;
 use std::alloc::Global;
 use tls_codec::{
-    Always, DeserializeBytesFor, DeserializeFor, Error, Lent, LentIn, SerializeFor, Sink, SizeFor,
-    Source, TlsVecU16,
+    Always, ByRef, ByRefIn, DeserializeBytesFor, DeserializeFor, Error, SerializeFor, Sink,
+    SizeFor, Source, TlsVecU16,
 };
 
 /// `CertificateEntry` (RFC 8446, section 4.4.2).
@@ -25,7 +25,9 @@ impl SizeFor<CertificateType> for CertificateEntry {
     ghost format_for = { certificate_entry_format_for };
 
     fn tls_serialized_len_for(&self, certificate_type: &CertificateType) -> usize {
-        (LentIn(&self.certificate), Lent(&self.extensions)).tls_serialized_len_for(certificate_type)
+        (ByRefIn(&self.certificate), ByRef(&self.extensions)).tls_serialized_len_for(
+            certificate_type,
+        )
     }
 
     ghost lawful = { certificate_entry_meets_for };
@@ -37,7 +39,7 @@ impl SerializeFor<CertificateType> for CertificateEntry {
         certificate_type: &CertificateType,
         writer: &mut W,
     ) -> Result<usize, Error> {
-        (LentIn(&self.certificate), Lent(&self.extensions)).tls_serialize_for(
+        (ByRefIn(&self.certificate), ByRef(&self.extensions)).tls_serialize_for(
             certificate_type,
             writer,
         )
@@ -48,7 +50,7 @@ impl SerializeFor<CertificateType> for CertificateEntry {
         certificate_type: &CertificateType,
         out: &mut Vec<u8>,
     ) -> Result<usize, Error> {
-        (LentIn(&self.certificate), Lent(&self.extensions)).tls_serialize_into_for(
+        (ByRefIn(&self.certificate), ByRef(&self.extensions)).tls_serialize_into_for(
             certificate_type,
             out,
         )

@@ -3,7 +3,7 @@ ghost use Rattle.handshake_by_hand.specs.Bodies.{certificate_verify_format, cert
 
 use std::alloc::Global;
 use tls_codec::{
-    Deserialize, DeserializeBytes, Error, Lent, Serialize, Sink, Size, Source, TlsByteVecU16,
+    ByRef, Deserialize, DeserializeBytes, Error, Serialize, Sink, Size, Source, TlsByteVecU16,
 };
 
 /// `CertificateVerify` (RFC 8446, section 4.4.3).
@@ -21,7 +21,7 @@ impl Size for CertificateVerify {
     ghost format = { certificate_verify_format };
 
     fn tls_serialized_len(&self) -> usize {
-        (Lent(&self.algorithm), Lent(&self.signature)).tls_serialized_len()
+        (ByRef(&self.algorithm), ByRef(&self.signature)).tls_serialized_len()
     }
 
     ghost lawful = { certificate_verify_meets };
@@ -29,11 +29,11 @@ impl Size for CertificateVerify {
 
 impl Serialize for CertificateVerify {
     fn tls_serialize<W: Sink>(&self, writer: &mut W) -> Result<usize, Error> {
-        (Lent(&self.algorithm), Lent(&self.signature)).tls_serialize(writer)
+        (ByRef(&self.algorithm), ByRef(&self.signature)).tls_serialize(writer)
     }
 
     fn tls_serialize_into(&self, out: &mut Vec<u8>) -> Result<usize, Error> {
-        (Lent(&self.algorithm), Lent(&self.signature)).tls_serialize_into(out)
+        (ByRef(&self.algorithm), ByRef(&self.signature)).tls_serialize_into(out)
     }
 }
 

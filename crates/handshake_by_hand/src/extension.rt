@@ -3,7 +3,7 @@ ghost use Rattle.handshake_by_hand.specs.Extensions.{extension_format, extension
 
 use std::alloc::Global;
 use tls_codec::{
-    Deserialize, DeserializeBytes, Error, Lent, Serialize, Sink, Size, Source, TlsByteVecU16,
+    ByRef, Deserialize, DeserializeBytes, Error, Serialize, Sink, Size, Source, TlsByteVecU16,
 };
 
 /// `Extension` (RFC 8446, section 4.2).
@@ -21,7 +21,7 @@ impl Size for Extension {
     ghost format = { extension_format };
 
     fn tls_serialized_len(&self) -> usize {
-        (Lent(&self.extension_type), Lent(&self.extension_data)).tls_serialized_len()
+        (ByRef(&self.extension_type), ByRef(&self.extension_data)).tls_serialized_len()
     }
 
     ghost lawful = { extension_meets };
@@ -29,11 +29,11 @@ impl Size for Extension {
 
 impl Serialize for Extension {
     fn tls_serialize<W: Sink>(&self, writer: &mut W) -> Result<usize, Error> {
-        (Lent(&self.extension_type), Lent(&self.extension_data)).tls_serialize(writer)
+        (ByRef(&self.extension_type), ByRef(&self.extension_data)).tls_serialize(writer)
     }
 
     fn tls_serialize_into(&self, out: &mut Vec<u8>) -> Result<usize, Error> {
-        (Lent(&self.extension_type), Lent(&self.extension_data)).tls_serialize_into(out)
+        (ByRef(&self.extension_type), ByRef(&self.extension_data)).tls_serialize_into(out)
     }
 }
 

@@ -7,7 +7,7 @@ use crate::key_update_request::KeyUpdateRequest;
 use std::alloc::Global;
 use std::marker::PhantomData;
 use tls_codec::{
-    Deserialize, DeserializeBytes, Error, Lent, Serialize, Sink, Size, Source, TlsByteVecU24, U24,
+    ByRef, Deserialize, DeserializeBytes, Error, Serialize, Sink, Size, Source, TlsByteVecU24, U24,
 };
 use tls_codec_cases::{Case, Else, Enclosed, Or, Other, Tagged, append_as, write_as};
 
@@ -37,31 +37,31 @@ pub type UnknownHandshake = Other<KnownHandshakes, u8, TlsByteVecU24>;
 
 type Handshakes = Tagged<u8, Else<KnownHandshakes, u8, TlsByteVecU24>>;
 
-type LentKnown<'a> = Or<
-    Or<Case<5, Enclosed<U24, ()>>, Case<15, Enclosed<U24, Lent<'a, CertificateVerify>>>>,
-    Or<Case<20, Lent<'a, TlsByteVecU24>>, Case<24, Enclosed<U24, Lent<'a, KeyUpdateRequest>>>>,
+type BorrowedKnown<'a> = Or<
+    Or<Case<5, Enclosed<U24, ()>>, Case<15, Enclosed<U24, ByRef<'a, CertificateVerify>>>>,
+    Or<Case<20, ByRef<'a, TlsByteVecU24>>, Case<24, Enclosed<U24, ByRef<'a, KeyUpdateRequest>>>>,
 >;
 
-type LentHandshakes<'a> = Tagged<u8, Else<LentKnown<'a>, u8, Lent<'a, TlsByteVecU24>>>;
+type BorrowedHandshakes<'a> = Tagged<u8, Else<BorrowedKnown<'a>, u8, ByRef<'a, TlsByteVecU24>>>;
 
 impl Handshake {
-    fn cases(&self) -> LentHandshakes<'_>
-        ensures { ⟦<LentHandshakes<'static> as Size>⟧.plain result ≡ handshake_plain self.now }
+    fn cases(&self) -> BorrowedHandshakes<'_>
+        ensures { ⟦<BorrowedHandshakes<'static> as Size>⟧.plain result ≡ handshake_plain self.now }
     {
         let cases = match self {
             Handshake::EndOfEarlyData => {
                 Else::Known(Or::First(Or::First(Case(Enclosed((), PhantomData)))))
             }
             Handshake::CertificateVerify(body) => {
-                Else::Known(Or::First(Or::Second(Case(Enclosed(Lent(body), PhantomData)))))
+                Else::Known(Or::First(Or::Second(Case(Enclosed(ByRef(body), PhantomData)))))
             }
             Handshake::Finished(verify_data) => {
-                Else::Known(Or::Second(Or::First(Case(Lent(verify_data)))))
+                Else::Known(Or::Second(Or::First(Case(ByRef(verify_data)))))
             }
             Handshake::KeyUpdate(request) => {
-                Else::Known(Or::Second(Or::Second(Case(Enclosed(Lent(request), PhantomData)))))
+                Else::Known(Or::Second(Or::Second(Case(Enclosed(ByRef(request), PhantomData)))))
             }
-            Handshake::Unknown(other) => Else::Unknown(other.lend()),
+            Handshake::Unknown(other) => Else::Unknown(other.by_ref()),
         };
         Tagged(cases, PhantomData)
     }

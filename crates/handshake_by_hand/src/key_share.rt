@@ -5,7 +5,7 @@ ghost use Rattle.handshake_by_hand.specs.KeyShares.{key_share_format_for, key_sh
 use crate::key_share_entry::KeyShareEntry;
 use std::alloc::Global;
 use tls_codec::{
-    DeserializeBytesFor, DeserializeFor, Error, Lent, SerializeFor, Sink, SizeFor, Source,
+    ByRef, DeserializeBytesFor, DeserializeFor, Error, SerializeFor, Sink, SizeFor, Source,
     TlsVecU16,
 };
 use tls_codec_cases::{Case, Chosen, Or, append_as_for, write_as_for};
@@ -26,22 +26,22 @@ type KeyShares = Chosen<
     Or<Case<1, TlsVecU16<KeyShareEntry>>, Or<Case<2, KeyShareEntry>, Case<6, u16>>>,
 >;
 
-type LentKeyShares<'a> = Chosen<
+type BorrowedKeyShares<'a> = Chosen<
     Or<
-        Case<1, Lent<'a, TlsVecU16<KeyShareEntry>>>,
-        Or<Case<2, Lent<'a, KeyShareEntry>>, Case<6, Lent<'a, u16>>>,
+        Case<1, ByRef<'a, TlsVecU16<KeyShareEntry>>>,
+        Or<Case<2, ByRef<'a, KeyShareEntry>>, Case<6, ByRef<'a, u16>>>,
     >,
 >;
 
 impl KeyShare {
-    fn cases(&self) -> LentKeyShares<'_>
-        ensures { ⟦<LentKeyShares<'static> as SizeFor<u8>>⟧.plain result ≡ key_share_plain self.now }
+    fn cases(&self) -> BorrowedKeyShares<'_>
+        ensures { ⟦<BorrowedKeyShares<'static> as SizeFor<u8>>⟧.plain result ≡ key_share_plain self.now }
     {
         let cases = match self {
-            KeyShare::ClientHello(client_shares) => Or::First(Case(Lent(client_shares))),
-            KeyShare::ServerHello(server_share) => Or::Second(Or::First(Case(Lent(server_share)))),
+            KeyShare::ClientHello(client_shares) => Or::First(Case(ByRef(client_shares))),
+            KeyShare::ServerHello(server_share) => Or::Second(Or::First(Case(ByRef(server_share)))),
             KeyShare::HelloRetryRequest(selected_group) => {
-                Or::Second(Or::Second(Case(Lent(selected_group))))
+                Or::Second(Or::Second(Case(ByRef(selected_group))))
             }
         };
         Chosen(cases)

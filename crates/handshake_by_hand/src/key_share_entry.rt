@@ -3,7 +3,7 @@ ghost use Rattle.handshake_by_hand.specs.KeyShares.{key_share_entry_format, key_
 
 use std::alloc::Global;
 use tls_codec::{
-    Deserialize, DeserializeBytes, Error, Lent, Serialize, Sink, Size, Source, TlsByteVec, Within,
+    ByRef, Deserialize, DeserializeBytes, Error, Serialize, Sink, Size, Source, TlsByteVec, Within,
 };
 
 /// `KeyShareEntry` (RFC 8446, section 4.2.8).
@@ -23,7 +23,7 @@ impl Size for KeyShareEntry {
     ghost format = { key_share_entry_format };
 
     fn tls_serialized_len(&self) -> usize {
-        (Lent(&self.group), Lent(&self.key_exchange)).tls_serialized_len()
+        (ByRef(&self.group), ByRef(&self.key_exchange)).tls_serialized_len()
     }
 
     ghost lawful = { key_share_entry_meets };
@@ -31,11 +31,11 @@ impl Size for KeyShareEntry {
 
 impl Serialize for KeyShareEntry {
     fn tls_serialize<W: Sink>(&self, writer: &mut W) -> Result<usize, Error> {
-        (Lent(&self.group), Lent(&self.key_exchange)).tls_serialize(writer)
+        (ByRef(&self.group), ByRef(&self.key_exchange)).tls_serialize(writer)
     }
 
     fn tls_serialize_into(&self, out: &mut Vec<u8>) -> Result<usize, Error> {
-        (Lent(&self.group), Lent(&self.key_exchange)).tls_serialize_into(out)
+        (ByRef(&self.group), ByRef(&self.key_exchange)).tls_serialize_into(out)
     }
 }
 

@@ -7,7 +7,7 @@ use crate::{Key, NameType, NameTypeData, Named};
 use std::alloc::Global;
 use std::marker::PhantomData;
 use tls_codec::{
-    Always, Deserialize, DeserializeBytes, Error, Lent, LentIn, LentThen, Serialize, Sink, Size,
+    Always, ByRef, ByRefIn, ByRefThen, Deserialize, DeserializeBytes, Error, Serialize, Sink, Size,
     Source, Then,
 };
 use tls_codec_cases::{By, append_as, write_as};
@@ -28,18 +28,18 @@ pub struct Bearer {
 
 type Parts = (u8, Then<Named, (By<NameType, NameTypeData>, Always<Key>)>);
 
-type LentParts<'a> = (
-    Lent<'a, u8>,
-    LentThen<'a, Named, (By<NameType, LentIn<'a, NameTypeData>>, Lent<'a, Key>)>,
+type ByRefParts<'a> = (
+    ByRef<'a, u8>,
+    ByRefThen<'a, Named, (By<NameType, ByRefIn<'a, NameTypeData>>, ByRef<'a, Key>)>,
 );
 
 impl Bearer {
-    fn parts(&self) -> LentParts<'_>
-        ensures { ⟦<LentParts<'static> as Size>⟧.plain result ≡ bearer_plain self.now }
+    fn parts(&self) -> ByRefParts<'_>
+        ensures { ⟦<ByRefParts<'static> as Size>⟧.plain result ≡ bearer_plain self.now }
     {
         let first = &self.named;
-        let rest = (By(LentIn(&self.body), PhantomData), Lent(&self.last));
-        (Lent(&self.level), LentThen { first, rest })
+        let rest = (By(ByRefIn(&self.body), PhantomData), ByRef(&self.last));
+        (ByRef(&self.level), ByRefThen { first, rest })
     }
 }
 

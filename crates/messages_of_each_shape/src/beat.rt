@@ -6,7 +6,7 @@ ghost use Rattle.messages_of_each_shape.specs.declared.beat.Beat.{Beat};
 use crate::BodyKind;
 use std::alloc::Global;
 use tls_codec::{
-    Deserialize, DeserializeBytes, Error, Lent, Serialize, Sink, Size, Source, TlsByteVecU16,
+    ByRef, Deserialize, DeserializeBytes, Error, Serialize, Sink, Size, Source, TlsByteVecU16,
 };
 use tls_codec_cases::append_as;
 use tls_codec_validate::{Rejected, Validate};
@@ -32,7 +32,7 @@ impl Size for Beat {
     ghost format = { beat_format };
 
     fn tls_serialized_len(&self) -> usize {
-        (Lent(&self.kind), Lent(&self.payload)).tls_serialized_len()
+        (ByRef(&self.kind), ByRef(&self.payload)).tls_serialized_len()
     }
 
     ghost lawful = { beat_meets };
@@ -40,11 +40,11 @@ impl Size for Beat {
 
 impl Serialize for Beat {
     fn tls_serialize<W: Sink>(&self, writer: &mut W) -> Result<usize, Error> {
-        (Lent(&self.kind), Lent(&self.payload)).tls_serialize(writer)
+        (ByRef(&self.kind), ByRef(&self.payload)).tls_serialize(writer)
     }
 
     fn tls_serialize_into(&self, out: &mut Vec<u8>) -> Result<usize, Error> {
-        append_as(self, &(Lent(&self.kind), Lent(&self.payload)), out)
+        append_as(self, &(ByRef(&self.kind), ByRef(&self.payload)), out)
     }
 }
 

@@ -6,7 +6,7 @@ ghost use Rattle.messages_of_each_shape.specs.declared.body_kind_data.BodyKindDa
 use crate::BodyKind;
 use std::alloc::Global;
 use tls_codec::{
-    DeserializeBytesFor, DeserializeFor, Error, Lent, SerializeFor, Sink, SizeFor, Source, VLBytes,
+    ByRef, DeserializeBytesFor, DeserializeFor, Error, SerializeFor, Sink, SizeFor, Source, VLBytes,
 };
 use tls_codec_cases::{Case, Chosen, Or, append_as_for, write_as_for};
 use tls_codec_validate::{Rejected, ValidateFor};
@@ -22,16 +22,16 @@ pub enum BodyKindData {
 
 type Cases = Chosen<Or<Case<1, u16>, Case<2, VLBytes>>>;
 
-type LentCases<'a> = Chosen<Or<Case<1, Lent<'a, u16>>, Case<2, Lent<'a, VLBytes>>>>;
+type ByRefCases<'a> = Chosen<Or<Case<1, ByRef<'a, u16>>, Case<2, ByRef<'a, VLBytes>>>>;
 
 impl BodyKindData {
-    fn cases(&self) -> LentCases<'_>
-        ensures { ⟦<LentCases<'static> as SizeFor<BodyKind>>⟧.plain result
+    fn cases(&self) -> ByRefCases<'_>
+        ensures { ⟦<ByRefCases<'static> as SizeFor<BodyKind>>⟧.plain result
             ≡ body_kind_data_plain self.now }
     {
         let cases = match self {
-            BodyKindData::Chat(code_) => Or::First(Case(Lent(code_))),
-            BodyKindData::File(content) => Or::Second(Case(Lent(content))),
+            BodyKindData::Chat(code_) => Or::First(Case(ByRef(code_))),
+            BodyKindData::File(content) => Or::Second(Case(ByRef(content))),
         };
         Chosen(cases)
     }

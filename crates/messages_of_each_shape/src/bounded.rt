@@ -5,7 +5,7 @@ ghost use Rattle.messages_of_each_shape.specs.declared.bounded.Bounded.{Bounded}
 
 use std::alloc::Global;
 use tls_codec::{
-    Deserialize, DeserializeBytes, Error, Lent, Serialize, Sink, Size, Source, TlsByteVec, TlsVec,
+    ByRef, Deserialize, DeserializeBytes, Error, Serialize, Sink, Size, Source, TlsByteVec, TlsVec,
     Within,
 };
 use tls_codec_cases::append_as;
@@ -34,7 +34,7 @@ impl Size for Bounded {
     ghost format = { bounded_format };
 
     fn tls_serialized_len(&self) -> usize {
-        (Lent(&self.session), Lent(&self.suites)).tls_serialized_len()
+        (ByRef(&self.session), ByRef(&self.suites)).tls_serialized_len()
     }
 
     ghost lawful = { bounded_meets };
@@ -42,11 +42,11 @@ impl Size for Bounded {
 
 impl Serialize for Bounded {
     fn tls_serialize<W: Sink>(&self, writer: &mut W) -> Result<usize, Error> {
-        (Lent(&self.session), Lent(&self.suites)).tls_serialize(writer)
+        (ByRef(&self.session), ByRef(&self.suites)).tls_serialize(writer)
     }
 
     fn tls_serialize_into(&self, out: &mut Vec<u8>) -> Result<usize, Error> {
-        append_as(self, &(Lent(&self.session), Lent(&self.suites)), out)
+        append_as(self, &(ByRef(&self.session), ByRef(&self.suites)), out)
     }
 }
 

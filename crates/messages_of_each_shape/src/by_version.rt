@@ -5,7 +5,7 @@ ghost use Rattle.messages_of_each_shape.specs.declared.by_version.ByVersion.{ByV
 
 use std::alloc::Global;
 use tls_codec::{
-    DeserializeBytesFor, DeserializeFor, Error, Lent, SerializeFor, Sink, SizeFor, Source, VLBytes,
+    ByRef, DeserializeBytesFor, DeserializeFor, Error, SerializeFor, Sink, SizeFor, Source, VLBytes,
 };
 use tls_codec_cases::{Case, Chosen, Or, append_as_for, write_as_for};
 use tls_codec_validate::{Rejected, ValidateFor};
@@ -30,23 +30,23 @@ pub enum ByVersion {
 
 type Cases = Chosen<Or<Or<Case<1, u8>, Case<2, (u32, VLBytes, u8)>>, Case<3, ()>>>;
 
-type LentCases<'a> = Chosen<
+type ByRefCases<'a> = Chosen<
     Or<
-        Or<Case<1, Lent<'a, u8>>, Case<2, (Lent<'a, u32>, Lent<'a, VLBytes>, Lent<'a, u8>)>>,
+        Or<Case<1, ByRef<'a, u8>>, Case<2, (ByRef<'a, u32>, ByRef<'a, VLBytes>, ByRef<'a, u8>)>>,
         Case<3, ()>,
     >,
 >;
 
 impl ByVersion {
-    fn cases(&self) -> LentCases<'_>
-        ensures { ⟦<LentCases<'static> as SizeFor<u16>>⟧.plain result ≡ by_version_plain self.now }
+    fn cases(&self) -> ByRefCases<'_>
+        ensures { ⟦<ByRefCases<'static> as SizeFor<u16>>⟧.plain result ≡ by_version_plain self.now }
     {
         let cases = match self {
-            ByVersion::Case1(short) => Or::First(Or::First(Case(Lent(short)))),
+            ByVersion::Case1(short) => Or::First(Or::First(Case(ByRef(short)))),
             ByVersion::Case2 { long, tail, last } => Or::First(Or::Second(Case((
-                Lent(long),
-                Lent(tail),
-                Lent(last),
+                ByRef(long),
+                ByRef(tail),
+                ByRef(last),
             )))),
             ByVersion::Case3 => Or::Second(Case(())),
         };

@@ -6,7 +6,7 @@ ghost use Rattle.messages_of_each_shape.specs.declared.carrier.Carrier.{Carrier}
 use crate::{BodyKind, KindBody};
 use std::alloc::Global;
 use tls_codec::{
-    Always, Deserialize, DeserializeBytes, Error, Lent, LentIn, LentThen, Serialize, Sink, Size,
+    Always, ByRef, ByRefIn, ByRefThen, Deserialize, DeserializeBytes, Error, Serialize, Sink, Size,
     Source, Then, TlsVecU16,
 };
 use tls_codec_cases::{append_as, write_as};
@@ -29,25 +29,25 @@ pub struct Carrier {
 
 type Parts = Then<BodyKind, ((KindBody, Always<u8>), (TlsVecU16<KindBody>, Vec<KindBody>))>;
 
-type LentParts<'a> = LentThen<
+type ByRefParts<'a> = ByRefThen<
     'a,
     BodyKind,
     (
-        (LentIn<'a, KindBody>, Lent<'a, u8>),
-        (LentIn<'a, TlsVecU16<KindBody>>, LentIn<'a, Vec<KindBody>>),
+        (ByRefIn<'a, KindBody>, ByRef<'a, u8>),
+        (ByRefIn<'a, TlsVecU16<KindBody>>, ByRefIn<'a, Vec<KindBody>>),
     ),
 >;
 
 impl Carrier {
-    fn parts(&self) -> LentParts<'_>
-        ensures { ⟦<LentParts<'static> as Size>⟧.plain result ≡ carrier_plain self.now }
+    fn parts(&self) -> ByRefParts<'_>
+        ensures { ⟦<ByRefParts<'static> as Size>⟧.plain result ≡ carrier_plain self.now }
     {
         let first = &self.body_kind;
         let rest = (
-            (LentIn(&self.one), Lent(&self.count)),
-            (LentIn(&self.many), LentIn(&self.more)),
+            (ByRefIn(&self.one), ByRef(&self.count)),
+            (ByRefIn(&self.many), ByRefIn(&self.more)),
         );
-        LentThen { first, rest }
+        ByRefThen { first, rest }
     }
 }
 

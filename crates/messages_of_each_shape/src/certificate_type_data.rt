@@ -6,7 +6,7 @@ ghost use Rattle.messages_of_each_shape.specs.declared.certificate_type_data.Cer
 use crate::CertificateType;
 use std::alloc::Global;
 use tls_codec::{
-    DeserializeBytesFor, DeserializeFor, Error, Lent, SerializeFor, Sink, SizeFor, Source,
+    ByRef, DeserializeBytesFor, DeserializeFor, Error, SerializeFor, Sink, SizeFor, Source,
     TlsByteVec, U24, VLBytes, Within,
 };
 use tls_codec_cases::{Case, Chosen, Or, append_as_for, write_as_for};
@@ -23,20 +23,20 @@ pub enum CertificateTypeData {
 
 type Cases = Chosen<Or<Case<0, TlsByteVec<Within<U24, 1, 16777215>>>, Case<2, VLBytes>>>;
 
-type LentCases<'a> = Chosen<
-    Or<Case<0, Lent<'a, TlsByteVec<Within<U24, 1, 16777215>>>>, Case<2, Lent<'a, VLBytes>>>,
+type ByRefCases<'a> = Chosen<
+    Or<Case<0, ByRef<'a, TlsByteVec<Within<U24, 1, 16777215>>>>, Case<2, ByRef<'a, VLBytes>>>,
 >;
 
 impl CertificateTypeData {
-    fn cases(&self) -> LentCases<'_>
-        ensures { ⟦<LentCases<'static> as SizeFor<CertificateType>>⟧.plain result
+    fn cases(&self) -> ByRefCases<'_>
+        ensures { ⟦<ByRefCases<'static> as SizeFor<CertificateType>>⟧.plain result
             ≡ certificate_type_data_plain self.now }
     {
         let cases = match self {
-            CertificateTypeData::X509(cert_data) => Or::First(Case(Lent(cert_data))),
-            CertificateTypeData::RawPublicKey(asn1_subject_public_key_info) => Or::Second(Case(Lent(
-                asn1_subject_public_key_info,
-            ))),
+            CertificateTypeData::X509(cert_data) => Or::First(Case(ByRef(cert_data))),
+            CertificateTypeData::RawPublicKey(asn1_subject_public_key_info) => Or::Second(Case(
+                ByRef(asn1_subject_public_key_info),
+            )),
         };
         Chosen(cases)
     }

@@ -6,7 +6,7 @@ ghost use Rattle.messages_of_each_shape.specs.declared.client_cert_type_extensio
 use crate::{CertificateType, ClientOrServerExtension};
 use std::alloc::Global;
 use tls_codec::{
-    DeserializeBytesFor, DeserializeFor, Error, Lent, SerializeFor, Sink, SizeFor, Source, TlsVec,
+    ByRef, DeserializeBytesFor, DeserializeFor, Error, SerializeFor, Sink, SizeFor, Source, TlsVec,
     Within,
 };
 use tls_codec_cases::{Case, Chosen, Or, append_as_for, write_as_for};
@@ -26,23 +26,23 @@ type Cases = Chosen<
     Or<Case<0, TlsVec<Within<u8, 1, 255>, CertificateType>>, Case<1, CertificateType>>,
 >;
 
-type LentCases<'a> = Chosen<
+type ByRefCases<'a> = Chosen<
     Or<
-        Case<0, Lent<'a, TlsVec<Within<u8, 1, 255>, CertificateType>>>,
-        Case<1, Lent<'a, CertificateType>>,
+        Case<0, ByRef<'a, TlsVec<Within<u8, 1, 255>, CertificateType>>>,
+        Case<1, ByRef<'a, CertificateType>>,
     >,
 >;
 
 impl ClientCertTypeExtension {
-    fn cases(&self) -> LentCases<'_>
-        ensures { ⟦<LentCases<'static> as SizeFor<ClientOrServerExtension>>⟧.plain result
+    fn cases(&self) -> ByRefCases<'_>
+        ensures { ⟦<ByRefCases<'static> as SizeFor<ClientOrServerExtension>>⟧.plain result
             ≡ client_cert_type_extension_plain self.now }
     {
         let cases = match self {
-            ClientCertTypeExtension::Client(client_certificate_types) => Or::First(Case(Lent(
+            ClientCertTypeExtension::Client(client_certificate_types) => Or::First(Case(ByRef(
                 client_certificate_types,
             ))),
-            ClientCertTypeExtension::Server(client_certificate_type) => Or::Second(Case(Lent(
+            ClientCertTypeExtension::Server(client_certificate_type) => Or::Second(Case(ByRef(
                 client_certificate_type,
             ))),
         };

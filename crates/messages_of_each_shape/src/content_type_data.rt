@@ -9,7 +9,7 @@ ghost use Rattle.messages_of_each_shape.specs.declared.content_type_data.Content
 
 use std::alloc::Global;
 use tls_codec::{
-    Deserialize, DeserializeBytes, Error, Lent, Lent2, Serialize, Sink, Size, Source, VLBytes,
+    ByRef, ByRef2, Deserialize, DeserializeBytes, Error, Serialize, Sink, Size, Source, VLBytes,
     unknown_value,
 };
 use tls_codec_validate::{Rejected, Validate, split_u8};
@@ -52,15 +52,19 @@ impl Size for ContentTypeData {
                 application_data,
             } => (
                 APPLICATION,
-                Lent(authenticated_data),
-                Lent(application_data),
+                ByRef(authenticated_data),
+                ByRef(application_data),
             )
                 .tls_serialized_len(),
             ContentTypeData::Proposal {
                 authenticated_data,
                 proposal,
                 level,
-            } => (PROPOSAL, Lent2(authenticated_data, proposal), Lent(level)).tls_serialized_len(),
+            } => (
+                PROPOSAL,
+                ByRef2(authenticated_data, proposal),
+                ByRef(level),
+            ).tls_serialized_len(),
         }
     }
 
@@ -75,15 +79,17 @@ impl Serialize for ContentTypeData {
                 application_data,
             } => (
                 APPLICATION,
-                Lent(authenticated_data),
-                Lent(application_data),
+                ByRef(authenticated_data),
+                ByRef(application_data),
             )
                 .tls_serialize(writer),
             ContentTypeData::Proposal {
                 authenticated_data,
                 proposal,
                 level,
-            } => (PROPOSAL, Lent2(authenticated_data, proposal), Lent(level)).tls_serialize(writer),
+            } => (PROPOSAL, ByRef2(authenticated_data, proposal), ByRef(level)).tls_serialize(
+                writer,
+            ),
         }
     }
 
@@ -94,15 +100,15 @@ impl Serialize for ContentTypeData {
                 application_data,
             } => (
                 APPLICATION,
-                Lent(authenticated_data),
-                Lent(application_data),
+                ByRef(authenticated_data),
+                ByRef(application_data),
             )
                 .tls_serialize_into(out),
             ContentTypeData::Proposal {
                 authenticated_data,
                 proposal,
                 level,
-            } => (PROPOSAL, Lent2(authenticated_data, proposal), Lent(level)).tls_serialize_into(
+            } => (PROPOSAL, ByRef2(authenticated_data, proposal), ByRef(level)).tls_serialize_into(
                 out,
             ),
         }

@@ -6,8 +6,8 @@ ghost use Rattle.messages_of_each_shape.specs.declared.entries.Entries.{Entries}
 use crate::{CertificateType, Entry};
 use std::alloc::Global;
 use tls_codec::{
-    Always, DeserializeBytesFor, DeserializeFor, Error, Lent, LentIn, SerializeFor, Sink, SizeFor,
-    Source, TlsVecU24,
+    Always, ByRef, ByRefIn, DeserializeBytesFor, DeserializeFor, Error, SerializeFor, Sink,
+    SizeFor, Source, TlsVecU24,
 };
 use tls_codec_validate::{Rejected, ValidateFor};
 
@@ -30,7 +30,7 @@ impl SizeFor<CertificateType> for Entries {
     ghost format_for = { entries_format_for };
 
     fn tls_serialized_len_for(&self, certificate_type: &CertificateType) -> usize {
-        (Lent(&self.count), LentIn(&self.entries)).tls_serialized_len_for(certificate_type)
+        (ByRef(&self.count), ByRefIn(&self.entries)).tls_serialized_len_for(certificate_type)
     }
 
     ghost lawful = { entries_meets_for };
@@ -43,7 +43,7 @@ impl SerializeFor<CertificateType> for Entries {
         certificate_type: &CertificateType,
         writer: &mut W,
     ) -> Result<usize, Error> {
-        (Lent(&self.count), LentIn(&self.entries)).tls_serialize_for(certificate_type, writer)
+        (ByRef(&self.count), ByRefIn(&self.entries)).tls_serialize_for(certificate_type, writer)
     }
 
     fn tls_serialize_into_for(
@@ -51,7 +51,7 @@ impl SerializeFor<CertificateType> for Entries {
         certificate_type: &CertificateType,
         out: &mut Vec<u8>,
     ) -> Result<usize, Error> {
-        (Lent(&self.count), LentIn(&self.entries)).tls_serialize_into_for(certificate_type, out)
+        (ByRef(&self.count), ByRefIn(&self.entries)).tls_serialize_into_for(certificate_type, out)
     }
 }
 

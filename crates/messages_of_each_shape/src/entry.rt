@@ -6,8 +6,8 @@ ghost use Rattle.messages_of_each_shape.specs.declared.entry.Entry.{Entry};
 use crate::{CertificateType, CertificateTypeData};
 use std::alloc::Global;
 use tls_codec::{
-    Always, DeserializeBytesFor, DeserializeFor, Error, Lent, LentIn, SerializeFor, Sink, SizeFor,
-    Source, VLBytes,
+    Always, ByRef, ByRefIn, DeserializeBytesFor, DeserializeFor, Error, SerializeFor, Sink,
+    SizeFor, Source, VLBytes,
 };
 use tls_codec_cases::{append_as_for, write_as_for};
 use tls_codec_validate::{Rejected, ValidateFor};
@@ -37,8 +37,8 @@ impl SizeFor<CertificateType> for Entry {
 
     fn tls_serialized_len_for(&self, certificate_type: &CertificateType) -> usize {
         (
-            (Lent(&self.first), LentIn(&self.body)),
-            (Lent(&self.second), Lent(&self.last)),
+            (ByRef(&self.first), ByRefIn(&self.body)),
+            (ByRef(&self.second), ByRef(&self.last)),
         )
             .tls_serialized_len_for(certificate_type)
     }
@@ -56,8 +56,8 @@ impl SerializeFor<CertificateType> for Entry {
         write_as_for(
             self,
             &(
-                (Lent(&self.first), LentIn(&self.body)),
-                (Lent(&self.second), Lent(&self.last)),
+                (ByRef(&self.first), ByRefIn(&self.body)),
+                (ByRef(&self.second), ByRef(&self.last)),
             ),
             certificate_type,
             writer,
@@ -72,8 +72,8 @@ impl SerializeFor<CertificateType> for Entry {
         append_as_for(
             self,
             &(
-                (Lent(&self.first), LentIn(&self.body)),
-                (Lent(&self.second), Lent(&self.last)),
+                (ByRef(&self.first), ByRefIn(&self.body)),
+                (ByRef(&self.second), ByRef(&self.last)),
             ),
             certificate_type,
             out,

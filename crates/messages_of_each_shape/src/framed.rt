@@ -6,7 +6,7 @@ ghost use Rattle.messages_of_each_shape.specs.declared.framed.Framed.{Framed};
 use crate::ContentTypeData;
 use std::alloc::Global;
 use tls_codec::{
-    Deserialize, DeserializeBytes, Error, Lent, Serialize, Sink, Size, Source, VLBytes,
+    ByRef, Deserialize, DeserializeBytes, Error, Serialize, Sink, Size, Source, VLBytes,
 };
 use tls_codec_cases::append_as;
 use tls_codec_validate::{Rejected, Validate};
@@ -32,9 +32,9 @@ impl Size for Framed {
 
     fn tls_serialized_len(&self) -> usize {
         (
-            Lent(&self.epoch),
-            Lent(&self.content_type),
-            Lent(&self.signature),
+            ByRef(&self.epoch),
+            ByRef(&self.content_type),
+            ByRef(&self.signature),
         )
             .tls_serialized_len()
     }
@@ -45,9 +45,9 @@ impl Size for Framed {
 impl Serialize for Framed {
     fn tls_serialize<W: Sink>(&self, writer: &mut W) -> Result<usize, Error> {
         (
-            Lent(&self.epoch),
-            Lent(&self.content_type),
-            Lent(&self.signature),
+            ByRef(&self.epoch),
+            ByRef(&self.content_type),
+            ByRef(&self.signature),
         )
             .tls_serialize(writer)
     }
@@ -56,9 +56,9 @@ impl Serialize for Framed {
         append_as(
             self,
             &(
-                Lent(&self.epoch),
-                Lent(&self.content_type),
-                Lent(&self.signature),
+                ByRef(&self.epoch),
+                ByRef(&self.content_type),
+                ByRef(&self.signature),
             ),
             out,
         )

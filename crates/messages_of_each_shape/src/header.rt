@@ -6,7 +6,7 @@ ghost use Rattle.messages_of_each_shape.specs.Header.{header_u16};
 
 use std::alloc::Global;
 use tls_codec::{
-    Deserialize, DeserializeBytes, Error, Lent, Serialize, Sink, Size, Source, VLBytes,
+    ByRef, Deserialize, DeserializeBytes, Error, Serialize, Sink, Size, Source, VLBytes,
 };
 use tls_codec_cases::{Holds, Selector, append_as};
 use tls_codec_validate::{HoldsKey, Keyed, Keyless, Rejected, Validate, ValidateKeyed};
@@ -31,7 +31,7 @@ impl Size for Header {
     ghost format = { header_format };
 
     fn tls_serialized_len(&self) -> usize {
-        (Lent(&self.version), Lent(&self.rest_)).tls_serialized_len()
+        (ByRef(&self.version), ByRef(&self.rest_)).tls_serialized_len()
     }
 
     ghost lawful = { header_meets };
@@ -39,11 +39,11 @@ impl Size for Header {
 
 impl Serialize for Header {
     fn tls_serialize<W: Sink>(&self, writer: &mut W) -> Result<usize, Error> {
-        (Lent(&self.version), Lent(&self.rest_)).tls_serialize(writer)
+        (ByRef(&self.version), ByRef(&self.rest_)).tls_serialize(writer)
     }
 
     fn tls_serialize_into(&self, out: &mut Vec<u8>) -> Result<usize, Error> {
-        append_as(self, &(Lent(&self.version), Lent(&self.rest_)), out)
+        append_as(self, &(ByRef(&self.version), ByRef(&self.rest_)), out)
     }
 }
 

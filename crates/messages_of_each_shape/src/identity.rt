@@ -10,7 +10,7 @@ ghost use Rattle.messages_of_each_shape.specs.declared.identity.IdentityView.{Id
 use crate::{Key, Level, NameType};
 use std::alloc::Global;
 use tls_codec::{
-    Deserialize, DeserializeBytes, Error, Lent2, Lent3, Serialize, Sink, Size, Source,
+    ByRef2, ByRef3, Deserialize, DeserializeBytes, Error, Serialize, Sink, Size, Source,
     unknown_value,
 };
 use tls_codec_validate::{Rejected, Validate, split_u16};
@@ -53,7 +53,7 @@ impl Size for Identity {
                 key,
                 since,
                 last,
-            } => (FULL, Lent3(name_type, level, key), Lent2(since, last)).tls_serialized_len(),
+            } => (FULL, ByRef3(name_type, level, key), ByRef2(since, last)).tls_serialized_len(),
             Identity::Anonymous => 2,
         }
     }
@@ -70,7 +70,7 @@ impl Serialize for Identity {
                 key,
                 since,
                 last,
-            } => (FULL, Lent3(name_type, level, key), Lent2(since, last)).tls_serialize(writer),
+            } => (FULL, ByRef3(name_type, level, key), ByRef2(since, last)).tls_serialize(writer),
             Identity::Anonymous => ANONYMOUS.tls_serialize(writer),
         }
     }
@@ -83,7 +83,7 @@ impl Serialize for Identity {
                 key,
                 since,
                 last,
-            } => (FULL, Lent3(name_type, level, key), Lent2(since, last)).tls_serialize_into(out),
+            } => (FULL, ByRef3(name_type, level, key), ByRef2(since, last)).tls_serialize_into(out),
             Identity::Anonymous => ANONYMOUS.tls_serialize_into(out),
         }
     }

@@ -6,8 +6,8 @@ ghost use Rattle.messages_of_each_shape.specs.declared.kind_body.KindBody.{KindB
 use crate::{BodyKind, BodyKindData};
 use std::alloc::Global;
 use tls_codec::{
-    Always, DeserializeBytesFor, DeserializeFor, Error, Lent, LentIn, SerializeFor, Sink, SizeFor,
-    Source,
+    Always, ByRef, ByRefIn, DeserializeBytesFor, DeserializeFor, Error, SerializeFor, Sink,
+    SizeFor, Source,
 };
 use tls_codec_validate::{Rejected, ValidateFor};
 
@@ -28,7 +28,7 @@ impl SizeFor<BodyKind> for KindBody {
     ghost format_for = { kind_body_format_for };
 
     fn tls_serialized_len_for(&self, body_kind: &BodyKind) -> usize {
-        (Lent(&self.first), LentIn(&self.body)).tls_serialized_len_for(body_kind)
+        (ByRef(&self.first), ByRefIn(&self.body)).tls_serialized_len_for(body_kind)
     }
 
     ghost lawful = { kind_body_meets_for };
@@ -41,7 +41,7 @@ impl SerializeFor<BodyKind> for KindBody {
         body_kind: &BodyKind,
         writer: &mut W,
     ) -> Result<usize, Error> {
-        (Lent(&self.first), LentIn(&self.body)).tls_serialize_for(body_kind, writer)
+        (ByRef(&self.first), ByRefIn(&self.body)).tls_serialize_for(body_kind, writer)
     }
 
     fn tls_serialize_into_for(
@@ -49,7 +49,7 @@ impl SerializeFor<BodyKind> for KindBody {
         body_kind: &BodyKind,
         out: &mut Vec<u8>,
     ) -> Result<usize, Error> {
-        (Lent(&self.first), LentIn(&self.body)).tls_serialize_into_for(body_kind, out)
+        (ByRef(&self.first), ByRefIn(&self.body)).tls_serialize_into_for(body_kind, out)
     }
 }
 

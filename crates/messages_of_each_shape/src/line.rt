@@ -6,7 +6,7 @@ ghost use Rattle.messages_of_each_shape.specs.declared.line.Line.{Line};
 use crate::Pixel;
 use std::alloc::Global;
 use tls_codec::{
-    Deserialize, DeserializeBytes, Error, Lent, Serialize, Sink, Size, Source, TlsVec,
+    ByRef, Deserialize, DeserializeBytes, Error, Serialize, Sink, Size, Source, TlsVec,
 };
 use tls_codec_cases::{Exactly, append_as};
 use tls_codec_validate::{Rejected, Validate};
@@ -31,7 +31,7 @@ impl Size for Line {
     ghost format = { line_format };
 
     fn tls_serialized_len(&self) -> usize {
-        (Lent(&self.before), Lent(&self.pixels), Lent(&self.after)).tls_serialized_len()
+        (ByRef(&self.before), ByRef(&self.pixels), ByRef(&self.after)).tls_serialized_len()
     }
 
     ghost lawful = { line_meets };
@@ -39,13 +39,13 @@ impl Size for Line {
 
 impl Serialize for Line {
     fn tls_serialize<W: Sink>(&self, writer: &mut W) -> Result<usize, Error> {
-        (Lent(&self.before), Lent(&self.pixels), Lent(&self.after)).tls_serialize(writer)
+        (ByRef(&self.before), ByRef(&self.pixels), ByRef(&self.after)).tls_serialize(writer)
     }
 
     fn tls_serialize_into(&self, out: &mut Vec<u8>) -> Result<usize, Error> {
         append_as(
             self,
-            &(Lent(&self.before), Lent(&self.pixels), Lent(&self.after)),
+            &(ByRef(&self.before), ByRef(&self.pixels), ByRef(&self.after)),
             out,
         )
     }

@@ -6,7 +6,7 @@ ghost use Rattle.messages_of_each_shape.specs.declared.lists.Lists.{Lists};
 use crate::{ExtensionType, Identity, Key, Level, NameType, Row};
 use std::alloc::Global;
 use tls_codec::{
-    Deserialize, DeserializeBytes, Error, Lent2, Lent3, Serialize, Sink, Size, Source, TlsVecU8,
+    ByRef2, ByRef3, Deserialize, DeserializeBytes, Error, Serialize, Sink, Size, Source, TlsVecU8,
     TlsVecU16, TlsVecU24, TlsVecU32,
 };
 use tls_codec_cases::append_as;
@@ -49,9 +49,9 @@ impl Size for Lists {
 
     fn tls_serialized_len(&self) -> usize {
         (
-            Lent3(&self.octets, &self.levels, &self.keys),
-            Lent3(&self.identities, &self.rows, &self.kind),
-            Lent2(&self.names, &self.row),
+            ByRef3(&self.octets, &self.levels, &self.keys),
+            ByRef3(&self.identities, &self.rows, &self.kind),
+            ByRef2(&self.names, &self.row),
         )
             .tls_serialized_len()
     }
@@ -62,9 +62,9 @@ impl Size for Lists {
 impl Serialize for Lists {
     fn tls_serialize<W: Sink>(&self, writer: &mut W) -> Result<usize, Error> {
         (
-            Lent3(&self.octets, &self.levels, &self.keys),
-            Lent3(&self.identities, &self.rows, &self.kind),
-            Lent2(&self.names, &self.row),
+            ByRef3(&self.octets, &self.levels, &self.keys),
+            ByRef3(&self.identities, &self.rows, &self.kind),
+            ByRef2(&self.names, &self.row),
         )
             .tls_serialize(writer)
     }
@@ -73,9 +73,9 @@ impl Serialize for Lists {
         append_as(
             self,
             &(
-                Lent3(&self.octets, &self.levels, &self.keys),
-                Lent3(&self.identities, &self.rows, &self.kind),
-                Lent2(&self.names, &self.row),
+                ByRef3(&self.octets, &self.levels, &self.keys),
+                ByRef3(&self.identities, &self.rows, &self.kind),
+                ByRef2(&self.names, &self.row),
             ),
             out,
         )

@@ -6,7 +6,7 @@ ghost use Rattle.messages_of_each_shape.specs.declared.name_type_data.NameTypeDa
 use crate::{Key, NameType};
 use std::alloc::Global;
 use tls_codec::{
-    DeserializeBytesFor, DeserializeFor, Error, Lent, SerializeFor, Sink, SizeFor, Source,
+    ByRef, DeserializeBytesFor, DeserializeFor, Error, SerializeFor, Sink, SizeFor, Source,
 };
 use tls_codec_cases::{Case, Chosen, Or, append_as_for, write_as_for};
 use tls_codec_validate::{Rejected, ValidateFor};
@@ -22,16 +22,16 @@ pub enum NameTypeData {
 
 type Cases = Chosen<Or<Case<0, u8>, Case<7, Key>>>;
 
-type LentCases<'a> = Chosen<Or<Case<0, Lent<'a, u8>>, Case<7, Lent<'a, Key>>>>;
+type ByRefCases<'a> = Chosen<Or<Case<0, ByRef<'a, u8>>, Case<7, ByRef<'a, Key>>>>;
 
 impl NameTypeData {
-    fn cases(&self) -> LentCases<'_>
-        ensures { ⟦<LentCases<'static> as SizeFor<NameType>>⟧.plain result
+    fn cases(&self) -> ByRefCases<'_>
+        ensures { ⟦<ByRefCases<'static> as SizeFor<NameType>>⟧.plain result
             ≡ name_type_data_plain self.now }
     {
         let cases = match self {
-            NameTypeData::HostName(host) => Or::First(Case(Lent(host))),
-            NameTypeData::Case7(other) => Or::Second(Case(Lent(other))),
+            NameTypeData::HostName(host) => Or::First(Case(ByRef(host))),
+            NameTypeData::Case7(other) => Or::Second(Case(ByRef(other))),
         };
         Chosen(cases)
     }

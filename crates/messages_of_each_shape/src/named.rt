@@ -6,7 +6,7 @@ ghost use Rattle.messages_of_each_shape.specs.Named.{named_name_type};
 
 use crate::NameType;
 use std::alloc::Global;
-use tls_codec::{Deserialize, DeserializeBytes, Error, Lent, Serialize, Sink, Size, Source};
+use tls_codec::{ByRef, Deserialize, DeserializeBytes, Error, Serialize, Sink, Size, Source};
 use tls_codec_cases::{Holds, Selector, append_as};
 use tls_codec_validate::{HoldsKey, Keyed, Keyless, Rejected, Validate, ValidateKeyed};
 use tls_codec_views::{Encoded, Parted};
@@ -28,7 +28,7 @@ impl Size for Named {
     ghost format = { named_format };
 
     fn tls_serialized_len(&self) -> usize {
-        (Lent(&self.before), Lent(&self.name_type)).tls_serialized_len()
+        (ByRef(&self.before), ByRef(&self.name_type)).tls_serialized_len()
     }
 
     ghost lawful = { named_meets };
@@ -36,11 +36,11 @@ impl Size for Named {
 
 impl Serialize for Named {
     fn tls_serialize<W: Sink>(&self, writer: &mut W) -> Result<usize, Error> {
-        (Lent(&self.before), Lent(&self.name_type)).tls_serialize(writer)
+        (ByRef(&self.before), ByRef(&self.name_type)).tls_serialize(writer)
     }
 
     fn tls_serialize_into(&self, out: &mut Vec<u8>) -> Result<usize, Error> {
-        append_as(self, &(Lent(&self.before), Lent(&self.name_type)), out)
+        append_as(self, &(ByRef(&self.before), ByRef(&self.name_type)), out)
     }
 }
 

@@ -4,7 +4,7 @@ ghost use Rattle.messages_of_each_shape.specs.NodeTBS.{node_tbs_format, node_tbs
 ghost use Rattle.messages_of_each_shape.specs.declared.node_tbs.NodeTBS.{NodeTBS};
 
 use crate::{Key, NodeTBSOrigin};
-use tls_codec::{Error, Lent, Serialize, Sink, Size};
+use tls_codec::{ByRef, Error, Serialize, Sink, Size};
 use tls_codec_cases::append_as;
 
 /// `NodeTBS`.
@@ -26,7 +26,7 @@ impl Size for NodeTBS<'_> {
     ghost format = { node_tbs_format };
 
     fn tls_serialized_len(&self) -> usize {
-        (Lent(self.key), self.node_source, Lent(self.last)).tls_serialized_len()
+        (ByRef(self.key), self.node_source, ByRef(self.last)).tls_serialized_len()
     }
 
     ghost lawful = { node_tbs_meets };
@@ -34,13 +34,13 @@ impl Size for NodeTBS<'_> {
 
 impl Serialize for NodeTBS<'_> {
     fn tls_serialize<W: Sink>(&self, writer: &mut W) -> Result<usize, Error> {
-        (Lent(self.key), self.node_source, Lent(self.last)).tls_serialize(writer)
+        (ByRef(self.key), self.node_source, ByRef(self.last)).tls_serialize(writer)
     }
 
     fn tls_serialize_into(&self, out: &mut Vec<u8>) -> Result<usize, Error> {
         append_as(
             self,
-            &(Lent(self.key), self.node_source, Lent(self.last)),
+            &(ByRef(self.key), self.node_source, ByRef(self.last)),
             out,
         )
     }

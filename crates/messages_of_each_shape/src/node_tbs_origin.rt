@@ -4,7 +4,7 @@ ghost use Rattle.messages_of_each_shape.specs.NodeTBSOrigin.{node_tbs_origin_for
 ghost use Rattle.messages_of_each_shape.specs.declared.node_tbs_origin.NodeTBSOrigin.{NodeTBSOrigin};
 
 use crate::Key;
-use tls_codec::{Error, Lent, Serialize, Sink, Size, VLBytes};
+use tls_codec::{ByRef, Error, Serialize, Sink, Size, VLBytes};
 
 const UPDATE: u8 = 2;
 
@@ -40,12 +40,12 @@ impl Size for NodeTBSOrigin<'_> {
             NodeTBSOrigin::Update => 1,
             NodeTBSOrigin::Commit { parent_hash, level } => (
                 COMMIT,
-                Lent(parent_hash),
-                Lent(level),
+                ByRef(parent_hash),
+                ByRef(level),
             ).tls_serialized_len(),
             NodeTBSOrigin::External(signature_key) => (
                 EXTERNAL,
-                Lent(signature_key),
+                ByRef(signature_key),
             ).tls_serialized_len(),
         }
     }
@@ -59,12 +59,13 @@ impl Serialize for NodeTBSOrigin<'_> {
             NodeTBSOrigin::Update => UPDATE.tls_serialize(writer),
             NodeTBSOrigin::Commit { parent_hash, level } => (
                 COMMIT,
-                Lent(parent_hash),
-                Lent(level),
+                ByRef(parent_hash),
+                ByRef(level),
             ).tls_serialize(writer),
-            NodeTBSOrigin::External(signature_key) => (EXTERNAL, Lent(signature_key)).tls_serialize(
-                writer,
-            ),
+            NodeTBSOrigin::External(signature_key) => (
+                EXTERNAL,
+                ByRef(signature_key),
+            ).tls_serialize(writer),
         }
     }
 
@@ -73,12 +74,12 @@ impl Serialize for NodeTBSOrigin<'_> {
             NodeTBSOrigin::Update => UPDATE.tls_serialize_into(out),
             NodeTBSOrigin::Commit { parent_hash, level } => (
                 COMMIT,
-                Lent(parent_hash),
-                Lent(level),
+                ByRef(parent_hash),
+                ByRef(level),
             ).tls_serialize_into(out),
             NodeTBSOrigin::External(signature_key) => (
                 EXTERNAL,
-                Lent(signature_key),
+                ByRef(signature_key),
             ).tls_serialize_into(out),
         }
     }

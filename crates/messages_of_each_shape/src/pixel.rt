@@ -4,7 +4,7 @@ ghost use Rattle.messages_of_each_shape.specs.Pixel.{pixel_format, pixel_meets, 
 ghost use Rattle.messages_of_each_shape.specs.declared.pixel.Pixel.{Pixel};
 
 use std::alloc::Global;
-use tls_codec::{Deserialize, DeserializeBytes, Error, Lent, Serialize, Sink, Size, Source};
+use tls_codec::{ByRef, Deserialize, DeserializeBytes, Error, Serialize, Sink, Size, Source};
 use tls_codec_cases::append_as;
 use tls_codec_validate::{Rejected, Validate};
 use tls_codec_views::{Encoded, Parted};
@@ -26,7 +26,7 @@ impl Size for Pixel {
     ghost format = { pixel_format };
 
     fn tls_serialized_len(&self) -> usize {
-        (Lent(&self.x), Lent(&self.y)).tls_serialized_len()
+        (ByRef(&self.x), ByRef(&self.y)).tls_serialized_len()
     }
 
     ghost lawful = { pixel_meets };
@@ -34,11 +34,11 @@ impl Size for Pixel {
 
 impl Serialize for Pixel {
     fn tls_serialize<W: Sink>(&self, writer: &mut W) -> Result<usize, Error> {
-        (Lent(&self.x), Lent(&self.y)).tls_serialize(writer)
+        (ByRef(&self.x), ByRef(&self.y)).tls_serialize(writer)
     }
 
     fn tls_serialize_into(&self, out: &mut Vec<u8>) -> Result<usize, Error> {
-        append_as(self, &(Lent(&self.x), Lent(&self.y)), out)
+        append_as(self, &(ByRef(&self.x), ByRef(&self.y)), out)
     }
 }
 

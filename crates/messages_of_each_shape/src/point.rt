@@ -6,7 +6,7 @@ ghost use Rattle.messages_of_each_shape.specs.declared.point.Point.{Point};
 use crate::FormX04;
 use std::alloc::Global;
 use tls_codec::{
-    Deserialize, DeserializeBytes, Error, Lent, Serialize, Sink, Size, Source, VLBytes,
+    ByRef, Deserialize, DeserializeBytes, Error, Serialize, Sink, Size, Source, VLBytes,
 };
 use tls_codec_cases::append_as;
 use tls_codec_validate::{Rejected, Validate};
@@ -31,7 +31,7 @@ impl Size for Point {
     ghost format = { point_format };
 
     fn tls_serialized_len(&self) -> usize {
-        (Lent(&self.form), Lent(&self.x), Lent(&self.y)).tls_serialized_len()
+        (ByRef(&self.form), ByRef(&self.x), ByRef(&self.y)).tls_serialized_len()
     }
 
     ghost lawful = { point_meets };
@@ -39,11 +39,15 @@ impl Size for Point {
 
 impl Serialize for Point {
     fn tls_serialize<W: Sink>(&self, writer: &mut W) -> Result<usize, Error> {
-        (Lent(&self.form), Lent(&self.x), Lent(&self.y)).tls_serialize(writer)
+        (ByRef(&self.form), ByRef(&self.x), ByRef(&self.y)).tls_serialize(writer)
     }
 
     fn tls_serialize_into(&self, out: &mut Vec<u8>) -> Result<usize, Error> {
-        append_as(self, &(Lent(&self.form), Lent(&self.x), Lent(&self.y)), out)
+        append_as(
+            self,
+            &(ByRef(&self.form), ByRef(&self.x), ByRef(&self.y)),
+            out,
+        )
     }
 }
 

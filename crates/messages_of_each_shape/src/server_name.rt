@@ -5,7 +5,7 @@ ghost use Rattle.messages_of_each_shape.specs.declared.server_name.ServerName.{S
 
 use crate::{HostName, NameTypeHostName};
 use std::alloc::Global;
-use tls_codec::{Deserialize, DeserializeBytes, Error, Lent, Serialize, Sink, Size, Source};
+use tls_codec::{ByRef, Deserialize, DeserializeBytes, Error, Serialize, Sink, Size, Source};
 use tls_codec_cases::append_as;
 use tls_codec_validate::{Rejected, Validate};
 use tls_codec_views::{Encoded, Parted};
@@ -27,7 +27,7 @@ impl Size for ServerName {
     ghost format = { server_name_format };
 
     fn tls_serialized_len(&self) -> usize {
-        (Lent(&self.name_type), Lent(&self.name)).tls_serialized_len()
+        (ByRef(&self.name_type), ByRef(&self.name)).tls_serialized_len()
     }
 
     ghost lawful = { server_name_meets };
@@ -35,11 +35,11 @@ impl Size for ServerName {
 
 impl Serialize for ServerName {
     fn tls_serialize<W: Sink>(&self, writer: &mut W) -> Result<usize, Error> {
-        (Lent(&self.name_type), Lent(&self.name)).tls_serialize(writer)
+        (ByRef(&self.name_type), ByRef(&self.name)).tls_serialize(writer)
     }
 
     fn tls_serialize_into(&self, out: &mut Vec<u8>) -> Result<usize, Error> {
-        append_as(self, &(Lent(&self.name_type), Lent(&self.name)), out)
+        append_as(self, &(ByRef(&self.name_type), ByRef(&self.name)), out)
     }
 }
 

@@ -6,7 +6,7 @@ ghost use Rattle.messages_of_each_shape.specs.declared.session_ticket.SessionTic
 use crate::{ASN1Cert, EmptyType, MagicX0102, VersionXfefd};
 use std::alloc::Global;
 use tls_codec::{
-    Deserialize, DeserializeBytes, Error, Lent2, Lent3, Serialize, Sink, Size, Source,
+    ByRef2, ByRef3, Deserialize, DeserializeBytes, Error, Serialize, Sink, Size, Source,
 };
 use tls_codec_cases::append_as;
 use tls_codec_validate::{Rejected, Validate};
@@ -36,8 +36,8 @@ impl Size for SessionTicket {
 
     fn tls_serialized_len(&self) -> usize {
         (
-            Lent3(&self.a_1, &self.kind, &self.version),
-            Lent2(&self.magic, &self.wide),
+            ByRef3(&self.a_1, &self.kind, &self.version),
+            ByRef2(&self.magic, &self.wide),
         )
             .tls_serialized_len()
     }
@@ -48,8 +48,8 @@ impl Size for SessionTicket {
 impl Serialize for SessionTicket {
     fn tls_serialize<W: Sink>(&self, writer: &mut W) -> Result<usize, Error> {
         (
-            Lent3(&self.a_1, &self.kind, &self.version),
-            Lent2(&self.magic, &self.wide),
+            ByRef3(&self.a_1, &self.kind, &self.version),
+            ByRef2(&self.magic, &self.wide),
         )
             .tls_serialize(writer)
     }
@@ -58,8 +58,8 @@ impl Serialize for SessionTicket {
         append_as(
             self,
             &(
-                Lent3(&self.a_1, &self.kind, &self.version),
-                Lent2(&self.magic, &self.wide),
+                ByRef3(&self.a_1, &self.kind, &self.version),
+                ByRef2(&self.magic, &self.wide),
             ),
             out,
         )

@@ -5,7 +5,7 @@ ghost use Rattle.messages_of_each_shape.specs.declared.sized_type.SizedType.{Siz
 
 use crate::VersionData;
 use std::alloc::Global;
-use tls_codec::{Deserialize, DeserializeBytes, Error, Lent, Serialize, Sink, Size, Source};
+use tls_codec::{ByRef, Deserialize, DeserializeBytes, Error, Serialize, Sink, Size, Source};
 use tls_codec_cases::append_as;
 use tls_codec_validate::{Rejected, Validate};
 use tls_codec_views::{Encoded, Parted};
@@ -29,7 +29,12 @@ impl Size for SizedType {
     ghost format = { sized_type_format };
 
     fn tls_serialized_len(&self) -> usize {
-        (Lent(&self.before), Lent(&self.contents), Lent(&self.after)).tls_serialized_len()
+        (
+            ByRef(&self.before),
+            ByRef(&self.contents),
+            ByRef(&self.after),
+        )
+            .tls_serialized_len()
     }
 
     ghost lawful = { sized_type_meets };
@@ -37,13 +42,22 @@ impl Size for SizedType {
 
 impl Serialize for SizedType {
     fn tls_serialize<W: Sink>(&self, writer: &mut W) -> Result<usize, Error> {
-        (Lent(&self.before), Lent(&self.contents), Lent(&self.after)).tls_serialize(writer)
+        (
+            ByRef(&self.before),
+            ByRef(&self.contents),
+            ByRef(&self.after),
+        )
+            .tls_serialize(writer)
     }
 
     fn tls_serialize_into(&self, out: &mut Vec<u8>) -> Result<usize, Error> {
         append_as(
             self,
-            &(Lent(&self.before), Lent(&self.contents), Lent(&self.after)),
+            &(
+                ByRef(&self.before),
+                ByRef(&self.contents),
+                ByRef(&self.after),
+            ),
             out,
         )
     }

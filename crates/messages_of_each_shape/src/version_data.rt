@@ -9,7 +9,7 @@ use crate::Key;
 use std::alloc::Global;
 use std::marker::PhantomData;
 use tls_codec::{
-    Deserialize, DeserializeBytes, Error, Lent, Serialize, Sink, Size, Source, VLBytes,
+    ByRef, Deserialize, DeserializeBytes, Error, Serialize, Sink, Size, Source, VLBytes,
 };
 use tls_codec_cases::{Case, Enclosed, Or, Tagged, append_as, write_as};
 use tls_codec_validate::{Rejected, Validate};
@@ -39,25 +39,25 @@ type Cases = Tagged<
     >,
 >;
 
-type LentCases<'a> = Tagged<
+type ByRefCases<'a> = Tagged<
     u16,
     Or<
-        Or<Case<7, Enclosed<u16, (Lent<'a, u8>, Lent<'a, VLBytes>)>>, Case<9, Enclosed<u16, ()>>>,
-        Case<11, Enclosed<u16, Lent<'a, Key>>>,
+        Or<Case<7, Enclosed<u16, (ByRef<'a, u8>, ByRef<'a, VLBytes>)>>, Case<9, Enclosed<u16, ()>>>,
+        Case<11, Enclosed<u16, ByRef<'a, Key>>>,
     >,
 >;
 
 impl VersionData {
-    fn cases(&self) -> LentCases<'_>
-        ensures { ⟦<LentCases<'static> as Size>⟧.plain result ≡ version_data_plain self.now }
+    fn cases(&self) -> ByRefCases<'_>
+        ensures { ⟦<ByRefCases<'static> as Size>⟧.plain result ≡ version_data_plain self.now }
     {
         let cases = match self {
             VersionData::Case7 { short, long } => Or::First(Or::First(Case(Enclosed(
-                (Lent(short), Lent(long)),
+                (ByRef(short), ByRef(long)),
                 PhantomData,
             )))),
             VersionData::Case9 => Or::First(Or::Second(Case(Enclosed((), PhantomData)))),
-            VersionData::Case11(key) => Or::Second(Case(Enclosed(Lent(key), PhantomData))),
+            VersionData::Case11(key) => Or::Second(Case(Enclosed(ByRef(key), PhantomData))),
         };
         Tagged(cases, PhantomData)
     }

@@ -7,7 +7,7 @@ use crate::{ByVersion, Header};
 use std::alloc::Global;
 use std::marker::PhantomData;
 use tls_codec::{
-    Deserialize, DeserializeBytes, Error, LentIn, LentThen, Serialize, Sink, Size, Source, Then,
+    ByRefIn, ByRefThen, Deserialize, DeserializeBytes, Error, Serialize, Sink, Size, Source, Then,
 };
 use tls_codec_cases::{By, append_as, write_as};
 use tls_codec_validate::{Rejected, Validate};
@@ -23,15 +23,15 @@ pub struct Versioned {
 
 type Parts = Then<Header, By<u16, ByVersion>>;
 
-type LentParts<'a> = LentThen<'a, Header, By<u16, LentIn<'a, ByVersion>>>;
+type ByRefParts<'a> = ByRefThen<'a, Header, By<u16, ByRefIn<'a, ByVersion>>>;
 
 impl Versioned {
-    fn parts(&self) -> LentParts<'_>
-        ensures { ⟦<LentParts<'static> as Size>⟧.plain result ≡ versioned_plain self.now }
+    fn parts(&self) -> ByRefParts<'_>
+        ensures { ⟦<ByRefParts<'static> as Size>⟧.plain result ≡ versioned_plain self.now }
     {
         let first = &self.header;
-        let rest = By(LentIn(&self.parts_), PhantomData);
-        LentThen { first, rest }
+        let rest = By(ByRefIn(&self.parts_), PhantomData);
+        ByRefThen { first, rest }
     }
 }
 

@@ -6,7 +6,7 @@ ghost use Rattle.messages_of_each_shape.specs.declared.wide.Wide.{Wide};
 use crate::Key;
 use std::alloc::Global;
 use tls_codec::{
-    Deserialize, DeserializeBytes, Error, Lent4, Serialize, Sink, Size, Source, TlsByteVecU8,
+    ByRef4, Deserialize, DeserializeBytes, Error, Serialize, Sink, Size, Source, TlsByteVecU8,
     TlsByteVecU16, TlsByteVecU24, TlsByteVecU32, TlsVecU16, U24,
 };
 use tls_codec_cases::append_as;
@@ -57,9 +57,9 @@ impl Size for Wide {
 
     fn tls_serialized_len(&self) -> usize {
         (
-            Lent4(&self.a, &self.b, &self.c, &self.d),
-            Lent4(&self.e, &self.f, &self.g, &self.h),
-            Lent4(&self.i, &self.j, &self.k, &self.l),
+            ByRef4(&self.a, &self.b, &self.c, &self.d),
+            ByRef4(&self.e, &self.f, &self.g, &self.h),
+            ByRef4(&self.i, &self.j, &self.k, &self.l),
         )
             .tls_serialized_len()
     }
@@ -70,9 +70,9 @@ impl Size for Wide {
 impl Serialize for Wide {
     fn tls_serialize<W: Sink>(&self, writer: &mut W) -> Result<usize, Error> {
         (
-            Lent4(&self.a, &self.b, &self.c, &self.d),
-            Lent4(&self.e, &self.f, &self.g, &self.h),
-            Lent4(&self.i, &self.j, &self.k, &self.l),
+            ByRef4(&self.a, &self.b, &self.c, &self.d),
+            ByRef4(&self.e, &self.f, &self.g, &self.h),
+            ByRef4(&self.i, &self.j, &self.k, &self.l),
         )
             .tls_serialize(writer)
     }
@@ -81,9 +81,9 @@ impl Serialize for Wide {
         append_as(
             self,
             &(
-                Lent4(&self.a, &self.b, &self.c, &self.d),
-                Lent4(&self.e, &self.f, &self.g, &self.h),
-                Lent4(&self.i, &self.j, &self.k, &self.l),
+                ByRef4(&self.a, &self.b, &self.c, &self.d),
+                ByRef4(&self.e, &self.f, &self.g, &self.h),
+                ByRef4(&self.i, &self.j, &self.k, &self.l),
             ),
             out,
         )

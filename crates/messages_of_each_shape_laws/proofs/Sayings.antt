@@ -9,7 +9,7 @@ use Rattle.tls_presentation.specs.Says.{value_number}
 use Rattle.std.specs.Prelude.{◌↔◌}
 use Rattle.tls_presentation.specs.Says.{called}
 use Rattle.tls_presentation.proofs.Flat.{same_iff}
-use Rattle.tls_presentation.proofs.Saying.{struct_saying, lent_saying, number_saying, case_saying, choice_saying}
+use Rattle.tls_presentation.proofs.Saying.{struct_saying, borrowed_saying, number_saying, case_saying, choice_saying}
 use Rattle.messages_of_each_shape.specs.Bearer.{bearer_format, bearer_plain}
 use Rattle.messages_of_each_shape.specs.Beat.{beat_format, beat_plain}
 use Rattle.messages_of_each_shape.specs.BodyKind.{body_kind_code, body_kind_format, body_kind_name, body_kind_plain}
@@ -285,7 +285,7 @@ named_saying v d b = struct_saying messages_of_each_shape "Named" Empty (called 
     []) d b
 
 pub node_tbs_saying : (v : NodeTBS) (d : Direction) (b : List ℕ) → node_tbs_format.spells d b (node_tbs_plain v) ↔ NodeTBSSays v d b
-node_tbs_saying v d b = lent_saying messages_of_each_shape "NodeTBS" Empty (called "key" (number_trees (bytes_of v.key.now)) ∷
+node_tbs_saying v d b = borrowed_saying messages_of_each_shape "NodeTBS" Empty (called "key" (number_trees (bytes_of v.key.now)) ∷
     called "node_source" (node_tbs_origin_plain v.node_source) ∷
     called "last" (option_plain (λ v. number_trees (bytes_of v)) v.last.now) ∷
     []) d b

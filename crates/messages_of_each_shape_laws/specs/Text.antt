@@ -55,9 +55,9 @@ text = lines (
     "// Bounds on bytes and on a list of numbers." ∷
     "struct { opaque session<0..32>; uint16 suites<2..2^16-2>; } Bounded;" ∷
     "" ∷
-    "// A lent struct with an option, and with an enum of which a case has no fields, and another one." ∷
+    "// A borrowed struct with an option, and with an enum of which a case has no fields, and another one." ∷
     "enum { reserved(0), update(2), commit(3), external(4), (255) } NodeSource;" ∷
-    "lent struct {" ∷
+    "borrowed struct {" ∷
     "    Key key;" ∷
     "    NodeSource node_source;" ∷
     "    select (NodeTBS.node_source) {" ∷

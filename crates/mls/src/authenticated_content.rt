@@ -7,7 +7,7 @@ use crate::{ContentType, FramedContent, FramedContentAuthData, WireFormat};
 use std::alloc::Global;
 use std::marker::PhantomData;
 use tls_codec::{
-    Deserialize, DeserializeBytes, Error, Lent, LentIn, LentThen, Serialize, Sink, Size, Source,
+    ByRef, ByRefIn, ByRefThen, Deserialize, DeserializeBytes, Error, Serialize, Sink, Size, Source,
     Then,
 };
 use tls_codec_cases::{By, append_as, write_as};
@@ -29,19 +29,19 @@ type Parts = (
     Then<FramedContent, By<ContentType, FramedContentAuthData>>,
 );
 
-type LentParts<'a> = (
-    Lent<'a, WireFormat>,
-    LentThen<'a, FramedContent, By<ContentType, LentIn<'a, FramedContentAuthData>>>,
+type ByRefParts<'a> = (
+    ByRef<'a, WireFormat>,
+    ByRefThen<'a, FramedContent, By<ContentType, ByRefIn<'a, FramedContentAuthData>>>,
 );
 
 impl AuthenticatedContent {
-    fn parts(&self) -> LentParts<'_>
-        ensures { ⟦<LentParts<'static> as Size>⟧.plain result
+    fn parts(&self) -> ByRefParts<'_>
+        ensures { ⟦<ByRefParts<'static> as Size>⟧.plain result
             ≡ authenticated_content_plain self.now }
     {
         let first = &self.content;
-        let rest = By(LentIn(&self.auth), PhantomData);
-        (Lent(&self.wire_format), LentThen { first, rest })
+        let rest = By(ByRefIn(&self.auth), PhantomData);
+        (ByRef(&self.wire_format), ByRefThen { first, rest })
     }
 }
 

@@ -5,7 +5,7 @@ ghost use Rattle.mls.specs.declared.authenticated_content_tbm.AuthenticatedConte
 
 use crate::{ContentType, FramedContentAuthData, FramedContentTBS};
 use std::marker::PhantomData;
-use tls_codec::{Error, LentIn, LentThen, Serialize, Sink, Size};
+use tls_codec::{ByRefIn, ByRefThen, Error, Serialize, Sink, Size};
 use tls_codec_cases::{By, append_as, write_as};
 
 /// `AuthenticatedContentTBM` (RFC 9420, section 6.2).
@@ -19,20 +19,20 @@ pub struct AuthenticatedContentTBM<'a> {
     pub auth: &'a FramedContentAuthData,
 }
 
-type LentParts<'a> = LentThen<
+type ByRefParts<'a> = ByRefThen<
     'a,
     FramedContentTBS<'a>,
-    By<ContentType, LentIn<'a, FramedContentAuthData>>,
+    By<ContentType, ByRefIn<'a, FramedContentAuthData>>,
 >;
 
 impl AuthenticatedContentTBM<'_> {
-    fn parts(&self) -> LentParts<'_>
-        ensures { ⟦<LentParts<'static> as Size>⟧.plain result
+    fn parts(&self) -> ByRefParts<'_>
+        ensures { ⟦<ByRefParts<'static> as Size>⟧.plain result
             ≡ authenticated_content_tbm_plain self.now }
     {
         let first = &self.content_tbs;
-        let rest = By(LentIn(self.auth), PhantomData);
-        LentThen { first, rest }
+        let rest = By(ByRefIn(self.auth), PhantomData);
+        ByRefThen { first, rest }
     }
 }
 

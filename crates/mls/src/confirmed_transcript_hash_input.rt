@@ -4,7 +4,7 @@ ghost use Rattle.mls.specs.ConfirmedTranscriptHashInput.{confirmed_transcript_ha
 ghost use Rattle.mls.specs.declared.confirmed_transcript_hash_input.ConfirmedTranscriptHashInput.{ConfirmedTranscriptHashInput};
 
 use crate::{FramedContent, WireFormat};
-use tls_codec::{Error, Lent, Serialize, Sink, Size, VLBytes};
+use tls_codec::{ByRef, Error, Serialize, Sink, Size, VLBytes};
 use tls_codec_cases::append_as;
 
 /// `ConfirmedTranscriptHashInput` (RFC 9420, section 8.2).
@@ -27,9 +27,9 @@ impl Size for ConfirmedTranscriptHashInput<'_> {
 
     fn tls_serialized_len(&self) -> usize {
         (
-            Lent(self.wire_format),
-            Lent(self.content),
-            Lent(self.signature),
+            ByRef(self.wire_format),
+            ByRef(self.content),
+            ByRef(self.signature),
         )
             .tls_serialized_len()
     }
@@ -40,9 +40,9 @@ impl Size for ConfirmedTranscriptHashInput<'_> {
 impl Serialize for ConfirmedTranscriptHashInput<'_> {
     fn tls_serialize<W: Sink>(&self, writer: &mut W) -> Result<usize, Error> {
         (
-            Lent(self.wire_format),
-            Lent(self.content),
-            Lent(self.signature),
+            ByRef(self.wire_format),
+            ByRef(self.content),
+            ByRef(self.signature),
         )
             .tls_serialize(writer)
     }
@@ -51,9 +51,9 @@ impl Serialize for ConfirmedTranscriptHashInput<'_> {
         append_as(
             self,
             &(
-                Lent(self.wire_format),
-                Lent(self.content),
-                Lent(self.signature),
+                ByRef(self.wire_format),
+                ByRef(self.content),
+                ByRef(self.signature),
             ),
             out,
         )

@@ -15,7 +15,7 @@ use crate::ContentType;
 use mls_proposals::{Commit, Proposal};
 use std::alloc::Global;
 use tls_codec::{
-    Deserialize, DeserializeBytes, Error, Lent, Serialize, Sink, Size, Source, VLBytes,
+    ByRef, Deserialize, DeserializeBytes, Error, Serialize, Sink, Size, Source, VLBytes,
     unknown_value,
 };
 use tls_codec_cases::{Holds, Selector};
@@ -51,10 +51,10 @@ impl Size for ContentTypeData {
         match self {
             ContentTypeData::Application(application_data) => (
                 APPLICATION,
-                Lent(application_data),
+                ByRef(application_data),
             ).tls_serialized_len(),
-            ContentTypeData::Proposal(proposal) => (PROPOSAL, Lent(proposal)).tls_serialized_len(),
-            ContentTypeData::Commit(commit) => (COMMIT, Lent(commit)).tls_serialized_len(),
+            ContentTypeData::Proposal(proposal) => (PROPOSAL, ByRef(proposal)).tls_serialized_len(),
+            ContentTypeData::Commit(commit) => (COMMIT, ByRef(commit)).tls_serialized_len(),
         }
     }
 
@@ -66,10 +66,12 @@ impl Serialize for ContentTypeData {
         match self {
             ContentTypeData::Application(application_data) => (
                 APPLICATION,
-                Lent(application_data),
+                ByRef(application_data),
             ).tls_serialize(writer),
-            ContentTypeData::Proposal(proposal) => (PROPOSAL, Lent(proposal)).tls_serialize(writer),
-            ContentTypeData::Commit(commit) => (COMMIT, Lent(commit)).tls_serialize(writer),
+            ContentTypeData::Proposal(proposal) => (PROPOSAL, ByRef(proposal)).tls_serialize(
+                writer,
+            ),
+            ContentTypeData::Commit(commit) => (COMMIT, ByRef(commit)).tls_serialize(writer),
         }
     }
 
@@ -77,12 +79,12 @@ impl Serialize for ContentTypeData {
         match self {
             ContentTypeData::Application(application_data) => (
                 APPLICATION,
-                Lent(application_data),
+                ByRef(application_data),
             ).tls_serialize_into(out),
-            ContentTypeData::Proposal(proposal) => (PROPOSAL, Lent(proposal)).tls_serialize_into(
+            ContentTypeData::Proposal(proposal) => (PROPOSAL, ByRef(proposal)).tls_serialize_into(
                 out,
             ),
-            ContentTypeData::Commit(commit) => (COMMIT, Lent(commit)).tls_serialize_into(out),
+            ContentTypeData::Commit(commit) => (COMMIT, ByRef(commit)).tls_serialize_into(out),
         }
     }
 }

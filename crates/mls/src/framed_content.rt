@@ -8,7 +8,7 @@ ghost use Rattle.mls.specs.FramedContent.{framed_content_content_type};
 use crate::{ContentType, ContentTypeData, Sender, SenderType};
 use std::alloc::Global;
 use tls_codec::{
-    Deserialize, DeserializeBytes, Error, Lent2, Lent3, Serialize, Sink, Size, Source, VLBytes,
+    ByRef2, ByRef3, Deserialize, DeserializeBytes, Error, Serialize, Sink, Size, Source, VLBytes,
 };
 use tls_codec_cases::{Holds, Selector, append_as};
 use tls_codec_validate::{HoldsKey, Keyed, Keyless, Rejected, Validate, ValidateKeyed};
@@ -38,8 +38,8 @@ impl Size for FramedContent {
 
     fn tls_serialized_len(&self) -> usize {
         (
-            Lent3(&self.group_id, &self.epoch, &self.sender),
-            Lent2(&self.authenticated_data, &self.content_type),
+            ByRef3(&self.group_id, &self.epoch, &self.sender),
+            ByRef2(&self.authenticated_data, &self.content_type),
         )
             .tls_serialized_len()
     }
@@ -50,8 +50,8 @@ impl Size for FramedContent {
 impl Serialize for FramedContent {
     fn tls_serialize<W: Sink>(&self, writer: &mut W) -> Result<usize, Error> {
         (
-            Lent3(&self.group_id, &self.epoch, &self.sender),
-            Lent2(&self.authenticated_data, &self.content_type),
+            ByRef3(&self.group_id, &self.epoch, &self.sender),
+            ByRef2(&self.authenticated_data, &self.content_type),
         )
             .tls_serialize(writer)
     }
@@ -60,8 +60,8 @@ impl Serialize for FramedContent {
         append_as(
             self,
             &(
-                Lent3(&self.group_id, &self.epoch, &self.sender),
-                Lent2(&self.authenticated_data, &self.content_type),
+                ByRef3(&self.group_id, &self.epoch, &self.sender),
+                ByRef2(&self.authenticated_data, &self.content_type),
             ),
             out,
         )

@@ -8,7 +8,7 @@ use mls_proposals::MAC;
 use std::alloc::Global;
 use std::marker::PhantomData;
 use tls_codec::{
-    Always, DeserializeBytesFor, DeserializeFor, Error, Lent, LentWhen, SerializeFor, Sink,
+    Always, ByRef, ByRefWhen, DeserializeBytesFor, DeserializeFor, Error, SerializeFor, Sink,
     SizeFor, Source, VLBytes, When,
 };
 use tls_codec_cases::Is;
@@ -34,8 +34,8 @@ impl SizeFor<ContentType> for FramedContentAuthData {
 
     fn tls_serialized_len_for(&self, content_type: &ContentType) -> usize {
         (
-            Lent(&self.signature),
-            LentWhen {
+            ByRef(&self.signature),
+            ByRefWhen {
                 value: &self.confirmation_tag,
                 condition: PhantomData::<Is<3>>,
             },
@@ -54,8 +54,8 @@ impl SerializeFor<ContentType> for FramedContentAuthData {
         writer: &mut W,
     ) -> Result<usize, Error> {
         (
-            Lent(&self.signature),
-            LentWhen {
+            ByRef(&self.signature),
+            ByRefWhen {
                 value: &self.confirmation_tag,
                 condition: PhantomData::<Is<3>>,
             },
@@ -69,8 +69,8 @@ impl SerializeFor<ContentType> for FramedContentAuthData {
         out: &mut Vec<u8>,
     ) -> Result<usize, Error> {
         (
-            Lent(&self.signature),
-            LentWhen {
+            ByRef(&self.signature),
+            ByRefWhen {
                 value: &self.confirmation_tag,
                 condition: PhantomData::<Is<3>>,
             },

@@ -7,7 +7,7 @@ ghost use Rattle.mls.specs.FramedContentTBS.{framed_content_tbs_content_type};
 use crate::{ContentType, FramedContent, SenderType, WireFormat};
 use mls_proposals::{GroupContext, ProtocolVersionMls10};
 use std::marker::PhantomData;
-use tls_codec::{Error, Lent, LentThen, LentWhen, Serialize, Sink, Size};
+use tls_codec::{ByRef, ByRefThen, ByRefWhen, Error, Serialize, Sink, Size};
 use tls_codec_cases::{AnyOf, By, Holds, Is, append_as, write_as};
 
 /// `FramedContentTBS` (RFC 9420, section 6.1).
@@ -25,26 +25,26 @@ pub struct FramedContentTBS<'a> {
     pub context: &'a Option<GroupContext>,
 }
 
-type LentParts<'a> = (
-    (Lent<'a, ProtocolVersionMls10>, Lent<'a, WireFormat>),
-    LentThen<'a, FramedContent, By<SenderType, LentWhen<'a, AnyOf<Is<1>, Is<4>>, GroupContext>>>,
+type ByRefParts<'a> = (
+    (ByRef<'a, ProtocolVersionMls10>, ByRef<'a, WireFormat>),
+    ByRefThen<'a, FramedContent, By<SenderType, ByRefWhen<'a, AnyOf<Is<1>, Is<4>>, GroupContext>>>,
 );
 
 impl FramedContentTBS<'_> {
-    fn parts(&self) -> LentParts<'_>
-        ensures { ⟦<LentParts<'static> as Size>⟧.plain result ≡ framed_content_tbs_plain self.now }
+    fn parts(&self) -> ByRefParts<'_>
+        ensures { ⟦<ByRefParts<'static> as Size>⟧.plain result ≡ framed_content_tbs_plain self.now }
     {
         let first = self.content;
         let rest = By(
-            LentWhen {
+            ByRefWhen {
                 value: self.context,
                 condition: PhantomData::<AnyOf<Is<1>, Is<4>>>,
             },
             PhantomData,
         );
         (
-            (Lent(self.version), Lent(self.wire_format)),
-            LentThen { first, rest },
+            (ByRef(self.version), ByRef(self.wire_format)),
+            ByRefThen { first, rest },
         )
     }
 }

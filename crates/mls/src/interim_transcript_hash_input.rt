@@ -4,7 +4,7 @@ ghost use Rattle.mls.specs.InterimTranscriptHashInput.{interim_transcript_hash_i
 ghost use Rattle.mls.specs.declared.interim_transcript_hash_input.InterimTranscriptHashInput.{InterimTranscriptHashInput};
 
 use mls_proposals::MAC;
-use tls_codec::{Error, Lent, Serialize, Sink, Size};
+use tls_codec::{ByRef, Error, Serialize, Sink, Size};
 use tls_codec_cases::append_as;
 
 /// `InterimTranscriptHashInput` (RFC 9420, section 8.2).
@@ -22,7 +22,7 @@ impl Size for InterimTranscriptHashInput<'_> {
     ghost format = { interim_transcript_hash_input_format };
 
     fn tls_serialized_len(&self) -> usize {
-        Lent(self.confirmation_tag).tls_serialized_len()
+        ByRef(self.confirmation_tag).tls_serialized_len()
     }
 
     ghost lawful = { interim_transcript_hash_input_meets };
@@ -30,11 +30,11 @@ impl Size for InterimTranscriptHashInput<'_> {
 
 impl Serialize for InterimTranscriptHashInput<'_> {
     fn tls_serialize<W: Sink>(&self, writer: &mut W) -> Result<usize, Error> {
-        Lent(self.confirmation_tag).tls_serialize(writer)
+        ByRef(self.confirmation_tag).tls_serialize(writer)
     }
 
     fn tls_serialize_into(&self, out: &mut Vec<u8>) -> Result<usize, Error> {
-        append_as(self, &Lent(self.confirmation_tag), out)
+        append_as(self, &ByRef(self.confirmation_tag), out)
     }
 }
 

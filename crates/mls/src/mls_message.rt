@@ -6,7 +6,7 @@ ghost use Rattle.mls.specs.declared.mls_message.MLSMessage.{MLSMessage};
 use crate::WireFormatData;
 use mls_proposals::ProtocolVersionMls10;
 use std::alloc::Global;
-use tls_codec::{Deserialize, DeserializeBytes, Error, Lent, Serialize, Sink, Size, Source};
+use tls_codec::{ByRef, Deserialize, DeserializeBytes, Error, Serialize, Sink, Size, Source};
 use tls_codec_cases::append_as;
 use tls_codec_validate::{Rejected, Validate};
 use tls_codec_views::{Encoded, Parted};
@@ -28,7 +28,7 @@ impl Size for MLSMessage {
     ghost format = { mls_message_format };
 
     fn tls_serialized_len(&self) -> usize {
-        (Lent(&self.version), Lent(&self.wire_format)).tls_serialized_len()
+        (ByRef(&self.version), ByRef(&self.wire_format)).tls_serialized_len()
     }
 
     ghost lawful = { mls_message_meets };
@@ -36,11 +36,11 @@ impl Size for MLSMessage {
 
 impl Serialize for MLSMessage {
     fn tls_serialize<W: Sink>(&self, writer: &mut W) -> Result<usize, Error> {
-        (Lent(&self.version), Lent(&self.wire_format)).tls_serialize(writer)
+        (ByRef(&self.version), ByRef(&self.wire_format)).tls_serialize(writer)
     }
 
     fn tls_serialize_into(&self, out: &mut Vec<u8>) -> Result<usize, Error> {
-        append_as(self, &(Lent(&self.version), Lent(&self.wire_format)), out)
+        append_as(self, &(ByRef(&self.version), ByRef(&self.wire_format)), out)
     }
 }
 

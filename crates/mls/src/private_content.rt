@@ -7,7 +7,7 @@ use crate::ContentType;
 use mls_proposals::{Commit, Proposal};
 use std::alloc::Global;
 use tls_codec::{
-    DeserializeBytesFor, DeserializeFor, Error, Lent, SerializeFor, Sink, SizeFor, Source, VLBytes,
+    ByRef, DeserializeBytesFor, DeserializeFor, Error, SerializeFor, Sink, SizeFor, Source, VLBytes,
 };
 use tls_codec_cases::{Case, Chosen, Or, append_as_for, write_as_for};
 use tls_codec_validate::{Rejected, ValidateFor};
@@ -26,21 +26,21 @@ pub enum PrivateContent {
 
 type Cases = Chosen<Or<Or<Case<1, VLBytes>, Case<2, Proposal>>, Case<3, Commit>>>;
 
-type LentCases<'a> = Chosen<
-    Or<Or<Case<1, Lent<'a, VLBytes>>, Case<2, Lent<'a, Proposal>>>, Case<3, Lent<'a, Commit>>>,
+type ByRefCases<'a> = Chosen<
+    Or<Or<Case<1, ByRef<'a, VLBytes>>, Case<2, ByRef<'a, Proposal>>>, Case<3, ByRef<'a, Commit>>>,
 >;
 
 impl PrivateContent {
-    fn cases(&self) -> LentCases<'_>
-        ensures { ⟦<LentCases<'static> as SizeFor<ContentType>>⟧.plain result
+    fn cases(&self) -> ByRefCases<'_>
+        ensures { ⟦<ByRefCases<'static> as SizeFor<ContentType>>⟧.plain result
             ≡ private_content_plain self.now }
     {
         let cases = match self {
-            PrivateContent::Application(application_data) => Or::First(Or::First(Case(Lent(
+            PrivateContent::Application(application_data) => Or::First(Or::First(Case(ByRef(
                 application_data,
             )))),
-            PrivateContent::Proposal(proposal) => Or::First(Or::Second(Case(Lent(proposal)))),
-            PrivateContent::Commit(commit) => Or::Second(Case(Lent(commit))),
+            PrivateContent::Proposal(proposal) => Or::First(Or::Second(Case(ByRef(proposal)))),
+            PrivateContent::Commit(commit) => Or::Second(Case(ByRef(commit))),
         };
         Chosen(cases)
     }

@@ -4,7 +4,7 @@ ghost use Rattle.mls.specs.PrivateContentAAD.{private_content_aad_format, privat
 ghost use Rattle.mls.specs.declared.private_content_aad.PrivateContentAAD.{PrivateContentAAD};
 
 use crate::ContentType;
-use tls_codec::{Error, Lent2, Serialize, Sink, Size, VLBytes};
+use tls_codec::{ByRef2, Error, Serialize, Sink, Size, VLBytes};
 use tls_codec_cases::append_as;
 
 /// `PrivateContentAAD` (RFC 9420, section 6.3.1).
@@ -29,8 +29,8 @@ impl Size for PrivateContentAAD<'_> {
 
     fn tls_serialized_len(&self) -> usize {
         (
-            Lent2(self.group_id, self.epoch),
-            Lent2(self.content_type, self.authenticated_data),
+            ByRef2(self.group_id, self.epoch),
+            ByRef2(self.content_type, self.authenticated_data),
         )
             .tls_serialized_len()
     }
@@ -41,8 +41,8 @@ impl Size for PrivateContentAAD<'_> {
 impl Serialize for PrivateContentAAD<'_> {
     fn tls_serialize<W: Sink>(&self, writer: &mut W) -> Result<usize, Error> {
         (
-            Lent2(self.group_id, self.epoch),
-            Lent2(self.content_type, self.authenticated_data),
+            ByRef2(self.group_id, self.epoch),
+            ByRef2(self.content_type, self.authenticated_data),
         )
             .tls_serialize(writer)
     }
@@ -51,8 +51,8 @@ impl Serialize for PrivateContentAAD<'_> {
         append_as(
             self,
             &(
-                Lent2(self.group_id, self.epoch),
-                Lent2(self.content_type, self.authenticated_data),
+                ByRef2(self.group_id, self.epoch),
+                ByRef2(self.content_type, self.authenticated_data),
             ),
             out,
         )

@@ -6,7 +6,7 @@ ghost use Rattle.mls.specs.declared.private_message.PrivateMessage.{PrivateMessa
 use crate::ContentType;
 use std::alloc::Global;
 use tls_codec::{
-    Deserialize, DeserializeBytes, Error, Lent3, Serialize, Sink, Size, Source, VLBytes,
+    ByRef3, Deserialize, DeserializeBytes, Error, Serialize, Sink, Size, Source, VLBytes,
 };
 use tls_codec_cases::append_as;
 use tls_codec_validate::{Rejected, Validate};
@@ -38,8 +38,8 @@ impl Size for PrivateMessage {
 
     fn tls_serialized_len(&self) -> usize {
         (
-            Lent3(&self.group_id, &self.epoch, &self.content_type),
-            Lent3(
+            ByRef3(&self.group_id, &self.epoch, &self.content_type),
+            ByRef3(
                 &self.authenticated_data,
                 &self.encrypted_sender_data,
                 &self.ciphertext,
@@ -54,8 +54,8 @@ impl Size for PrivateMessage {
 impl Serialize for PrivateMessage {
     fn tls_serialize<W: Sink>(&self, writer: &mut W) -> Result<usize, Error> {
         (
-            Lent3(&self.group_id, &self.epoch, &self.content_type),
-            Lent3(
+            ByRef3(&self.group_id, &self.epoch, &self.content_type),
+            ByRef3(
                 &self.authenticated_data,
                 &self.encrypted_sender_data,
                 &self.ciphertext,
@@ -68,8 +68,8 @@ impl Serialize for PrivateMessage {
         append_as(
             self,
             &(
-                Lent3(&self.group_id, &self.epoch, &self.content_type),
-                Lent3(
+                ByRef3(&self.group_id, &self.epoch, &self.content_type),
+                ByRef3(
                     &self.authenticated_data,
                     &self.encrypted_sender_data,
                     &self.ciphertext,

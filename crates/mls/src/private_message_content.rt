@@ -6,7 +6,7 @@ ghost use Rattle.mls.specs.declared.private_message_content.PrivateMessageConten
 use crate::{ContentType, FramedContentAuthData, PrivateContent};
 use std::alloc::Global;
 use tls_codec::{
-    DeserializeBytesFor, DeserializeFor, Error, LentIn, SerializeFor, Sink, SizeFor, Source,
+    ByRefIn, DeserializeBytesFor, DeserializeFor, Error, SerializeFor, Sink, SizeFor, Source,
 };
 use tls_codec_validate::{Rejected, ValidateFor};
 
@@ -30,7 +30,7 @@ impl SizeFor<ContentType> for PrivateMessageContent {
     ghost format_for = { private_message_content_format_for };
 
     fn tls_serialized_len_for(&self, content_type: &ContentType) -> usize {
-        (LentIn(&self.content), LentIn(&self.auth)).tls_serialized_len_for(content_type)
+        (ByRefIn(&self.content), ByRefIn(&self.auth)).tls_serialized_len_for(content_type)
     }
 
     ghost lawful = { private_message_content_meets_for };
@@ -43,7 +43,7 @@ impl SerializeFor<ContentType> for PrivateMessageContent {
         content_type: &ContentType,
         writer: &mut W,
     ) -> Result<usize, Error> {
-        (LentIn(&self.content), LentIn(&self.auth)).tls_serialize_for(content_type, writer)
+        (ByRefIn(&self.content), ByRefIn(&self.auth)).tls_serialize_for(content_type, writer)
     }
 
     fn tls_serialize_into_for(
@@ -51,7 +51,7 @@ impl SerializeFor<ContentType> for PrivateMessageContent {
         content_type: &ContentType,
         out: &mut Vec<u8>,
     ) -> Result<usize, Error> {
-        (LentIn(&self.content), LentIn(&self.auth)).tls_serialize_into_for(content_type, out)
+        (ByRefIn(&self.content), ByRefIn(&self.auth)).tls_serialize_into_for(content_type, out)
     }
 }
 

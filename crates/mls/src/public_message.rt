@@ -8,7 +8,7 @@ use mls_proposals::MAC;
 use std::alloc::Global;
 use std::marker::PhantomData;
 use tls_codec::{
-    Deserialize, DeserializeBytes, Error, LentIn, LentThen, LentWhen, Serialize, Sink, Size,
+    ByRefIn, ByRefThen, ByRefWhen, Deserialize, DeserializeBytes, Error, Serialize, Sink, Size,
     Source, Then, When,
 };
 use tls_codec_cases::{By, Is, append_as, write_as};
@@ -33,31 +33,31 @@ type Parts = Then<
     ),
 >;
 
-type LentParts<'a> = LentThen<
+type ByRefParts<'a> = ByRefThen<
     'a,
     FramedContent,
     (
-        By<ContentType, LentIn<'a, FramedContentAuthData>>,
-        By<SenderType, LentWhen<'a, Is<1>, MAC>>,
+        By<ContentType, ByRefIn<'a, FramedContentAuthData>>,
+        By<SenderType, ByRefWhen<'a, Is<1>, MAC>>,
     ),
 >;
 
 impl PublicMessage {
-    fn parts(&self) -> LentParts<'_>
-        ensures { ⟦<LentParts<'static> as Size>⟧.plain result ≡ public_message_plain self.now }
+    fn parts(&self) -> ByRefParts<'_>
+        ensures { ⟦<ByRefParts<'static> as Size>⟧.plain result ≡ public_message_plain self.now }
     {
         let first = &self.content;
         let rest = (
-            By(LentIn(&self.auth), PhantomData),
+            By(ByRefIn(&self.auth), PhantomData),
             By(
-                LentWhen {
+                ByRefWhen {
                     value: &self.membership_tag,
                     condition: PhantomData::<Is<1>>,
                 },
                 PhantomData,
             ),
         );
-        LentThen { first, rest }
+        ByRefThen { first, rest }
     }
 }
 

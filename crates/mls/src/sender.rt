@@ -14,7 +14,7 @@ ghost use Rattle.mls.specs.Sender.{sender_variants};
 use crate::SenderType;
 use std::alloc::Global;
 use tls_codec::{
-    Deserialize, DeserializeBytes, Error, Lent, Serialize, Sink, Size, Source, unknown_value,
+    ByRef, Deserialize, DeserializeBytes, Error, Serialize, Sink, Size, Source, unknown_value,
 };
 use tls_codec_cases::{Holds, Selector};
 use tls_codec_validate::{
@@ -50,8 +50,8 @@ impl Size for Sender {
 
     fn tls_serialized_len(&self) -> usize {
         match self {
-            Sender::Member(leaf_index) => (MEMBER, Lent(leaf_index)).tls_serialized_len(),
-            Sender::External(sender_index) => (EXTERNAL, Lent(sender_index)).tls_serialized_len(),
+            Sender::Member(leaf_index) => (MEMBER, ByRef(leaf_index)).tls_serialized_len(),
+            Sender::External(sender_index) => (EXTERNAL, ByRef(sender_index)).tls_serialized_len(),
             Sender::NewMemberCommit => 1,
             Sender::NewMemberProposal => 1,
         }
@@ -63,8 +63,8 @@ impl Size for Sender {
 impl Serialize for Sender {
     fn tls_serialize<W: Sink>(&self, writer: &mut W) -> Result<usize, Error> {
         match self {
-            Sender::Member(leaf_index) => (MEMBER, Lent(leaf_index)).tls_serialize(writer),
-            Sender::External(sender_index) => (EXTERNAL, Lent(sender_index)).tls_serialize(writer),
+            Sender::Member(leaf_index) => (MEMBER, ByRef(leaf_index)).tls_serialize(writer),
+            Sender::External(sender_index) => (EXTERNAL, ByRef(sender_index)).tls_serialize(writer),
             Sender::NewMemberCommit => NEW_MEMBER_COMMIT.tls_serialize(writer),
             Sender::NewMemberProposal => NEW_MEMBER_PROPOSAL.tls_serialize(writer),
         }
@@ -72,8 +72,8 @@ impl Serialize for Sender {
 
     fn tls_serialize_into(&self, out: &mut Vec<u8>) -> Result<usize, Error> {
         match self {
-            Sender::Member(leaf_index) => (MEMBER, Lent(leaf_index)).tls_serialize_into(out),
-            Sender::External(sender_index) => (EXTERNAL, Lent(sender_index)).tls_serialize_into(
+            Sender::Member(leaf_index) => (MEMBER, ByRef(leaf_index)).tls_serialize_into(out),
+            Sender::External(sender_index) => (EXTERNAL, ByRef(sender_index)).tls_serialize_into(
                 out,
             ),
             Sender::NewMemberCommit => NEW_MEMBER_COMMIT.tls_serialize_into(out),

@@ -4,7 +4,7 @@ ghost use Rattle.mls.specs.SenderData.{sender_data_format, sender_data_meets, se
 ghost use Rattle.mls.specs.declared.sender_data.SenderData.{SenderData};
 
 use std::alloc::Global;
-use tls_codec::{Deserialize, DeserializeBytes, Error, Lent, Serialize, Sink, Size, Source};
+use tls_codec::{ByRef, Deserialize, DeserializeBytes, Error, Serialize, Sink, Size, Source};
 use tls_codec_cases::append_as;
 use tls_codec_validate::{Rejected, Validate};
 use tls_codec_views::{Encoded, Parted};
@@ -29,9 +29,9 @@ impl Size for SenderData {
 
     fn tls_serialized_len(&self) -> usize {
         (
-            Lent(&self.leaf_index),
-            Lent(&self.generation),
-            Lent(&self.reuse_guard),
+            ByRef(&self.leaf_index),
+            ByRef(&self.generation),
+            ByRef(&self.reuse_guard),
         )
             .tls_serialized_len()
     }
@@ -42,9 +42,9 @@ impl Size for SenderData {
 impl Serialize for SenderData {
     fn tls_serialize<W: Sink>(&self, writer: &mut W) -> Result<usize, Error> {
         (
-            Lent(&self.leaf_index),
-            Lent(&self.generation),
-            Lent(&self.reuse_guard),
+            ByRef(&self.leaf_index),
+            ByRef(&self.generation),
+            ByRef(&self.reuse_guard),
         )
             .tls_serialize(writer)
     }
@@ -53,9 +53,9 @@ impl Serialize for SenderData {
         append_as(
             self,
             &(
-                Lent(&self.leaf_index),
-                Lent(&self.generation),
-                Lent(&self.reuse_guard),
+                ByRef(&self.leaf_index),
+                ByRef(&self.generation),
+                ByRef(&self.reuse_guard),
             ),
             out,
         )

@@ -4,7 +4,7 @@ ghost use Rattle.mls.specs.SenderDataAAD.{sender_data_aad_format, sender_data_aa
 ghost use Rattle.mls.specs.declared.sender_data_aad.SenderDataAAD.{SenderDataAAD};
 
 use crate::ContentType;
-use tls_codec::{Error, Lent, Serialize, Sink, Size, VLBytes};
+use tls_codec::{ByRef, Error, Serialize, Sink, Size, VLBytes};
 use tls_codec_cases::append_as;
 
 /// `SenderDataAAD` (RFC 9420, section 6.3.2).
@@ -27,9 +27,9 @@ impl Size for SenderDataAAD<'_> {
 
     fn tls_serialized_len(&self) -> usize {
         (
-            Lent(self.group_id),
-            Lent(self.epoch),
-            Lent(self.content_type),
+            ByRef(self.group_id),
+            ByRef(self.epoch),
+            ByRef(self.content_type),
         )
             .tls_serialized_len()
     }
@@ -40,9 +40,9 @@ impl Size for SenderDataAAD<'_> {
 impl Serialize for SenderDataAAD<'_> {
     fn tls_serialize<W: Sink>(&self, writer: &mut W) -> Result<usize, Error> {
         (
-            Lent(self.group_id),
-            Lent(self.epoch),
-            Lent(self.content_type),
+            ByRef(self.group_id),
+            ByRef(self.epoch),
+            ByRef(self.content_type),
         )
             .tls_serialize(writer)
     }
@@ -51,9 +51,9 @@ impl Serialize for SenderDataAAD<'_> {
         append_as(
             self,
             &(
-                Lent(self.group_id),
-                Lent(self.epoch),
-                Lent(self.content_type),
+                ByRef(self.group_id),
+                ByRef(self.epoch),
+                ByRef(self.content_type),
             ),
             out,
         )

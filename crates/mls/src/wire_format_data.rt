@@ -12,7 +12,7 @@ use mls_leaf::KeyPackage;
 use mls_proposals::{GroupInfo, Welcome};
 use std::alloc::Global;
 use tls_codec::{
-    Deserialize, DeserializeBytes, Error, Lent, Serialize, Sink, Size, Source, unknown_value,
+    ByRef, Deserialize, DeserializeBytes, Error, Serialize, Sink, Size, Source, unknown_value,
 };
 use tls_codec_validate::{Rejected, Validate, split_u16};
 use tls_codec_views::{Choice, Encoded};
@@ -52,23 +52,23 @@ impl Size for WireFormatData {
         match self {
             WireFormatData::MlsPublicMessage(public_message) => (
                 MLS_PUBLIC_MESSAGE,
-                Lent(public_message),
+                ByRef(public_message),
             ).tls_serialized_len(),
             WireFormatData::MlsPrivateMessage(private_message) => (
                 MLS_PRIVATE_MESSAGE,
-                Lent(private_message),
+                ByRef(private_message),
             ).tls_serialized_len(),
             WireFormatData::MlsWelcome(welcome) => (
                 MLS_WELCOME,
-                Lent(welcome),
+                ByRef(welcome),
             ).tls_serialized_len(),
             WireFormatData::MlsGroupInfo(group_info) => (
                 MLS_GROUP_INFO,
-                Lent(group_info),
+                ByRef(group_info),
             ).tls_serialized_len(),
             WireFormatData::MlsKeyPackage(key_package) => (
                 MLS_KEY_PACKAGE,
-                Lent(key_package),
+                ByRef(key_package),
             ).tls_serialized_len(),
         }
     }
@@ -81,22 +81,22 @@ impl Serialize for WireFormatData {
         match self {
             WireFormatData::MlsPublicMessage(public_message) => (
                 MLS_PUBLIC_MESSAGE,
-                Lent(public_message),
+                ByRef(public_message),
             ).tls_serialize(writer),
             WireFormatData::MlsPrivateMessage(private_message) => (
                 MLS_PRIVATE_MESSAGE,
-                Lent(private_message),
+                ByRef(private_message),
             ).tls_serialize(writer),
-            WireFormatData::MlsWelcome(welcome) => (MLS_WELCOME, Lent(welcome)).tls_serialize(
+            WireFormatData::MlsWelcome(welcome) => (MLS_WELCOME, ByRef(welcome)).tls_serialize(
                 writer,
             ),
             WireFormatData::MlsGroupInfo(group_info) => (
                 MLS_GROUP_INFO,
-                Lent(group_info),
+                ByRef(group_info),
             ).tls_serialize(writer),
             WireFormatData::MlsKeyPackage(key_package) => (
                 MLS_KEY_PACKAGE,
-                Lent(key_package),
+                ByRef(key_package),
             ).tls_serialize(writer),
         }
     }
@@ -105,22 +105,22 @@ impl Serialize for WireFormatData {
         match self {
             WireFormatData::MlsPublicMessage(public_message) => (
                 MLS_PUBLIC_MESSAGE,
-                Lent(public_message),
+                ByRef(public_message),
             ).tls_serialize_into(out),
             WireFormatData::MlsPrivateMessage(private_message) => (
                 MLS_PRIVATE_MESSAGE,
-                Lent(private_message),
+                ByRef(private_message),
             ).tls_serialize_into(out),
-            WireFormatData::MlsWelcome(welcome) => (MLS_WELCOME, Lent(welcome)).tls_serialize_into(
+            WireFormatData::MlsWelcome(welcome) => (MLS_WELCOME, ByRef(welcome)).tls_serialize_into(
                 out,
             ),
             WireFormatData::MlsGroupInfo(group_info) => (
                 MLS_GROUP_INFO,
-                Lent(group_info),
+                ByRef(group_info),
             ).tls_serialize_into(out),
             WireFormatData::MlsKeyPackage(key_package) => (
                 MLS_KEY_PACKAGE,
-                Lent(key_package),
+                ByRef(key_package),
             ).tls_serialize_into(out),
         }
     }

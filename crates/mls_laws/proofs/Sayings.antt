@@ -9,7 +9,7 @@ use Rattle.tls_presentation.specs.Says.{value_number}
 use Rattle.std.specs.Prelude.{◌↔◌}
 use Rattle.tls_presentation.specs.Says.{called}
 use Rattle.tls_presentation.proofs.Flat.{same_iff}
-use Rattle.tls_presentation.proofs.Saying.{struct_saying, lent_saying, number_saying, case_saying, choice_saying}
+use Rattle.tls_presentation.proofs.Saying.{struct_saying, borrowed_saying, number_saying, case_saying, choice_saying}
 use Rattle.mls.specs.AuthenticatedContent.{authenticated_content_format, authenticated_content_plain}
 use Rattle.mls.specs.AuthenticatedContentTBM.{authenticated_content_tbm_format, authenticated_content_tbm_plain}
 use Rattle.mls.specs.ConfirmedTranscriptHashInput.{confirmed_transcript_hash_input_format, confirmed_transcript_hash_input_plain}
@@ -80,7 +80,7 @@ authenticated_content_tbm_saying v d b = struct_saying mls "AuthenticatedContent
     []) d b
 
 pub confirmed_transcript_hash_input_saying : (v : ConfirmedTranscriptHashInput) (d : Direction) (b : List ℕ) → confirmed_transcript_hash_input_format.spells d b (confirmed_transcript_hash_input_plain v) ↔ ConfirmedTranscriptHashInputSays v d b
-confirmed_transcript_hash_input_saying v d b = lent_saying mls "ConfirmedTranscriptHashInput" Empty (called "wire_format" (wire_format_plain v.wire_format.now) ∷
+confirmed_transcript_hash_input_saying v d b = borrowed_saying mls "ConfirmedTranscriptHashInput" Empty (called "wire_format" (wire_format_plain v.wire_format.now) ∷
     called "content" (framed_content_plain v.content.now) ∷
     called "signature" (number_trees (bytes_of v.signature.now)) ∷
     []) d b
@@ -124,7 +124,7 @@ framed_content_tbs_saying v d b = struct_saying mls "FramedContentTBS" Empty (ca
     []) d b
 
 pub interim_transcript_hash_input_saying : (v : InterimTranscriptHashInput) (d : Direction) (b : List ℕ) → interim_transcript_hash_input_format.spells d b (interim_transcript_hash_input_plain v) ↔ InterimTranscriptHashInputSays v d b
-interim_transcript_hash_input_saying v d b = lent_saying mls "InterimTranscriptHashInput" Empty (called "confirmation_tag" (number_trees (bytes_of v.confirmation_tag.now)) ∷
+interim_transcript_hash_input_saying v d b = borrowed_saying mls "InterimTranscriptHashInput" Empty (called "confirmation_tag" (number_trees (bytes_of v.confirmation_tag.now)) ∷
     []) d b
 
 pub mls_message_saying : (v : MLSMessage) (d : Direction) (b : List ℕ) → mls_message_format.spells d b (mls_message_plain v) ↔ MLSMessageSays v d b
@@ -141,7 +141,7 @@ private_content_saying c (PrivateContentCommit a0) d b = choice_saying mls "Priv
     []) d b
 
 pub private_content_aad_saying : (v : PrivateContentAAD) (d : Direction) (b : List ℕ) → private_content_aad_format.spells d b (private_content_aad_plain v) ↔ PrivateContentAADSays v d b
-private_content_aad_saying v d b = lent_saying mls "PrivateContentAAD" Empty (called "group_id" (number_trees (bytes_of v.group_id.now)) ∷
+private_content_aad_saying v d b = borrowed_saying mls "PrivateContentAAD" Empty (called "group_id" (number_trees (bytes_of v.group_id.now)) ∷
     called "epoch" (Number v.epoch.now) ∷
     called "content_type" (content_type_plain v.content_type.now) ∷
     called "authenticated_data" (number_trees (bytes_of v.authenticated_data.now)) ∷
@@ -182,7 +182,7 @@ sender_data_saying v d b = struct_saying mls "SenderData" Empty (called "leaf_in
     []) d b
 
 pub sender_data_aad_saying : (v : SenderDataAAD) (d : Direction) (b : List ℕ) → sender_data_aad_format.spells d b (sender_data_aad_plain v) ↔ SenderDataAADSays v d b
-sender_data_aad_saying v d b = lent_saying mls "SenderDataAAD" Empty (called "group_id" (number_trees (bytes_of v.group_id.now)) ∷
+sender_data_aad_saying v d b = borrowed_saying mls "SenderDataAAD" Empty (called "group_id" (number_trees (bytes_of v.group_id.now)) ∷
     called "epoch" (Number v.epoch.now) ∷
     called "content_type" (content_type_plain v.content_type.now) ∷
     []) d b

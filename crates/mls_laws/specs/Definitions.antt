@@ -1,6 +1,6 @@
 -- What mls.tls says: the definitions, the notes, and the text that they are.
 use Rattle.std.specs.Prelude.{List, [], ◌∷◌, codes}
-use Rattle.tls_presentation.specs.Definition.{Numeral, One, Array, Variable, Is, Width, Ended, Plain, Definition, Alias, Note, FillsZeros, Equals, IsLent, IsCalled, field, has, constant, word, counted, value, case, cases_of, select, enum, struct}
+use Rattle.tls_presentation.specs.Definition.{Numeral, One, Array, Variable, Is, Width, Ended, Plain, Definition, Alias, Note, FillsZeros, Equals, IsBorrowed, IsCalled, field, has, constant, word, counted, value, case, cases_of, select, enum, struct}
 use Rattle.tls_presentation.specs.Meaning.{Text, text_over}
 use Rattle.mls_proposals_laws.specs.Definitions.{mls_proposals}
 
@@ -196,12 +196,12 @@ notes =
     Equals (codes "WireFormat.mls_welcome") (Numeral 3) ∷
     Equals (codes "WireFormat.mls_group_info") (Numeral 4) ∷
     Equals (codes "WireFormat.mls_key_package") (Numeral 5) ∷
-    IsLent (codes "FramedContentTBS") ∷
-    IsLent (codes "AuthenticatedContentTBM") ∷
-    IsLent (codes "PrivateContentAAD") ∷
-    IsLent (codes "SenderDataAAD") ∷
-    IsLent (codes "ConfirmedTranscriptHashInput") ∷
-    IsLent (codes "InterimTranscriptHashInput") ∷
+    IsBorrowed (codes "FramedContentTBS") ∷
+    IsBorrowed (codes "AuthenticatedContentTBM") ∷
+    IsBorrowed (codes "PrivateContentAAD") ∷
+    IsBorrowed (codes "SenderDataAAD") ∷
+    IsBorrowed (codes "ConfirmedTranscriptHashInput") ∷
+    IsBorrowed (codes "InterimTranscriptHashInput") ∷
     FillsZeros (codes "PrivateMessageContent.padding") ∷
     IsCalled (codes "PrivateMessageContent.content_type") (codes "PrivateContent") ∷
     IsCalled (codes "PrivateMessageContent.content_type") (codes "content") ∷

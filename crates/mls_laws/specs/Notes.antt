@@ -14,12 +14,12 @@ notes_text = lines (
     "WireFormat.mls_key_package = 5;" ∷
     "" ∷
     "// What is signed, authenticated or hashed, and only written: it borrows its parts." ∷
-    "FramedContentTBS is lent;" ∷
-    "AuthenticatedContentTBM is lent;" ∷
-    "PrivateContentAAD is lent;" ∷
-    "SenderDataAAD is lent;" ∷
-    "ConfirmedTranscriptHashInput is lent;" ∷
-    "InterimTranscriptHashInput is lent;" ∷
+    "FramedContentTBS is borrowed;" ∷
+    "AuthenticatedContentTBM is borrowed;" ∷
+    "PrivateContentAAD is borrowed;" ∷
+    "SenderDataAAD is borrowed;" ∷
+    "ConfirmedTranscriptHashInput is borrowed;" ∷
+    "InterimTranscriptHashInput is borrowed;" ∷
     "" ∷
     "// Section 6.3.1: the padding has no length, and is what is left of the plaintext." ∷
     "PrivateMessageContent.padding fills rest with zeros;" ∷

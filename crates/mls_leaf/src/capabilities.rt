@@ -6,7 +6,7 @@ ghost use Rattle.mls_leaf.specs.declared.capabilities.Capabilities.{Capabilities
 use crate::{CipherSuite, CredentialType, ExtensionType, ProposalType, ProtocolVersion};
 use std::alloc::Global;
 use tls_codec::{
-    Deserialize, DeserializeBytes, Error, Lent2, Lent3, Serialize, Sink, Size, Source,
+    ByRef2, ByRef3, Deserialize, DeserializeBytes, Error, Serialize, Sink, Size, Source,
 };
 use tls_codec_cases::append_as;
 use tls_codec_validate::{Rejected, Validate};
@@ -39,8 +39,8 @@ impl Size for Capabilities {
 
     fn tls_serialized_len(&self) -> usize {
         (
-            Lent3(&self.versions, &self.cipher_suites, &self.extensions),
-            Lent2(&self.proposals, &self.credentials),
+            ByRef3(&self.versions, &self.cipher_suites, &self.extensions),
+            ByRef2(&self.proposals, &self.credentials),
         )
             .tls_serialized_len()
     }
@@ -51,8 +51,8 @@ impl Size for Capabilities {
 impl Serialize for Capabilities {
     fn tls_serialize<W: Sink>(&self, writer: &mut W) -> Result<usize, Error> {
         (
-            Lent3(&self.versions, &self.cipher_suites, &self.extensions),
-            Lent2(&self.proposals, &self.credentials),
+            ByRef3(&self.versions, &self.cipher_suites, &self.extensions),
+            ByRef2(&self.proposals, &self.credentials),
         )
             .tls_serialize(writer)
     }
@@ -61,8 +61,8 @@ impl Serialize for Capabilities {
         append_as(
             self,
             &(
-                Lent3(&self.versions, &self.cipher_suites, &self.extensions),
-                Lent2(&self.proposals, &self.credentials),
+                ByRef3(&self.versions, &self.cipher_suites, &self.extensions),
+                ByRef2(&self.proposals, &self.credentials),
             ),
             out,
         )

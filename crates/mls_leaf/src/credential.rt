@@ -10,7 +10,7 @@ ghost use Rattle.mls_leaf.specs.declared.credential.CredentialView.{CredentialVi
 use crate::{Certificate, CredentialType};
 use std::alloc::Global;
 use tls_codec::{
-    Deserialize, DeserializeBytes, Error, Lent, Serialize, Sink, Size, Source, VLBytes,
+    ByRef, Deserialize, DeserializeBytes, Error, Serialize, Sink, Size, Source, VLBytes,
     unknown_value,
 };
 use tls_codec_validate::{Rejected, Validate, split_u16};
@@ -37,8 +37,8 @@ impl Size for Credential {
 
     fn tls_serialized_len(&self) -> usize {
         match self {
-            Credential::Basic(identity) => (BASIC, Lent(identity)).tls_serialized_len(),
-            Credential::X509(certificates) => (X509, Lent(certificates)).tls_serialized_len(),
+            Credential::Basic(identity) => (BASIC, ByRef(identity)).tls_serialized_len(),
+            Credential::X509(certificates) => (X509, ByRef(certificates)).tls_serialized_len(),
         }
     }
 
@@ -48,15 +48,15 @@ impl Size for Credential {
 impl Serialize for Credential {
     fn tls_serialize<W: Sink>(&self, writer: &mut W) -> Result<usize, Error> {
         match self {
-            Credential::Basic(identity) => (BASIC, Lent(identity)).tls_serialize(writer),
-            Credential::X509(certificates) => (X509, Lent(certificates)).tls_serialize(writer),
+            Credential::Basic(identity) => (BASIC, ByRef(identity)).tls_serialize(writer),
+            Credential::X509(certificates) => (X509, ByRef(certificates)).tls_serialize(writer),
         }
     }
 
     fn tls_serialize_into(&self, out: &mut Vec<u8>) -> Result<usize, Error> {
         match self {
-            Credential::Basic(identity) => (BASIC, Lent(identity)).tls_serialize_into(out),
-            Credential::X509(certificates) => (X509, Lent(certificates)).tls_serialize_into(out),
+            Credential::Basic(identity) => (BASIC, ByRef(identity)).tls_serialize_into(out),
+            Credential::X509(certificates) => (X509, ByRef(certificates)).tls_serialize_into(out),
         }
     }
 }

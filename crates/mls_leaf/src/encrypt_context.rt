@@ -3,7 +3,7 @@ ghost use Rattle.std.specs.Prelude.{◌≡◌, ◌&&◌};
 ghost use Rattle.mls_leaf.specs.EncryptContext.{encrypt_context_format, encrypt_context_meets, encrypt_context_plain};
 ghost use Rattle.mls_leaf.specs.declared.encrypt_context.EncryptContext.{EncryptContext};
 
-use tls_codec::{Error, Lent, Serialize, Sink, Size, VLBytes};
+use tls_codec::{ByRef, Error, Serialize, Sink, Size, VLBytes};
 use tls_codec_cases::append_as;
 
 /// `EncryptContext` (RFC 9420, section 5.1.3).
@@ -23,7 +23,7 @@ impl Size for EncryptContext<'_> {
     ghost format = { encrypt_context_format };
 
     fn tls_serialized_len(&self) -> usize {
-        (Lent(self.label), Lent(self.context)).tls_serialized_len()
+        (ByRef(self.label), ByRef(self.context)).tls_serialized_len()
     }
 
     ghost lawful = { encrypt_context_meets };
@@ -31,11 +31,11 @@ impl Size for EncryptContext<'_> {
 
 impl Serialize for EncryptContext<'_> {
     fn tls_serialize<W: Sink>(&self, writer: &mut W) -> Result<usize, Error> {
-        (Lent(self.label), Lent(self.context)).tls_serialize(writer)
+        (ByRef(self.label), ByRef(self.context)).tls_serialize(writer)
     }
 
     fn tls_serialize_into(&self, out: &mut Vec<u8>) -> Result<usize, Error> {
-        append_as(self, &(Lent(self.label), Lent(self.context)), out)
+        append_as(self, &(ByRef(self.label), ByRef(self.context)), out)
     }
 }
 

@@ -6,7 +6,7 @@ ghost use Rattle.mls_leaf.specs.declared.key_package.KeyPackage.{KeyPackage};
 use crate::{CipherSuite, Extension, HPKEPublicKey, LeafNode, ProtocolVersion};
 use std::alloc::Global;
 use tls_codec::{
-    Deserialize, DeserializeBytes, Error, Lent3, Serialize, Sink, Size, Source, VLBytes,
+    ByRef3, Deserialize, DeserializeBytes, Error, Serialize, Sink, Size, Source, VLBytes,
 };
 use tls_codec_cases::append_as;
 use tls_codec_validate::{Rejected, Validate};
@@ -42,8 +42,8 @@ impl Size for KeyPackage {
 
     fn tls_serialized_len(&self) -> usize {
         (
-            Lent3(&self.version, &self.cipher_suite, &self.init_key),
-            Lent3(&self.leaf_node, &self.extensions, &self.signature),
+            ByRef3(&self.version, &self.cipher_suite, &self.init_key),
+            ByRef3(&self.leaf_node, &self.extensions, &self.signature),
         )
             .tls_serialized_len()
     }
@@ -54,8 +54,8 @@ impl Size for KeyPackage {
 impl Serialize for KeyPackage {
     fn tls_serialize<W: Sink>(&self, writer: &mut W) -> Result<usize, Error> {
         (
-            Lent3(&self.version, &self.cipher_suite, &self.init_key),
-            Lent3(&self.leaf_node, &self.extensions, &self.signature),
+            ByRef3(&self.version, &self.cipher_suite, &self.init_key),
+            ByRef3(&self.leaf_node, &self.extensions, &self.signature),
         )
             .tls_serialize(writer)
     }
@@ -64,8 +64,8 @@ impl Serialize for KeyPackage {
         append_as(
             self,
             &(
-                Lent3(&self.version, &self.cipher_suite, &self.init_key),
-                Lent3(&self.leaf_node, &self.extensions, &self.signature),
+                ByRef3(&self.version, &self.cipher_suite, &self.init_key),
+                ByRef3(&self.leaf_node, &self.extensions, &self.signature),
             ),
             out,
         )

@@ -4,7 +4,7 @@ ghost use Rattle.mls_leaf.specs.KeyPackageTBS.{key_package_tbs_format, key_packa
 ghost use Rattle.mls_leaf.specs.declared.key_package_tbs.KeyPackageTBS.{KeyPackageTBS};
 
 use crate::{CipherSuite, Extension, HPKEPublicKey, KeyPackage, LeafNode, ProtocolVersion};
-use tls_codec::{Error, Lent2, Lent3, Serialize, Sink, Size};
+use tls_codec::{ByRef2, ByRef3, Error, Serialize, Sink, Size};
 use tls_codec_cases::append_as;
 
 /// `KeyPackageTBS` (RFC 9420, section 10).
@@ -31,8 +31,8 @@ impl Size for KeyPackageTBS<'_> {
 
     fn tls_serialized_len(&self) -> usize {
         (
-            Lent3(self.version, self.cipher_suite, self.init_key),
-            Lent2(self.leaf_node, self.extensions),
+            ByRef3(self.version, self.cipher_suite, self.init_key),
+            ByRef2(self.leaf_node, self.extensions),
         )
             .tls_serialized_len()
     }
@@ -43,8 +43,8 @@ impl Size for KeyPackageTBS<'_> {
 impl Serialize for KeyPackageTBS<'_> {
     fn tls_serialize<W: Sink>(&self, writer: &mut W) -> Result<usize, Error> {
         (
-            Lent3(self.version, self.cipher_suite, self.init_key),
-            Lent2(self.leaf_node, self.extensions),
+            ByRef3(self.version, self.cipher_suite, self.init_key),
+            ByRef2(self.leaf_node, self.extensions),
         )
             .tls_serialize(writer)
     }
@@ -53,8 +53,8 @@ impl Serialize for KeyPackageTBS<'_> {
         append_as(
             self,
             &(
-                Lent3(self.version, self.cipher_suite, self.init_key),
-                Lent2(self.leaf_node, self.extensions),
+                ByRef3(self.version, self.cipher_suite, self.init_key),
+                ByRef2(self.leaf_node, self.extensions),
             ),
             out,
         )
@@ -63,12 +63,12 @@ impl Serialize for KeyPackageTBS<'_> {
 
 /// What is signed of a `KeyPackage`.
 impl<'a> From<&'a KeyPackage> for KeyPackageTBS<'a> {
-    ghost from_gives = { λ whole lent.
-        (lent.version.now ≡ whole.now.version)
-        × (lent.cipher_suite.now ≡ whole.now.cipher_suite)
-        × (lent.init_key.now ≡ whole.now.init_key)
-        × (lent.leaf_node.now ≡ whole.now.leaf_node)
-        × (lent.extensions.now ≡ whole.now.extensions) };
+    ghost from_gives = { λ whole borrowed.
+        (borrowed.version.now ≡ whole.now.version)
+        × (borrowed.cipher_suite.now ≡ whole.now.cipher_suite)
+        × (borrowed.init_key.now ≡ whole.now.init_key)
+        × (borrowed.leaf_node.now ≡ whole.now.leaf_node)
+        × (borrowed.extensions.now ≡ whole.now.extensions) };
 
     fn from(whole: &'a KeyPackage) -> KeyPackageTBS<'a> {
         KeyPackageTBS {

@@ -8,7 +8,7 @@ use crate::{
 };
 use std::alloc::Global;
 use tls_codec::{
-    Deserialize, DeserializeBytes, Error, Lent2, Lent3, Serialize, Sink, Size, Source, VLBytes,
+    ByRef2, ByRef3, Deserialize, DeserializeBytes, Error, Serialize, Sink, Size, Source, VLBytes,
 };
 use tls_codec_cases::append_as;
 use tls_codec_validate::{Rejected, Validate};
@@ -47,9 +47,9 @@ impl Size for LeafNode {
 
     fn tls_serialized_len(&self) -> usize {
         (
-            Lent3(&self.encryption_key, &self.signature_key, &self.credential),
-            Lent2(&self.capabilities, &self.leaf_node_source),
-            Lent2(&self.extensions, &self.signature),
+            ByRef3(&self.encryption_key, &self.signature_key, &self.credential),
+            ByRef2(&self.capabilities, &self.leaf_node_source),
+            ByRef2(&self.extensions, &self.signature),
         )
             .tls_serialized_len()
     }
@@ -60,9 +60,9 @@ impl Size for LeafNode {
 impl Serialize for LeafNode {
     fn tls_serialize<W: Sink>(&self, writer: &mut W) -> Result<usize, Error> {
         (
-            Lent3(&self.encryption_key, &self.signature_key, &self.credential),
-            Lent2(&self.capabilities, &self.leaf_node_source),
-            Lent2(&self.extensions, &self.signature),
+            ByRef3(&self.encryption_key, &self.signature_key, &self.credential),
+            ByRef2(&self.capabilities, &self.leaf_node_source),
+            ByRef2(&self.extensions, &self.signature),
         )
             .tls_serialize(writer)
     }
@@ -71,9 +71,9 @@ impl Serialize for LeafNode {
         append_as(
             self,
             &(
-                Lent3(&self.encryption_key, &self.signature_key, &self.credential),
-                Lent2(&self.capabilities, &self.leaf_node_source),
-                Lent2(&self.extensions, &self.signature),
+                ByRef3(&self.encryption_key, &self.signature_key, &self.credential),
+                ByRef2(&self.capabilities, &self.leaf_node_source),
+                ByRef2(&self.extensions, &self.signature),
             ),
             out,
         )

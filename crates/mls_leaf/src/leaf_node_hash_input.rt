@@ -5,7 +5,7 @@ ghost use Rattle.mls_leaf.specs.declared.leaf_node_hash_input.LeafNodeHashInput.
 
 use crate::LeafNode;
 use std::alloc::Global;
-use tls_codec::{Deserialize, DeserializeBytes, Error, Lent, Serialize, Sink, Size, Source};
+use tls_codec::{ByRef, Deserialize, DeserializeBytes, Error, Serialize, Sink, Size, Source};
 use tls_codec_cases::append_as;
 use tls_codec_validate::{Rejected, Validate};
 use tls_codec_views::{Encoded, Parted};
@@ -27,7 +27,7 @@ impl Size for LeafNodeHashInput {
     ghost format = { leaf_node_hash_input_format };
 
     fn tls_serialized_len(&self) -> usize {
-        (Lent(&self.leaf_index), Lent(&self.leaf_node)).tls_serialized_len()
+        (ByRef(&self.leaf_index), ByRef(&self.leaf_node)).tls_serialized_len()
     }
 
     ghost lawful = { leaf_node_hash_input_meets };
@@ -35,11 +35,15 @@ impl Size for LeafNodeHashInput {
 
 impl Serialize for LeafNodeHashInput {
     fn tls_serialize<W: Sink>(&self, writer: &mut W) -> Result<usize, Error> {
-        (Lent(&self.leaf_index), Lent(&self.leaf_node)).tls_serialize(writer)
+        (ByRef(&self.leaf_index), ByRef(&self.leaf_node)).tls_serialize(writer)
     }
 
     fn tls_serialize_into(&self, out: &mut Vec<u8>) -> Result<usize, Error> {
-        append_as(self, &(Lent(&self.leaf_index), Lent(&self.leaf_node)), out)
+        append_as(
+            self,
+            &(ByRef(&self.leaf_index), ByRef(&self.leaf_node)),
+            out,
+        )
     }
 }
 

@@ -10,7 +10,7 @@ ghost use Rattle.mls_leaf.specs.declared.leaf_node_origin.LeafNodeOriginView.{Le
 use crate::Lifetime;
 use std::alloc::Global;
 use tls_codec::{
-    Deserialize, DeserializeBytes, Error, Lent, Serialize, Sink, Size, Source, VLBytes,
+    ByRef, Deserialize, DeserializeBytes, Error, Serialize, Sink, Size, Source, VLBytes,
     unknown_value,
 };
 use tls_codec_validate::{Rejected, Validate, split_u8};
@@ -43,10 +43,13 @@ impl Size for LeafNodeOrigin {
         match self {
             LeafNodeOrigin::KeyPackage(lifetime) => (
                 KEY_PACKAGE,
-                Lent(lifetime),
+                ByRef(lifetime),
             ).tls_serialized_len(),
             LeafNodeOrigin::Update => 1,
-            LeafNodeOrigin::Commit(parent_hash) => (COMMIT, Lent(parent_hash)).tls_serialized_len(),
+            LeafNodeOrigin::Commit(parent_hash) => (
+                COMMIT,
+                ByRef(parent_hash),
+            ).tls_serialized_len(),
         }
     }
 
@@ -56,11 +59,11 @@ impl Size for LeafNodeOrigin {
 impl Serialize for LeafNodeOrigin {
     fn tls_serialize<W: Sink>(&self, writer: &mut W) -> Result<usize, Error> {
         match self {
-            LeafNodeOrigin::KeyPackage(lifetime) => (KEY_PACKAGE, Lent(lifetime)).tls_serialize(
+            LeafNodeOrigin::KeyPackage(lifetime) => (KEY_PACKAGE, ByRef(lifetime)).tls_serialize(
                 writer,
             ),
             LeafNodeOrigin::Update => UPDATE.tls_serialize(writer),
-            LeafNodeOrigin::Commit(parent_hash) => (COMMIT, Lent(parent_hash)).tls_serialize(
+            LeafNodeOrigin::Commit(parent_hash) => (COMMIT, ByRef(parent_hash)).tls_serialize(
                 writer,
             ),
         }
@@ -70,10 +73,10 @@ impl Serialize for LeafNodeOrigin {
         match self {
             LeafNodeOrigin::KeyPackage(lifetime) => (
                 KEY_PACKAGE,
-                Lent(lifetime),
+                ByRef(lifetime),
             ).tls_serialize_into(out),
             LeafNodeOrigin::Update => UPDATE.tls_serialize_into(out),
-            LeafNodeOrigin::Commit(parent_hash) => (COMMIT, Lent(parent_hash)).tls_serialize_into(
+            LeafNodeOrigin::Commit(parent_hash) => (COMMIT, ByRef(parent_hash)).tls_serialize_into(
                 out,
             ),
         }

@@ -4,7 +4,7 @@ ghost use Rattle.mls_leaf.specs.LeafNodeTBS.{leaf_node_tbs_format, leaf_node_tbs
 ghost use Rattle.mls_leaf.specs.declared.leaf_node_tbs.LeafNodeTBS.{LeafNodeTBS};
 
 use crate::{Capabilities, Credential, HPKEPublicKey, LeafNodeTBSOrigin, SignaturePublicKey};
-use tls_codec::{Error, Lent4, Serialize, Sink, Size};
+use tls_codec::{ByRef4, Error, Serialize, Sink, Size};
 use tls_codec_cases::append_as;
 
 /// `LeafNodeTBS` (RFC 9420, section 7.2).
@@ -34,7 +34,7 @@ impl Size for LeafNodeTBS<'_> {
 
     fn tls_serialized_len(&self) -> usize {
         (
-            Lent4(
+            ByRef4(
                 self.encryption_key,
                 self.signature_key,
                 self.credential,
@@ -51,7 +51,7 @@ impl Size for LeafNodeTBS<'_> {
 impl Serialize for LeafNodeTBS<'_> {
     fn tls_serialize<W: Sink>(&self, writer: &mut W) -> Result<usize, Error> {
         (
-            Lent4(
+            ByRef4(
                 self.encryption_key,
                 self.signature_key,
                 self.credential,
@@ -66,7 +66,7 @@ impl Serialize for LeafNodeTBS<'_> {
         append_as(
             self,
             &(
-                Lent4(
+                ByRef4(
                     self.encryption_key,
                     self.signature_key,
                     self.credential,

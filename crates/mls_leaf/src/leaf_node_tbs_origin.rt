@@ -4,7 +4,7 @@ ghost use Rattle.mls_leaf.specs.LeafNodeTBSOrigin.{leaf_node_tbs_origin_format, 
 ghost use Rattle.mls_leaf.specs.declared.leaf_node_tbs_origin.LeafNodeTBSOrigin.{LeafNodeTBSOrigin};
 
 use crate::{Extension, Lifetime};
-use tls_codec::{Error, Lent, Lent2, Serialize, Sink, Size, VLBytes};
+use tls_codec::{ByRef, ByRef2, Error, Serialize, Sink, Size, VLBytes};
 
 const KEY_PACKAGE: u8 = 1;
 
@@ -57,12 +57,12 @@ impl Size for LeafNodeTBSOrigin<'_> {
             LeafNodeTBSOrigin::KeyPackage {
                 lifetime,
                 extensions,
-            } => (KEY_PACKAGE, Lent(lifetime), Lent(extensions)).tls_serialized_len(),
+            } => (KEY_PACKAGE, ByRef(lifetime), ByRef(extensions)).tls_serialized_len(),
             LeafNodeTBSOrigin::Update {
                 extensions,
                 group_id,
                 leaf_index,
-            } => (UPDATE, Lent2(extensions, group_id), Lent(leaf_index)).tls_serialized_len(),
+            } => (UPDATE, ByRef2(extensions, group_id), ByRef(leaf_index)).tls_serialized_len(),
             LeafNodeTBSOrigin::Commit {
                 parent_hash,
                 extensions,
@@ -70,8 +70,8 @@ impl Size for LeafNodeTBSOrigin<'_> {
                 leaf_index,
             } => (
                 COMMIT,
-                Lent2(parent_hash, extensions),
-                Lent2(group_id, leaf_index),
+                ByRef2(parent_hash, extensions),
+                ByRef2(group_id, leaf_index),
             )
                 .tls_serialized_len(),
         }
@@ -86,12 +86,12 @@ impl Serialize for LeafNodeTBSOrigin<'_> {
             LeafNodeTBSOrigin::KeyPackage {
                 lifetime,
                 extensions,
-            } => (KEY_PACKAGE, Lent(lifetime), Lent(extensions)).tls_serialize(writer),
+            } => (KEY_PACKAGE, ByRef(lifetime), ByRef(extensions)).tls_serialize(writer),
             LeafNodeTBSOrigin::Update {
                 extensions,
                 group_id,
                 leaf_index,
-            } => (UPDATE, Lent2(extensions, group_id), Lent(leaf_index)).tls_serialize(writer),
+            } => (UPDATE, ByRef2(extensions, group_id), ByRef(leaf_index)).tls_serialize(writer),
             LeafNodeTBSOrigin::Commit {
                 parent_hash,
                 extensions,
@@ -99,8 +99,8 @@ impl Serialize for LeafNodeTBSOrigin<'_> {
                 leaf_index,
             } => (
                 COMMIT,
-                Lent2(parent_hash, extensions),
-                Lent2(group_id, leaf_index),
+                ByRef2(parent_hash, extensions),
+                ByRef2(group_id, leaf_index),
             )
                 .tls_serialize(writer),
         }
@@ -111,12 +111,12 @@ impl Serialize for LeafNodeTBSOrigin<'_> {
             LeafNodeTBSOrigin::KeyPackage {
                 lifetime,
                 extensions,
-            } => (KEY_PACKAGE, Lent(lifetime), Lent(extensions)).tls_serialize_into(out),
+            } => (KEY_PACKAGE, ByRef(lifetime), ByRef(extensions)).tls_serialize_into(out),
             LeafNodeTBSOrigin::Update {
                 extensions,
                 group_id,
                 leaf_index,
-            } => (UPDATE, Lent2(extensions, group_id), Lent(leaf_index)).tls_serialize_into(out),
+            } => (UPDATE, ByRef2(extensions, group_id), ByRef(leaf_index)).tls_serialize_into(out),
             LeafNodeTBSOrigin::Commit {
                 parent_hash,
                 extensions,
@@ -124,8 +124,8 @@ impl Serialize for LeafNodeTBSOrigin<'_> {
                 leaf_index,
             } => (
                 COMMIT,
-                Lent2(parent_hash, extensions),
-                Lent2(group_id, leaf_index),
+                ByRef2(parent_hash, extensions),
+                ByRef2(group_id, leaf_index),
             )
                 .tls_serialize_into(out),
         }

@@ -4,7 +4,7 @@ ghost use Rattle.mls_leaf.specs.Lifetime.{lifetime_format, lifetime_meets, lifet
 ghost use Rattle.mls_leaf.specs.declared.lifetime.Lifetime.{Lifetime};
 
 use std::alloc::Global;
-use tls_codec::{Deserialize, DeserializeBytes, Error, Lent, Serialize, Sink, Size, Source};
+use tls_codec::{ByRef, Deserialize, DeserializeBytes, Error, Serialize, Sink, Size, Source};
 use tls_codec_cases::append_as;
 use tls_codec_validate::{Rejected, Validate};
 use tls_codec_views::{Encoded, Parted};
@@ -26,7 +26,7 @@ impl Size for Lifetime {
     ghost format = { lifetime_format };
 
     fn tls_serialized_len(&self) -> usize {
-        (Lent(&self.not_before), Lent(&self.not_after)).tls_serialized_len()
+        (ByRef(&self.not_before), ByRef(&self.not_after)).tls_serialized_len()
     }
 
     ghost lawful = { lifetime_meets };
@@ -34,11 +34,15 @@ impl Size for Lifetime {
 
 impl Serialize for Lifetime {
     fn tls_serialize<W: Sink>(&self, writer: &mut W) -> Result<usize, Error> {
-        (Lent(&self.not_before), Lent(&self.not_after)).tls_serialize(writer)
+        (ByRef(&self.not_before), ByRef(&self.not_after)).tls_serialize(writer)
     }
 
     fn tls_serialize_into(&self, out: &mut Vec<u8>) -> Result<usize, Error> {
-        append_as(self, &(Lent(&self.not_before), Lent(&self.not_after)), out)
+        append_as(
+            self,
+            &(ByRef(&self.not_before), ByRef(&self.not_after)),
+            out,
+        )
     }
 }
 

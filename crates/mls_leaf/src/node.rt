@@ -10,7 +10,7 @@ ghost use Rattle.mls_leaf.specs.declared.node.NodeView.{NodeView};
 use crate::{LeafNode, ParentNode};
 use std::alloc::Global;
 use tls_codec::{
-    Deserialize, DeserializeBytes, Error, Lent, Serialize, Sink, Size, Source, unknown_value,
+    ByRef, Deserialize, DeserializeBytes, Error, Serialize, Sink, Size, Source, unknown_value,
 };
 use tls_codec_validate::{Rejected, Validate, split_u8};
 use tls_codec_views::{Choice, Encoded};
@@ -35,8 +35,8 @@ impl Size for Node {
 
     fn tls_serialized_len(&self) -> usize {
         match self {
-            Node::Leaf(leaf_node) => (LEAF, Lent(leaf_node)).tls_serialized_len(),
-            Node::Parent(parent_node) => (PARENT, Lent(parent_node)).tls_serialized_len(),
+            Node::Leaf(leaf_node) => (LEAF, ByRef(leaf_node)).tls_serialized_len(),
+            Node::Parent(parent_node) => (PARENT, ByRef(parent_node)).tls_serialized_len(),
         }
     }
 
@@ -46,15 +46,15 @@ impl Size for Node {
 impl Serialize for Node {
     fn tls_serialize<W: Sink>(&self, writer: &mut W) -> Result<usize, Error> {
         match self {
-            Node::Leaf(leaf_node) => (LEAF, Lent(leaf_node)).tls_serialize(writer),
-            Node::Parent(parent_node) => (PARENT, Lent(parent_node)).tls_serialize(writer),
+            Node::Leaf(leaf_node) => (LEAF, ByRef(leaf_node)).tls_serialize(writer),
+            Node::Parent(parent_node) => (PARENT, ByRef(parent_node)).tls_serialize(writer),
         }
     }
 
     fn tls_serialize_into(&self, out: &mut Vec<u8>) -> Result<usize, Error> {
         match self {
-            Node::Leaf(leaf_node) => (LEAF, Lent(leaf_node)).tls_serialize_into(out),
-            Node::Parent(parent_node) => (PARENT, Lent(parent_node)).tls_serialize_into(out),
+            Node::Leaf(leaf_node) => (LEAF, ByRef(leaf_node)).tls_serialize_into(out),
+            Node::Parent(parent_node) => (PARENT, ByRef(parent_node)).tls_serialize_into(out),
         }
     }
 }

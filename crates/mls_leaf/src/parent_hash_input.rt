@@ -4,7 +4,7 @@ ghost use Rattle.mls_leaf.specs.ParentHashInput.{parent_hash_input_format, paren
 ghost use Rattle.mls_leaf.specs.declared.parent_hash_input.ParentHashInput.{ParentHashInput};
 
 use crate::HPKEPublicKey;
-use tls_codec::{Error, Lent, Serialize, Sink, Size, VLBytes};
+use tls_codec::{ByRef, Error, Serialize, Sink, Size, VLBytes};
 use tls_codec_cases::append_as;
 
 /// `ParentHashInput` (RFC 9420, section 7.9).
@@ -27,9 +27,9 @@ impl Size for ParentHashInput<'_> {
 
     fn tls_serialized_len(&self) -> usize {
         (
-            Lent(self.encryption_key),
-            Lent(self.parent_hash),
-            Lent(self.original_sibling_tree_hash),
+            ByRef(self.encryption_key),
+            ByRef(self.parent_hash),
+            ByRef(self.original_sibling_tree_hash),
         )
             .tls_serialized_len()
     }
@@ -40,9 +40,9 @@ impl Size for ParentHashInput<'_> {
 impl Serialize for ParentHashInput<'_> {
     fn tls_serialize<W: Sink>(&self, writer: &mut W) -> Result<usize, Error> {
         (
-            Lent(self.encryption_key),
-            Lent(self.parent_hash),
-            Lent(self.original_sibling_tree_hash),
+            ByRef(self.encryption_key),
+            ByRef(self.parent_hash),
+            ByRef(self.original_sibling_tree_hash),
         )
             .tls_serialize(writer)
     }
@@ -51,9 +51,9 @@ impl Serialize for ParentHashInput<'_> {
         append_as(
             self,
             &(
-                Lent(self.encryption_key),
-                Lent(self.parent_hash),
-                Lent(self.original_sibling_tree_hash),
+                ByRef(self.encryption_key),
+                ByRef(self.parent_hash),
+                ByRef(self.original_sibling_tree_hash),
             ),
             out,
         )

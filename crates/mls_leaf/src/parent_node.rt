@@ -6,7 +6,7 @@ ghost use Rattle.mls_leaf.specs.declared.parent_node.ParentNode.{ParentNode};
 use crate::HPKEPublicKey;
 use std::alloc::Global;
 use tls_codec::{
-    Deserialize, DeserializeBytes, Error, Lent, Serialize, Sink, Size, Source, VLBytes,
+    ByRef, Deserialize, DeserializeBytes, Error, Serialize, Sink, Size, Source, VLBytes,
 };
 use tls_codec_cases::append_as;
 use tls_codec_validate::{Rejected, Validate};
@@ -32,9 +32,9 @@ impl Size for ParentNode {
 
     fn tls_serialized_len(&self) -> usize {
         (
-            Lent(&self.encryption_key),
-            Lent(&self.parent_hash),
-            Lent(&self.unmerged_leaves),
+            ByRef(&self.encryption_key),
+            ByRef(&self.parent_hash),
+            ByRef(&self.unmerged_leaves),
         )
             .tls_serialized_len()
     }
@@ -45,9 +45,9 @@ impl Size for ParentNode {
 impl Serialize for ParentNode {
     fn tls_serialize<W: Sink>(&self, writer: &mut W) -> Result<usize, Error> {
         (
-            Lent(&self.encryption_key),
-            Lent(&self.parent_hash),
-            Lent(&self.unmerged_leaves),
+            ByRef(&self.encryption_key),
+            ByRef(&self.parent_hash),
+            ByRef(&self.unmerged_leaves),
         )
             .tls_serialize(writer)
     }
@@ -56,9 +56,9 @@ impl Serialize for ParentNode {
         append_as(
             self,
             &(
-                Lent(&self.encryption_key),
-                Lent(&self.parent_hash),
-                Lent(&self.unmerged_leaves),
+                ByRef(&self.encryption_key),
+                ByRef(&self.parent_hash),
+                ByRef(&self.unmerged_leaves),
             ),
             out,
         )

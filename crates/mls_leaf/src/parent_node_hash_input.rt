@@ -6,7 +6,7 @@ ghost use Rattle.mls_leaf.specs.declared.parent_node_hash_input.ParentNodeHashIn
 use crate::ParentNode;
 use std::alloc::Global;
 use tls_codec::{
-    Deserialize, DeserializeBytes, Error, Lent, Serialize, Sink, Size, Source, VLBytes,
+    ByRef, Deserialize, DeserializeBytes, Error, Serialize, Sink, Size, Source, VLBytes,
 };
 use tls_codec_cases::append_as;
 use tls_codec_validate::{Rejected, Validate};
@@ -32,9 +32,9 @@ impl Size for ParentNodeHashInput {
 
     fn tls_serialized_len(&self) -> usize {
         (
-            Lent(&self.parent_node),
-            Lent(&self.left_hash),
-            Lent(&self.right_hash),
+            ByRef(&self.parent_node),
+            ByRef(&self.left_hash),
+            ByRef(&self.right_hash),
         )
             .tls_serialized_len()
     }
@@ -45,9 +45,9 @@ impl Size for ParentNodeHashInput {
 impl Serialize for ParentNodeHashInput {
     fn tls_serialize<W: Sink>(&self, writer: &mut W) -> Result<usize, Error> {
         (
-            Lent(&self.parent_node),
-            Lent(&self.left_hash),
-            Lent(&self.right_hash),
+            ByRef(&self.parent_node),
+            ByRef(&self.left_hash),
+            ByRef(&self.right_hash),
         )
             .tls_serialize(writer)
     }
@@ -56,9 +56,9 @@ impl Serialize for ParentNodeHashInput {
         append_as(
             self,
             &(
-                Lent(&self.parent_node),
-                Lent(&self.left_hash),
-                Lent(&self.right_hash),
+                ByRef(&self.parent_node),
+                ByRef(&self.left_hash),
+                ByRef(&self.right_hash),
             ),
             out,
         )

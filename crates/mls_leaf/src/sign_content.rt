@@ -3,7 +3,7 @@ ghost use Rattle.std.specs.Prelude.{◌≡◌, ◌&&◌};
 ghost use Rattle.mls_leaf.specs.SignContent.{sign_content_format, sign_content_meets, sign_content_plain};
 ghost use Rattle.mls_leaf.specs.declared.sign_content.SignContent.{SignContent};
 
-use tls_codec::{Error, Lent, Serialize, Sink, Size, VLBytes};
+use tls_codec::{ByRef, Error, Serialize, Sink, Size, VLBytes};
 use tls_codec_cases::append_as;
 
 /// `SignContent` (RFC 9420, section 5.1.2).
@@ -23,7 +23,7 @@ impl Size for SignContent<'_> {
     ghost format = { sign_content_format };
 
     fn tls_serialized_len(&self) -> usize {
-        (Lent(self.label), Lent(self.content)).tls_serialized_len()
+        (ByRef(self.label), ByRef(self.content)).tls_serialized_len()
     }
 
     ghost lawful = { sign_content_meets };
@@ -31,11 +31,11 @@ impl Size for SignContent<'_> {
 
 impl Serialize for SignContent<'_> {
     fn tls_serialize<W: Sink>(&self, writer: &mut W) -> Result<usize, Error> {
-        (Lent(self.label), Lent(self.content)).tls_serialize(writer)
+        (ByRef(self.label), ByRef(self.content)).tls_serialize(writer)
     }
 
     fn tls_serialize_into(&self, out: &mut Vec<u8>) -> Result<usize, Error> {
-        append_as(self, &(Lent(self.label), Lent(self.content)), out)
+        append_as(self, &(ByRef(self.label), ByRef(self.content)), out)
     }
 }
 

@@ -10,7 +10,7 @@ ghost use Rattle.mls_leaf.specs.declared.tree_hash_input.TreeHashInputView.{Tree
 use crate::{LeafNodeHashInput, ParentNodeHashInput};
 use std::alloc::Global;
 use tls_codec::{
-    Deserialize, DeserializeBytes, Error, Lent, Serialize, Sink, Size, Source, unknown_value,
+    ByRef, Deserialize, DeserializeBytes, Error, Serialize, Sink, Size, Source, unknown_value,
 };
 use tls_codec_validate::{Rejected, Validate, split_u8};
 use tls_codec_views::{Choice, Encoded};
@@ -36,8 +36,8 @@ impl Size for TreeHashInput {
 
     fn tls_serialized_len(&self) -> usize {
         match self {
-            TreeHashInput::Leaf(leaf_node) => (LEAF, Lent(leaf_node)).tls_serialized_len(),
-            TreeHashInput::Parent(parent_node) => (PARENT, Lent(parent_node)).tls_serialized_len(),
+            TreeHashInput::Leaf(leaf_node) => (LEAF, ByRef(leaf_node)).tls_serialized_len(),
+            TreeHashInput::Parent(parent_node) => (PARENT, ByRef(parent_node)).tls_serialized_len(),
         }
     }
 
@@ -47,15 +47,17 @@ impl Size for TreeHashInput {
 impl Serialize for TreeHashInput {
     fn tls_serialize<W: Sink>(&self, writer: &mut W) -> Result<usize, Error> {
         match self {
-            TreeHashInput::Leaf(leaf_node) => (LEAF, Lent(leaf_node)).tls_serialize(writer),
-            TreeHashInput::Parent(parent_node) => (PARENT, Lent(parent_node)).tls_serialize(writer),
+            TreeHashInput::Leaf(leaf_node) => (LEAF, ByRef(leaf_node)).tls_serialize(writer),
+            TreeHashInput::Parent(parent_node) => (PARENT, ByRef(parent_node)).tls_serialize(
+                writer,
+            ),
         }
     }
 
     fn tls_serialize_into(&self, out: &mut Vec<u8>) -> Result<usize, Error> {
         match self {
-            TreeHashInput::Leaf(leaf_node) => (LEAF, Lent(leaf_node)).tls_serialize_into(out),
-            TreeHashInput::Parent(parent_node) => (PARENT, Lent(parent_node)).tls_serialize_into(
+            TreeHashInput::Leaf(leaf_node) => (LEAF, ByRef(leaf_node)).tls_serialize_into(out),
+            TreeHashInput::Parent(parent_node) => (PARENT, ByRef(parent_node)).tls_serialize_into(
                 out,
             ),
         }

@@ -6,7 +6,7 @@ use Rattle.tls_presentation.specs.Definition.{word}
 use Rattle.mls_leaf_laws.specs.Definitions.{mls_leaf}
 use Rattle.std.specs.Prelude.{◌↔◌}
 use Rattle.tls_presentation.specs.Says.{called}
-use Rattle.tls_presentation.proofs.Saying.{struct_saying, lent_saying, number_saying, case_saying}
+use Rattle.tls_presentation.proofs.Saying.{struct_saying, borrowed_saying, number_saying, case_saying}
 use Rattle.mls_leaf.specs.Capabilities.{capabilities_format, capabilities_plain}
 use Rattle.mls_leaf.specs.Certificate.{certificate_format, certificate_plain}
 use Rattle.mls_leaf.specs.CipherSuite.{cipher_suite_format, cipher_suite_plain}
@@ -90,7 +90,7 @@ pub credential_type_saying : (v : CredentialType) (d : Direction) (b : List ℕ)
 credential_type_saying v d b = number_saying mls_leaf "CredentialType" v.0 d b
 
 pub encrypt_context_saying : (v : EncryptContext) (d : Direction) (b : List ℕ) → encrypt_context_format.spells d b (encrypt_context_plain v) ↔ EncryptContextSays v d b
-encrypt_context_saying v d b = lent_saying mls_leaf "EncryptContext" Empty (called "label" (number_trees (bytes_of v.label.now)) ∷
+encrypt_context_saying v d b = borrowed_saying mls_leaf "EncryptContext" Empty (called "label" (number_trees (bytes_of v.label.now)) ∷
     called "context" (number_trees (bytes_of v.context.now)) ∷
     []) d b
 
@@ -112,7 +112,7 @@ key_package_saying v d b = struct_saying mls_leaf "KeyPackage" Empty (called "ve
     []) d b
 
 pub key_package_tbs_saying : (v : KeyPackageTBS) (d : Direction) (b : List ℕ) → key_package_tbs_format.spells d b (key_package_tbs_plain v) ↔ KeyPackageTBSSays v d b
-key_package_tbs_saying v d b = lent_saying mls_leaf "KeyPackageTBS" Empty (called "version" (protocol_version_plain v.version.now) ∷
+key_package_tbs_saying v d b = borrowed_saying mls_leaf "KeyPackageTBS" Empty (called "version" (protocol_version_plain v.version.now) ∷
     called "cipher_suite" (cipher_suite_plain v.cipher_suite.now) ∷
     called "init_key" (number_trees (bytes_of v.init_key.now)) ∷
     called "leaf_node" (leaf_node_plain v.leaf_node.now) ∷
@@ -142,7 +142,7 @@ leaf_node_origin_saying (LeafNodeOriginCommit a0) d b = case_saying mls_leaf "Le
     []) d b
 
 pub leaf_node_tbs_saying : (v : LeafNodeTBS) (d : Direction) (b : List ℕ) → leaf_node_tbs_format.spells d b (leaf_node_tbs_plain v) ↔ LeafNodeTBSSays v d b
-leaf_node_tbs_saying v d b = lent_saying mls_leaf "LeafNodeTBS" Empty (called "encryption_key" (number_trees (bytes_of v.encryption_key.now)) ∷
+leaf_node_tbs_saying v d b = borrowed_saying mls_leaf "LeafNodeTBS" Empty (called "encryption_key" (number_trees (bytes_of v.encryption_key.now)) ∷
     called "signature_key" (number_trees (bytes_of v.signature_key.now)) ∷
     called "credential" (credential_plain v.credential.now) ∷
     called "capabilities" (capabilities_plain v.capabilities.now) ∷
@@ -175,7 +175,7 @@ node_saying (NodeParent a0) d b = case_saying mls_leaf "Node" "node_type" (word 
     []) d b
 
 pub parent_hash_input_saying : (v : ParentHashInput) (d : Direction) (b : List ℕ) → parent_hash_input_format.spells d b (parent_hash_input_plain v) ↔ ParentHashInputSays v d b
-parent_hash_input_saying v d b = lent_saying mls_leaf "ParentHashInput" Empty (called "encryption_key" (number_trees (bytes_of v.encryption_key.now)) ∷
+parent_hash_input_saying v d b = borrowed_saying mls_leaf "ParentHashInput" Empty (called "encryption_key" (number_trees (bytes_of v.encryption_key.now)) ∷
     called "parent_hash" (number_trees (bytes_of v.parent_hash.now)) ∷
     called "original_sibling_tree_hash" (number_trees (bytes_of v.original_sibling_tree_hash.now)) ∷
     []) d b
@@ -203,7 +203,7 @@ ratchet_tree_saying v d b = struct_saying mls_leaf "RatchetTree" Empty (called "
     []) d b
 
 pub sign_content_saying : (v : SignContent) (d : Direction) (b : List ℕ) → sign_content_format.spells d b (sign_content_plain v) ↔ SignContentSays v d b
-sign_content_saying v d b = lent_saying mls_leaf "SignContent" Empty (called "label" (number_trees (bytes_of v.label.now)) ∷
+sign_content_saying v d b = borrowed_saying mls_leaf "SignContent" Empty (called "label" (number_trees (bytes_of v.label.now)) ∷
     called "content" (number_trees (bytes_of v.content.now)) ∷
     []) d b
 

@@ -1,6 +1,6 @@
 -- What mls_leaf.tls says: the definitions, the notes, and the text that they are.
 use Rattle.std.specs.Prelude.{List, [], ◌∷◌, codes}
-use Rattle.tls_presentation.specs.Definition.{Numeral, One, Variable, Width, Ended, Plain, Definition, Alias, Note, Equals, IsLent, field, optional, has, value, case, select, called, enum, struct}
+use Rattle.tls_presentation.specs.Definition.{Numeral, One, Variable, Width, Ended, Plain, Definition, Alias, Note, Equals, IsBorrowed, field, optional, has, value, case, select, called, enum, struct}
 use Rattle.tls_presentation.specs.Meaning.{Text, text_of}
 
 abbrev pub cipher_suite_definition : Definition
@@ -246,11 +246,11 @@ notes =
     Equals (codes "ProposalType.reinit") (Numeral 5) ∷
     Equals (codes "ProposalType.external_init") (Numeral 6) ∷
     Equals (codes "ProposalType.group_context_extensions") (Numeral 7) ∷
-    IsLent (codes "SignContent") ∷
-    IsLent (codes "EncryptContext") ∷
-    IsLent (codes "LeafNodeTBS") ∷
-    IsLent (codes "ParentHashInput") ∷
-    IsLent (codes "KeyPackageTBS") ∷
+    IsBorrowed (codes "SignContent") ∷
+    IsBorrowed (codes "EncryptContext") ∷
+    IsBorrowed (codes "LeafNodeTBS") ∷
+    IsBorrowed (codes "ParentHashInput") ∷
+    IsBorrowed (codes "KeyPackageTBS") ∷
     []
 
 abbrev pub mls_leaf : Text

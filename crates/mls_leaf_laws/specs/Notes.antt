@@ -36,9 +36,9 @@ notes_text = lines (
     "ProposalType.group_context_extensions = 7;" ∷
     "" ∷
     "// What is signed or hashed, and only written: it borrows its parts." ∷
-    "SignContent is lent;" ∷
-    "EncryptContext is lent;" ∷
-    "LeafNodeTBS is lent;" ∷
-    "ParentHashInput is lent;" ∷
-    "KeyPackageTBS is lent;" ∷
+    "SignContent is borrowed;" ∷
+    "EncryptContext is borrowed;" ∷
+    "LeafNodeTBS is borrowed;" ∷
+    "ParentHashInput is borrowed;" ∷
+    "KeyPackageTBS is borrowed;" ∷
     [])

@@ -5,7 +5,7 @@ ghost use Rattle.mls_proposals.specs.declared.commit.Commit.{Commit};
 
 use crate::{ProposalOrRef, UpdatePath};
 use std::alloc::Global;
-use tls_codec::{Deserialize, DeserializeBytes, Error, Lent, Serialize, Sink, Size, Source};
+use tls_codec::{ByRef, Deserialize, DeserializeBytes, Error, Serialize, Sink, Size, Source};
 use tls_codec_cases::append_as;
 use tls_codec_validate::{Rejected, Validate};
 use tls_codec_views::{Encoded, Parted};
@@ -27,7 +27,7 @@ impl Size for Commit {
     ghost format = { commit_format };
 
     fn tls_serialized_len(&self) -> usize {
-        (Lent(&self.proposals), Lent(&self.path)).tls_serialized_len()
+        (ByRef(&self.proposals), ByRef(&self.path)).tls_serialized_len()
     }
 
     ghost lawful = { commit_meets };
@@ -35,11 +35,11 @@ impl Size for Commit {
 
 impl Serialize for Commit {
     fn tls_serialize<W: Sink>(&self, writer: &mut W) -> Result<usize, Error> {
-        (Lent(&self.proposals), Lent(&self.path)).tls_serialize(writer)
+        (ByRef(&self.proposals), ByRef(&self.path)).tls_serialize(writer)
     }
 
     fn tls_serialize_into(&self, out: &mut Vec<u8>) -> Result<usize, Error> {
-        append_as(self, &(Lent(&self.proposals), Lent(&self.path)), out)
+        append_as(self, &(ByRef(&self.proposals), ByRef(&self.path)), out)
     }
 }
 

@@ -5,7 +5,7 @@ ghost use Rattle.mls_proposals.specs.declared.encrypted_group_secrets.EncryptedG
 
 use crate::{HPKECiphertext, KeyPackageRef};
 use std::alloc::Global;
-use tls_codec::{Deserialize, DeserializeBytes, Error, Lent, Serialize, Sink, Size, Source};
+use tls_codec::{ByRef, Deserialize, DeserializeBytes, Error, Serialize, Sink, Size, Source};
 use tls_codec_cases::append_as;
 use tls_codec_validate::{Rejected, Validate};
 use tls_codec_views::{Encoded, Parted};
@@ -27,7 +27,11 @@ impl Size for EncryptedGroupSecrets {
     ghost format = { encrypted_group_secrets_format };
 
     fn tls_serialized_len(&self) -> usize {
-        (Lent(&self.new_member), Lent(&self.encrypted_group_secrets)).tls_serialized_len()
+        (
+            ByRef(&self.new_member),
+            ByRef(&self.encrypted_group_secrets),
+        )
+            .tls_serialized_len()
     }
 
     ghost lawful = { encrypted_group_secrets_meets };
@@ -35,13 +39,20 @@ impl Size for EncryptedGroupSecrets {
 
 impl Serialize for EncryptedGroupSecrets {
     fn tls_serialize<W: Sink>(&self, writer: &mut W) -> Result<usize, Error> {
-        (Lent(&self.new_member), Lent(&self.encrypted_group_secrets)).tls_serialize(writer)
+        (
+            ByRef(&self.new_member),
+            ByRef(&self.encrypted_group_secrets),
+        )
+            .tls_serialize(writer)
     }
 
     fn tls_serialize_into(&self, out: &mut Vec<u8>) -> Result<usize, Error> {
         append_as(
             self,
-            &(Lent(&self.new_member), Lent(&self.encrypted_group_secrets)),
+            &(
+                ByRef(&self.new_member),
+                ByRef(&self.encrypted_group_secrets),
+            ),
             out,
         )
     }

@@ -5,7 +5,7 @@ ghost use Rattle.mls_proposals.specs.declared.external_sender.ExternalSender.{Ex
 
 use mls_leaf::{Credential, SignaturePublicKey};
 use std::alloc::Global;
-use tls_codec::{Deserialize, DeserializeBytes, Error, Lent, Serialize, Sink, Size, Source};
+use tls_codec::{ByRef, Deserialize, DeserializeBytes, Error, Serialize, Sink, Size, Source};
 use tls_codec_cases::append_as;
 use tls_codec_validate::{Rejected, Validate};
 use tls_codec_views::{Encoded, Parted};
@@ -27,7 +27,7 @@ impl Size for ExternalSender {
     ghost format = { external_sender_format };
 
     fn tls_serialized_len(&self) -> usize {
-        (Lent(&self.signature_key), Lent(&self.credential)).tls_serialized_len()
+        (ByRef(&self.signature_key), ByRef(&self.credential)).tls_serialized_len()
     }
 
     ghost lawful = { external_sender_meets };
@@ -35,13 +35,13 @@ impl Size for ExternalSender {
 
 impl Serialize for ExternalSender {
     fn tls_serialize<W: Sink>(&self, writer: &mut W) -> Result<usize, Error> {
-        (Lent(&self.signature_key), Lent(&self.credential)).tls_serialize(writer)
+        (ByRef(&self.signature_key), ByRef(&self.credential)).tls_serialize(writer)
     }
 
     fn tls_serialize_into(&self, out: &mut Vec<u8>) -> Result<usize, Error> {
         append_as(
             self,
-            &(Lent(&self.signature_key), Lent(&self.credential)),
+            &(ByRef(&self.signature_key), ByRef(&self.credential)),
             out,
         )
     }

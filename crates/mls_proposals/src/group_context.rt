@@ -7,7 +7,7 @@ use crate::ProtocolVersionMls10;
 use mls_leaf::{CipherSuite, Extension};
 use std::alloc::Global;
 use tls_codec::{
-    Deserialize, DeserializeBytes, Error, Lent2, Lent3, Serialize, Sink, Size, Source, VLBytes,
+    ByRef2, ByRef3, Deserialize, DeserializeBytes, Error, Serialize, Sink, Size, Source, VLBytes,
 };
 use tls_codec_cases::append_as;
 use tls_codec_validate::{Rejected, Validate};
@@ -45,9 +45,9 @@ impl Size for GroupContext {
 
     fn tls_serialized_len(&self) -> usize {
         (
-            Lent3(&self.version, &self.cipher_suite, &self.group_id),
-            Lent2(&self.epoch, &self.tree_hash),
-            Lent2(&self.confirmed_transcript_hash, &self.extensions),
+            ByRef3(&self.version, &self.cipher_suite, &self.group_id),
+            ByRef2(&self.epoch, &self.tree_hash),
+            ByRef2(&self.confirmed_transcript_hash, &self.extensions),
         )
             .tls_serialized_len()
     }
@@ -58,9 +58,9 @@ impl Size for GroupContext {
 impl Serialize for GroupContext {
     fn tls_serialize<W: Sink>(&self, writer: &mut W) -> Result<usize, Error> {
         (
-            Lent3(&self.version, &self.cipher_suite, &self.group_id),
-            Lent2(&self.epoch, &self.tree_hash),
-            Lent2(&self.confirmed_transcript_hash, &self.extensions),
+            ByRef3(&self.version, &self.cipher_suite, &self.group_id),
+            ByRef2(&self.epoch, &self.tree_hash),
+            ByRef2(&self.confirmed_transcript_hash, &self.extensions),
         )
             .tls_serialize(writer)
     }
@@ -69,9 +69,9 @@ impl Serialize for GroupContext {
         append_as(
             self,
             &(
-                Lent3(&self.version, &self.cipher_suite, &self.group_id),
-                Lent2(&self.epoch, &self.tree_hash),
-                Lent2(&self.confirmed_transcript_hash, &self.extensions),
+                ByRef3(&self.version, &self.cipher_suite, &self.group_id),
+                ByRef2(&self.epoch, &self.tree_hash),
+                ByRef2(&self.confirmed_transcript_hash, &self.extensions),
             ),
             out,
         )

@@ -7,7 +7,7 @@ use crate::{GroupContext, MAC};
 use mls_leaf::Extension;
 use std::alloc::Global;
 use tls_codec::{
-    Deserialize, DeserializeBytes, Error, Lent2, Lent3, Serialize, Sink, Size, Source, VLBytes,
+    ByRef2, ByRef3, Deserialize, DeserializeBytes, Error, Serialize, Sink, Size, Source, VLBytes,
 };
 use tls_codec_cases::append_as;
 use tls_codec_validate::{Rejected, Validate};
@@ -38,12 +38,12 @@ impl Size for GroupInfo {
 
     fn tls_serialized_len(&self) -> usize {
         (
-            Lent3(
+            ByRef3(
                 &self.group_context,
                 &self.extensions,
                 &self.confirmation_tag,
             ),
-            Lent2(&self.signer, &self.signature),
+            ByRef2(&self.signer, &self.signature),
         )
             .tls_serialized_len()
     }
@@ -54,12 +54,12 @@ impl Size for GroupInfo {
 impl Serialize for GroupInfo {
     fn tls_serialize<W: Sink>(&self, writer: &mut W) -> Result<usize, Error> {
         (
-            Lent3(
+            ByRef3(
                 &self.group_context,
                 &self.extensions,
                 &self.confirmation_tag,
             ),
-            Lent2(&self.signer, &self.signature),
+            ByRef2(&self.signer, &self.signature),
         )
             .tls_serialize(writer)
     }
@@ -68,12 +68,12 @@ impl Serialize for GroupInfo {
         append_as(
             self,
             &(
-                Lent3(
+                ByRef3(
                     &self.group_context,
                     &self.extensions,
                     &self.confirmation_tag,
                 ),
-                Lent2(&self.signer, &self.signature),
+                ByRef2(&self.signer, &self.signature),
             ),
             out,
         )

@@ -5,7 +5,7 @@ ghost use Rattle.mls_proposals.specs.declared.group_info_tbs.GroupInfoTBS.{Group
 
 use crate::{GroupContext, GroupInfo, MAC};
 use mls_leaf::Extension;
-use tls_codec::{Error, Lent2, Serialize, Sink, Size};
+use tls_codec::{ByRef2, Error, Serialize, Sink, Size};
 use tls_codec_cases::append_as;
 
 /// `GroupInfoTBS` (RFC 9420, section 12.4.3).
@@ -30,8 +30,8 @@ impl Size for GroupInfoTBS<'_> {
 
     fn tls_serialized_len(&self) -> usize {
         (
-            Lent2(self.group_context, self.extensions),
-            Lent2(self.confirmation_tag, self.signer),
+            ByRef2(self.group_context, self.extensions),
+            ByRef2(self.confirmation_tag, self.signer),
         )
             .tls_serialized_len()
     }
@@ -42,8 +42,8 @@ impl Size for GroupInfoTBS<'_> {
 impl Serialize for GroupInfoTBS<'_> {
     fn tls_serialize<W: Sink>(&self, writer: &mut W) -> Result<usize, Error> {
         (
-            Lent2(self.group_context, self.extensions),
-            Lent2(self.confirmation_tag, self.signer),
+            ByRef2(self.group_context, self.extensions),
+            ByRef2(self.confirmation_tag, self.signer),
         )
             .tls_serialize(writer)
     }
@@ -52,8 +52,8 @@ impl Serialize for GroupInfoTBS<'_> {
         append_as(
             self,
             &(
-                Lent2(self.group_context, self.extensions),
-                Lent2(self.confirmation_tag, self.signer),
+                ByRef2(self.group_context, self.extensions),
+                ByRef2(self.confirmation_tag, self.signer),
             ),
             out,
         )
@@ -62,11 +62,11 @@ impl Serialize for GroupInfoTBS<'_> {
 
 /// What is signed of a `GroupInfo`.
 impl<'a> From<&'a GroupInfo> for GroupInfoTBS<'a> {
-    ghost from_gives = { λ whole lent.
-        (lent.group_context.now ≡ whole.now.group_context)
-        × (lent.extensions.now ≡ whole.now.extensions)
-        × (lent.confirmation_tag.now ≡ whole.now.confirmation_tag)
-        × (lent.signer.now ≡ whole.now.signer) };
+    ghost from_gives = { λ whole borrowed.
+        (borrowed.group_context.now ≡ whole.now.group_context)
+        × (borrowed.extensions.now ≡ whole.now.extensions)
+        × (borrowed.confirmation_tag.now ≡ whole.now.confirmation_tag)
+        × (borrowed.signer.now ≡ whole.now.signer) };
 
     fn from(whole: &'a GroupInfo) -> GroupInfoTBS<'a> {
         GroupInfoTBS {

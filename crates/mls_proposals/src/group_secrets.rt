@@ -6,7 +6,7 @@ ghost use Rattle.mls_proposals.specs.declared.group_secrets.GroupSecrets.{GroupS
 use crate::{PathSecret, PreSharedKeyID};
 use std::alloc::Global;
 use tls_codec::{
-    Deserialize, DeserializeBytes, Error, Lent, Serialize, Sink, Size, Source, VLBytes,
+    ByRef, Deserialize, DeserializeBytes, Error, Serialize, Sink, Size, Source, VLBytes,
 };
 use tls_codec_cases::append_as;
 use tls_codec_validate::{Rejected, Validate};
@@ -32,9 +32,9 @@ impl Size for GroupSecrets {
 
     fn tls_serialized_len(&self) -> usize {
         (
-            Lent(&self.joiner_secret),
-            Lent(&self.path_secret),
-            Lent(&self.psks),
+            ByRef(&self.joiner_secret),
+            ByRef(&self.path_secret),
+            ByRef(&self.psks),
         )
             .tls_serialized_len()
     }
@@ -45,9 +45,9 @@ impl Size for GroupSecrets {
 impl Serialize for GroupSecrets {
     fn tls_serialize<W: Sink>(&self, writer: &mut W) -> Result<usize, Error> {
         (
-            Lent(&self.joiner_secret),
-            Lent(&self.path_secret),
-            Lent(&self.psks),
+            ByRef(&self.joiner_secret),
+            ByRef(&self.path_secret),
+            ByRef(&self.psks),
         )
             .tls_serialize(writer)
     }
@@ -56,9 +56,9 @@ impl Serialize for GroupSecrets {
         append_as(
             self,
             &(
-                Lent(&self.joiner_secret),
-                Lent(&self.path_secret),
-                Lent(&self.psks),
+                ByRef(&self.joiner_secret),
+                ByRef(&self.path_secret),
+                ByRef(&self.psks),
             ),
             out,
         )

@@ -5,7 +5,7 @@ ghost use Rattle.mls_proposals.specs.declared.hpke_ciphertext.HPKECiphertext.{HP
 
 use std::alloc::Global;
 use tls_codec::{
-    Deserialize, DeserializeBytes, Error, Lent, Serialize, Sink, Size, Source, VLBytes,
+    ByRef, Deserialize, DeserializeBytes, Error, Serialize, Sink, Size, Source, VLBytes,
 };
 use tls_codec_cases::append_as;
 use tls_codec_validate::{Rejected, Validate};
@@ -28,7 +28,7 @@ impl Size for HPKECiphertext {
     ghost format = { hpke_ciphertext_format };
 
     fn tls_serialized_len(&self) -> usize {
-        (Lent(&self.kem_output), Lent(&self.ciphertext)).tls_serialized_len()
+        (ByRef(&self.kem_output), ByRef(&self.ciphertext)).tls_serialized_len()
     }
 
     ghost lawful = { hpke_ciphertext_meets };
@@ -36,11 +36,15 @@ impl Size for HPKECiphertext {
 
 impl Serialize for HPKECiphertext {
     fn tls_serialize<W: Sink>(&self, writer: &mut W) -> Result<usize, Error> {
-        (Lent(&self.kem_output), Lent(&self.ciphertext)).tls_serialize(writer)
+        (ByRef(&self.kem_output), ByRef(&self.ciphertext)).tls_serialize(writer)
     }
 
     fn tls_serialize_into(&self, out: &mut Vec<u8>) -> Result<usize, Error> {
-        append_as(self, &(Lent(&self.kem_output), Lent(&self.ciphertext)), out)
+        append_as(
+            self,
+            &(ByRef(&self.kem_output), ByRef(&self.ciphertext)),
+            out,
+        )
     }
 }
 

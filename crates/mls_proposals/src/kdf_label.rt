@@ -3,7 +3,7 @@ ghost use Rattle.std.specs.Prelude.{◌≡◌, ◌&&◌};
 ghost use Rattle.mls_proposals.specs.KDFLabel.{kdf_label_format, kdf_label_meets, kdf_label_plain};
 ghost use Rattle.mls_proposals.specs.declared.kdf_label.KDFLabel.{KDFLabel};
 
-use tls_codec::{Error, Lent, Serialize, Sink, Size, VLBytes};
+use tls_codec::{ByRef, Error, Serialize, Sink, Size, VLBytes};
 use tls_codec_cases::append_as;
 
 /// `KDFLabel` (RFC 9420, section 8).
@@ -25,7 +25,7 @@ impl Size for KDFLabel<'_> {
     ghost format = { kdf_label_format };
 
     fn tls_serialized_len(&self) -> usize {
-        (Lent(self.length), Lent(self.label), Lent(self.context)).tls_serialized_len()
+        (ByRef(self.length), ByRef(self.label), ByRef(self.context)).tls_serialized_len()
     }
 
     ghost lawful = { kdf_label_meets };
@@ -33,13 +33,13 @@ impl Size for KDFLabel<'_> {
 
 impl Serialize for KDFLabel<'_> {
     fn tls_serialize<W: Sink>(&self, writer: &mut W) -> Result<usize, Error> {
-        (Lent(self.length), Lent(self.label), Lent(self.context)).tls_serialize(writer)
+        (ByRef(self.length), ByRef(self.label), ByRef(self.context)).tls_serialize(writer)
     }
 
     fn tls_serialize_into(&self, out: &mut Vec<u8>) -> Result<usize, Error> {
         append_as(
             self,
-            &(Lent(self.length), Lent(self.label), Lent(self.context)),
+            &(ByRef(self.length), ByRef(self.label), ByRef(self.context)),
             out,
         )
     }

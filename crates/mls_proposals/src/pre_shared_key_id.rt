@@ -6,7 +6,7 @@ ghost use Rattle.mls_proposals.specs.declared.pre_shared_key_id.PreSharedKeyID.{
 use crate::PSKOrigin;
 use std::alloc::Global;
 use tls_codec::{
-    Deserialize, DeserializeBytes, Error, Lent, Serialize, Sink, Size, Source, VLBytes,
+    ByRef, Deserialize, DeserializeBytes, Error, Serialize, Sink, Size, Source, VLBytes,
 };
 use tls_codec_cases::append_as;
 use tls_codec_validate::{Rejected, Validate};
@@ -29,7 +29,7 @@ impl Size for PreSharedKeyID {
     ghost format = { pre_shared_key_id_format };
 
     fn tls_serialized_len(&self) -> usize {
-        (Lent(&self.psktype), Lent(&self.psk_nonce)).tls_serialized_len()
+        (ByRef(&self.psktype), ByRef(&self.psk_nonce)).tls_serialized_len()
     }
 
     ghost lawful = { pre_shared_key_id_meets };
@@ -37,11 +37,11 @@ impl Size for PreSharedKeyID {
 
 impl Serialize for PreSharedKeyID {
     fn tls_serialize<W: Sink>(&self, writer: &mut W) -> Result<usize, Error> {
-        (Lent(&self.psktype), Lent(&self.psk_nonce)).tls_serialize(writer)
+        (ByRef(&self.psktype), ByRef(&self.psk_nonce)).tls_serialize(writer)
     }
 
     fn tls_serialize_into(&self, out: &mut Vec<u8>) -> Result<usize, Error> {
-        append_as(self, &(Lent(&self.psktype), Lent(&self.psk_nonce)), out)
+        append_as(self, &(ByRef(&self.psktype), ByRef(&self.psk_nonce)), out)
     }
 }
 

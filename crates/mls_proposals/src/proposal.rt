@@ -11,7 +11,7 @@ use crate::{Add, ExternalInit, GroupContextExtensions, PreSharedKey, ReInit, Rem
 use mls_leaf::ProposalType;
 use std::alloc::Global;
 use tls_codec::{
-    Deserialize, DeserializeBytes, Error, Lent, Serialize, Sink, Size, Source, unknown_value,
+    ByRef, Deserialize, DeserializeBytes, Error, Serialize, Sink, Size, Source, unknown_value,
 };
 use tls_codec_validate::{Rejected, Validate, split_u16};
 use tls_codec_views::{Choice, Encoded};
@@ -57,18 +57,18 @@ impl Size for Proposal {
 
     fn tls_serialized_len(&self) -> usize {
         match self {
-            Proposal::Add(add) => (ADD, Lent(add)).tls_serialized_len(),
-            Proposal::Update(update) => (UPDATE, Lent(update)).tls_serialized_len(),
-            Proposal::Remove(remove) => (REMOVE, Lent(remove)).tls_serialized_len(),
-            Proposal::Psk(psk) => (PSK, Lent(psk)).tls_serialized_len(),
-            Proposal::Reinit(reinit) => (REINIT, Lent(reinit)).tls_serialized_len(),
+            Proposal::Add(add) => (ADD, ByRef(add)).tls_serialized_len(),
+            Proposal::Update(update) => (UPDATE, ByRef(update)).tls_serialized_len(),
+            Proposal::Remove(remove) => (REMOVE, ByRef(remove)).tls_serialized_len(),
+            Proposal::Psk(psk) => (PSK, ByRef(psk)).tls_serialized_len(),
+            Proposal::Reinit(reinit) => (REINIT, ByRef(reinit)).tls_serialized_len(),
             Proposal::ExternalInit(external_init) => (
                 EXTERNAL_INIT,
-                Lent(external_init),
+                ByRef(external_init),
             ).tls_serialized_len(),
             Proposal::GroupContextExtensions(group_context_extensions) => (
                 GROUP_CONTEXT_EXTENSIONS,
-                Lent(group_context_extensions),
+                ByRef(group_context_extensions),
             ).tls_serialized_len(),
         }
     }
@@ -79,36 +79,36 @@ impl Size for Proposal {
 impl Serialize for Proposal {
     fn tls_serialize<W: Sink>(&self, writer: &mut W) -> Result<usize, Error> {
         match self {
-            Proposal::Add(add) => (ADD, Lent(add)).tls_serialize(writer),
-            Proposal::Update(update) => (UPDATE, Lent(update)).tls_serialize(writer),
-            Proposal::Remove(remove) => (REMOVE, Lent(remove)).tls_serialize(writer),
-            Proposal::Psk(psk) => (PSK, Lent(psk)).tls_serialize(writer),
-            Proposal::Reinit(reinit) => (REINIT, Lent(reinit)).tls_serialize(writer),
+            Proposal::Add(add) => (ADD, ByRef(add)).tls_serialize(writer),
+            Proposal::Update(update) => (UPDATE, ByRef(update)).tls_serialize(writer),
+            Proposal::Remove(remove) => (REMOVE, ByRef(remove)).tls_serialize(writer),
+            Proposal::Psk(psk) => (PSK, ByRef(psk)).tls_serialize(writer),
+            Proposal::Reinit(reinit) => (REINIT, ByRef(reinit)).tls_serialize(writer),
             Proposal::ExternalInit(external_init) => (
                 EXTERNAL_INIT,
-                Lent(external_init),
+                ByRef(external_init),
             ).tls_serialize(writer),
             Proposal::GroupContextExtensions(group_context_extensions) => (
                 GROUP_CONTEXT_EXTENSIONS,
-                Lent(group_context_extensions),
+                ByRef(group_context_extensions),
             ).tls_serialize(writer),
         }
     }
 
     fn tls_serialize_into(&self, out: &mut Vec<u8>) -> Result<usize, Error> {
         match self {
-            Proposal::Add(add) => (ADD, Lent(add)).tls_serialize_into(out),
-            Proposal::Update(update) => (UPDATE, Lent(update)).tls_serialize_into(out),
-            Proposal::Remove(remove) => (REMOVE, Lent(remove)).tls_serialize_into(out),
-            Proposal::Psk(psk) => (PSK, Lent(psk)).tls_serialize_into(out),
-            Proposal::Reinit(reinit) => (REINIT, Lent(reinit)).tls_serialize_into(out),
+            Proposal::Add(add) => (ADD, ByRef(add)).tls_serialize_into(out),
+            Proposal::Update(update) => (UPDATE, ByRef(update)).tls_serialize_into(out),
+            Proposal::Remove(remove) => (REMOVE, ByRef(remove)).tls_serialize_into(out),
+            Proposal::Psk(psk) => (PSK, ByRef(psk)).tls_serialize_into(out),
+            Proposal::Reinit(reinit) => (REINIT, ByRef(reinit)).tls_serialize_into(out),
             Proposal::ExternalInit(external_init) => (
                 EXTERNAL_INIT,
-                Lent(external_init),
+                ByRef(external_init),
             ).tls_serialize_into(out),
             Proposal::GroupContextExtensions(group_context_extensions) => (
                 GROUP_CONTEXT_EXTENSIONS,
-                Lent(group_context_extensions),
+                ByRef(group_context_extensions),
             ).tls_serialize_into(out),
         }
     }

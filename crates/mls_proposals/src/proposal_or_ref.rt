@@ -10,7 +10,7 @@ ghost use Rattle.mls_proposals.specs.declared.proposal_or_ref.ProposalOrRefView.
 use crate::{Proposal, ProposalRef};
 use std::alloc::Global;
 use tls_codec::{
-    Deserialize, DeserializeBytes, Error, Lent, Serialize, Sink, Size, Source, unknown_value,
+    ByRef, Deserialize, DeserializeBytes, Error, Serialize, Sink, Size, Source, unknown_value,
 };
 use tls_codec_validate::{Rejected, Validate, split_u8};
 use tls_codec_views::{Choice, Encoded};
@@ -36,10 +36,10 @@ impl Size for ProposalOrRef {
 
     fn tls_serialized_len(&self) -> usize {
         match self {
-            ProposalOrRef::Proposal(proposal) => (PROPOSAL, Lent(proposal)).tls_serialized_len(),
+            ProposalOrRef::Proposal(proposal) => (PROPOSAL, ByRef(proposal)).tls_serialized_len(),
             ProposalOrRef::Reference(reference) => (
                 REFERENCE,
-                Lent(reference),
+                ByRef(reference),
             ).tls_serialized_len(),
         }
     }
@@ -50,8 +50,8 @@ impl Size for ProposalOrRef {
 impl Serialize for ProposalOrRef {
     fn tls_serialize<W: Sink>(&self, writer: &mut W) -> Result<usize, Error> {
         match self {
-            ProposalOrRef::Proposal(proposal) => (PROPOSAL, Lent(proposal)).tls_serialize(writer),
-            ProposalOrRef::Reference(reference) => (REFERENCE, Lent(reference)).tls_serialize(
+            ProposalOrRef::Proposal(proposal) => (PROPOSAL, ByRef(proposal)).tls_serialize(writer),
+            ProposalOrRef::Reference(reference) => (REFERENCE, ByRef(reference)).tls_serialize(
                 writer,
             ),
         }
@@ -59,8 +59,10 @@ impl Serialize for ProposalOrRef {
 
     fn tls_serialize_into(&self, out: &mut Vec<u8>) -> Result<usize, Error> {
         match self {
-            ProposalOrRef::Proposal(proposal) => (PROPOSAL, Lent(proposal)).tls_serialize_into(out),
-            ProposalOrRef::Reference(reference) => (REFERENCE, Lent(reference)).tls_serialize_into(
+            ProposalOrRef::Proposal(proposal) => (PROPOSAL, ByRef(proposal)).tls_serialize_into(
+                out,
+            ),
+            ProposalOrRef::Reference(reference) => (REFERENCE, ByRef(reference)).tls_serialize_into(
                 out,
             ),
         }

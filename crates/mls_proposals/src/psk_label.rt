@@ -4,7 +4,7 @@ ghost use Rattle.mls_proposals.specs.PSKLabel.{psk_label_format, psk_label_meets
 ghost use Rattle.mls_proposals.specs.declared.psk_label.PSKLabel.{PSKLabel};
 
 use crate::PreSharedKeyID;
-use tls_codec::{Error, Lent, Serialize, Sink, Size};
+use tls_codec::{ByRef, Error, Serialize, Sink, Size};
 use tls_codec_cases::append_as;
 
 /// `PSKLabel` (RFC 9420, section 8.4).
@@ -26,7 +26,7 @@ impl Size for PSKLabel<'_> {
     ghost format = { psk_label_format };
 
     fn tls_serialized_len(&self) -> usize {
-        (Lent(self.id), Lent(self.index), Lent(self.count)).tls_serialized_len()
+        (ByRef(self.id), ByRef(self.index), ByRef(self.count)).tls_serialized_len()
     }
 
     ghost lawful = { psk_label_meets };
@@ -34,13 +34,13 @@ impl Size for PSKLabel<'_> {
 
 impl Serialize for PSKLabel<'_> {
     fn tls_serialize<W: Sink>(&self, writer: &mut W) -> Result<usize, Error> {
-        (Lent(self.id), Lent(self.index), Lent(self.count)).tls_serialize(writer)
+        (ByRef(self.id), ByRef(self.index), ByRef(self.count)).tls_serialize(writer)
     }
 
     fn tls_serialize_into(&self, out: &mut Vec<u8>) -> Result<usize, Error> {
         append_as(
             self,
-            &(Lent(self.id), Lent(self.index), Lent(self.count)),
+            &(ByRef(self.id), ByRef(self.index), ByRef(self.count)),
             out,
         )
     }

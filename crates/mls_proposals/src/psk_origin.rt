@@ -10,7 +10,7 @@ ghost use Rattle.mls_proposals.specs.declared.psk_origin.PSKOriginView.{PSKOrigi
 use crate::ResumptionPSKUsage;
 use std::alloc::Global;
 use tls_codec::{
-    Deserialize, DeserializeBytes, Error, Lent, Lent2, Serialize, Sink, Size, Source, VLBytes,
+    ByRef, ByRef2, Deserialize, DeserializeBytes, Error, Serialize, Sink, Size, Source, VLBytes,
     unknown_value,
 };
 use tls_codec_validate::{Rejected, Validate, split_u8};
@@ -44,12 +44,12 @@ impl Size for PSKOrigin {
 
     fn tls_serialized_len(&self) -> usize {
         match self {
-            PSKOrigin::External(psk_id) => (EXTERNAL, Lent(psk_id)).tls_serialized_len(),
+            PSKOrigin::External(psk_id) => (EXTERNAL, ByRef(psk_id)).tls_serialized_len(),
             PSKOrigin::Resumption {
                 usage,
                 psk_group_id,
                 psk_epoch,
-            } => (RESUMPTION, Lent2(usage, psk_group_id), Lent(psk_epoch)).tls_serialized_len(),
+            } => (RESUMPTION, ByRef2(usage, psk_group_id), ByRef(psk_epoch)).tls_serialized_len(),
         }
     }
 
@@ -59,23 +59,25 @@ impl Size for PSKOrigin {
 impl Serialize for PSKOrigin {
     fn tls_serialize<W: Sink>(&self, writer: &mut W) -> Result<usize, Error> {
         match self {
-            PSKOrigin::External(psk_id) => (EXTERNAL, Lent(psk_id)).tls_serialize(writer),
+            PSKOrigin::External(psk_id) => (EXTERNAL, ByRef(psk_id)).tls_serialize(writer),
             PSKOrigin::Resumption {
                 usage,
                 psk_group_id,
                 psk_epoch,
-            } => (RESUMPTION, Lent2(usage, psk_group_id), Lent(psk_epoch)).tls_serialize(writer),
+            } => (RESUMPTION, ByRef2(usage, psk_group_id), ByRef(psk_epoch)).tls_serialize(writer),
         }
     }
 
     fn tls_serialize_into(&self, out: &mut Vec<u8>) -> Result<usize, Error> {
         match self {
-            PSKOrigin::External(psk_id) => (EXTERNAL, Lent(psk_id)).tls_serialize_into(out),
+            PSKOrigin::External(psk_id) => (EXTERNAL, ByRef(psk_id)).tls_serialize_into(out),
             PSKOrigin::Resumption {
                 usage,
                 psk_group_id,
                 psk_epoch,
-            } => (RESUMPTION, Lent2(usage, psk_group_id), Lent(psk_epoch)).tls_serialize_into(out),
+            } => (RESUMPTION, ByRef2(usage, psk_group_id), ByRef(psk_epoch)).tls_serialize_into(
+                out,
+            ),
         }
     }
 }

@@ -6,7 +6,7 @@ ghost use Rattle.mls_proposals.specs.declared.re_init.ReInit.{ReInit};
 use mls_leaf::{CipherSuite, Extension, ProtocolVersion};
 use std::alloc::Global;
 use tls_codec::{
-    Deserialize, DeserializeBytes, Error, Lent2, Serialize, Sink, Size, Source, VLBytes,
+    ByRef2, Deserialize, DeserializeBytes, Error, Serialize, Sink, Size, Source, VLBytes,
 };
 use tls_codec_cases::append_as;
 use tls_codec_validate::{Rejected, Validate};
@@ -34,8 +34,8 @@ impl Size for ReInit {
 
     fn tls_serialized_len(&self) -> usize {
         (
-            Lent2(&self.group_id, &self.version),
-            Lent2(&self.cipher_suite, &self.extensions),
+            ByRef2(&self.group_id, &self.version),
+            ByRef2(&self.cipher_suite, &self.extensions),
         )
             .tls_serialized_len()
     }
@@ -46,8 +46,8 @@ impl Size for ReInit {
 impl Serialize for ReInit {
     fn tls_serialize<W: Sink>(&self, writer: &mut W) -> Result<usize, Error> {
         (
-            Lent2(&self.group_id, &self.version),
-            Lent2(&self.cipher_suite, &self.extensions),
+            ByRef2(&self.group_id, &self.version),
+            ByRef2(&self.cipher_suite, &self.extensions),
         )
             .tls_serialize(writer)
     }
@@ -56,8 +56,8 @@ impl Serialize for ReInit {
         append_as(
             self,
             &(
-                Lent2(&self.group_id, &self.version),
-                Lent2(&self.cipher_suite, &self.extensions),
+                ByRef2(&self.group_id, &self.version),
+                ByRef2(&self.cipher_suite, &self.extensions),
             ),
             out,
         )

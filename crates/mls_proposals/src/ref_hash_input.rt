@@ -3,7 +3,7 @@ ghost use Rattle.std.specs.Prelude.{◌≡◌, ◌&&◌};
 ghost use Rattle.mls_proposals.specs.RefHashInput.{ref_hash_input_format, ref_hash_input_meets, ref_hash_input_plain};
 ghost use Rattle.mls_proposals.specs.declared.ref_hash_input.RefHashInput.{RefHashInput};
 
-use tls_codec::{Error, Lent, Serialize, Sink, Size, VLBytes};
+use tls_codec::{ByRef, Error, Serialize, Sink, Size, VLBytes};
 use tls_codec_cases::append_as;
 
 /// `RefHashInput` (RFC 9420, section 5.2).
@@ -23,7 +23,7 @@ impl Size for RefHashInput<'_> {
     ghost format = { ref_hash_input_format };
 
     fn tls_serialized_len(&self) -> usize {
-        (Lent(self.label), Lent(self.value)).tls_serialized_len()
+        (ByRef(self.label), ByRef(self.value)).tls_serialized_len()
     }
 
     ghost lawful = { ref_hash_input_meets };
@@ -31,11 +31,11 @@ impl Size for RefHashInput<'_> {
 
 impl Serialize for RefHashInput<'_> {
     fn tls_serialize<W: Sink>(&self, writer: &mut W) -> Result<usize, Error> {
-        (Lent(self.label), Lent(self.value)).tls_serialize(writer)
+        (ByRef(self.label), ByRef(self.value)).tls_serialize(writer)
     }
 
     fn tls_serialize_into(&self, out: &mut Vec<u8>) -> Result<usize, Error> {
-        append_as(self, &(Lent(self.label), Lent(self.value)), out)
+        append_as(self, &(ByRef(self.label), ByRef(self.value)), out)
     }
 }
 

@@ -5,7 +5,7 @@ ghost use Rattle.mls_proposals.specs.declared.required_capabilities.RequiredCapa
 
 use mls_leaf::{CredentialType, ExtensionType, ProposalType};
 use std::alloc::Global;
-use tls_codec::{Deserialize, DeserializeBytes, Error, Lent, Serialize, Sink, Size, Source};
+use tls_codec::{ByRef, Deserialize, DeserializeBytes, Error, Serialize, Sink, Size, Source};
 use tls_codec_cases::append_as;
 use tls_codec_validate::{Rejected, Validate};
 use tls_codec_views::{Encoded, Parted};
@@ -30,9 +30,9 @@ impl Size for RequiredCapabilities {
 
     fn tls_serialized_len(&self) -> usize {
         (
-            Lent(&self.extension_types),
-            Lent(&self.proposal_types),
-            Lent(&self.credential_types),
+            ByRef(&self.extension_types),
+            ByRef(&self.proposal_types),
+            ByRef(&self.credential_types),
         )
             .tls_serialized_len()
     }
@@ -43,9 +43,9 @@ impl Size for RequiredCapabilities {
 impl Serialize for RequiredCapabilities {
     fn tls_serialize<W: Sink>(&self, writer: &mut W) -> Result<usize, Error> {
         (
-            Lent(&self.extension_types),
-            Lent(&self.proposal_types),
-            Lent(&self.credential_types),
+            ByRef(&self.extension_types),
+            ByRef(&self.proposal_types),
+            ByRef(&self.credential_types),
         )
             .tls_serialize(writer)
     }
@@ -54,9 +54,9 @@ impl Serialize for RequiredCapabilities {
         append_as(
             self,
             &(
-                Lent(&self.extension_types),
-                Lent(&self.proposal_types),
-                Lent(&self.credential_types),
+                ByRef(&self.extension_types),
+                ByRef(&self.proposal_types),
+                ByRef(&self.credential_types),
             ),
             out,
         )

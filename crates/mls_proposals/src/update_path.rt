@@ -6,7 +6,7 @@ ghost use Rattle.mls_proposals.specs.declared.update_path.UpdatePath.{UpdatePath
 use crate::UpdatePathNode;
 use mls_leaf::LeafNode;
 use std::alloc::Global;
-use tls_codec::{Deserialize, DeserializeBytes, Error, Lent, Serialize, Sink, Size, Source};
+use tls_codec::{ByRef, Deserialize, DeserializeBytes, Error, Serialize, Sink, Size, Source};
 use tls_codec_cases::append_as;
 use tls_codec_validate::{Rejected, Validate};
 use tls_codec_views::{Encoded, Parted};
@@ -28,7 +28,7 @@ impl Size for UpdatePath {
     ghost format = { update_path_format };
 
     fn tls_serialized_len(&self) -> usize {
-        (Lent(&self.leaf_node), Lent(&self.nodes)).tls_serialized_len()
+        (ByRef(&self.leaf_node), ByRef(&self.nodes)).tls_serialized_len()
     }
 
     ghost lawful = { update_path_meets };
@@ -36,11 +36,11 @@ impl Size for UpdatePath {
 
 impl Serialize for UpdatePath {
     fn tls_serialize<W: Sink>(&self, writer: &mut W) -> Result<usize, Error> {
-        (Lent(&self.leaf_node), Lent(&self.nodes)).tls_serialize(writer)
+        (ByRef(&self.leaf_node), ByRef(&self.nodes)).tls_serialize(writer)
     }
 
     fn tls_serialize_into(&self, out: &mut Vec<u8>) -> Result<usize, Error> {
-        append_as(self, &(Lent(&self.leaf_node), Lent(&self.nodes)), out)
+        append_as(self, &(ByRef(&self.leaf_node), ByRef(&self.nodes)), out)
     }
 }
 

@@ -6,7 +6,7 @@ ghost use Rattle.mls_proposals.specs.declared.update_path_node.UpdatePathNode.{U
 use crate::HPKECiphertext;
 use mls_leaf::HPKEPublicKey;
 use std::alloc::Global;
-use tls_codec::{Deserialize, DeserializeBytes, Error, Lent, Serialize, Sink, Size, Source};
+use tls_codec::{ByRef, Deserialize, DeserializeBytes, Error, Serialize, Sink, Size, Source};
 use tls_codec_cases::append_as;
 use tls_codec_validate::{Rejected, Validate};
 use tls_codec_views::{Encoded, Parted};
@@ -29,8 +29,8 @@ impl Size for UpdatePathNode {
 
     fn tls_serialized_len(&self) -> usize {
         (
-            Lent(&self.encryption_key),
-            Lent(&self.encrypted_path_secret),
+            ByRef(&self.encryption_key),
+            ByRef(&self.encrypted_path_secret),
         )
             .tls_serialized_len()
     }
@@ -41,8 +41,8 @@ impl Size for UpdatePathNode {
 impl Serialize for UpdatePathNode {
     fn tls_serialize<W: Sink>(&self, writer: &mut W) -> Result<usize, Error> {
         (
-            Lent(&self.encryption_key),
-            Lent(&self.encrypted_path_secret),
+            ByRef(&self.encryption_key),
+            ByRef(&self.encrypted_path_secret),
         )
             .tls_serialize(writer)
     }
@@ -51,8 +51,8 @@ impl Serialize for UpdatePathNode {
         append_as(
             self,
             &(
-                Lent(&self.encryption_key),
-                Lent(&self.encrypted_path_secret),
+                ByRef(&self.encryption_key),
+                ByRef(&self.encrypted_path_secret),
             ),
             out,
         )

@@ -7,7 +7,7 @@ use crate::EncryptedGroupSecrets;
 use mls_leaf::CipherSuite;
 use std::alloc::Global;
 use tls_codec::{
-    Deserialize, DeserializeBytes, Error, Lent, Serialize, Sink, Size, Source, VLBytes,
+    ByRef, Deserialize, DeserializeBytes, Error, Serialize, Sink, Size, Source, VLBytes,
 };
 use tls_codec_cases::append_as;
 use tls_codec_validate::{Rejected, Validate};
@@ -33,9 +33,9 @@ impl Size for Welcome {
 
     fn tls_serialized_len(&self) -> usize {
         (
-            Lent(&self.cipher_suite),
-            Lent(&self.secrets),
-            Lent(&self.encrypted_group_info),
+            ByRef(&self.cipher_suite),
+            ByRef(&self.secrets),
+            ByRef(&self.encrypted_group_info),
         )
             .tls_serialized_len()
     }
@@ -46,9 +46,9 @@ impl Size for Welcome {
 impl Serialize for Welcome {
     fn tls_serialize<W: Sink>(&self, writer: &mut W) -> Result<usize, Error> {
         (
-            Lent(&self.cipher_suite),
-            Lent(&self.secrets),
-            Lent(&self.encrypted_group_info),
+            ByRef(&self.cipher_suite),
+            ByRef(&self.secrets),
+            ByRef(&self.encrypted_group_info),
         )
             .tls_serialize(writer)
     }
@@ -57,9 +57,9 @@ impl Serialize for Welcome {
         append_as(
             self,
             &(
-                Lent(&self.cipher_suite),
-                Lent(&self.secrets),
-                Lent(&self.encrypted_group_info),
+                ByRef(&self.cipher_suite),
+                ByRef(&self.secrets),
+                ByRef(&self.encrypted_group_info),
             ),
             out,
         )

@@ -9,7 +9,7 @@ use Rattle.tls_presentation.specs.Says.{value_number}
 use Rattle.std.specs.Prelude.{◌↔◌}
 use Rattle.tls_presentation.specs.Says.{called}
 use Rattle.tls_presentation.proofs.Flat.{same_iff}
-use Rattle.tls_presentation.proofs.Saying.{struct_saying, lent_saying, case_saying}
+use Rattle.tls_presentation.proofs.Saying.{struct_saying, borrowed_saying, case_saying}
 use Rattle.mls_leaf.specs.CipherSuite.{cipher_suite_plain}
 use Rattle.mls_leaf.specs.Credential.{credential_plain}
 use Rattle.mls_leaf.specs.CredentialType.{credential_type_plain}
@@ -142,7 +142,7 @@ group_info_saying v d b = struct_saying mls_proposals "GroupInfo" Empty (called 
     []) d b
 
 pub group_info_tbs_saying : (v : GroupInfoTBS) (d : Direction) (b : List ℕ) → group_info_tbs_format.spells d b (group_info_tbs_plain v) ↔ GroupInfoTBSSays v d b
-group_info_tbs_saying v d b = lent_saying mls_proposals "GroupInfoTBS" Empty (called "group_context" (group_context_plain v.group_context.now) ∷
+group_info_tbs_saying v d b = borrowed_saying mls_proposals "GroupInfoTBS" Empty (called "group_context" (group_context_plain v.group_context.now) ∷
     called "extensions" (trees extension_plain v.extensions.now.items) ∷
     called "confirmation_tag" (number_trees (bytes_of v.confirmation_tag.now)) ∷
     called "signer" (Number v.signer.now) ∷
@@ -160,13 +160,13 @@ hpke_ciphertext_saying v d b = struct_saying mls_proposals "HPKECiphertext" Empt
     []) d b
 
 pub kdf_label_saying : (v : KDFLabel) (d : Direction) (b : List ℕ) → kdf_label_format.spells d b (kdf_label_plain v) ↔ KDFLabelSays v d b
-kdf_label_saying v d b = lent_saying mls_proposals "KDFLabel" Empty (called "length" (Number v.length.now) ∷
+kdf_label_saying v d b = borrowed_saying mls_proposals "KDFLabel" Empty (called "length" (Number v.length.now) ∷
     called "label" (number_trees (bytes_of v.label.now)) ∷
     called "context" (number_trees (bytes_of v.context.now)) ∷
     []) d b
 
 pub psk_label_saying : (v : PSKLabel) (d : Direction) (b : List ℕ) → psk_label_format.spells d b (psk_label_plain v) ↔ PSKLabelSays v d b
-psk_label_saying v d b = lent_saying mls_proposals "PSKLabel" Empty (called "id" (pre_shared_key_id_plain v.id.now) ∷
+psk_label_saying v d b = borrowed_saying mls_proposals "PSKLabel" Empty (called "id" (pre_shared_key_id_plain v.id.now) ∷
     called "index" (Number v.index.now) ∷
     called "count" (Number v.count.now) ∷
     []) d b
@@ -225,7 +225,7 @@ re_init_saying v d b = struct_saying mls_proposals "ReInit" Empty (called "group
     []) d b
 
 pub ref_hash_input_saying : (v : RefHashInput) (d : Direction) (b : List ℕ) → ref_hash_input_format.spells d b (ref_hash_input_plain v) ↔ RefHashInputSays v d b
-ref_hash_input_saying v d b = lent_saying mls_proposals "RefHashInput" Empty (called "label" (number_trees (bytes_of v.label.now)) ∷
+ref_hash_input_saying v d b = borrowed_saying mls_proposals "RefHashInput" Empty (called "label" (number_trees (bytes_of v.label.now)) ∷
     called "value" (number_trees (bytes_of v.value.now)) ∷
     []) d b
 

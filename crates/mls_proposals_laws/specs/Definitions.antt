@@ -1,6 +1,6 @@
 -- What mls_proposals.tls says: the definitions, the notes, and the text that they are.
 use Rattle.std.specs.Prelude.{List, [], ◌∷◌, codes}
-use Rattle.tls_presentation.specs.Definition.{One, Variable, Is, Width, Ended, Plain, Definition, Alias, Note, IsClosed, IsLent, field, optional, has, constant, word, value, case, select, called, enum, struct}
+use Rattle.tls_presentation.specs.Definition.{One, Variable, Is, Width, Ended, Plain, Definition, Alias, Note, IsClosed, IsBorrowed, field, optional, has, constant, word, value, case, select, called, enum, struct}
 use Rattle.tls_presentation.specs.Meaning.{Text, text_over}
 use Rattle.mls_leaf_laws.specs.Definitions.{mls_leaf}
 
@@ -269,10 +269,10 @@ definitions =
 abbrev pub notes : List Note
 notes =
     IsClosed (codes "ResumptionPSKUsage") ∷
-    IsLent (codes "RefHashInput") ∷
-    IsLent (codes "KDFLabel") ∷
-    IsLent (codes "PSKLabel") ∷
-    IsLent (codes "GroupInfoTBS") ∷
+    IsBorrowed (codes "RefHashInput") ∷
+    IsBorrowed (codes "KDFLabel") ∷
+    IsBorrowed (codes "PSKLabel") ∷
+    IsBorrowed (codes "GroupInfoTBS") ∷
     []
 
 abbrev pub mls_proposals : Text

@@ -8,8 +8,8 @@ notes_text = lines (
     "ResumptionPSKUsage is closed;" ∷
     "" ∷
     "// What is hashed or signed, and only written (RFC 9420, sections 5.2, 8, 8.4 and 12.4.3): it borrows its parts." ∷
-    "RefHashInput is lent;" ∷
-    "KDFLabel is lent;" ∷
-    "PSKLabel is lent;" ∷
-    "GroupInfoTBS is lent;" ∷
+    "RefHashInput is borrowed;" ∷
+    "KDFLabel is borrowed;" ∷
+    "PSKLabel is borrowed;" ∷
+    "GroupInfoTBS is borrowed;" ∷
     [])

@@ -1,4 +1,4 @@
-//! Out of memory: one request is refused at a time. What each call that allocates returns then, that what it was lent is
+//! Out of memory: one request is refused at a time. What each call that allocates returns then, that what it was borrowed is
 //! as it was, and how much room each one asks for.
 //!
 //! Standard input has the number of the request of the rows that is refused, and nothing else: no number, no refused

@@ -10,7 +10,7 @@ use view_input::fault::InputFault;
 pub enum Wrong {
     /// It was refused, and none of its requests was; or the other way round.
     Refusal,
-    /// It returned something else than it has to, or what it was lent is not as it was.
+    /// It returned something else than it has to, or what it was borrowed is not as it was.
     Answer,
     /// It asked for more room than is of the order of its bytes.
     Room,

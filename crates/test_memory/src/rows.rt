@@ -2,7 +2,7 @@
 //! else. Then it is made once more, and returns what it returns in an ordinary run.
 
 // What a call returns that makes so many requests. If one of them is refused, the call has to be refused, what
-// it was lent is looked at, and the call is made again.
+// it was borrowed is looked at, and the call is made again.
 macro_rules! told {
     ($requests:expr, $count:expr, $call:expr) => {
         told!($requests, $count, $call, Error::OutOfMemory, ())

@@ -86,8 +86,8 @@ impl Encoded {
         if !self.agree {
             out.push_str(", encoders differ")?;
         }
-        if !value.is_lent_alike(alloc, self) {
-            out.push_str(", lent forms differ")?;
+        if !value.is_borrowed_alike(alloc, self) {
+            out.push_str(", borrowed forms differ")?;
         }
         Ok(())
     }

@@ -1,4 +1,4 @@
-//! Values of the types of rows: their texts, and the other forms in which they are lent to encoders.
+//! Values of the types of rows: their texts, and the other forms in which encoders take them.
 mod families;
 mod messages;
 mod numbers;
@@ -17,7 +17,7 @@ pub trait Value: Serialize + Deserialize + Validate + PartialEq {
     fn show(&self, alloc: Global, out: &mut String) -> Result<(), AllocError>;
 
     /// Whether the other encoders that the type has, and references and slices of the value, do as these did.
-    fn is_lent_alike(&self, _alloc: Global, _encoded: &Encoded) -> bool {
+    fn is_borrowed_alike(&self, _alloc: Global, _encoded: &Encoded) -> bool {
         true
     }
 
@@ -59,7 +59,7 @@ impl<T: Value + SerializeBytes> Value for Vec<T> {
         push_list(alloc, out, self)
     }
 
-    fn is_lent_alike(&self, alloc: Global, encoded: &Encoded) -> bool {
+    fn is_borrowed_alike(&self, alloc: Global, encoded: &Encoded) -> bool {
         encoded.is_alone(alloc, self)
             && encoded.is_alone(alloc, &self)
             && encoded.is_of(alloc, &self.as_slice())
@@ -73,7 +73,7 @@ impl Value for String {
         write!(out, "\"{self}\"")
     }
 
-    fn is_lent_alike(&self, alloc: Global, encoded: &Encoded) -> bool {
+    fn is_borrowed_alike(&self, alloc: Global, encoded: &Encoded) -> bool {
         encoded.is_alone(alloc, self)
             && encoded.is_of(alloc, &self.as_str())
             && encoded.is_alone(alloc, &self.as_str())

@@ -5,7 +5,7 @@ ghost use Rattle.tls13.specs.declared.alert.Alert.{Alert};
 
 use crate::{AlertDescription, AlertLevel};
 use std::alloc::Global;
-use tls_codec::{Deserialize, DeserializeBytes, Error, Lent, Serialize, Sink, Size, Source};
+use tls_codec::{ByRef, Deserialize, DeserializeBytes, Error, Serialize, Sink, Size, Source};
 use tls_codec_cases::append_as;
 use tls_codec_validate::{Rejected, Validate};
 use tls_codec_views::{Encoded, Parted};
@@ -27,7 +27,7 @@ impl Size for Alert {
     ghost format = { alert_format };
 
     fn tls_serialized_len(&self) -> usize {
-        (Lent(&self.level), Lent(&self.description)).tls_serialized_len()
+        (ByRef(&self.level), ByRef(&self.description)).tls_serialized_len()
     }
 
     ghost lawful = { alert_meets };
@@ -35,11 +35,11 @@ impl Size for Alert {
 
 impl Serialize for Alert {
     fn tls_serialize<W: Sink>(&self, writer: &mut W) -> Result<usize, Error> {
-        (Lent(&self.level), Lent(&self.description)).tls_serialize(writer)
+        (ByRef(&self.level), ByRef(&self.description)).tls_serialize(writer)
     }
 
     fn tls_serialize_into(&self, out: &mut Vec<u8>) -> Result<usize, Error> {
-        append_as(self, &(Lent(&self.level), Lent(&self.description)), out)
+        append_as(self, &(ByRef(&self.level), ByRef(&self.description)), out)
     }
 }
 

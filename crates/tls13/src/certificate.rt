@@ -6,7 +6,7 @@ ghost use Rattle.tls13.specs.declared.certificate.Certificate.{Certificate};
 use crate::CertificateEntry;
 use std::alloc::Global;
 use tls_codec::{
-    Deserialize, DeserializeBytes, Error, Lent, Serialize, Sink, Size, Source, TlsByteVecU8,
+    ByRef, Deserialize, DeserializeBytes, Error, Serialize, Sink, Size, Source, TlsByteVecU8,
     TlsVecU24,
 };
 use tls_codec_cases::append_as;
@@ -31,8 +31,8 @@ impl Size for Certificate {
 
     fn tls_serialized_len(&self) -> usize {
         (
-            Lent(&self.certificate_request_context),
-            Lent(&self.certificate_list),
+            ByRef(&self.certificate_request_context),
+            ByRef(&self.certificate_list),
         )
             .tls_serialized_len()
     }
@@ -43,8 +43,8 @@ impl Size for Certificate {
 impl Serialize for Certificate {
     fn tls_serialize<W: Sink>(&self, writer: &mut W) -> Result<usize, Error> {
         (
-            Lent(&self.certificate_request_context),
-            Lent(&self.certificate_list),
+            ByRef(&self.certificate_request_context),
+            ByRef(&self.certificate_list),
         )
             .tls_serialize(writer)
     }
@@ -53,8 +53,8 @@ impl Serialize for Certificate {
         append_as(
             self,
             &(
-                Lent(&self.certificate_request_context),
-                Lent(&self.certificate_list),
+                ByRef(&self.certificate_request_context),
+                ByRef(&self.certificate_list),
             ),
             out,
         )

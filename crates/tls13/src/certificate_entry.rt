@@ -6,7 +6,7 @@ ghost use Rattle.tls13.specs.declared.certificate_entry.CertificateEntry.{Certif
 use crate::Extension;
 use std::alloc::Global;
 use tls_codec::{
-    Deserialize, DeserializeBytes, Error, Lent, Serialize, Sink, Size, Source, TlsByteVec,
+    ByRef, Deserialize, DeserializeBytes, Error, Serialize, Sink, Size, Source, TlsByteVec,
     TlsVecU16, U24, Within,
 };
 use tls_codec_cases::append_as;
@@ -30,7 +30,7 @@ impl Size for CertificateEntry {
     ghost format = { certificate_entry_format };
 
     fn tls_serialized_len(&self) -> usize {
-        (Lent(&self.cert_data), Lent(&self.extensions)).tls_serialized_len()
+        (ByRef(&self.cert_data), ByRef(&self.extensions)).tls_serialized_len()
     }
 
     ghost lawful = { certificate_entry_meets };
@@ -38,11 +38,15 @@ impl Size for CertificateEntry {
 
 impl Serialize for CertificateEntry {
     fn tls_serialize<W: Sink>(&self, writer: &mut W) -> Result<usize, Error> {
-        (Lent(&self.cert_data), Lent(&self.extensions)).tls_serialize(writer)
+        (ByRef(&self.cert_data), ByRef(&self.extensions)).tls_serialize(writer)
     }
 
     fn tls_serialize_into(&self, out: &mut Vec<u8>) -> Result<usize, Error> {
-        append_as(self, &(Lent(&self.cert_data), Lent(&self.extensions)), out)
+        append_as(
+            self,
+            &(ByRef(&self.cert_data), ByRef(&self.extensions)),
+            out,
+        )
     }
 }
 

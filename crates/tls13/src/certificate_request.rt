@@ -6,7 +6,7 @@ ghost use Rattle.tls13.specs.declared.certificate_request.CertificateRequest.{Ce
 use crate::Extension;
 use std::alloc::Global;
 use tls_codec::{
-    Deserialize, DeserializeBytes, Error, Lent, Serialize, Sink, Size, Source, TlsByteVecU8,
+    ByRef, Deserialize, DeserializeBytes, Error, Serialize, Sink, Size, Source, TlsByteVecU8,
     TlsVec, Within,
 };
 use tls_codec_cases::append_as;
@@ -31,8 +31,8 @@ impl Size for CertificateRequest {
 
     fn tls_serialized_len(&self) -> usize {
         (
-            Lent(&self.certificate_request_context),
-            Lent(&self.extensions),
+            ByRef(&self.certificate_request_context),
+            ByRef(&self.extensions),
         )
             .tls_serialized_len()
     }
@@ -43,8 +43,8 @@ impl Size for CertificateRequest {
 impl Serialize for CertificateRequest {
     fn tls_serialize<W: Sink>(&self, writer: &mut W) -> Result<usize, Error> {
         (
-            Lent(&self.certificate_request_context),
-            Lent(&self.extensions),
+            ByRef(&self.certificate_request_context),
+            ByRef(&self.extensions),
         )
             .tls_serialize(writer)
     }
@@ -53,8 +53,8 @@ impl Serialize for CertificateRequest {
         append_as(
             self,
             &(
-                Lent(&self.certificate_request_context),
-                Lent(&self.extensions),
+                ByRef(&self.certificate_request_context),
+                ByRef(&self.extensions),
             ),
             out,
         )

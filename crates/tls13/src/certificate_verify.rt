@@ -6,7 +6,7 @@ ghost use Rattle.tls13.specs.declared.certificate_verify.CertificateVerify.{Cert
 use crate::SignatureScheme;
 use std::alloc::Global;
 use tls_codec::{
-    Deserialize, DeserializeBytes, Error, Lent, Serialize, Sink, Size, Source, TlsByteVecU16,
+    ByRef, Deserialize, DeserializeBytes, Error, Serialize, Sink, Size, Source, TlsByteVecU16,
 };
 use tls_codec_cases::append_as;
 use tls_codec_validate::{Rejected, Validate};
@@ -29,7 +29,7 @@ impl Size for CertificateVerify {
     ghost format = { certificate_verify_format };
 
     fn tls_serialized_len(&self) -> usize {
-        (Lent(&self.algorithm), Lent(&self.signature)).tls_serialized_len()
+        (ByRef(&self.algorithm), ByRef(&self.signature)).tls_serialized_len()
     }
 
     ghost lawful = { certificate_verify_meets };
@@ -37,11 +37,11 @@ impl Size for CertificateVerify {
 
 impl Serialize for CertificateVerify {
     fn tls_serialize<W: Sink>(&self, writer: &mut W) -> Result<usize, Error> {
-        (Lent(&self.algorithm), Lent(&self.signature)).tls_serialize(writer)
+        (ByRef(&self.algorithm), ByRef(&self.signature)).tls_serialize(writer)
     }
 
     fn tls_serialize_into(&self, out: &mut Vec<u8>) -> Result<usize, Error> {
-        append_as(self, &(Lent(&self.algorithm), Lent(&self.signature)), out)
+        append_as(self, &(ByRef(&self.algorithm), ByRef(&self.signature)), out)
     }
 }
 

@@ -6,8 +6,8 @@ ghost use Rattle.tls13.specs.declared.client_hello.ClientHello.{ClientHello};
 use crate::{CipherSuite, Extension, ProtocolVersionX0303, Random};
 use std::alloc::Global;
 use tls_codec::{
-    Deserialize, DeserializeBytes, Error, Lent3, Serialize, Sink, Size, Source, TlsByteVec, TlsVec,
-    Within,
+    ByRef3, Deserialize, DeserializeBytes, Error, Serialize, Sink, Size, Source, TlsByteVec,
+    TlsVec, Within,
 };
 use tls_codec_cases::append_as;
 use tls_codec_validate::{Rejected, Validate};
@@ -47,8 +47,8 @@ impl Size for ClientHello {
 
     fn tls_serialized_len(&self) -> usize {
         (
-            Lent3(&self.legacy_version, &self.random, &self.legacy_session_id),
-            Lent3(
+            ByRef3(&self.legacy_version, &self.random, &self.legacy_session_id),
+            ByRef3(
                 &self.cipher_suites,
                 &self.legacy_compression_methods,
                 &self.extensions,
@@ -63,8 +63,8 @@ impl Size for ClientHello {
 impl Serialize for ClientHello {
     fn tls_serialize<W: Sink>(&self, writer: &mut W) -> Result<usize, Error> {
         (
-            Lent3(&self.legacy_version, &self.random, &self.legacy_session_id),
-            Lent3(
+            ByRef3(&self.legacy_version, &self.random, &self.legacy_session_id),
+            ByRef3(
                 &self.cipher_suites,
                 &self.legacy_compression_methods,
                 &self.extensions,
@@ -77,8 +77,8 @@ impl Serialize for ClientHello {
         append_as(
             self,
             &(
-                Lent3(&self.legacy_version, &self.random, &self.legacy_session_id),
-                Lent3(
+                ByRef3(&self.legacy_version, &self.random, &self.legacy_session_id),
+                ByRef3(
                     &self.cipher_suites,
                     &self.legacy_compression_methods,
                     &self.extensions,

@@ -6,7 +6,7 @@ ghost use Rattle.tls13.specs.declared.early_data_indication.EarlyDataIndication.
 use crate::{EmptyType, HandshakeType};
 use std::alloc::Global;
 use tls_codec::{
-    DeserializeBytesFor, DeserializeFor, Error, Lent, SerializeFor, Sink, SizeFor, Source,
+    ByRef, DeserializeBytesFor, DeserializeFor, Error, SerializeFor, Sink, SizeFor, Source,
 };
 use tls_codec_cases::{Case, Chosen, Or, append_as_for, write_as_for};
 use tls_codec_validate::{Rejected, ValidateFor};
@@ -25,21 +25,21 @@ pub enum EarlyDataIndication {
 
 type Cases = Chosen<Or<Or<Case<4, u32>, Case<1, EmptyType>>, Case<8, EmptyType>>>;
 
-type LentCases<'a> = Chosen<
-    Or<Or<Case<4, Lent<'a, u32>>, Case<1, Lent<'a, EmptyType>>>, Case<8, Lent<'a, EmptyType>>>,
+type ByRefCases<'a> = Chosen<
+    Or<Or<Case<4, ByRef<'a, u32>>, Case<1, ByRef<'a, EmptyType>>>, Case<8, ByRef<'a, EmptyType>>>,
 >;
 
 impl EarlyDataIndication {
-    fn cases(&self) -> LentCases<'_>
-        ensures { ⟦<LentCases<'static> as SizeFor<HandshakeType>>⟧.plain result
+    fn cases(&self) -> ByRefCases<'_>
+        ensures { ⟦<ByRefCases<'static> as SizeFor<HandshakeType>>⟧.plain result
             ≡ early_data_indication_plain self.now }
     {
         let cases = match self {
             EarlyDataIndication::NewSessionTicket(max_early_data_size) => Or::First(Or::First(Case(
-                Lent(max_early_data_size),
+                ByRef(max_early_data_size),
             ))),
-            EarlyDataIndication::ClientHello(empty) => Or::First(Or::Second(Case(Lent(empty)))),
-            EarlyDataIndication::EncryptedExtensions(empty) => Or::Second(Case(Lent(empty))),
+            EarlyDataIndication::ClientHello(empty) => Or::First(Or::Second(Case(ByRef(empty)))),
+            EarlyDataIndication::EncryptedExtensions(empty) => Or::Second(Case(ByRef(empty))),
         };
         Chosen(cases)
     }

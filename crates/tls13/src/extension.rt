@@ -6,7 +6,7 @@ ghost use Rattle.tls13.specs.declared.extension.Extension.{Extension};
 use crate::ExtensionType;
 use std::alloc::Global;
 use tls_codec::{
-    Deserialize, DeserializeBytes, Error, Lent, Serialize, Sink, Size, Source, TlsByteVecU16,
+    ByRef, Deserialize, DeserializeBytes, Error, Serialize, Sink, Size, Source, TlsByteVecU16,
 };
 use tls_codec_cases::append_as;
 use tls_codec_validate::{Rejected, Validate};
@@ -29,7 +29,7 @@ impl Size for Extension {
     ghost format = { extension_format };
 
     fn tls_serialized_len(&self) -> usize {
-        (Lent(&self.extension_type), Lent(&self.extension_data)).tls_serialized_len()
+        (ByRef(&self.extension_type), ByRef(&self.extension_data)).tls_serialized_len()
     }
 
     ghost lawful = { extension_meets };
@@ -37,13 +37,13 @@ impl Size for Extension {
 
 impl Serialize for Extension {
     fn tls_serialize<W: Sink>(&self, writer: &mut W) -> Result<usize, Error> {
-        (Lent(&self.extension_type), Lent(&self.extension_data)).tls_serialize(writer)
+        (ByRef(&self.extension_type), ByRef(&self.extension_data)).tls_serialize(writer)
     }
 
     fn tls_serialize_into(&self, out: &mut Vec<u8>) -> Result<usize, Error> {
         append_as(
             self,
-            &(Lent(&self.extension_type), Lent(&self.extension_data)),
+            &(ByRef(&self.extension_type), ByRef(&self.extension_data)),
             out,
         )
     }

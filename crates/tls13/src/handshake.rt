@@ -13,7 +13,7 @@ use crate::{
 use std::alloc::Global;
 use std::marker::PhantomData;
 use tls_codec::{
-    Deserialize, DeserializeBytes, Error, Lent, Serialize, Sink, Size, Source, TlsByteVecU24, U24,
+    ByRef, Deserialize, DeserializeBytes, Error, Serialize, Sink, Size, Source, TlsByteVecU24, U24,
 };
 use tls_codec_cases::{Case, Enclosed, Or, Tagged, append_as, write_as};
 use tls_codec_validate::{Rejected, Validate};
@@ -68,73 +68,73 @@ type Cases = Tagged<
     >,
 >;
 
-type LentCases<'a> = Tagged<
+type ByRefCases<'a> = Tagged<
     u8,
     Or<
         Or<
             Or<
                 Or<
-                    Case<1, Enclosed<U24, Lent<'a, ClientHello>>>,
-                    Case<2, Enclosed<U24, Lent<'a, ServerHello>>>,
+                    Case<1, Enclosed<U24, ByRef<'a, ClientHello>>>,
+                    Case<2, Enclosed<U24, ByRef<'a, ServerHello>>>,
                 >,
                 Or<
-                    Case<5, Enclosed<U24, Lent<'a, EndOfEarlyData>>>,
-                    Case<8, Enclosed<U24, Lent<'a, EncryptedExtensions>>>,
+                    Case<5, Enclosed<U24, ByRef<'a, EndOfEarlyData>>>,
+                    Case<8, Enclosed<U24, ByRef<'a, EncryptedExtensions>>>,
                 >,
             >,
             Or<
                 Or<
-                    Case<13, Enclosed<U24, Lent<'a, CertificateRequest>>>,
-                    Case<11, Enclosed<U24, Lent<'a, Certificate>>>,
+                    Case<13, Enclosed<U24, ByRef<'a, CertificateRequest>>>,
+                    Case<11, Enclosed<U24, ByRef<'a, Certificate>>>,
                 >,
                 Or<
-                    Case<15, Enclosed<U24, Lent<'a, CertificateVerify>>>,
-                    Case<20, Lent<'a, TlsByteVecU24>>,
+                    Case<15, Enclosed<U24, ByRef<'a, CertificateVerify>>>,
+                    Case<20, ByRef<'a, TlsByteVecU24>>,
                 >,
             >,
         >,
         Or<
-            Case<4, Enclosed<U24, Lent<'a, NewSessionTicket>>>,
-            Case<24, Enclosed<U24, Lent<'a, KeyUpdate>>>,
+            Case<4, Enclosed<U24, ByRef<'a, NewSessionTicket>>>,
+            Case<24, Enclosed<U24, ByRef<'a, KeyUpdate>>>,
         >,
     >,
 >;
 
 impl Handshake {
-    fn cases(&self) -> LentCases<'_>
-        ensures { ⟦<LentCases<'static> as Size>⟧.plain result ≡ handshake_plain self.now }
+    fn cases(&self) -> ByRefCases<'_>
+        ensures { ⟦<ByRefCases<'static> as Size>⟧.plain result ≡ handshake_plain self.now }
     {
         let cases = match self {
             Handshake::ClientHello(client_hello) => Or::First(Or::First(Or::First(Or::First(Case(
-                Enclosed(Lent(client_hello), PhantomData),
+                Enclosed(ByRef(client_hello), PhantomData),
             ))))),
             Handshake::ServerHello(server_hello) => Or::First(Or::First(Or::First(Or::Second(Case(
-                Enclosed(Lent(server_hello), PhantomData),
+                Enclosed(ByRef(server_hello), PhantomData),
             ))))),
             Handshake::EndOfEarlyData(end_of_early_data) => Or::First(Or::First(Or::Second(
-                Or::First(Case(Enclosed(Lent(end_of_early_data), PhantomData))),
+                Or::First(Case(Enclosed(ByRef(end_of_early_data), PhantomData))),
             ))),
             Handshake::EncryptedExtensions(encrypted_extensions) => Or::First(Or::First(Or::Second(
-                Or::Second(Case(Enclosed(Lent(encrypted_extensions), PhantomData))),
+                Or::Second(Case(Enclosed(ByRef(encrypted_extensions), PhantomData))),
             ))),
             Handshake::CertificateRequest(certificate_request) => Or::First(Or::Second(Or::First(
-                Or::First(Case(Enclosed(Lent(certificate_request), PhantomData))),
+                Or::First(Case(Enclosed(ByRef(certificate_request), PhantomData))),
             ))),
             Handshake::Certificate(certificate) => Or::First(Or::Second(Or::First(Or::Second(Case(
-                Enclosed(Lent(certificate), PhantomData),
+                Enclosed(ByRef(certificate), PhantomData),
             ))))),
             Handshake::CertificateVerify(certificate_verify) => Or::First(Or::Second(Or::Second(
-                Or::First(Case(Enclosed(Lent(certificate_verify), PhantomData))),
+                Or::First(Case(Enclosed(ByRef(certificate_verify), PhantomData))),
             ))),
             Handshake::Finished(verify_data) => Or::First(Or::Second(Or::Second(Or::Second(Case(
-                Lent(verify_data),
+                ByRef(verify_data),
             ))))),
             Handshake::NewSessionTicket(new_session_ticket) => Or::Second(Or::First(Case(Enclosed(
-                Lent(new_session_ticket),
+                ByRef(new_session_ticket),
                 PhantomData,
             )))),
             Handshake::KeyUpdate(key_update) => Or::Second(Or::Second(Case(Enclosed(
-                Lent(key_update),
+                ByRef(key_update),
                 PhantomData,
             )))),
         };

@@ -6,7 +6,7 @@ ghost use Rattle.tls13.specs.declared.key_share_entry.KeyShareEntry.{KeyShareEnt
 use crate::NamedGroup;
 use std::alloc::Global;
 use tls_codec::{
-    Deserialize, DeserializeBytes, Error, Lent, Serialize, Sink, Size, Source, TlsByteVec, Within,
+    ByRef, Deserialize, DeserializeBytes, Error, Serialize, Sink, Size, Source, TlsByteVec, Within,
 };
 use tls_codec_cases::append_as;
 use tls_codec_validate::{Rejected, Validate};
@@ -29,7 +29,7 @@ impl Size for KeyShareEntry {
     ghost format = { key_share_entry_format };
 
     fn tls_serialized_len(&self) -> usize {
-        (Lent(&self.group), Lent(&self.key_exchange)).tls_serialized_len()
+        (ByRef(&self.group), ByRef(&self.key_exchange)).tls_serialized_len()
     }
 
     ghost lawful = { key_share_entry_meets };
@@ -37,11 +37,11 @@ impl Size for KeyShareEntry {
 
 impl Serialize for KeyShareEntry {
     fn tls_serialize<W: Sink>(&self, writer: &mut W) -> Result<usize, Error> {
-        (Lent(&self.group), Lent(&self.key_exchange)).tls_serialize(writer)
+        (ByRef(&self.group), ByRef(&self.key_exchange)).tls_serialize(writer)
     }
 
     fn tls_serialize_into(&self, out: &mut Vec<u8>) -> Result<usize, Error> {
-        append_as(self, &(Lent(&self.group), Lent(&self.key_exchange)), out)
+        append_as(self, &(ByRef(&self.group), ByRef(&self.key_exchange)), out)
     }
 }
 

@@ -6,8 +6,8 @@ ghost use Rattle.tls13.specs.declared.new_session_ticket.NewSessionTicket.{NewSe
 use crate::Extension;
 use std::alloc::Global;
 use tls_codec::{
-    Deserialize, DeserializeBytes, Error, Lent2, Lent3, Serialize, Sink, Size, Source, TlsByteVec,
-    TlsByteVecU8, TlsVec, Within,
+    ByRef2, ByRef3, Deserialize, DeserializeBytes, Error, Serialize, Sink, Size, Source,
+    TlsByteVec, TlsByteVecU8, TlsVec, Within,
 };
 use tls_codec_cases::append_as;
 use tls_codec_validate::{Rejected, Validate};
@@ -43,12 +43,12 @@ impl Size for NewSessionTicket {
 
     fn tls_serialized_len(&self) -> usize {
         (
-            Lent3(
+            ByRef3(
                 &self.ticket_lifetime,
                 &self.ticket_age_add,
                 &self.ticket_nonce,
             ),
-            Lent2(&self.ticket, &self.extensions),
+            ByRef2(&self.ticket, &self.extensions),
         )
             .tls_serialized_len()
     }
@@ -59,12 +59,12 @@ impl Size for NewSessionTicket {
 impl Serialize for NewSessionTicket {
     fn tls_serialize<W: Sink>(&self, writer: &mut W) -> Result<usize, Error> {
         (
-            Lent3(
+            ByRef3(
                 &self.ticket_lifetime,
                 &self.ticket_age_add,
                 &self.ticket_nonce,
             ),
-            Lent2(&self.ticket, &self.extensions),
+            ByRef2(&self.ticket, &self.extensions),
         )
             .tls_serialize(writer)
     }
@@ -73,12 +73,12 @@ impl Serialize for NewSessionTicket {
         append_as(
             self,
             &(
-                Lent3(
+                ByRef3(
                     &self.ticket_lifetime,
                     &self.ticket_age_add,
                     &self.ticket_nonce,
                 ),
-                Lent2(&self.ticket, &self.extensions),
+                ByRef2(&self.ticket, &self.extensions),
             ),
             out,
         )

@@ -6,7 +6,7 @@ ghost use Rattle.tls13.specs.declared.offered_psks.OfferedPsks.{OfferedPsks};
 use crate::{PskBinderEntry, PskIdentity};
 use std::alloc::Global;
 use tls_codec::{
-    Deserialize, DeserializeBytes, Error, Lent, Serialize, Sink, Size, Source, TlsVec, Within,
+    ByRef, Deserialize, DeserializeBytes, Error, Serialize, Sink, Size, Source, TlsVec, Within,
 };
 use tls_codec_cases::append_as;
 use tls_codec_validate::{Rejected, Validate};
@@ -32,7 +32,7 @@ impl Size for OfferedPsks {
     ghost format = { offered_psks_format };
 
     fn tls_serialized_len(&self) -> usize {
-        (Lent(&self.identities), Lent(&self.binders)).tls_serialized_len()
+        (ByRef(&self.identities), ByRef(&self.binders)).tls_serialized_len()
     }
 
     ghost lawful = { offered_psks_meets };
@@ -40,11 +40,11 @@ impl Size for OfferedPsks {
 
 impl Serialize for OfferedPsks {
     fn tls_serialize<W: Sink>(&self, writer: &mut W) -> Result<usize, Error> {
-        (Lent(&self.identities), Lent(&self.binders)).tls_serialize(writer)
+        (ByRef(&self.identities), ByRef(&self.binders)).tls_serialize(writer)
     }
 
     fn tls_serialize_into(&self, out: &mut Vec<u8>) -> Result<usize, Error> {
-        append_as(self, &(Lent(&self.identities), Lent(&self.binders)), out)
+        append_as(self, &(ByRef(&self.identities), ByRef(&self.binders)), out)
     }
 }
 

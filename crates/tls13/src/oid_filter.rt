@@ -5,7 +5,7 @@ ghost use Rattle.tls13.specs.declared.oid_filter.OIDFilter.{OIDFilter};
 
 use std::alloc::Global;
 use tls_codec::{
-    Deserialize, DeserializeBytes, Error, Lent, Serialize, Sink, Size, Source, TlsByteVec,
+    ByRef, Deserialize, DeserializeBytes, Error, Serialize, Sink, Size, Source, TlsByteVec,
     TlsByteVecU16, Within,
 };
 use tls_codec_cases::append_as;
@@ -30,8 +30,8 @@ impl Size for OIDFilter {
 
     fn tls_serialized_len(&self) -> usize {
         (
-            Lent(&self.certificate_extension_oid),
-            Lent(&self.certificate_extension_values),
+            ByRef(&self.certificate_extension_oid),
+            ByRef(&self.certificate_extension_values),
         )
             .tls_serialized_len()
     }
@@ -42,8 +42,8 @@ impl Size for OIDFilter {
 impl Serialize for OIDFilter {
     fn tls_serialize<W: Sink>(&self, writer: &mut W) -> Result<usize, Error> {
         (
-            Lent(&self.certificate_extension_oid),
-            Lent(&self.certificate_extension_values),
+            ByRef(&self.certificate_extension_oid),
+            ByRef(&self.certificate_extension_values),
         )
             .tls_serialize(writer)
     }
@@ -52,8 +52,8 @@ impl Serialize for OIDFilter {
         append_as(
             self,
             &(
-                Lent(&self.certificate_extension_oid),
-                Lent(&self.certificate_extension_values),
+                ByRef(&self.certificate_extension_oid),
+                ByRef(&self.certificate_extension_values),
             ),
             out,
         )

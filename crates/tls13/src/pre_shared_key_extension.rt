@@ -6,7 +6,7 @@ ghost use Rattle.tls13.specs.declared.pre_shared_key_extension.PreSharedKeyExten
 use crate::{HandshakeType, OfferedPsks};
 use std::alloc::Global;
 use tls_codec::{
-    DeserializeBytesFor, DeserializeFor, Error, Lent, SerializeFor, Sink, SizeFor, Source,
+    ByRef, DeserializeBytesFor, DeserializeFor, Error, SerializeFor, Sink, SizeFor, Source,
 };
 use tls_codec_cases::{Case, Chosen, Or, append_as_for, write_as_for};
 use tls_codec_validate::{Rejected, ValidateFor};
@@ -23,16 +23,18 @@ pub enum PreSharedKeyExtension {
 
 type Cases = Chosen<Or<Case<1, OfferedPsks>, Case<2, u16>>>;
 
-type LentCases<'a> = Chosen<Or<Case<1, Lent<'a, OfferedPsks>>, Case<2, Lent<'a, u16>>>>;
+type ByRefCases<'a> = Chosen<Or<Case<1, ByRef<'a, OfferedPsks>>, Case<2, ByRef<'a, u16>>>>;
 
 impl PreSharedKeyExtension {
-    fn cases(&self) -> LentCases<'_>
-        ensures { ⟦<LentCases<'static> as SizeFor<HandshakeType>>⟧.plain result
+    fn cases(&self) -> ByRefCases<'_>
+        ensures { ⟦<ByRefCases<'static> as SizeFor<HandshakeType>>⟧.plain result
             ≡ pre_shared_key_extension_plain self.now }
     {
         let cases = match self {
-            PreSharedKeyExtension::ClientHello(offered_psks) => Or::First(Case(Lent(offered_psks))),
-            PreSharedKeyExtension::ServerHello(selected_identity) => Or::Second(Case(Lent(
+            PreSharedKeyExtension::ClientHello(offered_psks) => Or::First(Case(ByRef(
+                offered_psks,
+            ))),
+            PreSharedKeyExtension::ServerHello(selected_identity) => Or::Second(Case(ByRef(
                 selected_identity,
             ))),
         };

@@ -5,7 +5,7 @@ ghost use Rattle.tls13.specs.declared.psk_identity.PskIdentity.{PskIdentity};
 
 use std::alloc::Global;
 use tls_codec::{
-    Deserialize, DeserializeBytes, Error, Lent, Serialize, Sink, Size, Source, TlsByteVec, Within,
+    ByRef, Deserialize, DeserializeBytes, Error, Serialize, Sink, Size, Source, TlsByteVec, Within,
 };
 use tls_codec_cases::append_as;
 use tls_codec_validate::{Rejected, Validate};
@@ -28,7 +28,7 @@ impl Size for PskIdentity {
     ghost format = { psk_identity_format };
 
     fn tls_serialized_len(&self) -> usize {
-        (Lent(&self.identity), Lent(&self.obfuscated_ticket_age)).tls_serialized_len()
+        (ByRef(&self.identity), ByRef(&self.obfuscated_ticket_age)).tls_serialized_len()
     }
 
     ghost lawful = { psk_identity_meets };
@@ -36,13 +36,13 @@ impl Size for PskIdentity {
 
 impl Serialize for PskIdentity {
     fn tls_serialize<W: Sink>(&self, writer: &mut W) -> Result<usize, Error> {
-        (Lent(&self.identity), Lent(&self.obfuscated_ticket_age)).tls_serialize(writer)
+        (ByRef(&self.identity), ByRef(&self.obfuscated_ticket_age)).tls_serialize(writer)
     }
 
     fn tls_serialize_into(&self, out: &mut Vec<u8>) -> Result<usize, Error> {
         append_as(
             self,
-            &(Lent(&self.identity), Lent(&self.obfuscated_ticket_age)),
+            &(ByRef(&self.identity), ByRef(&self.obfuscated_ticket_age)),
             out,
         )
     }

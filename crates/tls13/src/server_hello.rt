@@ -6,8 +6,8 @@ ghost use Rattle.tls13.specs.declared.server_hello.ServerHello.{ServerHello};
 use crate::{CipherSuite, Extension, LegacyCompressionMethodX00, ProtocolVersionX0303, Random};
 use std::alloc::Global;
 use tls_codec::{
-    Deserialize, DeserializeBytes, Error, Lent3, Serialize, Sink, Size, Source, TlsByteVec, TlsVec,
-    Within,
+    ByRef3, Deserialize, DeserializeBytes, Error, Serialize, Sink, Size, Source, TlsByteVec,
+    TlsVec, Within,
 };
 use tls_codec_cases::append_as;
 use tls_codec_validate::{Rejected, Validate};
@@ -47,12 +47,12 @@ impl Size for ServerHello {
 
     fn tls_serialized_len(&self) -> usize {
         (
-            Lent3(
+            ByRef3(
                 &self.legacy_version,
                 &self.random,
                 &self.legacy_session_id_echo,
             ),
-            Lent3(
+            ByRef3(
                 &self.cipher_suite,
                 &self.legacy_compression_method,
                 &self.extensions,
@@ -67,12 +67,12 @@ impl Size for ServerHello {
 impl Serialize for ServerHello {
     fn tls_serialize<W: Sink>(&self, writer: &mut W) -> Result<usize, Error> {
         (
-            Lent3(
+            ByRef3(
                 &self.legacy_version,
                 &self.random,
                 &self.legacy_session_id_echo,
             ),
-            Lent3(
+            ByRef3(
                 &self.cipher_suite,
                 &self.legacy_compression_method,
                 &self.extensions,
@@ -85,12 +85,12 @@ impl Serialize for ServerHello {
         append_as(
             self,
             &(
-                Lent3(
+                ByRef3(
                     &self.legacy_version,
                     &self.random,
                     &self.legacy_session_id_echo,
                 ),
-                Lent3(
+                ByRef3(
                     &self.cipher_suite,
                     &self.legacy_compression_method,
                     &self.extensions,

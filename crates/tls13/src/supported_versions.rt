@@ -6,7 +6,7 @@ ghost use Rattle.tls13.specs.declared.supported_versions.SupportedVersions.{Supp
 use crate::{HandshakeType, ProtocolVersion};
 use std::alloc::Global;
 use tls_codec::{
-    DeserializeBytesFor, DeserializeFor, Error, Lent, SerializeFor, Sink, SizeFor, Source, TlsVec,
+    ByRef, DeserializeBytesFor, DeserializeFor, Error, SerializeFor, Sink, SizeFor, Source, TlsVec,
     Within,
 };
 use tls_codec_cases::{Case, Chosen, Or, append_as_for, write_as_for};
@@ -26,21 +26,21 @@ type Cases = Chosen<
     Or<Case<1, TlsVec<Within<u8, 2, 254>, ProtocolVersion>>, Case<2, ProtocolVersion>>,
 >;
 
-type LentCases<'a> = Chosen<
+type ByRefCases<'a> = Chosen<
     Or<
-        Case<1, Lent<'a, TlsVec<Within<u8, 2, 254>, ProtocolVersion>>>,
-        Case<2, Lent<'a, ProtocolVersion>>,
+        Case<1, ByRef<'a, TlsVec<Within<u8, 2, 254>, ProtocolVersion>>>,
+        Case<2, ByRef<'a, ProtocolVersion>>,
     >,
 >;
 
 impl SupportedVersions {
-    fn cases(&self) -> LentCases<'_>
-        ensures { ⟦<LentCases<'static> as SizeFor<HandshakeType>>⟧.plain result
+    fn cases(&self) -> ByRefCases<'_>
+        ensures { ⟦<ByRefCases<'static> as SizeFor<HandshakeType>>⟧.plain result
             ≡ supported_versions_plain self.now }
     {
         let cases = match self {
-            SupportedVersions::ClientHello(versions) => Or::First(Case(Lent(versions))),
-            SupportedVersions::ServerHello(selected_version) => Or::Second(Case(Lent(
+            SupportedVersions::ClientHello(versions) => Or::First(Case(ByRef(versions))),
+            SupportedVersions::ServerHello(selected_version) => Or::Second(Case(ByRef(
                 selected_version,
             ))),
         };

@@ -6,7 +6,7 @@ ghost use Rattle.tls13.specs.declared.tls_ciphertext.TLSCiphertext.{TLSCiphertex
 use crate::{ContentTypeApplicationData, ProtocolVersionX0303};
 use std::alloc::Global;
 use tls_codec::{
-    Deserialize, DeserializeBytes, Error, Lent, Serialize, Sink, Size, Source, TlsByteVecU16,
+    ByRef, Deserialize, DeserializeBytes, Error, Serialize, Sink, Size, Source, TlsByteVecU16,
 };
 use tls_codec_cases::append_as;
 use tls_codec_validate::{Rejected, Validate};
@@ -38,9 +38,9 @@ impl Size for TLSCiphertext {
 
     fn tls_serialized_len(&self) -> usize {
         (
-            Lent(&self.opaque_type),
-            Lent(&self.legacy_record_version),
-            Lent(&self.encrypted_record),
+            ByRef(&self.opaque_type),
+            ByRef(&self.legacy_record_version),
+            ByRef(&self.encrypted_record),
         )
             .tls_serialized_len()
     }
@@ -51,9 +51,9 @@ impl Size for TLSCiphertext {
 impl Serialize for TLSCiphertext {
     fn tls_serialize<W: Sink>(&self, writer: &mut W) -> Result<usize, Error> {
         (
-            Lent(&self.opaque_type),
-            Lent(&self.legacy_record_version),
-            Lent(&self.encrypted_record),
+            ByRef(&self.opaque_type),
+            ByRef(&self.legacy_record_version),
+            ByRef(&self.encrypted_record),
         )
             .tls_serialize(writer)
     }
@@ -62,9 +62,9 @@ impl Serialize for TLSCiphertext {
         append_as(
             self,
             &(
-                Lent(&self.opaque_type),
-                Lent(&self.legacy_record_version),
-                Lent(&self.encrypted_record),
+                ByRef(&self.opaque_type),
+                ByRef(&self.legacy_record_version),
+                ByRef(&self.encrypted_record),
             ),
             out,
         )

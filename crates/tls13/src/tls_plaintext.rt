@@ -6,7 +6,7 @@ ghost use Rattle.tls13.specs.declared.tls_plaintext.TLSPlaintext.{TLSPlaintext};
 use crate::{ContentType, ProtocolVersion};
 use std::alloc::Global;
 use tls_codec::{
-    Deserialize, DeserializeBytes, Error, Lent, Serialize, Sink, Size, Source, TlsByteVecU16,
+    ByRef, Deserialize, DeserializeBytes, Error, Serialize, Sink, Size, Source, TlsByteVecU16,
 };
 use tls_codec_cases::append_as;
 use tls_codec_validate::{Rejected, Validate};
@@ -32,9 +32,9 @@ impl Size for TLSPlaintext {
 
     fn tls_serialized_len(&self) -> usize {
         (
-            Lent(&self.kind),
-            Lent(&self.legacy_record_version),
-            Lent(&self.fragment),
+            ByRef(&self.kind),
+            ByRef(&self.legacy_record_version),
+            ByRef(&self.fragment),
         )
             .tls_serialized_len()
     }
@@ -45,9 +45,9 @@ impl Size for TLSPlaintext {
 impl Serialize for TLSPlaintext {
     fn tls_serialize<W: Sink>(&self, writer: &mut W) -> Result<usize, Error> {
         (
-            Lent(&self.kind),
-            Lent(&self.legacy_record_version),
-            Lent(&self.fragment),
+            ByRef(&self.kind),
+            ByRef(&self.legacy_record_version),
+            ByRef(&self.fragment),
         )
             .tls_serialize(writer)
     }
@@ -56,9 +56,9 @@ impl Serialize for TLSPlaintext {
         append_as(
             self,
             &(
-                Lent(&self.kind),
-                Lent(&self.legacy_record_version),
-                Lent(&self.fragment),
+                ByRef(&self.kind),
+                ByRef(&self.legacy_record_version),
+                ByRef(&self.fragment),
             ),
             out,
         )

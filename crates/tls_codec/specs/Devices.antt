@@ -1,5 +1,5 @@
 -- For sources and sinks, your own and others': their counts and faults, what they give and what they receive.
-pub use Rattle.tls_codec_wire.specs.Counts.{Counts, FaultIsCounted, NoneFell, OnlyInterrupted, RoseBy, calm_falls_never, calm_goes_on, calm_stays, count_limit, fall_never, no_counts, only_shortages, raised, stay}
+pub use Rattle.tls_codec_wire.specs.Counts.{Counts, FaultIsCounted, NoneFell, OnlyInterrupted, RoseBy, only_interrupted_grows, only_interrupted_trans, only_interrupted_refl, count_limit, fall_never, no_counts, only_shortages, raised, stay}
 pub use Rattle.tls_codec_wire.specs.Device.{AppendedAtHand, FaultRaises, Gave, GiveIsCounted, Gives, GivesFromFront, GivesInOrder, GivesNothing, IsAtHand, IsBeginning, NoCountFalls, PullIsCounted, PulledOnto, Received, bytes_moved}
 pub use Rattle.tls_codec_wire.specs.declared.device.Fault.{Fault}
 pub use Rattle.tls_codec_wire.specs.declared.device.Fault.TheVariants.{Failed, Interrupted, NoMemory}

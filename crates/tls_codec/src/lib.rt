@@ -17,7 +17,7 @@
 //! - [`vlen`]: lengths as variable-length integers. [`lists`]: the engines that every list goes through.
 //! - [`deserialize_to_end`]: a value and the end of its source, as in a file that holds one message;
 //!   [`expect_end`]: the end alone.
-//! - [`Lent`]: a lent value, to write messages of your own; [`Lent2`] to [`Lent9`]: two to nine of them in
+//! - [`ByRef`]: a borrowed value, to write messages of your own; [`ByRef2`] to [`ByRef9`]: two to nine of them in
 //!   a row.
 //! - Parts that an earlier field or another struct decides: the traits [`SizeFor`], [`SerializeFor`],
 //!   [`DeserializeFor`] and [`DeserializeBytesFor`] of a type in a context; [`Then`], a first part and what it decides;
@@ -33,10 +33,11 @@ pub mod equality;
 pub mod types;
 
 pub use tls_codec_base::{
-    Always, Condition, Deserialize, DeserializeBytes, DeserializeBytesFor, DeserializeFor,
-    LengthField, Lent, Lent2, Lent3, Lent4, Lent5, Lent6, Lent7, Lent8, Lent9, LentIn, LentThen,
-    LentThen2, LentWhen, Serialize, SerializeBytes, SerializeFor, Size, SizeFor, Then, When,
-    Within, context, deserialize_to_end, first_room, laws, lists, refusals, unknown_value,
+    Always, ByRef, ByRef2, ByRef3, ByRef4, ByRef5, ByRef6, ByRef7, ByRef8, ByRef9, ByRefIn,
+    ByRefThen, ByRefThen2, ByRefWhen, Condition, Deserialize, DeserializeBytes,
+    DeserializeBytesFor, DeserializeFor, LengthField, Serialize, SerializeBytes, SerializeFor,
+    Size, SizeFor, Then, When, Within, context, deserialize_to_end, first_room, laws, lists,
+    refusals, unknown_value,
 };
 pub use tls_codec_bytes::{TlsByteVec, TlsByteVecU8, TlsByteVecU16, TlsByteVecU24, TlsByteVecU32};
 pub use tls_codec_secret::{

@@ -5,17 +5,17 @@
 //! struct that holds that field, or what the user knows of the connection. No byte repeats it.
 //!
 //! - [`SizeFor`], [`SerializeFor`], [`DeserializeFor`], [`DeserializeBytesFor`]: the traits of a type in a context.
-//! - [`Then`]: a first part and what it decides, which gives the context. [`LentThen`], [`LentThen2`]: the same to write.
-//! - [`When`]: a payload that is there if a [`Condition`] holds of the context. [`LentWhen`]: the same to write.
-//! - `(T, U)`, `(T, U, V)`: parts in one context. [`Always`]: a part that no context decides. [`LentIn`]: a lent part.
+//! - [`Then`]: a first part and what it decides, which gives the context. [`ByRefThen`], [`ByRefThen2`]: the same to write.
+//! - [`When`]: a payload that is there if a [`Condition`] holds of the context. [`ByRefWhen`]: the same to write.
+//! - `(T, U)`, `(T, U, V)`: parts in one context. [`Always`]: a part that no context decides. [`ByRefIn`]: a borrowed part.
 //! - `Vec<T>`: elements in one context, after their length. Calls on elements: [`lists`](crate::lists).
 //! - [`split_enclosed`], [`read_enclosed`], [`write_enclosed`], [`append_enclosed`]: a value that fills what a length
 //!   counts.
 //! - [`present`]: what [`When`] does, for code of your own; [`misfit`], the refusal of a value that doesn't fit.
 
 mod always;
+mod by_ref_then;
 mod enclosed;
-mod lent_then;
 mod pairs;
 pub mod present;
 mod then;
@@ -24,10 +24,10 @@ mod triples;
 mod vectors;
 mod when;
 
-pub use always::{Always, LentIn};
+pub use always::{Always, ByRefIn};
+pub use by_ref_then::{ByRefThen, ByRefThen2};
 pub use enclosed::{append_enclosed, read_enclosed, split_enclosed, write_enclosed};
-pub use lent_then::{LentThen, LentThen2};
 pub use present::misfit;
 pub use then::Then;
 pub use traits::{DeserializeBytesFor, DeserializeFor, SerializeFor, SizeFor};
-pub use when::{Condition, LentWhen, When};
+pub use when::{ByRefWhen, Condition, When};

@@ -12,8 +12,8 @@
 //! - [`arrays`]: `[u8; LEN]`.
 //! - [`options`]: `Option<T>`.
 //! - [`products`]: `(T, U)`, `(T, U, V)`, `()` and `PhantomData<T>`.
-//! - [`boxes`]: `Box<T>`. [`lent`]: [`Lent`], a lent value, for messages of your own; [`lents`]:
-//!   [`Lent2`] to [`Lent9`], two to nine of them in a row.
+//! - [`boxes`]: `Box<T>`. [`by_ref`]: [`ByRef`], a borrowed value, for messages of your own; [`by_refs`]:
+//!   [`ByRef2`] to [`ByRef9`], two to nine of them in a row.
 //! - [`context`]: parts that something read earlier decides, with four traits of their own.
 //! - [`tags`]: [`unknown_value`], the refusal of a tag that an enum of your own doesn't have.
 //! - [`lists`]: the engines that every list goes through. [`vectors`]: `Vec<T>` and `&[T]`.
@@ -26,12 +26,12 @@
 
 pub mod arrays;
 pub mod boxes;
+pub mod by_ref;
+pub mod by_refs;
 pub mod context;
 pub mod counted;
 pub mod ends;
 pub mod laws;
-pub mod lent;
-pub mod lents;
 pub mod lists;
 pub mod numbers;
 pub mod options;
@@ -44,13 +44,13 @@ pub mod traits;
 pub mod varint;
 pub mod vectors;
 
+pub use by_ref::ByRef;
+pub use by_refs::{ByRef2, ByRef3, ByRef4, ByRef5, ByRef6, ByRef7, ByRef8, ByRef9};
 pub use context::{
-    Always, Condition, DeserializeBytesFor, DeserializeFor, LentIn, LentThen, LentThen2, LentWhen,
-    SerializeFor, SizeFor, Then, When,
+    Always, ByRefIn, ByRefThen, ByRefThen2, ByRefWhen, Condition, DeserializeBytesFor,
+    DeserializeFor, SerializeFor, SizeFor, Then, When,
 };
 pub use ends::deserialize_to_end;
-pub use lent::Lent;
-pub use lents::{Lent2, Lent3, Lent4, Lent5, Lent6, Lent7, Lent8, Lent9};
 pub use rooms::first_room;
 pub use tags::unknown_value;
 pub use tls_codec_grammar::{LengthField, Within, opaque};

@@ -11,7 +11,7 @@ use crate::tag::Tag;
 use std::alloc::Global;
 use std::marker::PhantomData;
 use tls_codec_base::context::misfit;
-use tls_codec_base::{Deserialize, DeserializeBytes, Lent, unknown_value};
+use tls_codec_base::{ByRef, Deserialize, DeserializeBytes, unknown_value};
 use tls_codec_wire::{Error, Source};
 
 /// A tag that none of the cases `C` has, as a `U`, and its parts.
@@ -48,14 +48,14 @@ impl<C: Tags, U: Tag, T: Drop> Other<C, U, T> {
 }
 
 impl<C: Tags, U: Tag, T> Other<C, U, T> {
-    /// The same with its parts lent, beside cases that don't have its tag either.
-    pub fn lend<L: Tags>(&self) -> Other<L, U, Lent<'_, T>>
+    /// The same with its parts borrowed, beside cases that don't have its tag either.
+    pub fn by_ref<L: Tags>(&self) -> Other<L, U, ByRef<'_, T>>
         requires { L.variants.has (U.number self.now.tag) ≡ false }
         ensures { (result.tag ≡ self.now.tag) × (result.parts.0.now ≡ self.now.parts) }
     {
         Other {
             tag: self.tag,
-            parts: Lent(&self.parts),
+            parts: ByRef(&self.parts),
             cases: PhantomData,
         }
     }

@@ -3,7 +3,7 @@ ghost use Rattle.tls_codec_vectors.specs.Messages.{leaf_format, leaf_meets, leaf
 
 use std::alloc::Global;
 use tls_codec::{
-    Deserialize, DeserializeBytes, Error, Lent, Serialize, Sink, Size, Source, VLBytes,
+    ByRef, Deserialize, DeserializeBytes, Error, Serialize, Sink, Size, Source, VLBytes,
 };
 use tls_codec_validate::{Rejected, Validate};
 
@@ -26,7 +26,7 @@ impl Size for Leaf {
     ghost format = { leaf_format };
 
     fn tls_serialized_len(&self) -> usize {
-        (Lent(&self.code), Lent(&self.name)).tls_serialized_len()
+        (ByRef(&self.code), ByRef(&self.name)).tls_serialized_len()
     }
 
     ghost lawful = { leaf_meets };
@@ -34,11 +34,11 @@ impl Size for Leaf {
 
 impl Serialize for Leaf {
     fn tls_serialize<W: Sink>(&self, writer: &mut W) -> Result<usize, Error> {
-        (Lent(&self.code), Lent(&self.name)).tls_serialize(writer)
+        (ByRef(&self.code), ByRef(&self.name)).tls_serialize(writer)
     }
 
     fn tls_serialize_into(&self, out: &mut Vec<u8>) -> Result<usize, Error> {
-        (Lent(&self.code), Lent(&self.name)).tls_serialize_into(out)
+        (ByRef(&self.code), ByRef(&self.name)).tls_serialize_into(out)
     }
 }
 

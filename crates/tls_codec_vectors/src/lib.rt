@@ -1,7 +1,7 @@
 //! Messages of your own: structs and enums, proved to be as lawful as the types that they are made of.
 //!
 //! They use [`tls_codec`] alone. A struct is read as the tuple of its fields and written as the tuple
-//! of its lent fields; nothing of that is proved by hand. An enum reads its tag and then what the tag's
+//! of its borrowed fields; nothing of that is proved by hand. An enum reads its tag and then what the tag's
 //! variant has; each variant has a line of proof for each call.
 //!
 //! - [`leaf`]: [`Leaf`], a struct of two fields.

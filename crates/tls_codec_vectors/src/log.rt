@@ -4,7 +4,7 @@ ghost use Rattle.tls_codec_vectors.specs.Messages.{log_format, log_meets, log_pl
 use crate::{Leaf, Step};
 use std::alloc::Global;
 use tls_codec::{
-    Deserialize, DeserializeBytes, Error, Lent, Serialize, Sink, Size, Source, TlsByteVecU8,
+    ByRef, Deserialize, DeserializeBytes, Error, Serialize, Sink, Size, Source, TlsByteVecU8,
     TlsVecU16,
 };
 use tls_codec_validate::{Rejected, Validate};
@@ -24,7 +24,7 @@ impl Size for Log {
     ghost format = { log_format };
 
     fn tls_serialized_len(&self) -> usize {
-        (Lent(&self.id), Lent(&self.leaves), Lent(&self.last)).tls_serialized_len()
+        (ByRef(&self.id), ByRef(&self.leaves), ByRef(&self.last)).tls_serialized_len()
     }
 
     ghost lawful = { log_meets };
@@ -34,11 +34,11 @@ impl Serialize for Log {
     /// `InvalidVectorLength`: the identity or the leaves have more bytes than their length counts. Every
     /// other refusal is that of a field.
     fn tls_serialize<W: Sink>(&self, writer: &mut W) -> Result<usize, Error> {
-        (Lent(&self.id), Lent(&self.leaves), Lent(&self.last)).tls_serialize(writer)
+        (ByRef(&self.id), ByRef(&self.leaves), ByRef(&self.last)).tls_serialize(writer)
     }
 
     fn tls_serialize_into(&self, out: &mut Vec<u8>) -> Result<usize, Error> {
-        (Lent(&self.id), Lent(&self.leaves), Lent(&self.last)).tls_serialize_into(out)
+        (ByRef(&self.id), ByRef(&self.leaves), ByRef(&self.last)).tls_serialize_into(out)
     }
 }
 

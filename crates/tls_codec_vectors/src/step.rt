@@ -6,7 +6,7 @@ ghost use Rattle.std.proofs.Common.{refl};
 ghost use Rattle.tls_codec_validate.specs.TaggedPlaces.{no_variant_places, nothing_places, tagged_places, variant_places};
 
 use std::alloc::Global;
-use tls_codec::{Deserialize, DeserializeBytes, Error, Lent, Serialize, Sink, Size, Source};
+use tls_codec::{ByRef, Deserialize, DeserializeBytes, Error, Serialize, Sink, Size, Source};
 use tls_codec_validate::{
     Keyed, Rejected, TagFirst, Validate, ValidateKeyed, split_u8, validate_tag_first,
 };
@@ -46,8 +46,8 @@ impl Size for Step {
     fn tls_serialized_len(&self) -> usize {
         match self {
             Step::Ping => 1,
-            Step::Note(text) => (NOTE, Lent(text)).tls_serialized_len(),
-            Step::Jump(to) => (JUMP, Lent(to)).tls_serialized_len(),
+            Step::Note(text) => (NOTE, ByRef(text)).tls_serialized_len(),
+            Step::Jump(to) => (JUMP, ByRef(to)).tls_serialized_len(),
         }
     }
 
@@ -58,16 +58,16 @@ impl Serialize for Step {
     fn tls_serialize<W: Sink>(&self, writer: &mut W) -> Result<usize, Error> {
         match self {
             Step::Ping => PING.tls_serialize(writer),
-            Step::Note(text) => (NOTE, Lent(text)).tls_serialize(writer),
-            Step::Jump(to) => (JUMP, Lent(to)).tls_serialize(writer),
+            Step::Note(text) => (NOTE, ByRef(text)).tls_serialize(writer),
+            Step::Jump(to) => (JUMP, ByRef(to)).tls_serialize(writer),
         }
     }
 
     fn tls_serialize_into(&self, out: &mut Vec<u8>) -> Result<usize, Error> {
         match self {
             Step::Ping => PING.tls_serialize_into(out),
-            Step::Note(text) => (NOTE, Lent(text)).tls_serialize_into(out),
-            Step::Jump(to) => (JUMP, Lent(to)).tls_serialize_into(out),
+            Step::Note(text) => (NOTE, ByRef(text)).tls_serialize_into(out),
+            Step::Jump(to) => (JUMP, ByRef(to)).tls_serialize_into(out),
         }
     }
 }

@@ -20,7 +20,7 @@ use crate::{
 use std::fmt::Debug;
 use std::hash::Hash;
 
-/// A conversion from or to a `Vec<u8>` keeps the bytes. A clone of bytes has them, and a copy of what is lent
+/// A conversion from or to a `Vec<u8>` keeps the bytes. A clone of bytes has them, and a copy of what is borrowed
 /// equals it.
 pub fn conversions_and_copies_keep_the_bytes<'a, N>()
     ensures to_bytes { (content : Vec ℕ Global) (v : VarBytes N)

@@ -57,18 +57,18 @@ fall_never {a} {b} {c} p q = record {
   shortages = omega (arith, p.shortages, q.shortages);
 }
 
-pub calm_stays : (a : Counts) → OnlyInterrupted a a
-calm_stays a = record { failures = refl; interruptions = omega arith; shortages = refl }
+pub only_interrupted_refl : (a : Counts) → OnlyInterrupted a a
+only_interrupted_refl a = record { failures = refl; interruptions = omega arith; shortages = refl }
 
-pub calm_goes_on : {a b c : Counts} → OnlyInterrupted a b → OnlyInterrupted b c → OnlyInterrupted a c
-calm_goes_on {a} {b} {c} p q = record {
+pub only_interrupted_trans : {a b c : Counts} → OnlyInterrupted a b → OnlyInterrupted b c → OnlyInterrupted a c
+only_interrupted_trans {a} {b} {c} p q = record {
   failures = q.failures ∙ p.failures;
   interruptions = omega (arith, p.interruptions, q.interruptions);
   shortages = q.shortages ∙ p.shortages;
 }
 
-pub calm_falls_never : {a b : Counts} → OnlyInterrupted a b → NoneFell a b
-calm_falls_never {a} {b} p = record {
+pub only_interrupted_grows : {a b : Counts} → OnlyInterrupted a b → NoneFell a b
+only_interrupted_grows {a} {b} p = record {
   failures = omega (arith, p.failures);
   interruptions = p.interruptions;
   shortages = omega (arith, p.shortages);

@@ -4,7 +4,7 @@ use Rattle.std.specs.Prelude.{◌↔◌, Bool, true, false}
 use Rattle.tls_codec_grammar.specs.Tree.{Tree, Empty, Join}
 use Rattle.tls_codec_grammar.specs.Grammar.{Direction, Concat, Counted}
 use Rattle.tls_codec_grammar.specs.Format.{Format}
-use Rattle.tls_presentation.specs.Rows.{chain, pack, cuts, in_groups, group, row, row_of, case_row, lent_cuts, lent_row, any}
+use Rattle.tls_presentation.specs.Rows.{chain, pack, cuts, in_groups, group, row, row_of, case_row, borrowed_cuts, borrowed_row, any}
 use Rattle.tls_presentation.specs.Says.{in_row}
 
 -- ---- what values stand for, in the same groups
@@ -36,8 +36,8 @@ tree_case_row [] = Empty
 tree_case_row (t ∷ []) = Join t Empty
 tree_case_row (t ∷ u ∷ more) = tree_row_of ((length (t ∷ u ∷ more) + 1) / 2 ∷ []) (t ∷ u ∷ more)
 
-abbrev pub tree_lent_row : List Bool → List Tree → Tree
-tree_lent_row are_lent ts = elim (any are_lent) as (λ b. Tree) [ true ↦ tree_row_of (lent_cuts 0 are_lent) ts | false ↦ tree_row ts ]
+abbrev pub tree_borrowed_row : List Bool → List Tree → Tree
+tree_borrowed_row are_borrowed ts = elim (any are_borrowed) as (λ b. Tree) [ true ↦ tree_row_of (borrowed_cuts 0 are_borrowed) ts | false ↦ tree_row ts ]
 
 -- ---- as many trees as formats
 
@@ -179,12 +179,12 @@ row_of_flat sizes fs ts l = grouped_flat group group_tree group_flat sizes fs ts
 pub row_flat : (fs : List Format) (ts : List Tree) → SameLength fs ts → Flat (row fs) (tree_row ts) fs ts
 row_flat fs ts l = subst (λ (n : ℕ). Flat (row fs) (tree_row_of (cuts n) ts) fs ts) (sym (same_count fs ts l)) (row_of_flat (cuts (length fs)) fs ts l)
 
-either_flat : (lent : Bool) (are_lent : List Bool) (fs : List Format) (ts : List Tree) → SameLength fs ts → Flat (elim lent as (λ b. Format) [ true ↦ row_of (lent_cuts 0 are_lent) fs | false ↦ row fs ]) (elim lent as (λ b. Tree) [ true ↦ tree_row_of (lent_cuts 0 are_lent) ts | false ↦ tree_row ts ]) fs ts
-either_flat true are_lent fs ts l = row_of_flat (lent_cuts 0 are_lent) fs ts l
-either_flat false are_lent fs ts l = row_flat fs ts l
+either_flat : (borrowed : Bool) (are_borrowed : List Bool) (fs : List Format) (ts : List Tree) → SameLength fs ts → Flat (elim borrowed as (λ b. Format) [ true ↦ row_of (borrowed_cuts 0 are_borrowed) fs | false ↦ row fs ]) (elim borrowed as (λ b. Tree) [ true ↦ tree_row_of (borrowed_cuts 0 are_borrowed) ts | false ↦ tree_row ts ]) fs ts
+either_flat true are_borrowed fs ts l = row_of_flat (borrowed_cuts 0 are_borrowed) fs ts l
+either_flat false are_borrowed fs ts l = row_flat fs ts l
 
-pub lent_row_flat : (are_lent : List Bool) (fs : List Format) (ts : List Tree) → SameLength fs ts → Flat (lent_row are_lent fs) (tree_lent_row are_lent ts) fs ts
-lent_row_flat are_lent fs ts l = either_flat (any are_lent) are_lent fs ts l
+pub borrowed_row_flat : (are_borrowed : List Bool) (fs : List Format) (ts : List Tree) → SameLength fs ts → Flat (borrowed_row are_borrowed fs) (tree_borrowed_row are_borrowed ts) fs ts
+borrowed_row_flat are_borrowed fs ts l = either_flat (any are_borrowed) are_borrowed fs ts l
 
 pub case_row_flat : (fs : List Format) (ts : List Tree) → SameLength fs ts → Flat (case_row fs) (tree_case_row ts) fs ts
 case_row_flat [] [] l d b = same_iff

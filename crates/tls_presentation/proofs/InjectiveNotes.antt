@@ -1,16 +1,16 @@
 -- What is printed of notes tells what was printed.
 use Rattle.std.proofs.Common.{◌≡◌, ℕ, List, [], ◌∷◌, refl, sym, ap, ◌∙◌}
 use Rattle.std.specs.Prelude.{bytes_eq, codes}
-use Rattle.tls_presentation.specs.Definition.{Note, CountsRest, FillsRest, FillsZeros, Ends, Equals, IsClosed, IsOpen, IsLent, IsCalled, LeftOut}
+use Rattle.tls_presentation.specs.Definition.{Note, CountsRest, FillsRest, FillsZeros, Ends, Equals, IsClosed, IsOpen, IsBorrowed, IsCalled, LeftOut}
 use Rattle.tls_presentation.specs.Cut.{first}
-use Rattle.tls_presentation.specs.Printed.{Sign, Identifier, Key, Mark, OpenWord, LentWord, Semicolon, EqualSign, print_label, print_note, print_notes}
+use Rattle.tls_presentation.specs.Printed.{Sign, Identifier, Key, Mark, OpenWord, BorrowedWord, Semicolon, EqualSign, print_label, print_note, print_notes}
 use Rattle.tls_presentation.proofs.Injective.{Injects, label_injects}
 
 -- ---- which note it is
 
 abbrev is_kind : List Sign → ℕ
 is_kind (Key OpenWord ∷ r) = 6
-is_kind (Key LentWord ∷ r) = 7
+is_kind (Key BorrowedWord ∷ r) = 7
 is_kind _ = 5
 
 abbrev fills_kind : List Sign → ℕ
@@ -35,7 +35,7 @@ kind_of (Ends a b) = 3
 kind_of (Equals a l) = 4
 kind_of (IsClosed a) = 5
 kind_of (IsOpen a) = 6
-kind_of (IsLent a) = 7
+kind_of (IsBorrowed a) = 7
 kind_of (IsCalled a b) = 8
 kind_of (LeftOut a) = 9
 
@@ -47,7 +47,7 @@ kinds (Ends a b) r = refl
 kinds (Equals a l) r = refl
 kinds (IsClosed a) r = refl
 kinds (IsOpen a) r = refl
-kinds (IsLent a) r = refl
+kinds (IsBorrowed a) r = refl
 kinds (IsCalled a b) r = refl
 kinds (LeftOut a) r = refl
 
@@ -68,7 +68,7 @@ note_is (Equals a l) (Equals b m) r s k e =
     (cc, cc)
 note_is (IsClosed a) (IsClosed b) r s k e = (cc, cc)
 note_is (IsOpen a) (IsOpen b) r s k e = (cc, cc)
-note_is (IsLent a) (IsLent b) r s k e = (cc, cc)
+note_is (IsBorrowed a) (IsBorrowed b) r s k e = (cc, cc)
 note_is (IsCalled a c) (IsCalled b d) r s k e = (cc, cc)
 note_is (LeftOut a) (LeftOut b) r s k e = (cc, cc)
 note_is _ _ r s k e = absurd (let h = k in cc)
@@ -84,7 +84,7 @@ note_is_something (Ends a b) r e = absurd cc
 note_is_something (Equals a l) r e = absurd cc
 note_is_something (IsClosed a) r e = absurd cc
 note_is_something (IsOpen a) r e = absurd cc
-note_is_something (IsLent a) r e = absurd cc
+note_is_something (IsBorrowed a) r e = absurd cc
 note_is_something (IsCalled a b) r e = absurd cc
 note_is_something (LeftOut a) r e = absurd cc
 

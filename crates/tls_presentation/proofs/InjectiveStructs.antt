@@ -2,7 +2,7 @@
 use Rattle.std.proofs.Common.{◌≡◌, List, [], ◌∷◌, Bool, true, false, refl, sym, ap, ◌∙◌}
 use Rattle.std.specs.Prelude.{Option, Some, None}
 use Rattle.tls_presentation.specs.Definition.{Name, Field, Value, Case, Ending, Bare, Ended, Called, Select, Item, Plain, Choice, Part, Own, EnumHere, StructHere, Signed, Definition, Enum, Struct, SignedStruct, Alias}
-use Rattle.tls_presentation.specs.Printed.{Sign, Identifier, Key, Mark, EnumWord, StructWord, SignedWord, OpenWord, LentWord, CloseBrace, Semicolon, Print, each, perhaps, print_name, print_vector, print_type, print_field, print_enum, print_case, print_ending, print_select, print_item, print_struct, print_part, print_definition, print}
+use Rattle.tls_presentation.specs.Printed.{Sign, Identifier, Key, Mark, EnumWord, StructWord, SignedWord, OpenWord, BorrowedWord, CloseBrace, Semicolon, Print, each, perhaps, print_name, print_vector, print_type, print_field, print_enum, print_case, print_ending, print_select, print_item, print_struct, print_part, print_definition, print}
 use Rattle.tls_presentation.proofs.Injective.{Injects, begins, differ, closes_brace, closes_case, rest_of_field, field_injects, enum_injects, case_injects}
 
 -- ---- lists of items that need to know what is behind them
@@ -183,7 +183,7 @@ is_definition_word (Key EnumWord) = true
 is_definition_word (Key StructWord) = true
 is_definition_word (Key SignedWord) = true
 is_definition_word (Key OpenWord) = true
-is_definition_word (Key LentWord) = true
+is_definition_word (Key BorrowedWord) = true
 is_definition_word _ = false
 
 type_is_no_word : (b : Bool) (of : Name) (r : List Sign) → begins is_definition_word (print_type b of r) ≡ false

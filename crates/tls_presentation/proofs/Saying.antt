@@ -11,13 +11,13 @@ use Rattle.tls_codec_grammar.specs.Inside.{bytes_to_end_format}
 use Rattle.tls_codec_base.specs.OwnMessages.{fixed_bytes_format}
 use Rattle.tls_codec_cases.specs.Enclosed.{fixed_enclosed_format}
 use Rattle.tls_presentation.specs.Definition.{Field, Label}
-use Rattle.tls_presentation.specs.Rows.{row, lent_row, case_row}
+use Rattle.tls_presentation.specs.Rows.{row, borrowed_row, case_row}
 use Rattle.tls_presentation.specs.Tags.{Tag, number_of, selected}
 use Rattle.tls_presentation.specs.Pieces.{Piece, Site, fields_for, length_width, formats_for, filled, is_filled, behind_tag, tag_in, tag_on, fields_on, pieces}
 use Rattle.tls_presentation.specs.Holding.{decides, context_in, formats_in, formats_on, behind_row, holding, struct_format}
 use Rattle.tls_presentation.specs.Meaning.{Text, struct_in}
 use Rattle.tls_presentation.specs.Says.{Member, found, in_row, formats_said, trees_said, says, field_trees, inside_formats, case_row_says, case_says, choice_says, number_says}
-use Rattle.tls_presentation.proofs.Flat.{SameLength, flip, compose, rows_append, row_snoc, row_nil, tree_row, tree_lent_row, tree_case_row, row_flat, lent_row_flat, case_row_flat, concat_iff, concat_end, counted_iff, same_iff}
+use Rattle.tls_presentation.proofs.Flat.{SameLength, flip, compose, rows_append, row_snoc, row_nil, tree_row, tree_borrowed_row, tree_case_row, row_flat, borrowed_row_flat, case_row_flat, concat_iff, concat_end, counted_iff, same_iff}
 
 same_pieces : (f : Piece → Format) (t : Piece → Tree) (ps : List Piece) → SameLength (map f ps) (map t ps)
 same_pieces f t [] = tt
@@ -75,16 +75,16 @@ struct_saying text struct c members = holding_flat c members (pieces (struct_in 
 
 -- ---- structs of references
 
-abbrev are_lent : List Piece → List Bool
-are_lent ps = map (λ p. p.is_lent) ps
+abbrev are_borrowed : List Piece → List Bool
+are_borrowed ps = map (λ p. p.is_borrowed) ps
 
 -- no piece decides others
-abbrev lent_bytes : Tree → List Member → List Piece → Direction → List ℕ → Type 0
-lent_bytes c members ps d b = (lent_row (are_lent ps) (formats_in c ps)).spells d b (tree_lent_row (are_lent ps) (trees_said members ps))
+abbrev borrowed_bytes : Tree → List Member → List Piece → Direction → List ℕ → Type 0
+borrowed_bytes c members ps d b = (borrowed_row (are_borrowed ps) (formats_in c ps)).spells d b (tree_borrowed_row (are_borrowed ps) (trees_said members ps))
 
-pub lent_saying : (text : Text) (struct : String) (c : Tree) (members : List Member) (d : Direction) (b : List ℕ) → lent_bytes c members (pieces (struct_in text (codes struct))) d b ↔ in_row (formats_in c (pieces (struct_in text (codes struct)))) (trees_said members (pieces (struct_in text (codes struct)))) d b
-lent_saying text struct c members = let ps = pieces (struct_in text (codes struct)) in
-    lent_row_flat (are_lent ps) (formats_in c ps) (trees_said members ps) (same_pieces (λ p. p.format c) (λ p. found members p.name) ps)
+pub borrowed_saying : (text : Text) (struct : String) (c : Tree) (members : List Member) (d : Direction) (b : List ℕ) → borrowed_bytes c members (pieces (struct_in text (codes struct))) d b ↔ in_row (formats_in c (pieces (struct_in text (codes struct)))) (trees_said members (pieces (struct_in text (codes struct)))) d b
+borrowed_saying text struct c members = let ps = pieces (struct_in text (codes struct)) in
+    borrowed_row_flat (are_borrowed ps) (formats_in c ps) (trees_said members ps) (same_pieces (λ p. p.format c) (λ p. found members p.name) ps)
 
 -- ---- enums
 

@@ -1,7 +1,7 @@
 -- How a text is cut into words, numbers and marks. Comments and blanks are left out.
 use Rattle.std.specs.Prelude.{ℕ, List, [], ◌∷◌, ◌++◌, Bool, true, false, ◌+◌, ◌-◌, ◌*◌, ◌^◌, ◌==◌, ◌&&◌, ◌||◌, nat_le, reverse, codes, bytes_eq}
 use Prim.Native.String.{String}
-use Rattle.tls_presentation.specs.Printed.{Sign, Identifier, Number, Key, Mark, EnumWord, StructWord, SelectWord, CaseWord, OptionalWord, SignedWord, OpenWord, LentWord, Punctuation, OpenBrace, CloseBrace, OpenRound, CloseRound, OpenSquare, CloseSquare, OpenAngle, CloseAngle, Semicolon, Colon, Comma, EqualSign, Dot, OtherMark}
+use Rattle.tls_presentation.specs.Printed.{Sign, Identifier, Number, Key, Mark, EnumWord, StructWord, SelectWord, CaseWord, OptionalWord, SignedWord, OpenWord, BorrowedWord, Punctuation, OpenBrace, CloseBrace, OpenRound, CloseRound, OpenSquare, CloseSquare, OpenAngle, CloseAngle, Semicolon, Colon, Comma, EqualSign, Dot, OtherMark}
 
 -- what a character is in a text
 pub data Kind : Type 0 where
@@ -42,7 +42,7 @@ abbrev named : List ℕ → Sign
 named w = first (
     (bytes_eq w (codes "enum"), Key EnumWord) ∷ (bytes_eq w (codes "struct"), Key StructWord) ∷ (bytes_eq w (codes "select"), Key SelectWord) ∷
     (bytes_eq w (codes "case"), Key CaseWord) ∷ (bytes_eq w (codes "optional"), Key OptionalWord) ∷
-    (bytes_eq w (codes "digitally-signed"), Key SignedWord) ∷ (bytes_eq w (codes "open"), Key OpenWord) ∷ (bytes_eq w (codes "lent"), Key LentWord) ∷ [])
+    (bytes_eq w (codes "digitally-signed"), Key SignedWord) ∷ (bytes_eq w (codes "open"), Key OpenWord) ∷ (bytes_eq w (codes "borrowed"), Key BorrowedWord) ∷ [])
     (Identifier w)
 
 -- what was read of a word, of a number (`n`, `0xn`, `n^e`, `n^e-m`), or of a comment

@@ -73,10 +73,10 @@ pub data Part : Type 0 where
   StructHere : List Item → Name → Part
   Signed : List Item → Option Name → Part
 
--- `open` and `lent` are words of this repository, and stand in no RFC
+-- `open` and `borrowed` are words of this repository, and stand in no RFC
 pub data Definition : Type 0 where
   Enum : (is_open : Bool) → List Value → Name → Definition
-  Struct : (is_lent : Bool) → List Part → Name → Definition
+  Struct : (is_borrowed : Bool) → List Part → Name → Definition
   SignedStruct : List Item → Name → Definition
   Alias : Field → Definition
 
@@ -91,10 +91,10 @@ pub data Note : Type 0 where
   Ends : Name → Name → Note
   -- `Hash.length = 48;`, `CredentialType.basic = 1;`, `CertificateEntry.certificate_type = X509;`
   Equals : Name → Label → Note
-  -- `Version is closed;`, `ContentType is open;`, `SignContent is lent;`
+  -- `Version is closed;`, `ContentType is open;`, `SignContent is borrowed;`
   IsClosed : Name → Note
   IsOpen : Name → Note
-  IsLent : Name → Note
+  IsBorrowed : Name → Note
   -- `PrivateMessageContent.content_type called content;`
   IsCalled : Name → Name → Note
   -- `UncompressedPointRepresentation left out;`

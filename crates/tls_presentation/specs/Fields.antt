@@ -18,7 +18,7 @@ pub record Names : Type 1 where
   pub tag : Name → Tag
   -- what stands in a struct, and which name is meant
   pub lookup : Lookup
-  pub is_lent : Name → Bool
+  pub is_borrowed : Name → Bool
   -- the struct is bytes that fill what is left
   pub is_filling : Name → Bool
   -- the tag that the bytes of a type depend on, which isn't in it

@@ -5,7 +5,7 @@ use Rattle.tls_codec_grammar.specs.Tree.{Tree}
 use Rattle.tls_codec_grammar.specs.Contexts.{then_format}
 use Rattle.tls_presentation.specs.Names.{Key}
 use Rattle.tls_codec_cases.specs.Held.{first_of, second_of, third_of}
-use Rattle.tls_presentation.specs.Rows.{cuts, row, lent_row}
+use Rattle.tls_presentation.specs.Rows.{cuts, row, borrowed_row}
 use Rattle.tls_presentation.specs.Pieces.{Piece}
 
 -- ---- a tag in a field before: what depends on it is read in its context (RFC 9420, section 6)
@@ -58,8 +58,8 @@ holding before (p ∷ ps) c = elim (decides p ps) as (λ b. Format) [
 abbrev pub has_holder : List Piece → Bool
 has_holder ps = nat_lt (count_before ps) (length ps)
 
-abbrev pub struct_format : (is_lent : Bool) → List Piece → Tree → Format
-struct_format true ps c = elim (has_holder ps) as (λ b. Format) [ true ↦ holding [] ps c | false ↦ lent_row (map (λ p. p.is_lent) ps) (formats_in c ps) ]
+abbrev pub struct_format : (is_borrowed : Bool) → List Piece → Tree → Format
+struct_format true ps c = elim (has_holder ps) as (λ b. Format) [ true ↦ holding [] ps c | false ↦ borrowed_row (map (λ p. p.is_borrowed) ps) (formats_in c ps) ]
 struct_format false ps c = holding [] ps c
 
 -- ---- where a struct has a tag

@@ -6,7 +6,7 @@ use Rattle.tls_codec_grammar.specs.Tree.{Tree}
 use Rattle.tls_codec_grammar.specs.Grammar.{Direction}
 use Rattle.tls_codec_grammar.specs.Tagged.{no_format}
 use Rattle.tls_presentation.specs.Definition.{Name, Value, Item, Plain, Definition, Enum, Struct, SignedStruct, Alias, Note}
-use Rattle.tls_presentation.specs.Names.{Key, part_of, spread, name_of, items_of, Lookup, name_alike, tags_in, is_one, fills, noted_closed, noted_open, noted_lent, values_noted}
+use Rattle.tls_presentation.specs.Names.{Key, part_of, spread, name_of, items_of, Lookup, name_alike, tags_in, is_one, fills, noted_closed, noted_open, noted_borrowed, values_noted}
 use Rattle.tls_presentation.specs.Cut.{first}
 use Rattle.tls_presentation.specs.Tags.{Tag, enum_width, tag_format}
 use Rattle.tls_presentation.specs.Fields.{Names, field_format}
@@ -32,8 +32,8 @@ tag_of inner notes tags (Alias f) = record { width = (inner.tag f.of).width; val
 tag_of inner notes tags _ = record { width = 0; values = []; is_closed = false }
 
 abbrev is_reference : List Note → Definition → Bool
-is_reference notes (Struct is_lent parts name) = is_lent || noted_lent notes name
-is_reference notes (SignedStruct items name) = noted_lent notes name
+is_reference notes (Struct is_borrowed parts name) = is_borrowed || noted_borrowed notes name
+is_reference notes (SignedStruct items name) = noted_borrowed notes name
 is_reference notes _ = false
 
 abbrev meaning : Names → List Note → List Name → Definition → Tree → Format
@@ -85,7 +85,7 @@ names_by below notes tags ds inner = record {
   format = λ name. elim (find name ds) as (λ d. Tree → Format) [ Some d ↦ meaning inner notes tags d | None ↦ noted_format (values_noted notes name) (below.format name) ];
   tag = λ name. elim (find name ds) as (λ d. Tag) [ Some d ↦ tag_of inner notes tags d | None ↦ noted_tag (values_noted notes name) (below.tag name) ];
   lookup = lookup_in below.lookup ds;
-  is_lent = λ name. elim (find name ds) as (λ d. Bool) [ Some d ↦ is_reference notes d | None ↦ below.is_lent name ];
+  is_borrowed = λ name. elim (find name ds) as (λ d. Bool) [ Some d ↦ is_reference notes d | None ↦ below.is_borrowed name ];
   is_filling = λ name. elim (find name ds) as (λ d. Bool) [ Some d ↦ is_filling notes name (items_of d) | None ↦ below.is_filling name ];
   needs = λ name. elim (find name ds) as (λ d. Option Key) [ Some d ↦ needs_of inner notes d | None ↦ below.needs name ];
   holds = λ name key. elim (find name ds) as (λ d. Option (Tree → Tree)) [ Some d ↦ held_of inner notes key d | None ↦ below.holds name key ];
@@ -120,7 +120,7 @@ no_names = record {
   format = λ name c. built_in name;
   tag = λ name. record { width = integer_width name; values = []; is_closed = false };
   lookup = record { items = λ name. []; named = λ name. name };
-  is_lent = λ name. false;
+  is_borrowed = λ name. false;
   is_filling = λ name. false;
   needs = λ name. None;
   holds = λ name key. None;

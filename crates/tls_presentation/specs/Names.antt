@@ -1,6 +1,6 @@
 -- Names and paths; the definitions of a text without parts in their place; the notes of a name.
 use Rattle.std.specs.Prelude.{ℕ, List, [], ◌∷◌, ◌++◌, Bool, true, false, Option, Some, None, ◌==◌, ◌&&◌, ◌||◌, ◌+◌, nat_le, reverse, codes, bytes_eq, map}
-use Rattle.tls_presentation.specs.Definition.{Name, Label, Word, Numeral, One, Field, CaseField, Has, IsA, Value, Named, Select, Item, Plain, Choice, Part, Own, EnumHere, StructHere, Signed, Definition, Enum, Struct, SignedStruct, Alias, Note, CountsRest, FillsRest, FillsZeros, Equals, IsClosed, IsOpen, IsLent}
+use Rattle.tls_presentation.specs.Definition.{Name, Label, Word, Numeral, One, Field, CaseField, Has, IsA, Value, Named, Select, Item, Plain, Choice, Part, Own, EnumHere, StructHere, Signed, Definition, Enum, Struct, SignedStruct, Alias, Note, CountsRest, FillsRest, FillsZeros, Equals, IsClosed, IsOpen, IsBorrowed}
 
 -- ---- paths: the words between dots
 
@@ -74,18 +74,18 @@ inner struct (Signed items name ∷ parts) = Struct false (map Own items) (struc
 abbrev pub spread : List Definition → List Definition
 spread [] = []
 spread (Enum is_open values name ∷ ds) = Enum is_open values name ∷ spread ds
-spread (Struct is_lent parts name ∷ ds) = inner name parts ++ Struct is_lent (map (λ p. Own (own_item name p)) parts) name ∷ spread ds
+spread (Struct is_borrowed parts name ∷ ds) = inner name parts ++ Struct is_borrowed (map (λ p. Own (own_item name p)) parts) name ∷ spread ds
 spread (SignedStruct items name ∷ ds) = Struct false (map Own items) name ∷ spread ds
 spread (Alias f ∷ ds) = Alias f ∷ spread ds
 
 abbrev pub name_of : Definition → Name
 name_of (Enum is_open values name) = name
-name_of (Struct is_lent parts name) = name
+name_of (Struct is_borrowed parts name) = name
 name_of (SignedStruct items name) = name
 name_of (Alias f) = f.name
 
 abbrev pub items_of : Definition → List Item
-items_of (Struct is_lent parts name) = map (own_item name) parts
+items_of (Struct is_borrowed parts name) = map (own_item name) parts
 items_of (SignedStruct items name) = items
 items_of _ = []
 
@@ -180,10 +180,10 @@ noted_open [] name = false
 noted_open (IsOpen n ∷ notes) name = bytes_eq n name || noted_open notes name
 noted_open (_ ∷ notes) name = noted_open notes name
 
-abbrev pub noted_lent : List Note → Name → Bool
-noted_lent [] name = false
-noted_lent (IsLent n ∷ notes) name = bytes_eq n name || noted_lent notes name
-noted_lent (_ ∷ notes) name = noted_lent notes name
+abbrev pub noted_borrowed : List Note → Name → Bool
+noted_borrowed [] name = false
+noted_borrowed (IsBorrowed n ∷ notes) name = bytes_eq n name || noted_borrowed notes name
+noted_borrowed (_ ∷ notes) name = noted_borrowed notes name
 
 abbrev pub equals : List Note → Name → Option Label
 equals [] path = None

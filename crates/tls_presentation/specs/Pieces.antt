@@ -18,7 +18,7 @@ use Rattle.tls_presentation.specs.Fields.{constant_number, constant_width, Names
 pub record Piece : Type 1 where
   pub name : Name
   pub format : Tree → Format
-  pub is_lent : Bool
+  pub is_borrowed : Bool
   pub needs : Option Key
   pub holds : Key → Option (Tree → Tree)
 
@@ -42,14 +42,14 @@ abbrev pub field_piece : Site → Field → Piece
 field_piece site f = record {
   name = f.name;
   format = λ c. field_format site.names c f;
-  is_lent = site.names.is_lent f.of;
+  is_borrowed = site.names.is_borrowed f.of;
   needs = site.names.needs f.of;
   holds = λ key. held_in (is_key key site.struct f) (is_single f f.vector) (site.names.holds f.of key);
 }
 
 -- one that depends on nothing
-abbrev free_piece : Name → (is_lent : Bool) → (Tree → Format) → Piece
-free_piece name is_lent format = record { name = name; format = format; is_lent = is_lent; needs = None; holds = λ key. None }
+abbrev free_piece : Name → (is_borrowed : Bool) → (Tree → Format) → Piece
+free_piece name is_borrowed format = record { name = name; format = format; is_borrowed = is_borrowed; needs = None; holds = λ key. None }
 
 abbrev pub is_length : Site → Field → Bool
 is_length site f = counts site.notes (part_of site.struct f.name)
@@ -167,7 +167,7 @@ abbrev tagged_piece : Site → Field → List Item → Piece
 tagged_piece site f items = record {
   name = piece_name (name_of_part site f.name) items;
   format = tagged_of site f items;
-  is_lent = true;
+  is_borrowed = true;
   needs = None;
   holds = λ key. elim (is_key key site.struct f) as (λ b. Option (Tree → Tree)) [ true ↦ Some (tag_tree (site.names.tag f.of).is_closed) | false ↦ None ];
 }
@@ -279,7 +279,7 @@ present_from site tag p c =
     present_format (is_one_of (map (λ l. number_of l tag.values) p.labels) (selected tag c)) (field_format site.names c p.field)
 
 abbrev on_key : Site → Select → Name → (Tree → Format) → Piece
-on_key site s name format = record { name = name; format = format; is_lent = false; needs = Some (key_of site.names.lookup s.path); holds = λ key. None }
+on_key site s name format = record { name = name; format = format; is_borrowed = false; needs = Some (key_of site.names.lookup s.path); holds = λ key. None }
 
 abbrev decided_piece : Site → Select → Option Present → Piece
 decided_piece site s None = on_key site s (name_or (name_of_part site (last s.path)) s.ending) (chosen_from site s)

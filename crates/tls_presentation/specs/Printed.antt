@@ -1,6 +1,6 @@
 -- How definitions and notes are printed: as words, numbers and marks. `Cut` has how a text is cut into these.
 use Rattle.std.specs.Prelude.{ℕ, List, [], ◌∷◌, Bool, true, false, Option, Some, None, codes}
-use Rattle.tls_presentation.specs.Definition.{Name, Label, Word, Numeral, Vector, One, Array, Counted, Variable, Bounded, Constant, Is, Bytes, Field, Value, Named, Range, Width, CaseField, Has, IsA, Case, Ending, Bare, Ended, Called, Select, Item, Plain, Choice, Part, Own, EnumHere, StructHere, Signed, Definition, Enum, Struct, SignedStruct, Alias, Note, CountsRest, FillsRest, FillsZeros, Ends, Equals, IsClosed, IsOpen, IsLent, IsCalled, LeftOut}
+use Rattle.tls_presentation.specs.Definition.{Name, Label, Word, Numeral, Vector, One, Array, Counted, Variable, Bounded, Constant, Is, Bytes, Field, Value, Named, Range, Width, CaseField, Has, IsA, Case, Ending, Bare, Ended, Called, Select, Item, Plain, Choice, Part, Own, EnumHere, StructHere, Signed, Definition, Enum, Struct, SignedStruct, Alias, Note, CountsRest, FillsRest, FillsZeros, Ends, Equals, IsClosed, IsOpen, IsBorrowed, IsCalled, LeftOut}
 
 -- the words that are no names
 pub data KeyWord : Type 0 where
@@ -11,7 +11,7 @@ pub data KeyWord : Type 0 where
   OptionalWord : KeyWord
   SignedWord : KeyWord
   OpenWord : KeyWord
-  LentWord : KeyWord
+  BorrowedWord : KeyWord
 
 -- { } ( ) [ ] < > ; : , = . and whatever else a text may have
 pub data Punctuation : Type 0 where
@@ -146,7 +146,7 @@ print_word false word rest = rest
 
 abbrev pub print_definition : Definition → Print
 print_definition (Enum is_open values name) rest = print_word is_open OpenWord (print_enum values name rest)
-print_definition (Struct is_lent parts name) rest = print_word is_lent LentWord (print_struct print_part parts (Identifier name ∷ Mark Semicolon ∷ rest))
+print_definition (Struct is_borrowed parts name) rest = print_word is_borrowed BorrowedWord (print_struct print_part parts (Identifier name ∷ Mark Semicolon ∷ rest))
 print_definition (SignedStruct items name) rest = Key SignedWord ∷ print_struct print_item items (Identifier name ∷ Mark Semicolon ∷ rest)
 print_definition (Alias f) rest = print_field f rest
 
@@ -163,7 +163,7 @@ print_note (Ends path content) rest = Identifier path ∷ Identifier (codes "end
 print_note (Equals path label) rest = Identifier path ∷ Mark EqualSign ∷ print_label label (Mark Semicolon ∷ rest)
 print_note (IsClosed name) rest = Identifier name ∷ Identifier (codes "is") ∷ Identifier (codes "closed") ∷ Mark Semicolon ∷ rest
 print_note (IsOpen name) rest = Identifier name ∷ Identifier (codes "is") ∷ Key OpenWord ∷ Mark Semicolon ∷ rest
-print_note (IsLent name) rest = Identifier name ∷ Identifier (codes "is") ∷ Key LentWord ∷ Mark Semicolon ∷ rest
+print_note (IsBorrowed name) rest = Identifier name ∷ Identifier (codes "is") ∷ Key BorrowedWord ∷ Mark Semicolon ∷ rest
 print_note (IsCalled path name) rest = Identifier path ∷ Identifier (codes "called") ∷ Identifier name ∷ Mark Semicolon ∷ rest
 print_note (LeftOut name) rest = Identifier name ∷ Identifier (codes "left") ∷ Identifier (codes "out") ∷ Mark Semicolon ∷ rest
 

@@ -42,23 +42,23 @@ case_row [] = nothing_format
 case_row (f ∷ []) = fields_format f nothing_format
 case_row (f ∷ g ∷ more) = row_of ((length (f ∷ g ∷ more) + 1) / 2 ∷ []) (f ∷ g ∷ more)
 
--- The groups of a struct of references: each part that is lent itself is one, and so are the others between, up to nine. `seen` are
+-- The groups of a struct of references: each part that is borrowed itself is one, and so are the others between, up to nine. `seen` are
 -- those of the last group.
-abbrev pub lent_cuts : (seen : ℕ) → List Bool → List ℕ
-lent_cuts seen [] = []
-lent_cuts zero (true ∷ []) = []
-lent_cuts zero (true ∷ b ∷ more) = 1 ∷ lent_cuts zero (b ∷ more)
-lent_cuts (suc seen) (true ∷ []) = suc seen ∷ []
-lent_cuts (suc seen) (true ∷ b ∷ more) = suc seen ∷ 1 ∷ lent_cuts zero (b ∷ more)
-lent_cuts seen (false ∷ more) = elim (nat_lt seen 9) as (λ b. List ℕ) [ true ↦ lent_cuts (seen + 1) more | false ↦ seen ∷ lent_cuts 1 more ]
+abbrev pub borrowed_cuts : (seen : ℕ) → List Bool → List ℕ
+borrowed_cuts seen [] = []
+borrowed_cuts zero (true ∷ []) = []
+borrowed_cuts zero (true ∷ b ∷ more) = 1 ∷ borrowed_cuts zero (b ∷ more)
+borrowed_cuts (suc seen) (true ∷ []) = suc seen ∷ []
+borrowed_cuts (suc seen) (true ∷ b ∷ more) = suc seen ∷ 1 ∷ borrowed_cuts zero (b ∷ more)
+borrowed_cuts seen (false ∷ more) = elim (nat_lt seen 9) as (λ b. List ℕ) [ true ↦ borrowed_cuts (seen + 1) more | false ↦ seen ∷ borrowed_cuts 1 more ]
 
 abbrev pub any : List Bool → Bool
 any [] = false
 any (true ∷ more) = true
 any (false ∷ more) = any more
 
-abbrev pub lent_row : List Bool → List Format → Format
-lent_row are_lent fs = elim (any are_lent) as (λ b. Format) [ true ↦ row_of (lent_cuts 0 are_lent) fs | false ↦ row fs ]
+abbrev pub borrowed_row : List Bool → List Format → Format
+borrowed_row are_borrowed fs = elim (any are_borrowed) as (λ b. Format) [ true ↦ row_of (borrowed_cuts 0 are_borrowed) fs | false ↦ row fs ]
 
 -- ---- cases as values
 

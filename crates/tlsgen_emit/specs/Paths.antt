@@ -14,7 +14,7 @@ paths_in files = map path_of files
 
 -- ---- of a message
 
--- a lent message has no decoders, and is not validated
+-- a borrowed message has no decoders, and is not validated
 abbrev pub decoders_unless : Bool → Message → List Path
 decoders_unless true m = []
 decoders_unless false m =
@@ -27,7 +27,7 @@ abbrev pub answers_paths : Message → List Path
 answers_paths m =
     answers_path m (codes "Serialize") (codes "tls_serialize")
     ∷ answers_path m (codes "Serialize") (codes "tls_serialize_into")
-    ∷ decoders_unless m.is_lent m
+    ∷ decoders_unless m.is_borrowed m
 
 abbrev pub answers_if : Bool → Message → List Path
 answers_if true m = answers_paths m

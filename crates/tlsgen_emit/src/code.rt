@@ -180,7 +180,7 @@ fn body(alloc: Global, form: &Form<'_>) -> Result<String, AllocError> {
     let templates = form.kind.templates();
     let mut body = String::new(alloc);
     form.holes.push(alloc, &mut body, templates.code)?;
-    if !form.is_lent {
+    if !form.is_borrowed {
         form.holes.push(alloc, &mut body, templates.decoders)?;
         form.holes.push(alloc, &mut body, templates.validator)?;
     }

@@ -10,8 +10,8 @@ use tlsgen_model::plan::Member;
 /// A field, as the holes of its type and `name`, `declared`, `comment`, `type`, `tree_of` and `alike`.
 #[derive(Drop)]
 pub struct Field {
-    /// It is lent itself, and so has references and is none.
-    pub is_lent: bool,
+    /// It is borrowed itself, and so has references and is none.
+    pub is_borrowed: bool,
     pub is_array: bool,
     /// It is no number, no array and no enum of numbers.
     pub is_moved: bool,
@@ -22,7 +22,7 @@ impl Field {
     pub fn of<'a>(
         alloc: Global,
         owner: Owner,
-        is_lent: bool,
+        is_borrowed: bool,
         at: usize,
         member: &'a Member,
         words: Words<'a>,
@@ -32,12 +32,12 @@ impl Field {
         let is_array = format.starts_with("array_format");
         let is_number = format.starts_with("number_format");
         let mut field = Field {
-            is_lent: words.is_lent,
+            is_borrowed: words.is_borrowed,
             is_array,
             is_moved: !is_array && !is_number && !is_copied,
             holes: words.texts,
         };
-        let (now, reference) = if is_lent && !field.is_lent {
+        let (now, reference) = if is_borrowed && !field.is_borrowed {
             (".now", "&'a ")
         } else {
             ("", "")
@@ -55,13 +55,13 @@ impl Field {
             .set("comment", doc(alloc, member.comment.as_str())?)?;
         field.holes.set_number(alloc, "at", at as u64)?;
         field.set_values(alloc, owner)?;
-        let own = if is_lent {
+        let own = if is_borrowed {
             "self.$name$"
         } else {
             "&self.$name$"
         };
         field.holes.set_each(alloc, &[("own", own)])?;
-        let parts = owner.parts(member, field.is_lent);
+        let parts = owner.parts(member, field.is_borrowed);
         field.holes.set_each(alloc, parts)?;
         Ok(field)
     }
@@ -75,7 +75,7 @@ impl Field {
     // Sets what is said of values. In a clause no lifetime is declared.
     fn set_values(&mut self, alloc: Global, owner: Owner) -> Result<(), AllocError> {
         self.holes.set_each(alloc, owner.values())?;
-        let compared = if self.is_lent {
+        let compared = if self.is_borrowed {
             "$named$<'static>"
         } else {
             "$rust$"

@@ -48,7 +48,7 @@ pub enum Kind {
 pub struct Form<'a> {
     pub kind: Kind,
     /// It has references to its fields, and is only written.
-    pub is_lent: bool,
+    pub is_borrowed: bool,
     pub holes: Holes,
     /// Its values, or its cases.
     pub parts: Vec<Part>,
@@ -111,7 +111,7 @@ impl<'a> Form<'a> {
     {
         let mut form = Form {
             kind: Kind::of(message),
-            is_lent: message.is_lent,
+            is_borrowed: message.is_borrowed,
             holes: Holes::new(alloc),
             parts: Vec::new(alloc),
             uses: Uses::new(alloc, message.name.as_str()),
@@ -143,7 +143,7 @@ impl<'a> Form<'a> {
         ];
         self.holes.set_all(alloc, &texts)?;
         self.holes
-            .set_all(alloc, if self.is_lent { &LENT } else { &NOT_LENT })?;
+            .set_all(alloc, if self.is_borrowed { &LENT } else { &NOT_LENT })?;
         self.holes.set("doc", doc(alloc, message.doc.as_str())?)?;
         views::set_name(alloc, names, &mut self.holes, message)
     }
@@ -177,7 +177,7 @@ impl<'a> Form<'a> {
             }
             Body::Choice { width, variants } => {
                 tags::set_width_of(alloc, &mut self.holes, *width)?;
-                let (of, uses) = ((Owner::Variant, self.is_lent), &mut self.uses);
+                let (of, uses) = ((Owner::Variant, self.is_borrowed), &mut self.uses);
                 self.parts = cases_of(alloc, names, &self.holes, of, variants, uses)?;
                 self.set_tag_of_cases(alloc, names, message, variants)?;
             }
@@ -206,12 +206,12 @@ impl<'a> Form<'a> {
     {
         if let Kind::Then = self.kind {
             add_names(&mut self.cases, &CASES_OF_THEN)?;
-            let (is_lent, uses) = (self.is_lent, &mut self.uses);
-            return thens::set(alloc, names, &mut self.holes, uses, is_lent, members);
+            let (is_borrowed, uses) = (self.is_borrowed, &mut self.uses);
+            return thens::set(alloc, names, &mut self.holes, uses, is_borrowed, members);
         }
         let is_in_context = message.context.is_some();
         let (of, uses) = (Owner::of_struct(is_in_context), &mut self.uses);
-        let row = Row::of(alloc, names, of, self.is_lent, members, uses)?;
+        let row = Row::of(alloc, names, of, self.is_borrowed, members, uses)?;
         row.set(alloc, &mut self.holes)?;
         self.set_read(alloc, members.len())?;
         views::set(alloc, &mut self.holes, &row)?;
@@ -251,7 +251,7 @@ impl<'a> Form<'a> {
     fn set_read(&mut self, alloc: Global, fields: usize) -> Result<(), AllocError>
         ensures { self.new.kind ≡ self.old.kind }
     {
-        if self.is_lent {
+        if self.is_borrowed {
             return self.holes.set_each(alloc, &structs::LENT);
         }
         let columns = self.holes.filled(alloc, "$types$")?.len();
@@ -311,7 +311,7 @@ impl<'a> Form<'a> {
             self.holes
                 .set_all(alloc, &[("field", length_field(length))])?;
         }
-        let (of, uses) = ((Owner::Case, self.is_lent), &mut self.uses);
+        let (of, uses) = ((Owner::Case, self.is_borrowed), &mut self.uses);
         self.parts = cases_of(alloc, names, &self.holes, of, variants, uses)?;
         sums::set_cases(alloc, &mut self.parts, length.is_some(), variants)?;
         let wrapping = match length {
@@ -353,7 +353,11 @@ impl<'a> Form<'a> {
             &choices::SOMETHING
         };
         self.holes.set_each(alloc, nothing)?;
-        let names_use = if self.is_lent { "" } else { choices::NAMES_USE };
+        let names_use = if self.is_borrowed {
+            ""
+        } else {
+            choices::NAMES_USE
+        };
         self.holes.set_each(alloc, &[("names_use", names_use)])
     }
 }
@@ -366,10 +370,10 @@ fn add_names(cases: &mut Vec<&'static str>, names: &[&'static str]) -> Result<()
     Ok(())
 }
 
-// Of a message that is lent, and of one that isn't. The hole `static` is the lifetime in a clause.
+// Of a message that is borrowed, and of one that isn't. The hole `static` is the lifetime in a clause.
 static LENT: [(&str, &str); 6] = [
     (
-        "lent_doc",
+        "borrowed_doc",
         "///\n/// It has references to its fields, and is only written.\n",
     ),
     ("derives", "PartialEq, Eq, Debug, Clone, Copy"),
@@ -380,7 +384,7 @@ static LENT: [(&str, &str); 6] = [
 ];
 
 static NOT_LENT: [(&str, &str); 6] = [
-    ("lent_doc", ""),
+    ("borrowed_doc", ""),
     ("derives", "PartialEq, Eq, Debug, Clone, Drop"),
     ("lifetime", ""),
     ("any", ""),

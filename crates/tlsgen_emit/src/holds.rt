@@ -68,7 +68,7 @@ fn holes_of<'a>(
     let key = holder.tag.as_str();
     uses.add_type(names.module(key).and(Some(key)))?;
     let mut holes = Holes::new(alloc);
-    let (any, deref) = if message.is_lent {
+    let (any, deref) = if message.is_borrowed {
         ("<'_>", "*")
     } else {
         ("", "")

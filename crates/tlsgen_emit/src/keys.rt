@@ -21,7 +21,7 @@ pub fn push<'a>(
     uses: &mut Uses<'a>,
     held: &mut Held,
 ) -> Result<(), AllocError> {
-    if message.is_lent || message.context.is_some() {
+    if message.is_borrowed || message.context.is_some() {
         return Ok(());
     }
     let mut holes = holes_of(alloc, names, message, holders)?;

@@ -6,7 +6,7 @@
 //!   lines of imports a text needs, by the `vocabulary`; `docs`: doc comments; `breaks`: where long lines are broken.
 //! - `forms`: a message as what stands for the holes of its templates; `template` and `lines` fill these. `parts`: its values
 //!   or cases; `contents`: what cases are made of; `tags`: the tag in front of them; `sums`: cases that nest. `contexts`: what
-//!   decides its parts; `thens`: fields on tags before them; `holds` and `keys`: tags of others in it; `wholes`: a lent struct of
+//!   decides its parts; `thens`: fields on tags before them; `holds` and `keys`: tags of others in it; `wholes`: a borrowed struct of
 //!   another's fields; `views`: a struct's encoding by its fields. `uses`: the names that it brings in.
 //! - `types`: what stands for a type of the plan; `index`: messages by their names. `rows`, `fields`, `owners`, `nesting` and
 //!   `joining`: fields in a row, as tuples that nest.

@@ -4,8 +4,8 @@ use std::alloc::{AllocError, Global};
 
 /// Groups of fields: three, say, of four, four and three.
 ///
-/// A tuple has three parts at most, so more fields nest: in groups, each of which is lent as one,
-/// `Lent2` to `Lent9`; and a group of more than three is a tuple of smaller ones.
+/// A tuple has three parts at most, so more fields nest: in groups, each of which is borrowed as one,
+/// `ByRef2` to `ByRef9`; and a group of more than three is a tuple of smaller ones.
 #[derive(Drop)]
 pub struct Nesting {
     /// How many fields each group has: 4, 4, 3.

@@ -43,63 +43,63 @@ static IN_VARIANT: [(&str, &str); 3] = [
     ("right", "b$at$$now$"),
 ];
 
-// A field's type as it is read and as it is lent, its pattern, and how it is lent: where a context decides others, those are
+// A field's type as it is read and as it is borrowed, its pattern, and how it is borrowed: where a context decides others, those are
 // marked that it doesn't decide, those on a tag that it holds, and those that are there for some of its values alone.
 static ALONE: [(&str, &str); 4] = [
     ("part", "$type$"),
-    ("lent_part", "Lent<'a, $rust$>"),
+    ("borrowed_part", "ByRef<'a, $rust$>"),
     ("bound", "$name$"),
-    ("lend", "Lent($own$)"),
+    ("lend", "ByRef($own$)"),
 ];
 
 static IN_CONTEXT: [(&str, &str); 4] = [
     ("part", "$type$"),
-    ("lent_part", "LentIn<'a, $rust$>"),
+    ("borrowed_part", "ByRefIn<'a, $rust$>"),
     ("bound", "$name$"),
-    ("lend", "LentIn($own$)"),
+    ("lend", "ByRefIn($own$)"),
 ];
 
 static PRESENT: [(&str, &str); 4] = [
     ("part", "When<$condition$, $payload$>"),
-    ("lent_part", "LentWhen<'a, $condition$, $payload$>"),
+    ("borrowed_part", "ByRefWhen<'a, $condition$, $payload$>"),
     ("bound", "When { value: $name$, .. }"),
     (
         "lend",
-        "LentWhen { value: $own$, condition: PhantomData::<$condition$> }",
+        "ByRefWhen { value: $own$, condition: PhantomData::<$condition$> }",
     ),
 ];
 
 static BESIDE: [(&str, &str); 4] = [
     ("part", "Always<$type$>"),
-    ("lent_part", "Lent<'a, $rust$>"),
+    ("borrowed_part", "ByRef<'a, $rust$>"),
     ("bound", "Always($name$)"),
-    ("lend", "Lent($own$)"),
+    ("lend", "ByRef($own$)"),
 ];
 
 static ON_TAG: [(&str, &str); 4] = [
     ("part", "By<$key$, $type$>"),
-    ("lent_part", "By<$key$, LentIn<'a, $rust$>>"),
+    ("borrowed_part", "By<$key$, ByRefIn<'a, $rust$>>"),
     ("bound", "By($name$, _)"),
-    ("lend", "By(LentIn($own$), PhantomData)"),
+    ("lend", "By(ByRefIn($own$), PhantomData)"),
 ];
 
 static PRESENT_ON_TAG: [(&str, &str); 4] = [
     ("part", "By<$key$, When<$condition$, $payload$>>"),
     (
-        "lent_part",
-        "By<$key$, LentWhen<'a, $condition$, $payload$>>",
+        "borrowed_part",
+        "By<$key$, ByRefWhen<'a, $condition$, $payload$>>",
     ),
     ("bound", "By(When { value: $name$, .. }, _)"),
     (
         "lend",
-        "By(LentWhen { value: $own$, condition: PhantomData::<$condition$> }, PhantomData)",
+        "By(ByRefWhen { value: $own$, condition: PhantomData::<$condition$> }, PhantomData)",
     ),
 ];
 
-// A field that is lent itself stands for itself, where nothing decides it.
+// A field that is borrowed itself stands for itself, where nothing decides it.
 static LENT: [(&str, &str); 4] = [
     ("part", "$type$"),
-    ("lent_part", "$rust$"),
+    ("borrowed_part", "$rust$"),
     ("bound", "$name$"),
     ("lend", "self.$name$"),
 ];
@@ -148,8 +148,12 @@ impl Owner {
         }
     }
 
-    /// How a member is read and lent, which `is_lent` itself or not.
-    pub fn parts(self, member: &Member, is_lent: bool) -> &'static [(&'static str, &'static str)] {
+    /// How a member is read and borrowed, which `is_borrowed` itself or not.
+    pub fn parts(
+        self,
+        member: &Member,
+        is_borrowed: bool,
+    ) -> &'static [(&'static str, &'static str)] {
         let is_present = member.present_for.is_some();
         match (self, &member.decided) {
             (Owner::StructInContext | Owner::Behind, Decided::Alone) => &BESIDE,
@@ -157,7 +161,7 @@ impl Owner {
             (Owner::StructInContext, _) => &IN_CONTEXT,
             (Owner::Behind, _) if is_present => &PRESENT_ON_TAG,
             (Owner::Behind, _) => &ON_TAG,
-            _ if is_lent => &LENT,
+            _ if is_borrowed => &LENT,
             _ => &ALONE,
         }
     }

@@ -54,7 +54,7 @@ pub fn cases_of<'a>(
     alloc: Global,
     names: &Names<'a>,
     holes: &Holes,
-    (owner, is_lent): (Owner, bool),
+    (owner, is_borrowed): (Owner, bool),
     variants: &'a [Variant],
     uses: &mut Uses<'a>,
 ) -> Result<Vec<Part>, AllocError> {
@@ -62,7 +62,7 @@ pub fn cases_of<'a>(
     for variant in variants {
         let at = parts.len();
         let members = variant.fields.as_slice();
-        let row = Row::of(alloc, names, owner, is_lent, members, uses)?;
+        let row = Row::of(alloc, names, owner, is_borrowed, members, uses)?;
         parts.push(case(alloc, holes, at, variant, &row)?)?;
     }
     contents::set(alloc, parts.as_mut_slice())?;

@@ -1,4 +1,4 @@
-//! The answers of a crate: five files for each enum that isn't open, two if it is lent.
+//! The answers of a crate: five files for each enum that isn't open, two if it is borrowed.
 ghost use Rattle.std.specs.Prelude.{◌≡◌, ◌++◌, ◌∷◌, [], OnOk};
 ghost use Rattle.tlsgen_model.specs.Answered.{function_of, trait_of};
 ghost use Rattle.tlsgen_model.specs.Paths.{answers_path};
@@ -27,7 +27,7 @@ pub fn push_files(
     }
     push_answers(alloc, files, message, form, Answered::Writes)?;
     push_answers(alloc, files, message, form, Answered::Appends)?;
-    if message.is_lent {
+    if message.is_borrowed {
         return Ok(());
     }
     push_answers(alloc, files, message, form, Answered::Reads)?;

@@ -11,14 +11,14 @@ use crate::types::{Names, par};
 use crate::uses::Uses;
 use crate::{contexts, present, views};
 use std::alloc::{AllocError, Global};
-use tlsgen_model::lent::runs_of;
+use tlsgen_model::borrowed::runs_of;
 use tlsgen_model::plan::{Holder, Member};
 
 /// The fields of a struct or of a variant.
 #[derive(Drop)]
 pub struct Row {
     owner: Owner,
-    is_lent: bool,
+    is_borrowed: bool,
     fields: Vec<Field>,
     nesting: Nesting,
 }
@@ -34,7 +34,7 @@ impl Row {
         alloc: Global,
         names: &Names<'a>,
         owner: Owner,
-        is_lent: bool,
+        is_borrowed: bool,
         members: &'a [Member],
         uses: &mut Uses<'a>,
     ) -> Result<Row, AllocError> {
@@ -48,18 +48,18 @@ impl Row {
             contexts::set_of_field(alloc, names, &mut words.texts, uses, &member.decided)?;
             let at = fields.len();
             let is_copied = names.is_copied(&member.of);
-            fields.push(Field::of(alloc, owner, is_lent, at, member, words, is_copied)?)?;
+            fields.push(Field::of(alloc, owner, is_borrowed, at, member, words, is_copied)?)?;
         }
         let nesting = nesting_of(alloc, owner, fields.as_slice())?;
         Ok(Row {
             owner,
-            is_lent,
+            is_borrowed,
             fields,
             nesting,
         })
     }
 
-    /// Sets the holes `fields`, `first`, `stated`, `comment`, `declared`, `lent`, `lent_types`, `shown`, `pattern`, `lets`, `types`,
+    /// Sets the holes `fields`, `first`, `stated`, `comment`, `declared`, `borrowed`, `borrowed_types`, `shown`, `pattern`, `lets`, `types`,
     /// `path`, `split`, `apart`, `alike`, `gap`, `plain`, `format` and `law`.
     pub fn set(&self, alloc: Global, holes: &mut Holes) -> Result<(), AllocError> {
         self.set_lists(alloc, holes)?;
@@ -67,10 +67,10 @@ impl Row {
         self.set_tuples(alloc, holes)?;
         self.set_definitions(alloc, holes)?;
         holes.set("alike", self.alike(alloc)?)?;
-        holes.set("lent", self.lent(alloc)?)?;
-        let groups = self.lent_groups(alloc, &TYPES)?;
+        holes.set("borrowed", self.borrowed(alloc)?)?;
+        let groups = self.borrowed_groups(alloc, &TYPES)?;
         holes.set(
-            "lent_types",
+            "borrowed_types",
             Join::Tuple.joined(alloc, groups.as_slice(), " ")?,
         )
     }
@@ -94,7 +94,7 @@ impl Row {
         let Some(giver) = self.fields.first() else {
             return Ok(());
         };
-        let own = if giver.is_lent {
+        let own = if giver.is_borrowed {
             "&self.$name$"
         } else {
             "$own$"
@@ -273,12 +273,12 @@ impl Row {
         Ok(out)
     }
 
-    // The lent groups, as `(Lent2(&self.a, &self.b), Lent(&self.c))`. A struct's field that is alone lends
+    // The borrowed groups, as `(ByRef2(&self.a, &self.b), ByRef(&self.c))`. A struct's field that is alone lends
     // itself.
-    fn lent(&self, alloc: Global) -> Result<String, AllocError> {
+    fn borrowed(&self, alloc: Global) -> Result<String, AllocError> {
         match (self.owner, self.fields.as_slice()) {
-            (Owner::Struct, [only]) if self.is_lent && !only.is_lent => {
-                only.holes.filled(alloc, "Lent(self.$name$)")
+            (Owner::Struct, [only]) if self.is_borrowed && !only.is_borrowed => {
+                only.holes.filled(alloc, "ByRef(self.$name$)")
             }
             (Owner::Struct | Owner::StructInContext | Owner::Behind, [only]) => {
                 only.holes.filled(alloc, "self.$name$")
@@ -287,25 +287,29 @@ impl Row {
                 self.nested(alloc, "$lend$", Join::Tuple, " ")
             }
             (Owner::Struct, _) => {
-                let lending = if self.is_lent { &OF_LENT } else { &OF_SELF };
-                let lent = self.listed_groups(alloc, lending)?;
-                format!(in alloc; "({lent})")
+                let lending = if self.is_borrowed {
+                    &OF_BORROWED
+                } else {
+                    &OF_SELF
+                };
+                let borrowed = self.listed_groups(alloc, lending)?;
+                format!(in alloc; "({borrowed})")
             }
             (Owner::Variant, _) => self.listed_groups(alloc, &MATCHED),
             (Owner::Case, _) => {
-                let groups = self.lent_groups(alloc, &MATCHED)?;
+                let groups = self.borrowed_groups(alloc, &MATCHED)?;
                 Join::Tuple.joined(alloc, groups.as_slice(), " ")
             }
         }
     }
 
     fn listed_groups(&self, alloc: Global, lending: &Lending) -> Result<String, AllocError> {
-        self.lent_groups(alloc, lending)?
+        self.borrowed_groups(alloc, lending)?
             .as_slice()
             .join(alloc, ", ")
     }
 
-    fn lent_groups(&self, alloc: Global, lending: &Lending) -> Result<Vec<String>, AllocError> {
+    fn borrowed_groups(&self, alloc: Global, lending: &Lending) -> Result<Vec<String>, AllocError> {
         let mut groups = Vec::new(alloc);
         let mut left = self.fields.as_slice();
         for size in &self.nesting.groups {
@@ -313,13 +317,13 @@ impl Row {
                 break;
             };
             left = others;
-            groups.push(lending.lent(alloc, group)?)?;
+            groups.push(lending.borrowed(alloc, group)?)?;
         }
         Ok(groups)
     }
 }
 
-// How fields are lent: each by this template, in brackets.
+// How fields are borrowed: each by this template, in brackets.
 struct Lending {
     template: &'static str,
     open: &'static str,
@@ -332,7 +336,7 @@ static OF_SELF: Lending = Lending {
     close: ")",
 };
 
-static OF_LENT: Lending = Lending {
+static OF_BORROWED: Lending = Lending {
     template: "self.$name$",
     open: "(",
     close: ")",
@@ -344,7 +348,7 @@ static MATCHED: Lending = Lending {
     close: ")",
 };
 
-// The type of what is lent.
+// The type of what is borrowed.
 static TYPES: Lending = Lending {
     template: "$type$",
     open: "<'a, ",
@@ -352,29 +356,29 @@ static TYPES: Lending = Lending {
 };
 
 impl Lending {
-    // A group as it is lent. One field is lent by `Lent`, unless it is lent itself.
-    fn lent(&self, alloc: Global, group: &[Field]) -> Result<String, AllocError> {
+    // A group as it is borrowed. One field is borrowed by `ByRef`, unless it is borrowed itself.
+    fn borrowed(&self, alloc: Global, group: &[Field]) -> Result<String, AllocError> {
         let (open, close) = (self.open, self.close);
         let texts = listed(alloc, group, self.template, ", ")?;
         match group {
-            [only] if only.is_lent => Ok(texts),
-            [_] => format!(in alloc; "Lent{open}{texts}{close}"),
+            [only] if only.is_borrowed => Ok(texts),
+            [_] => format!(in alloc; "ByRef{open}{texts}{close}"),
             _ => {
                 let size = group.len();
-                format!(in alloc; "Lent{size}{open}{texts}{close}")
+                format!(in alloc; "ByRef{size}{open}{texts}{close}")
             }
         }
     }
 }
 
-// How the fields nest: by what is lent, or in as few groups as there may be.
+// How the fields nest: by what is borrowed, or in as few groups as there may be.
 fn nesting_of(alloc: Global, owner: Owner, fields: &[Field]) -> Result<Nesting, AllocError> {
-    let mut are_lent = Vec::new(alloc);
+    let mut are_borrowed = Vec::new(alloc);
     for field in fields {
-        are_lent.push(field.is_lent)?;
+        are_borrowed.push(field.is_borrowed)?;
     }
-    if are_lent.contains(&true) {
-        return Nesting::of_groups(alloc, runs_of(alloc, &are_lent)?);
+    if are_borrowed.contains(&true) {
+        return Nesting::of_groups(alloc, runs_of(alloc, &are_borrowed)?);
     }
     Nesting::of(alloc, fields.len(), owner.most())
 }

@@ -10,7 +10,7 @@ use std::alloc::{AllocError, Global};
 use tlsgen_model::emitted::Written;
 use tlsgen_model::plan::Plan;
 
-/// `src/NAME_shown.rt`: how each message of the crate `own` is shown that isn't lent, for a crate that has `show::Show` and uses `message_tree`.
+/// `src/NAME_shown.rt`: how each message of the crate `own` is shown that isn't borrowed, for a crate that has `show::Show` and uses `message_tree`.
 pub fn file_of(
     alloc: Global,
     own: &str,
@@ -21,7 +21,7 @@ pub fn file_of(
     let mut types = Vec::new(alloc);
     let mut body = String::new(alloc);
     for message in &plan.messages {
-        if message.is_lent {
+        if message.is_borrowed {
             continue;
         }
         types.push(message.name.as_str())?;

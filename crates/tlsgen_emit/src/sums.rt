@@ -107,7 +107,7 @@ fn set_case(
     holes.set_each(alloc, wrapping)
 }
 
-/// Sets the holes of a sum: `sum`, `lent_sum`, `formats` and `laws` for all its cases, and those of the wrapping.
+/// Sets the holes of a sum: `sum`, `borrowed_sum`, `formats` and `laws` for all its cases, and those of the wrapping.
 pub fn set(
     alloc: Global,
     holes: &mut Holes,
@@ -116,7 +116,7 @@ pub fn set(
 ) -> Result<(), AllocError> {
     let texts = [
         ("sum", "$case$", &TYPES),
-        ("lent_sum", "$lent_case$", &TYPES),
+        ("borrowed_sum", "$borrowed_case$", &TYPES),
         ("sum_format", "$case_format$", &FORMATS),
         ("sum_law", "$case_law$", &LAWS),
     ];

@@ -27,9 +27,9 @@ pub struct Templates {
     pub ghost_uses: &'static str,
     /// The type and its encoders, and the decoders of all.
     pub code: &'static str,
-    /// The decoders of one that isn't lent, where a lent one has none.
+    /// The decoders of one that isn't borrowed, where a borrowed one has none.
     pub decoders: &'static str,
-    /// What tells its bytes from others, of one that isn't lent.
+    /// What tells its bytes from others, of one that isn't borrowed.
     pub validator: &'static str,
     pub law: &'static str,
     /// What it stands for, its format and its law.

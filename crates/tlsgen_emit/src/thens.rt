@@ -63,30 +63,30 @@ pub fn set<'a>(
     names: &Names<'a>,
     holes: &mut Holes,
     uses: &mut Uses<'a>,
-    is_lent: bool,
+    is_borrowed: bool,
     members: &'a [Member],
 ) -> Result<(), AllocError> {
     let Some(giver) = giver_of(members) else {
         return Ok(());
     };
     let owner = set_giver(alloc, names, holes, uses, giver)?;
-    let all = Row::of(alloc, names, Owner::Struct, is_lent, members, uses)?;
+    let all = Row::of(alloc, names, Owner::Struct, is_borrowed, members, uses)?;
     all.set(alloc, holes)?;
     let (before, others) = members.split_at_checked(giver.at).unwrap_or((&[], members));
     let (given, behind) = others.split_at_checked(1).unwrap_or((&[], others));
-    let given = Row::of(alloc, names, Owner::Struct, is_lent, given, uses)?;
+    let given = Row::of(alloc, names, Owner::Struct, is_borrowed, given, uses)?;
     given.set_giver(alloc, holes)?;
     set_part(alloc, holes, &given, &GIVER)?;
-    let behind = Row::of(alloc, names, owner, is_lent, behind, uses)?;
+    let behind = Row::of(alloc, names, owner, is_borrowed, behind, uses)?;
     set_part(alloc, holes, &behind, &BEHIND)?;
     if before.is_empty() {
         holes.set_each(alloc, &FIRST)?;
     } else {
-        let before = Row::of(alloc, names, Owner::Struct, is_lent, before, uses)?;
+        let before = Row::of(alloc, names, Owner::Struct, is_borrowed, before, uses)?;
         set_part(alloc, holes, &before, &BEFORE)?;
         holes.set_each(alloc, &LATER)?;
     }
-    let parts = if is_lent { &LENT } else { &OWNED };
+    let parts = if is_borrowed { &LENT } else { &OWNED };
     holes.set_each(alloc, parts)
 }
 
@@ -112,8 +112,8 @@ fn set_giver<'a>(
 fn set_part(alloc: Global, holes: &mut Holes, row: &Row, part: &Part) -> Result<(), AllocError> {
     let tuples = [
         (part.types, "$part$"),
-        (part.lent_types, "$lent_part$"),
-        (part.lent, "$lend$"),
+        (part.borrowed_types, "$borrowed_part$"),
+        (part.borrowed, "$lend$"),
     ];
     for (word, template) in tuples {
         holes.set(word, row.nested(alloc, template, Join::Tuple, " ")?)?;

@@ -28,7 +28,7 @@ pub struct Words<'a> {
     /// The message whose definitions are cited.
     pub cited: Option<&'a str>,
     /// It has references.
-    pub is_lent: bool,
+    pub is_borrowed: bool,
 }
 
 impl Kind {
@@ -50,7 +50,7 @@ impl Kind {
             texts: self.texts(alloc, &holes)?,
             named: of.named,
             cited: of.cited,
-            is_lent: false,
+            is_borrowed: false,
         })
     }
 
@@ -188,7 +188,7 @@ impl<'a> Names<'a> {
             texts: kind.texts(alloc, &holes)?,
             named: None,
             cited: None,
-            is_lent: false,
+            is_borrowed: false,
         })
     }
 
@@ -213,8 +213,8 @@ impl<'a> Names<'a> {
 
     fn message(&self, alloc: Global, name: &'a str) -> Result<Words<'a>, AllocError> {
         let module = self.module(name).unwrap_or(name);
-        let is_lent = self.is_lent(name);
-        let lifetime = if is_lent { "<'a>" } else { "" };
+        let is_borrowed = self.is_borrowed(name);
+        let lifetime = if is_borrowed { "<'a>" } else { "" };
         let mut holes = Holes::new(alloc);
         holes.set_all(
             alloc,
@@ -229,7 +229,7 @@ impl<'a> Names<'a> {
             texts: kind.texts(alloc, &holes)?,
             named: Some(name),
             cited: Some(name),
-            is_lent,
+            is_borrowed,
         })
     }
 
@@ -271,11 +271,11 @@ impl<'a> Names<'a> {
     }
 
     // Whether the message with this name has references to its fields.
-    fn is_lent(&self, name: &str) -> bool {
+    fn is_borrowed(&self, name: &str) -> bool {
         match self.own(name) {
-            Some(message) => message.is_lent,
+            Some(message) => message.is_borrowed,
             None => match self.other(name) {
-                Some(other) => other.is_lent,
+                Some(other) => other.is_borrowed,
                 None => false,
             },
         }
@@ -326,7 +326,7 @@ fn renamed<'a>(alloc: Global, words: &Words<'a>, name: &'a str) -> Result<Words<
         texts,
         named: Some(name),
         cited: words.cited,
-        is_lent: words.is_lent,
+        is_borrowed: words.is_borrowed,
     })
 }
 

@@ -13,13 +13,13 @@ use std::alloc::{AllocError, Global};
 use tlsgen_model::plan::{Body, Element, Member, Message, Shape};
 
 /// The name of a message's view, if it has one: it is a struct with fields or an enum with cases, nothing decides which it
-/// has, it isn't lent, and nothing else has the name.
+/// has, it isn't borrowed, and nothing else has the name.
 pub fn name_of(
     alloc: Global,
     names: &Names<'_>,
     message: &Message,
 ) -> Result<Option<String>, AllocError> {
-    if message.is_lent || !is_viewed(message) {
+    if message.is_borrowed || !is_viewed(message) {
         return Ok(None);
     }
     let name = format!(in alloc; "{}View", message.name)?;

@@ -1,4 +1,4 @@
-//! A lent struct that has fields of another, by whose name it is called.
+//! A borrowed struct that has fields of another, by whose name it is called.
 
 use crate::template::Holes;
 use crate::templates::wholes::{CLAUSE, FIELD, FROM, NEXT_CLAUSE};
@@ -28,7 +28,7 @@ pub fn set<'a>(
     holes.set_each(alloc, &[("from_whole", FROM)])
 }
 
-// The struct that has all fields of a lent one, by whose name that one is called.
+// The struct that has all fields of a borrowed one, by whose name that one is called.
 fn whole_of<'a>(
     alloc: Global,
     names: &Names<'a>,
@@ -44,7 +44,7 @@ fn whole_of<'a>(
     let Body::Fields(fields) = &whole.body else {
         return Ok(None);
     };
-    if !message.is_lent || whole.is_lent {
+    if !message.is_borrowed || whole.is_borrowed {
         return Ok(None);
     }
     for member in members {

@@ -4,15 +4,15 @@
 //! - [`lists`]: fields, values and cases in a row, in which each name and each number comes once.
 //! - [`messages`]: [`Messages`](messages::Messages), each of which can be written.
 //! - [`emitted`]: [`Written`](emitted::Written), a file of a written crate.
-//! - [`lent`]: [`runs_of`](lent::runs_of), how the fields of a lent struct are written in a row.
+//! - [`borrowed`]: [`runs_of`](borrowed::runs_of), how the fields of a borrowed struct are written in a row.
 //! - [`names`]: what types, fields and values are named in the written sources. [`words`]: which names these can't be.
 //! - [`layout`]: [`first_difference`](layout::first_difference), where two written sources differ in more than their layout.
 //! - [`width`]: how many bytes a tag and a number have.
 #![tactic(auto)]
 
+pub mod borrowed;
 pub mod emitted;
 pub mod layout;
-pub mod lent;
 pub mod lists;
 pub mod messages;
 pub mod names;

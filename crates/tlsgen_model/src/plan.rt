@@ -19,7 +19,7 @@ pub struct Other {
     /// Which crate has it, counted from 0 in the order in which they were named.
     pub home: usize,
     /// It has references to its fields.
-    pub is_lent: bool,
+    pub is_borrowed: bool,
     /// What it is another name of, if it is one.
     pub of: Option<Type>,
 }
@@ -46,7 +46,7 @@ pub struct Message {
     /// Which crate has it: after the others the one that is written.
     pub home: usize,
     /// It has references to its fields, and is only written.
-    pub is_lent: bool,
+    pub is_borrowed: bool,
     /// What its doc comment says.
     pub doc: String,
     /// What decides its parts, if that is in another struct.

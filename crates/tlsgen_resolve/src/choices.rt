@@ -2,11 +2,11 @@
 ghost use Rattle.std.specs.Prelude.{IfOk};
 ghost use Rattle.tlsgen_model.specs.Writable.{HaveNames, HaveTypes, IsWritable};
 
+use crate::borrowed::lends;
 use crate::cases::{Labelled, cases_of, find_case, tag_of};
 use crate::checks::{TOO_GREAT, check_letters};
 use crate::given::{Given, given_to};
 use crate::held::member_name;
-use crate::lent::lends;
 use crate::members::{ResolvedMember, copy, push_member};
 use crate::naming::{choice_doc, push_comment, type_name, underscored};
 use crate::padding::push_padding;
@@ -142,7 +142,7 @@ impl<'a> Resolver<'a> {
         let message = Message {
             module: module_name(self.alloc, name.as_str())?,
             home: self.out.home,
-            is_lent: lends(sequence, &body),
+            is_borrowed: lends(sequence, &body),
             doc,
             context: None,
             tag: Some(self.tag_of_cases(tag)?),

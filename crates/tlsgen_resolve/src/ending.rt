@@ -28,7 +28,7 @@ pub fn ending_of<'a>(files: Scope<'_>, one: &'a Struct) -> Option<Ending<'a>> {
         Some(Said::Ends(name)) => name.text == content.name.text,
         _ => false,
     };
-    if is_named && !one.is_lent && is_sized_by_name(content) && is_sized_by_name(zeros) {
+    if is_named && !one.is_borrowed && is_sized_by_name(content) && is_sized_by_name(zeros) {
         Some(Ending {
             content,
             kind,

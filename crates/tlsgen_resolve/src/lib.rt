@@ -3,6 +3,7 @@
 //! - [`planning`]: [`plan_of`](planning::plan_of), the plan of a file, or where and why it is rejected.
 #![tactic(auto)]
 
+mod borrowed;
 mod cases;
 mod checks;
 mod choices;
@@ -16,7 +17,6 @@ mod held;
 mod holders;
 mod items;
 mod known;
-mod lent;
 mod meanings;
 mod members;
 mod naming;

@@ -178,7 +178,7 @@ impl<'a> Resolver<'a> {
             Said::Number(_) => {
                 self.is_value(file, &note.path) || sizes.contains(&joined(self.alloc, &note.path)?)
             }
-            Said::Open | Said::Closed | Said::Lent | Said::LeftOut => true,
+            Said::Open | Said::Closed | Said::ByRef | Said::LeftOut => true,
             said => match self.item_of(file, &note.path) {
                 Some(Item::Struct(one)) => self.is_said_of(one, note, said),
                 _ => false,
@@ -254,7 +254,7 @@ fn expected(said: &Said) -> Option<&'static str> {
         Said::Called(_) => Some(
             "a struct of this text and the tag of a select in it that has no name",
         ),
-        Said::Open | Said::Closed | Said::Lent | Said::LeftOut => None,
+        Said::Open | Said::Closed | Said::ByRef | Said::LeftOut => None,
     }
 }
 

@@ -211,7 +211,7 @@ fn push_aliases(
                 name: alias.name.clone()?,
                 module: String::from_str(alloc, "names")?,
                 home: alias.home,
-                is_lent: false,
+                is_borrowed: false,
                 of: Some(copy_type(&alias.of)?),
             })?;
         }
@@ -230,7 +230,7 @@ fn push_messages(
                 name: message.name.clone()?,
                 module: message.module.clone()?,
                 home: message.home,
-                is_lent: message.is_lent,
+                is_borrowed: message.is_borrowed,
                 of: None,
             })?;
         }

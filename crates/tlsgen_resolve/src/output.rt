@@ -48,7 +48,7 @@ pub struct Output {
 #[derive(Clone, Copy)]
 struct Made {
     home: usize,
-    is_lent: bool,
+    is_borrowed: bool,
 }
 
 impl Output {
@@ -195,8 +195,8 @@ impl Output {
     }
 
     /// Whether the message of this name has references to its fields.
-    pub fn is_lent(&self, name: &String) -> bool {
-        self.made.get(name).is_some_and(|made| made.is_lent)
+    pub fn is_borrowed(&self, name: &String) -> bool {
+        self.made.get(name).is_some_and(|made| made.is_borrowed)
     }
 
     /// Appends a message. Rejects it if another has its module.
@@ -205,7 +205,7 @@ impl Output {
     {
         let made = Made {
             home: message.home,
-            is_lent: message.is_lent,
+            is_borrowed: message.is_borrowed,
         };
         let name = message.name.clone()?;
         let module = message.module.clone()?;

@@ -31,7 +31,7 @@ pub fn own_pieces<'a>(
         name,
         place: one.name.place,
         remark: &one.name.remark,
-        is_lent: one.is_lent,
+        is_borrowed: one.is_borrowed,
         pieces,
         context: None,
         is_filling: filling_field(files, one).is_some(),

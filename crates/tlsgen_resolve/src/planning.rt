@@ -47,7 +47,7 @@ pub struct Fault {
 /// or a number twice; a word of Rust or of the definitions as a type's name; a number of more bytes than its enum's;
 /// a vector, bounds or a constant that aren't kept; a select on a tag that isn't in the same bytes, a case that its
 /// enum lacks; more fields than can be written in a row; an enum of another crate that isn't
-/// written there, since it is a tag alone; a lent struct in one that isn't.
+/// written there, since it is a tag alone; a borrowed struct in one that isn't.
 ///
 /// In what is made, each struct has at most 27 fields and each case at most 18, with names that differ; the numbers of
 /// an enum and of the cases of a tag differ, and have the bytes of the enum or the tag: 1, 2, 4 or 8.

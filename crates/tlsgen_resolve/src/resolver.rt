@@ -226,7 +226,7 @@ impl<'a> Resolver<'a> {
         Ok(Message {
             module: module_name(self.alloc, name.as_str())?,
             home: self.out.home,
-            is_lent: false,
+            is_borrowed: false,
             doc,
             context: None,
             tag: None,

@@ -40,7 +40,7 @@ pub struct Sequence<'a> {
     pub name: &'a str,
     pub place: Place,
     pub remark: &'a Remark,
-    pub is_lent: bool,
+    pub is_borrowed: bool,
     pub pieces: Vec<Piece<'a>>,
     /// The tag that decides its parts, where that is no piece of it.
     pub context: Option<OuterTag<'a>>,

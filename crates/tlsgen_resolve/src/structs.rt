@@ -2,11 +2,11 @@
 ghost use Rattle.std.specs.Prelude.{IfOk};
 ghost use Rattle.tlsgen_model.specs.Writable.{IsWritable};
 
+use crate::borrowed::lends;
 use crate::constants::{Fixed, fixed_body, fixed_of};
 use crate::ending::ending_of;
 use crate::held::{TagPart, part_of};
 use crate::holders::{Site, site_of};
-use crate::lent::lends;
 use crate::members::push_member;
 use crate::naming::type_name;
 use crate::padding::{check_padding, push_padding};
@@ -27,9 +27,9 @@ impl<'a> Resolver<'a> {
     /// Makes the messages of a struct, and keeps its pieces for the structs that have it.
     pub fn resolve_struct(&mut self, one: &'a Struct) -> Result<(), Trouble> {
         let sequence = sequence_of(self.alloc, self.files, &mut self.known, one)?;
-        self.check_lent(&sequence)?;
+        self.check_borrowed(&sequence)?;
         self.make_constants(one)?;
-        self.check_lent_context(&sequence)?;
+        self.check_borrowed_context(&sequence)?;
         check_padding(self.alloc, &sequence)?;
         match ending_of(self.files, one) {
             Some(ending) => self.make_ending(one, ending)?,
@@ -53,7 +53,7 @@ impl<'a> Resolver<'a> {
         self.check_runs(sequence, &body)?;
         let mut message = self.defined_message(sequence.name, sequence.remark, body)?;
         push_padding(self.alloc, &mut message.doc, sequence)?;
-        message.is_lent = lends(sequence, &message.body);
+        message.is_borrowed = lends(sequence, &message.body);
         if let Some(tag) = &sequence.context {
             message.context = Some(tag.context(self.alloc)?);
         }

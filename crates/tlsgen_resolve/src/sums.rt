@@ -22,14 +22,14 @@ use tlsgen_syntax::refusal::{Place, Trouble};
 use tlsgen_syntax::syntax::{Field, Name, Select};
 
 impl<'a> Resolver<'a> {
-    /// Rejects a lent struct in a context.
-    pub fn check_lent_context(&self, sequence: &Sequence<'_>) -> Result<(), Trouble> {
-        if sequence.is_lent && sequence.context.is_some() {
+    /// Rejects a borrowed struct in a context.
+    pub fn check_borrowed_context(&self, sequence: &Sequence<'_>) -> Result<(), Trouble> {
+        if sequence.is_borrowed && sequence.context.is_some() {
             return Err(refused(
                 self.alloc,
                 sequence.place,
                 sequence.name,
-                "no lent struct in the context of a tag elsewhere",
+                "no borrowed struct in the context of a tag elsewhere",
             ));
         }
         Ok(())
@@ -137,7 +137,7 @@ impl<'a> Resolver<'a> {
         if select.tag != tag.index {
             return Err(refused_crossing(self.alloc, select.place));
         }
-        if sequence.is_lent {
+        if sequence.is_borrowed {
             return Err(refused_counting(self.alloc, length));
         }
         let of = tag_of(self.alloc, self.files, tag.field)?;

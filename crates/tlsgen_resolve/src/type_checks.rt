@@ -24,7 +24,7 @@ impl<'a> Resolver<'a> {
 
     // A field that fills what is left has the type of the length that counts it.
     fn check_parts(&self, one: &Struct) -> Result<(), Trouble> {
-        if filling_field(self.files, one).is_some() && !one.is_lent
+        if filling_field(self.files, one).is_some() && !one.is_borrowed
             || ending_of(self.files, one).is_some()
         {
             return Ok(());
@@ -33,56 +33,56 @@ impl<'a> Resolver<'a> {
             match part {
                 Part::Field(field) if is_padding(self.files, one, field) => {}
                 Part::Field(field) => self.check_part(one, at, field)?,
-                Part::Select(select) => self.check_cases(select, one.is_lent)?,
+                Part::Select(select) => self.check_cases(select, one.is_borrowed)?,
             }
         }
         Ok(())
     }
 
-    // `check_lent` rejects a lent struct in one that isn't.
+    // `check_borrowed` rejects a borrowed struct in one that isn't.
     fn check_part(&self, one: &Struct, at: usize, field: &Field) -> Result<(), Trouble> {
         let Some(length) = length_before(one, at) else {
             return self.check_type(field, true);
         };
         counted_type(self.alloc, self.files, length, field)?;
-        if self.names_lent(field) {
-            return Err(self.refused_lent(field));
+        if self.names_borrowed(field) {
+            return Err(self.refused_borrowed(field));
         }
         Ok(())
     }
 
-    fn check_cases(&self, select: &Select, is_lent: bool) -> Result<(), Trouble> {
+    fn check_cases(&self, select: &Select, is_borrowed: bool) -> Result<(), Trouble> {
         for case in &select.cases {
-            self.check_fields(&case.fields, is_lent)?;
+            self.check_fields(&case.fields, is_borrowed)?;
         }
         Ok(())
     }
 
-    fn check_fields(&self, fields: &[Field], is_lent: bool) -> Result<(), Trouble> {
+    fn check_fields(&self, fields: &[Field], is_borrowed: bool) -> Result<(), Trouble> {
         for field in fields {
-            self.check_type(field, is_lent)?;
+            self.check_type(field, is_borrowed)?;
         }
         Ok(())
     }
 
-    // Also rejects a lent struct, unless the field is a single one and stands where a lent struct may be.
-    fn check_type(&self, field: &Field, is_lent: bool) -> Result<(), Trouble> {
+    // Also rejects a borrowed struct, unless the field is a single one and stands where a borrowed struct may be.
+    fn check_type(&self, field: &Field, is_borrowed: bool) -> Result<(), Trouble> {
         type_of(self.alloc, self.files, field)?;
-        if self.names_lent(field) && !(is_lent && is_single(field)) {
-            return Err(self.refused_lent(field));
+        if self.names_borrowed(field) && !(is_borrowed && is_single(field)) {
+            return Err(self.refused_borrowed(field));
         }
         Ok(())
     }
 
-    /// Rejects a lent struct as a field of a struct that isn't lent.
-    pub fn check_lent(&self, sequence: &Sequence<'_>) -> Result<(), Trouble> {
-        if sequence.is_lent {
+    /// Rejects a borrowed struct as a field of a struct that isn't borrowed.
+    pub fn check_borrowed(&self, sequence: &Sequence<'_>) -> Result<(), Trouble> {
+        if sequence.is_borrowed {
             return Ok(());
         }
         for piece in &sequence.pieces {
             match piece {
-                Piece::Field(field) | Piece::Counted(_, field) if self.names_lent(field) => {
-                    return Err(self.refused_lent(field));
+                Piece::Field(field) | Piece::Counted(_, field) if self.names_borrowed(field) => {
+                    return Err(self.refused_borrowed(field));
                 }
                 Piece::Field(_) | Piece::Counted(..) | Piece::Length(_) => {}
                 Piece::Select(select) => self.check_cases(select, false)?,
@@ -91,14 +91,14 @@ impl<'a> Resolver<'a> {
         Ok(())
     }
 
-    fn refused_lent(&self, field: &Field) -> Trouble {
+    fn refused_borrowed(&self, field: &Field) -> Trouble {
         self.refused_name(
             &field.of,
-            "a type that has its parts: a lent struct is only written, and is a field of lent structs alone, in no vector and no option",
+            "a type that has its parts: a borrowed struct is only written, and is a field of borrowed structs alone, in no vector and no option",
         )
     }
 
-    fn names_lent(&self, field: &Field) -> bool {
-        find_struct(self.files, field.of.text.as_str()).is_some_and(|one| one.is_lent)
+    fn names_borrowed(&self, field: &Field) -> bool {
+        find_struct(self.files, field.of.text.as_str()).is_some_and(|one| one.is_borrowed)
     }
 }

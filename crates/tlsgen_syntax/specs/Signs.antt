@@ -51,7 +51,7 @@ abbrev pub mark_text : Mark → List ℕ
 mark_text marks.Case = codes "case"
 mark_text marks.DigitallySigned = codes "digitally-signed"
 mark_text marks.Enum = codes "enum"
-mark_text marks.Lent = codes "lent"
+mark_text marks.ByRef = codes "borrowed"
 mark_text marks.Open = codes "open"
 mark_text marks.Optional = codes "optional"
 mark_text marks.Select = codes "select"
@@ -277,13 +277,13 @@ source_part_then (source_parts.Sent p) rest = part_then p rest
 source_part_then (source_parts.Signed s) rest = signed_then s rest
 source_part_then (source_parts.InPlace f) rest = in_place_then f rest
 
--- [lent | digitally-signed]
+-- [borrowed | digitally-signed]
 abbrev pub kind_then : StructKind → List Sign → List Sign
 kind_then struct_kinds.Sent rest = rest
-kind_then struct_kinds.Lent rest = mark marks.Lent ∷ rest
+kind_then struct_kinds.ByRef rest = mark marks.ByRef ∷ rest
 kind_then struct_kinds.Signed rest = mark marks.DigitallySigned ∷ rest
 
--- [lent | digitally-signed] struct { parts, signatures and types in place } NAME ;
+-- [borrowed | digitally-signed] struct { parts, signatures and types in place } NAME ;
 abbrev pub source_struct_then : SourceStruct → List Sign → List Sign
 source_struct_then s rest =
     kind_then s.kind
@@ -302,10 +302,10 @@ source_signs source = each_then definition_then source.definitions.items []
 
 -- ---- what is signed and types in place apart
 
--- [lent] struct { parts } NAME ;
+-- [borrowed] struct { parts } NAME ;
 abbrev pub struct_then : Struct → List Sign → List Sign
 struct_then s rest =
-    flag_then marks.Lent s.is_lent
+    flag_then marks.ByRef s.is_borrowed
     (mark marks.Struct ∷ mark marks.OpeningBrace ∷
     each_then part_then s.parts.items
     (mark marks.ClosingBrace ∷ name_then s.name (mark marks.Semicolon ∷ rest)))
@@ -321,7 +321,7 @@ file_signs file = each_then item_then file.items.items []
 
 -- ---- notes
 
--- = NUMBER, = NAME, counts rest, fills rest, fills rest with zeros, ends NAME, called NAME, is open, closed or lent, or left out
+-- = NUMBER, = NAME, counts rest, fills rest, fills rest with zeros, ends NAME, called NAME, is open, closed or borrowed, or left out
 abbrev pub said_then : Said → List Sign → List Sign
 said_then (saids.Number n) rest = mark marks.Equals ∷ number_then n rest
 said_then (saids.Named name) rest = mark marks.Equals ∷ name_then name rest
@@ -331,7 +331,7 @@ said_then saids.Pads rest = word (codes "fills") ∷ word (codes "rest") ∷ wor
 said_then (saids.Ends name) rest = word (codes "ends") ∷ name_then name rest
 said_then (saids.Called name) rest = word (codes "called") ∷ name_then name rest
 said_then saids.Open rest = word (codes "is") ∷ mark marks.Open ∷ rest
-said_then saids.Lent rest = word (codes "is") ∷ mark marks.Lent ∷ rest
+said_then saids.ByRef rest = word (codes "is") ∷ mark marks.ByRef ∷ rest
 said_then saids.Closed rest = word (codes "is") ∷ word (codes "closed") ∷ rest
 said_then saids.LeftOut rest = word (codes "left") ∷ word (codes "out") ∷ rest
 

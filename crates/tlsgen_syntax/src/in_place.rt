@@ -54,7 +54,7 @@ pub(crate) fn definition(alloc: Global, of: TypeInPlace, name: Name) -> Result<I
     match of {
         TypeInPlace::Enum(numbers) => Ok(Item::Enum(enumeration(alloc, numbers, name)?)),
         TypeInPlace::Struct(parts) => Ok(Item::Struct(Struct {
-            is_lent: false,
+            is_borrowed: false,
             parts,
             name,
         })),

@@ -7,7 +7,7 @@ use crate::syntax::{Enum, File, Item, Name, Note, Said, Struct};
 use std::alloc::{AllocError, Global};
 use std::collections::{BTreeMap, BTreeSet};
 
-/// Gives a file its notes: enums that they call open or closed are, and structs that they call lent; integers that they give
+/// Gives a file its notes: enums that they call open or closed are, and structs that they call borrowed; integers that they give
 /// values are open enums, names of tags that nothing defines are closed ones, and definitions that they leave out are no more.
 ///
 /// Rejects a note on an enum, a struct or a definition that the file doesn't have, a value that the integer doesn't hold, and
@@ -21,7 +21,7 @@ pub fn apply(alloc: Global, file: &mut File, notes: Vec<Note>) -> Result<(), Tro
         match note.said {
             Said::Open => noted.enum_of(alloc, file, note)?.is_open = true,
             Said::Closed => noted.enum_of(alloc, file, note)?.is_open = false,
-            Said::Lent => noted.struct_of(alloc, file, note)?.is_lent = true,
+            Said::ByRef => noted.struct_of(alloc, file, note)?.is_borrowed = true,
             Said::LeftOut => noted.leave_out(alloc, note)?,
             Said::Number(_)
             | Said::Named(_)

@@ -62,7 +62,7 @@ fn push_struct(alloc: Global, items: &mut Vec<Item>, one: SourceStruct) -> Resul
         sent.push(sent_part(alloc, items, &name, part)?)?;
     }
     items.push(Item::Struct(Struct {
-        is_lent: matches!(kind, StructKind::Lent),
+        is_borrowed: matches!(kind, StructKind::ByRef),
         parts: sent,
         name,
     }))?;
@@ -151,7 +151,7 @@ fn to_be_signed(alloc: Global, outer: &Name, signed: Signed) -> Result<Struct, A
     let mut text = String::from_str(alloc, outer.text.as_str())?;
     text.push_str("TBS")?;
     Ok(Struct {
-        is_lent: false,
+        is_borrowed: false,
         parts: signed.parts,
         name: Name {
             text,

@@ -66,8 +66,8 @@ pub struct SourceStruct {
 pub enum StructKind {
     /// `struct { .. }` is sent.
     Sent,
-    /// `lent struct { .. }` has references to its fields, and is only written.
-    Lent,
+    /// `borrowed struct { .. }` has references to its fields, and is only written.
+    ByRef,
     /// `digitally-signed struct { .. }` is signed, and a signature is sent in its place.
     Signed,
 }

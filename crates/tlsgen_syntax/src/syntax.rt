@@ -65,8 +65,8 @@ pub enum Said {
     Open,
     /// `KeyUpdateRequest is closed`: an enum rejects numbers without a name.
     Closed,
-    /// `FramedContentTBS is lent`: a struct has references to its fields, and is only written.
-    Lent,
+    /// `FramedContentTBS is borrowed`: a struct has references to its fields, and is only written.
+    ByRef,
     /// `TLSInnerPlaintext left out`: nothing is made of a definition.
     LeftOut,
 }
@@ -108,11 +108,11 @@ pub struct Number {
     pub place: Place,
 }
 
-/// Fields and selects in a row. A lent one, `lent struct { .. }` or by a note, has references to its fields, and is only
+/// Fields and selects in a row. A borrowed one, `borrowed struct { .. }` or by a note, has references to its fields, and is only
 /// written.
 #[derive(Drop)]
 pub struct Struct {
-    pub is_lent: bool,
+    pub is_borrowed: bool,
     pub parts: Vec<Part>,
     pub name: Name,
 }

@@ -96,7 +96,7 @@ fn lists_and_bytes(rt: HostRuntime) -> Result<(), Fail> {
 }
 
 #[test]
-fn what_is_lent(rt: HostRuntime) -> Result<(), Fail> {
+fn what_is_borrowed(rt: HostRuntime) -> Result<(), Fail> {
     let alloc = rt.alloc();
     is_not_written(&rt, alloc, &&7u16, &[0, 7])?;
     is_not_written(&rt, alloc, &&Some(7u8), &[1, 7])?;

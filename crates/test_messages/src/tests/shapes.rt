@@ -143,7 +143,7 @@ fn bounds(rt: HostRuntime) -> Result<(), Fail> {
 }
 
 #[test]
-fn lent_structs(rt: HostRuntime) -> Result<(), Fail> {
+fn borrowed_structs(rt: HostRuntime) -> Result<(), Fail> {
     let alloc = rt.alloc();
     let key = bytes(alloc, 7)?;
     let parent_hash = bytes(alloc, 9)?;

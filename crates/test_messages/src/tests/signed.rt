@@ -1,4 +1,4 @@
-//! What is signed or authenticated, lent from messages that were read (RFC 9420).
+//! What is signed or authenticated, borrowed from messages that were read (RFC 9420).
 use crate::tests::each_call::is_written;
 use crate::tests::mls_messages::{COMMIT, GROUP_INFO, KEY_PACKAGE, PRIVATE_MESSAGE};
 use crate::tests::same;

@@ -13,7 +13,7 @@ const WHOLE: &str = "// As RFC 9420 has it.
 // ---- section 6.3.2, sender data
 
 // Who sent it.
-//  It is   lent.
+//  It is   borrowed.
 struct {
     uint32 leaf; // Its leaf,
                  // or none.
@@ -38,7 +38,7 @@ const SELECT: &str = "struct {
 static SAID: [(&str, &str); 22] = [
     (
         WHOLE,
-        "leaf: Its leaf,|or none.\nage: Its|age.\nSenderData (RFC 9420, section 6.3.2): Who sent it.|It is lent.\n",
+        "leaf: Its leaf,|or none.\nage: Its|age.\nSenderData (RFC 9420, section 6.3.2): Who sent it.|It is borrowed.\n",
     ),
     ("/* a */ /* b */\nuint8 A; /* c */ // d", "A: a|b|c|d\n"),
     ("// a */ b\nuint8 A; // */ c */", "A: a */ b|/ c */\n"),
@@ -132,7 +132,7 @@ fn comments_in_a_plan(rt: HostRuntime) -> Result<(), Fail> {
         same(
             &rt,
             message.doc.as_str(),
-            "`SenderData` (RFC 9420, section 6.3.2).\n\nWho sent it.\nIt is lent.",
+            "`SenderData` (RFC 9420, section 6.3.2).\n\nWho sent it.\nIt is borrowed.",
         );
         if let Body::Fields(members) = &message.body {
             for member in members {

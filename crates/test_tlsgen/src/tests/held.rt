@@ -38,10 +38,10 @@ static HELD: [(&str, &str); 9] = [
         "enum { X(0), Raw(2), (255) } KeyType; struct { select (key_type) { case X: opaque c<V>; case Raw: opaque k<V>; }; uint8 z; } Entry; struct { KeyType key_type; Entry list<0..255>; } All;",
         "key_type.KeyType values of 1: X 0 Raw 2\nkey_type_data.KeyTypeData for key_type KeyType sum by 1:\n  X X 0: c opaque<V>,\n  Raw RAW 2: k opaque<V>,\nentry.Entry for key_type KeyType: key_type KeyTypeData*, z u1,\nall.All: key_type KeyType, list Entry<1: 0..255>*key_type.KeyType,\n",
     ),
-    // lent structs
+    // borrowed structs
     (
-        "enum { a(1), b(2) } T; struct { T t; } H; lent struct { H h; select (L.h.t) { case a: uint8 y; case b: struct {}; }; } L; struct { uint8 x; select (H.t) { case a: uint8 z; case b: struct {}; } } R; lent struct { L l; R r; } M;",
-        "t.T values of 1: A 1 B 2\nh.H: t T,\nlent l.L: h H, y u1 for 1*h.T,\nr.R for t T: x u1, z u1 for 1*,\nlent m.M: l L, r R*l.T,\nH holds T: t\nL holds T: h\n",
+        "enum { a(1), b(2) } T; struct { T t; } H; borrowed struct { H h; select (L.h.t) { case a: uint8 y; case b: struct {}; }; } L; struct { uint8 x; select (H.t) { case a: uint8 z; case b: struct {}; } } R; borrowed struct { L l; R r; } M;",
+        "t.T values of 1: A 1 B 2\nh.H: t T,\nborrowed l.L: h H, y u1 for 1*h.T,\nr.R for t T: x u1, z u1 for 1*,\nborrowed m.M: l L, r R*l.T,\nH holds T: t\nL holds T: h\n",
     ),
     // a number
     (

@@ -1,8 +1,8 @@
-// Where two sources differ in more than layout, and how the fields of a lent struct are written in a row.
+// Where two sources differ in more than layout, and how the fields of a borrowed struct are written in a row.
 use super::same_at;
 use std::test::Fail;
+use tlsgen_model::borrowed::runs_of;
 use tlsgen_model::layout::first_difference;
-use tlsgen_model::lent::runs_of;
 
 #[test]
 fn lines_that_differ(rt: HostRuntime) -> Result<(), Fail> {
@@ -23,15 +23,15 @@ fn lines_that_differ(rt: HostRuntime) -> Result<(), Fail> {
 
 #[test]
 fn runs_of_fields(rt: HostRuntime) -> Result<(), Fail> {
-    for (are_lent, wanted) in [
+    for (are_borrowed, wanted) in [
         ([].as_slice(), [].as_slice()),
         (&[false, false], &[2]),
         (&[true, true], &[1, 1]),
         (&[false, true, false, false], &[1, 1, 2]),
         (&[false; 10], &[9, 1]),
     ] {
-        let found = runs_of(rt.alloc(), are_lent)?;
-        same_at(&rt, are_lent, found.as_slice(), wanted);
+        let found = runs_of(rt.alloc(), are_borrowed)?;
+        same_at(&rt, are_borrowed, found.as_slice(), wanted);
     }
     Ok(())
 }

@@ -85,8 +85,8 @@ static NOTED: [(&str, &str, &str); 14] = [
     // a struct that is only written
     (
         "struct { uint8 a; opaque b<V>; } S;",
-        "S is lent;",
-        "lent s.S: a u1, b opaque<V>,\n",
+        "S is borrowed;",
+        "borrowed s.S: a u1, b opaque<V>,\n",
     ),
     // no notes
     ("struct {} A;", " // none", "a.A:\n"),
@@ -247,7 +247,7 @@ static REFUSED: [(&str, &str, usize, &str, &str); 35] = [
     ("enum { b(1) } A;", "A.b = 1;", 1, "A", "an integer type"),
     (
         "enum { a(1) } A;",
-        "A is lent;",
+        "A is borrowed;",
         1,
         "A",
         "a struct of this text",
@@ -257,7 +257,7 @@ static REFUSED: [(&str, &str, usize, &str, &str); 35] = [
         "A is round;",
         6,
         "round",
-        "open, closed or lent",
+        "open, closed or borrowed",
     ),
     ("struct {} A;", "A is open;", 1, "A", "an enum"),
     ("struct {} A;", "B left out;", 1, "B", "a definition"),

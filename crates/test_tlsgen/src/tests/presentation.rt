@@ -65,11 +65,11 @@ fn what_is_printed_says_the_same(rt: HostRuntime) -> Result<(), Fail> {
 #[test]
 fn one_layout(rt: HostRuntime) -> Result<(), Fail> {
     let text =
-        "enum{a(0x10),2^9(3),r(17..0x1f),(2^8-1)}A;open enum { b.1 ( 1 ) } B.2 ; lent struct{}E;opaque K<V>;optional<K>C[2];K D[A.b.c];// the end
+        "enum{a(0x10),2^9(3),r(17..0x1f),(2^8-1)}A;open enum { b.1 ( 1 ) } B.2 ; borrowed struct{}E;opaque K<V>;optional<K>C[2];K D[A.b.c];// the end
 struct{A a=b;uint8 n=0x0a;C b={1,2};optional<C>c<0..2^16-1>;select(S.a.b){case a:case 7:uint8 x;K k[2];case y:K;case z:struct{};}select(S.a){}N;}S;digitally-signed struct{A a;}F;struct{digitally-signed struct{A a;select(a){case b:K;}s;}k;digitally-signed struct{};}G;struct{enum{a(1)}k;open enum{2(1),(255)}l<V>;struct{opaque a[2];select(k){case a:K;}}i[2];struct{}j;}H;";
     let want = "enum { a(16), 512(3), r(17..31), (255) } A;
 open enum { b.1(1) } B.2;
-lent struct {
+borrowed struct {
 } E;
 opaque K<V>;
 optional<K> C[2];

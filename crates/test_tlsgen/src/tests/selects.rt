@@ -84,14 +84,14 @@ static GOOD: [(&str, &str); 22] = [
         "open enum { a(1), b(2), (65535) } E; struct { E e = b; E f = a; } S; struct { E e = b; E f; } T;",
         "e.E open values of 2: A 1 B 2\neb.EB values of 2: B 2\nea.EA values of 2: A 1\ns.S: e EB, f EA,\nt.T: e EB, f E,\n",
     ),
-    // lent structs, each with its own enum
+    // borrowed structs, each with its own enum
     (
-        "enum { a(1), b(2) } T; lent struct { uint8 x; T t; select (L.t) { case a: uint8 y; case b: struct{}; } } L;",
-        "lent t_data.TData by 1:\n  A A 1: y u1,\n  B B 2:\nlent l.L: x u1, t TData,\n",
+        "enum { a(1), b(2) } T; borrowed struct { uint8 x; T t; select (L.t) { case a: uint8 y; case b: struct{}; } } L;",
+        "borrowed t_data.TData by 1:\n  A A 1: y u1,\n  B B 2:\nborrowed l.L: x u1, t TData,\n",
     ),
     (
-        "lent struct { uint8 x; } L; lent struct { L l; } M;",
-        "lent l.L: x u1,\nlent m.M: l L,\n",
+        "borrowed struct { uint8 x; } L; borrowed struct { L l; } M;",
+        "borrowed l.L: x u1,\nborrowed m.M: l L,\n",
     ),
     // bounds, after a length of as many bytes as the ceiling takes
     (

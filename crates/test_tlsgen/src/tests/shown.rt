@@ -19,8 +19,8 @@ pub fn show(alloc: Global, plan: &Plan) -> Result<String, AllocError> {
     for message in &plan.messages {
         let name = message.name.as_str();
         let module = message.module.as_str();
-        let lent = if message.is_lent { "lent " } else { "" };
-        write!(&mut out, "{lent}{module}.{name}")?;
+        let borrowed = if message.is_borrowed { "borrowed " } else { "" };
+        write!(&mut out, "{borrowed}{module}.{name}")?;
         if let Some(context) = &message.context {
             show_context(&mut out, context)?;
         }

@@ -50,10 +50,10 @@ static PLANNED: [(&str, &str); 5] = [
         "struct { digitally-signed struct {}; } Claim; opaque DigitallySigned<V>;",
         "type DigitallySigned = opaque<V>\nclaim_tbs.ClaimTBS:\nclaim.Claim: signature =DigitallySigned,\n",
     ),
-    // a lent struct has a reference to its signature
+    // a borrowed struct has a reference to its signature
     (
-        "opaque DigitallySigned<V>; lent struct { uint8 a; digitally-signed struct { uint16 b; }; } Claim;",
-        "type DigitallySigned = opaque<V>\nclaim_tbs.ClaimTBS: b u2,\nlent claim.Claim: a u1, signature =DigitallySigned,\n",
+        "opaque DigitallySigned<V>; borrowed struct { uint8 a; digitally-signed struct { uint16 b; }; } Claim;",
+        "type DigitallySigned = opaque<V>\nclaim_tbs.ClaimTBS: b u2,\nborrowed claim.Claim: a u1, signature =DigitallySigned,\n",
     ),
     // what is signed is in the context of a tag that is sent
     (

@@ -107,7 +107,7 @@ static BUILT_IN: [&str; 9] = [
 // Words of the language that are no names.
 static MARKS: [&str; 6] = [
     "case",
-    "lent",
+    "borrowed",
     "open",
     "optional",
     "select",

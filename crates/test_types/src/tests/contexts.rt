@@ -9,9 +9,9 @@ use std::process::Abort;
 use std::test::Fail;
 use tls_codec::context::{append_enclosed, read_enclosed, split_enclosed, write_enclosed};
 use tls_codec::{
-    Always, Condition, Deserialize, DeserializeBytes, DeserializeBytesFor, DeserializeFor, Error,
-    Lent, LentThen, LentThen2, LentWhen, Serialize, SerializeFor, Size, SizeFor, Then, When, laws,
-    lists,
+    Always, ByRef, ByRefThen, ByRefThen2, ByRefWhen, Condition, Deserialize, DeserializeBytes,
+    DeserializeBytesFor, DeserializeFor, Error, Serialize, SerializeFor, Size, SizeFor, Then, When,
+    laws, lists,
 };
 
 const MISFIT: Error = Error::EncodingError("value does not fit its context");
@@ -31,8 +31,8 @@ impl Condition<u8> for IsOne {
 type Short = When<IsOne, u16>;
 
 // A payload, or none, as it is written.
-fn lent(value: &Option<u16>) -> LentWhen<'_, IsOne, u16> {
-    LentWhen {
+fn borrowed(value: &Option<u16>) -> ByRefWhen<'_, IsOne, u16> {
+    ByRefWhen {
         value,
         condition: PhantomData,
     }
@@ -61,18 +61,18 @@ fn a_first_part_decides_the_rest(rt: HostRuntime) -> Result<(), Fail> {
     is_written(
         &rt,
         alloc,
-        &LentThen {
+        &ByRefThen {
             first: &1u8,
-            rest: lent(&Some(7)),
+            rest: borrowed(&Some(7)),
         },
         &[1, 0, 7],
     )?;
     is_written(
         &rt,
         alloc,
-        &LentThen {
+        &ByRefThen {
             first: &2u8,
-            rest: lent(&None),
+            rest: borrowed(&None),
         },
         &[2],
     )?;
@@ -87,14 +87,14 @@ fn a_first_part_decides_the_rest(rt: HostRuntime) -> Result<(), Fail> {
 fn misfits_are_not_written(rt: HostRuntime) -> Result<(), Fail> {
     let alloc = rt.alloc();
     let mut out = [0xeeu8].to_vec(alloc)?;
-    let missing = LentThen {
+    let missing = ByRefThen {
         first: &1u8,
-        rest: lent(&None),
+        rest: borrowed(&None),
     };
     same(&rt, missing.tls_serialize_into(&mut out), Err(MISFIT));
-    let too_much = LentThen {
+    let too_much = ByRefThen {
         first: &2u8,
-        rest: lent(&Some(7)),
+        rest: borrowed(&Some(7)),
     };
     same(&rt, too_much.tls_serialize_into(&mut out), Err(MISFIT));
     same(&rt, out.as_slice(), [0xeeu8].as_slice());
@@ -111,7 +111,7 @@ fn whether_a_payload_fits_is_told_beforehand(rt: HostRuntime) {
     let none = None;
     same(
         &rt,
-        (lent(&none).fits(&1u8), lent(&none).fits(&2u8)),
+        (borrowed(&none).fits(&1u8), borrowed(&none).fits(&2u8)),
         (false, true),
     );
 }
@@ -122,14 +122,14 @@ fn parts_are_in_one_context(rt: HostRuntime) -> Result<(), Fail> {
     let pair = <Then<u8, (Always<u8>, Short)>>::tls_deserialize_exact_bytes(alloc, &[1, 9, 0, 7])?;
     same(&rt, (pair.rest.0.0, pair.rest.1.value), (9, Some(7)));
     let payload = Some(7);
-    let lent_pair = LentThen2 {
+    let borrowed_pair = ByRefThen2 {
         first: &1u8,
-        second: Lent(&9u8),
-        third: lent(&payload),
+        second: ByRef(&9u8),
+        third: borrowed(&payload),
     };
-    same(&rt, lent_pair.tls_serialized_len(), 4);
+    same(&rt, borrowed_pair.tls_serialized_len(), 4);
     let mut out = Vec::new(alloc);
-    same(&rt, lent_pair.tls_serialize_into(&mut out), Ok(4));
+    same(&rt, borrowed_pair.tls_serialize_into(&mut out), Ok(4));
     same(&rt, out.as_slice(), [1, 9, 0, 7].as_slice());
     let bytes = [9, 0, 7, 8];
     let triple = <(Always<u8>, Short, Always<u8>)>::tls_deserialize_exact_bytes_for(
@@ -160,15 +160,15 @@ fn a_length_encloses_a_value(rt: HostRuntime) -> Result<(), Fail> {
     same(&rt, (value.value, source.len()), (Some(7), 1));
     let mut out = Vec::new(alloc);
     let payload = Some(7);
-    let value = lent(&payload);
+    let value = borrowed(&payload);
     same(
         &rt,
-        write_enclosed::<u8, u8, LentWhen<IsOne, u16>, Vec<u8>>(&1u8, &value, &mut out),
+        write_enclosed::<u8, u8, ByRefWhen<IsOne, u16>, Vec<u8>>(&1u8, &value, &mut out),
         Ok(3),
     );
     same(
         &rt,
-        append_enclosed::<u8, u16, LentWhen<IsOne, u16>>(&1u8, &value, &mut out),
+        append_enclosed::<u8, u16, ByRefWhen<IsOne, u16>>(&1u8, &value, &mut out),
         Ok(4),
     );
     same(&rt, out.as_slice(), [2u8, 0, 7, 0, 2, 0, 7].as_slice());
@@ -246,13 +246,13 @@ fn elements_are_read_in_a_context(rt: HostRuntime) -> Result<(), Fail> {
     Ok(())
 }
 
-type LentShort<'a> = LentWhen<'a, IsOne, u16>;
+type ByRefShort<'a> = ByRefWhen<'a, IsOne, u16>;
 
 // In the context 1 the elements are written as these bytes, and in another they are refused.
 fn are_written(
     rt: &impl Abort,
     alloc: Global,
-    elements: &[LentShort<'_>],
+    elements: &[ByRefShort<'_>],
     bytes: &[u8],
 ) -> Result<(), Fail> {
     same(rt, lists::content_len_for(&1u8, elements), Ok(bytes.len()));
@@ -278,7 +278,12 @@ fn are_written(
 #[test]
 fn elements_are_written_in_a_context(rt: HostRuntime) -> Result<(), Fail> {
     let (seven, six) = (Some(7), Some(6));
-    are_written(&rt, rt.alloc(), &[lent(&seven), lent(&six)], &[0, 7, 0, 6])
+    are_written(
+        &rt,
+        rt.alloc(),
+        &[borrowed(&seven), borrowed(&six)],
+        &[0, 7, 0, 6],
+    )
 }
 
 #[test]
@@ -304,7 +309,7 @@ fn lists_are_read_in_a_context(rt: HostRuntime) -> Result<(), Fail> {
 fn is_written_as_a_list(
     rt: &impl Abort,
     alloc: Global,
-    elements: &Vec<LentShort<'_>>,
+    elements: &Vec<ByRefShort<'_>>,
     bytes: &[u8],
 ) -> Result<(), Fail> {
     same(rt, elements.tls_serialized_len_for(&1u8), bytes.len());
@@ -330,7 +335,7 @@ fn lists_are_written_in_a_context(rt: HostRuntime) -> Result<(), Fail> {
     let alloc = rt.alloc();
     let seven = Some(7);
     let mut elements = Vec::new(alloc);
-    elements.push(lent(&seven))?;
+    elements.push(borrowed(&seven))?;
     is_written_as_a_list(&rt, alloc, &elements, &[2, 0, 7])
 }
 

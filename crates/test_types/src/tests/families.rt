@@ -114,8 +114,8 @@ fn lists_within_a_list(rt: HostRuntime) -> Result<(), Fail> {
     let names = [TlsByteSliceU8(b"h2"), TlsByteSliceU8(b"h3")];
     let form = [0, 6, 2, b'h', b'2', 2, b'h', b'3'];
     is_written(&rt, alloc, &TlsSliceU16(&names), &form)?;
-    let lent = [&names[0], &names[1]];
-    is_written(&rt, alloc, &TlsSliceU16(&lent), &form)?;
+    let borrowed = [&names[0], &names[1]];
+    is_written(&rt, alloc, &TlsSliceU16(&borrowed), &form)?;
     Ok(())
 }
 

@@ -1,4 +1,4 @@
-//! Lists that no bytes are read as, and parts that are lent.
+//! Lists that no bytes are read as, and parts that are borrowed.
 use super::NO_BYTES;
 use super::each_call::{filled, is_read_whole, is_refused, is_too_long_alone, is_written};
 use std::test::Fail;
@@ -16,7 +16,7 @@ fn lists_of_elements_without_bytes(rt: HostRuntime) -> Result<(), Fail> {
 }
 
 #[test]
-fn parts_that_are_lent(rt: HostRuntime) -> Result<(), Fail> {
+fn parts_that_are_borrowed(rt: HostRuntime) -> Result<(), Fail> {
     let alloc = rt.alloc();
     let numbers = [1u16, 2].to_vec(alloc)?;
     let bytes = [7, 4, 0, 1, 0, 2, 1, 2, 0xc3, 0xa9];

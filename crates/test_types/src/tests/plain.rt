@@ -1,9 +1,9 @@
-//! Numbers written in a row, values lent in a row, and the one value of `PhantomData`.
+//! Numbers written in a row, values borrowed in a row, and the one value of `PhantomData`.
 use super::each_call::{is_spelled, is_written, is_written_alone};
 use crate::tests::same;
 use std::marker::PhantomData;
 use std::test::Fail;
-use tls_codec::{Deserialize, DeserializeBytes, Lent2, Lent9, Serialize, U24};
+use tls_codec::{ByRef2, ByRef9, Deserialize, DeserializeBytes, Serialize, U24};
 
 #[test]
 fn numbers_in_a_row(rt: HostRuntime) -> Result<(), Fail> {
@@ -30,14 +30,14 @@ fn phantoms(rt: HostRuntime) -> Result<(), Fail> {
 }
 
 #[test]
-fn values_lent_in_a_row(rt: HostRuntime) -> Result<(), Fail> {
+fn values_borrowed_in_a_row(rt: HostRuntime) -> Result<(), Fail> {
     let alloc = rt.alloc();
-    let pair = Lent2(&0x05u8, &Some(0x0102u16));
+    let pair = ByRef2(&0x05u8, &Some(0x0102u16));
     is_written(&rt, alloc, &pair, &[0x05, 0x01, 0x01, 0x02])?;
     let bytes = [1, 2, 3, 4, 5, 6, 7, 8, 9, 10, 1, 11, 12, 13, 14, 15, 16];
     let three = U24::try_from(0x04_0506)?;
     let (four, payload, last) = (0x0708_090au32, Some(11u8), (14u8, 15u8));
-    let nine = Lent9(
+    let nine = ByRef9(
         &1u8,
         &0x0203u16,
         &three,

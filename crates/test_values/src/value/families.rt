@@ -14,7 +14,7 @@ impl<N> Value for VarBytes<N> {
         push_bytes(alloc, out, self.as_slice())
     }
 
-    fn is_lent_alike(&self, alloc: Global, encoded: &Encoded) -> bool {
+    fn is_borrowed_alike(&self, alloc: Global, encoded: &Encoded) -> bool {
         let slice = VLByteSlice(self.as_slice());
         encoded.is_alone(alloc, self)
             && encoded.is_of(alloc, &self)
@@ -36,7 +36,7 @@ impl<F: Width> Value for TlsByteVec<F> {
         push_bytes(alloc, out, self.as_slice())
     }
 
-    fn is_lent_alike(&self, alloc: Global, encoded: &Encoded) -> bool {
+    fn is_borrowed_alike(&self, alloc: Global, encoded: &Encoded) -> bool {
         encoded.is_alone(alloc, self)
             && encoded.is_of(alloc, &self)
             && F::is_byte_slice_alike(alloc, self.as_slice(), encoded)
@@ -52,7 +52,7 @@ impl<F: Width, T: Value> Value for TlsVec<F, T> {
         push_list(alloc, out, self.as_slice())
     }
 
-    fn is_lent_alike(&self, alloc: Global, encoded: &Encoded) -> bool {
+    fn is_borrowed_alike(&self, alloc: Global, encoded: &Encoded) -> bool {
         encoded.is_of(alloc, &self) && F::is_slice_alike(alloc, self.as_slice(), encoded)
     }
 
@@ -66,7 +66,7 @@ impl<F: LengthField, T: Value + Zeroize> Value for SecretTlsVec<F, T> {
         push_list(alloc, out, self.as_slice())
     }
 
-    fn is_lent_alike(&self, alloc: Global, encoded: &Encoded) -> bool {
+    fn is_borrowed_alike(&self, alloc: Global, encoded: &Encoded) -> bool {
         encoded.is_of(alloc, &self)
     }
 

@@ -9,7 +9,7 @@ impl Value for u8 {
         write!(out, "{self}")
     }
 
-    fn is_lent_alike(&self, alloc: Global, encoded: &Encoded) -> bool {
+    fn is_borrowed_alike(&self, alloc: Global, encoded: &Encoded) -> bool {
         encoded.is_alone(alloc, self)
             && encoded.is_of(alloc, &self)
             && encoded.is_alone(alloc, &self)
@@ -21,7 +21,7 @@ impl Value for u16 {
         write!(out, "{self}")
     }
 
-    fn is_lent_alike(&self, alloc: Global, encoded: &Encoded) -> bool {
+    fn is_borrowed_alike(&self, alloc: Global, encoded: &Encoded) -> bool {
         encoded.is_alone(alloc, self)
             && encoded.is_of(alloc, &self)
             && encoded.is_alone(alloc, &self)
@@ -33,7 +33,7 @@ impl Value for U24 {
         write!(out, "{}", usize::from(*self))
     }
 
-    fn is_lent_alike(&self, alloc: Global, encoded: &Encoded) -> bool {
+    fn is_borrowed_alike(&self, alloc: Global, encoded: &Encoded) -> bool {
         encoded.is_alone(alloc, self)
             && encoded.is_of(alloc, &self)
             && encoded.is_alone(alloc, &self)
@@ -45,7 +45,7 @@ impl Value for u32 {
         write!(out, "{self}")
     }
 
-    fn is_lent_alike(&self, alloc: Global, encoded: &Encoded) -> bool {
+    fn is_borrowed_alike(&self, alloc: Global, encoded: &Encoded) -> bool {
         encoded.is_alone(alloc, self)
             && encoded.is_of(alloc, &self)
             && encoded.is_alone(alloc, &self)
@@ -57,7 +57,7 @@ impl Value for u64 {
         write!(out, "{self}")
     }
 
-    fn is_lent_alike(&self, alloc: Global, encoded: &Encoded) -> bool {
+    fn is_borrowed_alike(&self, alloc: Global, encoded: &Encoded) -> bool {
         encoded.is_alone(alloc, self)
             && encoded.is_of(alloc, &self)
             && encoded.is_alone(alloc, &self)
@@ -69,7 +69,7 @@ impl Value for TlsVarInt {
         write!(out, "{}", self.value())
     }
 
-    fn is_lent_alike(&self, alloc: Global, encoded: &Encoded) -> bool {
+    fn is_borrowed_alike(&self, alloc: Global, encoded: &Encoded) -> bool {
         encoded.is_alone(alloc, self)
     }
 }

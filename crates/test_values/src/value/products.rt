@@ -11,7 +11,7 @@ impl<const LEN: usize> Value for [u8; LEN] {
         push_bytes(alloc, out, self)
     }
 
-    fn is_lent_alike(&self, alloc: Global, encoded: &Encoded) -> bool {
+    fn is_borrowed_alike(&self, alloc: Global, encoded: &Encoded) -> bool {
         encoded.is_alone(alloc, self)
     }
 }
@@ -27,7 +27,7 @@ impl<T: Value + SerializeBytes> Value for Option<T> {
         }
     }
 
-    fn is_lent_alike(&self, alloc: Global, encoded: &Encoded) -> bool {
+    fn is_borrowed_alike(&self, alloc: Global, encoded: &Encoded) -> bool {
         encoded.is_alone(alloc, self)
             && encoded.is_of(alloc, &self)
             && encoded.is_alone(alloc, &self)
@@ -40,7 +40,7 @@ impl<T: Value + SerializeBytes> Value for Box<T> {
         (**self).show(alloc, out)
     }
 
-    fn is_lent_alike(&self, alloc: Global, encoded: &Encoded) -> bool {
+    fn is_borrowed_alike(&self, alloc: Global, encoded: &Encoded) -> bool {
         encoded.is_alone(alloc, self)
     }
 }

@@ -1,11 +1,11 @@
-//! [`Always`] and [`Lent`]: parts that no context decides. [`LentIn`]: a lent part that a context does decide.
+//! [`Always`] and [`ByRef`]: parts that no context decides. [`ByRefIn`]: a borrowed part that a context does decide.
+use crate::by_ref::ByRef;
 use crate::context::traits::{DeserializeBytesFor, DeserializeFor, SerializeFor, SizeFor};
-use crate::lent::Lent;
 use crate::traits::{Deserialize, DeserializeBytes, Serialize, Size};
 use std::alloc::Global;
 use tls_codec_wire::{Error, Sink, Source};
 
-/// A value that no context decides. It is read as it is everywhere, and written as a [`Lent`].
+/// A value that no context decides. It is read as it is everywhere, and written as a [`ByRef`].
 #[derive(Drop)]
 pub struct Always<T>(pub T);
 
@@ -47,7 +47,7 @@ impl<C: Size, T: DeserializeBytes> DeserializeBytesFor<C> for Always<T> {
     }
 }
 
-impl<'a, C: Size, T: Size> SizeFor<C> for Lent<'a, T> {
+impl<'a, C: Size, T: Size> SizeFor<C> for ByRef<'a, T> {
     ghost plain = { λ v. T.plain v.0.now };
 
     ghost format_for = { λ c. T.format };
@@ -59,7 +59,7 @@ impl<'a, C: Size, T: Size> SizeFor<C> for Lent<'a, T> {
     ghost lawful = { λ c. T.lawful };
 }
 
-impl<'a, C: Size, T: Serialize> SerializeFor<C> for Lent<'a, T> {
+impl<'a, C: Size, T: Serialize> SerializeFor<C> for ByRef<'a, T> {
     fn tls_serialize_for<W: Sink>(&self, _context: &C, writer: &mut W) -> Result<usize, Error> {
         self.0.tls_serialize(writer)
     }
@@ -69,11 +69,11 @@ impl<'a, C: Size, T: Serialize> SerializeFor<C> for Lent<'a, T> {
     }
 }
 
-/// A lent value. It is written in a context as the value itself is there.
+/// A borrowed value. It is written in a context as the value itself is there.
 #[derive(Drop)]
-pub struct LentIn<'a, T>(pub &'a T);
+pub struct ByRefIn<'a, T>(pub &'a T);
 
-impl<'a, C: Size, T: SizeFor<C>> SizeFor<C> for LentIn<'a, T> {
+impl<'a, C: Size, T: SizeFor<C>> SizeFor<C> for ByRefIn<'a, T> {
     ghost plain = { λ v. T.plain v.0.now };
 
     ghost format_for = { T.format_for };
@@ -85,7 +85,7 @@ impl<'a, C: Size, T: SizeFor<C>> SizeFor<C> for LentIn<'a, T> {
     ghost lawful = { T.lawful };
 }
 
-impl<'a, C: Size, T: SerializeFor<C>> SerializeFor<C> for LentIn<'a, T> {
+impl<'a, C: Size, T: SerializeFor<C>> SerializeFor<C> for ByRefIn<'a, T> {
     fn tls_serialize_for<W: Sink>(&self, context: &C, writer: &mut W) -> Result<usize, Error> {
         self.0.tls_serialize_for(context, writer)
     }

@@ -12,7 +12,7 @@ use tls_codec_wire::{Error, Source};
 /// A first part, and the rest, which is read in the first part's context.
 ///
 /// A message with a part that an earlier one decides is read as this pair and taken apart. It is written as
-/// [`LentThen`](crate::LentThen) or [`LentThen2`](crate::LentThen2).
+/// [`ByRefThen`](crate::ByRefThen) or [`ByRefThen2`](crate::ByRefThen2).
 #[derive(Drop)]
 pub struct Then<T, U> {
     /// The first part.

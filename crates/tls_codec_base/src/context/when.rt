@@ -105,18 +105,18 @@ impl<C: Size, K: Condition<C>, T: DeserializeBytes> DeserializeBytesFor<C> for W
     }
 }
 
-/// The same of a payload that is lent, as which a message is written.
+/// The same of a payload that is borrowed, as which a message is written.
 ///
 /// `EncodingError("value does not fit its context")`: the payload is missing, or is there and should not be.
 #[derive(Drop)]
-pub struct LentWhen<'a, K, T> {
+pub struct ByRefWhen<'a, K, T> {
     /// The payload.
     pub value: &'a Option<T>,
     /// The condition.
     pub condition: PhantomData<K>,
 }
 
-impl<'a, K, T: Size> LentWhen<'a, K, T> {
+impl<'a, K, T: Size> ByRefWhen<'a, K, T> {
     /// Whether the payload is there just if the context asks for it: the test of a message before it is sent. A value
     /// that doesn't fit has no encoding in this context.
     pub fn fits<C: Size>(&self, context: &C) -> bool
@@ -136,7 +136,7 @@ impl<'a, K, T: Size> LentWhen<'a, K, T> {
     }
 }
 
-impl<'a, C: Size, K: Condition<C>, T: Size> SizeFor<C> for LentWhen<'a, K, T> {
+impl<'a, C: Size, K: Condition<C>, T: Size> SizeFor<C> for ByRefWhen<'a, K, T> {
     ghost plain = { λ v. option_plain T.plain v.value.now };
 
     ghost format_for = { λ c. present_format (K.holds c) T.format };
@@ -148,7 +148,7 @@ impl<'a, C: Size, K: Condition<C>, T: Size> SizeFor<C> for LentWhen<'a, K, T> {
     ghost lawful = { λ c. present_meets (K.holds c) T.lawful };
 }
 
-impl<'a, C: Size, K: Condition<C>, T: Serialize> SerializeFor<C> for LentWhen<'a, K, T> {
+impl<'a, C: Size, K: Condition<C>, T: Serialize> SerializeFor<C> for ByRefWhen<'a, K, T> {
     fn tls_serialize_for<W: Sink>(&self, context: &C, writer: &mut W) -> Result<usize, Error> {
         let there = K::test(context);
         write_present(there, self.value, writer)

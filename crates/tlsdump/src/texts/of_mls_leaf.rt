@@ -203,9 +203,9 @@ ProposalType.reinit = 5;
 ProposalType.external_init = 6;
 ProposalType.group_context_extensions = 7;
 // What is signed or hashed, and only written: it borrows its parts.
-SignContent is lent;
-EncryptContext is lent;
-LeafNodeTBS is lent;
-ParentHashInput is lent;
-KeyPackageTBS is lent;
+SignContent is borrowed;
+EncryptContext is borrowed;
+LeafNodeTBS is borrowed;
+ParentHashInput is borrowed;
+KeyPackageTBS is borrowed;
 ";

@@ -1,5 +1,5 @@
-//! A tag and what comes after each: an enum, which is written as its tag and the variant's lent groups, and read as
-//! the tag and then the tuple of the variant's fields. A lent one is only written.
+//! A tag and what comes after each: an enum, which is written as its tag and the variant's borrowed groups, and read as
+//! the tag and then the tuple of the variant's fields. A borrowed one is only written.
 
 use super::Templates;
 use super::contents::CONTENTS;
@@ -23,7 +23,7 @@ const GHOST_USES: &str =
 ghost use Rattle.$crate$.specs.declared.$module$.$name$.{$name$};
 $view_use$";
 
-/// What the decoders of one that isn't lent take of the codec.
+/// What the decoders of one that isn't borrowed take of the codec.
 pub static NAMES_USE: &str =
     "ghost use Rattle.tls_codec.specs.OwnMessages.{no_variant_names, no_variant_source_names, $nothing$tagged_names, tagged_source_names, variant_names, variant_source_names};
 ghost use Rattle.tls_codec_validate.specs.TaggedPlaces.{no_variant_places, $nothing_placed$tagged_places, variant_places};
@@ -52,10 +52,10 @@ static TEXTS: [Lines; 20] = [
     Lines {
         hole: "counts",
         before: "        match $matched$ {\n",
-        each: "            $name$::$variant$ { $fields$ } => ($constant$, $lent$).tls_serialized_len(),\n",
+        each: "            $name$::$variant$ { $fields$ } => ($constant$, $borrowed$).tls_serialized_len(),\n",
         bare: Some("            $name$::$variant$ => $width$,\n"),
         one: Some(
-            "            $name$::$variant$($fields$) => ($constant$, $lent$).tls_serialized_len(),\n",
+            "            $name$::$variant$($fields$) => ($constant$, $borrowed$).tls_serialized_len(),\n",
         ),
         behind: "        }\n",
         alone: Some("        $width$\n"),
@@ -63,10 +63,10 @@ static TEXTS: [Lines; 20] = [
     Lines {
         hole: "writes",
         before: "        match $matched$ {\n",
-        each: "            $name$::$variant$ { $fields$ } => ($constant$, $lent$).tls_serialize(writer),\n",
+        each: "            $name$::$variant$ { $fields$ } => ($constant$, $borrowed$).tls_serialize(writer),\n",
         bare: Some("            $name$::$variant$ => $constant$.tls_serialize(writer),\n"),
         one: Some(
-            "            $name$::$variant$($fields$) => ($constant$, $lent$).tls_serialize(writer),\n",
+            "            $name$::$variant$($fields$) => ($constant$, $borrowed$).tls_serialize(writer),\n",
         ),
         behind: "        }\n",
         alone: Some("        $constant$.tls_serialize(writer)\n"),
@@ -74,10 +74,10 @@ static TEXTS: [Lines; 20] = [
     Lines {
         hole: "appends",
         before: "        match $matched$ {\n",
-        each: "            $name$::$variant$ { $fields$ } => ($constant$, $lent$).tls_serialize_into(out),\n",
+        each: "            $name$::$variant$ { $fields$ } => ($constant$, $borrowed$).tls_serialize_into(out),\n",
         bare: Some("            $name$::$variant$ => $constant$.tls_serialize_into(out),\n"),
         one: Some(
-            "            $name$::$variant$($fields$) => ($constant$, $lent$).tls_serialize_into(out),\n",
+            "            $name$::$variant$($fields$) => ($constant$, $borrowed$).tls_serialize_into(out),\n",
         ),
         behind: "        }\n",
         alone: Some("        $constant$.tls_serialize_into(out)\n"),
@@ -269,7 +269,7 @@ pub const DEFINED: Lines = Lines {
     alone: None,
 };
 
-const CODE: &str = "$constants$$doc$$lent_doc$#[derive($derives$)]
+const CODE: &str = "$constants$$doc$$borrowed_doc$#[derive($derives$)]
 pub enum $name$$lifetime$ {
 $variants$}
 

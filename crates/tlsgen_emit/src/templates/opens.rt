@@ -62,7 +62,7 @@ static TEXTS: [Lines; 4] = [
 ];
 
 const CODE: &str =
-    "$doc$$lent_doc$#[derive(PartialEq, Eq, PartialOrd, Ord, Hash, Debug, Clone, Copy)]
+    "$doc$$borrowed_doc$#[derive(PartialEq, Eq, PartialOrd, Ord, Hash, Debug, Clone, Copy)]
 pub struct $name$(pub u$bits$);
 
 impl $name$ {

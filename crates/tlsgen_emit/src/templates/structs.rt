@@ -1,4 +1,4 @@
-//! A struct: it is written as the tuple of its lent groups, and read as the tuple of its fields. A lent one is only
+//! A struct: it is written as the tuple of its borrowed groups, and read as the tuple of its fields. A borrowed one is only
 //! written.
 
 use super::Templates;
@@ -50,10 +50,10 @@ pub static ALONE: [(&str, &str); 3] = [
     ("read_path", "$path$"),
 ];
 
-/// One that is lent is only written.
+/// One that is borrowed is only written.
 pub static LENT: [(&str, &str); 3] = [("read_parts", ""), ("read", ""), ("read_path", "")];
 
-const CODE: &str = "$doc$$lent_doc$#[derive($derives$)]
+const CODE: &str = "$doc$$borrowed_doc$#[derive($derives$)]
 pub struct $name$$lifetime$ {
 $declared$}
 
@@ -63,7 +63,7 @@ $read_parts$impl Size for $name$$any$ {
     ghost format = { $module$_format };
 
     fn tls_serialized_len(&self) -> usize {
-        $lent$.tls_serialized_len()
+        $borrowed$.tls_serialized_len()
     }
 
     ghost lawful = { $module$_meets };
@@ -71,11 +71,11 @@ $read_parts$impl Size for $name$$any$ {
 
 impl Serialize for $name$$any$ {
     fn tls_serialize<W: Sink>(&self, writer: &mut W) -> Result<usize, Error> {
-        $lent$.tls_serialize(writer)
+        $borrowed$.tls_serialize(writer)
     }
 
     fn tls_serialize_into(&self, out: &mut Vec<u8>) -> Result<usize, Error> {
-        append_as(self, &$lent$, out)
+        append_as(self, &$borrowed$, out)
     }
 }
 ";

@@ -17,15 +17,15 @@ pub fn templates() -> Templates {
 
 /// How up to three fields are written.
 pub static FEW: [(&str, &str); 2] = [
-    ("sends", "$lent$.tls_serialize_for($by$, writer)"),
-    ("adds", "$lent$.tls_serialize_into_for($by$, out)"),
+    ("sends", "$borrowed$.tls_serialize_for($by$, writer)"),
+    ("adds", "$borrowed$.tls_serialize_into_for($by$, out)"),
 ];
 
 /// How more are written: a tuple of tuples has several lifetimes, and the borrow checker covers no call with these whose
 /// signature names an error.
 pub static MANY: [(&str, &str); 2] = [
-    ("sends", "write_as_for(self, &$lent$, $by$, writer)"),
-    ("adds", "append_as_for(self, &$lent$, $by$, out)"),
+    ("sends", "write_as_for(self, &$borrowed$, $by$, writer)"),
+    ("adds", "append_as_for(self, &$borrowed$, $by$, out)"),
 ];
 
 const GHOST_USES: &str =
@@ -43,7 +43,7 @@ $read_parts$impl SizeFor<$key$> for $name$ {
     ghost format_for = { $module$_format_for };
 
     fn tls_serialized_len_for(&self, $by$: &$key$) -> usize {
-        $lent$.tls_serialized_len_for($by$)
+        $borrowed$.tls_serialized_len_for($by$)
     }
 
     ghost lawful = { $module$_meets_for };

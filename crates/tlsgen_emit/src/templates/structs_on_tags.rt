@@ -3,11 +3,11 @@
 
 use super::{Templates, structs};
 
-/// The holes of some of the fields: how they are read and lent, and their definitions.
+/// The holes of some of the fields: how they are read and borrowed, and their definitions.
 pub struct Part {
     pub types: &'static str,
-    pub lent_types: &'static str,
-    pub lent: &'static str,
+    pub borrowed_types: &'static str,
+    pub borrowed: &'static str,
     pub plain: &'static str,
     pub format: &'static str,
     pub law: &'static str,
@@ -34,8 +34,8 @@ pub fn templates() -> Templates {
 /// The fields before the one that decides others.
 pub static BEFORE: Part = Part {
     types: "before_types",
-    lent_types: "before_lent_types",
-    lent: "before_lent",
+    borrowed_types: "before_borrowed_types",
+    borrowed: "before_borrowed",
     plain: "before_plain",
     format: "before_format",
     law: "before_law",
@@ -47,8 +47,8 @@ pub static BEFORE: Part = Part {
 /// The field that decides others.
 pub static GIVER: Part = Part {
     types: "giver_type",
-    lent_types: "giver_lent_type",
-    lent: "giver_lent",
+    borrowed_types: "giver_borrowed_type",
+    borrowed: "giver_borrowed",
     plain: "giver_plain",
     format: "giver_format",
     law: "giver_law",
@@ -60,8 +60,8 @@ pub static GIVER: Part = Part {
 /// Those behind it.
 pub static BEHIND: Part = Part {
     types: "behind_types",
-    lent_types: "behind_lent_types",
-    lent: "behind_lent",
+    borrowed_types: "behind_borrowed_types",
+    borrowed: "behind_borrowed",
     plain: "behind_plain",
     format: "behind_format",
     law: "behind_law",
@@ -74,10 +74,10 @@ pub static BEHIND: Part = Part {
 pub static FIRST: [(&str, &str); 7] = [
     ("then_types", "Then<$giver_type$, $behind_types$>"),
     (
-        "then_lent_types",
-        "LentThen<'a, $giver_rust$, $behind_lent_types$>",
+        "then_borrowed_types",
+        "ByRefThen<'a, $giver_rust$, $behind_borrowed_types$>",
     ),
-    ("then_lent", "LentThen { first, rest }"),
+    ("then_borrowed", "ByRefThen { first, rest }"),
     (
         "then_lets",
         "        let Then { first: $giver$, rest } = parts;\n",
@@ -97,10 +97,13 @@ pub static LATER: [(&str, &str); 7] = [
         "($before_types$, Then<$giver_type$, $behind_types$>)",
     ),
     (
-        "then_lent_types",
-        "($before_lent_types$, LentThen<'a, $giver_rust$, $behind_lent_types$>)",
+        "then_borrowed_types",
+        "($before_borrowed_types$, ByRefThen<'a, $giver_rust$, $behind_borrowed_types$>)",
     ),
-    ("then_lent", "($before_lent$, LentThen { first, rest })"),
+    (
+        "then_borrowed",
+        "($before_borrowed$, ByRefThen { first, rest })",
+    ),
     (
         "then_lets",
         "        let (parts, rest) = parts;
@@ -124,22 +127,22 @@ $before_lets$        let Then { first: $giver$, rest } = rest;
 /// What one that owns its fields is read as.
 pub static OWNED: [(&str, &str); 1] = [("read_parts", "type Parts = $then_types$;\n\n")];
 
-/// One that is lent is only written.
+/// One that is borrowed is only written.
 pub static LENT: [(&str, &str); 1] = [("read_parts", "")];
 
-const CODE: &str = "$doc$$lent_doc$#[derive($derives$)]
+const CODE: &str = "$doc$$borrowed_doc$#[derive($derives$)]
 pub struct $name$$lifetime$ {
 $declared$}
 
-$read_parts$type LentParts<'a> = $then_lent_types$;
+$read_parts$type ByRefParts<'a> = $then_borrowed_types$;
 
 impl $name$$any$ {
-    fn parts(&self) -> LentParts<'_>
-        ensures { ⟦<LentParts<'static> as Size>⟧.plain result ≡ $module$_plain self.now }
+    fn parts(&self) -> ByRefParts<'_>
+        ensures { ⟦<ByRefParts<'static> as Size>⟧.plain result ≡ $module$_plain self.now }
     {
         let first = $giver_own$;
-        let rest = $behind_lent$;
-        $then_lent$
+        let rest = $behind_borrowed$;
+        $then_borrowed$
     }
 }
 

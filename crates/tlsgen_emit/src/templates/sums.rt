@@ -1,5 +1,5 @@
 //! What comes after each number of a tag, as a value of a generic sum: behind the tag and a length, or in the context of
-//! the tag. A value is lent as its case to be written, and made of the case that was read.
+//! the tag. A value is borrowed as its case to be written, and made of the case that was read.
 
 use super::contents::CONTENTS;
 use super::{Templates, choices};
@@ -39,10 +39,10 @@ pub static ENCLOSED: [(&str, &str); 7] = [
     ("after_tag", "Enclosed<$field$, $types$>"),
     ("case", "Case<$number$, Enclosed<$field$, $types$>>"),
     (
-        "lent_case",
-        "Case<$number$, Enclosed<$field$, $lent_types$>>",
+        "borrowed_case",
+        "Case<$number$, Enclosed<$field$, $borrowed_types$>>",
     ),
-    ("made", "Case(Enclosed($lent$, PhantomData))"),
+    ("made", "Case(Enclosed($borrowed$, PhantomData))"),
     ("taken", "case.0.0"),
     (
         "case_format",
@@ -58,8 +58,8 @@ pub static ENCLOSED: [(&str, &str); 7] = [
 pub static ALONE: [(&str, &str); 7] = [
     ("after_tag", "$types$"),
     ("case", "Case<$number$, $types$>"),
-    ("lent_case", "Case<$number$, $lent_types$>"),
-    ("made", "Case($lent$)"),
+    ("borrowed_case", "Case<$number$, $borrowed_types$>"),
+    ("made", "Case($borrowed$)"),
     ("taken", "case.0"),
     ("case_format", "variant $number$ $format$ no_variant"),
     ("case_law", "variant_meets $number$ $law$ no_variant_meets"),
@@ -68,7 +68,7 @@ pub static ALONE: [(&str, &str); 7] = [
 /// A sum behind its tag.
 pub static TAGGED: [(&str, &str); 4] = [
     ("of_all", "Tagged<u$bits$, $sum$>"),
-    ("lent_of_all", "Tagged<u$bits$, $lent_sum$>"),
+    ("borrowed_of_all", "Tagged<u$bits$, $borrowed_sum$>"),
     ("wrapped", "Tagged(cases, PhantomData)"),
     ("sized", "Size"),
 ];
@@ -76,23 +76,26 @@ pub static TAGGED: [(&str, &str); 4] = [
 /// A sum in the context of its tag.
 pub static CHOSEN: [(&str, &str); 4] = [
     ("of_all", "Chosen<$sum$>"),
-    ("lent_of_all", "Chosen<$lent_sum$>"),
+    ("borrowed_of_all", "Chosen<$borrowed_sum$>"),
     ("wrapped", "Chosen(cases)"),
     ("sized", "SizeFor<$key$>"),
 ];
 
-/// How a value of cases with fields is lent.
+/// How a value of cases with fields is borrowed.
 pub static LENT: [(&str, &str); 3] = [
-    ("lent_alias", "type LentCases<'a> = $lent_of_all$;\n\n"),
-    ("lent_any", "LentCases<'_>"),
-    ("lent_static", "LentCases<'static>"),
+    (
+        "borrowed_alias",
+        "type ByRefCases<'a> = $borrowed_of_all$;\n\n",
+    ),
+    ("borrowed_any", "ByRefCases<'_>"),
+    ("borrowed_static", "ByRefCases<'static>"),
 ];
 
-/// No case has fields: nothing is lent.
+/// No case has fields: nothing is borrowed.
 pub static NOT_LENT: [(&str, &str); 3] = [
-    ("lent_alias", ""),
-    ("lent_any", "Cases"),
-    ("lent_static", "Cases"),
+    ("borrowed_alias", ""),
+    ("borrowed_any", "Cases"),
+    ("borrowed_static", "Cases"),
 ];
 
 static TEXTS: [Lines; 10] = [
@@ -142,9 +145,9 @@ $variants$}
 
 type Cases = $of_all$;
 
-$lent_alias$impl $name$ {
-    fn cases(&self) -> $lent_any$
-        ensures { ⟦<$lent_static$ as $sized$>⟧.plain result ≡ $module$_plain self.now }
+$borrowed_alias$impl $name$ {
+    fn cases(&self) -> $borrowed_any$
+        ensures { ⟦<$borrowed_static$ as $sized$>⟧.plain result ≡ $module$_plain self.now }
     {
 $lends$        $wrapped$
     }

@@ -102,7 +102,7 @@ static TEXTS: [Lines; 9] = [
 ];
 
 const CODE: &str =
-    "$doc$$lent_doc$#[derive(PartialEq, Eq, PartialOrd, Ord, Hash, Debug, Clone, Copy)]
+    "$doc$$borrowed_doc$#[derive(PartialEq, Eq, PartialOrd, Ord, Hash, Debug, Clone, Copy)]
 pub enum $name$ {
 $variants$}
 

@@ -1,10 +1,10 @@
 //! `From` of a struct for one that lends fields of it.
 
-/// What is lent of a value.
+/// What is borrowed of a value.
 pub static FROM: &str = "
 /// What is signed of a `$whole$`.
 impl<'a> From<&'a $whole$> for $name$<'a> {
-    ghost from_gives = { λ whole lent.
+    ghost from_gives = { λ whole borrowed.
 $said$ };
 
     fn from(whole: &'a $whole$) -> $name$<'a> {
@@ -14,10 +14,10 @@ $said$ };
 ";
 
 /// That the first field is the value's.
-pub static CLAUSE: &str = "        (lent.$field$.now ≡ whole.now.$field$)";
+pub static CLAUSE: &str = "        (borrowed.$field$.now ≡ whole.now.$field$)";
 
 /// That one behind it is.
-pub static NEXT_CLAUSE: &str = "\n        × (lent.$field$.now ≡ whole.now.$field$)";
+pub static NEXT_CLAUSE: &str = "\n        × (borrowed.$field$.now ≡ whole.now.$field$)";
 
-/// A field as it is lent.
+/// A field as it is borrowed.
 pub static FIELD: &str = "$field$: &whole.$field$, ";

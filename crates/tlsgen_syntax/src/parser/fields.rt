@@ -77,7 +77,7 @@ pub(crate) fn alias(alloc: Global, tokens: &mut Tokens<'_>) -> Result<Field, Tro
         alloc,
         tokens,
         is_optional,
-        "enum, open, struct, lent, digitally-signed or the name of a type",
+        "enum, open, struct, borrowed, digitally-signed or the name of a type",
     )?;
     let name = tokens.name(alloc, "the new name of the type")?;
     let vector = vector(alloc, tokens)?;

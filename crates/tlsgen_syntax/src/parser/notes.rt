@@ -34,7 +34,7 @@ fn note(alloc: Global, tokens: &mut Tokens<'_>) -> Result<Note, Trouble>
 }
 
 // `"=" (NUMBER | NAME)`, `"counts" "rest"`, `"fills" "rest" ["with" "zeros"]`, `"ends" NAME`, `"called" NAME`,
-// `"is" ("open" | "closed" | "lent")` or `"left" "out"`
+// `"is" ("open" | "closed" | "borrowed")` or `"left" "out"`
 fn said(alloc: Global, tokens: &mut Tokens<'_>) -> Result<Said, Trouble>
     ensures read { Reads said_then tokens.old tokens.new result }
     ensures fewer { OnOk result (count_left tokens.new < count_left tokens.old) }
@@ -79,7 +79,7 @@ fn filling(alloc: Global, tokens: &mut Tokens<'_>) -> Result<Said, Trouble>
     Ok(Said::Pads)
 }
 
-// `"open" | "closed" | "lent"`
+// `"open" | "closed" | "borrowed"`
 fn kind(alloc: Global, tokens: &mut Tokens<'_>) -> Result<Said, Trouble>
     ensures read { IfOk result (λ said. word (codes "is") ∷ signs_left tokens.old ≡
         said_then said (signs_left tokens.new)) }
@@ -88,10 +88,10 @@ fn kind(alloc: Global, tokens: &mut Tokens<'_>) -> Result<Said, Trouble>
     if tokens.take_word("closed") {
         return Ok(Said::Closed);
     }
-    if tokens.take(Mark::Lent) {
-        return Ok(Said::Lent);
+    if tokens.take(Mark::ByRef) {
+        return Ok(Said::ByRef);
     }
-    tokens.expect(alloc, Mark::Open, "open, closed or lent")?;
+    tokens.expect(alloc, Mark::Open, "open, closed or borrowed")?;
     Ok(Said::Open)
 }
 

@@ -12,7 +12,7 @@ use crate::token::Mark;
 use crate::tokens::Tokens;
 use std::alloc::Global;
 
-/// `["lent" | "digitally-signed"] "struct" "{" { part | signature | type in place } "}" NAME ";"`
+/// `["borrowed" | "digitally-signed"] "struct" "{" { part | signature | type in place } "}" NAME ";"`
 pub(crate) fn structure(alloc: Global, tokens: &mut Tokens<'_>) -> Result<SourceStruct, Trouble>
     ensures read { Reads source_struct_then tokens.old tokens.new result }
     ensures fewer { OnOk result (count_left tokens.new < count_left tokens.old) }
@@ -26,13 +26,13 @@ pub(crate) fn structure(alloc: Global, tokens: &mut Tokens<'_>) -> Result<Source
     Ok(SourceStruct { kind, parts, name })
 }
 
-// `["lent" | "digitally-signed"]`
+// `["borrowed" | "digitally-signed"]`
 fn kind(tokens: &mut Tokens<'_>) -> StructKind
     ensures read { signs_left tokens.old ≡ kind_then result (signs_left tokens.new) }
     ensures fewer { count_left tokens.new ≤ count_left tokens.old }
 {
-    if tokens.take(Mark::Lent) {
-        return StructKind::Lent;
+    if tokens.take(Mark::ByRef) {
+        return StructKind::ByRef;
     }
     if tokens.take(Mark::DigitallySigned) {
         return StructKind::Signed;

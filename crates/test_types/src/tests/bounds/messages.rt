@@ -7,7 +7,7 @@ use super::{Methods, OUTSIDE, Suites};
 use crate::tests::each_call::{is_refused, is_spelled, is_too_long};
 use std::alloc::Global;
 use std::test::Fail;
-use tls_codec::{Deserialize, DeserializeBytes, Error, Lent, Serialize, Sink, Size, Source};
+use tls_codec::{ByRef, Deserialize, DeserializeBytes, Error, Serialize, Sink, Size, Source};
 
 // `CipherSuite cipher_suites<2..2^16-2>; opaque legacy_compression_methods<1..2^8-1>;`
 #[derive(PartialEq, Drop)]
@@ -24,7 +24,7 @@ impl Size for Offer {
         (fields_format (bounded_bytes_format 1 1 255) nothing_format) };
 
     fn tls_serialized_len(&self) -> usize {
-        (Lent(&self.suites), Lent(&self.methods)).tls_serialized_len()
+        (ByRef(&self.suites), ByRef(&self.methods)).tls_serialized_len()
     }
 
     ghost lawful = { fields_meets (bounded_list_meets 2 2 65534 (Prim.omega arith) u16_meets)
@@ -33,11 +33,11 @@ impl Size for Offer {
 
 impl Serialize for Offer {
     fn tls_serialize<W: Sink>(&self, writer: &mut W) -> Result<usize, Error> {
-        (Lent(&self.suites), Lent(&self.methods)).tls_serialize(writer)
+        (ByRef(&self.suites), ByRef(&self.methods)).tls_serialize(writer)
     }
 
     fn tls_serialize_into(&self, out: &mut Vec<u8>) -> Result<usize, Error> {
-        (Lent(&self.suites), Lent(&self.methods)).tls_serialize_into(out)
+        (ByRef(&self.suites), ByRef(&self.methods)).tls_serialize_into(out)
     }
 }
 

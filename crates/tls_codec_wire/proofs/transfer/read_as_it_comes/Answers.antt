@@ -4,7 +4,7 @@ use Rattle.tls_codec_wire.proofs.Filling.{take-put_mid_more, take-put_mid_same}
 use Rattle.std.proofs.lemmas.Result.{err_from_is_err_and}
 use Rattle.tls_codec_wire.proofs.Given.{gave_both}
 use Rattle.tls_codec_wire.proofs.Refused.{ended, fault_refuses, refused_now}
-use Rattle.tls_codec_wire.specs.Counts.{calm_stays}
+use Rattle.tls_codec_wire.specs.Counts.{only_interrupted_refl}
 use Rattle.tls_codec_wire.proofs.transfer.read_as_it_comes.Goals as goal
 
 pub returns-in-Ok-eq0-clause-gave : goal.returns-in-Ok-eq0-clause-gave
@@ -17,7 +17,7 @@ loop-at-preserved-in-Ok g c = record {
   row = search rules;
   gave = subst (λ (xs : List ℕ). g.R.Source.given c.args.src.now xs c.pull.new.self) (take-put_mid_more _ _ _ _ _ c.loop-at.invariant.within c.in-Ok.ensures.bound)
       (g.met.R.Source.gives_in_order _ _ _ _ _ c.loop-at.invariant.gave c.in-Ok.ensures.gave);
-  calm = search rules;
+  only_interrupted = search rules;
   counted = omega (arith, c.loop-at.invariant.counted, c.in-Ok.ensures.counted.1);
   tried = omega (arith, c.loop-at.invariant.tried, c.loop-at.invariant.row, c.in-Ok.ensures.counted.1);
   moved = λ all. refl;
@@ -36,7 +36,7 @@ loop-at-preserved g c =
       row = search rules;
       gave = subst (λ (xs : List ℕ). g.R.Source.given c.args.src.now xs c.pull.new.self) (take-put_mid_same _ _ _ _ c.loop-at.invariant.within)
           (g.met.R.Source.gives_in_order _ _ _ _ _ c.loop-at.invariant.gave c.in-Err.ensures.gave);
-      calm = search rules;
+      only_interrupted = search rules;
       counted = search rules;
       tried = search rules;
       moved = λ all. absurd (omega arith);
@@ -49,7 +49,7 @@ loop-at-init g c = record {
   within = omega arith;
   row = omega arith;
   gave = g.met.R.Source.gives_nothing _;
-  calm = calm_stays _;
+  only_interrupted = only_interrupted_refl _;
   counted = omega arith;
   tried = omega arith;
   moved = λ all. refl;
@@ -70,7 +70,7 @@ returns-in_err-row-in-Err-clause-refused g c =
     let before = c.loop-at.invariant in
     let p = err_from_is_err_and c.from_residual.result c.from_residual.ensures.1 in
     rw (p.1, p.2) (refused_now _ source.gives_nothing (source.gives_in_order _ _ _ _ _ before.gave c.pull.ensures.gave)
-    (λ rest. fault_refuses _ _ _ _ _ c.in-Err.fault _ _ _ refl before.counted before.calm c.in-Err.ensures.counted c.in_err-row-in-Err.ensures.err))
+    (λ rest. fault_refuses _ _ _ _ _ c.in-Err.fault _ _ _ refl before.counted before.only_interrupted c.in-Err.ensures.counted c.in_err-row-in-Err.ensures.err))
 
 pub returns-clause-tried : goal.returns-clause-tried
 returns-clause-tried g c =

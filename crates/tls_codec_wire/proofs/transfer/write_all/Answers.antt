@@ -1,7 +1,7 @@
 use Rattle.std.proofs.Common.{rules, arith, refl, subst, append-nil, ℕ, List, [], Option}
 use Rattle.std.proofs.KnownBytes.{Appends-trans}
 use Rattle.std.specs.Io.KnownBytes.{Appends}
-use Rattle.tls_codec_wire.specs.Counts.{calm_stays}
+use Rattle.tls_codec_wire.specs.Counts.{only_interrupted_refl}
 use Rattle.tls_codec_wire.proofs.Pieces.{received_more, appends_more}
 use Rattle.tls_codec_wire.proofs.transfer.write_all.Goals as goal
 
@@ -16,7 +16,7 @@ loop-at-preserved-in-Ok g c =
       within = search rules;
       row = search rules;
       took = appends_more _ _ _ c.loop-at.at c.in-Ok.n _ c.loop-at.invariant.took c.in-Ok.ensures.took;
-      calm = search rules;
+      only_interrupted = search rules;
       counted = omega (arith, c.loop-at.invariant.counted, counted.3);
       tried = omega (arith, c.loop-at.invariant.tried, c.loop-at.invariant.row, counted.3);
       moved = λ all. refl;
@@ -28,7 +28,7 @@ loop-at-init g c = record {
   within = omega arith;
   row = omega arith;
   took = search rules;
-  calm = calm_stays _;
+  only_interrupted = only_interrupted_refl _;
   counted = omega arith;
   tried = omega arith;
   moved = λ all. refl;
@@ -44,7 +44,7 @@ loop-at-preserved g c = record {
   within = c.loop-at.invariant.within;
   row = search rules;
   took = appends_none _ _ _ _ c.loop-at.invariant.took c.in-Err.ensures.took;
-  calm = search rules;
+  only_interrupted = search rules;
   counted = search rules;
   tried = search rules;
   moved = λ all. absurd (omega arith);

@@ -3,7 +3,7 @@ use Rattle.std.proofs.lemmas.Result.{err_from_is_err_and}
 use Rattle.tls_codec_wire.proofs.Given.{gave_then}
 use Rattle.tls_codec_wire.proofs.Refused.{refused_later, refused_now, refused_so}
 use Rattle.tls_codec_wire.proofs.VarintReads.{digits_read, no_first_byte, not_admitted, one_byte, spells_below, too_few_digits}
-use Rattle.tls_codec_wire.specs.Counts.{calm_falls_never, calm_goes_on}
+use Rattle.tls_codec_wire.specs.Counts.{only_interrupted_grows, only_interrupted_trans}
 use Rattle.tls_codec_wire.proofs.varint_bits.read_below.Goals as goal
 
 pub returns-in_err-read_few-clause-gave : goal.returns-in_err-read_few-clause-gave
@@ -56,15 +56,15 @@ returns-in_err-read_few-clause-refused g c =
     let p = err_from_is_err_and c.from_residual-in_err-read_few.result c.from_residual-in_err-read_few.ensures.1 in
     let first = c.read_exactly.new.into in
     let one : length first ≡ 1 = search rules in
-    let fell = calm_falls_never c.in_ok-read_exactly.ensures.calm in
+    let fell = only_interrupted_grows c.in_ok-read_exactly.ensures.only_interrupted in
     let held = subst (λ (u : List ℕ). g.R.Source.given c.args.src.now u c.read_exactly.new.src) (one_byte first one) c.in_ok-read_exactly.ensures.filled in
     rw (p.1, p.2) (refused_later (get_or first 0 0 ∷ []) source.gives_in_order held (too_few_digits _ c.said_by-more.ensures (length-take-le c.said_by-more.result.0 (0 ∷ 0 ∷ 0 ∷ 0 ∷ 0 ∷ 0 ∷ 0 ∷ []) (omega (arith, c.said_by-more.ensures.few))) _ _ _ _ fell) c.in_err-read_few.ensures.refused)
 
-pub returns-clause-calm : goal.returns-clause-calm
-returns-clause-calm g c = calm_goes_on c.in_ok-read_exactly.ensures.calm c.in_ok-read_few.ensures.calm
+pub returns-clause-only_interrupted : goal.returns-clause-only_interrupted
+returns-clause-only_interrupted g c = only_interrupted_trans c.in_ok-read_exactly.ensures.only_interrupted c.in_ok-read_few.ensures.only_interrupted
 
 pub returns-in_err-number-clause-ended : goal.returns-in_err-number-clause-ended
-returns-in_err-number-clause-ended g c ended = calm_goes_on c.in_ok-read_exactly.ensures.calm c.in_ok-read_few.ensures.calm
+returns-in_err-number-clause-ended g c ended = only_interrupted_trans c.in_ok-read_exactly.ensures.only_interrupted c.in_ok-read_few.ensures.only_interrupted
 
 pub returns-in_err-read_few-clause-ended : goal.returns-in_err-read_few-clause-ended
 returns-in_err-read_few-clause-ended g c ended =
@@ -72,4 +72,4 @@ returns-in_err-read_few-clause-ended g c ended =
     let result = p.1 in
     let same = p.2 in
     let was = c.in_err-read_few.was in
-    calm_goes_on c.in_ok-read_exactly.ensures.calm (c.read_few.ensures.ended cc)
+    only_interrupted_trans c.in_ok-read_exactly.ensures.only_interrupted (c.read_few.ensures.ended cc)

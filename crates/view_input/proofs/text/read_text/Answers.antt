@@ -1,6 +1,6 @@
 use Rattle.std.proofs.Common.{arith, ap, Ok, length-take}
 use Rattle.tls_codec.proofs.Given.{gave_both}
-use Rattle.tls_codec.specs.Devices.{calm_goes_on}
+use Rattle.tls_codec.specs.Devices.{only_interrupted_trans}
 use Rattle.view_input.proofs.Reading.{all_given, gave_no_more}
 use Rattle.view_input.proofs.text.read_text.Goals as goal
 
@@ -22,7 +22,7 @@ returns-then-count-eq0-clause-ok g c =
       at_end = at_end;
       whole = all_given _ _ _ (g.met.R.Source.gives_from_front _ _ _ held) at_end;
       size = omega arith;
-      calm = calm_goes_on c.loop-piece.invariant.calm c.in_ok-count.ensures.calm;
+      only_interrupted = only_interrupted_trans c.loop-piece.invariant.only_interrupted c.in_ok-count.ensures.only_interrupted;
     }
 
 pub returns-in_err-extend_from_slice-clause-gave :

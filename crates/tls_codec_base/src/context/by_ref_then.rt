@@ -1,4 +1,4 @@
-//! [`LentThen`] and [`LentThen2`]: what [`Then`](crate::Then) is written as.
+//! [`ByRefThen`] and [`ByRefThen2`]: what [`Then`](crate::Then) is written as.
 ghost use Rattle.tls_codec_grammar.specs.Tree.{Join};
 ghost use Rattle.tls_codec_base.specs.OwnMessages.{pair_format, pair_meets, pair_tree};
 ghost use Rattle.tls_codec_grammar.specs.Contexts.{then_format};
@@ -8,18 +8,18 @@ use crate::context::traits::{SerializeFor, SizeFor};
 use crate::traits::{Serialize, Size};
 use tls_codec_wire::{Error, Sink};
 
-/// The pair [`Then<T, U>`](crate::Then) of a lent first part, as which a message is written.
+/// The pair [`Then<T, U>`](crate::Then) of a borrowed first part, as which a message is written.
 ///
 /// The parts before one that doesn't fit are sent; a vector has the bytes from before.
 #[derive(Drop)]
-pub struct LentThen<'a, T, U> {
+pub struct ByRefThen<'a, T, U> {
     /// The first part.
     pub first: &'a T,
     /// What the first part decides.
     pub rest: U,
 }
 
-impl<'a, T: Size, U: SizeFor<T>> Size for LentThen<'a, T, U> {
+impl<'a, T: Size, U: SizeFor<T>> Size for ByRefThen<'a, T, U> {
     ghost plain = { λ v. Join (T.plain v.first.now) (U.plain v.rest) };
 
     ghost format = { then_format T.format U.format_for };
@@ -31,7 +31,7 @@ impl<'a, T: Size, U: SizeFor<T>> Size for LentThen<'a, T, U> {
     }
 
     fn tls_send_elements<W: Sink>(
-        _elements: &[LentThen<'a, T, U>],
+        _elements: &[ByRefThen<'a, T, U>],
         _sink: &mut W,
     ) -> Result<Option<usize>, Error> {
         Ok(None)
@@ -40,7 +40,7 @@ impl<'a, T: Size, U: SizeFor<T>> Size for LentThen<'a, T, U> {
     ghost lawful = { then_meets T.lawful U.lawful };
 }
 
-impl<'a, T: Serialize, U: SerializeFor<T>> Serialize for LentThen<'a, T, U> {
+impl<'a, T: Serialize, U: SerializeFor<T>> Serialize for ByRefThen<'a, T, U> {
     fn tls_serialize<W: Sink>(&self, writer: &mut W) -> Result<usize, Error> {
         let first = self.first.tls_serialize(writer)?;
         let rest = self.rest.tls_serialize_for(self.first, writer)?;
@@ -60,11 +60,11 @@ impl<'a, T: Serialize, U: SerializeFor<T>> Serialize for LentThen<'a, T, U> {
     }
 }
 
-/// The pair [`Then<T, (A, B)>`](crate::Then) of a lent first part, and of two parts, each of which may be lent.
+/// The pair [`Then<T, (A, B)>`](crate::Then) of a borrowed first part, and of two parts, each of which may be borrowed.
 ///
 /// The parts before one that doesn't fit are sent; a vector has the bytes from before.
 #[derive(Drop)]
-pub struct LentThen2<'a, T, A, B> {
+pub struct ByRefThen2<'a, T, A, B> {
     /// The first part.
     pub first: &'a T,
     /// The first part of the rest.
@@ -73,7 +73,7 @@ pub struct LentThen2<'a, T, A, B> {
     pub third: B,
 }
 
-impl<'a, T: Size, A: SizeFor<T>, B: SizeFor<T>> Size for LentThen2<'a, T, A, B> {
+impl<'a, T: Size, A: SizeFor<T>, B: SizeFor<T>> Size for ByRefThen2<'a, T, A, B> {
     ghost plain = { λ v. Join (T.plain v.first.now)
         (pair_tree (A.plain v.second) (B.plain v.third)) };
 
@@ -88,7 +88,7 @@ impl<'a, T: Size, A: SizeFor<T>, B: SizeFor<T>> Size for LentThen2<'a, T, A, B> 
     }
 
     fn tls_send_elements<W: Sink>(
-        _elements: &[LentThen2<'a, T, A, B>],
+        _elements: &[ByRefThen2<'a, T, A, B>],
         _sink: &mut W,
     ) -> Result<Option<usize>, Error> {
         Ok(None)
@@ -98,7 +98,7 @@ impl<'a, T: Size, A: SizeFor<T>, B: SizeFor<T>> Size for LentThen2<'a, T, A, B> 
 }
 
 impl<'a, T: Serialize, A: SerializeFor<T>, B: SerializeFor<T>> Serialize
-    for LentThen2<'a, T, A, B> {
+    for ByRefThen2<'a, T, A, B> {
     fn tls_serialize<W: Sink>(&self, writer: &mut W) -> Result<usize, Error> {
         let first = self.first.tls_serialize(writer)?;
         let second = self.second.tls_serialize_for(self.first, writer)?;

@@ -1,14 +1,14 @@
-//! [`Lent`], a value of any type that is written as it is.
+//! [`ByRef`], a value of any type that is written as it is.
 use crate::traits::{Serialize, SerializeBytes, Size};
 use std::alloc::Global;
 use tls_codec_wire::{Error, Sink};
 
-/// A lent value. It is written as the value itself is, so a message is written as the tuple of its
+/// A borrowed value. It is written as the value itself is, so a message is written as the tuple of its
 /// parts.
 #[derive(Drop)]
-pub struct Lent<'a, T>(pub &'a T);
+pub struct ByRef<'a, T>(pub &'a T);
 
-impl<'a, T: Size> Size for Lent<'a, T> {
+impl<'a, T: Size> Size for ByRef<'a, T> {
     ghost plain = { λ v. T.plain v.0.now };
 
     ghost format = { T.format };
@@ -20,7 +20,7 @@ impl<'a, T: Size> Size for Lent<'a, T> {
     ghost lawful = { T.lawful };
 }
 
-impl<'a, T: Serialize> Serialize for Lent<'a, T> {
+impl<'a, T: Serialize> Serialize for ByRef<'a, T> {
     fn tls_serialize<W: Sink>(&self, writer: &mut W) -> Result<usize, Error> {
         self.0.tls_serialize(writer)
     }
@@ -31,7 +31,7 @@ impl<'a, T: Serialize> Serialize for Lent<'a, T> {
     }
 }
 
-impl<'a, T: SerializeBytes> SerializeBytes for Lent<'a, T> {
+impl<'a, T: SerializeBytes> SerializeBytes for ByRef<'a, T> {
     fn tls_serialize_bytes(&self, alloc: Global) -> Result<Vec<u8>, Error> {
         self.0.tls_serialize_bytes(alloc)
     }

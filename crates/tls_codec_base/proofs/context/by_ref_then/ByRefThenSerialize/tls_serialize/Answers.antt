@@ -3,7 +3,7 @@ use Rattle.std.proofs.lemmas.Result.{err_from_is_err_and}
 use Rattle.tls_codec_grammar.proofs.Sent.{sends_count}
 use Rattle.tls_codec_base.proofs.FieldsEncoding.{fields_breaks_first, fields_breaks_others, fields_sends}
 use Rattle.tls_codec_base.proofs.ThenEncoding.{then_breaks, then_sends}
-use Rattle.tls_codec_base.proofs.context.lent_then.LentThenSerialize.tls_serialize.Goals as goal
+use Rattle.tls_codec_base.proofs.context.by_ref_then.ByRefThenSerialize.tls_serialize.Goals as goal
 
 pub returns-in_err-first-clause-writes : goal.returns-in_err-first-clause-writes
 returns-in_err-first-clause-writes g c =

@@ -3,7 +3,7 @@ use Rattle.std.proofs.lemmas.Result.{err_from_is_err_and}
 use Rattle.tls_codec_grammar.proofs.Appending.{cut_off}
 use Rattle.tls_codec_base.proofs.PartsAppending.{appended_size, fields_appended, first_not_appended, others_not_appended}
 use Rattle.tls_codec_base.proofs.ThenEncoding.{then_appended, then_not_appended}
-use Rattle.tls_codec_base.proofs.context.lent_then.LentThenSerialize.tls_serialize_into.Goals as goal
+use Rattle.tls_codec_base.proofs.context.by_ref_then.ByRefThenSerialize.tls_serialize_into.Goals as goal
 
 pub returns-in_err-first-clause-appends : goal.returns-in_err-first-clause-appends
 returns-in_err-first-clause-appends g c =

@@ -1,7 +1,7 @@
 use Rattle.std.proofs.Common.{arith}
 use Rattle.tls_codec_grammar.proofs.Appending.{cut_off}
 use Rattle.tls_codec_base.proofs.VectorSinks.{write_not_appended, written_appended}
-use Rattle.tls_codec_base.proofs.context.lent_then.LentThen2Serialize.tls_serialize_into.Goals as goal
+use Rattle.tls_codec_base.proofs.context.by_ref_then.ByRefThen2Serialize.tls_serialize_into.Goals as goal
 
 pub returns-in-Ok-clause-appends : goal.returns-in-Ok-clause-appends
 returns-in-Ok-clause-appends g c =

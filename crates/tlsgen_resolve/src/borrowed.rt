@@ -1,8 +1,8 @@
-//! Lent structs: which messages have references, and how many runs of fields they may have.
+//! ByRef structs: which messages have references, and how many runs of fields they may have.
 use crate::refuse::refused;
 use crate::resolver::Resolver;
 use crate::sequence::Sequence;
-use tlsgen_model::lent::runs_of;
+use tlsgen_model::borrowed::runs_of;
 use tlsgen_model::plan::{Body, Element, Member};
 use tlsgen_syntax::refusal::Trouble;
 
@@ -14,7 +14,7 @@ const MOST_OF_CASE: usize = 2;
 
 /// Whether a message of a struct has references. One without fields has none.
 pub fn lends(sequence: &Sequence<'_>, body: &Body) -> bool {
-    sequence.is_lent
+    sequence.is_borrowed
         && match body {
             Body::Values { .. } => false,
             Body::Fields(fields) => !fields.is_empty(),
@@ -25,7 +25,7 @@ pub fn lends(sequence: &Sequence<'_>, body: &Body) -> bool {
 }
 
 impl<'a> Resolver<'a> {
-    /// Rejects a message of a lent struct whose fields make too many runs.
+    /// Rejects a message of a borrowed struct whose fields make too many runs.
     pub fn check_runs(&self, sequence: &Sequence<'_>, body: &Body) -> Result<(), Trouble> {
         match body {
             Body::Values { .. } => Ok(()),
@@ -45,24 +45,24 @@ impl<'a> Resolver<'a> {
         fields: &[Member],
         most: usize,
     ) -> Result<(), Trouble> {
-        let mut are_lent = Vec::new(self.alloc);
+        let mut are_borrowed = Vec::new(self.alloc);
         for field in fields {
-            are_lent.push(self.is_lent(field))?;
+            are_borrowed.push(self.is_borrowed(field))?;
         }
-        if are_lent.contains(&true) && runs_of(self.alloc, &are_lent)?.len() > most {
+        if are_borrowed.contains(&true) && runs_of(self.alloc, &are_borrowed)?.len() > most {
             return Err(refused(
                 self.alloc,
                 sequence.place,
                 sequence.name,
-                "at most 3 runs of fields in a lent struct, and 2 in a case: a lent field is a run of its own, and up to 9 others between are one",
+                "at most 3 runs of fields in a borrowed struct, and 2 in a case: a borrowed field is a run of its own, and up to 9 others between are one",
             ));
         }
         Ok(())
     }
 
-    fn is_lent(&self, field: &Member) -> bool {
+    fn is_borrowed(&self, field: &Member) -> bool {
         match &field.of.element {
-            Element::Message(name) => self.out.is_lent(name),
+            Element::Message(name) => self.out.is_borrowed(name),
             _ => false,
         }
     }

@@ -1,19 +1,19 @@
-//! How the fields of a lent struct are written in a row.
+//! How the fields of a borrowed struct are written in a row.
 use std::alloc::{AllocError, Global};
 
 // The most fields of a run.
 const LONGEST: usize = 9;
 
-/// How many fields each run of a row has: a lent field is a run of its own, and up to 9 others between are one.
-pub fn runs_of(alloc: Global, are_lent: &[bool]) -> Result<Vec<usize>, AllocError> {
+/// How many fields each run of a row has: a borrowed field is a run of its own, and up to 9 others between are one.
+pub fn runs_of(alloc: Global, are_borrowed: &[bool]) -> Result<Vec<usize>, AllocError> {
     let mut runs = Vec::new(alloc);
     let mut length = 0usize;
-    for is_lent in are_lent {
-        if *is_lent || length == LONGEST {
+    for is_borrowed in are_borrowed {
+        if *is_borrowed || length == LONGEST {
             push_run(&mut runs, length)?;
             length = 0;
         }
-        if *is_lent {
+        if *is_borrowed {
             runs.push(1)?;
         } else {
             length = length.saturating_add(1);

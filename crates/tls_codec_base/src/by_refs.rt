@@ -1,105 +1,105 @@
-//! [`Lent2`] to [`Lent9`]: two to nine lent values, written in a row, for messages of four fields and
+//! [`ByRef2`] to [`ByRef9`]: two to nine borrowed values, written in a row, for messages of four fields and
 //! more.
 //!
 //! Each is the tuple of its values. From four on it is a tuple of the smaller ones, and its value is
-//! read as the tuple that nests in the same way: `Lent5` as `((A, B, C), (D, E))`. All of its values
-//! are lent for one lifetime, so that a tuple of these is one type to the borrow checker.
+//! read as the tuple that nests in the same way: `ByRef5` as `((A, B, C), (D, E))`. All of its values
+//! are borrowed for one lifetime, so that a tuple of these is one type to the borrow checker.
 ghost use Rattle.tls_codec_grammar.specs.Format.{pair_format, triple_format};
 ghost use Rattle.tls_codec_grammar.specs.laws.FormatLaws.{pair_meets, triple_meets};
 ghost use Rattle.tls_codec_base.specs.OwnMessages.{pair_tree, triple_tree};
 
-use crate::lent::Lent;
+use crate::by_ref::ByRef;
 use crate::traits::{Serialize, Size};
 use tls_codec_wire::{Error, Sink};
 
 /// Two values in a row, as `(A, B)`.
 #[derive(Drop)]
-pub struct Lent2<'a, A, B>(pub &'a A, pub &'a B);
+pub struct ByRef2<'a, A, B>(pub &'a A, pub &'a B);
 
-impl<'a, A: Size, B: Size> Size for Lent2<'a, A, B> {
+impl<'a, A: Size, B: Size> Size for ByRef2<'a, A, B> {
     ghost plain = { λ v. pair_tree (A.plain v.0.now) (B.plain v.1.now) };
 
     ghost format = { pair_format A.format B.format };
 
     fn tls_serialized_len(&self) -> usize {
-        (Lent(self.0), Lent(self.1)).tls_serialized_len()
+        (ByRef(self.0), ByRef(self.1)).tls_serialized_len()
     }
 
     ghost lawful = { pair_meets A.lawful B.lawful };
 }
 
-impl<'a, A: Serialize, B: Serialize> Serialize for Lent2<'a, A, B> {
+impl<'a, A: Serialize, B: Serialize> Serialize for ByRef2<'a, A, B> {
     fn tls_serialize<W: Sink>(&self, writer: &mut W) -> Result<usize, Error> {
-        (Lent(self.0), Lent(self.1)).tls_serialize(writer)
+        (ByRef(self.0), ByRef(self.1)).tls_serialize(writer)
     }
 
     #[inline(always)]
     fn tls_serialize_into(&self, out: &mut Vec<u8>) -> Result<usize, Error> {
-        (Lent(self.0), Lent(self.1)).tls_serialize_into(out)
+        (ByRef(self.0), ByRef(self.1)).tls_serialize_into(out)
     }
 }
 
 /// Three values in a row, as `(A, B, C)`.
 #[derive(Drop)]
-pub struct Lent3<'a, A, B, C>(pub &'a A, pub &'a B, pub &'a C);
+pub struct ByRef3<'a, A, B, C>(pub &'a A, pub &'a B, pub &'a C);
 
-impl<'a, A: Size, B: Size, C: Size> Size for Lent3<'a, A, B, C> {
+impl<'a, A: Size, B: Size, C: Size> Size for ByRef3<'a, A, B, C> {
     ghost plain = { λ v. triple_tree (A.plain v.0.now) (B.plain v.1.now) (C.plain v.2.now) };
 
     ghost format = { triple_format A.format B.format C.format };
 
     fn tls_serialized_len(&self) -> usize {
-        (Lent(self.0), Lent(self.1), Lent(self.2)).tls_serialized_len()
+        (ByRef(self.0), ByRef(self.1), ByRef(self.2)).tls_serialized_len()
     }
 
     ghost lawful = { triple_meets A.lawful B.lawful C.lawful };
 }
 
-impl<'a, A: Serialize, B: Serialize, C: Serialize> Serialize for Lent3<'a, A, B, C> {
+impl<'a, A: Serialize, B: Serialize, C: Serialize> Serialize for ByRef3<'a, A, B, C> {
     fn tls_serialize<W: Sink>(&self, writer: &mut W) -> Result<usize, Error> {
-        (Lent(self.0), Lent(self.1), Lent(self.2)).tls_serialize(writer)
+        (ByRef(self.0), ByRef(self.1), ByRef(self.2)).tls_serialize(writer)
     }
 
     #[inline(always)]
     fn tls_serialize_into(&self, out: &mut Vec<u8>) -> Result<usize, Error> {
-        (Lent(self.0), Lent(self.1), Lent(self.2)).tls_serialize_into(out)
+        (ByRef(self.0), ByRef(self.1), ByRef(self.2)).tls_serialize_into(out)
     }
 }
 
 /// Four values in a row, as `((A, B), (C, D))`.
 #[derive(Drop)]
-pub struct Lent4<'a, A, B, C, D>(pub &'a A, pub &'a B, pub &'a C, pub &'a D);
+pub struct ByRef4<'a, A, B, C, D>(pub &'a A, pub &'a B, pub &'a C, pub &'a D);
 
-impl<'a, A: Size, B: Size, C: Size, D: Size> Size for Lent4<'a, A, B, C, D> {
+impl<'a, A: Size, B: Size, C: Size, D: Size> Size for ByRef4<'a, A, B, C, D> {
     ghost plain = { λ v. pair_tree (pair_tree (A.plain v.0.now) (B.plain v.1.now))
         (pair_tree (C.plain v.2.now) (D.plain v.3.now)) };
 
     ghost format = { pair_format (pair_format A.format B.format) (pair_format C.format D.format) };
 
     fn tls_serialized_len(&self) -> usize {
-        (Lent2(self.0, self.1), Lent2(self.2, self.3)).tls_serialized_len()
+        (ByRef2(self.0, self.1), ByRef2(self.2, self.3)).tls_serialized_len()
     }
 
     ghost lawful = { pair_meets (pair_meets A.lawful B.lawful) (pair_meets C.lawful D.lawful) };
 }
 
 impl<'a, A: Serialize, B: Serialize, C: Serialize, D: Serialize> Serialize
-    for Lent4<'a, A, B, C, D> {
+    for ByRef4<'a, A, B, C, D> {
     fn tls_serialize<W: Sink>(&self, writer: &mut W) -> Result<usize, Error> {
-        (Lent2(self.0, self.1), Lent2(self.2, self.3)).tls_serialize(writer)
+        (ByRef2(self.0, self.1), ByRef2(self.2, self.3)).tls_serialize(writer)
     }
 
     #[inline(always)]
     fn tls_serialize_into(&self, out: &mut Vec<u8>) -> Result<usize, Error> {
-        (Lent2(self.0, self.1), Lent2(self.2, self.3)).tls_serialize_into(out)
+        (ByRef2(self.0, self.1), ByRef2(self.2, self.3)).tls_serialize_into(out)
     }
 }
 
 /// Five values in a row, as `((A, B, C), (D, E))`.
 #[derive(Drop)]
-pub struct Lent5<'a, A, B, C, D, E>(pub &'a A, pub &'a B, pub &'a C, pub &'a D, pub &'a E);
+pub struct ByRef5<'a, A, B, C, D, E>(pub &'a A, pub &'a B, pub &'a C, pub &'a D, pub &'a E);
 
-impl<'a, A: Size, B: Size, C: Size, D: Size, E: Size> Size for Lent5<'a, A, B, C, D, E> {
+impl<'a, A: Size, B: Size, C: Size, D: Size, E: Size> Size for ByRef5<'a, A, B, C, D, E> {
     ghost plain = { λ v. pair_tree
         (triple_tree (A.plain v.0.now) (B.plain v.1.now) (C.plain v.2.now))
         (pair_tree (D.plain v.3.now) (E.plain v.4.now)) };
@@ -108,7 +108,7 @@ impl<'a, A: Size, B: Size, C: Size, D: Size, E: Size> Size for Lent5<'a, A, B, C
         (pair_format D.format E.format) };
 
     fn tls_serialized_len(&self) -> usize {
-        (Lent3(self.0, self.1, self.2), Lent2(self.3, self.4)).tls_serialized_len()
+        (ByRef3(self.0, self.1, self.2), ByRef2(self.3, self.4)).tls_serialized_len()
     }
 
     ghost lawful = { pair_meets (triple_meets A.lawful B.lawful C.lawful)
@@ -116,20 +116,20 @@ impl<'a, A: Size, B: Size, C: Size, D: Size, E: Size> Size for Lent5<'a, A, B, C
 }
 
 impl<'a, A: Serialize, B: Serialize, C: Serialize, D: Serialize, E: Serialize> Serialize
-    for Lent5<'a, A, B, C, D, E> {
+    for ByRef5<'a, A, B, C, D, E> {
     fn tls_serialize<W: Sink>(&self, writer: &mut W) -> Result<usize, Error> {
-        (Lent3(self.0, self.1, self.2), Lent2(self.3, self.4)).tls_serialize(writer)
+        (ByRef3(self.0, self.1, self.2), ByRef2(self.3, self.4)).tls_serialize(writer)
     }
 
     #[inline(always)]
     fn tls_serialize_into(&self, out: &mut Vec<u8>) -> Result<usize, Error> {
-        (Lent3(self.0, self.1, self.2), Lent2(self.3, self.4)).tls_serialize_into(out)
+        (ByRef3(self.0, self.1, self.2), ByRef2(self.3, self.4)).tls_serialize_into(out)
     }
 }
 
 /// Six values in a row, as `((A, B, C), (D, E, F))`.
 #[derive(Drop)]
-pub struct Lent6<'a, A, B, C, D, E, F>(
+pub struct ByRef6<'a, A, B, C, D, E, F>(
     pub &'a A,
     pub &'a B,
     pub &'a C,
@@ -139,7 +139,7 @@ pub struct Lent6<'a, A, B, C, D, E, F>(
 );
 
 impl<'a, A: Size, B: Size, C: Size, D: Size, E: Size, F: Size> Size
-    for Lent6<'a, A, B, C, D, E, F> {
+    for ByRef6<'a, A, B, C, D, E, F> {
     ghost plain = { λ v. pair_tree
         (triple_tree (A.plain v.0.now) (B.plain v.1.now) (C.plain v.2.now))
         (triple_tree (D.plain v.3.now) (E.plain v.4.now) (F.plain v.5.now)) };
@@ -148,7 +148,11 @@ impl<'a, A: Size, B: Size, C: Size, D: Size, E: Size, F: Size> Size
         (triple_format D.format E.format F.format) };
 
     fn tls_serialized_len(&self) -> usize {
-        (Lent3(self.0, self.1, self.2), Lent3(self.3, self.4, self.5)).tls_serialized_len()
+        (
+            ByRef3(self.0, self.1, self.2),
+            ByRef3(self.3, self.4, self.5),
+        )
+            .tls_serialized_len()
     }
 
     ghost lawful = { pair_meets (triple_meets A.lawful B.lawful C.lawful)
@@ -163,20 +167,28 @@ impl<
     D: Serialize,
     E: Serialize,
     F: Serialize,
-> Serialize for Lent6<'a, A, B, C, D, E, F> {
+> Serialize for ByRef6<'a, A, B, C, D, E, F> {
     fn tls_serialize<W: Sink>(&self, writer: &mut W) -> Result<usize, Error> {
-        (Lent3(self.0, self.1, self.2), Lent3(self.3, self.4, self.5)).tls_serialize(writer)
+        (
+            ByRef3(self.0, self.1, self.2),
+            ByRef3(self.3, self.4, self.5),
+        )
+            .tls_serialize(writer)
     }
 
     #[inline(always)]
     fn tls_serialize_into(&self, out: &mut Vec<u8>) -> Result<usize, Error> {
-        (Lent3(self.0, self.1, self.2), Lent3(self.3, self.4, self.5)).tls_serialize_into(out)
+        (
+            ByRef3(self.0, self.1, self.2),
+            ByRef3(self.3, self.4, self.5),
+        )
+            .tls_serialize_into(out)
     }
 }
 
 /// Seven values in a row, as `((A, B, C), (D, E), (F, G))`.
 #[derive(Drop)]
-pub struct Lent7<'a, A, B, C, D, E, F, G>(
+pub struct ByRef7<'a, A, B, C, D, E, F, G>(
     pub &'a A,
     pub &'a B,
     pub &'a C,
@@ -187,7 +199,7 @@ pub struct Lent7<'a, A, B, C, D, E, F, G>(
 );
 
 impl<'a, A: Size, B: Size, C: Size, D: Size, E: Size, F: Size, G: Size> Size
-    for Lent7<'a, A, B, C, D, E, F, G> {
+    for ByRef7<'a, A, B, C, D, E, F, G> {
     ghost plain = { λ v. triple_tree
         (triple_tree (A.plain v.0.now) (B.plain v.1.now) (C.plain v.2.now))
         (pair_tree (D.plain v.3.now) (E.plain v.4.now))
@@ -198,9 +210,9 @@ impl<'a, A: Size, B: Size, C: Size, D: Size, E: Size, F: Size, G: Size> Size
 
     fn tls_serialized_len(&self) -> usize {
         (
-            Lent3(self.0, self.1, self.2),
-            Lent2(self.3, self.4),
-            Lent2(self.5, self.6),
+            ByRef3(self.0, self.1, self.2),
+            ByRef2(self.3, self.4),
+            ByRef2(self.5, self.6),
         )
             .tls_serialized_len()
     }
@@ -218,12 +230,12 @@ impl<
     E: Serialize,
     F: Serialize,
     G: Serialize,
-> Serialize for Lent7<'a, A, B, C, D, E, F, G> {
+> Serialize for ByRef7<'a, A, B, C, D, E, F, G> {
     fn tls_serialize<W: Sink>(&self, writer: &mut W) -> Result<usize, Error> {
         (
-            Lent3(self.0, self.1, self.2),
-            Lent2(self.3, self.4),
-            Lent2(self.5, self.6),
+            ByRef3(self.0, self.1, self.2),
+            ByRef2(self.3, self.4),
+            ByRef2(self.5, self.6),
         )
             .tls_serialize(writer)
     }
@@ -231,9 +243,9 @@ impl<
     #[inline(always)]
     fn tls_serialize_into(&self, out: &mut Vec<u8>) -> Result<usize, Error> {
         (
-            Lent3(self.0, self.1, self.2),
-            Lent2(self.3, self.4),
-            Lent2(self.5, self.6),
+            ByRef3(self.0, self.1, self.2),
+            ByRef2(self.3, self.4),
+            ByRef2(self.5, self.6),
         )
             .tls_serialize_into(out)
     }
@@ -241,7 +253,7 @@ impl<
 
 /// Eight values in a row, as `((A, B, C), (D, E, F), (G, H))`.
 #[derive(Drop)]
-pub struct Lent8<'a, A, B, C, D, E, F, G, H>(
+pub struct ByRef8<'a, A, B, C, D, E, F, G, H>(
     pub &'a A,
     pub &'a B,
     pub &'a C,
@@ -253,7 +265,7 @@ pub struct Lent8<'a, A, B, C, D, E, F, G, H>(
 );
 
 impl<'a, A: Size, B: Size, C: Size, D: Size, E: Size, F: Size, G: Size, H: Size> Size
-    for Lent8<'a, A, B, C, D, E, F, G, H> {
+    for ByRef8<'a, A, B, C, D, E, F, G, H> {
     ghost plain = { λ v. triple_tree
         (triple_tree (A.plain v.0.now) (B.plain v.1.now) (C.plain v.2.now))
         (triple_tree (D.plain v.3.now) (E.plain v.4.now) (F.plain v.5.now))
@@ -264,9 +276,9 @@ impl<'a, A: Size, B: Size, C: Size, D: Size, E: Size, F: Size, G: Size, H: Size>
 
     fn tls_serialized_len(&self) -> usize {
         (
-            Lent3(self.0, self.1, self.2),
-            Lent3(self.3, self.4, self.5),
-            Lent2(self.6, self.7),
+            ByRef3(self.0, self.1, self.2),
+            ByRef3(self.3, self.4, self.5),
+            ByRef2(self.6, self.7),
         )
             .tls_serialized_len()
     }
@@ -285,12 +297,12 @@ impl<
     F: Serialize,
     G: Serialize,
     H: Serialize,
-> Serialize for Lent8<'a, A, B, C, D, E, F, G, H> {
+> Serialize for ByRef8<'a, A, B, C, D, E, F, G, H> {
     fn tls_serialize<W: Sink>(&self, writer: &mut W) -> Result<usize, Error> {
         (
-            Lent3(self.0, self.1, self.2),
-            Lent3(self.3, self.4, self.5),
-            Lent2(self.6, self.7),
+            ByRef3(self.0, self.1, self.2),
+            ByRef3(self.3, self.4, self.5),
+            ByRef2(self.6, self.7),
         )
             .tls_serialize(writer)
     }
@@ -298,9 +310,9 @@ impl<
     #[inline(always)]
     fn tls_serialize_into(&self, out: &mut Vec<u8>) -> Result<usize, Error> {
         (
-            Lent3(self.0, self.1, self.2),
-            Lent3(self.3, self.4, self.5),
-            Lent2(self.6, self.7),
+            ByRef3(self.0, self.1, self.2),
+            ByRef3(self.3, self.4, self.5),
+            ByRef2(self.6, self.7),
         )
             .tls_serialize_into(out)
     }
@@ -308,7 +320,7 @@ impl<
 
 /// Nine values in a row, as `((A, B, C), (D, E, F), (G, H, I))`.
 #[derive(Drop)]
-pub struct Lent9<'a, A, B, C, D, E, F, G, H, I>(
+pub struct ByRef9<'a, A, B, C, D, E, F, G, H, I>(
     pub &'a A,
     pub &'a B,
     pub &'a C,
@@ -321,7 +333,7 @@ pub struct Lent9<'a, A, B, C, D, E, F, G, H, I>(
 );
 
 impl<'a, A: Size, B: Size, C: Size, D: Size, E: Size, F: Size, G: Size, H: Size, I: Size> Size
-    for Lent9<'a, A, B, C, D, E, F, G, H, I> {
+    for ByRef9<'a, A, B, C, D, E, F, G, H, I> {
     ghost plain = { λ v. triple_tree
         (triple_tree (A.plain v.0.now) (B.plain v.1.now) (C.plain v.2.now))
         (triple_tree (D.plain v.3.now) (E.plain v.4.now) (F.plain v.5.now))
@@ -332,9 +344,9 @@ impl<'a, A: Size, B: Size, C: Size, D: Size, E: Size, F: Size, G: Size, H: Size,
 
     fn tls_serialized_len(&self) -> usize {
         (
-            Lent3(self.0, self.1, self.2),
-            Lent3(self.3, self.4, self.5),
-            Lent3(self.6, self.7, self.8),
+            ByRef3(self.0, self.1, self.2),
+            ByRef3(self.3, self.4, self.5),
+            ByRef3(self.6, self.7, self.8),
         )
             .tls_serialized_len()
     }
@@ -354,12 +366,12 @@ impl<
     G: Serialize,
     H: Serialize,
     I: Serialize,
-> Serialize for Lent9<'a, A, B, C, D, E, F, G, H, I> {
+> Serialize for ByRef9<'a, A, B, C, D, E, F, G, H, I> {
     fn tls_serialize<W: Sink>(&self, writer: &mut W) -> Result<usize, Error> {
         (
-            Lent3(self.0, self.1, self.2),
-            Lent3(self.3, self.4, self.5),
-            Lent3(self.6, self.7, self.8),
+            ByRef3(self.0, self.1, self.2),
+            ByRef3(self.3, self.4, self.5),
+            ByRef3(self.6, self.7, self.8),
         )
             .tls_serialize(writer)
     }
@@ -367,9 +379,9 @@ impl<
     #[inline(always)]
     fn tls_serialize_into(&self, out: &mut Vec<u8>) -> Result<usize, Error> {
         (
-            Lent3(self.0, self.1, self.2),
-            Lent3(self.3, self.4, self.5),
-            Lent3(self.6, self.7, self.8),
+            ByRef3(self.0, self.1, self.2),
+            ByRef3(self.3, self.4, self.5),
+            ByRef3(self.6, self.7, self.8),
         )
             .tls_serialize_into(out)
     }
