@@ -10,7 +10,7 @@ listed_name names n =
     option_map (λ (entry : ℕ × List ℕ). entry.1)
     (find (λ (entry : ℕ × List ℕ). n == entry.0) names)
 
--- a number in hexadecimal, with zeros up to so many digits
+-- a number in hexadecimal, padded with zeros to this number of digits
 abbrev pub hexadecimal : ℕ → ℕ → List ℕ
 hexadecimal least n = let hex = digits 16 false n in replicate (least - length hex) 48 ++ hex
 

@@ -1,5 +1,5 @@
-//! The table of types that a context decides, beside the one of [`types`](crate::types): what their values stand for,
-//! how they are spelled, and which errors their decoders name.
+//! The table of types that a context decides, beside the one of [`types`](crate::types): what their
+//! values stand for, how they are encoded, and which errors their decoders name.
 //!
 //! A pair of a context and what it decides is a type with [`Size`], and has a line as those there. The other types have
 //! [`SizeFor`](crate::SizeFor) alone: their lines are of each context.

@@ -24,8 +24,8 @@
 //!   [`When`], a part that is there or not, by a [`Condition`]; and [`context`] for the rest.
 //! - [`unknown_value`]: the refusal of a tag that an enum of your own doesn't have. [`first_room`]: room for
 //!   a whole encoding at once.
-//! - [`laws`]: what holds of the spellings of every type with the traits. [`refusals`]: where two errors come
-//!   from.
+//! - [`laws`]: what holds of the encodings of every type with the traits. [`refusals`]: where two
+//!   errors come from.
 #![tactic(auto)]
 
 pub mod contexts;

@@ -1,9 +1,10 @@
-//! The table of types: what the values of each public type stand for, how they are spelled, and which errors its
-//! decoders name.
+//! The table of types: what the values of each public type stand for, how they are encoded, and
+//! which errors its decoders name.
 //!
-//! Each type has a line, and references to it have one. The functions do nothing: each line is a clause, and so
-//! is proved. What an `impl` says of its type has to be what the table says. The formats are explained in
-//! docs/DEFINITIONS.md, and a refused slice or source in docs/REFUSALS.md.
+//! Each type has a line, and references to it have one. The functions do nothing: each line is a
+//! clause, and so is proved. What an `impl` says of its type has to be what the table says. The
+//! formats are explained in docs/DEFINITIONS.md, and a rejected slice or source in
+//! docs/REFUSALS.md.
 ghost use Rattle.std.specs.Prelude.{◌≡◌, ◌^◌, string_bytes};
 ghost use Rattle.tls_codec_wire.specs.Numbers.{NumberNotRead};
 ghost use Rattle.tls_codec_wire.specs.Transfer.{ReadRefused};

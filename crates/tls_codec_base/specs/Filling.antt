@@ -13,7 +13,8 @@ use Rattle.tls_codec_base.specs.Refusals.{NamedWithin}
 use Rattle.tls_codec_base.specs.Turns.{SourceTurnedRefused, TurnedEach, TurnedWithinGiven}
 use Rattle.tls_codec_base.specs.declared.lists.Turns.{Turns}
 
--- a list that fills a source's limit is read, or refused, in so many turns; of no bytes it is empty, and takes none
+-- a list that fills a source's limit is read, or refused, in this number of turns; from no bytes it
+-- is empty, and takes no turn
 pub record FillsLimit {T S : Type 0} (element : Format) (plain : T → Tree) (names : Causes) (source : Ghosts S)
     (a b : Bounded S) (old new : Turns) (result : Result (Vec T Global) Error) : Type 0 where
   pub same : BorrowAlike a b

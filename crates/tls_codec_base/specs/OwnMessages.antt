@@ -1,5 +1,5 @@
--- The words by which a message of your own says what it stands for and which bytes spell it. And the laws that it
--- cites: one for each field of a struct, and one for each variant of an enum.
+-- The words with which a message of your own says what it stands for and which bytes spell it. And
+-- the laws that it cites: one for each field of a struct, and one for each variant of an enum.
 use Rattle.std.proofs.Common.{ℕ, ◌≤◌, ◌^◌, arith}
 use Rattle.tls_codec_grammar.specs.Field.{bounded_field, fixed_field}
 use Rattle.tls_codec_grammar.specs.Format.{counted_bytes_format, counted_list_format}

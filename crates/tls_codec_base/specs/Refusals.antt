@@ -35,7 +35,7 @@ pub record NamedBehind (Front : List ℕ → Type 0) (names : SliceNames) (x : L
   pub is_front : Front front
   pub named : names rest e
 
--- the same from a source of which x was seen, by the counts in between, none of which had fallen
+-- the same from a source after x was seen of it, by the counts in between; no count had fallen
 pub record SourceNamedBehind (Front : List ℕ → Type 0) (names : Causes) (x : List ℕ) (old new : Counts) (e : Error) : Type 0 where
   pub front : List ℕ
   pub rest : List ℕ
@@ -98,7 +98,7 @@ fields_source_names part first others x old new e =
 
 -- ---- the end of a source
 
--- the source gave, or told, a spelling of v and no more
+-- the source gave, or reported, a spelling of v and no more
 pub record SawSpelling {S : Type 0} (source : Ghosts S) (spells : Grammar) (old new : S) (v : Tree) : Type 0 where
   pub bytes : List ℕ
   pub seen : Seen source old new bytes
@@ -111,7 +111,7 @@ to_end_names f names x old new e =
 
 -- ---- lists
 
--- elements in a row, of n bytes but for these that are left
+-- elements in a row, of n bytes except those that are left
 pub record IsRun (spells : Grammar) (n left : ℕ) (s : List ℕ) : Type 0 where
   pub elements : IsSpelling (content spells) s
   pub fills : length s + left ≡ n

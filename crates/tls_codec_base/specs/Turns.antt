@@ -17,7 +17,7 @@ use Rattle.tls_codec_base.specs.declared.lists.Turns.{Turns}
 abbrev pub turns_of : Turns → ℕ
 turns_of turns = turns.count
 
--- so many turns were added, up to the greatest count
+-- this number of turns was added, up to the greatest count
 abbrev pub TurnedBy : ℕ → Turns → Turns → Type 0
 TurnedBy n old new = turns_of new ≡ min (turns_of old + n) (2 ^ 64 - 1)
 
@@ -46,7 +46,7 @@ pub record TurnedPast (spells : Grammar) (x : List ℕ) (Excused : Type 0) (old 
 abbrev pub TurnedRefused : Grammar → ℕ → List ℕ → Turns → Turns → Error → Type 0
 TurnedRefused spells n x old new e = TurnedPast spells (take n x) (e ≡ OutOfMemory) old new
 
--- from a source of which x was seen: excused also if a fault was counted
+-- from a source after x was seen of it: excused also if a fault was counted
 abbrev pub SourceTurnedRefused : Grammar → ℕ → Turns → Turns → Causes
 SourceTurnedRefused spells n old new x before after e = TurnedPast spells (take n x) (MemoryOrFault before after e) old new
 

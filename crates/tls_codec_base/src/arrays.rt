@@ -1,4 +1,4 @@
-//! `[u8; LEN]`: bytes that are spelled by themselves (RFC 8446, section 3.4).
+//! `[u8; LEN]`: bytes that are encoded as they are (RFC 8446, section 3.4).
 //!
 //! The calls on the digits of a number serve them too.
 ghost use Rattle.std.specs.Prelude.{◌≡◌, ◌<◌, length};

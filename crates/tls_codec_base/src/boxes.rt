@@ -1,4 +1,4 @@
-//! `Box<T>`: its spelling is that of its content. A decoder takes memory for it.
+//! `Box<T>`: its encoding is that of its content. A decoder takes memory for it.
 ghost use Rattle.std.specs.Prelude.{◌≡◌, IfErr, IfOk};
 ghost use Rattle.tls_codec_wire.specs.declared.error.Error.TheVariants.{OutOfMemory};
 ghost use Rattle.tls_codec_grammar.specs.Format.{with_memory};

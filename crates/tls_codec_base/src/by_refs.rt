@@ -12,7 +12,7 @@ use crate::by_ref::ByRef;
 use crate::traits::{Serialize, Size};
 use tls_codec_wire::{Error, Sink};
 
-/// Two values in a row, as `(A, B)`.
+/// Two values in a row, as the tuple `(A, B)`.
 #[derive(Drop)]
 pub struct ByRef2<'a, A, B>(pub &'a A, pub &'a B);
 
@@ -39,7 +39,7 @@ impl<'a, A: Serialize, B: Serialize> Serialize for ByRef2<'a, A, B> {
     }
 }
 
-/// Three values in a row, as `(A, B, C)`.
+/// Three values in a row, as the tuple `(A, B, C)`.
 #[derive(Drop)]
 pub struct ByRef3<'a, A, B, C>(pub &'a A, pub &'a B, pub &'a C);
 
@@ -66,7 +66,7 @@ impl<'a, A: Serialize, B: Serialize, C: Serialize> Serialize for ByRef3<'a, A, B
     }
 }
 
-/// Four values in a row, as `((A, B), (C, D))`.
+/// Four values in a row, as the tuple `((A, B), (C, D))`.
 #[derive(Drop)]
 pub struct ByRef4<'a, A, B, C, D>(pub &'a A, pub &'a B, pub &'a C, pub &'a D);
 
@@ -95,7 +95,7 @@ impl<'a, A: Serialize, B: Serialize, C: Serialize, D: Serialize> Serialize
     }
 }
 
-/// Five values in a row, as `((A, B, C), (D, E))`.
+/// Five values in a row, as the tuple `((A, B, C), (D, E))`.
 #[derive(Drop)]
 pub struct ByRef5<'a, A, B, C, D, E>(pub &'a A, pub &'a B, pub &'a C, pub &'a D, pub &'a E);
 
@@ -127,7 +127,7 @@ impl<'a, A: Serialize, B: Serialize, C: Serialize, D: Serialize, E: Serialize> S
     }
 }
 
-/// Six values in a row, as `((A, B, C), (D, E, F))`.
+/// Six values in a row, as the tuple `((A, B, C), (D, E, F))`.
 #[derive(Drop)]
 pub struct ByRef6<'a, A, B, C, D, E, F>(
     pub &'a A,
@@ -186,7 +186,7 @@ impl<
     }
 }
 
-/// Seven values in a row, as `((A, B, C), (D, E), (F, G))`.
+/// Seven values in a row, as the tuple `((A, B, C), (D, E), (F, G))`.
 #[derive(Drop)]
 pub struct ByRef7<'a, A, B, C, D, E, F, G>(
     pub &'a A,
@@ -251,7 +251,7 @@ impl<
     }
 }
 
-/// Eight values in a row, as `((A, B, C), (D, E, F), (G, H))`.
+/// Eight values in a row, as the tuple `((A, B, C), (D, E, F), (G, H))`.
 #[derive(Drop)]
 pub struct ByRef8<'a, A, B, C, D, E, F, G, H>(
     pub &'a A,
@@ -318,7 +318,7 @@ impl<
     }
 }
 
-/// Nine values in a row, as `((A, B, C), (D, E, F), (G, H, I))`.
+/// Nine values in a row, as the tuple `((A, B, C), (D, E, F), (G, H, I))`.
 #[derive(Drop)]
 pub struct ByRef9<'a, A, B, C, D, E, F, G, H, I>(
     pub &'a A,

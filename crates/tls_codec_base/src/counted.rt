@@ -93,9 +93,9 @@ pub fn to_vec<F: LengthField, T: SerializeBytes>(
     Ok(bytes)
 }
 
-/// The list that the bytes to come spell. Only its spelling is taken.
+/// The list that the bytes to come encode. Only its encoding is taken.
 ///
-/// The length is refused as in [`LengthField::read_length`]. Every other refusal is that of
+/// The length is rejected as in [`LengthField::read_length`]. Every other refusal is that of
 /// [`lists::from_reader`](crate::lists::from_reader).
 pub fn read<F: LengthField, T: Deserialize, R: Source>(
     alloc: Global,
@@ -112,7 +112,7 @@ pub fn read<F: LengthField, T: Deserialize, R: Source>(
 
 /// The list that the bytes begin with, and the rest of them, which isn't copied.
 ///
-/// The length is refused as in [`LengthField::split_length`]. Every other refusal is that of
+/// The length is rejected as in [`LengthField::split_length`]. Every other refusal is that of
 /// [`lists::from_slice`](crate::lists::from_slice).
 pub fn split<F: LengthField, T: DeserializeBytes>(
     alloc: Global,

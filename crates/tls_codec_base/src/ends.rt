@@ -8,7 +8,7 @@ use crate::traits::Deserialize;
 use std::alloc::Global;
 use tls_codec_wire::{Error, Source, expect_end};
 
-/// The value that all of the bytes to come spell, as in a file that holds one message.
+/// The value that all of the bytes to come encode, as in a file that holds one message.
 ///
 /// `TrailingData`: a value was read, and another byte came after it. Every other refusal is that of
 /// [`tls_deserialize`](Deserialize::tls_deserialize), or the source's after the value.

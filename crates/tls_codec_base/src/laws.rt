@@ -1,7 +1,7 @@
 //! The laws of options, products, lists and strings, each from the laws of its parts. Then:
 //!
-//! - what these laws mean for spellings and for shortest forms, those of lists among them;
-//! - that equal bytes are spelled alike, and what is left of a source that tells its bytes;
+//! - what these laws mean for encodings and for shortest forms, those of lists among them;
+//! - that equal bytes are encoded alike, and what is left of a source that reports its bytes;
 //! - that both decoders agree, and for which bytes a source is refused;
 //! - that encoders refuse only what has no form, and which values are full.
 //!
@@ -50,7 +50,7 @@ pub fn formats_are_lawful<T: Size, U: Size>()
         → MeetsLaws (tagged_format k (variant m T.format (variant n U.format no_variant))) }
 {}
 
-/// No spelling of a type is a proper prefix of another, and bytes spell one value at most.
+/// No encoding of a type is a proper prefix of another, and bytes encode one value at most.
 pub fn spellings_are_prefix_free<T: Size>()
     ensures prefix { (s t : List ℕ) (v w : Tree)
         → T.format.spells Reading s v
@@ -63,8 +63,8 @@ pub fn spellings_are_prefix_free<T: Size>()
         → v ≡ w }
 {}
 
-/// A list has a spelling exactly if each of its elements has one that isn't empty, and their shortest
-/// forms together have a number of bytes that its length field holds.
+/// A list has an encoding exactly if each of its elements has one that isn't empty, and their
+/// shortest forms together have a number of bytes that its length field holds.
 pub fn lists_are_spelled_where_their_elements_fit<F: LengthField, T: Size>()
     ensures { (v : Tree)
         → HasReadingSpelling (counted_list_format F.field T.format).spells v
@@ -72,8 +72,8 @@ pub fn lists_are_spelled_where_their_elements_fit<F: LengthField, T: Size>()
         × FitTogether T.format.spells F.field.holds v) }
 {}
 
-/// The shortest form of a full value, whatever comes after it, begins with exactly one spelling. That
-/// one is of this value, and leaves what comes after.
+/// The shortest form of a full value, whatever comes after it, begins with exactly one encoding.
+/// That one is of this value, and leaves what comes after.
 pub fn shortest_forms_are_read_back<T: Size>()
     ensures { (form rest : List ℕ) (v : Tree)
         → IsShortest T.format.spells form v
@@ -81,8 +81,8 @@ pub fn shortest_forms_are_read_back<T: Size>()
         → BeginsWithOne T.format.spells (form ++ rest) v rest }
 {}
 
-/// A proper prefix of the shortest form of a full value begins with no spelling. So if a sink failed before
-/// the end, both decoders reject what it received.
+/// A proper prefix of the shortest form of a full value begins with no encoding. So if a sink
+/// failed before the end, both decoders reject what it received.
 pub fn forms_cut_short_have_no_spelling<T: Size>()
     ensures { (part form : List ℕ) (v : Tree)
         → IsShortest T.format.spells form v
@@ -92,7 +92,7 @@ pub fn forms_cut_short_have_no_spelling<T: Size>()
         → NoneBegins T.format.spells part }
 {}
 
-/// Whatever spells a value, in either direction, is its shortest form: there is no other spelling.
+/// Whatever encodes a value, in either direction, is its shortest form: there is no other encoding.
 pub fn spellings_are_shortest_forms<T: Size>()
     ensures { (d : Direction) (s : List ℕ) (v : Tree)
         → T.format.spells d s v
@@ -142,8 +142,8 @@ pub fn shortest_contents_are_in_a_row<T: Size>()
         (λ b. IsShortest (content T.format.spells) b vs) }
 {}
 
-/// After one form of length, equal bytes have equal spellings, whatever type they are in: the
-/// spellings of their number, and then the bytes.
+/// After one form of length, equal bytes have equal encodings, whatever type they are in: the
+/// encodings of their number, and then the bytes.
 pub fn equal_bytes_have_equal_spellings<F: LengthField>()
     ensures bytes { (d : Direction) (s contents : List ℕ)
         → AreBytes contents
@@ -156,8 +156,8 @@ pub fn equal_bytes_have_equal_spellings<F: LengthField>()
         ↔ Counted F.field.spells s (λ c. c ≡ contents)) }
 {}
 
-/// If a source tells its bytes and has given just a spelling, the bytes that were to come begin
-/// with that spelling, and what is to come now is the rest of them.
+/// If a source reports its bytes and has given just an encoding, the bytes that were to come begin
+/// with that encoding, and what is to come now is the rest of them.
 pub fn just_the_rest_is_to_come<T: Size, R: Source>()
     ensures { (old : R) (v : Tree) (new : R)
         → GaveSpelling R.given T.format.spells old new v

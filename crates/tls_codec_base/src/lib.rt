@@ -2,9 +2,9 @@
 //! grammar of each type, the laws it meets and the contracts of its decoders and encoders.
 //!
 //! The layer above relies only on the contracts of [`traits`], and so do the types here that have
-//! parameters. A decoder accepts exactly the inputs that begin with a spelling, gives its one value
-//! and leaves the rest unread. An encoder writes the shortest form of its value, its canonical
-//! encoding.
+//! parameters. A decoder accepts exactly the inputs that begin with an encoding, gives its one
+//! value and leaves the rest unread. An encoder writes the shortest form of its value, its
+//! canonical encoding.
 //!
 //! - [`traits`]: [`Size`], [`Serialize`], [`SerializeBytes`], [`Deserialize`], [`DeserializeBytes`].
 //! - [`numbers`]: `u8`, `u16`, `U24`, `u32` and `u64`.

@@ -17,7 +17,7 @@ pub use writing::{
 
 /// How often a list engine tried to read an element.
 ///
-/// It grows by one with each attempt, also with a refused one, up to `u64::MAX`. If elements are
+/// It grows by one with each attempt, also with a failed one, up to `u64::MAX`. If elements are
 /// read at once, it grows by their number.
 ///
 /// ```rust
@@ -49,14 +49,14 @@ impl Turns {
         self.count
     }
 
-    // One turn more.
+    // Adds one turn.
     fn turn(&mut self)
         ensures { TurnedBy 1 self.old self.new }
     {
         self.turn_by(1);
     }
 
-    // So many turns more.
+    // Adds `more` turns.
     pub(crate) fn turn_by(&mut self, more: usize)
         ensures { TurnedBy more self.old self.new }
     {

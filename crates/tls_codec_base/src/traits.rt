@@ -1,4 +1,4 @@
-//! The five traits of a type with a spelling, and their contracts.
+//! The five traits of a type with an encoding, and their contracts.
 ghost use Rattle.std.specs.Prelude.{◌≡◌, ◌⊎◌, List, ℕ, IfErr, IfSome, IsErrAnd};
 ghost use Rattle.tls_codec_wire.specs.Bounded.{BorrowAlike};
 ghost use Rattle.tls_codec_wire.specs.Counts.{Counts, no_counts};
@@ -16,9 +16,9 @@ use crate::lists::Turns;
 use std::alloc::Global;
 use tls_codec_wire::{Bounded, Error, Sink, Source};
 
-/// A type whose values have spellings in bytes.
+/// A type whose values have encodings in bytes.
 ///
-/// For contracts it carries what a value stands for, and its format: which bytes spell it, its
+/// For contracts it carries what a value stands for, and its format: which bytes encode it, its
 /// announced length, and which errors there are if no bytes do.
 pub trait Size {
     // What a value stands for.
@@ -32,8 +32,8 @@ pub trait Size {
     fn tls_serialized_len(&self) -> usize
         ensures { result ≡ format.announced (plain self.now) };
 
-    /// The number of bytes of each value's shortest form, if all values have as many. It is none if they
-    /// don't, or if that isn't known.
+    /// The number of bytes of each value's shortest form, if all values have the same number.
+    /// `None` if they don't, or if that isn't known.
     ///
     /// Provided. A type of fixed width may return it; then lengths of its lists need no sums.
     fn tls_fixed_len() -> Option<usize>
@@ -42,8 +42,8 @@ pub trait Size {
         None
     }
 
-    /// Sends the elements' shortest forms in a row, and returns how many bytes that is, saturated at
-    /// `usize::MAX`. It is none, and nothing is sent, if such elements are sent one by one.
+    /// Sends the elements' shortest forms in a row, and returns how many bytes that is, saturated
+    /// at `usize::MAX`. `None` if such elements are sent one by one; then nothing is sent.
     ///
     /// Provided. A type of fixed width may do it at once, and every list then goes through here.
     fn tls_send_elements<W: Sink>(elements: &[Self], sink: &mut W) -> Result<Option<usize>, Error>
@@ -112,12 +112,12 @@ pub trait Deserialize: Size + Drop {
     // Which errors are named, by the bytes that were seen and by the counts before and after.
     ghost names: { List ℕ → Counts → Counts → Error → Type 0 } = { λ x old new e. Unit {0} };
 
-    /// The value that the bytes to come begin with. Only its spelling is taken.
+    /// The value that the bytes to come begin with. Only its encoding is taken.
     fn tls_deserialize<R: Source>(alloc: Global, bytes: &mut R) -> Result<Self, Error>
         ensures reads { Reads Self.format Self.plain R.Source bytes.old bytes.new result }
         ensures named { IfErr result (Named Self.format names R.Source bytes.old bytes.new) };
 
-    /// The value that all of the bytes spell, read as from a source.
+    /// The value that all of the bytes encode, read as from a source.
     ///
     /// `TrailingData`: a value was read, and a byte is left. Every other refusal is that of
     /// [`tls_deserialize`](Deserialize::tls_deserialize).
@@ -135,11 +135,11 @@ pub trait Deserialize: Size + Drop {
         Ok(value)
     }
 
-    /// The elements that fill what a source may still give, each of which is a turn. It is none, and
-    /// nothing is taken, if such elements are read one by one.
+    /// The elements that fill what a source may still give. Each element is a turn. `None` if such
+    /// elements are read one by one; then nothing is taken.
     ///
-    /// Provided. A type of fixed width may do it at once, and every list then goes through here. If the list is
-    /// refused, the attempt that failed is a turn too.
+    /// Provided. A type of fixed width may do it at once, and every list then goes through here. If
+    /// the list is rejected, the attempt that failed is a turn too.
     fn tls_read_elements<R: Source>(
         _alloc: Global,
         within: &mut Bounded<R>,
@@ -166,7 +166,7 @@ pub trait DeserializeBytes: Size + Drop {
         ensures splits { Splits Self.format Self.plain bytes.now result }
         ensures named { IfErr result (names bytes.now) };
 
-    /// The value that all of the bytes spell.
+    /// The value that all of the bytes encode.
     ///
     /// `TrailingData`: a value was read, and a byte is left. Every other refusal is that of
     /// [`tls_deserialize_bytes`](DeserializeBytes::tls_deserialize_bytes).
@@ -183,7 +183,7 @@ pub trait DeserializeBytes: Size + Drop {
         Ok(value)
     }
 
-    /// The elements that all of these bytes spell in a row. It is none if such elements are read one
+    /// The elements that all of these bytes encode in a row. `None` if such elements are read one
     /// by one.
     ///
     /// Provided. A type of fixed width may do it at once, and every list then goes through here.

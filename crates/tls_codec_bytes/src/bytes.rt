@@ -19,7 +19,7 @@ use tls_codec_base::{LengthField, opaque};
 use tls_codec_vec::collecting::collected;
 use tls_codec_wire::{Error, U24};
 
-/// Bytes. Their spelling is their number as the length field `F`, and then the bytes.
+/// Bytes. Their encoding is their number as the length field `F`, and then the bytes.
 ///
 /// They are compared and hashed as a list of bytes is.
 ///

@@ -1,5 +1,5 @@
-//! Byte vectors are spelled as bytes after a length of one to four bytes. What conversions, clones and places
-//! give. Byte vectors are compared and hashed as the lists of their bytes are.
+//! Byte vectors are encoded as bytes after a length of one to four bytes. What conversions, clones
+//! and places give. Byte vectors are compared and hashed as the lists of their bytes are.
 //!
 //! The functions do nothing. Their contracts state this, and so are proved.
 ghost use Rattle.std.specs.Prelude.{◌≡◌, ◌↔◌, ◌<◌, ℕ, IsTrue, List, Some, Vec, length, slice_get};
@@ -43,8 +43,8 @@ pub fn places_give_their_bytes<F>()
         ↔ (slice_get (bytes_of v) i ≡ Some x) }
 {}
 
-/// The four names have the spellings of a list of bytes whose length has one to four bytes (RFC 8446,
-/// section 3.4).
+/// The four names have the encodings of a list of bytes whose length has one to four bytes (RFC
+/// 8446, section 3.4).
 pub fn byte_vecs_are_bytes_behind_one_to_four_bytes()
     ensures one { (d : Direction) (b : List ℕ) (v : Tree)
         → ⟦<TlsByteVec<u8> as Size>⟧.format.spells d b v

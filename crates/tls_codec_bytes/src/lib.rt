@@ -6,7 +6,8 @@
 //!
 //! - [`bytes`]: [`TlsByteVec`] and its own calls, under a name for each width.
 //! - [`coding`]: how it is written and read.
-//! - [`laws`]: what byte vectors stand for, how they are spelled and compared. It does nothing when it runs.
+//! - [`laws`]: what byte vectors stand for, how they are encoded and compared. It does nothing when
+//!   it runs.
 #![tactic(auto)]
 
 pub mod bytes;

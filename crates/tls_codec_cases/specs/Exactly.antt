@@ -31,7 +31,7 @@ exactly_field_meets count small = record {
   cut = λ e p. (λ h. cc, λ h. cc);
 }
 
--- elements that have so many bytes together, as `T name[count]`
+-- elements that together have this number of bytes, as `T name[count]`
 abbrev pub exactly_list_format : ℕ → Format → Format
 exactly_list_format count element = counted_list_format (exactly_field count) element
 

@@ -1,4 +1,4 @@
--- A value and the bytes behind it, which go to the end of what is read (RFC 6520, section 4).
+-- A value and the bytes after it, which go to the end of what is read (RFC 6520, section 4).
 use Rattle.tls_codec_grammar.specs.Tree.{Tree, Join, number_trees}
 use Rattle.tls_codec_grammar.specs.Format.{Format, fields_format}
 use Rattle.tls_codec_grammar.specs.Inside.{bytes_to_end_format}

@@ -14,7 +14,7 @@ abbrev pub third_of : Tree → Tree
 third_of (Join _ (Join _ (Join c _))) = c
 third_of _ = Empty
 
--- what is behind the first part
+-- what is after the first part
 abbrev pub rest_of : Tree → Tree
 rest_of (Join _ b) = b
 rest_of _ = Empty

@@ -1,4 +1,5 @@
--- Bytes, the type of what they are, and zeros behind it, which go to the end of what is read (RFC 8446, sections 5.2 and 5.4).
+-- Bytes, the type of what they are, and zeros after it, which go to the end of what is read (RFC
+-- 8446, sections 5.2 and 5.4).
 use Rattle.std.specs.Prelude.{◌≡◌, ◌≢◌, ◌⊎◌, ◌++◌, ◌∷◌, [], All, List, codes, length, ℕ}
 use Rattle.tls_codec_wire.specs.declared.error.Error.{Error}
 use Rattle.tls_codec_wire.specs.declared.error.Error.TheVariants.{EncodingError, OutOfMemory, TrailingData}

@@ -1,4 +1,4 @@
--- The laws of bytes with their type behind them: the type is the last byte that isn't zero.
+-- The laws of bytes with their type after them: the type is the last byte that isn't zero.
 use Rattle.std.proofs.Common.{◌≡◌, ◌≢◌, ℕ, ◌+◌, List, [], ◌∷◌, ◌++◌, length, inl, inr, refl, sym, ap, subst, ◌∙◌, arith, length-append}
 use Rattle.std.specs.Prelude.{◌⊎◌, All}
 use Rattle.std.proofs.lemmas.List.{append_cancel_left}

@@ -1,4 +1,4 @@
--- A value and zeros behind it, which go to the end of what is read (RFC 9420, section 6.3.1).
+-- A value and zeros after it, which go to the end of what is read (RFC 9420, section 6.3.1).
 use Rattle.tls_codec_grammar.specs.Tree.{Tree, Join, Number}
 use Rattle.tls_codec_grammar.specs.Format.{Format, fields_format}
 use Rattle.tls_codec_grammar.specs.Inside.{zeros_format}

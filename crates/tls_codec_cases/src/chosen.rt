@@ -40,7 +40,7 @@ impl Selector for u16 {
     }
 }
 
-/// One of the cases `C`, whose tag a context says. No byte tells it.
+/// One of the cases `C`, whose tag a context says. No byte shows it.
 ///
 /// `UnknownValue(tag)`: no case has the context's tag. `EncodingError("value does not fit its context")`: the value is of
 /// another case, and nothing was sent. If two cases have one tag, no bytes are an encoding, and every call returns

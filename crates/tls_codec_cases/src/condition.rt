@@ -1,5 +1,6 @@
-//! [`Is`] and [`AnyOf`]: what is there for some values of a tag alone, as `case commit: MAC confirmation_tag;` of
-//! RFC 9420, section 6.1. As `When<Is<3>, T>` it is optional, and no byte tells whether it is there.
+//! [`Is`] and [`AnyOf`]: what is there for some values of a tag alone, as
+//! `case commit: MAC confirmation_tag;` of RFC 9420, section 6.1. As `When<Is<3>, T>` it is
+//! optional, and no byte shows whether it is there.
 ghost use Rattle.std.specs.Prelude.{◌==◌, ◌||◌};
 
 use crate::chosen::Selector;

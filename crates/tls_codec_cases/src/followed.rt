@@ -1,4 +1,4 @@
-//! [`Followed`], a value and the bytes behind it, to the end of what is read.
+//! [`Followed`], a value and the bytes after it, to the end of what is read.
 ghost use Rattle.std.specs.Prelude.{◌≡◌, ◌⊎◌, IfErr};
 ghost use Rattle.tls_codec_wire.specs.declared.error.Error.TheVariants.{OutOfMemory};
 ghost use Rattle.tls_codec_grammar.specs.Encoding.{AppendsForm};
@@ -11,20 +11,23 @@ use tls_codec_base::{DeserializeBytes, Serialize, Size};
 use tls_codec_grammar::opaque::{copied, see_bytes};
 use tls_codec_wire::Error;
 
-/// A value and the bytes behind it, as `opaque padding[padding_length];` of a heartbeat (RFC 6520, section 4).
+/// A value and the bytes after it, as `opaque padding[padding_length];` of a heartbeat (RFC 6520,
+/// section 4).
 ///
-/// A value with fewer bytes is one too. So no spelling says where it ends, and it is read of all the bytes that there are.
+/// A value with fewer bytes is one too. So no encoding says where it ends, and it is read from all
+/// the bytes that there are.
 #[derive(PartialEq, Eq, Debug, Clone, Drop)]
 pub struct Followed<T> {
     pub content: T,
-    /// All bytes behind it.
+    /// All bytes after it.
     pub rest: Vec<u8>,
 }
 
 impl<T> Followed<T> {
-    /// The value that all of the bytes spell.
+    /// The value that all of the bytes encode.
     ///
-    /// `OutOfMemory`: there was none for the bytes behind the content. Every other refusal is the content's.
+    /// `OutOfMemory`: there was none for the bytes after the content. Every other refusal is the
+    /// content's.
     pub fn tls_deserialize_exact_bytes(alloc: Global, bytes: &[u8]) -> Result<Followed<T>, Error>
     where
         T: DeserializeBytes,

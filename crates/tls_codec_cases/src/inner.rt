@@ -1,4 +1,4 @@
-//! [`InnerPlaintext`], bytes with their type behind them, and zeros to the end of what is read.
+//! [`InnerPlaintext`], bytes with their type after them, and zeros to the end of what is read.
 ghost use Rattle.std.specs.Prelude.{◌≡◌, ◌↔◌, All, IfErr, IsTrue, MatchOption};
 ghost use Rattle.tls_codec_grammar.specs.Encoding.{AppendsForm};
 ghost use Rattle.tls_codec_grammar.specs.Inside.{ReadsInside};
@@ -16,8 +16,9 @@ use tls_codec_wire::Error;
 /// Bytes, the type of what they are, and zeros, as `TLSInnerPlaintext`, which is what a record encrypts (RFC 8446,
 /// section 5.2).
 ///
-/// No length says where the bytes end: the type is the last byte that isn't zero (section 5.4). So its value is spelled as
-/// one byte that isn't zero, and it is read of all the bytes that there are.
+/// No length says where the bytes end: the type is the last byte that isn't zero (section 5.4). So
+/// its value is encoded as one byte that isn't zero, and it is read of all the bytes that there
+/// are.
 #[derive(PartialEq, Eq, Debug, Clone, Drop)]
 pub struct InnerPlaintext<T> {
     pub content: Vec<u8>,
@@ -28,7 +29,7 @@ pub struct InnerPlaintext<T> {
 }
 
 impl<T> InnerPlaintext<T> {
-    /// The value that all of the bytes spell.
+    /// The value that all of the bytes encode.
     ///
     /// `DecodingError("type is not there")`: there is no byte but zeros. `OutOfMemory`: there was none for the content.
     /// Every other refusal is that of the type's byte.
@@ -87,7 +88,8 @@ impl<T> InnerPlaintext<T> {
     }
 }
 
-// What is before the last byte that isn't zero, that byte, and how many zeros are behind it. None: each byte is zero.
+// What is before the last byte that isn't zero, that byte, and how many zeros are after it. `None`:
+// each byte is zero.
 fn split_at_type(bytes: &[u8]) -> Option<(&[u8], &[u8], usize)>
     ensures { MatchOption result (All (λ b. b ≡ 0) bytes.now)
         (λ found. EndsIn bytes.now found.0.now found.1.now found.2) }

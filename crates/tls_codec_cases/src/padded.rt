@@ -1,4 +1,4 @@
-//! [`Padded`], a value and zeros behind it, to the end of what is read.
+//! [`Padded`], a value and zeros after it, to the end of what is read.
 ghost use Rattle.std.specs.Prelude.{◌≡◌, ◌↔◌, ◌⊎◌, All, IfErr, IsTrue, codes};
 ghost use Rattle.tls_codec_grammar.specs.Encoding.{AppendsForm};
 ghost use Rattle.tls_codec_grammar.specs.Errors.{Says};
@@ -10,11 +10,12 @@ use std::alloc::Global;
 use tls_codec_base::{DeserializeBytesFor, SerializeFor, Size, SizeFor};
 use tls_codec_wire::Error;
 
-/// A value and the zeros behind it, as `opaque padding[length_of_padding];` of a message that is encrypted
-/// (RFC 9420, section 6.3.1).
+/// A value and the zeros after it, as `opaque padding[length_of_padding];` of a message that is
+/// encrypted (RFC 9420, section 6.3.1).
 ///
-/// A value with fewer zeros is one too. So no spelling says where it ends, and it is read of all the bytes that there
-/// are. A value without a context is one in any context as [`Always<T>`](tls_codec_base::Always).
+/// A value with fewer zeros is one too. So no encoding says where it ends, and it is read from all
+/// the bytes that there are. A value without a context is one in any context as
+/// [`Always<T>`](tls_codec_base::Always).
 #[derive(PartialEq, Eq, Debug, Clone, Drop)]
 pub struct Padded<T> {
     pub content: T,
@@ -23,9 +24,10 @@ pub struct Padded<T> {
 }
 
 impl<T> Padded<T> {
-    /// The value that all of the bytes spell in this context.
+    /// The value that all of the bytes encode in this context.
     ///
-    /// `DecodingError("padding is not zeros")`: a byte behind the content is another. Every other refusal is the content's.
+    /// `DecodingError("padding is not zeros")`: a byte after the content isn't zero. Every other
+    /// refusal is the content's.
     pub fn tls_deserialize_exact_bytes_for<C: Size>(
         context: &C,
         alloc: Global,

@@ -1,4 +1,4 @@
-//! [`Tag`], an unsigned integer that tells the cases of a sum apart.
+//! [`Tag`], an unsigned integer that distinguishes the cases of a sum.
 ghost use Rattle.std.specs.Prelude.{◌≡◌, ◌<◌, ◌≤◌, ◌^◌, ℕ, IfErr, length};
 ghost use Rattle.std.proofs.Common.{arith};
 ghost use Rattle.tls_codec_wire.specs.Transfer.{ReadRefused};

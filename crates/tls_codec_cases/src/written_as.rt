@@ -1,4 +1,4 @@
-//! [`write_as`] and [`append_as`], by which a value is written as its borrowed cases.
+//! [`write_as`] and [`append_as`], which write a value as its borrowed cases.
 //!
 //! Their signatures don't name [`Error`], which has a text that is `'static`: the borrow checker covers no
 //! type argument of several lifetimes in a call whose signature does.

@@ -55,7 +55,7 @@ abbrev pub DoesNotFit : Error → Type 0
 DoesNotFit (EncodingError text) = text.now ≡ codes "value does not fit its context"
 DoesNotFit _ = ⊥
 
--- ---- a payload that is there or not, as the context says: no byte tells it
+-- ---- a payload that is there or not, as the context says: no byte shows it
 
 abbrev pub present : Bool → Grammar → Grammar
 present true payload d b (Join v Empty) = payload d b v
@@ -82,8 +82,9 @@ present_format there payload = record {
   out_of_bounds = λ v. ⊥;
 }
 
--- ---- a select whose tag is elsewhere: the parts of the variant that has the tag n. A value names its tag, and no byte
--- ---- tells it; so a value of another variant has no spelling, even if its parts have the same form
+-- ---- a select whose tag is elsewhere: the parts of the variant that has the tag n. A value names
+-- ---- its tag, and no byte shows it; so a value of another variant has no spelling, even if its
+-- ---- parts have the same form
 
 abbrev pub chosen : ℕ → Variants → Grammar
 chosen n variants d b (Join (Number tag) vs) = (tag ≡ n) × (variants.parts tag).spells d b vs

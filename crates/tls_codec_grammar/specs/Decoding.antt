@@ -68,14 +68,14 @@ pub record GaveSpelling {S : Type 0} (given : S → List ℕ → S → Type 0) (
   pub held : given old front new
   pub spelled : spells Reading front v
 
--- the bytes that were to come, if they are told, begin with a spelling of v, and the rest is to come now
+-- the bytes that were to come, if reported, begin with a spelling of v, and the rest is to come now
 abbrev pub ComesFirst : Grammar → Option (List ℕ) → Tree → Option (List ℕ) → Type 0
 ComesFirst spells None v new = ⊤
 ComesFirst spells (Some x) v None = ⊥
 ComesFirst spells (Some x) v (Some rest) = Begins spells x v rest
 
--- why a source is refused, of which x was seen: no prefix of x is a spelling, a fault of the source was counted, or
--- there was no memory; a lean type returns that only if the source had none
+-- why a source is refused, after x was seen of it: no prefix of x is a spelling, a fault of the
+-- source was counted, or there was no memory; a lean type returns that only if the source had none
 pub record RefusesSource (spells : Grammar) (lean : Bool) (x : List ℕ) (old new : Counts) (e : Error) : Type 0 where
   pub cause : NoneBegins spells x ⊎ (FaultIsCounted old new ⊎ (e ≡ OutOfMemory))
   pub memory : e ≡ OutOfMemory → (lean ≡ false) ⊎ RoseBy 1 old.shortages new.shortages
@@ -93,7 +93,7 @@ part_source_names part names x old new e = RefusesSource part.spells part.lean x
 pub record Named {S : Type 0} (f : Format) (names : Causes) (source : Ghosts S) (old new : S) (e : Error) : Type 0 where
   pub refused : RefusedFor source (part_source_names f names) old new e
 
--- from a source, of which just a spelling is taken
+-- from a source; only a spelling is taken from it
 abbrev pub Reads : {T S : Type 0} → Format → (T → Tree) → Ghosts S → S → S → Result T Error → Type 0
 Reads f plain source old new (Ok v) = GaveSpelling source.given f.spells old new (plain v)
 Reads f plain source old new (Err e) = LeavesSource f source old new e
@@ -110,8 +110,8 @@ ReadsWhole f plain x (Err e) = RefusesWhole f.spells f.lean x e
 
 -- ---- elements at once
 
--- elements that all of some bytes spell in a row, or none, of which nothing is said; or there was no memory for them,
--- though one begins the bytes
+-- elements that all of some bytes spell in a row, or none, and then nothing is said of the bytes;
+-- or there was no memory for them, though one begins the bytes
 abbrev pub AllRead : {T : Type 0} → Format → (T → Tree) → List ℕ → Result (Option (Vec T Global)) Error → Type 0
 AllRead f plain x (Ok (Some elements)) = content f.spells Reading x (trees plain elements.items)
 AllRead f plain x (Ok None) = ⊤

@@ -46,7 +46,7 @@ AllSent f v sink old new (Err e) = Breaks (content_format f) v sink old new e
 
 -- ---- to a vector
 
--- each shortest form of v, of which there is one at most, passes `isize::MAX` bytes
+-- each shortest form of v passes `isize::MAX` bytes; there is one such form at most
 abbrev pub PassesVector : Grammar → Tree → Type 0
 PassesVector spells v = (form : List ℕ) → IsShortest spells form v → 2 ^ 63 ≤ length form
 

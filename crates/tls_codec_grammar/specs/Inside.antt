@@ -1,4 +1,4 @@
--- A struct inside a length, and what goes up to an end that something else tells.
+-- A struct inside a length, and what goes up to an end that something else determines.
 use Rattle.std.specs.Prelude.{◌≡◌, ◌⊎◌, ℕ, List, length, All, Result, Ok, Err}
 use Rattle.tls_codec_wire.specs.declared.error.Error.{Error}
 use Rattle.tls_codec_wire.specs.declared.error.Error.TheVariants.{OutOfMemory}

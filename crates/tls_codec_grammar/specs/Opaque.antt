@@ -19,8 +19,9 @@ OpaqueRefused field x e = field.refuses x e ⊎ (field.cut_off e × IsCutOff fie
 abbrev pub OpaqueCopyRefused : Field → List ℕ → Error → Type 0
 OpaqueCopyRefused field x e = ((e ≡ OutOfMemory) × BeginsSome (counted_bytes_format field).spells x) ⊎ OpaqueRefused field x e
 
--- why they are not read from a source, of which x was seen: it failed, it had no memory, there was no memory for the bytes
--- after a length, x ends within a length or within what it declares, or the length is refused
+-- why they are not read from a source, after x was seen of it: it failed, it had no memory, there
+-- was no memory for the bytes after a length, x ends within a length or within what it declares, or
+-- the length is refused
 abbrev pub OpaqueSourceRefused : Field → List ℕ → Counts → Counts → Error → Type 0
 OpaqueSourceRefused field x old new (DecodingError text) = IsReadFailure text old new ⊎ field.refuses x (DecodingError text)
 OpaqueSourceRefused field x old new OutOfMemory = RoseBy 1 old.shortages new.shortages ⊎ BeginsLength field x
@@ -40,7 +41,7 @@ abbrev pub TextRefused : List ℕ → Error → Type 0
 TextRefused x e =
     ((e ≡ OutOfMemory) × BeginsSome text x) ⊎ (OpaqueRefused variable_field x e ⊎ (Says (codes "invalid utf8") e × IsNoText x))
 
--- why a text is not read from a source, of which x was seen
+-- why a text is not read from a source, after x was seen of it
 abbrev pub TextSourceRefused : List ℕ → Counts → Counts → Error → Type 0
 TextSourceRefused x old new e =
     OpaqueSourceRefused variable_field x old new e ⊎ (Says (codes "invalid utf8") e × IsNoText x)

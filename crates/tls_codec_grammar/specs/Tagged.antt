@@ -27,7 +27,7 @@ abbrev pub either_format : Bool → Format → Format → Format
 either_format true these those = these
 either_format false these those = those
 
--- the variant of this tag has these parts; the others tell what comes after another tag
+-- the variant of this tag has these parts; the others say what comes after another tag
 abbrev pub variant : ℕ → Format → Variants → Variants
 variant own parts others = record {
   has = λ tag. (tag == own) || others.has tag;

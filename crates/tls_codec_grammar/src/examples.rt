@@ -1,4 +1,4 @@
-//! Worked examples of the definitions: what is a spelling, and what isn't.
+//! Worked examples of the definitions: what is an encoding, and what isn't.
 ghost use Rattle.std.specs.Prelude.{◌≡◌, ℕ, List, [], ◌∷◌, ◌++◌};
 ghost use Rattle.tls_codec_wire.specs.Varint.{LaidOut, VectorLength};
 ghost use Rattle.tls_codec_grammar.specs.Tree.{Tree, Number, Empty, Join, number_trees};

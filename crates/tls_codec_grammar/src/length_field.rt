@@ -42,8 +42,8 @@ pub trait LengthField {
     fn width(length: usize) -> usize
         ensures { result ≡ field.width length };
 
-    /// The bytes of a length: those of these eight from this place on. It is none if the field
-    /// doesn't hold the length.
+    /// The bytes of a length: those of these eight from this place on. `None` if the field doesn't
+    /// hold the length.
     fn form(length: usize) -> Option<([u8; 8], usize)>
         ensures { MatchOption result (¬ field.holds length)
             (λ form. (form.1 ≤ 8) × field.spells (drop form.1 form.0) length) };
@@ -51,9 +51,9 @@ pub trait LengthField {
     /// Reads a length. Only its bytes are taken.
     ///
     /// `DecodingError("read failed")` and `OutOfMemory` are the source's, as in
-    /// [`read_exactly`](tls_codec_wire::read_exactly). Every other refusal is the field's: `EndOfStream`
-    /// if the bytes end within a length. Of a [`TlsVarInt`] it is also `InvalidVectorLength`, if the
-    /// length has more bytes than it needs, or is above the greatest.
+    /// [`read_exactly`](tls_codec_wire::read_exactly). Every other refusal is the field's:
+    /// `EndOfStream` if the bytes end within a length. For a [`TlsVarInt`] it is also
+    /// `InvalidVectorLength`, if the length has more bytes than it needs, or is above the greatest.
     fn read_length<R: Source>(src: &mut R) -> Result<usize, Error>
         ensures gave { Gave R.given src.old src.new }
         ensures ok { IfOk result (λ n. GaveNumber R.given field.spells src.old src.new n) }
@@ -69,8 +69,8 @@ pub trait LengthField {
             (λ found. BeginsNumber field.spells bytes.now found.0 found.1.now) }
         ensures err { IfErr result (field.refuses bytes.now) };
 
-    /// How bytes are refused if there are fewer than the field before them declares, and they are
-    /// taken at once and not as elements.
+    /// The error if there are fewer bytes than the field before them declares, and they are taken
+    /// at once and not as elements.
     fn cut_off() -> Error
         ensures { field.cut_off result };
 

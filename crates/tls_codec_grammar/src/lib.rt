@@ -1,4 +1,4 @@
-//! What the formats of the TLS presentation language are (RFC 8446, section 3): which bytes spell
+//! What the formats of the TLS presentation language are (RFC 8446, section 3): which bytes encode
 //! which value, which laws a format meets, and what decoders and encoders of it return.
 //!
 //! The definitions are in `specs`. The calls here need no trait of a value: they know the width of a

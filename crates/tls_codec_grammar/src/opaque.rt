@@ -79,7 +79,7 @@ pub fn to_vec<F: LengthField>(alloc: Global, content: &[u8]) -> Result<Vec<u8>, 
     Ok(form)
 }
 
-/// The bytes that a prefix of `whole` spells, and the rest of it. Neither is copied.
+/// The bytes that a prefix of `whole` encodes, and the rest of it. Neither is copied.
 ///
 /// If no length begins it, the refusal is that of [`split_length`](LengthField::split_length). If fewer
 /// bytes come after the length than it declares, it is the field's [`cut_off`](LengthField::cut_off).
@@ -96,7 +96,7 @@ pub fn split<F: LengthField>(whole: &[u8]) -> Result<(&[u8], &[u8]), Error>
     Ok(rest.split_at(length))
 }
 
-/// A copy of the bytes that a prefix of `whole` spells, and the rest of it, which isn't copied.
+/// A copy of the bytes that a prefix of `whole` encodes, and the rest of it, which isn't copied.
 ///
 /// `OutOfMemory`: allocation failed for the copy of bytes that are all there. Every other refusal is as in
 /// [`split`].
@@ -149,11 +149,11 @@ pub fn push(content: &mut Vec<u8>, byte: u8) -> Result<(), Error>
     }
 }
 
-/// The bytes that the bytes to come spell. Only their spelling is taken.
+/// The bytes that the bytes to come encode. Only their encoding is taken.
 ///
-/// Room is requested as they come. `EndOfStream`: fewer bytes come than the length declares. The length is
-/// refused as in [`read_length`](LengthField::read_length). `DecodingError("read failed")` and `OutOfMemory`
-/// are as in `read_bytes_bounded`.
+/// Room is requested as they come. `EndOfStream`: fewer bytes come than the length declares. The
+/// length is rejected as in [`read_length`](LengthField::read_length).
+/// `DecodingError("read failed")` and `OutOfMemory` are as in `read_bytes_bounded`.
 #[inline(always)]
 pub fn read<F: LengthField, R: Source>(alloc: Global, src: &mut R) -> Result<Vec<u8>, Error>
     ensures reads { Reads (counted_bytes_format F.field) (λ content. number_trees content.items)
@@ -168,8 +168,8 @@ pub fn read<F: LengthField, R: Source>(alloc: Global, src: &mut R) -> Result<Vec
     Ok(content)
 }
 
-/// Does nothing. The prover knows that what a slice refers to is bytes. Of a vector's items it
-/// doesn't know that before.
+/// Does nothing. The prover knows that what a slice refers to is bytes. It doesn't know that about
+/// a vector's items before this call.
 pub fn see_bytes(_content: &[u8])
     ensures { AreBytes _content.now }
 {}

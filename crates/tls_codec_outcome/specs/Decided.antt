@@ -8,7 +8,7 @@ use Rattle.tls_codec_outcome.specs.Ends.{EndsAt, field_ends, pair_ends, splits_a
 use Rattle.tls_codec_outcome.specs.Fields.{IsFieldFrom, bytes_at, span_end}
 use Rattle.tls_codec_outcome.specs.declared.fields.Span.{Span}
 
--- the part at `from` has a value, and the two behind it are as this value decides
+-- the part at `from` has a value, and the two after it are as this value decides
 pub record AreDecided (first : Format) (second third : Tree → Format) (x : List ℕ) (from : ℕ) (a b c : Span) : Type 0 where
   pub value : Tree
   pub first_begins : a.offset ≡ from

@@ -9,7 +9,7 @@ use Rattle.tls_codec_outcome.specs.declared.fields.Span.{Span}
 abbrev pub left_in : List ℕ → Span → List ℕ
 left_in x left = bytes_at left.offset left.size x
 
--- what is left in x begins with the element, and the others are what is left behind it
+-- what is left in x begins with the element, and the others are what is left after it
 pub record IsNext (f : Format) (x : List ℕ) (left element others : Span) : Type 0 where
   pub begins : element.offset ≡ left.offset
   pub within : 0 < element.size → span_end element ≤ length x

@@ -8,18 +8,18 @@ use Rattle.tls_codec_validate.specs.Validated.{BeginsLeaving}
 use Rattle.tls_codec_outcome.specs.Fields.{IsContent, IsContentFrom, IsField, IsFieldFrom, bytes_at, span_end}
 use Rattle.tls_codec_outcome.specs.declared.fields.Span.{Span}
 
--- an encoding begins at `from`, and what is behind it begins at `end`
+-- an encoding begins at `from`, and what is after it begins at `end`
 pub record EndsAt (f : Format) (x : List ℕ) (from end : ℕ) : Type 0 where
   pub within : end ≤ length x
   pub leaves : BeginsLeaving f.spells (drop from x) (drop end x)
 
 -- ---- one part
 
--- the bytes at a place, and what is behind them
+-- the bytes at a place, and what is after them
 pub splits_at : (x : List ℕ) (from size : ℕ) → drop from x ≡ bytes_at from size x ++ drop (from + size) x
 splits_at x from size = sym (take-append-drop size (drop from x)) ∙ ap (λ (u : List ℕ). bytes_at from size x ++ u) (drop-drop size from x)
 
--- the bytes at a place begin with a field, and what is behind it is left
+-- the bytes at a place begin with a field, and what is after it is left
 pub leaves_behind : (f : Format) (x : List ℕ) (from size : ℕ) → IsField f x from size → BeginsLeaving f.spells (drop from x) (drop (from + size) x)
 leaves_behind f x from size p = record {
   value = p.spelled.0;

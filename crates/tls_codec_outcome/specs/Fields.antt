@@ -8,7 +8,7 @@ use Rattle.tls_codec_grammar.specs.Decoding.{Begins, BeginsSome}
 use Rattle.tls_codec_base.specs.Refusals.{IsSpelling}
 use Rattle.tls_codec_outcome.specs.declared.fields.Span.{Span}
 
--- so many bytes of x from a place on
+-- n bytes of x from a place on
 abbrev pub bytes_at : ℕ → ℕ → List ℕ → List ℕ
 bytes_at from size x = take size (drop from x)
 

@@ -26,7 +26,7 @@ pub fn validate<T: Validate>(bytes: &[u8]) -> Outcome
     }
 }
 
-/// The same by the decoder, which makes the value and drops it. It tells no place, so `at` is 0.
+/// The same by the decoder, which makes the value and drops it. It reports no place, so `at` is 0.
 ///
 /// `OutOfMemory`: allocation failed, and nothing is said of the bytes.
 pub fn check<T: DeserializeBytes>(alloc: Global, bytes: &[u8]) -> Outcome
@@ -41,7 +41,7 @@ pub fn check<T: DeserializeBytes>(alloc: Global, bytes: &[u8]) -> Outcome
     }
 }
 
-// The answer for bytes that begin with an encoding, of which this is the rest.
+// The answer for bytes that begin with an encoding. This is the rest of them.
 #[inline(always)]
 fn accepted(bytes: &[u8], rest: &[u8]) -> Outcome
     ensures status { result.status ≡ 0 }

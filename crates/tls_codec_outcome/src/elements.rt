@@ -9,9 +9,11 @@ use crate::fields::{Span, behind};
 use crate::outcome::{ACCEPTED, Outcome};
 use tls_codec_validate::Validate;
 
-/// The element that the place begins with, of a list of which the bytes there are left. What is left then is behind it.
+/// The element that the place `left` begins with. The bytes there are the rest of a list. What is
+/// left then comes after the element.
 ///
-/// It says what [`validate`] does of the bytes that are left. If those are rejected, both places are as they were.
+/// It says what [`validate`] says of the bytes that are left. If those are rejected, both places
+/// are as they were.
 pub fn next<T: Validate>(bytes: &[u8], left: &mut Span, element: &mut Span) -> Outcome
     ensures status { Decides T.format (left_in bytes.now left.old) result.status }
     ensures taken { IsTaken T.format (left_in bytes.now left.old) result.status result.taken }
@@ -35,7 +37,7 @@ pub fn next<T: Validate>(bytes: &[u8], left: &mut Span, element: &mut Span) -> O
     said
 }
 
-// So many bytes from an offset on, or those that are there.
+// `size` bytes from an offset on, or those that are there.
 fn place(bytes: &[u8], offset: usize, size: usize) -> &[u8]
     ensures { result.now ≡ bytes_at offset size bytes.now }
 {

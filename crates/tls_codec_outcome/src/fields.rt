@@ -17,7 +17,7 @@ pub struct Span {
 }
 
 impl Span {
-    /// The place behind it.
+    /// The place after it.
     pub fn end(&self) -> usize
         ensures { span_end self.now < 2 ^ 64 → result ≡ span_end self.now }
     {

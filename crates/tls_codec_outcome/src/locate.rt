@@ -11,7 +11,8 @@ use std::marker::PhantomData;
 use tls_codec_base::LengthField;
 use tls_codec_validate::Validate;
 
-/// A part of a message, of which the place is found. A tuple of parts is one too: they come one after another.
+/// A part of a message. Its place can be found. A tuple of parts is one too: they come one after
+/// another.
 pub trait Locate {
     /// Its place; of a tuple those of its parts.
     type Places;
@@ -22,7 +23,7 @@ pub trait Locate {
     // Where it ends.
     ghost end: { Self.Places → ℕ };
 
-    // Of what begins at an offset in some bytes, these are the places.
+    // These are the places of what begins at an offset in some bytes.
     ghost are_places: { List ℕ → ℕ → Self.Places → Type 0 };
 
     /// The places of the part that begins at an offset, and where it ends. If none begins there, they are any.

@@ -1,5 +1,6 @@
-//! Secret vectors are spelled as lists after a length of one to four bytes. What conversions, places and clearing
-//! give. Secret vectors are compared and hashed as the lists of their elements are.
+//! Secret vectors are encoded as lists after a length of one to four bytes. What conversions,
+//! places and clearing give. Secret vectors are compared and hashed as the lists of their elements
+//! are.
 //!
 //! The functions do nothing. Their contracts state this, and so are proved.
 ghost use Rattle.std.specs.Prelude.{◌≡◌, ◌↔◌, ◌<◌, ℕ, List, [], Vec, length, slice_index_or};
@@ -45,8 +46,8 @@ pub fn cleared_secret_vectors_are_empty<F, T: Zeroize>()
         ↔ (elements_of v ≡ []) }
 {}
 
-/// The four names have the spellings of a list whose length has one to four bytes (RFC 8446, section
-/// 3.4).
+/// The four names have the encodings of a list whose length has one to four bytes (RFC 8446,
+/// section 3.4).
 pub fn secret_vectors_are_lists_behind_one_to_four_bytes<T: Size + Zeroize>()
     ensures one { (d : Direction) (b : List ℕ) (v : Tree)
         → ⟦<SecretTlsVec<u8, T> as Size>⟧.format.spells d b v

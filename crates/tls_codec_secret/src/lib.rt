@@ -3,7 +3,8 @@
 //!
 //! - [`list`]: [`SecretTlsVec`] and its calls, and the names [`SecretTlsVecU8`], [`SecretTlsVecU16`],
 //!   [`SecretTlsVecU24`] and [`SecretTlsVecU32`].
-//! - [`laws`]: what vectors stand for, how they are spelled, compared and cleared. It does nothing when it runs.
+//! - [`laws`]: what vectors stand for, how they are encoded, compared and cleared. It does nothing
+//!   when it runs.
 #![tactic(auto)]
 
 mod coding;

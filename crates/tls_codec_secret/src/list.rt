@@ -22,7 +22,8 @@ use tls_codec_wire::{Error, U24};
 mod indexing;
 mod show;
 
-/// A list of key material. Its spelling is the number of its bytes, in the form `F`, and then the elements.
+/// A list of key material. Its encoding is the number of its bytes, in the form `F`, and then the
+/// elements.
 ///
 /// Dropping it clears each element, and then drops them. [`into_vec`](SecretTlsVec::into_vec), `pop`,
 /// `remove` and the conversion to a `Vec` give elements away as they are; then their owner has to clear

@@ -5,7 +5,8 @@
 //!
 //! - [`elements`]: [`TlsSliceU8`] and siblings, for elements of any type that is written.
 //! - [`bytes`]: [`TlsByteSliceU8`] and siblings, for bytes, which are moved in bulk.
-//! - [`laws`]: what the wrappers stand for, how they are spelled and copied. It does nothing when it runs.
+//! - [`laws`]: what the wrappers stand for, how they are encoded and copied. It does nothing when
+//!   it runs.
 #![tactic(auto)]
 
 pub mod bytes;

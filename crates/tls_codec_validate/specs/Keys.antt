@@ -1,4 +1,4 @@
--- What is told of bytes whose format a context decides, of which a key alone is known.
+-- What is reported about bytes whose format a context decides. Only a key of the context is known.
 use Rattle.std.specs.Prelude.{◌↔◌, ℕ, List, IfErr, Result, Ok, Err}
 use Rattle.std.specs.Borrow.{Bor}
 use Rattle.tls_codec_grammar.specs.Tree.{Tree}
@@ -33,7 +33,7 @@ ValidatesFor is_key key format x result = (c : Tree) → is_key key c → Valida
 abbrev pub RejectedFor : {K : Type 0} → KeyOf K → K → (Tree → SliceNames) → (Tree → PlacedNames) → List ℕ → Result (Bor (List ℕ)) Rejected → Type 0
 RejectedFor is_key key names places x result = (c : Tree) → is_key key c → IfErr result (RejectedAt (names c) (places c) x)
 
--- the rejected field is in the first part, or behind it in what its value decides
+-- the rejected field is in the first part, or after it in what its value decides
 abbrev pub then_places : Format → PlacedNames → (Tree → PlacedNames) → PlacedNames
 then_places first places others rest = then_names first (places rest) (λ v. others v rest)
 

@@ -1,4 +1,4 @@
--- What is told of bytes from which no value is made.
+-- What is reported about bytes from which no value is made.
 pub mod Validated
 pub mod Places
 pub mod TaggedPlaces

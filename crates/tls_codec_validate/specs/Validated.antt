@@ -1,4 +1,4 @@
--- What is told of bytes from which no value is made.
+-- What is reported about bytes from which no value is made.
 use Rattle.std.specs.Prelude.{◌≡◌, ◌≢◌, ℕ, List, length, Result, Ok, Err}
 use Rattle.std.specs.Borrow.{Bor}
 use Rattle.tls_codec_wire.specs.Digits.{AreBytes}
@@ -37,7 +37,7 @@ pub record RejectsWhole (spells : Grammar) (x : List ℕ) (e : Error) : Type 0 w
   pub not_memory : e ≢ OutOfMemory
   pub trailing : LeavesBytes spells x → e ≡ TrailingData
 
--- all of x is a spelling, or why it is none
+-- all of x is a spelling, or why it isn't one
 abbrev pub ValidatesWhole : {T : Type 0} → Format → List ℕ → Result T Rejected → Type 0
 ValidatesWhole f x (Ok done) = IsSpelling f.spells x
 ValidatesWhole f x (Err r) = RejectsWhole f.spells x r.error

@@ -1,4 +1,4 @@
-//! So many bytes, whichever they are.
+//! A given number of bytes, whichever they are.
 ghost use Rattle.std.specs.Prelude.{IfErr};
 ghost use Rattle.tls_codec_grammar.specs.Format.{array_format, number_format};
 ghost use Rattle.tls_codec_base.specs.Meanings.{too_few};
@@ -9,7 +9,7 @@ use crate::rejected::Rejected;
 use tls_codec_grammar::opaque::see_bytes;
 use tls_codec_wire::Error;
 
-/// What is left after `count` bytes: a number, and bytes that are spelled by themselves.
+/// What is left after `count` bytes: a number, and bytes that are encoded as they are.
 #[inline(always)]
 pub(crate) fn skip(bytes: &[u8], count: usize) -> Result<&[u8], Rejected<'_>>
     ensures number { Validates (number_format count) bytes.now result }

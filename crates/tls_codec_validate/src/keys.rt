@@ -26,9 +26,9 @@ pub trait Keyed: Size {
         ensures { is_key result (Self.plain self.now) };
 }
 
-/// A tag as a context: its key tells the number.
+/// A tag as a context: its key gives the number.
 pub trait TagKeyed: Selector + Keyed {
-    /// The number that the key tells.
+    /// The number that the key gives.
     fn tag_of_key(key: &Self::Key) -> u64
         ensures { (c : Tree) → Self.is_key key.now c → result ≡ Self.selected c };
 }

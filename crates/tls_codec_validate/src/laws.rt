@@ -21,8 +21,9 @@ pub fn accepted_exactly_if_an_encoding_begins<T: Size>()
         → IsOk result ↔ BeginsSome T.format.spells x }
 {}
 
-/// If bytes are accepted, the slice decoder leaves the same rest, or there was no memory. The value that it returns
-/// announces as many bytes as were taken. If they are rejected, it refuses them too.
+/// If bytes are accepted, the slice decoder leaves the same rest, or there was no memory. The value
+/// that it returns announces as many bytes as were taken. If they are rejected, it rejects them
+/// too.
 pub fn what_is_validated_is_split<T: Size>()
     ensures rest { (x : List ℕ) (rest : Bor (List ℕ)) (found : T × Bor (List ℕ))
         → Validates T.format x (Ok rest)
@@ -54,7 +55,8 @@ pub fn what_is_validated_whole_is_decoded<T: Size>()
         → ⊥ }
 {}
 
-/// The same of the decoder from a source that tells these bytes, but for faults of the source.
+/// The same for the decoder from a source that reports these bytes, except for faults of the
+/// source.
 pub fn what_is_validated_is_read<T: Size, R: Source>()
     ensures rest { (x : List ℕ) (rest : Bor (List ℕ)) (old new : R) (v : T)
         → R.coming old ≡ Some x

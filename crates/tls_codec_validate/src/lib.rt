@@ -7,8 +7,8 @@
 //!   bytes, `T::tls_validate_prefix` for the encoding that they begin with. `T::tls_deserialize_validated` makes the
 //!   value once the bytes are validated. A struct of your own validates as the tuple of its fields.
 //! - [`Rejected`]: what is wrong with the bytes, and where its field begins.
-//! - [`ValidateFor`]: the trait of what a context decides, by the context's key ([`Keyed`]). [`ValidateKeyed`]: the key in
-//!   bytes, by which what comes after them is validated.
+//! - [`ValidateFor`]: the trait of what a context decides, by the context's key ([`Keyed`]).
+//!   [`ValidateKeyed`]: the key in bytes, which decides how what comes after them is validated.
 //! - [`ValidateCases`]: sums of cases. [`split_u8`] and its siblings: the tag that bytes begin with, for enums of your own.
 //! - [`laws`]: what is validated is decoded. They do nothing when they run.
 //! - [`types`]: the table of types, by the field that is rejected. It does nothing either.

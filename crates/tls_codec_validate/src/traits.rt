@@ -70,7 +70,8 @@ pub trait Validate: DeserializeBytes {
         Ok(found)
     }
 
-    /// The value that all of the bytes spell. They are validated first, so bytes that are rejected cost no memory at all.
+    /// The value that all of the bytes encode. They are validated first, so bytes that are rejected
+    /// cost no memory at all.
     ///
     /// `OutOfMemory`: allocation failed, and the bytes are an encoding. Every other refusal is that of
     /// [`tls_validate`](Validate::tls_validate).
@@ -88,7 +89,8 @@ pub trait Validate: DeserializeBytes {
         Ok(value)
     }
 
-    /// So many bytes are an encoding, whichever they are. It is none if that isn't so, or isn't known.
+    /// A number of bytes that are always an encoding, whichever they are. `None` if that isn't so,
+    /// or isn't known.
     ///
     /// Provided. A type of fixed width may return it; then its lists are validated at once.
     fn tls_width() -> Option<usize>

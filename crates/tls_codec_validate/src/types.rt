@@ -81,7 +81,7 @@ pub fn boxes<T: Validate>()
     ensures { SamePlaces ⟦<Box<T> as Validate>⟧.places T.places }
 {}
 
-/// A pair is rejected in its first part, or behind it in the second.
+/// A pair is rejected in its first part, or after it in the second.
 pub fn pairs<T: Validate, U: Validate>()
     ensures { SamePlaces ⟦<(T, U) as Validate>⟧.places
         (λ rest. fields_names T.format (T.places rest) (U.places rest)) }
@@ -99,7 +99,7 @@ pub fn nothing<T>()
     ensures phantom { SamePlaces ⟦<PhantomData<T> as Validate>⟧.places nothing_places }
 {}
 
-/// A first part, and what its value decides: in the first part, or behind it in the others.
+/// A first part, and what its value decides: in the first part, or after it in the others.
 pub fn decided<T: ValidateKeyed, U: ValidateFor<T>>()
     ensures { SamePlaces ⟦<Then<T, U> as Validate>⟧.places
         (then_places T.format T.Validate.places U.places) }
@@ -111,8 +111,8 @@ pub fn enclosed<F: LengthField, T: Validate>()
         (enclosed_places F.field T.format T.places) }
 {}
 
-/// An enum is rejected at its tag, or behind it in the parts of its case. So is each sum of cases, at the tag if it has none
-/// of its cases.
+/// An enum is rejected at its tag, or after it in the parts of its case. So is each sum of cases,
+/// at the tag if it has none of its cases.
 pub fn sums<const TAG: u64, T: FindTag, U: Tag, A: Validate, X: ValidateCases, Y: ValidateCases>()
     ensures tagged { SamePlaces ⟦<Tagged<T, X> as Validate>⟧.places
         (choice_places (X.distinct && X.within T.most) T.wide X.places) }

@@ -29,7 +29,8 @@ pub trait ValidateFor<X: Keyed>: DeserializeBytesFor<X> {
         ensures validates { ValidatesFor X.is_key key.now Self.format_for bytes.now result }
         ensures rejected { RejectedFor X.is_key key.now Self.names places bytes.now result };
 
-    /// So many bytes are an encoding in every context, whichever they are. It is none if that isn't so, or isn't known.
+    /// A number of bytes that are always an encoding in every context, whichever they are. `None`
+    /// if that isn't so, or isn't known.
     ///
     /// Provided. A type of fixed width may return it; then its lists are validated at once.
     fn tls_width_for() -> Option<usize>
@@ -83,8 +84,8 @@ pub trait ValidateFor<X: Keyed>: DeserializeBytesFor<X> {
         Ok(found)
     }
 
-    /// The value that all of the bytes spell in this context. They are validated first, so bytes that are rejected cost
-    /// no memory at all.
+    /// The value that all of the bytes encode in this context. They are validated first, so bytes
+    /// that are rejected cost no memory at all.
     ///
     /// `OutOfMemory`: allocation failed, and the bytes are an encoding. Every other refusal is that of
     /// [`tls_validate_for`](ValidateFor::tls_validate_for).
@@ -111,7 +112,7 @@ pub trait ValidateFor<X: Keyed>: DeserializeBytesFor<X> {
     }
 }
 
-/// A condition of which the key tells whether it holds.
+/// A condition. The key shows whether it holds.
 pub trait KeyCondition<X: Keyed>: Condition<X> {
     /// Whether the payload is there in each context that has this key.
     fn test_key(key: &X::Key) -> bool

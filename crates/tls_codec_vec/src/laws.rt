@@ -1,5 +1,5 @@
-//! Vectors are spelled as lists after a length of one to four bytes. What conversions, clones and places give.
-//! Vectors are compared and hashed as the lists of their elements are.
+//! Vectors are encoded as lists after a length of one to four bytes. What conversions, clones and
+//! places give. Vectors are compared and hashed as the lists of their elements are.
 //!
 //! The functions do nothing. Their contracts state this, and so are proved.
 ghost use Rattle.std.specs.Prelude.{◌≡◌, ◌↔◌, ◌<◌, ℕ, List, Vec, length, slice_index_or};
@@ -45,8 +45,8 @@ pub fn places_give_their_elements<F, T>()
         ↔ (x ≡ slice_index_or (elements_of v) i x) }
 {}
 
-/// The four names have the spellings of a list whose length has one to four bytes (RFC 8446, section
-/// 3.4).
+/// The four names have the encodings of a list whose length has one to four bytes (RFC 8446,
+/// section 3.4).
 pub fn vectors_are_lists_behind_one_to_four_bytes<T: Size>()
     ensures one { (d : Direction) (b : List ℕ) (v : Tree)
         → ⟦<TlsVec<u8, T> as Size>⟧.format.spells d b v

@@ -19,7 +19,8 @@ use tls_codec_wire::{Error, U24};
 mod indexing;
 mod show;
 
-/// A list of elements. Its spelling is the number of its bytes, in the form `F`, and then the elements.
+/// A list of elements. Its encoding is the number of its bytes, in the form `F`, and then the
+/// elements.
 ///
 /// It is compared and hashed as the list is. If `F` doesn't hold the number of its bytes, each encoder
 /// returns `InvalidVectorLength`.

@@ -85,7 +85,7 @@ gives_in_order_behind {D} given order a xs b ys c p q = record {
   none_fell = fall_never p.none_fell q.none_fell;
 }
 
--- counts of which none fell, added to others of which none fell
+-- counts that didn't fall, added to others that didn't fall
 together_never_falls : {D : Type 0} (counts : D → Counts) (a b : Failing D) → NoneFell (own_counts a) (own_counts b)
     → NoneFell (counts a.inner) (counts b.inner) → NoneFell (counts_with counts a) (counts_with counts b)
 together_never_falls {D} counts a b p q = record {

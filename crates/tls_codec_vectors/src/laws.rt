@@ -1,5 +1,5 @@
-//! Equal vectors have equal hashes. Byte vectors are ordered as lists of bytes. Messages are equal if their fields
-//! are. A step has one spelling.
+//! Equal vectors have equal hashes. Byte vectors are ordered as lists of bytes. Messages are equal
+//! if their fields are. A step has one encoding.
 //!
 //! The functions do nothing. Their contracts state this, and so are proved.
 ghost use Rattle.std.specs.Prelude.{◌≡◌, ◌⊎◌, ◌↔◌, ◌&&◌, ℕ, [], ◌∷◌, IsTrue, Some};
@@ -82,8 +82,8 @@ pub fn messages_are_compared_by_their_fields()
         && ⟦<Option<Step> as PartialEq>⟧.eq x.last y.last)) }
 {}
 
-/// If the bytes 03 00 spelled [`Step::Ping`](crate::Step::Ping) too, steps would meet no laws, whatever they
-/// announced: a value has at most one spelling.
+/// If the bytes 03 00 encoded [`Step::Ping`](crate::Step::Ping) too, steps would meet no laws,
+/// whatever they announced: a value has at most one encoding.
 pub fn second_spelling_of_ping_is_unlawful()
     ensures { (announced : Tree → ℕ)
         → IsLawful

@@ -1,2 +1,2 @@
--- What is told of encodings that are read where they lie.
+-- What is reported about encodings that are read in place.
 pub mod Views

@@ -36,7 +36,7 @@ impl<'a, T: Choice> Encoded<'a, T> {
     }
 }
 
-/// An enum of numbers of your own, some of which have a value (RFC 8446, section 3.5).
+/// An enum of numbers of your own. Some of the numbers have a value (RFC 8446, section 3.5).
 pub trait Numbered: Validate {
     /// Its number.
     type Tag: FindTag;

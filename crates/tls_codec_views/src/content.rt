@@ -9,7 +9,7 @@ use tls_codec_bytes::TlsByteVec;
 use tls_codec_vl::{SecretVarBytes, VarBytes};
 use tls_codec_wire::TlsVarInt;
 
-/// What comes after a length, of which it is known that it counts all of it.
+/// What comes after a length. It is known that the length counts all of it.
 pub(crate) fn after_length<F: LengthField>(bytes: &[u8]) -> &[u8]
     requires { (inside : List ℕ) × IsAfterLength F.field bytes.now inside }
     ensures { IsAfterLength F.field bytes.now result.now }

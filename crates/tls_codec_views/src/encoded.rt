@@ -76,7 +76,7 @@ impl<'a, T: Validate> Encoded<'a, T> {
         ))
     }
 
-    /// Bytes of which it is proved that they are one encoding. They aren't validated again.
+    /// Bytes that are proved to be one encoding. They aren't validated again.
     pub fn known(bytes: &'a [u8]) -> Encoded<'a, T>
         requires { IsSpelling T.format.spells bytes.now }
         ensures { result ≡ bytes.now }
@@ -85,7 +85,7 @@ impl<'a, T: Validate> Encoded<'a, T> {
         Encoded { bytes, of }
     }
 
-    /// Bytes of which it is proved that they are one part and nothing else.
+    /// Bytes that are proved to be one part and nothing else.
     pub fn alone(bytes: &'a [u8]) -> Encoded<'a, T>
         requires { IsSpelling (fields T.format.spells nothing) bytes.now }
         ensures { result ≡ bytes.now }
@@ -103,7 +103,7 @@ impl<'a, T: Validate> Encoded<'a, T> {
 
     /// The value.
     ///
-    /// `OutOfMemory`: allocation failed. Nothing else is refused.
+    /// `OutOfMemory`: allocation failed. There is no other error.
     pub fn to_value(&self, alloc: Global) -> Result<T, Error>
         ensures value { IfOk result (λ v. T.format.spells Reading self.now (T.plain v)) }
         ensures memory { IfErr result (NoMemory T.format.lean) }
@@ -112,7 +112,7 @@ impl<'a, T: Validate> Encoded<'a, T> {
     }
 }
 
-/// The encoding that the bytes begin with, of which it is known that there is one.
+/// The encoding that the bytes begin with. It is known that there is one.
 pub(crate) fn take<'a, T: Validate>(bytes: &'a [u8]) -> (Encoded<'a, T>, &'a [u8])
     requires { BeginsSome T.format.spells bytes.now }
     ensures whole { bytes.now ≡ result.0 ++ result.1.now }

@@ -6,8 +6,8 @@
 //!   pairs and triples, `payload` for options and boxes, `content` for byte vectors, `as_str` for texts, `elements` for
 //!   lists, `get` for integers, `parts` and `case` for messages of your own.
 //! - [`Elements`]: the elements of a list, one by one.
-//! - [`Parted`]: a message of your own, which is encoded as its parts are. [`Choice`]: an enum of your own, of which an encoding
-//!   has one case. [`Numbered`]: one of numbers alone.
+//! - [`Parted`]: a message of your own, which is encoded as its parts are. [`Choice`]: an enum of
+//!   your own, whose encoding has one case. [`Numbered`]: one of numbers alone.
 #![tactic(auto)]
 
 mod choices;

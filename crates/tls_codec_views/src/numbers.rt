@@ -69,7 +69,7 @@ impl Told for TlsVarInt {
     }
 }
 
-// The bytes, of which it is known that they are so many.
+// The bytes. It is known that there are `LEN` of them.
 fn array_of<const LEN: usize>(bytes: &[u8]) -> [u8; LEN]
     requires { length bytes.now ≡ LEN }
     ensures { result ≡ bytes.now }

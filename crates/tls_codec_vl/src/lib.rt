@@ -1,17 +1,18 @@
 //! Byte vectors after a variable-length length (RFC 9420, section 2.1.2): the type that messages of MLS are
 //! mostly made of.
 //!
-//! Their bytes are moved in bulk from any source. Those of a `Vec<u8>`, which has the same spellings, are
-//! moved in bulk if the source has them in memory. A declared length allocates nothing: memory is requested
-//! as the bytes come.
+//! Their bytes are moved in bulk from any source. Those of a `Vec<u8>`, which has the same
+//! encodings, are moved in bulk if the source has them in memory. A declared length allocates
+//! nothing: memory is requested as the bytes come.
 //!
-//! - [`var_bytes`]: [`VarBytes`], under two names: [`VLBytes`] and [`VLByteVec`]. [`names`]: what tells them
-//!   apart.
+//! - [`var_bytes`]: [`VarBytes`], under two names: [`VLBytes`] and [`VLByteVec`]. [`names`]: what
+//!   distinguishes them.
 //! - [`vl_byte_slice`]: [`VLByteSlice`], borrowed bytes, which are written and not read.
 //! - [`zeroize`]: [`Zeroize`], values that empty themselves.
 //! - [`secret_var_bytes`]: [`SecretVarBytes`], a [`VarBytes`] that is cleared when it is dropped, under two
 //!   names: [`SecretVLBytes`] and [`SecretVLByteVec`].
-//! - [`laws`]: what the types stand for, how they are spelled, compared and cleared. It does nothing when it runs.
+//! - [`laws`]: what the types stand for, how they are encoded, compared and cleared. It does
+//!   nothing when it runs.
 #![tactic(auto)]
 
 pub mod laws;

@@ -1,4 +1,5 @@
-//! The names of byte vectors: a type parameter that tells two types apart, and what `{:?}` prints of each.
+//! The names of byte vectors: a type parameter that distinguishes two types, and what `{:?}` prints
+//! of each.
 ghost use Rattle.std.specs.Prelude.{◌≡◌, ℕ, List, codes};
 
 /// A name that a type has as its parameter. No value of it is made.

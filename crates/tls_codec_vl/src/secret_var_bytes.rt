@@ -20,8 +20,8 @@ use tls_codec_wire::{Error, Sink, Source};
 /// Bytes as key material: a [`VarBytes`] that sets them to 0 and empties itself when it is dropped. It gives
 /// no `Vec<u8>`.
 ///
-/// Their spelling is their number as a variable-length integer, and then the bytes. They are compared,
-/// ordered and hashed as the list of them is.
+/// Their encoding is their number as a variable-length integer, and then the bytes. They are
+/// compared, ordered and hashed as the list of them is.
 ///
 /// **`{:?}` PRINTS THE SECRET BYTES**, as the Rust crate's does: keep it out of logs. Comparing takes as long
 /// as the bytes agree: it isn't constant-time. An encoder's output is a copy that nothing clears. So is what

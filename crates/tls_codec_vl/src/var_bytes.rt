@@ -18,7 +18,7 @@ use std::marker::PhantomData;
 use tls_codec_base::{Deserialize, DeserializeBytes, Serialize, SerializeBytes, Size, opaque};
 use tls_codec_wire::{Error, Sink, Source, TlsVarInt};
 
-/// Bytes. Their spelling is their number as a variable-length integer, and then the bytes.
+/// Bytes. Their encoding is their number as a variable-length integer, and then the bytes.
 ///
 /// They are compared, ordered and hashed as the list of them is. `N` is the name that `{:?}` prints.
 ///

@@ -12,7 +12,7 @@ use std::fmt;
 use tls_codec_base::{Serialize, SerializeBytes, Size, opaque};
 use tls_codec_wire::{Error, Sink, TlsVarInt};
 
-/// Borrowed bytes. Their spelling is their number as a variable-length integer, and then the bytes.
+/// Borrowed bytes. Their encoding is their number as a variable-length integer, and then the bytes.
 ///
 /// It is written as a [`VLBytes`](crate::VLBytes) of these bytes is, and needs no copy of them.
 ///

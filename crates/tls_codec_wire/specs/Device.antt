@@ -86,7 +86,7 @@ pub record PulledOnto {S : Type 0} (given : Gives S) (old new : S) (result : Res
   pub appended : after ≡ before ++ bytes
   pub count : length bytes ≡ count_moved result
 
--- just so many bytes were given and appended to a vector, or nothing was
+-- exactly n bytes were given and appended to a vector, or nothing was
 abbrev pub AppendedAtHand : {S : Type 0} → Gives S → S → S → ℕ → Bool → Vec ℕ Global → Vec ℕ Global → Type 0
 AppendedAtHand given old new n true before after = PulledOnto given old new (Ok n) before.items after.items
 AppendedAtHand given old new n false before after = (new ≡ old) × (after ≡ before)
@@ -95,7 +95,7 @@ AppendedAtHand given old new n false before after = (new ≡ old) × (after ≡ 
 abbrev pub IsBeginning : List ℕ → List ℕ → Type 0
 IsBeginning p s = (rest : List ℕ) × (s ≡ p ++ rest)
 
--- these bytes come first, if the bytes to come are told
+-- these bytes come first, if the source reports the bytes to come
 abbrev pub IsAtHand : List ℕ → Option (List ℕ) → Type 0
 IsAtHand bytes None = ⊤
 IsAtHand bytes (Some xs) = IsBeginning bytes xs

@@ -33,7 +33,7 @@ NumberNotRead refuses x old new e = refuses x e
 
 -- ---- writing
 
--- the sink received a spelling of n after what it had, of so many bytes
+-- the sink received a spelling of n, of `width` bytes, after what it had
 pub record SentNumber (spells : List ℕ → ℕ → Type 0) (old new : Option (List ℕ)) (n width : ℕ) : Type 0 where
   pub form : List ℕ
   pub spelled : spells form n

@@ -27,7 +27,7 @@ moved_of o = o.moved
 abbrev pub MovedBy : {X : Type 0} → ℕ → Outside X → Outside X → Type 0
 MovedBy n old new = moved_of new ≡ max (moved_of old) (min (moved_of old + n) count_limit)
 
--- it gave these bytes: the reader lost them, if it tells its bytes, and they were counted
+-- it gave these bytes: the reader lost them, if it reports its bytes, and they were counted
 pub record GaveOutside {R : Type 0} (remaining : R → Option (List ℕ)) (old : Outside R) (bytes : List ℕ) (new : Outside R) : Type 0 where
   pub consumed : Consumes (remaining (wrapped old)) (remaining (wrapped new)) bytes
   pub fell : NoneFell (counts_of old) (counts_of new)

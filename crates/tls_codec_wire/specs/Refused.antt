@@ -1,4 +1,4 @@
--- Why calls on a source are refused: by the bytes that it gave, and those that it told were to come.
+-- Why calls on a source are refused: by the bytes that it gave, and those that it reported to come.
 use Rattle.std.specs.Prelude.{◌≡◌, ℕ, List, ◌++◌, Option, None, Some}
 use Rattle.tls_codec_wire.specs.Bounded.{first_bytes, GaveWithin, inner_of}
 use Rattle.tls_codec_wire.specs.Counts.{Counts}
@@ -6,14 +6,14 @@ use Rattle.tls_codec_wire.specs.declared.bounded.Bounded.{Bounded}
 use Rattle.tls_codec_wire.specs.declared.device.Source.{Ghosts}
 use Rattle.tls_codec_wire.specs.declared.error.Error.{Error}
 
--- the bytes to come, if they are told, else those that were given
+-- the bytes to come, if the source reports them, else those that were given
 abbrev pub told_or : Option (List ℕ) → List ℕ → List ℕ
 told_or None gave = gave
 told_or (Some told) gave = told
 
--- x is what a call could see. Of a slice these are all bytes to come, and of a file those that it gave. A later step
--- sees more: first what was given before it (`front`, up to the state `at`), and then what the source tells at `at`,
--- or gave from there on (`rest`). The law is `what_was_seen_was_told_or_given`.
+-- x is what a call could see. For a slice these are all bytes to come; for a file, those given. A
+-- later step sees more: first what was given before it (`front`, up to the state `at`), then what
+-- the source reports at `at`, or gave then (`rest`). The law is `what_was_seen_was_told_or_given`.
 pub record Seen {S : Type 0} (source : Ghosts S) (old new : S) (x : List ℕ) : Type 0 where
   pub front : List ℕ
   pub at : S

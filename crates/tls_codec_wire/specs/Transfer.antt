@@ -7,12 +7,12 @@ use Rattle.tls_codec_wire.specs.declared.device.Fault.{Fault}
 use Rattle.tls_codec_wire.specs.declared.device.Fault.TheVariants.{Interrupted, NoMemory, Failed}
 use Rattle.tls_codec_wire.specs.Counts.{Counts, RoseBy, FaultIsCounted}
 
--- fewer than n bytes were to come, if that is told
+-- fewer than n bytes were to come, if the source reports that
 abbrev pub IsShortOf : ℕ → Option (List ℕ) → Type 0
 IsShortOf n None = ⊤
 IsShortOf n (Some xs) = length xs < n
 
--- the error that a fault is after so many interruptions in a row, if it is not tried again: 16 are tried
+-- the error of a fault after this number of interruptions in a row, if not retried: 16 are tried
 abbrev pub ErrorOfFault : Fault → ℕ → Error → Error → Type 0
 ErrorOfFault Interrupted row failed e = (16 ≤ row) × (e ≡ failed)
 ErrorOfFault NoMemory row failed e = e ≡ OutOfMemory
@@ -41,8 +41,8 @@ EndRefused x old new (DecodingError text) = IsReadFailure text old new
 EndRefused x old new OutOfMemory = RoseBy 1 old.shortages new.shortages
 EndRefused x old new _ = ⊥
 
--- why no vector of the next n bytes is made: there is no vector of so many, the source failed, they are not there,
--- or there was no memory
+-- why no vector of the next n bytes is made: there is no vector of n bytes, the source failed, they
+-- are not there, or there was no memory
 abbrev pub BytesRefused : ℕ → List ℕ → Counts → Counts → Error → Type 0
 BytesRefused n x old new InvalidVectorLength = 2 ^ 63 ≤ n
 BytesRefused n x old new (DecodingError text) = IsReadFailure text old new

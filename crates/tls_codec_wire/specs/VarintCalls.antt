@@ -26,7 +26,7 @@ RefusesBelow limit x EndOfStream = EndsEarly x
 RefusesBelow limit x InvalidVectorLength = IsWideOrGreat limit x
 RefusesBelow limit x _ = ⊥
 
--- what a first byte says: how many bytes follow it, and from which number on so many are needed
+-- what a first byte says: how many bytes follow it, and the least number that needs that many
 pub record SaysWidth (first more least : ℕ) : Type 0 where
   pub width : suc more ≡ 2 ^ (first / 64)
   pub few : more < 8
@@ -46,15 +46,15 @@ pub record IsLaidOut (n mark width : ℕ) : Type 0 where
 
 -- ---- putting a length before what it counts
 
--- the spelling of the number of bytes after a place comes before them, and has so many bytes
+-- the spelling of the number of bytes after a place comes before them, and has `width` bytes
 pub record InsertedLength (old new : List ℕ) (at width : ℕ) : Type 0 where
   pub form : List ℕ
   pub spelled : VectorLength form (length old - at)
   pub held : new ≡ take at old ++ (form ++ drop at old)
   pub count : width ≡ length form
 
--- why a length is not put before n bytes of a vector of so many: none holds it, the vector would pass `isize::MAX`
--- bytes, or there was no memory
+-- why a length is not put before n bytes of a vector of `whole` bytes: no length field holds it,
+-- the vector would pass `isize::MAX` bytes, or there was no memory
 abbrev pub InsertRefused : (n whole : ℕ) → Error → Type 0
 InsertRefused n whole InvalidVectorLength = (2 ^ 30 ≤ n) ⊎ (2 ^ 63 ≤ whole + width_below (2 ^ 30) n)
 InsertRefused n whole OutOfMemory = ⊤

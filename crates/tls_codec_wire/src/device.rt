@@ -17,7 +17,7 @@ pub enum Fault {
     Failed,
 }
 
-/// What came of filling a buffer at once with bytes at hand.
+/// The result of filling a buffer at once with bytes at hand.
 #[derive(Clone, Copy, PartialEq, Eq, Debug)]
 pub enum Fill {
     /// The buffer is full.
@@ -35,7 +35,7 @@ const CHUNK: usize = 4096;
 ///
 /// [`Outside`](crate::Outside) makes one of any `std::io::Read`.
 pub trait Source {
-    // The bytes to come, if the source tells them.
+    // The bytes to come, if the source reports them.
     ghost coming: { Self → Option (List ℕ) };
 
     // How often it failed, was interrupted and had no memory.
@@ -119,7 +119,7 @@ pub trait Source {
 ///
 /// [`Outside`](crate::Outside) makes one of any `std::io::Write`.
 pub trait Sink {
-    // The bytes received, if the sink tells them.
+    // The bytes received, if the sink reports them.
     ghost received: { Self → Option (List ℕ) };
 
     // How often it failed, was interrupted and had no memory.

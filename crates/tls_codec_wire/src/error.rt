@@ -26,7 +26,7 @@ pub enum Error {
     InvalidWriteLength(&'static str),
     /// A slice has another length than the array it was to become.
     InvalidInput,
-    /// Bytes spell no value, or the source failed.
+    /// Bytes encode no value, or the source failed.
     DecodingError(&'static str),
     /// Fewer bytes came than the value asks for.
     EndOfStream,

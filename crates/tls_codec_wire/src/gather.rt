@@ -59,7 +59,7 @@ pub fn read_bytes_bounded<R: Source>(
     Ok(bytes)
 }
 
-// The next `len` bytes, if they are at hand. Else it is none, and nothing is taken.
+// The next `len` bytes, if they are at hand. Otherwise `None`, and nothing is taken.
 #[inline(always)]
 fn take_at_hand<R: Source>(alloc: Global, src: &mut R, len: usize) -> Result<Option<Vec<u8>>, Error>
     ensures taken { IfOk result
@@ -78,7 +78,7 @@ fn take_at_hand<R: Source>(alloc: Global, src: &mut R, len: usize) -> Result<Opt
     Ok(None)
 }
 
-// Whether so many bytes are at hand, so that room for all of them may be requested at once.
+// Whether `len` bytes are at hand, so that room for all of them may be requested at once.
 fn are_at_hand(len: usize, at_hand: &[u8]) -> bool
     ensures { IsTrue result ↔ (len ≤ length at_hand.now) }
 {

@@ -1,5 +1,5 @@
-//! What devices, errors and numbers stand for: what they tell, become and are made of, and how they
-//! are compared, ordered, hashed and copied.
+//! What devices, errors and numbers stand for: what they report, become and are made of, and how
+//! they are compared, ordered, hashed and copied.
 //!
 //! The functions do nothing, except that one returns two constants. Their contracts state this, and so
 //! are proved.
@@ -45,10 +45,10 @@ use std::io;
 use std::io::{Read, Write};
 use std::num::TryFromIntError;
 
-// ---- what devices tell
+// ---- what devices report
 
-/// A wrapped reader tells the bytes that the reader tells. It has given what the reader lost, and counts
-/// these bytes. Its counts are its own.
+/// A wrapped reader reports the bytes that the reader reports. It has given what the reader lost,
+/// and counts these bytes. Its counts are its own.
 pub fn readers_outside_tell_what_is_to_come<R: Read>()
     ensures coming { (s : Outside R) → ⟦<Outside<R> as Source>⟧.coming s ≡ R.remaining (wrapped s) }
     ensures counts { (s : Outside R) → ⟦<Outside<R> as Source>⟧.counts s ≡ counts_of s }
@@ -56,8 +56,8 @@ pub fn readers_outside_tell_what_is_to_come<R: Read>()
         GaveOutside R.remaining a g b }
 {}
 
-/// What a call has seen of a source is what was to come, if that is told. Of a source that never
-/// tells any it is what was given. It is never less than what was given.
+/// What a call has seen of a source is what was to come, if the source reports that. For a source
+/// that never reports any, it is what was given. It is never less than what was given.
 pub fn what_was_seen_was_told_or_given<R: Source>()
     ensures told { (old new : R) (x y : List ℕ)
         → Seen R.Source old new x
@@ -69,7 +69,7 @@ pub fn what_was_seen_was_told_or_given<R: Source>()
         → (g : List ℕ) × R.given old g new × (length g ≤ length x) }
 {}
 
-/// A wrapped writer tells the bytes that the writer tells. Its counts are its own.
+/// A wrapped writer reports the bytes that the writer reports. Its counts are its own.
 pub fn writers_outside_tell_what_was_received<W: Write>()
     ensures received { (s : Outside W) → ⟦<Outside<W> as Sink>⟧.received s
         ≡ W.contents (wrapped s) }
@@ -81,7 +81,7 @@ pub fn interruptions_are_tried_again()
     ensures { MOST_INTERRUPTIONS ≡ 16 }
 {}
 
-/// A slice tells its bytes, has given those that it lost, and never fails.
+/// A slice reports its bytes, has given those that it lost, and never fails.
 pub fn slices_tell_their_bytes()
     ensures coming { (s : Bor (List ℕ)) → ⟦<&'static [u8] as Source>⟧.coming s ≡ Some s.now }
     ensures counts { (s : Bor (List ℕ)) → ⟦<&'static [u8] as Source>⟧.counts s ≡ no_counts }
@@ -89,13 +89,13 @@ pub fn slices_tell_their_bytes()
         ↔ (a.now ≡ g ++ b.now) }
 {}
 
-/// A vector tells the bytes that it holds, and fails for memory alone.
+/// A vector reports the bytes that it holds, and fails for memory alone.
 pub fn vectors_tell_what_they_hold()
     ensures received { (v : Vec ℕ Global) → ⟦<Vec<u8> as Sink>⟧.received v ≡ Some v.items }
     ensures counts { (v : Vec ℕ Global) → ⟦<Vec<u8> as Sink>⟧.counts v ≡ only_shortages }
 {}
 
-/// The first bytes of a source are told, given and counted by that source.
+/// The first bytes of a source are reported, given and counted by that source.
 pub fn first_bytes_are_the_inner_sources<R: Source>()
     ensures coming { (b : Bounded R) → ⟦<Bounded<'static, R> as Source>⟧.coming b
         ≡ first_bytes R.coming b }
@@ -111,7 +111,7 @@ pub fn faults_are_compared_by_their_variants()
     ensures copied { (x y : Fault) → ⟦<Fault as Clone>⟧.is_clone x y → y ≡ x }
 {}
 
-/// The same for what came of filling a buffer.
+/// The same for the result of filling a buffer.
 pub fn fills_are_compared_by_their_variants()
     ensures equal { (x y : Fill) → IsTrue (⟦<Fill as PartialEq>⟧.eq x y) ↔ (x ≡ y) }
     ensures copied { (x y : Fill) → ⟦<Fill as Clone>⟧.is_clone x y → y ≡ x }

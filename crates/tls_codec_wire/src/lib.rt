@@ -16,7 +16,7 @@
 //! - [`varint`]: [`TlsVarInt`], the number of a variable-length integer (varint).
 //! - [`quic`]: variable-length integers, read and written. [`vlen`]: lengths as such integers. Both
 //!   use `varint_bits`, numbers below a limit in the least width.
-//! - [`laws`]: what devices tell, and what errors and numbers stand for.
+//! - [`laws`]: what devices report, and what errors and numbers stand for.
 #![tactic(auto)]
 
 pub mod bounded;

@@ -12,7 +12,7 @@ use std::io::{ErrorKind, Read, Write};
 ///
 /// One `pull` or `give` is one `read` or `write`. An error of kind `Interrupted` is the fault
 /// `Interrupted`, and one of kind `OutOfMemory` is `NoMemory`. Every other is `Failed`, a timeout
-/// (`TimedOut`) too. It tells its bytes if the wrapped one does, and counts them in any case.
+/// (`TimedOut`) too. It reports its bytes if the wrapped one does, and counts them in any case.
 #[derive(Drop)]
 pub struct Outside<X> {
     inner: X,

@@ -73,7 +73,7 @@ pub fn write_varint<W: Sink>(sink: &mut W, n: TlsVarInt) -> Result<usize, Error>
     Ok(width)
 }
 
-/// How many bytes a number has. It is 0 above [`TlsVarInt::MAX`], since there is no spelling.
+/// How many bytes a number has. It is 0 above [`TlsVarInt::MAX`], since there is no encoding.
 pub fn least_width(n: u64) -> usize
     ensures { result ≡ width_below (2 ^ 62) n }
 {

@@ -4,7 +4,7 @@ ghost use Rattle.tls_codec_wire.specs.declared.error.Error.TheVariants.{InvalidV
 
 use crate::error::Error;
 
-/// A number below 2^62, which has a spelling as a variable-length integer.
+/// A number below 2^62, which has an encoding as a variable-length integer.
 #[derive(Clone, Copy, Debug, PartialEq, Eq, Hash, PartialOrd, Ord)]
 pub struct TlsVarInt {
     number: u64,

@@ -20,8 +20,8 @@ use crate::transfer::{read_exactly, write_all};
 
 // ---- reading
 
-/// Reads a number. All bytes that the first one asks for are read before anything is refused, except
-/// that they end early.
+/// Reads a number. All bytes that the first one asks for are read before anything is rejected,
+/// unless the bytes end early.
 #[inline(always)]
 pub(crate) fn read_below<R: Source, const LIMIT: u64>(src: &mut R) -> Result<u64, Error>
     requires { 2 ^ 30 ≤ LIMIT }
@@ -105,7 +105,7 @@ fn split_any<const LIMIT: u64>(bytes: &[u8]) -> Result<(u64, &[u8]), Error>
     Ok((number, rest))
 }
 
-// How many bytes follow the first one, and from which number on so many are needed.
+// How many bytes follow the first one, and the least number that needs that many.
 fn said_by(first: u8) -> (usize, u64)
     ensures { SaysWidth first result.0 result.1 }
 {
@@ -187,8 +187,7 @@ pub(crate) fn write_below<W: Sink, const LIMIT: u64>(
     Ok(form.len())
 }
 
-/// The spelling of a number: what is in these bytes from this place on. It is none from the limit
-/// on.
+/// The encoding of a number: what is in these bytes from this place on. `None` from the limit on.
 #[inline(always)]
 pub(crate) fn form_below<const LIMIT: u64>(number: u64) -> Option<([u8; 8], usize)>
     requires least { 2 ^ 30 ≤ LIMIT }
@@ -200,7 +199,7 @@ pub(crate) fn form_below<const LIMIT: u64>(number: u64) -> Option<([u8; 8], usiz
     Some(((number + mark).to_be_bytes(), 8 - width))
 }
 
-/// How many bytes the spelling of a number has, and 0 from the limit on.
+/// How many bytes the encoding of a number has, and 0 from the limit on.
 #[inline(always)]
 pub(crate) fn width_below<const LIMIT: u64>(number: u64) -> usize
     requires least { 2 ^ 30 ≤ LIMIT }

@@ -83,7 +83,7 @@ pub fn write_length<W: Sink>(sink: &mut W, content_length: usize) -> Result<usiz
     write_below::<W, LIMIT>(sink, content_length as u64)
 }
 
-/// The bytes of a length: those of these eight from this place on. It is none above the greatest
+/// The bytes of a length: those of these eight from this place on. `None` above the greatest
 /// length.
 #[inline(always)]
 pub fn length_form(content_length: usize) -> Option<([u8; 8], usize)>

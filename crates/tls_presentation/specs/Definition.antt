@@ -11,8 +11,8 @@ pub data Label : Type 0 where
   Word : Name → Label
   Numeral : ℕ → Label
 
--- "A vector is a stream of homogeneous data elements" (section 3.4). Behind a field's name is nothing, `[n]`, `[length]`, `<V>`
--- (RFC 9420, section 2.1.2) or `<least..most>`
+-- "A vector is a stream of homogeneous data elements" (section 3.4). After a field's name comes
+-- nothing, `[n]`, `[length]`, `<V>` (RFC 9420, section 2.1.2) or `<least..most>`
 pub data Vector : Type 0 where
   One : Vector
   Array : ℕ → Vector
@@ -25,7 +25,7 @@ pub data Constant : Type 0 where
   Is : Label → Constant
   Bytes : ℕ → List ℕ → Constant
 
--- `T name` or `optional<T> name`, each with a vector and a constant behind it
+-- `T name` or `optional<T> name`, each with a vector and a constant after it
 pub record Field : Type 0 where
   pub is_optional : Bool
   pub of : Name
@@ -50,7 +50,7 @@ pub record Case : Type 0 where
   pub more : List Label
   pub fields : List CaseField
 
--- behind the cases: nothing, `;` or `name;`
+-- after the cases: nothing, `;` or `name;`
 pub data Ending : Type 0 where
   Bare : Ending
   Ended : Ending
@@ -66,14 +66,15 @@ pub data Item : Type 0 where
   Plain : Field → Item
   Choice : Select → Item
 
--- what stands in a struct: an item; a type in its place, with the name of the field; or what is signed (RFC 5246, section 4.7)
+-- what is in a struct: an item; a type in its place, with the name of the field; or what is signed
+-- (RFC 5246, section 4.7)
 pub data Part : Type 0 where
   Own : Item → Part
   EnumHere : List Value → Name → Part
   StructHere : List Item → Name → Part
   Signed : List Item → Option Name → Part
 
--- `open` and `borrowed` are words of this repository, and stand in no RFC
+-- `open` and `borrowed` are words of this repository, and are in no RFC
 pub data Definition : Type 0 where
   Enum : (is_open : Bool) → List Value → Name → Definition
   Struct : (is_borrowed : Bool) → List Part → Name → Definition

@@ -16,7 +16,7 @@ pub record Names : Type 1 where
   pub format : Name → Tree → Format
   -- of an enum, a registry, or an integer
   pub tag : Name → Tag
-  -- what stands in a struct, and which name is meant
+  -- what is in a struct, and which name is meant
   pub lookup : Lookup
   pub is_borrowed : Name → Bool
   -- the struct is bytes that fill what is left

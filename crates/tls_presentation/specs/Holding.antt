@@ -1,4 +1,4 @@
--- A struct of pieces, some of which can depend on a tag in one before (RFC 9420, section 6).
+-- A struct of pieces. Some of them can depend on a tag in one before (RFC 9420, section 6).
 use Rattle.std.specs.Prelude.{ℕ, suc, List, [], ◌∷◌, ◌++◌, ◌+◌, ◌-◌, ◌==◌, ◌||◌, ◌&&◌, Bool, true, false, not, Option, Some, None, length, map, nat_lt}
 use Rattle.tls_codec_grammar.specs.Format.{Format, pair_format}
 use Rattle.tls_codec_grammar.specs.Tree.{Tree}
@@ -39,11 +39,11 @@ context_in holder v (Some key) = place_or v (holder.holds key)
 abbrev pub formats_in : Tree → List Piece → List Format
 formats_in c ps = map (λ p. p.format c) ps
 
--- of what comes behind one that stands for v
+-- of what comes after one that stands for v
 abbrev pub formats_on : Piece → Tree → List Piece → List Format
 formats_on holder v ps = map (λ p. p.format (context_in holder v p.needs)) ps
 
--- what holds tags, and what is behind it, are one part, behind those before
+-- what holds tags, and what is after it, are one part, after those before
 abbrev pub behind_row : List Format → Format → Format
 behind_row [] f = f
 behind_row (b ∷ bs) f = pair_format (row (b ∷ bs)) f
@@ -68,7 +68,7 @@ struct_format false ps c = holding [] ps c
 abbrev nth : (n at : ℕ) → Tree → Tree
 nth n at v = elim (nat_lt n 2) as (λ b. Tree) [ true ↦ v | false ↦ elim (at == 0) as (λ b. Tree) [ true ↦ first_of v | false ↦ elim (at == 1) as (λ b. Tree) [ true ↦ second_of v | false ↦ third_of v ] ] ]
 
--- the part at `at` of n in the groups of these sizes, the last of which has the others
+-- the part at `at` of n in the groups of these sizes; the last group has the others
 abbrev in_group : (inside : (n at : ℕ) → Tree → Tree) → (groups n : ℕ) → (group at : ℕ) → List ℕ → Tree → Tree
 in_group inside groups n group at [] v = inside n at (nth groups group v)
 in_group inside groups n group at (size ∷ sizes) v = elim (nat_lt at size) as (λ b. Tree) [

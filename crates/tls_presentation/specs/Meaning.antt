@@ -135,11 +135,11 @@ pub record Text : Type 1 where
 abbrev pub text_over : Names → List Note → List Definition → Text
 text_over below notes definitions = record { names = names_over below notes definitions; notes = notes }
 
--- a text that stands on no other
+-- a text that depends on no other
 abbrev pub text_of : List Note → List Definition → Text
 text_of notes definitions = text_over no_names notes definitions
 
--- what stands in a struct of a text
+-- what is in a struct of a text
 abbrev pub struct_in : Text → (struct : Name) → Site
 struct_in text struct = record { names = text.names; notes = text.notes; struct = struct; items = text.names.lookup.items struct }
 

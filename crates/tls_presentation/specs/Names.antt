@@ -55,7 +55,8 @@ field_named name (Plain f ∷ items) = elim (bytes_eq name f.name) as (λ b. Opt
 abbrev pub is_on : Field → Select → Bool
 is_on f s = bytes_eq (last s.path) f.name || bytes_eq (last s.path) f.of
 
--- ---- definitions: parts in their place stand before their struct, as `Outer.kind`, and what is signed as `OuterTBS`
+-- ---- definitions: parts in their place come before their struct, as `Outer.kind`, and what is
+-- ---- signed as `OuterTBS`
 
 abbrev own_item : (struct : Name) → Part → Item
 own_item struct (Own item) = item
@@ -102,7 +103,7 @@ name_alike name (d ∷ ds) = elim (bytes_eq (small name) (small (name_of d))) as
 -- ---- Which type a tag has: of the field of the struct, or else of the field of the struct at the head of the path; or, if the path is
 -- ---- one name, the type that is named so
 
--- what is looked up in a text: what stands in a struct, and a name that is written in small letters
+-- what is looked up in a text: what is in a struct, and a name that is written in small letters
 pub record Lookup : Type 0 where
   pub items : Name → List Item
   pub named : Name → Name

@@ -1,4 +1,5 @@
--- What stands in a struct, one after another (RFC 8446, sections 3.6 and 3.8): fields, and a tag with its selects.
+-- What is in a struct, one after another (RFC 8446, sections 3.6 and 3.8): fields, and a tag with
+-- its selects.
 use Rattle.std.specs.Prelude.{ℕ, zero, suc, List, [], ◌∷◌, ◌++◌, ◌+◌, ◌==◌, ◌&&◌, Bool, true, false, not, Option, Some, None, length, take, map, nat_lt, bytes_eq}
 use Rattle.tls_codec_grammar.specs.Format.{Format}
 use Rattle.tls_codec_grammar.specs.Tree.{Tree, Empty, Join}
@@ -14,7 +15,7 @@ use Rattle.tls_presentation.specs.Fields.{constant_number, constant_width, Names
 
 -- ---- structs (section 3.6) and selects (section 3.8)
 
--- what stands in a struct, one after another
+-- what is in a struct, one after another
 pub record Piece : Type 1 where
   pub name : Name
   pub format : Tree → Format
@@ -22,7 +23,7 @@ pub record Piece : Type 1 where
   pub needs : Option Key
   pub holds : Key → Option (Tree → Tree)
 
--- a struct, with what is known where it stands
+-- a struct, with what is known at its place
 pub record Site : Type 1 where
   pub names : Names
   pub notes : List Note
@@ -87,7 +88,7 @@ length_width site (Plain f ∷ items) = elim (is_length site f) as (λ b. Option
 abbrev pub formats_for : Site → Tree → List Field → List Format
 formats_for site c fields = map (field_format site.names c) fields
 
--- behind a tag: the fields of each of its values
+-- after a tag: the fields of each of its values
 abbrev chained : Site → Tree → Tag → List Item → List Label → Variants
 chained site c tag items [] = no_variant
 chained site c tag items (l ∷ ls) = variant (number_of l tag.values) (case_row (formats_for site c (fields_for site l items))) (chained site c tag items ls)
@@ -96,7 +97,7 @@ abbrev pub is_filled : Names → List Field → Bool
 is_filled names (f ∷ []) = names.is_filling f.of
 is_filled names _ = false
 
--- what fills a length of so many bytes
+-- what fills a length of `width` bytes
 abbrev pub filled : Site → Tree → (width : ℕ) → List Field → Format
 filled site c width fields = elim (is_filled site.names fields) as (λ b. Format) [ true ↦ fixed_bytes_format width | false ↦ fixed_enclosed_format width (row (formats_for site c fields)) ]
 
@@ -133,7 +134,7 @@ noted_name (_ ∷ notes) path default = noted_name notes path default
 abbrev name_of_part : Site → (tag : Name) → Name
 name_of_part site tag = noted_name site.notes (part_of site.struct tag) tag
 
--- a tag and its selects are one piece, under the name of the field behind them, or else of the tag
+-- a tag and its selects are one piece, under the name of the field after them, or else of the tag
 abbrev piece_name : (tag : Name) → List Item → Name
 piece_name tag [] = tag
 piece_name tag (Plain f ∷ items) = piece_name tag items
@@ -206,7 +207,7 @@ type_named (Some f) = f.of
 abbrev pub tag_in : Site → (field : Name) → Tag
 tag_in site field = site.names.tag (type_named (field_named field site.items))
 
--- what is behind a tag, up to the last select on it
+-- what is after a tag, up to the last select on it
 abbrev pub behind_tag : Name → List Item → List Item
 behind_tag name [] = []
 behind_tag name (Choice s ∷ items) = behind_tag name items

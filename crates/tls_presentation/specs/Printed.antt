@@ -130,7 +130,7 @@ abbrev pub print_item : Item → Print
 print_item (Plain f) rest = print_field f rest
 print_item (Choice s) rest = print_select s rest
 
--- struct { .. } and what is behind it
+-- struct { .. } and what is after it
 abbrev pub print_struct : {A : Type 0} → (A → Print) → List A → Print
 print_struct one parts rest = Key StructWord ∷ Mark OpenBrace ∷ each one parts (Mark CloseBrace ∷ rest)
 

@@ -1,6 +1,6 @@
--- Parts one after another (RFC 8446, section 3.6), and cases (section 3.8), in the groups in which written messages have them: more
--- than three parts are read as groups of two or three, and cases that are values nest evenly. This tells nothing of the bytes
--- (`proofs/Flat`).
+-- Parts one after another (RFC 8446, section 3.6), and cases (section 3.8), in the groups in which
+-- written messages have them: more than three parts are read as groups of two or three, and cases
+-- that are values nest evenly. This says nothing about the bytes (`proofs/Flat`).
 use Rattle.std.specs.Prelude.{ℕ, zero, suc, List, [], ◌∷◌, Bool, true, false, ◌+◌, ◌-◌, ◌/◌, length, take, drop, nat_lt, replicate}
 use Rattle.tls_codec_grammar.specs.Format.{Format, nothing_format, fields_format}
 use Rattle.tls_codec_grammar.specs.Tagged.{Variants, no_variant}

@@ -37,7 +37,8 @@ in_row (f ∷ fs) (t ∷ ts) d b = Concat b (λ s. f.spells d s t) (λ s. in_row
 
 -- ---- structs
 
--- the formats of the parts; those behind one that holds tags are in the context of what that stands for
+-- the formats of the parts; those after one that holds tags are in the context of the value of that
+-- one
 abbrev pub formats_said : Tree → List Member → List Piece → List Format
 formats_said c members [] = []
 formats_said c members (p ∷ ps) = elim (decides p ps) as (λ b. List Format) [
@@ -102,7 +103,7 @@ case_says text struct tag label c members d b =
     let items = behind_tag (codes tag) site.items in
     case_row_says site c (length_width site items) (tag_in site (codes tag)) label members (fields_for site label items) d b
 
--- a select whose tag another struct has: no byte tells it, and the context has to say this number
+-- a select whose tag another struct has: no byte shows it, and the context has to say this number
 abbrev pub choice_says : Text → (struct path : String) → Label → Tree → List Member → Direction → List ℕ → Type 0
 choice_says text struct path label c members d b =
     let site = struct_in text (codes struct) in

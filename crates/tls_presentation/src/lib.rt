@@ -1,4 +1,5 @@
-//! What a text in the presentation language of TLS means (RFC 8446, section 3): `specs/` has four pages and what they stand on.
+//! What a text in the presentation language of TLS means (RFC 8446, section 3): `specs/` has four
+//! pages and what they depend on.
 //!
 //! - `Definition`: what a text says, as data;
 //! - `Printed`, with `Cut`: how that is printed, and how a text is cut into words, numbers and marks;

@@ -60,7 +60,8 @@ impl<'a, T: Serialize, U: SerializeFor<T>> Serialize for ByRefThen<'a, T, U> {
     }
 }
 
-/// The pair [`Then<T, (A, B)>`](crate::Then) of a borrowed first part, and of two parts, each of which may be borrowed.
+/// The pair [`Then<T, (A, B)>`](crate::Then) of a borrowed first part, and of two parts that may
+/// each be borrowed.
 ///
 /// The parts before one that doesn't fit are sent; a vector has the bytes from before.
 #[derive(Drop)]

@@ -17,9 +17,9 @@ use tls_codec_wire::{Bounded, Error, Sink, Source};
 
 /// The value that fills what the length `F` counts, read in a context, and the rest of the bytes, which isn't copied.
 ///
-/// The length is refused as in [`LengthField::split_length`], and bytes that are fewer than it says by
-/// [`LengthField::cut_off`]. `TrailingData`: a value was read, and a byte is left of what the length counts. Every
-/// other refusal is the value's.
+/// The length is rejected as in [`LengthField::split_length`], and bytes that are fewer than it
+/// says by [`LengthField::cut_off`]. `TrailingData`: a value was read, and a byte is left of what
+/// the length counts. Every other refusal is the value's.
 pub fn split_enclosed<'a, C: Size, F: LengthField, T: DeserializeBytesFor<C>>(
     context: &C,
     alloc: Global,
@@ -45,9 +45,9 @@ pub fn split_enclosed<'a, C: Size, F: LengthField, T: DeserializeBytesFor<C>>(
 
 /// The value that fills what the length `F` counts, read in a context. Only the length and what it counts are taken.
 ///
-/// The length is refused as in [`LengthField::read_length`]. `TrailingData`: a value was read, and a byte is left of
-/// what the length counts. Every other refusal is the value's, which is read from a source that ends where the length
-/// says.
+/// The length is rejected as in [`LengthField::read_length`]. `TrailingData`: a value was read, and
+/// a byte is left of what the length counts. Every other refusal is the value's, which is read from
+/// a source that ends where the length says.
 pub fn read_enclosed<C: Size, F: LengthField, T: DeserializeFor<C>, R: Source>(
     context: &C,
     alloc: Global,

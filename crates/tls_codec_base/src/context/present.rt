@@ -1,4 +1,4 @@
-//! Payloads that are there or not, as a context says: no byte tells it.
+//! Payloads that are there or not, as a context says: no byte shows it.
 ghost use Rattle.std.specs.Prelude.{◌≡◌, ℕ, false, List, IfErr, is_none, is_some, if◌then◌else◌};
 ghost use Rattle.tls_codec_grammar.specs.Grammar.{Direction};
 ghost use Rattle.tls_codec_grammar.specs.Tree.{option_plain};
@@ -10,7 +10,7 @@ use crate::traits::{Deserialize, DeserializeBytes, Serialize, Size};
 use std::alloc::Global;
 use tls_codec_wire::{Error, Sink, Source};
 
-/// The refusal of a value that isn't the one that its context asks for: it has no spelling there.
+/// The refusal of a value that isn't the one that its context asks for: it has no encoding there.
 pub fn misfit() -> Error
     ensures { DoesNotFit result }
 {

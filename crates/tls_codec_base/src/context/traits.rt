@@ -1,4 +1,4 @@
-//! The four traits of a type whose spellings a context decides, and their contracts.
+//! The four traits of a type whose encodings a context decides, and their contracts.
 ghost use Rattle.std.specs.Prelude.{◌≡◌, ◌⊎◌, List, ℕ, IfErr};
 ghost use Rattle.tls_codec_wire.specs.Counts.{Counts, no_counts};
 ghost use Rattle.tls_codec_wire.specs.declared.error.Error.{Error};
@@ -13,7 +13,8 @@ use crate::traits::Size;
 use std::alloc::Global;
 use tls_codec_wire::{Error, Sink, Source};
 
-/// A type whose values have spellings in a context `C`: what an earlier part of the message says, or another struct.
+/// A type whose values have encodings in a context `C`: what an earlier part of the message says,
+/// or another struct.
 ///
 /// A type may have several contexts. What [`laws`](crate::laws) say of a type with [`Size`] they say of
 /// [`Then<C, T>`](crate::Then), a context and a value in it; so they hold in each context.
@@ -33,8 +34,8 @@ pub trait SizeFor<C: Size> {
 
 /// A type that is written to a sink, in a context.
 ///
-/// `EncodingError("value does not fit its context")`: the value isn't the one that the context asks for, and has no
-/// spelling there.
+/// `EncodingError("value does not fit its context")`: the value isn't the one that the context asks
+/// for, and has no encoding there.
 pub trait SerializeFor<C: Size>: SizeFor<C> {
     /// Appends the value's shortest form in this context to what the sink has received, and returns how many bytes
     /// that is, saturated at `usize::MAX`.
@@ -76,7 +77,7 @@ pub trait DeserializeFor<C: Size>: SizeFor<C> + Drop {
     ghost names: { Tree → List ℕ → Counts → Counts → Error → Type 0 } = { λ c x old new e.
         Unit {0} };
 
-    /// The value that the bytes to come begin with in this context. Only its spelling is taken.
+    /// The value that the bytes to come begin with in this context. Only its encoding is taken.
     fn tls_deserialize_for<R: Source>(
         context: &C,
         alloc: Global,
@@ -87,7 +88,7 @@ pub trait DeserializeFor<C: Size>: SizeFor<C> + Drop {
         ensures named { IfErr result (Named (Self.format_for (C.plain context.now))
             (names (C.plain context.now)) R.Source bytes.old bytes.new) };
 
-    /// The value that all of the bytes spell in this context, read as from a source.
+    /// The value that all of the bytes encode in this context, read as from a source.
     ///
     /// `TrailingData`: a value was read, and a byte is left. Every other refusal is that of
     /// [`tls_deserialize_for`](DeserializeFor::tls_deserialize_for).
@@ -127,7 +128,7 @@ pub trait DeserializeBytesFor<C: Size>: SizeFor<C> + Drop {
             result }
         ensures named { IfErr result (names (C.plain context.now) bytes.now) };
 
-    /// The value that all of the bytes spell in this context.
+    /// The value that all of the bytes encode in this context.
     ///
     /// `TrailingData`: a value was read, and a byte is left. Every other refusal is that of
     /// [`tls_deserialize_bytes_for`](DeserializeBytesFor::tls_deserialize_bytes_for).

@@ -1,5 +1,6 @@
-//! `Vec<T>` in a context: a list of elements each of which is in the same one, as `CertificateEntry
-//! certificate_list<..>`, whose entries are of the certificate type that was agreed on (RFC 8446, section 4.4.2).
+//! `Vec<T>` in a context: a list of elements that are all in the same one, such as
+//! `CertificateEntry certificate_list<..>`, whose entries are of the certificate type that was
+//! agreed on (RFC 8446, section 4.4.2).
 ghost use Rattle.tls_codec_grammar.specs.Tree.{trees};
 ghost use Rattle.tls_codec_grammar.specs.Format.{list_format};
 ghost use Rattle.tls_codec_grammar.specs.laws.FormatLaws.{list_meets};

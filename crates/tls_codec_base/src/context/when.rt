@@ -27,7 +27,7 @@ pub trait Condition<C: Size> {
         ensures { result ≡ holds (C.plain context.now) };
 }
 
-/// A payload that is there just if the condition `K` holds of the context. No byte tells it.
+/// A payload that is there exactly if the condition `K` holds in the context. No byte shows it.
 #[derive(Drop)]
 pub struct When<K, T> {
     /// The payload.

@@ -8,9 +8,9 @@ ghost use Rattle.tls_codec_base.specs.Paths.{BothRead, FaultOrNoMemory, NoMemory
 use crate::traits::Size;
 use tls_codec_wire::Source;
 
-/// If a source tells the bytes of a slice, both decoders return one value and leave the same rest, or
-/// both refuse. This leaves out faults of the source and running out of memory. Both exact forms
-/// agree in the same way.
+/// If a source reports the bytes of a slice, both decoders return one value and leave the same
+/// rest, or both reject them. This leaves out faults of the source and running out of memory. Both
+/// exact forms agree in the same way.
 pub fn both_paths_agree<T: Size, R: Source>()
     ensures agree { (x : List ℕ) (old new : R) (found : T × Bor (List ℕ)) (v : T)
         → BothRead T.format T.plain R.Source x old new (Ok found) (Ok v)

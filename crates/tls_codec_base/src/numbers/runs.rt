@@ -18,8 +18,8 @@ use tls_codec_grammar::opaque::see_bytes;
 use tls_codec_wire::gather::gather;
 use tls_codec_wire::{Bounded, Error, Source};
 
-// The digits of all numbers of K bytes that a source may still give. It is none, and nothing is taken, if
-// whole numbers can't fill that.
+// The digits of all numbers of K bytes that a source may still give. `None` if whole numbers can't
+// fill that; then nothing is taken.
 pub(crate) fn read_run<R: Source, const K: usize>(
     alloc: Global,
     within: &mut Bounded<R>,
@@ -36,7 +36,7 @@ pub(crate) fn read_run<R: Source, const K: usize>(
     gather_run::<R, K>(alloc, within, turns)
 }
 
-// The same, if they are at hand. Else it is none, and nothing is taken.
+// The same, if they are at hand. Otherwise `None`, and nothing is taken.
 fn run_at_hand<R: Source, const K: usize>(
     alloc: Global,
     within: &mut Bounded<R>,
@@ -128,7 +128,7 @@ pub(crate) fn elements_of<T: HasDigits<K>, const K: usize>(
     Ok(Some(numbers_of::<T, K>(alloc, bytes)?))
 }
 
-// The numbers that a source may still give. It is none, and nothing is taken, if they don't fill that.
+// The numbers that a source may still give. `None` if they don't fill that; then nothing is taken.
 pub(crate) fn read_elements<T: HasDigits<K>, R: Source, const K: usize>(
     alloc: Global,
     within: &mut Bounded<R>,

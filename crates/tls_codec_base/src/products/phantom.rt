@@ -39,7 +39,7 @@ impl<T> SerializeBytes for PhantomData<T> {
 impl<T> Deserialize for PhantomData<T> {
     ghost names = { λ x old new e. ⊥ };
 
-    /// Takes nothing and is never refused.
+    /// Takes nothing and never fails.
     fn tls_deserialize<R: Source>(_alloc: Global, _bytes: &mut R) -> Result<PhantomData<T>, Error> {
         Ok(PhantomData)
     }
@@ -48,7 +48,7 @@ impl<T> Deserialize for PhantomData<T> {
 impl<T> DeserializeBytes for PhantomData<T> {
     ghost names = { λ x e. ⊥ };
 
-    /// Takes nothing and is never refused.
+    /// Takes nothing and never fails.
     fn tls_deserialize_bytes(
         _alloc: Global,
         bytes: &[u8],

@@ -32,7 +32,7 @@ impl Serialize for () {
 impl Deserialize for () {
     ghost names = { λ x old new e. ⊥ };
 
-    /// Takes nothing and is never refused.
+    /// Takes nothing and never fails.
     fn tls_deserialize<R: Source>(_alloc: Global, _bytes: &mut R) -> Result<(), Error> {
         Ok(())
     }
@@ -41,7 +41,7 @@ impl Deserialize for () {
 impl DeserializeBytes for () {
     ghost names = { λ x e. ⊥ };
 
-    /// Takes nothing and is never refused.
+    /// Takes nothing and never fails.
     fn tls_deserialize_bytes(_alloc: Global, bytes: &[u8]) -> Result<((), &[u8]), Error> {
         Ok(((), bytes))
     }

@@ -61,6 +61,7 @@ module _ (first : Format) (rest : Tree → Format) (l : MeetsLaws first) (m : Ea
     outside = λ v p. absurd p;
   }
 
--- a pair of which the second part depends on the first meets the laws, if the first part does, and each second one
+-- a pair whose second part depends on the first meets the laws, if the first part does, and each
+-- second one
 pub then_meets : {first : Format} {rest : Tree → Format} → MeetsLaws first → EachMeetsLaws rest → MeetsLaws (then_format first rest)
 then_meets {first} {rest} l m = then_all first rest l m

@@ -21,7 +21,7 @@ mod in_context;
 pub(crate) use alone::Alone;
 pub(crate) use in_context::In;
 
-/// A way in which elements have spellings.
+/// A way in which elements have encodings.
 pub(crate) trait ElementCoding<T> {
     // What an element stands for.
     ghost plain: { T → Tree };
@@ -33,13 +33,13 @@ pub(crate) trait ElementCoding<T> {
     fn element_len(&self, element: &T) -> usize
         ensures { result ≡ (format self.now).announced (plain element.now) };
 
-    /// The number of bytes of each element's shortest form, if all have as many. It is none if they
-    /// don't, or if that isn't known.
+    /// The number of bytes of each element's shortest form, if all have the same number. `None` if
+    /// they don't, or if that isn't known.
     fn fixed_len(&self) -> Option<usize>
         ensures { IfSome result (λ n. (v : T) → (format self.now).announced (plain v) ≡ n) };
 
-    /// Sends the elements' shortest forms in a row. It is none, and nothing is sent, if such elements
-    /// are sent one by one.
+    /// Sends the elements' shortest forms in a row. `None` if such elements are sent one by one;
+    /// then nothing is sent.
     fn send_at_once<W: Sink>(&self, elements: &[T], sink: &mut W) -> Result<Option<usize>, Error>
         ensures { AllSent (format self.now) (trees plain elements.now) W.Sink sink.old sink.new
             result };
@@ -66,15 +66,15 @@ pub(crate) trait ElementReader<T>: ElementCoding<T> {
     // Which errors are named, by the bytes that were seen and by the counts before and after.
     ghost names: { Self → List ℕ → Counts → Counts → Error → Type 0 };
 
-    /// The element that the bytes to come begin with. Only its spelling is taken.
+    /// The element that the bytes to come begin with. Only its encoding is taken.
     fn read_element<R: Source>(&self, alloc: Global, bytes: &mut R) -> Result<T, Error>
         ensures reads { Reads (Self.format self.now) Self.plain R.Source bytes.old bytes.new
             result }
         ensures named { IfErr result
             (Named (Self.format self.now) (names self.now) R.Source bytes.old bytes.new) };
 
-    /// The elements that fill what a source may still give, each of which is a turn. It is none, and
-    /// nothing is taken, if such elements are read one by one.
+    /// The elements that fill what a source may still give. Each element is a turn. `None` if such
+    /// elements are read one by one; then nothing is taken.
     fn read_at_once<R: Source>(
         &self,
         alloc: Global,
@@ -100,7 +100,7 @@ pub(crate) trait ElementSplitter<T>: ElementCoding<T> {
         ensures splits { Splits (Self.format self.now) Self.plain bytes.now result }
         ensures named { IfErr result (names self.now bytes.now) };
 
-    /// The elements that all of these bytes spell in a row. It is none if such elements are read one
+    /// The elements that all of these bytes encode in a row. `None` if such elements are read one
     /// by one.
     fn split_at_once(&self, alloc: Global, bytes: &[u8]) -> Result<Option<Vec<T>>, Error>
         ensures { AllRead (Self.format self.now) Self.plain bytes.now result };

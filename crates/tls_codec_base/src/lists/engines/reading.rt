@@ -143,7 +143,7 @@ fn each_within<T: Drop, K: ElementReader<T>, R: Source>(
     Ok(elements)
 }
 
-// Appends an element. Room is looked at once, and the first is requested without a call.
+// Appends an element. Room is checked once, and the first is requested without a call.
 #[inline(always)]
 fn push_element<T: Drop>(elements: &mut Vec<T>, element: T) -> Result<(), AllocError>
     ensures pushed { elements.new.items

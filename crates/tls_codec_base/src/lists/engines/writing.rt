@@ -26,7 +26,7 @@ pub(crate) fn content_len<T, K: ElementCoding<T>>(
     }
 }
 
-// So many lengths together.
+// `count` times the length `each`.
 fn product(count: usize, each: usize) -> Result<usize, Error>
     ensures ok { IfOk result (λ n. n ≡ count * each) }
     ensures err { IfErr result (λ e. (e ≡ InvalidVectorLength) × (2 ^ 64 ≤ count * each)) }
@@ -105,7 +105,7 @@ pub(crate) fn append<T, K: ElementWriter<T>>(
     }
 }
 
-// The same at once. It is none, and nothing is appended, if such elements are appended one by one.
+// The same at once. `None` if such elements are appended one by one; then nothing is appended.
 pub(crate) fn append_at_once<T, K: ElementCoding<T>>(
     coding: &K,
     out: &mut Vec<u8>,
