@@ -56,7 +56,8 @@ struct Word<'a> {
     cost: usize,
 }
 
-// Adds a line, as several if it has more than so many columns. All but the first stand further in.
+// Adds a line. A line with more than `columns` columns becomes several: all but the first are
+// indented further.
 fn push_line(
     alloc: Global,
     out: &mut String,
@@ -88,7 +89,7 @@ fn push_lines(
     Ok(())
 }
 
-// Adds a line of so many of these words.
+// Adds a line of the first `count` of these words.
 fn push_words(
     out: &mut String,
     blanks: usize,
@@ -115,7 +116,8 @@ fn push_blanks(out: &mut String, count: usize) -> Result<(), AllocError> {
     Ok(())
 }
 
-// How many of the words are in a line of so many columns: those before the last of the cheapest breaks, if not all.
+// The number of words that a line of `columns` columns takes: all of them, or those before the last
+// of the cheapest breaks.
 fn words_in_line(words: &[Word<'_>], columns: usize) -> usize {
     let mut count = words.len();
     let mut least = NEVER;
@@ -161,7 +163,7 @@ fn binds_next(word: &str) -> bool {
     BEFORE_ITS_OPERAND.contains(&word)
 }
 
-// What a break before a word in so many brackets costs.
+// The cost of a break before a word inside `depth` brackets.
 fn cost_of(depth: usize, word: &str) -> usize {
     if NOT_FIRST.contains(&word) {
         return NEVER;
@@ -179,7 +181,7 @@ fn looseness(word: &str) -> usize {
     3
 }
 
-// In how many brackets the word behind this one is.
+// The number of brackets around the word after this one.
 fn depth_after(before: usize, word: &str) -> usize {
     let mut depth = before;
     for c in word.chars() {

@@ -6,7 +6,7 @@ use std::alloc::{AllocError, Global};
 
 /// Sets the hole `from_content` of each case: its `From`, if it has one field, of a type that no other such case has.
 ///
-/// The format tells types apart, whatever they are called: another name of a type has the type's.
+/// Types are distinguished by their format, not by their name: an alias of a type has its format.
 pub fn set(alloc: Global, parts: &mut [Part]) -> Result<(), AllocError> {
     let templates = templates_of(alloc, parts)?;
     for (part, template) in parts.iter_mut().zip(&templates) {

@@ -27,13 +27,13 @@ use tlsgen_model::plan::{Body, Member, Message, Variant};
 #[derive(Clone, Copy)]
 pub enum Kind {
     Struct,
-    /// A struct, of which a context decides some fields.
+    /// A struct. A context decides some of its fields.
     StructInContext,
-    /// A struct with fields on tags that one before them is or holds.
+    /// A struct. Some of its fields depend on tags that an earlier field is or holds.
     Then,
-    /// An enum of numbers alone.
+    /// An enum of numbers only.
     Values,
-    /// A number, of which some values have names.
+    /// A number. Some of its values have names.
     Open,
     /// A tag, and what comes after each.
     Choice,
@@ -47,7 +47,7 @@ pub enum Kind {
 #[derive(Drop)]
 pub struct Form<'a> {
     pub kind: Kind,
-    /// It has references to its fields, and is only written.
+    /// It has references to its fields. It can only be encoded.
     pub is_borrowed: bool,
     pub holes: Holes,
     /// Its values, or its cases.
@@ -225,7 +225,7 @@ impl<'a> Form<'a> {
         self.holes.set_each(alloc, &structs_in_context::MANY)
     }
 
-    // Sets the holes of what tells the tag of its cases.
+    // Sets the holes of the method that returns the tag of its cases.
     fn set_tag_of_cases(
         &mut self,
         alloc: Global,
@@ -247,7 +247,7 @@ impl<'a> Form<'a> {
         )
     }
 
-    // Sets the holes of what a struct of so many fields is read as.
+    // Sets the holes of what a struct with `fields` fields is read as.
     fn set_read(&mut self, alloc: Global, fields: usize) -> Result<(), AllocError>
         ensures { self.new.kind ≡ self.old.kind }
     {
@@ -296,7 +296,7 @@ impl<'a> Form<'a> {
         }
     }
 
-    // Sets the holes of a sum's cases, in a length of so many bytes if there is one.
+    // Sets the holes of a sum's cases, inside a length of `length` bytes if there is one.
     fn set_sum(
         &mut self,
         alloc: Global,
@@ -370,11 +370,12 @@ fn add_names(cases: &mut Vec<&'static str>, names: &[&'static str]) -> Result<()
     Ok(())
 }
 
-// Of a message that is borrowed, and of one that isn't. The hole `static` is the lifetime in a clause.
+// The holes for a borrowed message; `NOT_LENT` has those for an owned one. The hole `static` is the
+// lifetime in a clause.
 static LENT: [(&str, &str); 6] = [
     (
         "borrowed_doc",
-        "///\n/// It has references to its fields, and is only written.\n",
+        "///\n/// It has references to its fields. It can only be encoded.\n",
     ),
     ("derives", "PartialEq, Eq, Debug, Clone, Copy"),
     ("lifetime", "<'a>"),

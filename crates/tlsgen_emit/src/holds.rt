@@ -1,4 +1,4 @@
-//! What a message holds: tags on which the selects of others are.
+//! What a message holds: tags that decide selects of other messages.
 
 use crate::nesting::Nesting;
 use crate::owners::Owner;
@@ -124,7 +124,7 @@ fn set_field<'a>(
     holes.set_each(alloc, &templates::HOLDS_TAG)
 }
 
-// Sets the holes of a tag in front of a message's cases, which its method tells.
+// Sets the holes of a tag in front of a message's cases. The message's method returns that tag.
 fn set_cases(
     alloc: Global,
     names: &Names<'_>,
@@ -168,7 +168,7 @@ fn path_of(alloc: Global, members: &[Member], at: usize) -> Result<String, Alloc
 
 static NTH: [&str; 3] = ["first_of", "second_of", "third_of"];
 
-// The part of a tree for one of so many fields in a row.
+// The part of a tree for field `at` of `fields` fields in a row.
 fn path_in(alloc: Global, fields: usize, at: usize, tree: String) -> Result<String, AllocError> {
     let nesting = Nesting::of(alloc, fields, Owner::Struct.most())?;
     let mut path = tree;

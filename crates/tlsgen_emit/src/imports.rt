@@ -8,7 +8,8 @@ use crate::vocabulary::{
 use std::alloc::{AllocError, Global};
 use std::collections::BTreeSet;
 
-/// The lines of a text and their words, other than those of its comments and the names of fields behind a dot.
+/// The lines of a text and their words, without its comments and without the names of fields after
+/// a dot.
 #[derive(Drop)]
 struct Text<'a> {
     lines: Vec<&'a str>,
@@ -32,8 +33,8 @@ impl<'a> Text<'a> {
         Ok(Text { lines, words })
     }
 
-    // Whether it has a word, or the sign of an operator, as `◌≡◌`. Code has `Some` in clauses alone with a blank behind
-    // it, and `[]` with one before it.
+    // Whether it has a word, or the sign of an operator such as `◌≡◌`. Only in clauses does code
+    // have `Some` before a blank, and `[]` after one.
     fn has(&self, word: &str) -> bool {
         match word {
             "Some" => self.has_sign("Some ("),
@@ -92,12 +93,12 @@ pub fn is_between_words(c: char) -> bool {
     !c.is_ascii_alphanumeric() && c != '_'
 }
 
-// Whether a character ends a word and the names of fields behind it, as `v.length`.
+// Whether a character ends a word together with the names of fields after it, such as `v.length`.
 fn is_between_paths(c: char) -> bool {
     c != '.' && is_between_words(c)
 }
 
-/// Adds the lines of a file of definitions, but those of its own message.
+/// Adds the lines of a file of definitions, except those of its own message.
 pub fn push_definitions(alloc: Global, out: &mut String, text: &str) -> Result<(), AllocError> {
     let brought = [
         ("Rattle.std.proofs.Common", ["arith"].as_slice()),
@@ -113,7 +114,7 @@ pub fn push_definitions(alloc: Global, out: &mut String, text: &str) -> Result<(
     push_uses(alloc, out, text, &brought)
 }
 
-/// Adds the lines of a file of answers, but those of the message's definitions.
+/// Adds the lines of a file of answers, except those of the message's definitions.
 pub fn push_answers(alloc: Global, out: &mut String, text: &str) -> Result<(), AllocError> {
     let brought = [
         (

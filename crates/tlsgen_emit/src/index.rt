@@ -10,7 +10,7 @@ pub struct Index<'a> {
     pub messages: BTreeMap<&'a str, &'a Message>,
     /// What other crates have.
     pub others: BTreeMap<&'a str, &'a Other>,
-    /// The tags of others that a message holds.
+    /// The tags of other messages that a message holds.
     pub holders: BTreeMap<&'a str, Vec<&'a Holder>>,
     /// The types of tags that decide parts of messages: each is the context of one, or a field before the parts is it or
     /// holds it.

@@ -84,7 +84,8 @@ impl Rows {
     }
 }
 
-/// One text for each group, by so many texts each. A text that is alone stays as it is.
+/// One text for each group: `sizes` has the number of texts of each group. A text alone in its
+/// group stays unchanged.
 pub fn grouped(
     alloc: Global,
     texts: &[String],

@@ -1,4 +1,4 @@
-//! The keys of messages that hold tags, by which what the tags decide is validated.
+//! The keys of messages that hold tags. They validate what the tags decide.
 
 use crate::holds::Held;
 use crate::joining::Join;
@@ -73,7 +73,7 @@ fn holes_of(
     Ok(holes)
 }
 
-// The holes `name`, `key`, `held`, `key_of` and `key_path` of one of so many tags.
+// The holes `name`, `key`, `held`, `key_of` and `key_path` of tag `at` of `count` tags.
 fn holes_of_tag(
     alloc: Global,
     names: &Names<'_>,
@@ -97,7 +97,7 @@ fn holes_of_tag(
     Ok(holes)
 }
 
-// One of so many numbers.
+// Number `at` of `count` numbers.
 fn nth(alloc: Global, key: &str, count: usize, at: usize) -> Result<String, AllocError> {
     if count > 1 {
         format!(in alloc; "{key}.{at}")

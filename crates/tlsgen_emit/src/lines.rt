@@ -4,7 +4,7 @@ use crate::parts::Part;
 use crate::template::Holes;
 use std::alloc::{AllocError, Global};
 
-/// Templates of such a text: what stands before all lines and behind them is of the message.
+/// Templates of such a text. The message fills the parts before all lines and after them.
 pub struct Lines {
     /// The hole that the text is for.
     pub hole: &'static str,
@@ -16,7 +16,8 @@ pub struct Lines {
     /// That of a case of one field, if it is another.
     pub one: Option<&'static str>,
     pub behind: &'static str,
-    /// The whole text where only one value or case is there, without fields: nothing is told from another then.
+    /// The whole text if there is only one value or case and it has no fields: then there is
+    /// nothing to distinguish.
     pub alone: Option<&'static str>,
 }
 

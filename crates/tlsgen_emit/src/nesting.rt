@@ -4,8 +4,8 @@ use std::alloc::{AllocError, Global};
 
 /// Groups of fields: three, say, of four, four and three.
 ///
-/// A tuple has three parts at most, so more fields nest: in groups, each of which is borrowed as one,
-/// `ByRef2` to `ByRef9`; and a group of more than three is a tuple of smaller ones.
+/// A tuple has at most three parts, so more fields are nested in groups. Each group is borrowed as
+/// one, `ByRef2` to `ByRef9`. A group of more than three fields is a tuple of smaller groups.
 #[derive(Drop)]
 pub struct Nesting {
     /// How many fields each group has: 4, 4, 3.
@@ -17,12 +17,12 @@ pub struct Nesting {
 }
 
 impl Nesting {
-    /// So many fields, in so many groups at most.
+    /// Nests `fields` fields in at most `most` groups.
     pub fn of(alloc: Global, fields: usize, most: usize) -> Result<Nesting, AllocError> {
         Nesting::of_groups(alloc, shares(alloc, fields, most)?)
     }
 
-    /// Groups of so many fields each.
+    /// Groups with these numbers of fields.
     pub fn of_groups(alloc: Global, groups: Vec<usize>) -> Result<Nesting, AllocError> {
         let mut parts = Vec::new(alloc);
         let mut counts = Vec::new(alloc);
@@ -64,7 +64,8 @@ fn place(shares: &[usize], at: usize) -> (usize, (usize, usize)) {
     (0, (0, 1))
 }
 
-// How many fields each of at most so many parts has. The first have one more where they can't be alike.
+// The number of fields of each part, for at most `most` parts. The first parts have one more if the
+// fields can't be split evenly.
 fn shares(alloc: Global, fields: usize, most: usize) -> Result<Vec<usize>, AllocError> {
     let count = count_of_parts(fields, most);
     let mut shares = Vec::new(alloc);

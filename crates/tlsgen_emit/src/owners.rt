@@ -1,4 +1,4 @@
-//! What has fields in a row, and how each stands there.
+//! What has fields in a row, and how each field is declared there.
 
 use tlsgen_model::plan::{Decided, Member};
 
@@ -6,9 +6,9 @@ use tlsgen_model::plan::{Decided, Member};
 #[derive(Clone, Copy)]
 pub enum Owner {
     Struct,
-    /// A struct, of which a context decides some fields.
+    /// A struct. A context decides some of its fields.
     StructInContext,
-    /// A struct's fields behind one that holds tags on which some of them are.
+    /// The fields of a struct after one that holds tags. Some of these fields depend on the tags.
     Behind,
     /// A variant, whose tag is in a row with its fields.
     Variant,

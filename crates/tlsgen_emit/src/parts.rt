@@ -18,8 +18,8 @@ pub struct Part {
     pub holes: Holes,
 }
 
-/// The values of an enum or a registry. Those of an enum are in the order of their numbers, by which a derive compares
-/// them.
+/// The values of an enum or a registry. Those of an enum are ordered by number, so a derive
+/// compares them by number.
 pub fn values_of(
     alloc: Global,
     holes: &Holes,
@@ -135,8 +135,8 @@ static FIRST: [(&str, &str); 5] = [
 ];
 
 impl Part {
-    // A part of so many fields. It has the holes of the message and of its tag, these texts, `number`, and those of
-    // its position.
+    // A part with `fields` fields. It has the holes of the message and of its tag, these texts,
+    // `number`, and those of its position.
     fn of(
         alloc: Global,
         of_message: &Holes,
@@ -153,8 +153,9 @@ impl Part {
         Ok(Part { fields, holes })
     }
 
-    // Sets the holes `lefts`, `rights` and `value`: variables for the fields of two, as `a0 a1` and `b0 b1`, and the
-    // variant with the first, as `(Both a0 a1)`; and those of `SAID`.
+    // Sets the holes `lefts`, `rights` and `value`: variables for the fields of two values, such as
+    // `a0 a1` and `b0 b1`, and the variant with the first ones, such as `(Both a0 a1)`. Also sets
+    // those of `SAID`.
     fn set_fields(&mut self, alloc: Global) -> Result<(), AllocError> {
         self.holes.set("lefts", numbered(alloc, "a", self.fields)?)?;
         self.holes
@@ -175,7 +176,7 @@ impl Part {
     }
 }
 
-// So many variables, as `a0 a1`.
+// The text of `count` variables, such as `a0 a1`.
 fn numbered(alloc: Global, letter: &str, count: usize) -> Result<String, AllocError> {
     let mut out = String::new(alloc);
     for i in 0..count {

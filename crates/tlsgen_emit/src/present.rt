@@ -1,4 +1,4 @@
-//! Fields that are there for some numbers of a tag alone: no byte tells it.
+//! Fields that are present for some numbers of a tag only: no byte says whether they are.
 
 use crate::template::Holes;
 use crate::types::{Names, Words};

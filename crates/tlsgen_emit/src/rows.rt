@@ -150,7 +150,8 @@ impl Row {
         holes.set_each(alloc, split)
     }
 
-    // Whether an array is behind a field that is moved: the borrow checker doesn't cover that within a pattern.
+    // Whether an array comes after a field that is moved: the borrow checker doesn't cover that
+    // within a pattern.
     fn has_late_array(&self) -> bool {
         let mut is_moved = false;
         for field in &self.fields {
@@ -162,8 +163,9 @@ impl Row {
         false
     }
 
-    /// The lines that take the fields of a tuple: each group after the other where some are tuples, since the borrow
-    /// checker takes no array out of a tuple in a tuple, another part of which is moved.
+    /// The lines that take the fields of a tuple. If some groups are tuples, they take one group
+    /// after another: the borrow checker takes no array out of a nested tuple if another part of
+    /// that is moved.
     pub fn lets(&self, alloc: Global, tuple: &str) -> Result<String, AllocError> {
         let parts = self.parts(alloc, "$bound$", Join::Tuple)?;
         let counts = self.nesting.counts.as_slice();
@@ -260,7 +262,7 @@ impl Row {
         Ok(texts)
     }
 
-    // That the fields of two are alike, as `(a && (b && c))`.
+    // That the fields of two values are equal, such as `(a && (b && c))`.
     fn alike(&self, alloc: Global) -> Result<String, AllocError> {
         let Some((last, others)) = self.fields.split_last() else {
             return String::from_str(alloc, "true");
@@ -273,8 +275,8 @@ impl Row {
         Ok(out)
     }
 
-    // The borrowed groups, as `(ByRef2(&self.a, &self.b), ByRef(&self.c))`. A struct's field that is alone lends
-    // itself.
+    // The borrowed groups, such as `(ByRef2(&self.a, &self.b), ByRef(&self.c))`. The only field of
+    // a struct is borrowed itself.
     fn borrowed(&self, alloc: Global) -> Result<String, AllocError> {
         match (self.owner, self.fields.as_slice()) {
             (Owner::Struct, [only]) if self.is_borrowed && !only.is_borrowed => {

@@ -62,7 +62,7 @@ impl Pair {
     }
 }
 
-/// Sets the holes of a sum's cases, each of which fills a length if there is one.
+/// Sets the holes of a sum's cases. Each case fills the length if there is one.
 pub fn set_cases(
     alloc: Global,
     parts: &mut [Part],

@@ -1,4 +1,4 @@
-//! The tag in front of a message's cases, which a method tells.
+//! The tag in front of a message's cases. A method returns it.
 
 use crate::parts::Part;
 use crate::template::Holes;
@@ -13,7 +13,7 @@ use tlsgen_model::plan::{Body, CaseTag, Message, Value, Variant};
 pub enum TagKind<'a> {
     /// An enum of these values.
     Closed(&'a [Value]),
-    /// A number, of which some values have names.
+    /// A number. Some of its values have names.
     Open,
     Number,
 }
@@ -126,7 +126,7 @@ static OF_TAG: [(&str, &str); 3] = [
 
 static OF_U64: [(&str, &str); 3] = [("u64", "tag"), ("cast", ""), ("end", "")];
 
-/// Sets the holes of a tag of so many bytes: `width`, `bits`, `digits`, and those of `OF_TAG`.
+/// Sets the holes of a tag of `width` bytes: `width`, `bits`, `digits`, and those of `OF_TAG`.
 pub fn set_width_of(alloc: Global, holes: &mut Holes, width: usize) -> Result<(), AllocError> {
     set_width(alloc, holes, width)?;
     holes.set_number(alloc, "digits", (width as u64).saturating_mul(2))?;

@@ -96,8 +96,7 @@ impl Holes {
         Ok(out)
     }
 
-    /// Adds the text of a template: what is between the holes, and what stands for each. A hole that nothing stands
-    /// for stays.
+    /// Adds the text of a template, with each hole filled. A hole without a text stays unchanged.
     pub fn push(&self, alloc: Global, out: &mut String, template: &str) -> Result<(), AllocError>
         ensures { OnOk result (string_bytes out.new
             ≡ string_bytes out.old ++ filled self.now.all.items template.now) }

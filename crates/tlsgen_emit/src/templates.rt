@@ -29,7 +29,7 @@ pub struct Templates {
     pub code: &'static str,
     /// The decoders of one that isn't borrowed, where a borrowed one has none.
     pub decoders: &'static str,
-    /// What tells its bytes from others, of one that isn't borrowed.
+    /// The code that distinguishes its bytes from others, for one that isn't borrowed.
     pub validator: &'static str,
     pub law: &'static str,
     /// What it stands for, its format and its law.

@@ -1,4 +1,4 @@
-//! A struct's fields, of which some are on tags that one before them is or holds.
+//! The fields of a struct. Some of them depend on tags that an earlier field is or holds.
 
 use crate::joining::{FORMATS, Join, LAWS, TREES};
 use crate::owners::Owner;
@@ -90,7 +90,8 @@ pub fn set<'a>(
     holes.set_each(alloc, parts)
 }
 
-// Sets the hole `giver`, and returns what the fields behind it are. One that is their tag itself is their context.
+// Sets the hole `giver`, and returns the owner of the fields after it. A giver that is the tag
+// itself is their context.
 fn set_giver<'a>(
     alloc: Global,
     names: &Names<'a>,

@@ -17,11 +17,11 @@ use tlsgen_model::plan::{Body, Element, Holder, Message, Other, Plan, Shape, Typ
 pub struct Words<'a> {
     /// What stands for these holes:
     ///
-    /// - `rust`: the Rust type, as `Vec<u16>`;
+    /// - `rust`: the Rust type, such as `Vec<u16>`;
     /// - `plain`: what a value stands for, as a function: `(λ v. trees Number v.items)`;
     /// - `tree`: the tree that a value stands for, with a hole for the value: `trees Number $v$.items`;
-    /// - `format`: as `list_format (number_format 2)`;
-    /// - `law`: as `list_meets u16_meets`.
+    /// - `format`: its format, such as `list_format (number_format 2)`;
+    /// - `law`: its law, such as `list_meets u16_meets`.
     pub texts: Holes,
     /// The name of a message or of another name of a type that is in the Rust type.
     pub named: Option<&'a str>,
@@ -342,7 +342,7 @@ fn of_count(alloc: Global, count: u64) -> Result<Holes, AllocError> {
     Ok(holes)
 }
 
-// A length of so many bytes, with bounds.
+// A length of `width` bytes, with bounds.
 fn of_length(alloc: Global, width: usize, least: u64, most: u64) -> Result<Holes, AllocError> {
     let mut holes = of_width(alloc, width)?;
     holes.set_all(alloc, &[("field", length_field(width))])?;
@@ -351,7 +351,7 @@ fn of_length(alloc: Global, width: usize, least: u64, most: u64) -> Result<Holes
     Ok(holes)
 }
 
-/// The type of a length of so many bytes.
+/// The type of a length of `width` bytes.
 pub fn length_field(width: usize) -> &'static str {
     match width {
         1 => "u8",
@@ -361,7 +361,7 @@ pub fn length_field(width: usize) -> &'static str {
     }
 }
 
-// The greatest length of so many bytes.
+// The greatest length that `width` bytes hold.
 fn greatest(width: usize) -> u64 {
     match width {
         1 => 0xff,
@@ -377,7 +377,7 @@ fn of_width(alloc: Global, width: usize) -> Result<Holes, AllocError> {
     Ok(holes)
 }
 
-/// Sets the holes `width` and `bits`: so many bytes.
+/// Sets the holes `width` and `bits` for a number of `width` bytes.
 pub fn set_width(alloc: Global, holes: &mut Holes, width: usize) -> Result<(), AllocError> {
     let bytes = width as u64;
     holes.set_number(alloc, "width", bytes)?;

@@ -14,7 +14,7 @@ pub struct Uses<'a> {
     pub cited: Vec<&'a str>,
     /// The enums whose numbers decide the message's parts.
     pub selected: Vec<&'a str>,
-    /// The message that holds the tags of fields behind it.
+    /// The message that holds the tags of fields after it.
     pub giver: Option<&'a str>,
     /// Messages, and the tags that they hold, whose definitions are cited.
     pub held: Vec<(&'a str, &'a str)>,

@@ -1,4 +1,4 @@
-//! The view of a struct or of an enum with cases: its encoding, by its fields.
+//! The view of a struct or of an enum with cases: its encoding, split into its fields.
 
 use crate::joining::Join;
 use crate::lines::{self, Lines};
@@ -145,7 +145,8 @@ fn of_fields(alloc: Global, fields: &[String]) -> Result<Vec<Bound>, AllocError>
     Ok(all)
 }
 
-// One for each group of so many. What is alone stays as it is; a group of more is numbered among the three that a tuple has.
+// One for each group; `sizes` has the size of each. One alone in its group stays unchanged. A
+// larger group is numbered among the three that a tuple has.
 fn grouped(
     alloc: Global,
     inner: &[Bound],

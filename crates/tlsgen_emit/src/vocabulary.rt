@@ -194,8 +194,9 @@ pub static HELD: [&str; 4] = ["first_of", "second_of", "third_of", "rest_of"];
 /// What code takes of them for a type of a field, whichever message has it.
 pub static CASES_OF_FIELDS: [&str; 1] = ["Exactly"];
 
-/// What code takes of them: a struct, a sum behind a tag, one in a context, a struct in a context, a struct with
-/// fields on a tag before them, and what is a tag or holds one.
+/// The words of the cases that code uses, each list for one form: a struct, a sum after a tag, a
+/// sum in a context, a struct in a context, a struct with fields that depend on an earlier tag, and
+/// a message that is a tag or holds one.
 pub static CASES_OF_ROW: [&str; 1] = ["append_as"];
 
 pub static CASES_OF_SUM: [&str; 6] = ["Case", "Enclosed", "Or", "Tagged", "append_as", "write_as"];

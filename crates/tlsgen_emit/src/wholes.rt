@@ -8,8 +8,8 @@ use crate::uses::Uses;
 use std::alloc::{AllocError, Global};
 use tlsgen_model::plan::{Body, Member, Message};
 
-/// Sets the hole `from_whole`: the `From` of a struct that is called as another, with `TBS` behind it, and has none but fields of
-/// that one.
+/// Sets the hole `from_whole`: the `From` of a struct whose name is that of another struct with
+/// `TBS` appended, and whose fields are all fields of that other struct.
 pub fn set<'a>(
     alloc: Global,
     names: &Names<'a>,
@@ -55,7 +55,8 @@ fn whole_of<'a>(
     Ok(Some(whole.name.as_str()))
 }
 
-// Whether one of the fields has the name and the type of this one. The format tells types apart.
+// Whether one of the fields has the name and the type of this one. Types are distinguished by their
+// format.
 fn has<'a>(
     alloc: Global,
     names: &Names<'a>,

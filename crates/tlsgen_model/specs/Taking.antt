@@ -14,7 +14,7 @@ use Rattle.tlsgen_model.specs.declared.plan.Message.{Message}
 use Rattle.tlsgen_model.specs.declared.plan.Value.{Value}
 use Rattle.tlsgen_model.specs.declared.plan.Variant.{Variant}
 
--- given back, and the list is as it was, if it is there already; else appended
+-- given back, and the list unchanged, if the list has it already; otherwise appended
 abbrev pub AppendsUnless : {X : Type 0} → (is_there : Bool) → (old new : List X) → X → Option X → Type 0
 AppendsUnless true old new x left = (left ≡ Some x) × (new ≡ old)
 AppendsUnless false old new x left = (left ≡ None) × (new ≡ old ++ x ∷ [])
@@ -39,19 +39,19 @@ Covers-prop modules messages = Π_prop (λ name. Π_prop (λ _. Prim.hlevel prop
 abbrev pub stays : (home : ℕ) → (names : BTreeSet (String Global)) → Message → Bool
 stays home names message = nat_eq message.home home && not (contains string_cmp names message.name)
 
--- appended, or refused for a reason that holds, and the list is as it was
+-- appended, or refused for a reason that holds, and the list is unchanged
 abbrev pub Takes : {X : Type 0} → (Refuses : Unfit → Type 0) → (old new : List X) → X → Option Unfit → Type 0
 Takes Refuses old new x None = new ≡ old ++ x ∷ []
 Takes Refuses old new x (Some why) = Refuses why × (new ≡ old)
 
--- why a value isn't one more of these, whose numbers have so many bytes
+-- why a value can't be added to these, whose numbers have `width` bytes
 abbrev pub RefusesValue : (width : ℕ) → List Value → Value → Unfit → Type 0
 RefusesValue width values value TooGreat = value.number < 256 ^ width → ⊥
 RefusesValue width values value SameNumber = IsTrue (list_any (λ other. nat_eq value.number other.number) values)
 RefusesValue width values value SameName = IsTrue (list_any (λ other. string_eq value.name other.name) values)
 RefusesValue width values value ManyFields = ⊥
 
--- why a case isn't one more of these, whose tags have so many bytes
+-- why a case can't be added to these, whose tags have `width` bytes
 abbrev pub RefusesCase : (width : ℕ) → List Variant → Variant → Unfit → Type 0
 RefusesCase width variants variant TooGreat = variant.tag < 256 ^ width → ⊥
 RefusesCase width variants variant SameNumber = IsTrue (list_any (λ other. nat_eq variant.tag other.tag) variants)

@@ -25,7 +25,7 @@ is_one (Exact _) = false
 is_one Variable = false
 is_one (Bounded _ _ _) = false
 
--- so many bytes, or behind a length
+-- a fixed number of bytes, or after a length
 abbrev pub is_vector : Shape → Bool
 is_vector One = false
 is_vector (Array _) = true

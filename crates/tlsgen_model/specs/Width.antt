@@ -9,7 +9,7 @@ abbrev pub is_length : Option ℕ → Bool
 is_length None = true
 is_length (Some width) = nat_lt 0 width && nat_le width 4
 
--- so many bytes hold the number, and one byte fewer doesn't, or would be none
+-- `bytes` bytes hold the number; one byte fewer doesn't hold it, or would leave no byte
 abbrev pub IsLeastWidth : (number bytes : ℕ) → Type 0
 IsLeastWidth number zero = ⊥
 IsLeastWidth number (suc zero) = number < 256

@@ -37,7 +37,7 @@ HaveVariantNames variants = IsDistinct string_eq (map (λ variant. variant.name)
 abbrev pub HaveTags : List Variant → Type 0
 HaveTags variants = IsDistinct nat_eq (map (λ variant. variant.tag) variants)
 
--- a number of so many bytes, and at most 18 fields
+-- a number of `width` bytes, and at most 18 fields
 abbrev pub IsCase : ℕ → Variant → Type 0
 IsCase width variant =
     (variant.tag < 256 ^ width) × (length variant.fields.items ≤ 18) × HaveNames variant.fields.items ×

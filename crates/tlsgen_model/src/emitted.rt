@@ -9,7 +9,7 @@ use std::alloc::{AllocError, Global};
 /// A file that is written.
 #[derive(Drop)]
 pub struct Written {
-    /// Its path in the crate's folder, as `src/leaf_node.rt`.
+    /// Its path in the crate's folder, such as `src/leaf_node.rt`.
     pub path: String,
     pub text: String,
 }

@@ -2,7 +2,7 @@
 //!
 //! - [`plan`]: [`Plan`](plan::Plan), the messages that are written, each with its fields and its tags.
 //! - [`lists`]: fields, values and cases in a row, in which each name and each number comes once.
-//! - [`messages`]: [`Messages`](messages::Messages), each of which can be written.
+//! - [`messages`]: [`Messages`](messages::Messages), messages that can all be written.
 //! - [`emitted`]: [`Written`](emitted::Written), a file of a written crate.
 //! - [`borrowed`]: [`runs_of`](borrowed::runs_of), how the fields of a borrowed struct are written in a row.
 //! - [`names`]: what types, fields and values are named in the written sources. [`words`]: which names these can't be.

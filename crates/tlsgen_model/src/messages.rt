@@ -1,4 +1,4 @@
-//! Messages, each of which can be written.
+//! Messages that can all be written.
 ghost use Rattle.std.specs.Prelude.{◌≡◌, [], IfOk};
 ghost use Rattle.std.specs.List.{filter, list_any};
 ghost use Rattle.std.specs.String.{string_eq};
@@ -10,7 +10,7 @@ use crate::plan::Message;
 use std::alloc::{AllocError, Global};
 use std::collections::BTreeSet;
 
-/// Messages, each of which can be written, with a module that no other has.
+/// Messages that can all be written. Each has a module of its own.
 #[derive(Drop)]
 pub struct Messages {
     messages: Vec<Message>,
@@ -60,7 +60,7 @@ impl Messages {
         Ok(None)
     }
 
-    /// The messages of a crate but those that have one of some names.
+    /// The messages of a crate, except those that have one of these names.
     #[tactic(auto, using(crate::proofs::Kept::kept_all, crate::proofs::Kept::kept_modules))]
     pub fn into_messages_but(self, home: usize, names: &BTreeSet<String>) -> Vec<Message>
         ensures kept { result.items ≡ filter (stays home names.now) self.messages.items }

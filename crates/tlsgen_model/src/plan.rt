@@ -29,25 +29,27 @@ pub struct Other {
 pub struct Alias {
     pub name: String,
     pub of: Type,
-    /// The type is the last byte that isn't zero, behind what it is the type of: `pub type Inner = InnerPlaintext<ContentType>;`.
+    /// The type is the last byte that isn't zero, after the content whose type it is:
+    /// `pub type Inner = InnerPlaintext<ContentType>;`.
     pub ends: bool,
     /// Which crate has it: after the others the one that is written.
     pub home: usize,
-    /// What its doc comment says: the line of the file, as `opaque MAC<V>;`, its section and what comments say of it.
+    /// The text of its doc comment: the line of the file, such as `opaque MAC<V>;`, its section and
+    /// what comments say of it.
     pub doc: String,
 }
 
 #[derive(Drop)]
 pub struct Message {
-    /// The type's name, as `LeafNode`.
+    /// The type's name, such as `LeafNode`.
     pub name: String,
-    /// Its module's name, as `leaf_node`.
+    /// Its module's name, such as `leaf_node`.
     pub module: String,
     /// Which crate has it: after the others the one that is written.
     pub home: usize,
-    /// It has references to its fields, and is only written.
+    /// It has references to its fields. It can only be encoded.
     pub is_borrowed: bool,
-    /// What its doc comment says.
+    /// The text of its doc comment.
     pub doc: String,
     /// What decides its parts, if that is in another struct.
     pub context: Option<Context>,
@@ -59,9 +61,9 @@ pub struct Message {
 /// A tag in front of a message's cases.
 #[derive(Drop)]
 pub struct CaseTag {
-    /// Its name in Rust, as `msg_type`.
+    /// Its name in Rust, such as `msg_type`.
     pub name: String,
-    /// The name of its enum in Rust, as `HandshakeType`; none if it is a number.
+    /// The name of its enum in Rust, such as `HandshakeType`; `None` if it is a number.
     pub of: Option<String>,
     /// That enum keeps numbers that have no name.
     pub is_open: bool,
@@ -70,13 +72,14 @@ pub struct CaseTag {
 /// A tag in another struct, on which a message's selects are: the message is read and written in its context.
 #[derive(Drop)]
 pub struct Context {
-    /// The tag's name in Rust, as `content_type`.
+    /// The tag's name in Rust, such as `content_type`.
     pub name: String,
     /// An integer of 1 or 2 bytes, or an enum of numbers.
     pub of: Element,
 }
 
-/// A message that holds a tag on which the selects of others are: those may be in its context.
+/// A message that holds a tag. The tag decides selects of other messages, which may be in its
+/// context.
 #[derive(Drop)]
 pub struct Holder {
     /// The message's name.
@@ -89,7 +92,7 @@ pub struct Holder {
 
 #[derive(Drop)]
 pub enum Body {
-    /// An enum of numbers alone, each of `width` bytes.
+    /// An enum of numbers only, each of `width` bytes.
     Values {
         width: usize,
         is_open: bool,
@@ -102,8 +105,9 @@ pub enum Body {
         width: usize,
         variants: Vec<Variant>,
     },
-    /// What comes after each number of a tag of `width` bytes: behind the tag and a length of so many bytes (1 to 4),
-    /// which it fills, or alone, if the tag is the message's context.
+    /// What comes after each number of a tag of `width` bytes. It comes after the tag and a length
+    /// of `length` bytes (1 to 4), and fills that length; or it is alone, if the tag is the
+    /// message's context.
     Sum {
         width: usize,
         length: Option<usize>,
@@ -113,11 +117,11 @@ pub enum Body {
 
 #[derive(Drop)]
 pub struct Value {
-    /// Its name in the file, as `mls10`.
+    /// Its name in the file, such as `mls10`.
     pub label: String,
-    /// The variant's name, as `Mls10`.
+    /// The variant's name, such as `Mls10`.
     pub name: String,
-    /// The name of its constant, as `MLS10`.
+    /// The name of its constant, such as `MLS10`.
     pub constant: String,
     pub number: u64,
     /// What comments of the file say of it, line by line.
@@ -126,11 +130,11 @@ pub struct Value {
 
 #[derive(Drop)]
 pub struct Variant {
-    /// Its label in the file, as `new_member_commit`, or `case_5` for a number that has no name.
+    /// Its label in the file, such as `new_member_commit`, or `case_5` for a number without a name.
     pub label: String,
-    /// The variant's name, as `NewMemberCommit`.
+    /// The variant's name, such as `NewMemberCommit`.
     pub name: String,
-    /// The name of its tag's constant, as `NEW_MEMBER_COMMIT`.
+    /// The name of its tag's constant, such as `NEW_MEMBER_COMMIT`.
     pub constant: String,
     pub tag: u64,
     /// Its one field is bytes in a vector, whose length is that of the sum.
@@ -145,9 +149,9 @@ pub struct Member {
     pub name: String,
     pub of: Type,
     pub decided: Decided,
-    /// Where a tag decides alone whether it is there: for which numbers it is. No byte tells it.
+    /// If a tag alone decides whether it is present: the numbers for which it is. No byte says so.
     pub present_for: Option<Vec<u64>>,
-    /// The line of the file, as `opaque group_id<V>;`.
+    /// The line of the file, such as `opaque group_id<V>;`.
     pub declared: String,
     /// What comments of the file say of it, line by line.
     pub comment: String,
@@ -156,7 +160,7 @@ pub struct Member {
 /// What decides a member's parts.
 #[derive(Drop)]
 pub enum Decided {
-    /// Its own bytes alone.
+    /// Only its own bytes.
     Alone,
     /// The context of the message that has it, in which its type is too.
     Outside,
@@ -173,11 +177,11 @@ pub struct Before {
     pub tag: String,
 }
 
-/// How many of an element there are, and of which.
+/// An element, and how many of it there are.
 #[derive(Drop)]
 pub struct Type {
     pub shape: Shape,
-    /// Each of them may be missing: `optional<T>`. No array of bytes, and no opaque, is so.
+    /// Each of them may be missing: `optional<T>`. This excludes arrays of bytes and opaques.
     pub is_optional: bool,
     pub element: Element,
 }

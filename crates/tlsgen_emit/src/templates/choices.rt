@@ -337,7 +337,7 @@ $validates$            _ => Err(Rejected {
 $view$";
 
 pub const LAW: &str = "$tag_method$$from_contents$
-/// Two are equal exactly where they are of one case, and each field is.
+/// Two values are equal if and only if they have the same case and all their fields are equal.
 pub fn is_compared_by_its_case()
     ensures tag { (x y : $name$) →
         IsTrue (⟦<$name$$static$ as PartialEq>⟧.eq x y) → $module$_tag x ≡ $module$_tag y }

@@ -67,7 +67,7 @@ pub struct $name$(pub u$bits$);
 
 impl $name$ {
 $constants$
-    /// Its name in the text, if it has one.
+    /// Its name in the presentation language, if it has one.
     pub fn name(&self) -> Option<&'static str>
         ensures { option_map (λ t. t.now) result ≡ listed_name $module$_names self.now.0 }
     {
@@ -77,7 +77,7 @@ $name_of$            _ => None,
     }
 }
 
-/// Its name, or else its number in hexadecimal, two digits a byte. A width pads names alone.
+/// Its name, or else its number in hexadecimal, two digits per byte. A width pads only names.
 impl fmt::Display for $name$ {
     ghost output = { λ v. Some (name_or_number $module$_names $digits$ v.0) };
 
@@ -99,7 +99,7 @@ impl From<$name$> for u$bits$ {
     }
 }
 
-/// The one that has this number.
+/// The value with this number.
 impl From<u$bits$> for $name$ {
     ghost from_gives = { λ number v. v.0 ≡ number };
 
@@ -180,13 +180,13 @@ impl Told for $name$ {
 $keyed$";
 
 const LAW: &str = "
-/// Two are equal exactly where their numbers are.
+/// Two values are equal if and only if their numbers are equal.
 pub fn is_compared_by_its_number()
     ensures { (x y : $name$) →
         ⟦<$name$ as PartialEq>⟧.eq x y ≡ nat_eq x.0 y.0 }
 {}
 
-/// Two are in the order of their numbers.
+/// Values are ordered by their numbers.
 pub fn is_ordered_by_its_number()
     ensures { (x y : $name$) →
         ⟦<$name$ as Ord>⟧.cmp x y ≡ nat_cmp x.0 y.0 }

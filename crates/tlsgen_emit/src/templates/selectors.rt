@@ -18,7 +18,7 @@ impl Selector for $name$ {
     (
         "selection",
         "
--- the number of a value, by what it stands for
+-- the number of a value, from what the value stands for
 abbrev pub $module$_selected : Tree → ℕ
 $module$_selected (Join (Number tag) vs) = tag
 $module$_selected _ = 0
@@ -85,7 +85,7 @@ impl Selector for $name$ {
     (
         "selection",
         "
--- the number of a value, by what it stands for
+-- the number of a value, from what the value stands for
 abbrev pub $module$_selected : Tree → ℕ
 $module$_selected (Number tag) = tag
 $module$_selected _ = 0

@@ -2,7 +2,7 @@
 
 use crate::lines::Lines;
 
-pub static HEAD: &str = "//! How the messages of `$crate$` are shown, written by `tlsgen --show`.
+pub static HEAD: &str = "//! Shows the messages of `$crate$`. Written by `tlsgen --show`.
 ";
 
 /// A line for each value of an enum.

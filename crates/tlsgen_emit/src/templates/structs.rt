@@ -115,7 +115,7 @@ impl Validate for $name$ {
 $view$";
 
 pub const LAW: &str = "$from_whole$
-/// Two are equal exactly where each field is.
+/// Two values are equal if and only if all their fields are equal.
 pub fn is_compared_by_its_fields()
     ensures { (x y : $name$) →
         ⟦<$name$$static$ as PartialEq>⟧.eq x y

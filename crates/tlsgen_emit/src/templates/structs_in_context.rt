@@ -49,7 +49,7 @@ $read_parts$impl SizeFor<$key$> for $name$ {
     ghost lawful = { $module$_meets_for };
 }
 
-/// `EncodingError(\"value does not fit its context\")`: a field is of another case.
+/// `EncodingError(\"value does not fit its context\")`: a field's case is for another tag.
 impl SerializeFor<$key$> for $name$ {
     fn tls_serialize_for<W: Sink>(&self, $by$: &$key$, writer: &mut W) -> Result<usize, Error> {
         $sends$

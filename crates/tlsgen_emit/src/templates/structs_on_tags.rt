@@ -1,5 +1,5 @@
-//! A struct with fields on tags that one before them is or holds: it is read and written as that field and then what it
-//! decides, behind the fields before.
+//! A struct with fields that depend on tags of an earlier field, which is or holds them. After the
+//! fields before it, that field is read and written, and then the fields that it decides.
 
 use super::{Templates, structs};
 
@@ -57,7 +57,7 @@ pub static GIVER: Part = Part {
     binds: "",
 };
 
-/// Those behind it.
+/// The fields after it.
 pub static BEHIND: Part = Part {
     types: "behind_types",
     borrowed_types: "behind_borrowed_types",
@@ -70,7 +70,7 @@ pub static BEHIND: Part = Part {
     binds: "λ c. ",
 };
 
-/// Of a struct whose first field decides others.
+/// The texts for a struct whose first field decides others.
 pub static FIRST: [(&str, &str); 7] = [
     ("then_types", "Then<$giver_type$, $behind_types$>"),
     (
@@ -158,7 +158,7 @@ impl Size for $name$$any$ {
     ghost lawful = { $module$_meets };
 }
 
-/// `EncodingError(\"value does not fit its context\")`: a field is of another case.
+/// `EncodingError(\"value does not fit its context\")`: a field's case is for another tag.
 impl Serialize for $name$$any$ {
     fn tls_serialize<W: Sink>(&self, writer: &mut W) -> Result<usize, Error> {
         write_as(self, &self.parts(), writer)

@@ -1,5 +1,6 @@
-//! What comes after each number of a tag, as a value of a generic sum: behind the tag and a length, or in the context of
-//! the tag. A value is borrowed as its case to be written, and made of the case that was read.
+//! What comes after each number of a tag, as a value of a generic sum: after the tag and a length,
+//! or in the context of the tag. To be written, a value is borrowed as its case. A value that is
+//! read is made from the case that was read.
 
 use super::contents::CONTENTS;
 use super::{Templates, choices};
@@ -65,7 +66,7 @@ pub static ALONE: [(&str, &str); 7] = [
     ("case_law", "variant_meets $number$ $law$ no_variant_meets"),
 ];
 
-/// A sum behind its tag.
+/// A sum after its tag.
 pub static TAGGED: [(&str, &str); 4] = [
     ("of_all", "Tagged<u$bits$, $sum$>"),
     ("borrowed_of_all", "Tagged<u$bits$, $borrowed_sum$>"),
@@ -192,7 +193,7 @@ const TAGGED_DECODERS: &str = "
 impl Deserialize for $name$ {
     ghost names = { ⟦<Cases as Deserialize>⟧.names };
 
-    /// `TrailingData`: the case's fields end before their length does.
+    /// `TrailingData`: bytes are left within the length, after the fields of the case.
     /// `UnknownValue`: no case has the tag.
     fn tls_deserialize<R: Source>(alloc: Global, src: &mut R) -> Result<$name$, Error> {
         let cases = <Cases>::tls_deserialize(alloc, src)?;
@@ -203,7 +204,7 @@ impl Deserialize for $name$ {
 impl DeserializeBytes for $name$ {
     ghost names = { ⟦<Cases as DeserializeBytes>⟧.names };
 
-    /// `TrailingData`: the case's fields end before their length does.
+    /// `TrailingData`: bytes are left within the length, after the fields of the case.
     /// `UnknownValue`: no case has the tag.
     fn tls_deserialize_bytes(alloc: Global, whole: &[u8]) -> Result<($name$, &[u8]), Error> {
         let (cases, rest) = <Cases>::tls_deserialize_bytes(alloc, whole)?;
@@ -240,7 +241,7 @@ impl SizeFor<$key$> for $name$ {
     ghost lawful = { $module$_meets_for };
 }
 
-/// `EncodingError(\"value does not fit its context\")`: the value is of another case.
+/// `EncodingError(\"value does not fit its context\")`: the value's case is for another tag.
 impl SerializeFor<$key$> for $name$ {
     fn tls_serialize_for<W: Sink>(&self, $by$: &$key$, writer: &mut W) -> Result<usize, Error> {
         write_as_for(self, &self.cases(), $by$, writer)

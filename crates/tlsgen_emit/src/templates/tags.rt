@@ -1,10 +1,10 @@
-//! The method that tells the tag of a message's cases.
+//! The method that returns the tag of a message's cases.
 
 use crate::lines::Lines;
 
 pub static METHOD: &str = "
 impl $name$$any$ {
-    /// The tag of its case.
+    /// The tag of this value's case.
     pub fn $tag$(&self) -> $tag_type$
         ensures { $tag_number$ ≡ $module$_tag self.now }
     {

@@ -92,7 +92,7 @@ pub static OPTION: Kind = Kind {
     law: "option_meets $law$",
 };
 
-/// One that is there for some numbers of a tag alone: no byte tells it.
+/// A field that is present for some numbers of a tag only: no byte says whether it is.
 pub static PRESENT: Kind = Kind {
     rust: "Option<$rust$>",
     plain: "(option_plain $plain$)",
@@ -125,7 +125,7 @@ pub static BOUNDED_LIST: Kind = Kind {
     law: "bounded_list_meets $width$ $least$ $most$ (omega arith) $law$",
 };
 
-/// A list of so many bytes: an array of what isn't a byte.
+/// A list of `count` bytes in total: an array whose elements aren't bytes.
 pub static EXACT_LIST: Kind = Kind {
     rust: "TlsVec<Exactly<$count$>, $rust$>",
     plain: "(λ v. trees $plain$ (elements_of v))",

@@ -1,4 +1,4 @@
-//! An enum of numbers alone: its values are read and written as their numbers.
+//! An enum of numbers only: its values are read and written as their numbers.
 
 use super::{Templates, views};
 use crate::lines::Lines;
@@ -113,13 +113,13 @@ impl $name$ {
     {
 $code$    }
 
-    /// Its name in the text.
+    /// Its name in the presentation language.
     pub fn name(&self) -> &'static str
         ensures { result.now ≡ $module$_name self.now }
     {
 $name_of$    }
 
-    /// The value that has this number.
+    /// The value with this number, if there is one.
     pub fn of_code(code: u$bits$) -> Option<$name$>
         ensures { MatchOption result ($module$_has code ≡ false) (λ v. $module$_code v ≡ code) }
     {
@@ -149,7 +149,7 @@ impl From<$name$> for u$bits$ {
     }
 }
 
-/// The value that has this number.
+/// The value with this number.
 impl TryFrom<u$bits$> for $name$ {
     type Error = Error;
 
@@ -230,14 +230,14 @@ impl Validate for $name$ {
 $numbered$$keyed$";
 
 const LAW: &str = "
-/// Two are equal exactly where their numbers are.
+/// Two values are equal if and only if their numbers are equal.
 pub fn is_compared_by_its_number()
     ensures { (x y : $name$) →
         ⟦<$name$ as PartialEq>⟧.eq x y
         ≡ nat_eq ($module$_code x) ($module$_code y) }
 {}
 
-/// Two are in the order of their numbers.
+/// Values are ordered by their numbers.
 pub fn is_ordered_by_its_number()
     ensures { (x y : $name$) →
         ⟦<$name$ as Ord>⟧.cmp x y
@@ -251,7 +251,7 @@ $codes$
 -- the name of each value
 abbrev pub $module$_name : $name$ → List ℕ
 $named$
--- which numbers there are
+-- whether a value has this number
 abbrev pub $module$_has : ℕ → Bool
 $module$_has n = $has$
 

@@ -25,7 +25,7 @@ impl Parted for $name$ {
     ghost as_parts = { λ bytes is. is };
 }
 
-/// The encoding of a [`$name$`], by its fields.
+/// The encoding of a [`$name$`], split into its fields.
 #[derive(Drop)]
 pub struct $view_name$<'a> {
 $viewed$}
@@ -50,7 +50,7 @@ impl Choice for $name$ {
     ghost as_choice = { λ bytes is. is };
 }
 
-/// The encoding of a [`$name$`], by its case and fields.
+/// The encoding of a [`$name$`], split into its case and fields.
 #[derive(Drop)]
 pub enum $view_name$<'a> {
 $view_variants$}

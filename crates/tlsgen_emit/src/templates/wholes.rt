@@ -2,7 +2,7 @@
 
 /// What is borrowed of a value.
 pub static FROM: &str = "
-/// What is signed of a `$whole$`.
+/// The part of a `$whole$` that is signed.
 impl<'a> From<&'a $whole$> for $name$<'a> {
     ghost from_gives = { λ whole borrowed.
 $said$ };
@@ -16,7 +16,7 @@ $said$ };
 /// That the first field is the value's.
 pub static CLAUSE: &str = "        (borrowed.$field$.now ≡ whole.now.$field$)";
 
-/// That one behind it is.
+/// That a field after it is.
 pub static NEXT_CLAUSE: &str = "\n        × (borrowed.$field$.now ≡ whole.now.$field$)";
 
 /// A field as it is borrowed.
