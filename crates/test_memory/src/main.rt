@@ -1,12 +1,12 @@
-//! Out of memory: one request is refused at a time. What each call that allocates returns then, that what it was borrowed is
-//! as it was, and how much room each one asks for.
+//! Out of memory: one request is refused at a time. The rows check what each call that allocates
+//! returns then, that the value that it borrowed is unchanged, and how much room it asks for.
 //!
 //! Standard input has the number of the request of the rows that is refused, and nothing else: no number, no refused
 //! request. The toolchain refuses the [`LAST`]th request of a run (`rt try --fail-alloc`), so the program makes those
 //! that are missing to it first. So one build serves for each request: `tools/refused_requests` runs it so.
 //!
 //! The line is `N requests, none refused`, or says which; the status is then 0. Each call was refused exactly if one of
-//! its requests was. Else the line tells the row that was wrong, and the status is 1.
+//! its requests was. Else the line names the row that was wrong, and the status is 1.
 #![tactic(auto)]
 
 mod requests;

@@ -10,7 +10,7 @@ use view_input::fault::InputFault;
 pub enum Wrong {
     /// It was refused, and none of its requests was; or the other way round.
     Refusal,
-    /// It returned something else than it has to, or what it was borrowed is not as it was.
+    /// It returned something other than what it must, or changed a value that it borrowed.
     Answer,
     /// It asked for more room than is of the order of its bytes.
     Room,
@@ -89,7 +89,8 @@ impl Requests {
         self.row
     }
 
-    /// A call has made so many more. It was refused if one of them is the refused request, and never else.
+    /// A call has made `count` more requests. It was refused exactly if one of them is the refused
+    /// request.
     pub fn make(&mut self, count: u64, was_refused: bool) -> Result<(), Wrong> {
         let before = self.made;
         self.made = before.saturating_add(count);

@@ -1,8 +1,9 @@
 //! The rows. Each call knows how many requests for memory it makes. It is refused if one of these is, and never
 //! else. Then it is made once more, and returns what it returns in an ordinary run.
 
-// What a call returns that makes so many requests. If one of them is refused, the call has to be refused, what
-// it was borrowed is looked at, and the call is made again.
+// What a call that makes `$count` requests returns. If one of them is refused, the call must be
+// refused. Then `$unchanged` checks that the value that it borrowed is unchanged, and the call is
+// made again.
 macro_rules! told {
     ($requests:expr, $count:expr, $call:expr) => {
         told!($requests, $count, $call, Error::OutOfMemory, ())
@@ -61,7 +62,8 @@ fn same<T: PartialEq + Drop>(found: T, expected: T) -> Result<(), Wrong> {
     }
 }
 
-// A vector that has so many elements asked for room of that order: for up to twice as many, and for 64 if they are few.
+// A vector that has `len` elements asked for room of that order: for up to twice as many, and for
+// 64 if they are few.
 fn is_of_the_order(room: usize, len: usize) -> Result<(), Wrong> {
     if room <= len.saturating_mul(2).max(64) {
         Ok(())

@@ -7,7 +7,7 @@ use mls_fields::{
 use std::alloc::{AllocError, Global};
 use tls_codec_outcome::Span;
 
-/// The places of the fields of a message, or none of one whose fields aren't told.
+/// The places of the fields of a message, or an empty list if its fields aren't reported.
 pub fn located(alloc: Global, name: &str, bytes: &[u8]) -> Result<Vec<Span>, AllocError> {
     match name {
         "mls_message" => {
@@ -76,7 +76,7 @@ fn located_of_a_group(alloc: Global, name: &str, bytes: &[u8]) -> Result<Vec<Spa
     }
 }
 
-// Of what a member has in the tree.
+// The places of the fields of what a member has in the tree.
 fn located_of_a_member(alloc: Global, name: &str, bytes: &[u8]) -> Result<Vec<Span>, AllocError> {
     match name {
         "mls_key_package" => {

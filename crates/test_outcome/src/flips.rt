@@ -22,7 +22,7 @@ fn turn(bytes: &mut [u8], bit: usize) {
     }
 }
 
-// Whether both say the same, but for the place.
+// Whether both say the same, except for the place.
 fn agree_on(alloc: Global, name: &str, bytes: &[u8]) -> bool {
     match told(alloc, name, bytes) {
         Some((validated, decoded)) => Outcome { at: 0, ..validated } == decoded,

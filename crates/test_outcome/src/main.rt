@@ -1,11 +1,14 @@
-//! What callers in other languages are told of messages, as one stored run.
+//! What the static libraries report of messages to callers in other languages, as one stored run.
 //!
-//! Each row of standard input has a message's name in the static libraries and the hex of some bytes, `-` for none, with a
-//! tab between. The program prints the row again. After it come what the validator says and what the decoder says, each as
-//! `STATUS TAKEN AT DETAIL`, with tabs between. Of some accepted messages the places of their fields follow, as `OFFSET+SIZE`.
-//! Of a whole message each bit is then turned in its turn, and if the two disagree, other than of the place, the row says so.
+//! Each row of standard input has a message's name in the static libraries and the hex of some
+//! bytes, `-` for none, with a tab between. The program prints the row again. After it come what
+//! the validator says and what the decoder says, each in the form `STATUS TAKEN AT DETAIL`, with
+//! tabs between. For some accepted messages the places of their fields follow, in the form
+//! `OFFSET+SIZE`. If the message is whole, the program then flips each of its bits in turn. If the
+//! two disagree on anything except the place, the row says so.
 //!
-//! The static libraries export the calls that are made here. Callers in C, Rust and Python are tested by the same rows.
+//! The static libraries export the calls that are made here. The same rows test callers in C, Rust
+//! and Python.
 #![tactic(auto)]
 
 mod fields;

@@ -1,4 +1,5 @@
-// What no clause says: what is read and planned of worked texts, and where and why texts are refused.
+// What no clause says: what is read and planned of worked texts, and where and why texts are
+// rejected.
 mod bad;
 mod comments;
 mod crates;

@@ -120,7 +120,8 @@ fn push_exact_refused<T: Value>(
     push_validated::<T>(out, bytes, Err(by_slice))
 }
 
-// Sources that tell nothing give what the bytes in memory give, or this is said.
+// Reports sources that give something other than the bytes in memory. These sources don't report
+// which bytes are to come.
 fn push_sources<T: Value>(
     alloc: Global,
     out: &mut String,

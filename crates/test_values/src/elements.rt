@@ -8,8 +8,8 @@ use tls_codec::lists::{self, Turns};
 use tls_codec::{Error, Source};
 use tls_codec_vectors::Drip;
 
-/// Appends the elements in so many of the bytes, the rest, and how many turns it took; or the error of each
-/// path, and how many turns it took until then.
+/// Appends the elements in the first `length` bytes, the rest, and how many turns it took; or the
+/// error of each path, and how many turns it took until then.
 pub fn elements<T: Value>(
     alloc: Global,
     length: usize,

@@ -14,7 +14,7 @@ pub struct Encoded {
     announced: usize,
     /// What a sink receives.
     sent: Vec<u8>,
-    /// The length that is returned, if none refuses.
+    /// The length that is returned, if there is no error.
     counted: Option<usize>,
     /// The error. It is empty if there is none.
     refusal: String,
@@ -50,7 +50,7 @@ impl Encoded {
         as_sent && value.tls_serialized_len() == self.announced
     }
 
-    /// Whether this value is written as the same bytes, or refused alike.
+    /// Whether this value is written as the same bytes, or rejected with the same error.
     pub fn is_of<T: Serialize>(&self, alloc: Global, value: &T) -> bool {
         match Encoded::of(alloc, value) {
             Ok(other) => self.is_same(&other),

@@ -14,8 +14,8 @@
 //! byte left it is `exact`, if the exact forms return the same value. Where the two paths name different errors,
 //! the second is after `by reader`. What calls of one row disagree about is added to its answer.
 //!
-//! [`notation`] says how bytes and values are spelled. The answers in `stdout` come from RFCs and from bytes that were
-//! worked out by hand, not from the program.
+//! [`notation`] says how bytes and values are written. The answers in `stdout` come from RFCs and
+//! from bytes that were worked out by hand, not from the program.
 #![tactic(auto)]
 
 mod decoded;

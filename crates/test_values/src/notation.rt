@@ -1,11 +1,11 @@
-//! How bytes and values are spelled in a row.
+//! How bytes and values are written in a row.
 //!
 //! Bytes are hex, and `-` is none. A tail of 16 equal bytes or more is `XX*COUNT`, after a space: `ffff 4d*65535`.
 //! Numbers are decimal. An option is `none` or `some ` and its value, a list is `[1,2]`, and one of 16 equal
 //! elements or more `[77*255]`. A string is in quotes.
 use std::alloc::{AllocError, Global};
 
-/// So many equal bytes or elements are counted.
+/// From this number on, equal bytes or elements are written with a count.
 pub const MANY: usize = 16;
 
 /// The bytes of a row: groups of hex with a space between, each as often as the number after its `*`.

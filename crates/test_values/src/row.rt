@@ -11,13 +11,13 @@ use std::alloc::{AllocError, Global};
 pub enum Call {
     /// A value is read from the bytes, and written.
     Value,
-    /// Elements are read from so many of the bytes.
+    /// Elements are read from the first bytes, as many as this number.
     Elements(usize),
     /// What has these bytes in it is written.
     Content,
 }
 
-/// A row, but for its type.
+/// A row, without its type.
 #[derive(Drop)]
 pub struct Row {
     pub call: Call,

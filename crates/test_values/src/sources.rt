@@ -1,9 +1,10 @@
-//! Any reader of std as a source. It tells no byte to come, and gives its bytes in pieces.
+//! Any reader of std as a source. It doesn't report which bytes are to come, and gives its bytes in
+//! pieces.
 use std::io;
 use std::io::Read;
 use tls_codec::Outside;
 
-/// Gives at most so many bytes a call.
+/// Gives at most `most` bytes a call.
 #[derive(Drop)]
 pub struct Pieces<'a> {
     left: &'a [u8],

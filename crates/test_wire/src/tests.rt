@@ -150,7 +150,7 @@ fn a_refused_write_has_sent_a_beginning(rt: HostRuntime) {
     }
 }
 
-// A body that counts them over the whole call refuses here.
+// A body that counts them over the whole call fails here.
 #[test]
 fn interruptions_over_whole_call(rt: HostRuntime) -> Result<(), Fail> {
     let plan = Plan {

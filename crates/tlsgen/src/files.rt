@@ -46,8 +46,8 @@ fn write_file<R: Files>(rt: &R, path: &str, text: &str) -> anyhow::Result<()> {
     Ok(())
 }
 
-/// Compares each file with that of its path in a folder, and prints the first line that differs. Of a whole crate it also
-/// prints the first file there that isn't written.
+/// Compares each file with the file of its path in a folder, and prints the first line that
+/// differs. For a whole crate it also prints the first file there that isn't written.
 pub fn compare_with<R: Print + AllocGlobal + Alloc + Files + Clone + Drop>(
     rt: &R,
     folder: &str,

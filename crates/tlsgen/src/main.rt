@@ -1,12 +1,15 @@
 //! `tlsgen INPUT --crate NAME` writes the sources of a crate from messages in the presentation language of TLS
 //! (RFC 8446, section 3; RFC 9420, section 2.1): code, definitions and answers, which the prover then checks.
 //!
-//! It prints each file after a line with its path. With `--to FOLDER` it writes them there, and with `--compare FOLDER`
-//! it ends with status 0 if the files there are the same but for layout, and else with 1 and the first line that
-//! differs, or the first file that can't be read or isn't written. `--show` is for one file in place of those: a module that shows the
-//! messages as a tree, for a crate that has `show::Show` and uses `message_tree`. `--notes FILE` has what the RFC says of the
-//! text in prose. `--with NAME=FILE`, or `NAME=FILE,NOTES`, names another crate and its input: the text may name its types. A text that is rejected or can't be read, and a file that can't be written,
-//! end it with status 2; nothing is written before the whole text is read.
+//! It prints each file after a line with its path. With `--to FOLDER` it writes them there. With
+//! `--compare FOLDER` it ends with status 0 if the files there differ at most in layout. Else it
+//! ends with status 1 and prints the first line that differs, or the first file that can't be read
+//! or isn't written. With `--show` it writes one file in place of those: a module that shows the
+//! messages as a tree, for a crate that has `show::Show` and uses `message_tree`. `--notes FILE`
+//! has what the RFC says of the text in prose. `--with NAME=FILE`, or `NAME=FILE,NOTES`, names
+//! another crate and its input: the text may name its types. A text that is rejected or can't be
+//! read, and a file that can't be written, end it with status 2. It writes nothing before it has
+//! read the whole text.
 //!
 //! - [`words`]: the command line.
 //! - [`texts`]: the texts of a crate and of those that it is over.

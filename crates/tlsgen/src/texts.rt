@@ -62,7 +62,7 @@ impl Texts {
         plan_of(alloc, &mut self.files)
     }
 
-    /// The names of the crates that have what is refused, as `tls13, ct`.
+    /// The names of the crates that have what is rejected, such as `tls13, ct`.
     pub fn homes(&self, alloc: Global, fault: &Fault) -> Result<String, AllocError> {
         let mut names = String::new(alloc);
         for home in &fault.homes {

@@ -44,7 +44,8 @@ pub fn check_letters(alloc: Global, name: &Name) -> Result<(), Trouble> {
     check_signs(alloc, name)
 }
 
-// Rejects the name of a value as that of a type, but for its first digit: `512` is one.
+// Rejects a value's name as a type's name is rejected, except that it may begin with a digit, as in
+// `512`.
 fn check_value_letters(alloc: Global, name: &Name) -> Result<(), Trouble> {
     let first = name.text.as_bytes().first();
     if first.is_some_and(|first| first.is_ascii_digit()) {
@@ -197,7 +198,7 @@ fn is_reserved(text: &str) -> bool
     text == "reserved" || text == "RESERVED"
 }
 
-/// The refusal of a number.
+/// The error for a rejected number.
 pub fn refused_number(alloc: Global, number: Number, expected: &'static str) -> Trouble {
     let value = number.value;
     match format!(in alloc; "{value}") {

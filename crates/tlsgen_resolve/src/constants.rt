@@ -197,7 +197,7 @@ fn array_width(field: &Field) -> Option<Width> {
     Width::new(usize::try_from(count.value).ok()?)
 }
 
-// A number with one more byte behind it.
+// Appends one byte to a number.
 fn behind(alloc: Global, value: u64, element: Number) -> Result<u64, Trouble> {
     match u8::try_from(element.value) {
         Ok(byte) => Ok((value << 8) | u64::from(byte)),

@@ -34,7 +34,8 @@ impl<'a> OuterTag<'a> {
         }
     }
 
-    /// What tells it from other tags of the text: the struct that has it and its name, or else its enum.
+    /// A label that distinguishes it from the other tags of the text: the struct that has it and
+    /// its name, or else its enum.
     pub fn label(&self, alloc: Global) -> Result<String, AllocError> {
         match (self.owner, self.tag.of) {
             (Some(owner), _) => format!(in alloc;

@@ -43,7 +43,7 @@ fn greatest_of(length: &Field) -> Option<u64> {
     }
 }
 
-// Whether a field names another one between its brackets, alone or behind the struct's own name.
+// Whether a field names another one between its brackets, alone or after the struct's own name.
 fn is_counted_by(one: &Struct, field: &Field, length: &Field) -> bool {
     if field.is_optional || field.constant.is_some() {
         return false;

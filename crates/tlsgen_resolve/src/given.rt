@@ -1,4 +1,4 @@
-//! The names of selects, behind them in the text or by a note.
+//! The names of selects: each is after its select in the text, or a note gives it.
 use crate::naming::is_of_field;
 use crate::notes::name_of_select;
 use crate::refuse::refused;
@@ -14,7 +14,7 @@ pub struct Given<'a> {
     pub of_field: Option<&'a Name>,
 }
 
-/// The names of a select of a struct: the one behind it, or else those that notes give it.
+/// The names of a select of a struct: the one after it, or else those that notes give it.
 pub fn given_to<'a>(files: Scope<'a>, of: &str, select: &'a Select) -> Given<'a> {
     match &select.name {
         Some(name) if is_of_field(name) => Given {

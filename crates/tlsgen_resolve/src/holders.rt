@@ -65,7 +65,7 @@ fn site_on_path<'a>(
     }
 }
 
-// The word of a path behind the struct's name, if it isn't the tag.
+// The word of a path after the struct's name, if it isn't the tag.
 fn first_within(select: &Select) -> Option<&Name> {
     let (_, words) = select.path.split_last()?;
     words.get(1)
@@ -105,7 +105,8 @@ pub fn giver_of<'a>(
     Ok(giver)
 }
 
-/// Finds which of the structs that pieces contain hold a tag, each after those that it contains, and each but once.
+/// Finds which of the structs that pieces contain hold a tag. It visits each struct once, after
+/// those that the struct contains.
 pub fn find_holders<'a>(
     alloc: Global,
     all: &mut Known<'a>,
@@ -122,7 +123,7 @@ pub fn find_holders<'a>(
     Ok(())
 }
 
-// The positions of the structs that pieces contain, but for those that were looked at for this tag.
+// The positions of the structs that pieces contain, except those already checked for this tag.
 fn not_looked_at(
     alloc: Global,
     all: &Known<'_>,

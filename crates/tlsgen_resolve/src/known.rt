@@ -12,7 +12,7 @@ pub struct Known<'a> {
     by_tag: BTreeMap<String, TagHolders>,
 }
 
-// The structs that were looked at for a tag, by their positions.
+// The structs that were checked for a tag, by their positions.
 #[derive(Drop)]
 struct TagHolders {
     // The position of the one piece of each that is the tag or holds it.
@@ -63,7 +63,7 @@ impl<'a> Known<'a> {
         self.by_name.get(name).copied()
     }
 
-    /// Whether a struct was looked at for a tag of this label.
+    /// Whether a struct was checked for a tag of this label.
     pub fn is_looked_at(&self, label: &String, at: usize) -> bool {
         self.by_tag
             .get(label.as_str())
@@ -91,7 +91,7 @@ impl<'a> Known<'a> {
         Ok(())
     }
 
-    /// The struct of a field, if it was looked at for a tag of this label and holds it.
+    /// The struct of a field, if it was checked for a tag of this label and holds it.
     pub fn holding(&self, label: &String, field: &Field) -> Option<Holding<'a>> {
         let at = self.position(field.of.text.as_str())?;
         let own = self.by_tag.get(label.as_str())?;

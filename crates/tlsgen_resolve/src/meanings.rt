@@ -1,4 +1,4 @@
-//! Each name of a text that means a definition, in the one spelling of that definition.
+//! Replaces each name of a text that means a definition by the one spelling of that definition.
 use crate::definitions::{Definitions, Meaning};
 use crate::items::item_name_mut;
 use crate::refuse::refused;

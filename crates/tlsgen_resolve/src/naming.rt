@@ -66,8 +66,8 @@ pub fn base_name(alloc: Global, field: &Field) -> Result<String, AllocError> {
     type_name(alloc, of)
 }
 
-/// The name in Rust of a type: without dots, in capitals as a variant if it begins with a small letter, and with `Type`
-/// behind it if it is a word of Rust, of the library or of the definitions.
+/// The name in Rust of a type. It has no dots, and is capitalized as a variant if it begins with a
+/// small letter. `Type` is appended if it is a word of Rust, of the library or of the definitions.
 pub fn type_name(alloc: Global, text: &str) -> Result<String, AllocError> {
     let mut own = if begins_small(text) {
         let words = underscored(alloc, text)?;
@@ -87,7 +87,7 @@ fn is_taken_type(alloc: Global, name: &str) -> Result<bool, AllocError> {
     Ok(is_type_word(name) || is_module_word(module.as_str()))
 }
 
-/// Whether a name behind a select is the field's, and not the type's: it begins with a small letter.
+/// Whether a name after a select is the field's, and not the type's: it begins with a small letter.
 pub fn is_of_field(name: &Name) -> bool {
     begins_small(name.text.as_str())
 }
@@ -113,7 +113,7 @@ pub fn definition_doc(alloc: Global, shown: &str, remark: &Remark) -> Result<Str
     Ok(doc)
 }
 
-/// The section of a definition in parentheses, behind a blank, or nothing.
+/// A space and the section of a definition in parentheses, or nothing.
 pub fn section_doc(alloc: Global, remark: &Remark) -> Result<String, AllocError> {
     let section = remark.section.as_str();
     if section.is_empty() {

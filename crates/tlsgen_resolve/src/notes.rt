@@ -56,7 +56,7 @@ fn is_of_names(path: &[Name], of: &str, name: &Name) -> bool {
     }
 }
 
-/// Whether a part of a struct is a number that counts the bytes of the select right behind it.
+/// Whether a part of a struct is a number that counts the bytes of the select directly after it.
 pub fn counts_select(files: Scope<'_>, one: &Struct, at: usize) -> bool {
     let (Some(Part::Field(length)), Some(Part::Select(_))) = (
         one.parts.get(at),

@@ -96,7 +96,7 @@ fn refused_alone(alloc: Global, file: &File, name: &String) -> Trouble {
     }
 }
 
-// The refusal of a tag whose type has a name that this file or a third crate has too.
+// The error for a tag whose type has a name that this file or a third crate has too.
 fn refused_shared(alloc: Global, file: &File, name: &String) -> Trouble {
     match file.items.first() {
         Some(item) => refused(
@@ -152,8 +152,8 @@ fn push_part<'a>(part: &'a Part, fields: &mut Vec<&'a Field>) -> Result<(), Allo
     Ok(())
 }
 
-/// What the crates before the one that was resolved last have, but for enums that aren't written there, and for names that
-/// this one has, or two of them.
+/// What the crates before the one that was resolved last have, except enums that aren't written
+/// there, names that this one also has, and names that two of those crates have.
 pub fn others_of(alloc: Global, out: &Output) -> Result<Vec<Other>, AllocError> {
     let left_out = left_out_of(alloc, out)?;
     let mut others = Vec::new(alloc);

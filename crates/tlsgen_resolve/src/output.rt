@@ -37,7 +37,7 @@ pub struct Output {
     constants: BTreeMap<String, Vec<usize>>,
     /// The enums that aren't written.
     unwritten: Vec<String>,
-    /// What stands for definitions whose names another crate has too.
+    /// The placeholders for definitions whose names another crate has too.
     hidden: Vec<String>,
     count: usize,
     /// The crate that is resolved now, by the position of its file.
@@ -52,7 +52,8 @@ struct Made {
 }
 
 impl Output {
-    /// Of so many crates. `hidden`: what stands for definitions whose names another crate has too.
+    /// The empty output for `count` crates. `hidden` has the placeholders for definitions whose
+    /// names another crate has too.
     pub fn new(alloc: Global, count: usize, hidden: Vec<String>) -> Output {
         Output {
             alloc,

@@ -15,7 +15,7 @@ pub enum Padding<'a> {
     Zeros(&'a Field),
     /// Any bytes.
     Bytes(&'a Field),
-    /// Zeros behind the type of the bytes before it.
+    /// Zeros after the type of the bytes before it.
     BehindType(&'a Field),
 }
 
@@ -46,7 +46,7 @@ pub fn check_padding(alloc: Global, sequence: &Sequence<'_>) -> Result<(), Troub
     }
 }
 
-/// Adds to the doc comment of a struct's message what is behind it, if anything is.
+/// Adds to the doc comment of a struct's message what follows the message, if anything does.
 pub fn push_padding(
     alloc: Global,
     doc: &mut String,

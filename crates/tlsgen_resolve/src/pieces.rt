@@ -47,7 +47,7 @@ fn written_parts<'a>(files: Scope<'_>, one: &'a Struct) -> &'a [Part] {
     }
 }
 
-// A number that counts the field right behind it becomes a piece with that field.
+// A number that counts the field directly after it becomes a piece with that field.
 fn push_field<'a>(
     files: Scope<'_>,
     one: &'a Struct,

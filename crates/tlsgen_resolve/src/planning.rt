@@ -31,14 +31,15 @@ pub struct Fault {
     pub file: usize,
     /// It is the file's notes.
     pub is_note: bool,
-    /// The crates before it that define the name that is refused, by their positions among the files.
+    /// The crates before it that define the rejected name, by their positions among the files.
     pub homes: Vec<usize>,
     pub trouble: Trouble,
 }
 
-/// What is written for the last of these files: each message after those that it contains. Each file before it is
-/// another crate's, and may be named by those after it. Each is resolved once, in this order. In place of each name that
-/// means a definition is the one spelling of that then.
+/// What is written for the last of these files: each message after those that it contains. Each
+/// file before it is another crate's, and the files after it may name its types. Each is resolved
+/// once, in this order. This replaces each name that means a definition by the one spelling of that
+/// definition.
 ///
 /// A name means the definition of its own file, or else that of the one file before it that has one. It is the same without
 /// its dots.
@@ -199,7 +200,7 @@ impl<'a> Resolver<'a> {
         Ok(())
     }
 
-    // Rejects a struct that fills what is left of a length, and is no case behind one.
+    // Rejects a struct that fills what is left of a length, and isn't a case after one.
     fn check_filling(&self) -> Result<(), Trouble> {
         let filled = filled_types(self.alloc, self.known.as_slice())?;
         for one in self.known.as_slice() {

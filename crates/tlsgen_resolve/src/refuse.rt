@@ -2,7 +2,7 @@
 use std::alloc::Global;
 use tlsgen_syntax::refusal::{Place, Refusal, Trouble};
 
-/// The refusal of what a text has at a place.
+/// The error that rejects what a text has at a place.
 pub fn refused(alloc: Global, place: Place, found: &str, expected: &'static str) -> Trouble {
     match String::from_str(alloc, found) {
         Ok(found) => Trouble::Refused(Refusal {
@@ -25,7 +25,7 @@ impl Budget {
         Budget { left }
     }
 
-    /// Takes one of what is left. Rejects what stands at a place if nothing is left.
+    /// Takes one of what is left. Rejects `found` at `place` if nothing is left.
     pub fn take(&mut self, alloc: Global, place: Place, found: &str) -> Result<(), Trouble> {
         if self.left == 0 {
             return Err(refused(

@@ -99,7 +99,7 @@ impl<'a> Resolver<'a> {
         self.modules.contains(module) || self.out.has_module(module)
     }
 
-    /// The refusal of a name.
+    /// The error for a rejected name.
     pub fn refused_name(&self, name: &Name, expected: &'static str) -> Trouble {
         refused(self.alloc, name.place, name.text.as_str(), expected)
     }

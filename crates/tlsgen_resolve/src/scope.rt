@@ -24,7 +24,7 @@ pub struct Index {
     notes: Vec<BTreeMap<String, Vec<usize>>>,
 }
 
-/// Files of which each may name what those before it define.
+/// Files in order. Each may name what those before it define.
 #[derive(Clone, Copy)]
 pub struct Scope<'a> {
     pub files: &'a [File],

@@ -12,7 +12,7 @@ use tlsgen_syntax::syntax::Field;
 pub enum ResolvedPiece<'a> {
     Member(ResolvedMember),
     Select(ResolvedSelect<'a>),
-    /// A number that counts the bytes of the select behind it.
+    /// A number that counts the bytes of the select after it.
     Length(&'a Field),
 }
 
@@ -99,7 +99,7 @@ fn have_same(own: &[Labelled<'_>], cases: &[Labelled<'_>]) -> bool {
     own.len() == cases.len() && cases.iter().all(|case| has_case(own, case.number))
 }
 
-/// The refusal of a length that isn't right between a tag and its select.
+/// The error for a length that isn't allowed between a tag and its select.
 pub fn refused_counting(alloc: Global, length: &Field) -> Trouble {
     let name = &length.name;
     refused(
@@ -110,7 +110,7 @@ pub fn refused_counting(alloc: Global, length: &Field) -> Trouble {
     )
 }
 
-/// The refusal of a select whose tag comes before another tag, while its own select comes after that one's.
+/// The error for a select on an earlier tag between a tag and its select.
 pub fn refused_crossing(alloc: Global, place: Place) -> Trouble {
     refused(
         alloc,

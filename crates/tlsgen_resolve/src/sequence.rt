@@ -22,7 +22,7 @@ pub enum Piece<'a> {
     Field(&'a Field),
     /// A number, and the field of as many bytes that follows it.
     Counted(&'a Field, &'a Field),
-    /// A number that counts the bytes of the select behind it.
+    /// A number that counts the bytes of the select after it.
     Length(&'a Field),
     Select(&'a Select),
 }
@@ -63,7 +63,7 @@ pub fn sequence_of<'a>(
     Ok(sequence)
 }
 
-/// The refusal of a struct of more parts.
+/// The error for a struct of more parts.
 pub fn refused_size(alloc: Global, name: &Name) -> Trouble {
     refused(
         alloc,

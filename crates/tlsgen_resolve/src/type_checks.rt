@@ -65,7 +65,8 @@ impl<'a> Resolver<'a> {
         Ok(())
     }
 
-    // Also rejects a borrowed struct, unless the field is a single one and stands where a borrowed struct may be.
+    // Also rejects a borrowed struct, unless the field is a single one and is where a borrowed
+    // struct may be.
     fn check_type(&self, field: &Field, is_borrowed: bool) -> Result<(), Trouble> {
         type_of(self.alloc, self.files, field)?;
         if self.names_borrowed(field) && !(is_borrowed && is_single(field)) {

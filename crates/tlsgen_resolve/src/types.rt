@@ -117,7 +117,8 @@ fn refused_length(alloc: Global, path: &[Name]) -> Trouble {
     }
 }
 
-// So many bytes: an array of them, or elements that have as many together (RFC 8446, section 3.4).
+// An array of `number` bytes, or elements that have `number` bytes together (RFC 8446, section
+// 3.4).
 fn array_type(
     alloc: Global,
     files: Scope<'_>,
@@ -255,7 +256,7 @@ fn defined(alloc: Global, files: Scope<'_>, of: &Name) -> Result<Element, Troubl
     }
 }
 
-/// The line that declares a field, as `opaque group_id<V>;`.
+/// The line that declares a field, such as `opaque group_id<V>;`.
 pub fn declared(alloc: Global, field: &Field) -> Result<String, AllocError> {
     let of = field.of.text.as_str();
     let mut line = if field.is_optional {

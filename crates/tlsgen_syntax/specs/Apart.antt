@@ -71,7 +71,7 @@ signed_struct_then outer s rest =
     each_then part_then s.parts.items
     (mark marks.ClosingBrace ∷ word (string_bytes outer.text ++ codes "TBS") ∷ mark marks.Semicolon ∷ rest)
 
--- what stands before the struct of a part: what is signed, or the type in place
+-- what comes before the struct of a part: what is signed, or the type in place
 abbrev pub before_then : Name → SourcePart → List Sign → List Sign
 before_then outer (source_parts.Sent p) rest = rest
 before_then outer (source_parts.Signed s) rest = signed_struct_then outer s rest

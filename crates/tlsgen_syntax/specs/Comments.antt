@@ -9,7 +9,7 @@ EndsAt bytes at = (at + 1 < length bytes) × (get_or bytes at 0 ≡ 42) × (get_
 abbrev pub GoesOn : List ℕ → ℕ → Type 0
 GoesOn bytes end = (at : ℕ) → at < end → EndsAt bytes at → ⊥
 
--- so many bytes are those up to the first `*/` and with it
+-- the first `len` bytes end with the first `*/`
 abbrev pub IsComment : List ℕ → ℕ → Type 0
 IsComment bytes len = (at : ℕ) × (len ≡ at + 2) × GoesOn bytes at × EndsAt bytes at
 

@@ -109,12 +109,12 @@ abbrev pub separated_then : {A : Type 0} → Mark → (A → List Sign → List 
 separated_then m one [] rest = rest
 separated_then m one (x ∷ xs) rest = one x (each_then (λ y others. mark m ∷ one y others) xs rest)
 
--- the mark, if it is there
+-- the mark, if the flag is set
 abbrev pub flag_then : Mark → Bool → List Sign → List Sign
 flag_then m true rest = mark m ∷ rest
 flag_then m false rest = rest
 
--- a word, if it is there
+-- a word, if the flag is set
 abbrev pub word_then : List ℕ → Bool → List Sign → List Sign
 word_then text true rest = word text ∷ rest
 word_then text false rest = rest
@@ -149,7 +149,7 @@ enum_then e rest =
     separated_then marks.Comma value_then e.values.items
     (mark marks.ClosingBrace ∷ name_then e.name (mark marks.Semicolon ∷ rest)))
 
--- NAME, or < NAME > behind optional
+-- NAME, or < NAME > after optional
 abbrev pub type_then : Bool → Name → List Sign → List Sign
 type_then true of rest = mark marks.OpeningAngle ∷ name_then of (mark marks.ClosingAngle ∷ rest)
 type_then false of rest = name_then of rest

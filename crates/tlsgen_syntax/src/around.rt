@@ -2,7 +2,7 @@
 
 use crate::token::{Mark, Token, TokenKind};
 
-/// A token, and those before and behind it.
+/// A token, and those before and after it.
 #[derive(Clone, Copy)]
 pub(crate) struct Around {
     /// The line of the token.
@@ -31,8 +31,8 @@ impl Around {
         }
     }
 
-    /// Whether it is the name that a definition, a field, a value or a select gives: it is no constant, and the end or what
-    /// else belongs to the name is behind it.
+    /// Whether it is the name that a definition, a field, a value or a select gives: it isn't a
+    /// constant, and the end, or something else that belongs to the name, comes after it.
     pub(crate) fn is_name(self) -> bool {
         self.kind == Kind::Word
             && self.before != Kind::Mark(Mark::Equals)
@@ -53,12 +53,14 @@ impl Around {
         matches!(self.kind, Kind::Word | Kind::Mark(Mark::Optional))
     }
 
-    /// Whether it is the brace before what a definition or a select has. That of a constant is behind `=`.
+    /// Whether it is the opening brace of a definition or a select. That of a constant comes after
+    /// `=`.
     pub(crate) fn opens(self) -> bool {
         self.kind == Kind::Mark(Mark::OpeningBrace) && self.before != Kind::Mark(Mark::Equals)
     }
 
-    /// Whether it is the brace behind what a definition or a select has. That of a constant is behind a number.
+    /// Whether it is the closing brace of a definition or a select. That of a constant comes after
+    /// a number.
     pub(crate) fn closes(self) -> bool {
         self.kind == Kind::Mark(Mark::ClosingBrace) && self.before != Kind::Number
     }

@@ -92,7 +92,7 @@ fn section_of(text: &str) -> Option<Section<'_>> {
     Some(Section { word, number })
 }
 
-// The number at the front, as `6.3.2` or `B.1`, without a dot behind it.
+// The number at the front, such as `6.3.2` or `B.1`, without a dot after it.
 fn number_of(text: &str) -> Option<&str> {
     let number = text
         .split(|c: char| !c.is_ascii_alphanumeric() && c != '.')

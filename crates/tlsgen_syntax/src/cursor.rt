@@ -32,7 +32,7 @@ impl<'a> Cursor<'a> {
         self.left.as_bytes()
     }
 
-    /// Takes so many bytes.
+    /// Takes `count` bytes.
     pub(crate) fn take(&mut self, count: usize) -> &'a str
         requires { count ≤ length self.old.left.now }
         ensures text { result.now ≡ take count self.old.left.now }

@@ -38,7 +38,7 @@ pub fn lex(alloc: Global, text: &str) -> Result<Vec<Token>, Trouble> {
     Ok(tokens)
 }
 
-// The refusal of the first character outside ASCII.
+// The error for the first character outside ASCII.
 fn outside(alloc: Global, text: &str) -> Trouble {
     let place = text
         .bytes()
@@ -52,7 +52,7 @@ fn outside(alloc: Global, text: &str) -> Trouble {
     Trouble::at(place, found, "an ASCII character")
 }
 
-// Takes blanks, and comments behind so many tokens, which are kept.
+// Skips blanks and comments. It keeps each comment with `before`, the number of tokens before it.
 fn skip_blanks<'a>(
     cursor: &mut Cursor<'a>,
     before: usize,

@@ -3,7 +3,7 @@
 //!
 //! - [`source`]: [`Source`](source::Source), what a text says as it is written.
 //! - [`syntax`]: [`File`](syntax::File), what a text says with what is signed and types in place apart.
-//! - [`refusal`]: [`Refusal`](refusal::Refusal), where and why a text is refused.
+//! - [`refusal`]: [`Refusal`](refusal::Refusal), where and why a text is rejected.
 //! - [`token`]: [`Token`](token::Token), a word, a number or a mark of a text.
 //! - [`lexer`]: [`lex`](lexer::lex), the tokens of a text.
 //! - [`parser`]: [`parse`](parser::parse), what a text says.

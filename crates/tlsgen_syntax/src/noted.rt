@@ -125,7 +125,7 @@ pub(crate) fn name_of(item: &Item) -> &Name {
     }
 }
 
-/// The refusal of a note.
+/// The error for a rejected note.
 pub(crate) fn refused(alloc: Global, note: &Note, expected: &'static str) -> Trouble {
     match note.path.first() {
         Some(name) => Trouble::at(name.place, name.text.clone(), expected),

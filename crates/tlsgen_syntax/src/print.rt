@@ -124,7 +124,7 @@ fn print_signed(out: &mut String, signed: &Signed) -> Result<(), AllocError> {
     out.push_str(";\n")
 }
 
-// The blanks before what is so many structs and selects deep.
+// The indentation of what is inside `depth` structs and selects.
 fn print_indent(out: &mut String, depth: usize) -> Result<(), AllocError> {
     for _ in 0..depth {
         out.push_str(INDENT)?;
@@ -132,7 +132,7 @@ fn print_indent(out: &mut String, depth: usize) -> Result<(), AllocError> {
     Ok(())
 }
 
-// A blank and the name behind a closing brace, if there is one.
+// A space and the name after a closing brace, if there is one.
 fn print_ending_name(out: &mut String, name: Option<&Name>) -> Result<(), AllocError> {
     let Some(name) = name else {
         return Ok(());

@@ -1,4 +1,4 @@
-//! Where and why a text is refused.
+//! Where and why a text is rejected.
 ghost use Rattle.std.specs.Prelude.{◌≡◌};
 ghost use Rattle.tlsgen_syntax.specs.declared.refusal.Trouble.TheVariants.{Memory};
 
@@ -38,7 +38,7 @@ impl Place {
     }
 }
 
-/// Where a text is refused, what it has there, and what would be right.
+/// Where a text is rejected, what it has there, and what would be right.
 ///
 /// It prints as `line 3, column 7: found ";", expected the name of a type`.
 #[derive(Drop)]
@@ -72,14 +72,14 @@ impl fmt::Display for Refusal {
 /// Why nothing is written.
 #[derive(Drop)]
 pub enum Trouble {
-    /// The text is refused.
+    /// The text is rejected.
     Refused(Refusal),
     /// Memory was refused.
     Memory,
 }
 
 impl Trouble {
-    /// A refusal at a place, unless the text of what was found could not be made.
+    /// An error at a place, or `Memory` if the text of what was found could not be made.
     pub(crate) fn at(
         place: Place,
         found: Result<String, AllocError>,

@@ -175,7 +175,7 @@ fn registry_of(alloc: Global, item: &Item, given: &Given<'_>) -> Result<Option<E
     }))
 }
 
-// The values that notes give a type, and behind them the greatest number, which gives the width.
+// The values that notes give a type, then the greatest number, which gives the width.
 fn values_of(
     alloc: Global,
     of: &Name,

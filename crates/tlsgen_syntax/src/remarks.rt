@@ -1,7 +1,7 @@
 //! Which comment is on which name, and which section a definition is of.
 //!
-//! A comment right above a definition, a field or a value is on its name, and so is one behind it on its line. One that
-//! begins with dashes is a heading.
+//! A comment directly above a definition, a field or a value is on its name, and so is one after it
+//! on its line. One that begins with dashes is a heading.
 
 ghost use Rattle.std.specs.Prelude.{◌≡◌, OnOk};
 ghost use Rattle.tlsgen_syntax.specs.Signs.{signs};
@@ -35,9 +35,9 @@ struct Remarks<'a> {
     count: usize,
     /// In how many braces the next token is.
     depth: usize,
-    /// The name that a comment behind it is on.
+    /// The name that a comment after it is on.
     name: Option<usize>,
-    /// Where a line comment behind a name was.
+    /// Where a line comment after a name was.
     behind: Option<Spot>,
     /// What is above the next token, and the line on which that ends.
     above: String,
@@ -73,7 +73,7 @@ impl<'a> Remarks<'a> {
         }
     }
 
-    // Reads the tokens that come next, up to so many of all.
+    // Reads the tokens that come next, until `count` tokens are read in all.
     fn read_tokens(&mut self, tokens: &mut Vec<Token>, count: usize) -> Result<(), AllocError>
         ensures { OnOk result (signs tokens.new.items ≡ signs tokens.old.items) }
     {
@@ -104,7 +104,7 @@ impl<'a> Remarks<'a> {
         Ok(())
     }
 
-    // Goes into and out of braces. A comment behind a mark that begins something is on no name.
+    // Goes into and out of braces. A comment after a mark that begins something is on no name.
     fn read_mark(&mut self, around: Around) {
         if around.opens() {
             self.depth = self.depth.saturating_add(1);
@@ -173,7 +173,7 @@ impl<'a> Remarks<'a> {
         self.above.clear();
     }
 
-    // Whether a comment is right below one behind a name, which it goes on with.
+    // Whether a comment continues one after a name: it is directly below it.
     fn goes_on(&self, comment: &Comment<'_>) -> bool {
         let Some(spot) = self.behind else {
             return false;

@@ -15,8 +15,9 @@ use std::alloc::{AllocError, Global};
 
 /// The definitions of a text, with what is signed and the types in place before the struct that has them.
 ///
-/// What is signed is called as that struct, with `TBS` behind, *to be signed*. The signature is a field of type
-/// `DigitallySigned`, called `signature` if it has no name. A type in place is called as the struct and its field.
+/// What is signed has the name of that struct with `TBS`, *to be signed*, appended. The signature
+/// is a field of type `DigitallySigned`, called `signature` if it has no name. A type in place is
+/// named after the struct and its field.
 #[tactic(auto, using(crate::proofs::Gathered::gathered_each))]
 pub fn set_apart(alloc: Global, source: Source) -> Result<File, AllocError>
     ensures says { IfOk result (λ file. file_signs file ≡ apart_signs source) }

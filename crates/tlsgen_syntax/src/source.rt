@@ -1,4 +1,4 @@
-//! What a text says as it is written: what is signed, and types in place of their names, stand in
+//! What a text says as it is written: what is signed, and types in place of their names, are inside
 //! the struct around them.
 
 use crate::refusal::Place;
@@ -93,7 +93,7 @@ pub struct Signed {
     pub name: Option<Name>,
 }
 
-/// `enum { a(1), (255) } kind;`: a field whose type stands in the place of a type's name.
+/// `enum { a(1), (255) } kind;`: a field that has a type in place of a type's name.
 #[derive(Drop)]
 pub struct InPlace {
     pub of: TypeInPlace,

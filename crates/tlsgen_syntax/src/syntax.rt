@@ -3,7 +3,7 @@
 use crate::refusal::Place;
 use std::alloc::Global;
 
-/// A name, where it stands, and what comments say of what it names.
+/// A name, its place in the text, and what comments say about what it names.
 #[derive(Clone, Drop)]
 pub struct Name {
     pub text: String,
@@ -14,9 +14,10 @@ pub struct Name {
 /// What comments say of what a name names.
 #[derive(Clone, Drop)]
 pub struct Remark {
-    /// The section of a definition, as `RFC 9420, section 6.3.2`. Empty where no heading names one.
+    /// The section of a definition, such as `RFC 9420, section 6.3.2`. Empty if no heading names
+    /// one.
     pub section: String,
-    /// The lines of the comments above and behind. Empty where there are none.
+    /// The lines of the comments above and after it. Empty if there are none.
     pub text: String,
 }
 
@@ -47,11 +48,12 @@ pub struct Note {
 
 #[derive(Drop)]
 pub enum Said {
-    /// `Hash.length = 48`: so many bytes where an array has this name. `CredentialType.basic = 1`: a value of an integer type.
+    /// `Hash.length = 48`: 48 bytes where an array has this name. `CredentialType.basic = 1`: a
+    /// value of an integer type.
     Number(Number),
     /// `CertificateEntry.certificate_type = X509`: the only value of a tag that is elsewhere.
     Named(Name),
-    /// `Handshake.length counts rest`: the bytes of the select behind it.
+    /// `Handshake.length counts rest`: it counts the bytes of the select after it.
     Counts,
     /// `Finished.verify_data fills rest`, `HeartbeatMessage.padding fills rest`: as many bytes as are left.
     Fills,
@@ -101,7 +103,7 @@ pub struct Value {
     pub last: Option<Number>,
 }
 
-/// A number, and where it stands.
+/// A number, and its place in the text.
 #[derive(Clone, Copy)]
 pub struct Number {
     pub value: u64,

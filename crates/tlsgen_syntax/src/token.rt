@@ -7,7 +7,7 @@ use crate::refusal::Place;
 use crate::syntax::Remark;
 use std::fmt;
 
-/// A word, a number or a mark, and where it stands.
+/// A word, a number or a mark, and its place in the text.
 #[derive(Drop)]
 pub struct Token {
     pub kind: TokenKind,

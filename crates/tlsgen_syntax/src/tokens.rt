@@ -163,7 +163,7 @@ impl<'a> Tokens<'a> {
         }
     }
 
-    /// The refusal of the next token, or of the end.
+    /// The error for the next token, or for the end.
     pub(crate) fn refused(&self, alloc: Global, expected: &'static str) -> Trouble {
         let Some((token, _left)) = self.left.split_first() else {
             return Trouble::at(self.end, Ok(String::new(alloc)), expected);

@@ -1,4 +1,4 @@
-//! Encoders into one buffer, and a type that has no spelling for any value.
+//! Encoders into one buffer, and a type that has no encoding for any value.
 ghost use Rattle.std.specs.Prelude.{◌≡◌, true};
 ghost use Rattle.tls_codec.specs.Errors.{InvalidInput};
 ghost use Rattle.tls_codec.specs.OwnMessages.{Empty};
@@ -8,7 +8,7 @@ use std::alloc::Global;
 use std::test::Fail;
 use tls_codec::{Error, Serialize, SerializeBytes, Sink, Size, first_room, lists};
 
-// No bytes spell it, and more bytes are announced than there are.
+// No bytes encode it, and more bytes are announced than there are.
 #[derive(Drop)]
 struct Huge;
 
@@ -67,7 +67,7 @@ fn lists_longer_than_any_length(rt: HostRuntime) -> Result<(), Fail> {
     Ok(())
 }
 
-// What comes before the refused part has been sent.
+// What comes before the rejected part has been sent.
 #[test]
 fn a_refused_part_comes_after_what_was_sent(rt: HostRuntime) {
     let mut sink = Vec::new(rt.alloc());

@@ -1,5 +1,5 @@
-//! A source that tells nothing is refused as a slice of the bytes that it gave is: no prefix of them is a
-//! spelling.
+//! A source that doesn't report which bytes are to come is rejected as a slice of the bytes that it
+//! gave is: no prefix of them is an encoding.
 ghost use Rattle.std.specs.Prelude.{◌≡◌, ◌++◌, ℕ, List, None, false, true, IfErr, refl};
 ghost use Rattle.std.proofs.Common.{rules};
 ghost use Rattle.std.proofs.lemmas.Grind.{common_steps};
@@ -10,7 +10,7 @@ use crate::tests::{holds, same};
 use std::alloc::Global;
 use tls_codec::{Deserialize, Error, Fault, Source, VLBytes};
 
-// Gives its bytes, tells none of those to come, and never fails.
+// Gives its bytes, doesn't report which are to come, and never fails.
 #[derive(Drop)]
 struct Quiet<'a> {
     left: &'a [u8],
@@ -36,7 +36,8 @@ impl Source for Quiet<'_> {
     ghost no_count_falls = { λ a xs b p. stay no_counts };
 }
 
-// What it gave is refused: no prefix of it is a spelling, or memory ran out. A lean type never requests memory.
+// If the decoder fails, no prefix of what the source gave is an encoding, or memory ran out. A lean
+// type never requests memory.
 fn value<T: Deserialize>(alloc: Global, src: &mut Quiet<'_>) -> Result<T, Error>
     ensures { IfErr result
         (λ e. (x : List ℕ)

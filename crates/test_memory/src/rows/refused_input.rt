@@ -1,6 +1,6 @@
-//! Input that is rejected for its bytes keeps its refusal, whatever a length in it declares: memory is requested
-//! only if the bytes that need it are there. A box of nothing makes a request of its own; the element that it would
-//! be is refused before the list requests room.
+//! Input that is rejected for its bytes keeps its error, whatever a length in it declares: memory
+//! is requested only if the bytes that need it are there. A box of nothing makes a request of its
+//! own. The element that it would be is rejected before the list requests room.
 use super::{Requests, Wrong, same};
 use std::alloc::Global;
 use tls_codec::{Deserialize, DeserializeBytes, Error, TlsByteVecU32, VLBytes};
@@ -17,7 +17,7 @@ const LONG_BYTES: [u8; 7] = [0xff, 0xff, 0xff, 0xff, 1, 2, 3];
 
 const CUT_OFF: Error = Error::DecodingError("declared content is not there");
 
-// The slice path refuses these bytes after so many requests.
+// The slice path rejects these bytes after `count` requests.
 fn is_not_split<T: DeserializeBytes>(
     alloc: Global,
     requests: &mut Requests,

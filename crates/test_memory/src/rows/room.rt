@@ -1,5 +1,5 @@
-//! How much room a call asks for. The capacity of what it returns tells it: it is of the order of the bytes or elements
-//! there, whatever is at hand after them.
+//! How much room a call asks for. The capacity of what it returns shows it: it is of the order of
+//! the bytes or elements there, whatever follows them.
 use super::{Requests, Wrong, full, is_of_the_order, same};
 use std::alloc::Global;
 use tls_codec::{

@@ -1,4 +1,4 @@
-// Texts that are refused, each with the place, what stands there, and a word of what would be right.
+// Texts that are rejected, each with the place, what is there, and a word of what would be right.
 use super::{refusal, same_at};
 use std::test::Fail;
 

@@ -104,7 +104,7 @@ fn tokens_of(rt: &impl Abort, alloc: Global, text: &str) -> Vec<Token> {
     }
 }
 
-// A line for each token of which something is said.
+// A line for each token that has a section or a comment.
 fn said(alloc: Global, tokens: &[Token]) -> Result<String, AllocError> {
     let mut out = String::new(alloc);
     for token in tokens {

@@ -45,7 +45,7 @@ fn rejected(
     }
 }
 
-// Each other type, as `1:r.R`.
+// Each other type, in the form `1:r.R`.
 fn others(alloc: Global, others: &[Other]) -> Result<String, AllocError> {
     let mut out = String::new(alloc);
     for other in others {

@@ -14,7 +14,7 @@ static ELSEWHERE: [(&str, &str); 7] = [
         "enum { X(0), Raw(2), (255) } KeyType; struct { select (key_type) { case X: opaque c<V>; case Raw: opaque k<V>; }; uint8 z; } Entry; struct { uint8 n; Entry list<0..255>; } All;",
         "key_type.KeyType values of 1: X 0 Raw 2\nkey_type_data.KeyTypeData for key_type KeyType sum by 1:\n  X X 0: c opaque<V>,\n  Raw RAW 2: k opaque<V>,\nentry.Entry for key_type KeyType: key_type KeyTypeData*, z u1,\nall.All for key_type KeyType: n u1, list Entry<1: 0..255>*,\n",
     ),
-    // a number elsewhere, and names behind the select
+    // a number elsewhere, and names after the select
     (
         "struct { uint16 v; } H; struct { uint8 a; select (H.v) { case 1: uint8 y; case 2: struct {}; } body; select (H.v) { case 7: uint8 q; } Last; } S;",
         "h.H: v u2,\nlast.Last for v u2 sum by 2:\n  Case7 CASE_7 7: q u1,\nv_data.VData for v u2 sum by 2:\n  Case1 CASE_1 1: y u1,\n  Case2 CASE_2 2:\ns.S for v u2: a u1, body VData*, v Last*,\n",

@@ -1,4 +1,4 @@
-// MLS's framing (RFC 9420, section 6), to stand behind `inputs::MLS`.
+// MLS's framing (RFC 9420, section 6), to be appended to `inputs::MLS`.
 
 // As the RFC prints it.
 pub static FRAMING_RFC: &str = "

@@ -1,4 +1,4 @@
-// Tags that a field before holds: plans, by hand, and where and why texts are refused.
+// Tags that a field before holds: plans, by hand, and where and why texts are rejected.
 use super::shown::show;
 use super::{made, refusal, same, same_at};
 use std::test::Fail;
@@ -60,7 +60,8 @@ fn tags_that_a_field_holds(rt: HostRuntime) -> Result<(), Fail> {
     Ok(())
 }
 
-// Behind two enums and a struct with a tag: a text, the column, and what was found and expected there.
+// Each row has a text that comes after two enums and a struct with a tag, the column, and what was
+// found and expected there.
 static REFUSED: [(&str, usize, &str, &str); 8] = [
     (
         "struct { select (t) { case a: uint8 y; case b: uint8 z; } } R; struct { T t; T u; R r; } S;",

@@ -74,7 +74,7 @@ enum { update_not_requested(0), update_requested(1), (255) } KeyUpdateRequest;
 struct { KeyUpdateRequest request_update; } KeyUpdate;
 ";
 
-// RFC 9420, but for its framing.
+// RFC 9420, without its framing.
 pub static MLS: &str =
     "// Messages of MLS (RFC 9420), in the presentation language of TLS (RFC 8446, section 3).
 // A line `A B;` gives the type A a second name, as in the RFC. Where the RFC has a number with a registry

@@ -7,7 +7,7 @@ use tlsgen_resolve::planning::plan_within;
 use tlsgen_syntax::parser::parse;
 use tlsgen_syntax::refusal::Trouble;
 
-// So many fields.
+// `count` fields.
 fn fields(alloc: Global, count: usize) -> Result<String, AllocError> {
     let mut out = String::new(alloc);
     for k in 0..count {
@@ -55,7 +55,7 @@ fn many(rt: HostRuntime) -> Result<(), Fail> {
     Ok(())
 }
 
-// Two cases with five fields each, once from a select and once from what stands before it.
+// Two cases with five fields each, once from a select and once from what comes before it.
 #[test]
 fn copies_are_counted(rt: HostRuntime) -> Result<(), Fail> {
     let alloc = rt.alloc();
@@ -81,7 +81,7 @@ fn copies_are_counted(rt: HostRuntime) -> Result<(), Fail> {
     }
 }
 
-// So many definitions: enums, chains of other names, and structs that use both and one another.
+// `count` definitions: enums, chains of other names, and structs that use both and one another.
 fn definitions(alloc: Global, count: usize) -> Result<String, AllocError> {
     let mut out = String::from_str(
         alloc,
@@ -109,7 +109,7 @@ fn many_definitions(rt: HostRuntime) -> Result<(), Fail> {
     Ok(())
 }
 
-// So many structs, each with 256 cases, and with 18 fields that stand in each of these.
+// `count` structs, each with 256 cases, and with 18 fields in each of these.
 fn structs(alloc: Global, count: usize) -> Result<String, AllocError> {
     let mut labels = String::new(alloc);
     for k in 0..=255u8 {
@@ -135,7 +135,7 @@ fn more_than_may_be_in_all(rt: HostRuntime) -> Result<(), Fail> {
     Ok(())
 }
 
-// So many structs, each with the one before it and a select on the tag of the first.
+// `count` structs, each with the one before it and a select on the tag of the first.
 fn nested(alloc: Global, count: usize) -> Result<String, AllocError> {
     let mut out = String::from_str(
         alloc,

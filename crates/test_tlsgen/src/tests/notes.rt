@@ -1,4 +1,4 @@
-// What notes say beside a text: plans, by hand, and notes that are refused.
+// What notes say beside a text: plans, by hand, and notes that are rejected.
 use super::same_at;
 use super::shown::show;
 use std::alloc::Global;

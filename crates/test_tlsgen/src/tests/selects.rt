@@ -69,12 +69,12 @@ static GOOD: [(&str, &str); 22] = [
         "enum { a(1), b(2) } T; struct {} TData; struct { T t; select (S.t) { case a: uint8 y; case b: struct{}; } uint8 z; } S;",
         "t_data.TData:\nst_data.STData by 1:\n  A A 1: y u1,\n  B B 2:\ns.S: t STData, z u1,\n",
     ),
-    // what stands between a tag and its last select
+    // what comes between a tag and its last select
     (
         "enum { a(1), b(2) } T; struct { uint8 k; T t; uint8 m; select (S.t) { case a: uint8 y; case b: struct{}; } uint8 n; select (S.t) { case b: uint8 x; case a: struct{}; } uint8 z; } S;",
         "t_data.TData by 1:\n  A A 1: m u1, y u1, n u1,\n  B B 2: m u1, n u1, x u1,\ns.S: k u1, t TData, z u1,\n",
     ),
-    // tags that nest, each with a select behind the other's
+    // tags that nest, each with a select after the other's
     (
         "struct { uint8 t; uint8 u; select (S.u) { case 1: uint8 a; case 2: struct{}; } select (S.t) { case 3: uint8 b; case 4: struct{}; } } S;",
         "u_data.UData by 1:\n  Case1 CASE_1 1: a u1,\n  Case2 CASE_2 2:\ns.S by 1:\n  Case3 CASE_3 3: u UData, b u1,\n  Case4 CASE_4 4: u UData,\n",

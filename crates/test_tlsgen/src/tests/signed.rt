@@ -1,4 +1,4 @@
-// What is signed, as a struct of its own: plans, by hand, and texts that are refused.
+// What is signed, as a struct of its own: plans, by hand, and texts that are rejected.
 use super::shown::show;
 use super::{expects, made, refusal, same_at};
 use std::test::Fail;

@@ -3,7 +3,7 @@ use super::presentation::refusal_of;
 use super::same_at;
 use std::test::Fail;
 
-// Texts that are refused, each with the place, what stands there, and what would be right.
+// Texts that are rejected, each with the place, what is there, and what would be right.
 static BAD: [(&str, usize, usize, &str, &str); 53] = [
     ("enum", 1, 5, "", "{"),
     (

@@ -22,7 +22,7 @@ type Digest = TlsByteVec<Within<u8, 32, 32>>;
 
 const OUTSIDE: Error = Error::InvalidVectorLength;
 
-// Each decoder refuses the bytes. A source has given the length alone.
+// Each decoder rejects the bytes. A source has given only the length.
 fn is_refused_after<T: Deserialize>(
     rt: &impl Abort,
     alloc: Global,
@@ -50,7 +50,7 @@ fn a_source_has_given_the_length_alone(rt: HostRuntime) -> Result<(), Fail> {
     Ok(())
 }
 
-// The length of the outer list is sent before the inner vector refuses.
+// The length of the outer list is sent before the encoder rejects the inner vector.
 #[test]
 fn a_list_of_bytes_out_of_bounds(rt: HostRuntime) -> Result<(), Fail> {
     let alloc = rt.alloc();

@@ -248,7 +248,7 @@ fn elements_are_read_in_a_context(rt: HostRuntime) -> Result<(), Fail> {
 
 type ByRefShort<'a> = ByRefWhen<'a, IsOne, u16>;
 
-// In the context 1 the elements are written as these bytes, and in another they are refused.
+// In the context 1 the elements are written as these bytes, and in another they are rejected.
 fn are_written(
     rt: &impl Abort,
     alloc: Global,

@@ -9,7 +9,7 @@ use tls_codec::{
 };
 use tls_codec_vectors::Drip;
 
-// So many bytes of one value.
+// `count` bytes of one value.
 pub(super) fn filled(alloc: Global, count: usize, byte: u8) -> Result<Vec<u8>, AllocError> {
     vec![in alloc; byte; count]
 }
@@ -52,8 +52,8 @@ pub(super) fn is_written_alone<T: Serialize + SerializeBytes>(
     Ok(())
 }
 
-// Each encoder refuses the value as too long, with so much announced. A sink receives these bytes. A
-// vector that is appended to is as it was.
+// Each encoder rejects the value as too long, and `announced` is its announced length. A sink
+// receives these bytes. A vector that is appended to is unchanged.
 pub(super) fn is_too_long<T: Serialize>(
     rt: &impl Abort,
     alloc: Global,
@@ -118,7 +118,7 @@ pub(super) fn is_read_at_once<T: Deserialize + DeserializeBytes + PartialEq>(
     Ok(())
 }
 
-// The same, also if a source gives one byte a pull, or tells nothing.
+// The same, also if a source gives one byte a pull, or doesn't report which bytes are to come.
 pub(super) fn is_read<T: Deserialize + DeserializeBytes + PartialEq>(
     rt: &impl Abort,
     alloc: Global,
@@ -134,7 +134,8 @@ pub(super) fn is_read<T: Deserialize + DeserializeBytes + PartialEq>(
     is_read_outside(rt, alloc, bytes, value, rest)
 }
 
-// Each decoder reads the value from these bytes, and leaves none. The exact forms refuse a byte after them.
+// Each decoder reads the value from these bytes, and leaves none. The exact forms reject a byte
+// after them.
 pub(super) fn is_read_whole<T: Deserialize + DeserializeBytes + PartialEq>(
     rt: &impl Abort,
     alloc: Global,
@@ -166,7 +167,7 @@ pub(super) fn is_spelled<T: Serialize + Deserialize + DeserializeBytes + Partial
     is_read_whole(rt, alloc, bytes, value)
 }
 
-// Each decoder refuses the bytes with this error.
+// Each decoder rejects the bytes with this error.
 pub(super) fn is_refused<T: Deserialize + DeserializeBytes>(
     rt: &impl Abort,
     alloc: Global,

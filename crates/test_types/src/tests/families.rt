@@ -82,7 +82,7 @@ fn a_cleared_list_is_written_as_none(rt: HostRuntime) -> Result<(), Fail> {
     is_written(&rt, alloc, &list, &[0])
 }
 
-// More than three bytes count. A row of so many bytes takes long.
+// Contents whose length doesn't fit in three bytes. A row of that many bytes would take long.
 #[test]
 fn contents_past_three_bytes_of_length(rt: HostRuntime) -> Result<(), Fail> {
     let alloc = rt.alloc();

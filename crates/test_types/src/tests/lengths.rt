@@ -5,7 +5,7 @@ use std::process::Abort;
 use std::test::Fail;
 use tls_codec::{Error, LengthField, TlsVarInt, U24};
 
-// This spells the length. Both paths read it, and a byte less is refused.
+// These bytes encode the length. Both paths read them, and reject them if a byte is missing.
 fn is_spelled<F: LengthField>(
     rt: &impl Abort,
     alloc: Global,

@@ -30,7 +30,7 @@ fn parts_that_are_borrowed(rt: HostRuntime) -> Result<(), Fail> {
     is_written(&rt, alloc, &(&bytes, &numbers), &pair)
 }
 
-// The length of the list is sent before the inner vector refuses.
+// The length of the list is sent before the encoder rejects the inner vector.
 #[test]
 fn a_list_of_too_many_bytes(rt: HostRuntime) -> Result<(), Fail> {
     let alloc = rt.alloc();

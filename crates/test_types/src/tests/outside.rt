@@ -1,4 +1,5 @@
-//! Any reader of std as a source. It tells no byte to come, and gives its bytes in pieces.
+//! Any reader of std as a source. It doesn't report which bytes are to come, and gives its bytes in
+//! pieces.
 use super::each_call::is_left;
 use crate::tests::{same, same_at};
 use std::alloc::Global;
@@ -9,7 +10,7 @@ use std::test::Fail;
 use tls_codec::{Deserialize, Error, Fault, Outside, deserialize_to_end, expect_end};
 use tls_codec_vectors::{Drip, Failing};
 
-// Gives at most so many bytes a call.
+// Gives at most `most` bytes a call.
 #[derive(Drop)]
 pub(super) struct Pieces<'a> {
     left: &'a [u8],
@@ -47,7 +48,7 @@ pub(super) fn is_read_outside<T: Deserialize + PartialEq>(
     Ok(())
 }
 
-// The bytes are refused with this error.
+// The bytes are rejected with this error.
 pub(super) fn is_refused_outside<T: Deserialize>(
     rt: &impl Abort,
     alloc: Global,

@@ -1,4 +1,4 @@
-//! What the list engines refuse, and how often they try an element then.
+//! What the list engines reject, and how often they try an element then.
 use super::each_call::is_refused;
 use super::outside::{PIECES, in_pieces};
 use crate::tests::{same, same_at};
@@ -7,7 +7,7 @@ use std::process::Abort;
 use tls_codec::lists::{self, Turns};
 use tls_codec::{Deserialize, DeserializeBytes, Error};
 
-// The engines refuse the bytes, after so many turns.
+// The engines reject the bytes after this number of turns.
 fn is_refused_after<T: Deserialize + DeserializeBytes>(
     rt: &impl Abort,
     alloc: Global,

@@ -1,4 +1,5 @@
-//! Each size to 600, and great ones, by each call that writes, reads or copies so many bytes.
+//! Each size to 600, and large ones, by each call that writes, reads or copies that number of
+//! bytes.
 mod families;
 
 use super::each_call::{filled, is_read, is_read_at_once, is_written, is_written_alone};
@@ -13,7 +14,7 @@ use tls_codec_vl::names::{SecretVLByteVecName, SecretVLBytesName, VLByteVecName,
 
 const GREATEST: usize = 1_048_576;
 
-// Each size to 600, and the great ones, none above the most.
+// Each size to 600, and the large ones, none above `most`.
 fn sizes_to(alloc: Global, most: usize) -> Result<Vec<usize>, AllocError> {
     let mut sizes = Vec::new(alloc);
     for size in 0..=most.min(600) {
@@ -70,7 +71,7 @@ macro_rules! is_copied_and_grows {
 
 use is_copied_and_grows;
 
-// What a byte vector does with so many bytes.
+// What a byte vector does at each size.
 macro_rules! byte_vector {
     ($rt:ident, $alloc:ident, $Owned:ty, $is_written:ident) => {
         for size in sizes_to($alloc, GREATEST)? {
@@ -128,7 +129,7 @@ fn sizes_of_vectors(rt: HostRuntime) -> Result<(), Fail> {
     Ok(())
 }
 
-// A text of so many bytes.
+// A text of `size` bytes.
 fn text_of(alloc: Global, size: usize) -> Result<String, AllocError> {
     let mut text = String::new(alloc);
     for _at in 0..size {
@@ -149,7 +150,7 @@ fn sizes_of_texts(rt: HostRuntime) -> Result<(), Fail> {
     Ok(())
 }
 
-// So many byte vectors without a byte, and their spelling.
+// A list of `count` empty byte vectors, and its encoding.
 fn empty_vectors(alloc: Global, count: usize) -> Result<(Vec<VLBytes>, Vec<u8>), AllocError> {
     let mut list = Vec::new(alloc);
     for _at in 0..count {

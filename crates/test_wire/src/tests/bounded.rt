@@ -14,8 +14,8 @@ use tls_codec_wire::gather::{gather, read_bytes_bounded};
 use tls_codec_wire::transfer::read_exactly;
 use tls_codec_wire::vlen::{length_form, length_width, read_length, split_length, write_length};
 
-// Has so many bytes left. It notes whether a vector had more room for them than the greater of 4,096
-// and what came.
+// Has `left` bytes left. It records whether a vector had more room for them than the greater of
+// 4,096 and what came.
 #[derive(Drop)]
 struct RoomWatcher {
     left: usize,
@@ -158,7 +158,7 @@ fn bytes_are_gathered(rt: HostRuntime) -> Result<(), Fail> {
     Ok(())
 }
 
-// A vector has at most `isize::MAX` bytes. If it can't hold so many, none are taken.
+// A vector has at most `isize::MAX` bytes. If it can't hold `length` bytes, none are taken.
 #[test]
 fn bytes_that_are_not_there_are_refused(rt: HostRuntime) {
     let most = isize::MAX as usize;

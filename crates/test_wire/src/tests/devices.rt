@@ -1,4 +1,5 @@
-// A source and a sink that follow a plan. They tell no bytes, and count their calls.
+// A source and a sink that follow a plan. They don't report which bytes are to come, and count
+// their calls.
 ghost use Rattle.std.specs.Prelude.{◌≡◌, None};
 ghost use Rattle.tls_codec_wire.specs.Counts.{Counts, fall_never, NoneFell, stay};
 ghost use Rattle.tls_codec_wire.specs.Device.{FaultRaises, PullIsCounted};
@@ -8,9 +9,9 @@ use std::io::{ErrorKind, Read, Write};
 use std::marker::Model;
 use tls_codec_wire::device::{Fault, Sink, Source};
 
-// A device refuses its first call by a fault, if it has one. Then it moves so many bytes, one a
-// call, and so many interruptions come before each. After them it treats each call the same: a
-// fault, or no byte.
+// A device fails its first call with the fault `first`, if it has one. Then it moves `bytes` bytes,
+// one a call, and `interruptions` interruptions come before each. After them it treats each call
+// the same: a fault, or no byte.
 #[derive(Clone, Copy)]
 pub struct Plan {
     pub first: Option<Fault>,

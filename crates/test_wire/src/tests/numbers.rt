@@ -71,7 +71,7 @@ fn no_width_holds_a_greater_number(rt: HostRuntime) {
     same(&rt, least_width(TlsVarInt::MAX + 1), 0);
 }
 
-// All bytes that the first one asks for are read before a width is refused.
+// All bytes that the first one asks for are read before a width is rejected.
 #[test]
 fn an_integer_has_no_other_bytes(rt: HostRuntime) {
     for (bytes, error) in [

@@ -1,4 +1,4 @@
-//! The names by which `{:?}` tells byte vectors apart.
+//! The names that `{:?}` prints to distinguish byte vectors.
 use crate::tests::same;
 use std::process::Abort;
 use std::test::Fail;

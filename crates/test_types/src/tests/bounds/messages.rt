@@ -68,7 +68,7 @@ fn an_offer_of_one_suite(rt: HostRuntime) -> Result<(), Fail> {
     is_spelled(&rt, alloc, &offer, &[0, 2, 0x13, 0x01, 1, 0])
 }
 
-// What was sent of an offer before its second field refuses is the first.
+// Only the first field of an offer is sent before the encoder rejects the second.
 #[test]
 fn offers_out_of_bounds(rt: HostRuntime) -> Result<(), Fail> {
     let alloc = rt.alloc();

@@ -7,7 +7,7 @@ use std::process::Abort;
 use std::test::Fail;
 use tls_codec::{LengthField, SecretTlsVec, TlsByteVec, TlsVec, U24};
 
-// The content after its length of so many bytes.
+// The content after its length of `width` bytes.
 fn spelled(alloc: Global, width: usize, content: &[u8]) -> Result<Vec<u8>, AllocError> {
     let length = content.len().to_be_bytes();
     let mut form = length[8usize.saturating_sub(width)..].to_vec(alloc)?;
@@ -15,7 +15,7 @@ fn spelled(alloc: Global, width: usize, content: &[u8]) -> Result<Vec<u8>, Alloc
     Ok(form)
 }
 
-// What a list of bytes does with so many of them, after a length of so many bytes.
+// What a list of bytes does at each size, after a length of `width` bytes.
 macro_rules! list_of_bytes {
     ($rt:ident, $alloc:ident, $Owned:ty, $is_written:ident, $width:ident, $most:ident) => {
         for size in sizes_to($alloc, $most)? {
