@@ -65,7 +65,7 @@ pub struct Span {
     pub size: usize,
 }
 
-/// Whether bytes begin with a variable-length integer, or with bytes after a length, told without memory.
+/// Checks without allocation whether bytes begin with a variable-length integer, or with bytes after a length.
 pub mod tls_codec {
     use crate::{Rejected, Span, split, split_as};
 
@@ -124,7 +124,7 @@ pub mod tls_codec {
     }
 }
 
-/// Whether bytes begin with a message of TLS 1.3, told without memory.
+/// Checks without allocation whether bytes begin with a message of TLS 1.3.
 pub mod tls13 {
     use crate::{Elements, Rejected, split, split_as};
 
@@ -643,7 +643,7 @@ pub mod tls13 {
     }
 }
 
-/// Whether bytes begin with a message of TLS 1.3, told by its decoder, which makes the value and drops it. `OutOfMemory`: memory was refused, and nothing is said of the bytes. No place is told: `at` is 0.
+/// Checks whether bytes begin with a message of TLS 1.3: its decoder makes the value and drops it. `OutOfMemory`: memory was refused, and nothing is said about the bytes. No position is reported: `at` is 0.
 #[cfg(feature = "check")]
 pub mod tls13_check {
     use crate::{Error, decode};
@@ -729,7 +729,7 @@ pub mod tls13_check {
     }
 }
 
-/// Whether bytes begin with a message of MLS, told without memory.
+/// Checks without allocation whether bytes begin with a message of MLS.
 pub mod mls {
     use crate::{Elements, Rejected, split, split_as, written_as};
 
@@ -1383,7 +1383,7 @@ pub mod mls {
     }
 }
 
-/// Whether bytes begin with a message of MLS, told by its decoder, which makes the value and drops it. `OutOfMemory`: memory was refused, and nothing is said of the bytes. No place is told: `at` is 0.
+/// Checks whether bytes begin with a message of MLS: its decoder makes the value and drops it. `OutOfMemory`: memory was refused, and nothing is said about the bytes. No position is reported: `at` is 0.
 #[cfg(feature = "check")]
 pub mod mls_check {
     use crate::{Error, decode};

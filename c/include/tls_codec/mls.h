@@ -2,7 +2,7 @@
 #ifndef TLS_CODEC_MLS_H
 #define TLS_CODEC_MLS_H
 
-/* Whether bytes begin with a message of MLS, told without memory. */
+/* Checks without allocation whether bytes begin with a message of MLS. */
 
 #include "outcome.h"
 
@@ -178,18 +178,18 @@ typedef struct mls_welcome_fields {
   tls_codec_span encrypted_group_info;
 } mls_welcome_fields;
 
-/* Extension (RFC 9420, section 7.2): the next one of a list. left is moved behind it. */
+/* Extension (RFC 9420, section 7.2): the next one of a list. left is moved past it. */
 tls_codec_outcome mls_extension_next(const uint8_t *bytes, size_t length, tls_codec_span *left, tls_codec_span *element);
 
-/* optional<Node> of a RatchetTree (RFC 9420, section 12.4.3.3): the next one. left is moved behind
+/* optional<Node> of a RatchetTree (RFC 9420, section 12.4.3.3): the next one. left is moved past
    it. */
 tls_codec_outcome mls_optional_node_next(const uint8_t *bytes, size_t length, tls_codec_span *left, tls_codec_span *element);
 
-/* ProposalOrRef of a Commit (RFC 9420, section 12.4): the next one. left is moved behind it. */
+/* ProposalOrRef of a Commit (RFC 9420, section 12.4): the next one. left is moved past it. */
 tls_codec_outcome mls_proposal_or_ref_next(const uint8_t *bytes, size_t length, tls_codec_span *left, tls_codec_span *element);
 
-/* EncryptedGroupSecrets of a Welcome (RFC 9420, section 12.4.3.1): the next one. left is moved
-   behind it. */
+/* EncryptedGroupSecrets of a Welcome (RFC 9420, section 12.4.3.1): the next one. left is moved past
+   it. */
 tls_codec_outcome mls_encrypted_group_secrets_next(const uint8_t *bytes, size_t length, tls_codec_span *left, tls_codec_span *element);
 
 /* MLSMessage (RFC 9420, section 6), and where its fields are. */

@@ -2,8 +2,9 @@
 #ifndef TLS_CODEC_MLS_CHECK_H
 #define TLS_CODEC_MLS_CHECK_H
 
-/* Whether bytes begin with a message of MLS, told by its decoder, which makes the value and drops
-   it. OutOfMemory: memory was refused, and nothing is said of the bytes. No place is told: at is 0. */
+/* Checks whether bytes begin with a message of MLS: its decoder makes the value and drops it.
+   OutOfMemory: memory was refused, and nothing is said about the bytes. No position is reported: at
+   is 0. */
 
 #include "outcome.h"
 

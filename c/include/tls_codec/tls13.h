@@ -2,7 +2,7 @@
 #ifndef TLS_CODEC_TLS13_H
 #define TLS_CODEC_TLS13_H
 
-/* Whether bytes begin with a message of TLS 1.3, told without memory. */
+/* Checks without allocation whether bytes begin with a message of TLS 1.3. */
 
 #include "outcome.h"
 
@@ -136,14 +136,13 @@ typedef struct tls13_tls_plaintext_fields {
   tls_codec_span fragment;
 } tls13_tls_plaintext_fields;
 
-/* Extension (RFC 8446, section 4.2): the next one of a list. left is moved behind it. */
+/* Extension (RFC 8446, section 4.2): the next one of a list. left is moved past it. */
 tls_codec_outcome tls13_extension_next(const uint8_t *bytes, size_t length, tls_codec_span *left, tls_codec_span *element);
 
-/* KeyShareEntry (RFC 8446, section 4.2.8): the next one of a list. left is moved behind it. */
+/* KeyShareEntry (RFC 8446, section 4.2.8): the next one of a list. left is moved past it. */
 tls_codec_outcome tls13_key_share_entry_next(const uint8_t *bytes, size_t length, tls_codec_span *left, tls_codec_span *element);
 
-/* CertificateEntry of a Certificate (RFC 8446, section 4.4.2): the next one. left is moved behind
-   it. */
+/* CertificateEntry of a Certificate (RFC 8446, section 4.4.2): the next one. left is moved past it. */
 tls_codec_outcome tls13_certificate_entry_next(const uint8_t *bytes, size_t length, tls_codec_span *left, tls_codec_span *element);
 
 /* Handshake (RFC 8446, section 4), and where its fields are. */

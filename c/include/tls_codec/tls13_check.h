@@ -2,8 +2,8 @@
 #ifndef TLS_CODEC_TLS13_CHECK_H
 #define TLS_CODEC_TLS13_CHECK_H
 
-/* Whether bytes begin with a message of TLS 1.3, told by its decoder, which makes the value and
-   drops it. OutOfMemory: memory was refused, and nothing is said of the bytes. No place is told: at
+/* Checks whether bytes begin with a message of TLS 1.3: its decoder makes the value and drops it.
+   OutOfMemory: memory was refused, and nothing is said about the bytes. No position is reported: at
    is 0. */
 
 #include "outcome.h"

@@ -2,8 +2,8 @@
 #ifndef TLS_CODEC_TLS_CODEC_H
 #define TLS_CODEC_TLS_CODEC_H
 
-/* Whether bytes begin with a variable-length integer, or with bytes after a length, told without
-   memory. */
+/* Checks without allocation whether bytes begin with a variable-length integer, or with bytes after
+   a length. */
 
 #include "outcome.h"
 

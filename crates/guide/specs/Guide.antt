@@ -33,7 +33,7 @@ pub record Rewritten {S T : Type 0} (source : SourceGhosts S) (sink : SinkGhosts
   pub read : Reads extension_format extension_plain source old new (Ok extension)
   pub sent : Writes extension_format (extension_plain extension) sink before after result
 
--- what becomes of the input and the output
+-- the effect on the input and the output
 abbrev pub Rewrites : {S T : Type 0} → SourceGhosts S → SinkGhosts T → S → S → T → T → Result ℕ Error → Type 0
 Rewrites source sink old new before after result =
     NoneRead source old new before after result ⊎ Rewritten source sink old new before after result

@@ -61,7 +61,7 @@ impl SerializeFor<u8> for AuthData {
 impl DeserializeFor<u8> for AuthData {
     ghost names = { ⟦<(Always<VLBytes>, When<OfCommit, VLBytes>) as DeserializeFor<u8>>⟧.names };
 
-    /// Every refusal is that of a field.
+    /// Every error is that of a field.
     fn tls_deserialize_for<R: Source>(
         content_type: &u8,
         alloc: Global,

@@ -1,4 +1,4 @@
-//! A check at a border: bytes from outside are looked at where they lie, before memory is asked for.
+//! A check at a border: bytes from outside are validated in place, before memory is requested.
 ghost use Rattle.tls_codec.specs.OwnMessages.{bytes_format, list_format, number_format, pair_format};
 ghost use Rattle.tls_codec_validate.specs.Validated.{ValidatesWhole};
 

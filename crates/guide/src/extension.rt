@@ -32,7 +32,7 @@ impl Serialize for Extension {
 impl Deserialize for Extension {
     ghost names = { ⟦<(u16, VLBytes) as Deserialize>⟧.names };
 
-    /// Every refusal is that of a field.
+    /// Every error is that of a field.
     fn tls_deserialize<R: Source>(alloc: Global, src: &mut R) -> Result<Extension, Error> {
         let (extension_type, extension_data) = <(u16, VLBytes)>::tls_deserialize(alloc, src)?;
         Ok(Extension {

@@ -95,7 +95,7 @@ impl Serialize for HelloExtension {
 impl Deserialize for HelloExtension {
     ghost names = { ⟦<Tagged<u16, Extensions> as Deserialize>⟧.names };
 
-    /// Every refusal is that of a field.
+    /// Every error is that of a field.
     fn tls_deserialize<R: Source>(alloc: Global, src: &mut R) -> Result<HelloExtension, Error> {
         let found = <Tagged<u16, Extensions>>::tls_deserialize(alloc, src)?;
         Ok(HelloExtension::of(found.0))
@@ -105,7 +105,7 @@ impl Deserialize for HelloExtension {
 impl DeserializeBytes for HelloExtension {
     ghost names = { ⟦<Tagged<u16, Extensions> as DeserializeBytes>⟧.names };
 
-    /// Every refusal is that of a field.
+    /// Every error is that of a field.
     fn tls_deserialize_bytes(
         alloc: Global,
         whole: &[u8],

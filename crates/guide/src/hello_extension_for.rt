@@ -32,7 +32,7 @@ impl SerializeFor<u16> for HelloExtension {
 impl DeserializeFor<u16> for HelloExtension {
     ghost names = { ⟦<Chosen<Extensions> as DeserializeFor<u16>>⟧.names };
 
-    /// Every refusal is that of a field.
+    /// Every error is that of a field.
     fn tls_deserialize_for<R: Source>(
         type_read: &u16,
         alloc: Global,
@@ -46,7 +46,7 @@ impl DeserializeFor<u16> for HelloExtension {
 impl DeserializeBytesFor<u16> for HelloExtension {
     ghost names = { ⟦<Chosen<Extensions> as DeserializeBytesFor<u16>>⟧.names };
 
-    /// Every refusal is that of a field.
+    /// Every error is that of a field.
     fn tls_deserialize_bytes_for<'a>(
         type_read: &u16,
         alloc: Global,

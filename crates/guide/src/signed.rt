@@ -47,7 +47,7 @@ impl Serialize for Signed {
 impl Deserialize for Signed {
     ghost names = { ⟦<Then<u8, (Always<VLBytes>, AuthData)> as Deserialize>⟧.names };
 
-    /// Every refusal is that of a field.
+    /// Every error is that of a field.
     fn tls_deserialize<R: Source>(alloc: Global, src: &mut R) -> Result<Signed, Error> {
         let Then {
             first: content_type,

@@ -13,7 +13,8 @@ use tls_codec_cases::{Case, Chosen, Or, append_as_for, write_as_for};
 /// `opaque <1..2^24-1>`
 pub type CertificateBytes = TlsByteVec<Within<U24, 1, 0xffffff>>;
 
-/// `select (certificate_type)` of a [`CertificateEntry`](crate::CertificateEntry): no byte tells the type.
+/// `select (certificate_type)` of a [`CertificateEntry`](crate::CertificateEntry): no byte has the
+/// type.
 #[derive(PartialEq, Eq, Debug, Clone, Drop)]
 pub enum CertificateData {
     /// `case X509: opaque cert_data<1..2^24-1>;`

@@ -104,7 +104,7 @@ impl Serialize for Handshake {
 impl Deserialize for Handshake {
     ghost names = { ⟦<Handshakes as Deserialize>⟧.names };
 
-    /// `TrailingData`: the body ends before its length does. Every other refusal is that of a field.
+    /// `TrailingData`: the body ends before its length does. Every other error is that of a field.
     fn tls_deserialize<R: Source>(alloc: Global, src: &mut R) -> Result<Handshake, Error> {
         let cases = <Handshakes>::tls_deserialize(alloc, src)?;
         Ok(Handshake::of(cases))
@@ -114,7 +114,7 @@ impl Deserialize for Handshake {
 impl DeserializeBytes for Handshake {
     ghost names = { ⟦<Handshakes as DeserializeBytes>⟧.names };
 
-    /// `TrailingData`: the body ends before its length does. Every other refusal is that of a field.
+    /// `TrailingData`: the body ends before its length does. Every other error is that of a field.
     fn tls_deserialize_bytes(alloc: Global, whole: &[u8]) -> Result<(Handshake, &[u8]), Error> {
         let (cases, rest) = <Handshakes>::tls_deserialize_bytes(alloc, whole)?;
         Ok((Handshake::of(cases), rest))

@@ -84,7 +84,8 @@ impl SerializeFor<u8> for KeyShare {
 impl DeserializeFor<u8> for KeyShare {
     ghost names = { ⟦<KeyShares as DeserializeFor<u8>>⟧.names };
 
-    /// `UnknownValue`: no message of the type has a `key_share`. Every other refusal is that of a field.
+    /// `UnknownValue`: no message of the type has a `key_share`. Every other error is that of a
+    /// field.
     fn tls_deserialize_for<R: Source>(
         msg_type: &u8,
         alloc: Global,
@@ -98,7 +99,8 @@ impl DeserializeFor<u8> for KeyShare {
 impl DeserializeBytesFor<u8> for KeyShare {
     ghost names = { ⟦<KeyShares as DeserializeBytesFor<u8>>⟧.names };
 
-    /// `UnknownValue`: no message of the type has a `key_share`. Every other refusal is that of a field.
+    /// `UnknownValue`: no message of the type has a `key_share`. Every other error is that of a
+    /// field.
     fn tls_deserialize_bytes_for<'a>(
         msg_type: &u8,
         alloc: Global,

@@ -14,7 +14,7 @@ use tls_codec::DeserializeBytes;
 use tls_codec_outcome::{Outcome, Span, next};
 use tls_codec_validate::Validate;
 
-/// `Extension` (RFC 9420, section 7.2): the next one of a list. `left` is moved behind it.
+/// `Extension` (RFC 9420, section 7.2): the next one of a list. `left` is moved past it.
 #[unsafe(no_mangle)]
 pub extern "C" fn mls_extension_next(bytes: &[u8], left: &mut Span, element: &mut Span) -> Outcome
     ensures status { Decides extension_format (left_in bytes.now left.old) result.status }
@@ -30,7 +30,8 @@ pub extern "C" fn mls_extension_next(bytes: &[u8], left: &mut Span, element: &mu
     next::<Extension>(bytes, left, element)
 }
 
-/// `optional<Node>` of a `RatchetTree` (RFC 9420, section 12.4.3.3): the next one. `left` is moved behind it.
+/// `optional<Node>` of a `RatchetTree` (RFC 9420, section 12.4.3.3): the next one. `left` is moved
+/// past it.
 #[unsafe(no_mangle)]
 pub extern "C" fn mls_optional_node_next(
     bytes: &[u8],
@@ -51,7 +52,7 @@ pub extern "C" fn mls_optional_node_next(
     next::<Option<Node>>(bytes, left, element)
 }
 
-/// `ProposalOrRef` of a `Commit` (RFC 9420, section 12.4): the next one. `left` is moved behind it.
+/// `ProposalOrRef` of a `Commit` (RFC 9420, section 12.4): the next one. `left` is moved past it.
 #[unsafe(no_mangle)]
 pub extern "C" fn mls_proposal_or_ref_next(
     bytes: &[u8],
@@ -71,7 +72,8 @@ pub extern "C" fn mls_proposal_or_ref_next(
     next::<ProposalOrRef>(bytes, left, element)
 }
 
-/// `EncryptedGroupSecrets` of a `Welcome` (RFC 9420, section 12.4.3.1): the next one. `left` is moved behind it.
+/// `EncryptedGroupSecrets` of a `Welcome` (RFC 9420, section 12.4.3.1): the next one. `left` is
+/// moved past it.
 #[unsafe(no_mangle)]
 pub extern "C" fn mls_encrypted_group_secrets_next(
     bytes: &[u8],

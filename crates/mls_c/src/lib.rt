@@ -1,4 +1,4 @@
-//! Whether bytes begin with a message of MLS, told without memory.
+//! Checks without allocation whether bytes begin with a message of MLS.
 #![tactic(auto)]
 
 mod elements;

@@ -1,6 +1,7 @@
-//! Whether bytes begin with a message of MLS, told by its decoder, which makes the value and drops it.
+//! Checks whether bytes begin with a message of MLS: its decoder makes the value and drops it.
 //!
-//! `OutOfMemory`: memory was refused, and nothing is said of the bytes. No place is told: `at` is 0.
+//! `OutOfMemory`: memory was refused, and nothing is said about the bytes. No position is reported:
+//! `at` is 0.
 #![tactic(auto)]
 
 ghost use Rattle.std.specs.Prelude.{◌≡◌};

@@ -6,7 +6,7 @@ use Rattle.mls_proposals.specs.ProposalOrRef.{proposal_or_ref_format}
 use Rattle.mls_proposals.specs.UpdatePath.{update_path_format}
 use Rattle.mls_fields.specs.declared.commit.CommitFields.{CommitFields}
 
--- x begins with them, one behind the other
+-- x begins with them, one after the other
 pub record AreCommitFields (x : List ℕ) (f : CommitFields) : Type 0 where
   pub proposals : IsFieldFrom (list_format proposal_or_ref_format) x 0 f.proposals
   pub path : IsFieldFrom (option_format update_path_format) x (span_end f.proposals) f.path

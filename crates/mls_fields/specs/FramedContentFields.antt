@@ -7,7 +7,7 @@ use Rattle.mls.specs.Sender.{sender_format}
 use Rattle.mls.specs.ContentTypeData.{content_type_data_format}
 use Rattle.mls_fields.specs.declared.framed_content.FramedContentFields.{FramedContentFields}
 
--- x begins with them, one behind the other
+-- x begins with them, one after the other
 pub record AreFramedContentFields (x : List ℕ) (f : FramedContentFields) : Type 0 where
   pub group_id : IsContentFrom variable_field x 0 f.group_id
   pub epoch : IsFieldFrom (number_format 8) x (span_end f.group_id) f.epoch

@@ -8,7 +8,7 @@ use Rattle.mls_leaf.specs.Extension.{extension_format}
 use Rattle.mls_proposals.specs.ProtocolVersionMls10.{protocol_version_mls10_format}
 use Rattle.mls_fields.specs.declared.group_context.GroupContextFields.{GroupContextFields}
 
--- x begins with them, one behind the other
+-- x begins with them, one after the other
 pub record AreGroupContextFields (x : List ℕ) (f : GroupContextFields) : Type 0 where
   pub version : IsFieldFrom protocol_version_mls10_format x 0 f.version
   pub cipher_suite : IsFieldFrom cipher_suite_format x (span_end f.version) f.cipher_suite

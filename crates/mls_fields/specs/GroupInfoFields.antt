@@ -7,7 +7,7 @@ use Rattle.mls_leaf.specs.Extension.{extension_format}
 use Rattle.mls_proposals.specs.GroupContext.{group_context_format}
 use Rattle.mls_fields.specs.declared.group_info.GroupInfoFields.{GroupInfoFields}
 
--- x begins with them, one behind the other
+-- x begins with them, one after the other
 pub record AreGroupInfoFields (x : List ℕ) (f : GroupInfoFields) : Type 0 where
   pub group_context : IsFieldFrom group_context_format x 0 f.group_context
   pub extensions : IsFieldFrom (list_format extension_format) x (span_end f.group_context) f.extensions

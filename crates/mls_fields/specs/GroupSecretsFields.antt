@@ -7,7 +7,7 @@ use Rattle.mls_proposals.specs.PathSecret.{path_secret_format}
 use Rattle.mls_proposals.specs.PreSharedKeyID.{pre_shared_key_id_format}
 use Rattle.mls_fields.specs.declared.group_secrets.GroupSecretsFields.{GroupSecretsFields}
 
--- x begins with them, one behind the other
+-- x begins with them, one after the other
 pub record AreGroupSecretsFields (x : List ℕ) (f : GroupSecretsFields) : Type 0 where
   pub joiner_secret : IsContentFrom variable_field x 0 f.joiner_secret
   pub path_secret : IsFieldFrom (option_format path_secret_format) x (span_end f.joiner_secret) f.path_secret

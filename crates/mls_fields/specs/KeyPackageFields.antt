@@ -9,7 +9,7 @@ use Rattle.mls_leaf.specs.LeafNode.{leaf_node_format}
 use Rattle.mls_leaf.specs.Extension.{extension_format}
 use Rattle.mls_fields.specs.declared.key_package.KeyPackageFields.{KeyPackageFields}
 
--- x begins with them, one behind the other
+-- x begins with them, one after the other
 pub record AreKeyPackageFields (x : List ℕ) (f : KeyPackageFields) : Type 0 where
   pub version : IsFieldFrom protocol_version_format x 0 f.version
   pub cipher_suite : IsFieldFrom cipher_suite_format x (span_end f.version) f.cipher_suite

@@ -9,7 +9,7 @@ use Rattle.mls_leaf.specs.Extension.{extension_format}
 use Rattle.mls_leaf.specs.LeafNodeOrigin.{leaf_node_origin_format}
 use Rattle.mls_fields.specs.declared.leaf_node.LeafNodeFields.{LeafNodeFields}
 
--- x begins with them, one behind the other
+-- x begins with them, one after the other
 pub record AreLeafNodeFields (x : List ℕ) (f : LeafNodeFields) : Type 0 where
   pub encryption_key : IsContentFrom variable_field x 0 f.encryption_key
   pub signature_key : IsContentFrom variable_field x (span_end f.encryption_key) f.signature_key

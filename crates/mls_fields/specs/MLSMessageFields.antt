@@ -5,7 +5,7 @@ use Rattle.mls.specs.WireFormatData.{wire_format_data_format}
 use Rattle.mls_proposals.specs.ProtocolVersionMls10.{protocol_version_mls10_format}
 use Rattle.mls_fields.specs.declared.mls_message.MLSMessageFields.{MLSMessageFields}
 
--- x begins with them, one behind the other
+-- x begins with them, one after the other
 pub record AreMLSMessageFields (x : List ℕ) (f : MLSMessageFields) : Type 0 where
   pub version : IsFieldFrom protocol_version_mls10_format x 0 f.version
   pub wire_format : IsFieldFrom wire_format_data_format x (span_end f.version) f.wire_format

@@ -6,7 +6,7 @@ use Rattle.tls_codec_grammar.specs.Field.{variable_field}
 use Rattle.mls.specs.ContentType.{content_type_format}
 use Rattle.mls_fields.specs.declared.private_message.PrivateMessageFields.{PrivateMessageFields}
 
--- x begins with them, one behind the other
+-- x begins with them, one after the other
 pub record ArePrivateMessageFields (x : List ℕ) (f : PrivateMessageFields) : Type 0 where
   pub group_id : IsContentFrom variable_field x 0 f.group_id
   pub epoch : IsFieldFrom (number_format 8) x (span_end f.group_id) f.epoch

@@ -7,7 +7,7 @@ use Rattle.mls.specs.FramedContentAuthData.{framed_content_auth_data_format_for}
 use Rattle.mls.specs.SenderType.{sender_type_selected}
 use Rattle.mls_fields.specs.declared.public_message.PublicMessageFields.{PublicMessageFields}
 
--- x begins with a content, and behind it is what its type and its sender decide
+-- x begins with a content, and after it is what its type and its sender decide
 pub record ArePublicMessageFields (x : List ℕ) (f : PublicMessageFields) : Type 0 where
   pub decided : AreDecided framed_content_format (λ c. framed_content_auth_data_format_for (framed_content_content_type c))
       (λ c. present_format (sender_type_selected (framed_content_sender_type c) == 1) bytes_format) x 0 f.content f.auth f.membership_tag

@@ -7,7 +7,7 @@ use Rattle.mls_leaf.specs.CipherSuite.{cipher_suite_format}
 use Rattle.mls_proposals.specs.EncryptedGroupSecrets.{encrypted_group_secrets_format}
 use Rattle.mls_fields.specs.declared.welcome.WelcomeFields.{WelcomeFields}
 
--- x begins with them, one behind the other
+-- x begins with them, one after the other
 pub record AreWelcomeFields (x : List ℕ) (f : WelcomeFields) : Type 0 where
   pub cipher_suite : IsFieldFrom cipher_suite_format x 0 f.cipher_suite
   pub secrets : IsFieldFrom (list_format encrypted_group_secrets_format) x (span_end f.cipher_suite) f.secrets

@@ -1,4 +1,4 @@
-//! Where the fields of messages of MLS are, told without memory.
+//! Where the fields of messages of MLS are, found without allocation.
 //!
 //! The places are those of a message that was validated: `mls_c` exports the two together.
 #![tactic(auto)]

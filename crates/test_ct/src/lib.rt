@@ -1,4 +1,4 @@
-//! Messages of Certificate Transparency, by each call, spelled field by field from RFC 6962.
+//! Messages of Certificate Transparency, by each call, encoded field by field from RFC 6962.
 //!
 //! The crate has only tests. It is above `ct` so that no message is proved twice.
 #![tactic(auto)]

@@ -7,7 +7,7 @@ use tls_codec_outcome::{ACCEPTED, Span, next};
 use tls_codec_validate::Validate;
 use tls13::{CertificateEntry, KeyShareEntry};
 
-/// The elements of a list of which these are the bytes after its length. None: no call has this name.
+/// The elements of a list, from the bytes after its length. `None`: no call has this name.
 pub fn told(alloc: Global, name: &str, bytes: &[u8]) -> Result<Option<Told>, AllocError> {
     let told = match name {
         "mls_extension_next" => all::<mls_leaf::Extension>(alloc, bytes)?,

@@ -1,13 +1,15 @@
-//! What callers in other languages are told of places, as one stored run.
+//! The places that calls from other languages report, as one stored run.
 //!
-//! They are those of the fields of messages of TLS 1.3 and of the elements of lists; and the kind of a message of MLS.
-//! Each row of standard input has a function's name in the static libraries and the hex of some bytes, `-` for none, with a
-//! tab between. The program prints the row again. After it come what the call says, as `STATUS TAKEN AT DETAIL`, and what
-//! it fills: places as `OFFSET+SIZE`, a kind as a number, `-` for nothing. Of `NAME_next` the bytes are those of a list
-//! after its length. It is called until none is left or one is rejected: the row has what the last call says, and where
-//! each element is.
+//! They are those of the fields of messages of TLS 1.3 and of the elements of lists; and the kind
+//! of a message of MLS. Each row of standard input has a function's name in the static libraries
+//! and the hex of some bytes, `-` for none, with a tab between. The program prints the row again.
+//! After it come what the call says, as `STATUS TAKEN AT DETAIL`, and what it fills: places as
+//! `OFFSET+SIZE`, a kind as a number, `-` for nothing. Of `NAME_next` the bytes are those of a list
+//! after its length. It is called until none is left or one is rejected: the row has what the last
+//! call says, and where each element is.
 //!
-//! The static libraries export the calls that are made here. Callers in C, Rust and Python are tested by the same rows.
+//! The static libraries export the calls that are made here. Callers in C, Rust and Python are
+//! tested by the same rows.
 #![tactic(auto)]
 
 mod elements;

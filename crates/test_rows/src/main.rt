@@ -39,7 +39,7 @@ fn answer_of(alloc: Global, kind: &str, hex: &str) -> Result<(u8, Vec<u8>), Allo
     Ok((status, printed))
 }
 
-// The hex of some bytes, of which `-` stands for none.
+// The hex of some bytes; `-` stands for none.
 fn digits(hex: &str) -> &str {
     match hex {
         "-" => "",

@@ -42,7 +42,7 @@ fn is_written<T: Serialize + Eq + Debug + Clone>(
     Ok(())
 }
 
-/// The round trip: the bytes are this value's, with others behind them too, and no prefix is.
+/// The round trip: the bytes are this value's, with others after them too, and no prefix is.
 pub fn is_spelled<T>(alloc: Global, row: &str, value: &T, bytes: &[u8]) -> Result<(), Fail>
 where
     T: Serialize + Deserialize + Validate + Eq + Debug + Clone,
@@ -63,7 +63,7 @@ where
     Ok(())
 }
 
-/// Each decoder refuses the bytes with this error.
+/// Each decoder rejects the bytes with this error.
 pub fn is_refused<T: Deserialize + Validate>(
     alloc: Global,
     row: &str,
@@ -73,7 +73,8 @@ pub fn is_refused<T: Deserialize + Validate>(
     is_refused_by::<T>(alloc, row, bytes, error, error)
 }
 
-/// A slice's decoder refuses the bytes with one error, with which they are rejected too, and a source's with another.
+/// A slice's decoder rejects the bytes with one error, as does validation, and a source's with
+/// another.
 pub fn is_refused_by<T: Deserialize + Validate>(
     alloc: Global,
     row: &str,
@@ -92,7 +93,7 @@ pub fn is_refused_by<T: Deserialize + Validate>(
     same_at(row, dripped, Some(of_source))
 }
 
-// The decoders that read to the end refuse another byte behind these.
+// The decoders that read to the end reject another byte after these.
 fn is_all<T: Deserialize + Validate>(alloc: Global, row: &str, bytes: &[u8]) -> Result<(), Fail> {
     let mut longer = bytes.to_vec(alloc)?;
     longer.push(0)?;

@@ -65,7 +65,7 @@ pub fn is_misfit<C: Size, T: SerializeFor<C>>(
     same_at(row, sent, misfit)
 }
 
-/// Each decoder refuses the bytes in a context with this error.
+/// Each decoder rejects the bytes in a context with this error.
 pub fn is_refused_in<C: Keyed, T: DeserializeFor<C> + ValidateFor<C>>(
     alloc: Global,
     row: &str,

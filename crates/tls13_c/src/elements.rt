@@ -11,7 +11,7 @@ use tls_codec_outcome::{Outcome, Span, next};
 use tls_codec_validate::Validate;
 use tls13::{CertificateEntry, Extension, KeyShareEntry};
 
-/// `Extension` (RFC 8446, section 4.2): the next one of a list. `left` is moved behind it.
+/// `Extension` (RFC 8446, section 4.2): the next one of a list. `left` is moved past it.
 #[unsafe(no_mangle)]
 pub extern "C" fn tls13_extension_next(bytes: &[u8], left: &mut Span, element: &mut Span) -> Outcome
     ensures status { Decides extension_format (left_in bytes.now left.old) result.status }
@@ -27,7 +27,7 @@ pub extern "C" fn tls13_extension_next(bytes: &[u8], left: &mut Span, element: &
     next::<Extension>(bytes, left, element)
 }
 
-/// `KeyShareEntry` (RFC 8446, section 4.2.8): the next one of a list. `left` is moved behind it.
+/// `KeyShareEntry` (RFC 8446, section 4.2.8): the next one of a list. `left` is moved past it.
 #[unsafe(no_mangle)]
 pub extern "C" fn tls13_key_share_entry_next(
     bytes: &[u8],
@@ -47,7 +47,8 @@ pub extern "C" fn tls13_key_share_entry_next(
     next::<KeyShareEntry>(bytes, left, element)
 }
 
-/// `CertificateEntry` of a `Certificate` (RFC 8446, section 4.4.2): the next one. `left` is moved behind it.
+/// `CertificateEntry` of a `Certificate` (RFC 8446, section 4.4.2): the next one. `left` is moved
+/// past it.
 #[unsafe(no_mangle)]
 pub extern "C" fn tls13_certificate_entry_next(
     bytes: &[u8],

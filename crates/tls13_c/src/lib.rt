@@ -1,4 +1,4 @@
-//! Whether bytes begin with a message of TLS 1.3, told without memory.
+//! Checks without allocation whether bytes begin with a message of TLS 1.3.
 #![tactic(auto)]
 
 mod elements;

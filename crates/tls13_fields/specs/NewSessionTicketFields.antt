@@ -6,7 +6,7 @@ use Rattle.tls_codec_grammar.specs.Field.{bounded_field, fixed_field}
 use Rattle.tls13.specs.Extension.{extension_format}
 use Rattle.tls13_fields.specs.declared.new_session_ticket.NewSessionTicketFields.{NewSessionTicketFields}
 
--- x begins with them, one behind the other
+-- x begins with them, one after the other
 pub record AreNewSessionTicketFields (x : List ℕ) (f : NewSessionTicketFields) : Type 0 where
   pub ticket_lifetime : IsFieldFrom (number_format 4) x 0 f.ticket_lifetime
   pub ticket_age_add : IsFieldFrom (number_format 4) x (span_end f.ticket_lifetime) f.ticket_age_add

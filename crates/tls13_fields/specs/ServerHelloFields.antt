@@ -8,7 +8,7 @@ use Rattle.tls13.specs.LegacyCompressionMethodX00.{legacy_compression_method_x00
 use Rattle.tls13.specs.ProtocolVersionX0303.{protocol_version_x0303_format}
 use Rattle.tls13_fields.specs.declared.server_hello.ServerHelloFields.{ServerHelloFields}
 
--- x begins with them, one behind the other
+-- x begins with them, one after the other
 pub record AreServerHelloFields (x : List ℕ) (f : ServerHelloFields) : Type 0 where
   pub legacy_version : IsFieldFrom protocol_version_x0303_format x 0 f.legacy_version
   pub random : IsFieldFrom (array_format 32) x (span_end f.legacy_version) f.random

@@ -6,7 +6,7 @@ use Rattle.tls13.specs.ContentTypeApplicationData.{content_type_application_data
 use Rattle.tls13.specs.ProtocolVersionX0303.{protocol_version_x0303_format}
 use Rattle.tls13_fields.specs.declared.tls_ciphertext.TLSCiphertextFields.{TLSCiphertextFields}
 
--- x begins with them, one behind the other
+-- x begins with them, one after the other
 pub record AreTLSCiphertextFields (x : List ℕ) (f : TLSCiphertextFields) : Type 0 where
   pub opaque_type : IsFieldFrom content_type_application_data_format x 0 f.opaque_type
   pub legacy_record_version : IsFieldFrom protocol_version_x0303_format x (span_end f.opaque_type) f.legacy_record_version

@@ -1,4 +1,4 @@
-//! Where the fields of messages of TLS 1.3 are, told without memory.
+//! Where the fields of messages of TLS 1.3 are, found without allocation.
 //!
 //! The places are those of a message that was validated: `tls13_c` exports the two together.
 #![tactic(auto)]

@@ -2,7 +2,7 @@
 use Rattle.std.specs.Prelude.{◌≡◌, ℕ}
 use Rattle.tls_codec_bench.specs.declared.figures.Figures.{Figures}
 
--- so many bytes are copied, and each column has one figure
+-- `count` bytes are copied, and each column has one figure
 pub record IsOfCopy (count : ℕ) (figures : Figures) : Type 0 where
   pub bytes : figures.bytes ≡ count
   pub slice : figures.slice ≡ figures.encode

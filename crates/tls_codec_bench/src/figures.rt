@@ -22,7 +22,7 @@ use tls_codec_vec::TlsVecU32;
 use tls_codec_vectors::Log;
 use tls_codec_vl::VLBytes;
 
-// Nested lists, so many deep.
+// Nested lists, by their depth.
 type Two = Vec<Vec<u8>>;
 
 type Four = Vec<Vec<Two>>;

@@ -1,18 +1,19 @@
 //! `tls_codec_bench` times the codecs of `tls_codec_base`.
 //!
 //! With no argument it makes each call a few times, and prints the name of each case and the bytes of its
-//! spelling, with a tab between. With the argument `run` it prints a line for each case, with tabs between: its
-//! name, the bytes of its spelling, and the nanoseconds of a call of `tls_serialize_detached`, of
-//! `tls_serialize_into` a vector that is used again, of `tls_deserialize_bytes`, of `tls_deserialize` over a slice
-//! and of `tls_validate_prefix`. In the rows that end with `outside`, `tls_deserialize` is over a `Cursor`, which has
-//! no bytes at hand. A figure is the median of 15 batches of at least 20 milliseconds. With any other argument it
+//! encoding, with a tab between. With the argument `run` it prints a line for each case, with tabs
+//! between: its name, the bytes of its encoding, and the nanoseconds of a call of
+//! `tls_serialize_detached`, of `tls_serialize_into` a vector that is used again, of
+//! `tls_deserialize_bytes`, of `tls_deserialize` over a slice and of `tls_validate_prefix`. In the
+//! rows that end with `outside`, `tls_deserialize` is over a `Cursor`, which has no bytes at hand.
+//! A figure is the median of 15 batches of at least 20 milliseconds. With any other argument it
 //! ends with status 1.
 //!
-//! - [`cases`]: the cases and their names. [`values`] and [`messages`]: their values, over the numbers of a
-//!   [`noise`].
+//! - [`cases`]: the cases and their names. [`values`] and [`messages`]: their values, over the
+//!   numbers of a [`noise`].
 //! - [`calls`]: the calls that are timed. [`figures`]: the figures of a case.
-//! - [`timing`]: how long a call takes. [`median`]: the middle one of the batches. [`ticks`]: a clock that shows
-//!   what it is told.
+//! - [`timing`]: how long a call takes. [`median`]: the middle one of the batches. [`ticks`]: a
+//!   clock that goes on by a set step.
 //! - [`fault`]: [`BenchFault`](fault::BenchFault), why nothing is timed.
 #![tactic(auto)]
 

@@ -1,4 +1,4 @@
-//! A clock that shows what it is told.
+//! A clock that goes on by a set step each time it is read.
 ghost use Rattle.std.specs.Prelude.{◌≡◌};
 
 use std::cell::Cell;
@@ -6,7 +6,7 @@ use std::io;
 use std::rt::Clock;
 use std::time::Duration;
 
-/// Goes on by so many milliseconds each time it is read.
+/// A clock that goes on by `step` milliseconds each time it is read.
 #[derive(Drop)]
 pub struct Ticks {
     step: u64,

@@ -1,4 +1,5 @@
-//! Whether bytes begin with a variable-length integer, or with bytes after a length, told without memory.
+//! Checks without allocation whether bytes begin with a variable-length integer, or with bytes
+//! after a length.
 #![tactic(auto)]
 
 ghost use Rattle.std.specs.Prelude.{◌≡◌, ◌≢◌};

@@ -1,4 +1,4 @@
--- What is told of the messages that bytes are in a row.
+-- What is reported about the messages that bytes are in a row.
 use Rattle.std.specs.Prelude.{◌≡◌, ◌≢◌, ◌≤◌, ◌⊎◌, ℕ, List, [], ◌∷◌, ◌++◌, length, Option, Some, None, ⊤}
 use Rattle.tls_codec.specs.Calls.{Error}
 use Rattle.tls_codec.specs.Errors.{OutOfMemory}
@@ -20,14 +20,15 @@ rows (walked ∷ others) = row walked.lines.items ++ rows others
 abbrev pub IsMessage : Format → Walked → Type 0
 IsMessage format walked = (message : Tree) × format.spells Reading (row walked.lines.items) message
 
--- the bytes begin with no message, and the lines show some of the first of them; want of memory is no reason
+-- the bytes begin with no message, and the lines show some of the first of them; running out of
+-- memory is no reason
 pub record IsNone (format : Format) (bytes : List ℕ) (refused : Refused) : Type 0 where
   pub none : NoneBegins format.spells bytes
   pub of_bytes : refused.error ≢ OutOfMemory
   pub behind : List ℕ
   pub shown : bytes ≡ row refused.walked.lines.items ++ behind
 
--- the bytes are refused for this error, and the lines show some of the first of them
+-- the bytes are rejected with this error, and the lines show some of the first of them
 pub record IsRefused (bytes : List ℕ) (error : Error) (refused : Refused) : Type 0 where
   pub named : refused.error ≡ error
   pub behind : List ℕ

@@ -1,4 +1,4 @@
--- Which types there are, and what is told of bytes of one.
+-- Which types there are, and what is reported about bytes of one.
 pub mod Rows
 pub mod Kinds
 pub mod MlsKinds

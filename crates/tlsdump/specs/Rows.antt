@@ -8,12 +8,13 @@ abbrev pub row : List Line → List ℕ
 row [] = []
 row (line ∷ lines) = line.bytes.now ++ row lines
 
--- nothing is left, unless a field is refused
+-- nothing is left, unless a field is rejected
 abbrev pub IsAll : Option ℕ → List ℕ → Type 0
 IsAll None rest = rest ≡ []
 IsAll (Some refused_at) rest = ⊤
 
--- the lines show the first of the bytes, none left out or shown twice; and all of them, unless a field is refused
+-- the lines show the first of the bytes, none left out or shown twice; and all of them, unless a
+-- field is rejected
 pub record ShowsInOrder (bytes : List ℕ) (refused_at : Option ℕ) (walked : Walked) : Type 0 where
   pub rest : List ℕ
   pub whole : bytes ≡ row walked.lines.items ++ rest

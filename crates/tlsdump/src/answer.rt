@@ -13,9 +13,9 @@ use tls_codec::Error;
 /// What is printed.
 #[derive(Drop)]
 pub struct Answer {
-    /// The messages, up to a refused field.
+    /// The messages, up to a rejected field.
     pub shown: String,
-    /// Why there is none at the end, and nothing if there is no reason.
+    /// Why no message is at the end, or nothing if there is no reason.
     pub refusal: String,
 }
 
@@ -71,7 +71,7 @@ pub fn json(alloc: Global, of: &str, dump: &Dump<'_>) -> Result<Answer, AllocErr
     Ok(Answer { shown, refusal })
 }
 
-// The line of a refusal, if there is one: `refused at byte 21, in content.sender.leaf_index:
+// The line of a rejection, if there is one: `refused at byte 21, in content.sender.leaf_index:
 // EndOfStream: expected uint32 leaf_index, 3 bytes are left`
 fn refusal(alloc: Global, start: usize, dump: &Dump<'_>) -> Result<String, AllocError> {
     let mut out = String::new(alloc);

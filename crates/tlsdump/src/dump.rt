@@ -12,21 +12,21 @@ use std::alloc::{AllocError, Global};
 use tls_codec::Error;
 use tls_codec_validate::Rejected;
 
-/// What bytes are.
+/// What the bytes are.
 #[derive(Drop)]
 pub struct Dump<'a> {
     /// The lines of each message.
     pub messages: Vec<Walked<'a>>,
-    /// Why what is left after them begins with none.
+    /// Why the bytes after them begin with no message.
     pub refused: Option<Refused<'a>>,
 }
 
 /// Bytes that begin with no message.
 #[derive(Drop)]
 pub struct Refused<'a> {
-    /// The lines up to the refused field.
+    /// The lines up to the rejected field.
     pub walked: Walked<'a>,
-    /// The position of the refused field.
+    /// The position of the rejected field.
     pub at: usize,
     pub error: Error,
 }
@@ -34,12 +34,13 @@ pub struct Refused<'a> {
 // What bytes begin with.
 #[derive(Drop)]
 enum Part<'a> {
-    // A message, and what is behind it.
+    // A message, and the bytes after it.
     Message(Walked<'a>, &'a [u8]),
     NoMessage(Refused<'a>),
 }
 
-/// The messages of one kind that bytes are in a row, at least one, or those before a refused field.
+/// The messages of one kind that the bytes are, one after another: at least one, or those before a
+/// rejected field.
 pub fn dump_of<'a>(
     alloc: Global,
     layouts: &'a Layouts,
@@ -73,8 +74,8 @@ pub fn dump_of<'a>(
     }
 }
 
-// Whether no message comes behind one: nothing is left, or as much as before, which would be shown
-// for ever.
+// Whether no message comes after this one: no bytes are left, or as many as before. Those would be
+// shown forever.
 fn is_end(rest: &[u8], behind: &[u8]) -> bool
     ensures ends { IsTrue result → IsNoLess rest.now behind.now }
     ensures goes_on { result ≡ false → length behind.now < length rest.now }
@@ -83,7 +84,7 @@ fn is_end(rest: &[u8], behind: &[u8]) -> bool
 }
 
 // The message that bytes begin with. If they begin with none, the lines go up to the field that the
-// validator of the type refuses.
+// validator of the type rejects.
 fn part_of<'a>(
     alloc: Global,
     layouts: &'a Layouts,
@@ -121,7 +122,7 @@ fn before<'a>(bytes: &'a [u8], rest: &[u8]) -> &'a [u8]
     }
 }
 
-// The lines up to a refused field.
+// The lines up to a rejected field.
 fn none_of<'a>(
     alloc: Global,
     layouts: &'a Layouts,

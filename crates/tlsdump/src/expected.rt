@@ -1,4 +1,4 @@
-//! What was expected at a refused field, and what is there.
+//! What was expected at a rejected field, and what is there.
 
 use crate::walk::layouts::value_name;
 use crate::walk::stop::{Expected, Found};

@@ -17,7 +17,7 @@ struct Node {
 
 /// Adds the lines of a message, whose first byte has this position, as an object: each has its
 /// `name`, the `offset` of its first byte and what it shows, and the lines below it are its
-/// `fields` or `elements`. Returns the position behind it.
+/// `fields` or `elements`. Returns the position after the message.
 pub fn push_tree(
     alloc: Global,
     messages: &mut Vec<Value>,

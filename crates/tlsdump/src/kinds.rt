@@ -10,7 +10,7 @@ pub mod of_tls13;
 
 use tls_codec_validate::{Rejected, Validate};
 
-/// What is behind a message, or why bytes begin with none.
+/// The bytes after a message, or why the bytes begin with no message.
 pub type Checked<'a> = Result<&'a [u8], Rejected<'a>>;
 
 /// The same of a type.
@@ -41,8 +41,8 @@ impl Protocol {
         }
     }
 
-    /// What is behind the message of this type that bytes begin with, or why there is none. Nothing
-    /// for a name that is no type's.
+    /// The bytes after the message of this type that `bytes` begins with, or why there is none.
+    /// `None`: no type has the name.
     pub fn check<'a>(self, name: &str, bytes: &'a [u8]) -> Option<Checked<'a>>
         ensures { FirstNamed (kinds_of self) name.now (λ k. Checks k.format bytes.now result)
             (result ≡ None) }
@@ -71,7 +71,7 @@ pub struct Kind<'a> {
 #[derive(Clone, Copy)]
 pub enum Named<'a> {
     One(Kind<'a>),
-    /// Types of two protocols at least.
+    /// Types of at least two protocols.
     Several,
     Nothing,
 }

@@ -11,17 +11,18 @@
 //! ..
 //! ```
 //!
-//! What is no message gives the lines up to the refused field, and on standard error its byte, its
-//! path and what was expected.
+//! If the bytes are no message, it prints the lines up to the rejected field, and on standard error
+//! the position of this field, its path and what was expected.
 //!
 //! - [`program`]: [`program`](program::program), from its words to its status; [`words`]: the
 //!   command line.
-//! - [`input`]: all that an input has; [`notation`]: the bytes that it spells.
-//! - [`kinds`]: the types, whose messages their proved validators tell from other bytes; [`texts`]:
-//!   what they are made of.
+//! - [`input`]: all that an input has; [`notation`]: the bytes that it encodes.
+//! - [`kinds`]: the types, with proved validators that accept their messages and reject other
+//!   bytes; [`texts`]: what they are made of.
 //! - [`walk`]: the lines of a message; [`dump`]: the messages that bytes are, one after another.
 //! - [`answer`]: what is printed of them; [`show`]: as a tree; [`json`]: as JSON; [`told`]: what
-//!   bytes mean to a reader; [`expected`]: what was expected at a refused field, and what is there.
+//!   bytes mean to a reader; [`expected`]: what was expected at a rejected field, and what is
+//!   there.
 #![tactic(auto)]
 
 mod answer;

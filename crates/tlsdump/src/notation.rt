@@ -4,13 +4,13 @@ use base64::DecodeAllocError;
 use base64::engine::general_purpose::STANDARD;
 use std::alloc::{AllocError, AllocFailed, Global};
 
-/// How an input spells bytes.
+/// How an input encodes bytes.
 #[derive(Clone, Copy, PartialEq, Eq, Debug)]
 pub enum Notation {
     /// As hex, or as base64 if that is what it looks like.
     Text,
     Base64,
-    /// It is the bytes.
+    /// The input is the bytes themselves.
     Binary,
 }
 
@@ -24,9 +24,9 @@ pub enum NoBytes {
         column: usize,
         byte: u8,
     },
-    /// There are so many digits, and one more or less is wanted.
+    /// The number of digits, which is odd.
     Odd(usize),
-    /// It has the characters of base64, and is none.
+    /// It has the characters of base64, but is not base64.
     Base64,
     /// Memory was refused.
     Memory,
@@ -129,7 +129,7 @@ fn is_mark(line: &[u8], at: usize, byte: u8) -> bool {
     }
 }
 
-// Where the digits of a line are: in `00000010: 0a0b 0c0d  text` behind the position, up to two
+// Where the digits of a line are: in `00000010: 0a0b 0c0d  text`, after the position and before two
 // blanks.
 fn dumped(line: &[u8]) -> (usize, usize) {
     let width = line

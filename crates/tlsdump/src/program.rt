@@ -20,7 +20,7 @@ use tlsgen_syntax::syntax::Item;
 
 /// Each message was shown.
 const ALL: u8 = 0;
-/// A field was refused.
+/// A field was rejected.
 const REFUSED: u8 = 1;
 /// The words or the input can't be read.
 const UNREAD: u8 = 2;
@@ -95,7 +95,7 @@ fn print_unknown<R: Eprint>(rt: &R, word: &str, named: Named<'_>) -> anyhow::Res
     Ok(())
 }
 
-// The bytes that the input spells, or prints why there are none.
+// The bytes that the input encodes, or prints why there are none.
 fn bytes_from<R: Files + Eprint + AllocGlobal, I: Read + Drop>(
     rt: &R,
     input: I,
@@ -114,7 +114,7 @@ fn bytes_from<R: Files + Eprint + AllocGlobal, I: Read + Drop>(
     Ok(None)
 }
 
-// How the words say that the input spells bytes.
+// How the input encodes bytes, by the words.
 fn notation_of(matches: &ArgMatches<'_>) -> Notation {
     if matches.get_flag("binary") {
         Notation::Binary

@@ -13,7 +13,8 @@ pub struct Layout {
     pub is_short: bool,
 }
 
-/// Adds the lines of a message, whose first byte has this position. Returns the position behind it.
+/// Adds the lines of a message, whose first byte has this position. Returns the position after the
+/// message.
 pub fn push_lines(
     alloc: Global,
     out: &mut String,
@@ -108,7 +109,7 @@ fn push_number(alloc: Global, out: &mut String, line: &Line<'_>) -> Result<(), A
     }
 }
 
-// A number in hex, behind its name if it has one.
+// A number in hex, after its name if it has one.
 fn push_code(
     alloc: Global,
     out: &mut String,

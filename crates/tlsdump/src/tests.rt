@@ -1,4 +1,4 @@
-// What no clause says: where a message is refused, and what is told then. The rows are by hand,
+// What no clause says: where a message is rejected, and what is printed then. The rows are by hand,
 // from the RFCs' structs.
 use crate::answer::tree;
 use crate::dump::dump_of;
@@ -9,7 +9,7 @@ use crate::texts::layouts;
 use std::alloc::{AllocError, Global};
 use std::process::Abort;
 
-// A type, bytes that begin with none of its messages, and the line that is told of them.
+// A type, bytes that begin with none of its messages, and the line that is printed of them.
 static REFUSED: [(&str, &str, &str); 11] = [
     // RFC 9420, section 6: the version is mls10, and there are five wire formats.
     (
@@ -98,7 +98,7 @@ fn a_refusal_has_its_byte_its_path_and_what_is_expected(rt: HostRuntime) {
     }
 }
 
-// The line of a refusal.
+// The line of a rejection.
 fn refusal(alloc: Global, word: &str, text: &str) -> Result<String, AllocError> {
     let Named::One(kind) = kind_of(word) else {
         return Err(AllocError);

@@ -46,7 +46,7 @@ pub(crate) struct Walk<'a> {
     pub rest: &'a [u8],
     /// How many bytes were taken.
     pub at: usize,
-    /// Where the decoder refuses a field.
+    /// Where the decoder rejects a field.
     pub refused_at: usize,
     pub tasks: Vec<Task<'a>>,
     pub scope: Scope<'a>,
@@ -60,16 +60,16 @@ pub(crate) struct Opening<'a> {
     pub line: usize,
     /// Their line if it stops.
     pub closed: Line<'a>,
-    /// How many tasks come behind them.
+    /// How many tasks come after them.
     pub tasks: usize,
-    /// What comes behind them, and its position.
+    /// What comes after them, and its position.
     pub after: &'a [u8],
     pub at: usize,
 }
 
-/// The lines of bytes of a type. A decoder may refuse a field: the walk stops there, if it didn't
-/// before. If none is refused, the lines show all bytes: of a walk that stops all the same, one
-/// line does.
+/// The lines of bytes of a type. A decoder may reject a field: the walk stops there, if it didn't
+/// before. If it rejects none, the lines show all bytes: if the walk stops all the same, one line
+/// shows them.
 pub fn lines_of<'a>(
     alloc: Global,
     layouts: &'a Layouts,
@@ -86,7 +86,7 @@ pub fn lines_of<'a>(
     }
 }
 
-// The bytes as one line, of which nothing is known.
+// The bytes as one line: nothing is known about them.
 fn unread<'a>(
     alloc: Global,
     bytes: &'a [u8],
@@ -104,7 +104,7 @@ fn unread<'a>(
     Ok(Walked { lines, stop })
 }
 
-// What is behind the bytes of lines, if these are in a row at the front.
+// What comes after the bytes of the lines, if `bytes` begins with these in a row.
 fn behind<'a>(lines: &[Line<'_>], bytes: &'a [u8]) -> Option<&'a [u8]>
     ensures { IfSome result (λ rest. bytes.now ≡ row lines.now ++ rest.now) }
 {
@@ -118,7 +118,7 @@ fn behind<'a>(lines: &[Line<'_>], bytes: &'a [u8]) -> Option<&'a [u8]>
     Some(rest)
 }
 
-// What is behind the first bytes, if these are the front.
+// What comes after `front`, if `bytes` begins with it.
 fn after<'a>(front: &[u8], bytes: &'a [u8]) -> Option<&'a [u8]>
     ensures { IfSome result (λ rest. bytes.now ≡ front.now ++ rest.now) }
 {
@@ -240,7 +240,7 @@ impl<'a> Walk<'a> {
         }
     }
 
-    /// Takes so many bytes, if there are as many.
+    /// Takes `count` bytes, if there are that many.
     pub(crate) fn take(&mut self, count: usize) -> Option<&'a [u8]> {
         let (front, rest) = self.rest.split_at_checked(count)?;
         self.rest = rest;
@@ -264,7 +264,7 @@ impl<'a> Walk<'a> {
         Ok(())
     }
 
-    /// Stops if a field at this position is the one that the decoder refuses, or behind it.
+    /// Stops if a field at this position is the one that the decoder rejects, or is after it.
     pub(crate) fn judge(
         &self,
         place: Place<'a>,

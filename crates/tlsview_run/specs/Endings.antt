@@ -78,7 +78,7 @@ TellsLine sink before after line =
 
 -- ---- the program
 
--- a run of this kind ended in some way, and then its line and its status were told
+-- a run of this kind ended in some way, and then its line and its status were reported
 pub record RunsAndTells {S T : Type 0} (kind : List ℕ) (source : SourceGhosts S) (sink : SinkGhosts T)
     (old new : S) (before after : T) (status : ℕ) : Type 0 where
   pub outcome : Result Bool ViewFault
@@ -87,7 +87,7 @@ pub record RunsAndTells {S T : Type 0} (kind : List ℕ) (source : SourceGhosts 
   pub told : TellsLine sink between after (line_of outcome)
   pub ended : status ≡ status_of outcome
 
--- without a kind nothing is read, and the line of the fault is told
+-- without a kind nothing is read, and the line of the fault is printed
 pub record TellsFault {S T : Type 0} (fault : ViewFault) (sink : SinkGhosts T) (old new : S) (before after : T) (status : ℕ) : Type 0 where
   pub unread : new ≡ old
   pub told : TellsLine sink before after (fault_line fault)

@@ -50,7 +50,7 @@ pub record IsAcceptance (spells : Grammar) (text : Tree → List ℕ) (x lines :
   pub hex : encode_lower least ++ encode_lower rest ≡ encode_lower x
   pub shown : lines ≡ ok_line (codes "slice") (text value) rest ++ ok_line (codes "reader") (text value) rest ++ least_line least
 
--- the bytes x begin with no spelling, and the lines show the name of a refusal by each path
+-- the bytes x begin with no spelling, and the lines show the name of an error of each path
 pub record IsRefusal (spells : Grammar) (x lines : List ℕ) : Type 0 where
   pub none : NoneBegins spells x
   pub by_slice : List ℕ

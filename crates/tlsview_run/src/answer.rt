@@ -11,11 +11,11 @@ use std::io;
 use std::io::ErrorKind;
 use tls_codec::{Sink, Source, write_all};
 
-/// Runs the kind that the words name, sends the line of a refusal, and returns the exit status.
+/// Runs the kind that the words name, sends the line of a fault, and returns the exit status.
 ///
-/// The words are the program's name and its arguments, or why std gives none. Then the fault is `Memory` if
-/// memory ran out, and else `Kind`: one of the words, the name among them, isn't UTF-8. If the sink refuses
-/// a line, it is not sent again, and the status stays.
+/// The words are the program's name and its arguments, or why std gives none. Then the fault is
+/// `Memory` if memory ran out, and else `Kind`: one of the words, the name among them, isn't UTF-8.
+/// If the sink refuses a line, it is not sent again, and the status stays.
 pub fn answer<R: Source, W: Sink>(
     alloc: Global,
     words: io::Result<Args>,
@@ -66,7 +66,7 @@ fn only_argument(mut words: Args) -> Option<String>
     }
 }
 
-/// Sends the line of a run that is refused, and returns the exit status.
+/// Sends the line of a run that fails, and returns the exit status.
 fn end<W: Sink>(outcome: Result<bool, ViewFault>, out: &mut W) -> u8
     ensures told { TellsLine W.Sink out.old out.new (line_of outcome) }
     ensures status { result ≡ status_of outcome }

@@ -11,7 +11,7 @@
 //! least 010007
 //! ```
 //!
-//! Bytes that begin with no spelling give two lines such as `slice refused EndOfStream`. The exit
+//! Bytes that begin with no encoding give two lines such as `slice refused EndOfStream`. The exit
 //! status is 0 if a value is read, 1 if none is, and 2 if there is no view. Then the only line is
 //! `error kind`, `error long`, `error read`, `error hex` or `error memory`; if standard output
 //! failed, there is none.
@@ -20,7 +20,8 @@
 //! arguments are programs of the same text.
 //!
 //! - [`answer`]: [`answer`](answer::answer), the program over its words, any input and any sink.
-//! - [`run`]: [`run`](run::run), of one kind, and what types the kinds are. `view_input` has how its input is read.
+//! - [`run`]: [`run`](run::run), of one kind, and what types the kinds are. `view_input` has how
+//!   its input is read.
 //! - [`view`]: the lines that are printed of some bytes.
 //! - [`show`]: [`Show`](show::Show), the text of a value.
 //! - [`fault`]: [`ViewFault`](fault::ViewFault), why there is no view.

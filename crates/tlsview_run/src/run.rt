@@ -14,7 +14,7 @@ use view_input::text::{decode, read_text};
 /// Reads the input, and prints the view of the bytes that it stands for, by the type of the kind of
 /// this name.
 ///
-/// The name is compared byte for byte, before the input is read. Of the refusals only `Write` may
+/// The name is compared byte for byte, before the input is read. Of the faults only `Write` may
 /// come after something was sent.
 pub fn run<R: Source, W: Sink>(
     alloc: Global,

@@ -13,7 +13,7 @@ use tls_codec::Error;
 pub struct View {
     /// The lines, each ended by a line feed.
     pub lines: String,
-    /// Whether the bytes begin with a spelling.
+    /// Whether the bytes begin with an encoding.
     pub accepted: bool,
 }
 
@@ -52,7 +52,7 @@ pub fn view_of<T: Show>(alloc: Global, bytes: &[u8]) -> Result<View, ViewFault>
     }
 }
 
-/// The two paths accept the same bytes, so one that refuses what the other accepts is out of
+/// The two paths accept the same bytes, so one that rejects what the other accepts is out of
 /// memory.
 fn no_memory(_error: Error) -> ViewFault
     requires { _error ≡ OutOfMemory }
@@ -79,7 +79,7 @@ fn show_value<T: Show>(
     out.push_str("\n")
 }
 
-/// Appends the line of a path that refuses. A refusal for memory has no line.
+/// Appends the line of a path that rejects the bytes. An `OutOfMemory` has no line.
 fn show_refusal(out: &mut String, path: &str, error: Error) -> Result<(), ViewFault>
     ensures line { OnOk result (string_bytes out.new
         ≡ string_bytes out.old ++ refused_line path.now (name_of error)) }
@@ -96,8 +96,8 @@ fn show_refusal(out: &mut String, path: &str, error: Error) -> Result<(), ViewFa
 
 /// Appends the line of the value's shortest form.
 ///
-/// A value that was read has a shortest form, no longer than what was read. So an encoder refuses
-/// it only if memory runs out.
+/// A value that was read has a shortest form, no longer than what was read. So an encoder fails
+/// only if memory runs out.
 fn show_least<T: Show>(alloc: Global, out: &mut String, value: &T) -> Result<(), AllocError>
     ensures { OnOk result
         (AppendsLeast T.format.spells (T.plain value.now) (string_bytes out.old)

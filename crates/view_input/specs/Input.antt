@@ -46,12 +46,12 @@ WhyNoBytes text _ = ⊥
 abbrev pub longest : ℕ
 longest = 1048576
 
--- the bytes that were to come, if they are told, are these
+-- the bytes that were to come, if they are known, are these
 abbrev pub IsWhole : Option (List ℕ) → List ℕ → Type 0
 IsWhole None text = ⊤
 IsWhole (Some coming) text = coming ≡ text
 
--- more bytes were to come, if they are told, than an input may have
+-- more bytes were to come, if they are known, than an input may have
 abbrev pub IsTooLong : Option (List ℕ) → Type 0
 IsTooLong None = ⊤
 IsTooLong (Some coming) = longest < length coming

@@ -63,7 +63,8 @@ fn refused_entries(rt: HostRuntime) -> Result<(), Fail> {
     Ok(())
 }
 
-// The chain's length ends within its last certificate: a slice shows the byte behind it, and a source doesn't.
+// The chain's length ends within its last certificate: a slice shows the byte after it, and a
+// source doesn't.
 #[test]
 fn an_end_within_a_certificate(rt: HostRuntime) -> Result<(), Fail> {
     let alloc = rt.alloc();

@@ -32,7 +32,7 @@ where
     Ok(())
 }
 
-// Each decoder refuses the bytes with this error.
+// Each decoder rejects the bytes with this error.
 pub(super) fn is_refused<T: Deserialize + DeserializeBytes>(
     rt: &impl Abort,
     alloc: Global,
@@ -99,7 +99,7 @@ pub(super) fn is_misfit<C: Size, T: SerializeFor<C>>(
     Ok(())
 }
 
-// Each decoder refuses the bytes in a context with this error.
+// Each decoder rejects the bytes in a context with this error.
 pub(super) fn is_refused_in<C: Size, T: DeserializeFor<C> + DeserializeBytesFor<C>>(
     rt: &impl Abort,
     alloc: Global,

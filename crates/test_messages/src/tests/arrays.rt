@@ -12,7 +12,7 @@ fn three_data(alloc: Global, data: &[[u8; 3]]) -> Result<ThreeData, Error> {
     Ok(ThreeData { data_ })
 }
 
-// Each encoder refuses the value, and nothing of it is sent.
+// Each encoder rejects the value, and nothing of it is sent.
 fn is_not_written<T: Serialize>(rt: &impl Abort, alloc: Global, value: &T) {
     let refused = Some(Error::InvalidVectorLength);
     same(rt, value.tls_serialize_detached(alloc).err(), refused);

@@ -61,7 +61,8 @@ pub(super) fn is_written<T: Serialize + Eq + Debug + Clone>(
     Ok(())
 }
 
-// Each decoder refuses each proper prefix of the bytes, and it is rejected with the error of the slice's.
+// Each decoder rejects each proper prefix of the bytes, and validation rejects it with the error of
+// the slice's.
 fn is_cut_off<T: Deserialize + Validate>(rt: &impl Abort, alloc: Global, bytes: &[u8]) {
     for length in 0..bytes.len() {
         let prefix = &bytes[..length];
@@ -79,7 +80,7 @@ fn is_cut_off<T: Deserialize + Validate>(rt: &impl Abort, alloc: Global, bytes: 
     }
 }
 
-// Each decoder refuses the bytes with this error.
+// Each decoder rejects the bytes with this error.
 pub(super) fn is_refused<T: Deserialize + Validate>(
     rt: &impl Abort,
     alloc: Global,
@@ -89,8 +90,8 @@ pub(super) fn is_refused<T: Deserialize + Validate>(
     is_refused_by::<T>(rt, alloc, bytes, error, error);
 }
 
-// To the end of the bytes, a slice's decoder refuses them with one error, with which they are rejected too, and a source's
-// with another.
+// To the end of the bytes, a slice's decoder rejects them with one error, as does validation, and a
+// source's with another.
 pub(super) fn is_refused_by<T: Deserialize + Validate>(
     rt: &impl Abort,
     alloc: Global,

@@ -40,7 +40,8 @@ fn by_a_number(rt: HostRuntime) -> Result<(), Fail> {
     Ok(())
 }
 
-// A tag without a case, a byte behind each case, and a length of `tail` that is one too great and one too small.
+// A tag without a case, a byte after each case, and a length of `tail` that is one too great and
+// one too small.
 #[test]
 fn refused_by_a_number(rt: HostRuntime) -> Result<(), Fail> {
     let alloc = rt.alloc();
@@ -129,7 +130,7 @@ fn among_fields(rt: HostRuntime) -> Result<(), Fail> {
 }
 
 // A certificate of no bytes; then lengths of the select's field that are one too great and one too small, so that what
-// comes after it isn't `second` and `last`; the bytes of the other case; and a byte behind all.
+// comes after it isn't `second` and `last`; the bytes of the other case; and a byte after all.
 #[test]
 fn refused_among_fields(rt: HostRuntime) -> Result<(), Fail> {
     let alloc = rt.alloc();
@@ -212,8 +213,8 @@ fn no_entry_and_entries_of_two_cases(rt: HostRuntime) -> Result<(), Fail> {
     Ok(())
 }
 
-// A list that ends within its entry, one that goes on after it, and none, with bytes behind it; then the first two of
-// keys, and bytes of the other case.
+// A list that ends within its entry, one that goes on after it, and none, with bytes after it; then
+// the first two of keys, and bytes of the other case.
 #[test]
 fn refused_lists(rt: HostRuntime) -> Result<(), Fail> {
     let alloc = rt.alloc();

@@ -46,7 +46,7 @@ static CARRIER: [u8; 17] = [
     3, 7, 0, 8, // more
 ];
 
-// The tag itself decides a struct and two lists behind it.
+// The tag itself decides a struct and two lists after it.
 #[test]
 fn a_tag_before_what_it_decides(rt: HostRuntime) -> Result<(), Fail> {
     let alloc = rt.alloc();

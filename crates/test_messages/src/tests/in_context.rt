@@ -82,8 +82,8 @@ pub(super) fn is_misfit<C: Size, T: SerializeFor<C>>(
     Ok(())
 }
 
-// To the end of the bytes, a slice's decoder refuses them with one error, with which they are rejected too, and a source's
-// with another.
+// To the end of the bytes, a slice's decoder rejects them with one error, as does validation, and a
+// source's with another.
 pub(super) fn is_refused_in<C: Keyed, T: DeserializeFor<C> + ValidateFor<C>>(
     rt: &impl Abort,
     alloc: Global,

@@ -1,4 +1,4 @@
-//! Messages of MLS (RFC 9420), spelled field by field.
+//! Messages of MLS (RFC 9420), encoded field by field.
 use crate::tests::each_call::is_spelled;
 use crate::tests::{holds, same, same_at};
 use mls::{CipherSuite, Credential, LeafNodeOrigin, Lifetime, MLSMessage, Sender, WireFormatData};
@@ -310,7 +310,8 @@ fn replaced(
     Ok(out)
 }
 
-// With others in place of the byte at a place, the exact forms refuse the bytes with these errors.
+// With others in place of the byte at a position, the exact forms reject the bytes with these
+// errors.
 fn is_told(
     rt: &impl Abort,
     alloc: Global,

@@ -1,4 +1,4 @@
-//! Values that are made of what their case has, and the tag that each tells.
+//! Values that are made of what their case has, and the tag of each.
 use crate::tests::same;
 use messages_of_each_shape::{ByVersion, VersionData};
 use mls::{Proposal, ProposalType, Remove, Sender, SenderType};

@@ -1,4 +1,4 @@
-//! Parts of messages of MLS (RFC 9420), each alone, spelled field by field.
+//! Parts of messages of MLS (RFC 9420), each alone, encoded field by field.
 use crate::tests::each_call::{is_refused, is_spelled, is_written};
 use mls::{
     Certificate, CipherSuite, Commit, Credential, GroupContext, InterimTranscriptHashInput,

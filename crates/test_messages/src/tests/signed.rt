@@ -241,7 +241,8 @@ fn is_misfit(rt: &impl Abort, alloc: Global, message: &PublicMessage) {
     );
 }
 
-// What the transcript's hash is over (section 8.2): the message up to its signature, but for the version, and then that.
+// What the transcript's hash is over (section 8.2): the message up to its signature, without the
+// version, and then the signature.
 #[test]
 fn the_transcript_of_a_commit(rt: HostRuntime) -> Result<(), Fail> {
     let alloc = rt.alloc();

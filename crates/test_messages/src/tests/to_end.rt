@@ -1,4 +1,4 @@
-//! What goes to the end of what is read: any bytes, and a type with zeros behind it.
+//! What goes to the end of what is read: any bytes, and a type with zeros after it.
 use crate::tests::same;
 use messages_of_each_shape::{Beat, BodyKind, Inner};
 use std::test::Fail;
@@ -22,7 +22,7 @@ fn bytes_to_the_end(rt: HostRuntime) -> Result<(), Fail> {
     let mut out = [7].to_vec(alloc)?;
     same(&rt, found.tls_serialize_into(&mut out), Ok(8));
     same(&rt, out.get(1..), Some(bytes));
-    // no bytes behind it, and too few in it
+    // no bytes after it, and too few in it
     let found = <Followed<Beat>>::tls_deserialize_exact_bytes(alloc, &bytes[..5])?;
     same(&rt, found.rest.as_slice(), [].as_slice());
     let cut_off = <Followed<Beat>>::tls_deserialize_exact_bytes(alloc, &bytes[..4]).err();

@@ -12,8 +12,8 @@ use std::process::Abort;
 use std::test::Fail;
 use tls_codec::Error;
 
-// A message that TLS 1.3 has. A parser in Python, of these messages alone, gave the types of its extensions in their
-// order, and those of which RFC 8446 has the structure.
+// A message that TLS 1.3 has. A parser in Python, of these messages alone, gave the types of its
+// extensions in their order, and those whose structure RFC 8446 has.
 pub(super) struct Row {
     pub name: &'static str,
     pub digits: &'static [&'static str],

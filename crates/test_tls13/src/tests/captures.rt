@@ -9,7 +9,8 @@ use test_support::rows::{done_at, same, same_at};
 use tls_codec::DeserializeBytes;
 use tls13::{Alert, AlertDescription, AlertLevel, Handshake, HandshakeType};
 
-// Opens each message of a run, and tells how many extensions these have and how many of them RFC 8446 has.
+// Opens each message of a run, and checks how many extensions these have and how many of them
+// RFC 8446 has.
 fn opens_run(
     rt: &impl Abort,
     alloc: Global,

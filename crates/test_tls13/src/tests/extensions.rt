@@ -19,7 +19,7 @@ static RETRY: Random = [
     0xc2, 0xa2, 0x11, 0x16, 0x7a, 0xbb, 0x8c, 0x5e, 0x07, 0x9e, 0x09, 0xe2, 0xc8, 0xa8, 0x33, 0x9c,
 ];
 
-// A message: where it stands, its type, and whether it asks its client to try again.
+// A message: where it is, its type, and whether it asks its client to try again.
 #[derive(Drop)]
 pub(super) struct Place<'a> {
     pub row: &'a str,

@@ -108,7 +108,7 @@ fn refused_lengths(rt: HostRuntime) -> Result<(), Fail> {
     Ok(())
 }
 
-// Its hash has one byte then, and another is behind it.
+// Its hash has one byte then, and another byte comes after it.
 #[test]
 fn a_finished_of_one_less(rt: HostRuntime) -> Result<(), Fail> {
     let alloc = rt.alloc();
@@ -120,7 +120,8 @@ fn a_finished_of_one_less(rt: HostRuntime) -> Result<(), Fail> {
     Ok(())
 }
 
-// Those of earlier versions, of which TLS 1.3 has no structure, one of a transcript alone (254), and others.
+// Those of earlier versions, whose structure TLS 1.3 doesn't have, one of a transcript alone (254),
+// and others.
 #[test]
 fn refused_types(rt: HostRuntime) -> Result<(), Fail> {
     let alloc = rt.alloc();

@@ -80,7 +80,7 @@ fn client_hellos(rt: HostRuntime) -> Result<(), Fail> {
     Ok(())
 }
 
-// Any other is refused before what follows it is read.
+// Any other is rejected before what follows it is read.
 #[test]
 fn versions_of_hellos(rt: HostRuntime) -> Result<(), Fail> {
     let alloc = rt.alloc();

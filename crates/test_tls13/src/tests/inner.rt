@@ -36,7 +36,7 @@ fn read_and_written(rt: HostRuntime) -> Result<(), Fail> {
     Ok(())
 }
 
-// Behind other bytes, and as many as are announced.
+// After other bytes, and as many as are announced.
 fn is_written(
     alloc: Global,
     row: &str,

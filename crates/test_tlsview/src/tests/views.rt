@@ -49,7 +49,7 @@ fn values_are_shown(rt: HostRuntime) -> Result<(), Fail> {
     Ok(())
 }
 
-// Each of these rows has a kind, the hex of some bytes, and the refusals by slice and by reader.
+// Each of these rows has a kind, the hex of some bytes, and the errors by slice and by reader.
 #[test]
 fn bytes_without_a_spelling_are_refused(rt: HostRuntime) -> Result<(), Fail> {
     let ended = "EndOfStream";

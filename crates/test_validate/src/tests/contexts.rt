@@ -140,7 +140,7 @@ fn keys_in_bytes(rt: HostRuntime) {
     );
 }
 
-// The tag is in a struct before, behind two other bytes.
+// The tag is in a struct before, after two other bytes.
 #[test]
 fn tags_that_a_struct_holds(rt: HostRuntime) {
     type Message = Then<Framed, By<u8, Body>>;

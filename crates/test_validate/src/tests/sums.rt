@@ -1,4 +1,5 @@
-// Sums of cases, and values inside a length. The bytes are those of RFC 8446, section 4, but for the types of the parts.
+// Sums of cases, and values inside a length. The bytes are those of RFC 8446, section 4, except the
+// types of the parts.
 use super::{rejected, same};
 use tls_codec::{Error, U24, VLBytes};
 use tls_codec_cases::{Case, Else, Enclosed, Or, Tagged};

@@ -10,8 +10,8 @@ use ct::{
     SignedCertificateTimestampTBS, TimestampedEntry, TreeHeadSignature, X509ChainEntry,
 };
 
-/// What is behind the message of this type that bytes begin with, or why there is none. Nothing for
-/// a name that is no type's.
+/// The bytes after the message of this type that `bytes` begins with, or why there is none. `None`:
+/// no type has the name.
 pub fn check<'a>(name: &str, bytes: &'a [u8]) -> Option<Checked<'a>>
     ensures { FirstNamed ct_kinds name.now (λ k. Checks k.format bytes.now result)
         (result ≡ None) }

@@ -19,8 +19,8 @@ use mls_proposals::{
     Update, UpdatePath, UpdatePathNode, Welcome,
 };
 
-/// What is behind the message of this type that bytes begin with, or why there is none. Nothing for
-/// a name that is no type's.
+/// The bytes after the message of this type that `bytes` begins with, or why there is none. `None`:
+/// no type has the name.
 pub fn check<'a>(name: &str, bytes: &'a [u8]) -> Option<Checked<'a>>
     ensures { FirstNamed mls_kinds name.now (λ k. Checks k.format bytes.now result)
         (result ≡ None) }

@@ -87,7 +87,7 @@ impl<'a> Walk<'a> {
         Ok(())
     }
 
-    // An integer of so many bytes, of this type and in a field of this name.
+    // An integer of `width` bytes, of this type and in a field of this name.
     fn number(
         &mut self,
         place: Place<'a>,
@@ -118,7 +118,7 @@ impl<'a> Walk<'a> {
         self.add(place, bytes, shown)
     }
 
-    // Bounds the select right behind a number that counts its bytes.
+    // Bounds the select right after a number that counts its bytes.
     fn enclose(
         &mut self,
         place: Place<'a>,

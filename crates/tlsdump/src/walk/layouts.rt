@@ -19,7 +19,7 @@ pub struct Layouts {
 pub enum Kind<'a> {
     /// A byte.
     Opaque,
-    /// An integer of so many bytes.
+    /// An integer of this number of bytes.
     Number(usize),
     Enum(&'a Enum),
     Struct(&'a Struct),

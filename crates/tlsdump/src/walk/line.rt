@@ -23,11 +23,11 @@ pub enum Label<'a> {
 /// What a line's bytes are.
 #[derive(Clone, Copy)]
 pub enum Shown<'a> {
-    /// None: the fields of a struct of this name are below.
+    /// No bytes: the fields of a struct of this name are below.
     Struct(&'a str),
-    /// The length of a list with so many elements, which are below.
+    /// The length of a list with this number of elements, which are below.
     List(usize),
-    /// The length of a list that ends at a refusal, after so many elements.
+    /// The length of a list that ends at a rejected field, after this number of elements.
     Cut(usize),
     /// The tag of an option that holds a value of this type, which is below.
     Present(&'a str),
@@ -37,17 +37,17 @@ pub enum Shown<'a> {
     Number,
     /// A number of a registry or an enum, with its name if it has one.
     Code(Option<&'a str>),
-    /// A length, whose own bytes are so many, and the bytes after it. They were to be of this type,
-    /// and aren't.
+    /// A length, which takes this number of bytes, and the bytes after it. These were expected to
+    /// be of this type, and aren't.
     Bytes(usize, Option<&'a str>),
-    /// The length of bytes, so many, that are of this type, which is below.
+    /// The length, which takes this number of bytes, of bytes of this type. Their lines are below.
     Opened(usize, &'a str),
-    /// Bytes of which nothing is known.
+    /// Bytes about which nothing is known.
     Unread,
 }
 
 impl<'a> Line<'a> {
-    /// The bytes behind a length.
+    /// The bytes after a length.
     pub fn content(&self) -> &'a [u8] {
         let length = match self.shown {
             Shown::Bytes(length, _) | Shown::Opened(length, _) => length,

@@ -1,4 +1,4 @@
-//! The numbers that were read, on which selects and lengths behind them may be.
+//! The numbers that were read: selects and lengths after them may depend on them.
 
 use std::alloc::{AllocFailed, Global};
 

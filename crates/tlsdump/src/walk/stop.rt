@@ -39,9 +39,9 @@ pub enum Expected<'a> {
 /// What is there.
 #[derive(Clone, Copy)]
 pub enum Found {
-    /// So many bytes, and no more.
+    /// This number of bytes, and no more.
     Left(usize),
-    /// A length of so many bytes, and then so many.
+    /// The number of bytes that a length announces, and the number of bytes after it.
     Announced(usize, usize),
     /// A length out of its bounds.
     Length(usize),
@@ -49,7 +49,7 @@ pub enum Found {
     Spelling,
     /// A number.
     Number(u64),
-    /// What the decoder refuses, and the walk doesn't.
+    /// Bytes that the decoder rejects, and the walk doesn't.
     Refused,
 }
 

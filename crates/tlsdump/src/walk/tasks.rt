@@ -37,7 +37,7 @@ pub(crate) struct Elements<'a> {
     pub begun: usize,
     /// How many bytes were left as the last one began.
     pub left: usize,
-    /// What comes behind the list.
+    /// What comes after the list.
     pub after: &'a [u8],
 }
 
@@ -46,7 +46,7 @@ pub(crate) struct Elements<'a> {
 pub(crate) struct Leave<'a> {
     /// What it is that ends.
     pub of: &'a str,
-    /// What comes behind it.
+    /// What comes after it.
     pub after: &'a [u8],
     /// It was opened: a walk that stops in it shows its bytes.
     pub is_opened: bool,

@@ -8,7 +8,7 @@ use crate::walk::tasks::{Elements, Leave, Place, Task};
 use crate::walk::{Opening, Walk, stop_at};
 use tlsgen_syntax::syntax::{Field, Name, Said, Vector};
 
-// A length as it stands before a content.
+// A length in front of a content.
 #[derive(Clone, Copy)]
 struct Length<'a> {
     // Where it begins, and the bytes from there on.
@@ -119,7 +119,7 @@ impl<'a> Walk<'a> {
         })
     }
 
-    // What is behind a length: bytes, or a list.
+    // What comes after a length: bytes, or a list.
     fn content(
         &mut self,
         place: Place<'a>,

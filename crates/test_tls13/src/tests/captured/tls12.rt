@@ -39,8 +39,9 @@ pub(in crate::tests) static ROWS: [Row; 4] = [
     },
 ];
 
-// Read as TLS 1.3's, the certificate begins with a list of 99,584 bytes, of which 388 are there, and the ticket has a
-// nonce of 86 bytes and then 8,839 bytes, of which 85 are there. The other types are reserved.
+// Read as TLS 1.3's, the certificate begins with a list of 99,584 bytes: 388 of them are there. The
+// ticket has a nonce of 86 bytes and then 8,839 bytes: 85 of these are there. The other types are
+// reserved.
 pub(in crate::tests) static REFUSED: [Refused; 5] = [
     Refused {
         name: "tls12-03-s-Certificate",
