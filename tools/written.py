@@ -21,13 +21,10 @@ RUNS = {
 for at, name in enumerate(MLS):
     more = ["--notes", f"{name}.notes"] + [word for other in MLS[:at] for word in ("--with", f"{other}={other}.tls,{other}.notes")]
     RUNS[name] = (name, name, more)
-    RUNS[f"{name}_shown"] = ("mls_shown", name, [*more, "--show"])
 
 
-def files_of(run, crate):
-    """The files that are compared: those of the crate, or one module."""
-    if run.endswith("_shown"):
-        return [f"src/{run}.rt"]
+def files_of(crate):
+    """The files that are compared, by their paths in the crate."""
     folder = CRATES / crate
     return [str(it.relative_to(folder)) for part in ("src", "specs", "proofs") for it in sorted(folder.glob(f"{part}/**/*")) if it.is_file()]
 
@@ -39,9 +36,8 @@ def main():
     with tempfile.TemporaryDirectory() as cases:
         for run, (crate, text, more) in RUNS.items():
             pathlib.Path(cases, run).touch()
-            name = run.removesuffix("_shown")
-            pathlib.Path(cases, f"{run}.args").write_text("\n".join([f"{text}.tls", "--crate", name, *more, "--compare", f"of_{run}"]) + "\n")
-            for file in files_of(run, crate):
+            pathlib.Path(cases, f"{run}.args").write_text("\n".join([f"{text}.tls", "--crate", run, *more, "--compare", f"of_{run}"]) + "\n")
+            for file in files_of(crate):
                 words += ["--data", f"of_{run}/{file}={CRATES / crate / file}"]
         ran = subprocess.run(["rt", "try", "--cases", cases, *words], cwd=CRATES / "tlsgen", capture_output=True, text=True)
     told = ran.stdout + ran.stderr

@@ -139,7 +139,7 @@ pub mod tls13 {
             pub body: Span,
         }
 
-        /// Where the fields of a `ClientHello` are (RFC 8446, section 4.1.2). Of `opaque` it is the bytes without their length.
+        /// Where the fields of a `ClientHello` are (RFC 8446, section 4.1.2). A span of `opaque` has the bytes without their length.
         #[repr(C)]
         #[derive(Clone, Copy, Default)]
         pub struct ClientHelloFields {
@@ -151,7 +151,7 @@ pub mod tls13 {
             pub extensions: Span,
         }
 
-        /// Where the fields of a `ServerHello` are (RFC 8446, section 4.1.3). Of `opaque` it is the bytes without their length.
+        /// Where the fields of a `ServerHello` are (RFC 8446, section 4.1.3). A span of `opaque` has the bytes without their length.
         #[repr(C)]
         #[derive(Clone, Copy, Default)]
         pub struct ServerHelloFields {
@@ -170,7 +170,7 @@ pub mod tls13 {
             pub extensions: Span,
         }
 
-        /// Where the fields of a `CertificateRequest` are (RFC 8446, section 4.3.2). Of `opaque` it is the bytes without their length.
+        /// Where the fields of a `CertificateRequest` are (RFC 8446, section 4.3.2). A span of `opaque` has the bytes without their length.
         #[repr(C)]
         #[derive(Clone, Copy, Default)]
         pub struct CertificateRequestFields {
@@ -178,7 +178,7 @@ pub mod tls13 {
             pub extensions: Span,
         }
 
-        /// Where the fields of a `Certificate` are (RFC 8446, section 4.4.2). Of `opaque` it is the bytes without their length.
+        /// Where the fields of a `Certificate` are (RFC 8446, section 4.4.2). A span of `opaque` has the bytes without their length.
         #[repr(C)]
         #[derive(Clone, Copy, Default)]
         pub struct CertificateFields {
@@ -186,7 +186,7 @@ pub mod tls13 {
             pub certificate_list: Span,
         }
 
-        /// Where the fields of a `CertificateVerify` are (RFC 8446, section 4.4.3). Of `opaque` it is the bytes without their length.
+        /// Where the fields of a `CertificateVerify` are (RFC 8446, section 4.4.3). A span of `opaque` has the bytes without their length.
         #[repr(C)]
         #[derive(Clone, Copy, Default)]
         pub struct CertificateVerifyFields {
@@ -194,7 +194,7 @@ pub mod tls13 {
             pub signature: Span,
         }
 
-        /// Where the fields of a `NewSessionTicket` are (RFC 8446, section 4.6.1). Of `opaque` it is the bytes without their length.
+        /// Where the fields of a `NewSessionTicket` are (RFC 8446, section 4.6.1). A span of `opaque` has the bytes without their length.
         #[repr(C)]
         #[derive(Clone, Copy, Default)]
         pub struct NewSessionTicketFields {
@@ -212,7 +212,7 @@ pub mod tls13 {
             pub request_update: Span,
         }
 
-        /// Where the fields of a `TLSPlaintext` are (RFC 8446, section 5.1). Of `opaque` it is the bytes without their length.
+        /// Where the fields of a `TLSPlaintext` are (RFC 8446, section 5.1). A span of `opaque` has the bytes without their length.
         #[repr(C)]
         #[derive(Clone, Copy, Default)]
         pub struct TLSPlaintextFields {
@@ -221,7 +221,7 @@ pub mod tls13 {
             pub fragment: Span,
         }
 
-        /// Where the fields of a `TLSCiphertext` are (RFC 8446, section 5.2). Of `opaque` it is the bytes without their length.
+        /// Where the fields of a `TLSCiphertext` are (RFC 8446, section 5.2). A span of `opaque` has the bytes without their length.
         #[repr(C)]
         #[derive(Clone, Copy, Default)]
         pub struct TLSCiphertextFields {
@@ -352,7 +352,7 @@ pub mod tls13 {
         Ok((fields, rest))
     }
 
-    /// Where the fields of a `ClientHello` are (RFC 8446, section 4.1.2). Of `opaque` it is the bytes without their length.
+    /// Where the fields of a `ClientHello` are (RFC 8446, section 4.1.2). A span of `opaque` has the bytes without their length.
     #[derive(Clone, Copy, PartialEq, Eq, Debug)]
     pub struct ClientHelloFields<'a> {
         /// `ProtocolVersion legacy_version = 0x0303;`
@@ -386,7 +386,7 @@ pub mod tls13 {
         Ok((fields, rest))
     }
 
-    /// Where the fields of a `ServerHello` are (RFC 8446, section 4.1.3). Of `opaque` it is the bytes without their length.
+    /// Where the fields of a `ServerHello` are (RFC 8446, section 4.1.3). A span of `opaque` has the bytes without their length.
     #[derive(Clone, Copy, PartialEq, Eq, Debug)]
     pub struct ServerHelloFields<'a> {
         /// `ProtocolVersion legacy_version = 0x0303;`
@@ -439,7 +439,7 @@ pub mod tls13 {
         Ok((fields, rest))
     }
 
-    /// Where the fields of a `CertificateRequest` are (RFC 8446, section 4.3.2). Of `opaque` it is the bytes without their length.
+    /// Where the fields of a `CertificateRequest` are (RFC 8446, section 4.3.2). A span of `opaque` has the bytes without their length.
     #[derive(Clone, Copy, PartialEq, Eq, Debug)]
     pub struct CertificateRequestFields<'a> {
         /// `opaque certificate_request_context<0..2^8-1>;`
@@ -461,7 +461,7 @@ pub mod tls13 {
         Ok((fields, rest))
     }
 
-    /// Where the fields of a `Certificate` are (RFC 8446, section 4.4.2). Of `opaque` it is the bytes without their length.
+    /// Where the fields of a `Certificate` are (RFC 8446, section 4.4.2). A span of `opaque` has the bytes without their length.
     #[derive(Clone, Copy, PartialEq, Eq, Debug)]
     pub struct CertificateFields<'a> {
         /// `opaque certificate_request_context<0..2^8-1>;`
@@ -483,7 +483,7 @@ pub mod tls13 {
         Ok((fields, rest))
     }
 
-    /// Where the fields of a `CertificateVerify` are (RFC 8446, section 4.4.3). Of `opaque` it is the bytes without their length.
+    /// Where the fields of a `CertificateVerify` are (RFC 8446, section 4.4.3). A span of `opaque` has the bytes without their length.
     #[derive(Clone, Copy, PartialEq, Eq, Debug)]
     pub struct CertificateVerifyFields<'a> {
         /// `SignatureScheme algorithm;`
@@ -505,7 +505,7 @@ pub mod tls13 {
         Ok((fields, rest))
     }
 
-    /// Where the fields of a `NewSessionTicket` are (RFC 8446, section 4.6.1). Of `opaque` it is the bytes without their length.
+    /// Where the fields of a `NewSessionTicket` are (RFC 8446, section 4.6.1). A span of `opaque` has the bytes without their length.
     #[derive(Clone, Copy, PartialEq, Eq, Debug)]
     pub struct NewSessionTicketFields<'a> {
         /// `uint32 ticket_lifetime;`
@@ -555,7 +555,7 @@ pub mod tls13 {
         Ok((fields, rest))
     }
 
-    /// Where the fields of a `TLSPlaintext` are (RFC 8446, section 5.1). Of `opaque` it is the bytes without their length.
+    /// Where the fields of a `TLSPlaintext` are (RFC 8446, section 5.1). A span of `opaque` has the bytes without their length.
     #[derive(Clone, Copy, PartialEq, Eq, Debug)]
     pub struct TLSPlaintextFields<'a> {
         /// `ContentType type;`
@@ -580,7 +580,7 @@ pub mod tls13 {
         Ok((fields, rest))
     }
 
-    /// Where the fields of a `TLSCiphertext` are (RFC 8446, section 5.2). Of `opaque` it is the bytes without their length.
+    /// Where the fields of a `TLSCiphertext` are (RFC 8446, section 5.2). A span of `opaque` has the bytes without their length.
     #[derive(Clone, Copy, PartialEq, Eq, Debug)]
     pub struct TLSCiphertextFields<'a> {
         /// `ContentType opaque_type = application_data;`
@@ -753,7 +753,7 @@ pub mod mls {
             pub membership_tag: Span,
         }
 
-        /// Where the fields of a `PrivateMessage` are (RFC 9420, section 6.3). Of `opaque` it is the bytes without their length.
+        /// Where the fields of a `PrivateMessage` are (RFC 9420, section 6.3). A span of `opaque` has the bytes without their length.
         #[repr(C)]
         #[derive(Clone, Copy, Default)]
         pub struct PrivateMessageFields {
@@ -765,7 +765,7 @@ pub mod mls {
             pub ciphertext: Span,
         }
 
-        /// Where the fields of a `FramedContent` are (RFC 9420, section 6). Of `opaque` it is the bytes without their length.
+        /// Where the fields of a `FramedContent` are (RFC 9420, section 6). A span of `opaque` has the bytes without their length.
         #[repr(C)]
         #[derive(Clone, Copy, Default)]
         pub struct FramedContentFields {
@@ -785,7 +785,7 @@ pub mod mls {
             pub reuse_guard: Span,
         }
 
-        /// Where the fields of a `KeyPackage` are (RFC 9420, section 10). Of `opaque` it is the bytes without their length.
+        /// Where the fields of a `KeyPackage` are (RFC 9420, section 10). A span of `opaque` has the bytes without their length.
         #[repr(C)]
         #[derive(Clone, Copy, Default)]
         pub struct KeyPackageFields {
@@ -797,7 +797,7 @@ pub mod mls {
             pub signature: Span,
         }
 
-        /// Where the fields of a `LeafNode` are (RFC 9420, section 7.2). Of `opaque` it is the bytes without their length.
+        /// Where the fields of a `LeafNode` are (RFC 9420, section 7.2). A span of `opaque` has the bytes without their length.
         #[repr(C)]
         #[derive(Clone, Copy, Default)]
         pub struct LeafNodeFields {
@@ -810,7 +810,7 @@ pub mod mls {
             pub signature: Span,
         }
 
-        /// Where the fields of a `Welcome` are (RFC 9420, section 12.4.3.1). Of `opaque` it is the bytes without their length.
+        /// Where the fields of a `Welcome` are (RFC 9420, section 12.4.3.1). A span of `opaque` has the bytes without their length.
         #[repr(C)]
         #[derive(Clone, Copy, Default)]
         pub struct WelcomeFields {
@@ -819,7 +819,7 @@ pub mod mls {
             pub encrypted_group_info: Span,
         }
 
-        /// Where the fields of a `GroupSecrets` are (RFC 9420, section 12.4.3.1). Of `opaque` it is the bytes without their length.
+        /// Where the fields of a `GroupSecrets` are (RFC 9420, section 12.4.3.1). A span of `opaque` has the bytes without their length.
         #[repr(C)]
         #[derive(Clone, Copy, Default)]
         pub struct GroupSecretsFields {
@@ -828,7 +828,7 @@ pub mod mls {
             pub psks: Span,
         }
 
-        /// Where the fields of a `GroupInfo` are (RFC 9420, section 12.4.3). Of `opaque` it is the bytes without their length.
+        /// Where the fields of a `GroupInfo` are (RFC 9420, section 12.4.3). A span of `opaque` has the bytes without their length.
         #[repr(C)]
         #[derive(Clone, Copy, Default)]
         pub struct GroupInfoFields {
@@ -839,7 +839,7 @@ pub mod mls {
             pub signature: Span,
         }
 
-        /// Where the fields of a `GroupContext` are (RFC 9420, section 8.1). Of `opaque` it is the bytes without their length.
+        /// Where the fields of a `GroupContext` are (RFC 9420, section 8.1). A span of `opaque` has the bytes without their length.
         #[repr(C)]
         #[derive(Clone, Copy, Default)]
         pub struct GroupContextFields {
@@ -1023,7 +1023,7 @@ pub mod mls {
         Ok((fields, rest))
     }
 
-    /// Where the fields of a `PrivateMessage` are (RFC 9420, section 6.3). Of `opaque` it is the bytes without their length.
+    /// Where the fields of a `PrivateMessage` are (RFC 9420, section 6.3). A span of `opaque` has the bytes without their length.
     #[derive(Clone, Copy, PartialEq, Eq, Debug)]
     pub struct PrivateMessageFields<'a> {
         /// `opaque group_id<V>;`
@@ -1057,7 +1057,7 @@ pub mod mls {
         Ok((fields, rest))
     }
 
-    /// Where the fields of a `FramedContent` are (RFC 9420, section 6). Of `opaque` it is the bytes without their length.
+    /// Where the fields of a `FramedContent` are (RFC 9420, section 6). A span of `opaque` has the bytes without their length.
     #[derive(Clone, Copy, PartialEq, Eq, Debug)]
     pub struct FramedContentFields<'a> {
         /// `opaque group_id<V>;`
@@ -1113,7 +1113,7 @@ pub mod mls {
         Ok((fields, rest))
     }
 
-    /// Where the fields of a `KeyPackage` are (RFC 9420, section 10). Of `opaque` it is the bytes without their length.
+    /// Where the fields of a `KeyPackage` are (RFC 9420, section 10). A span of `opaque` has the bytes without their length.
     #[derive(Clone, Copy, PartialEq, Eq, Debug)]
     pub struct KeyPackageFields<'a> {
         /// `ProtocolVersion version;`
@@ -1147,7 +1147,7 @@ pub mod mls {
         Ok((fields, rest))
     }
 
-    /// Where the fields of a `LeafNode` are (RFC 9420, section 7.2). Of `opaque` it is the bytes without their length.
+    /// Where the fields of a `LeafNode` are (RFC 9420, section 7.2). A span of `opaque` has the bytes without their length.
     #[derive(Clone, Copy, PartialEq, Eq, Debug)]
     pub struct LeafNodeFields<'a> {
         /// `HPKEPublicKey encryption_key;`
@@ -1184,7 +1184,7 @@ pub mod mls {
         Ok((fields, rest))
     }
 
-    /// Where the fields of a `Welcome` are (RFC 9420, section 12.4.3.1). Of `opaque` it is the bytes without their length.
+    /// Where the fields of a `Welcome` are (RFC 9420, section 12.4.3.1). A span of `opaque` has the bytes without their length.
     #[derive(Clone, Copy, PartialEq, Eq, Debug)]
     pub struct WelcomeFields<'a> {
         /// `CipherSuite cipher_suite;`
@@ -1209,7 +1209,7 @@ pub mod mls {
         Ok((fields, rest))
     }
 
-    /// Where the fields of a `GroupSecrets` are (RFC 9420, section 12.4.3.1). Of `opaque` it is the bytes without their length.
+    /// Where the fields of a `GroupSecrets` are (RFC 9420, section 12.4.3.1). A span of `opaque` has the bytes without their length.
     #[derive(Clone, Copy, PartialEq, Eq, Debug)]
     pub struct GroupSecretsFields<'a> {
         /// `opaque joiner_secret<V>;`
@@ -1234,7 +1234,7 @@ pub mod mls {
         Ok((fields, rest))
     }
 
-    /// Where the fields of a `GroupInfo` are (RFC 9420, section 12.4.3). Of `opaque` it is the bytes without their length.
+    /// Where the fields of a `GroupInfo` are (RFC 9420, section 12.4.3). A span of `opaque` has the bytes without their length.
     #[derive(Clone, Copy, PartialEq, Eq, Debug)]
     pub struct GroupInfoFields<'a> {
         /// `GroupContext group_context;`
@@ -1265,7 +1265,7 @@ pub mod mls {
         Ok((fields, rest))
     }
 
-    /// Where the fields of a `GroupContext` are (RFC 9420, section 8.1). Of `opaque` it is the bytes without their length.
+    /// Where the fields of a `GroupContext` are (RFC 9420, section 8.1). A span of `opaque` has the bytes without their length.
     #[derive(Clone, Copy, PartialEq, Eq, Debug)]
     pub struct GroupContextFields<'a> {
         /// `ProtocolVersion version = mls10;`

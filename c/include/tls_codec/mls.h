@@ -18,8 +18,8 @@ typedef struct mls_commit_fields {
   tls_codec_span path;
 } mls_commit_fields;
 
-/* Where the fields of a FramedContent are (RFC 9420, section 6). Of opaque it is the bytes without
-   their length. */
+/* Where the fields of a FramedContent are (RFC 9420, section 6). A span of opaque has the bytes
+   without their length. */
 typedef struct mls_framed_content_fields {
   /* opaque group_id<V>; */
   tls_codec_span group_id;
@@ -33,8 +33,8 @@ typedef struct mls_framed_content_fields {
   tls_codec_span content_type;
 } mls_framed_content_fields;
 
-/* Where the fields of a GroupContext are (RFC 9420, section 8.1). Of opaque it is the bytes without
-   their length. */
+/* Where the fields of a GroupContext are (RFC 9420, section 8.1). A span of opaque has the bytes
+   without their length. */
 typedef struct mls_group_context_fields {
   /* ProtocolVersion version = mls10; */
   tls_codec_span version;
@@ -52,8 +52,8 @@ typedef struct mls_group_context_fields {
   tls_codec_span extensions;
 } mls_group_context_fields;
 
-/* Where the fields of a GroupInfo are (RFC 9420, section 12.4.3). Of opaque it is the bytes without
-   their length. */
+/* Where the fields of a GroupInfo are (RFC 9420, section 12.4.3). A span of opaque has the bytes
+   without their length. */
 typedef struct mls_group_info_fields {
   /* GroupContext group_context; */
   tls_codec_span group_context;
@@ -67,8 +67,8 @@ typedef struct mls_group_info_fields {
   tls_codec_span signature;
 } mls_group_info_fields;
 
-/* Where the fields of a GroupSecrets are (RFC 9420, section 12.4.3.1). Of opaque it is the bytes
-   without their length. */
+/* Where the fields of a GroupSecrets are (RFC 9420, section 12.4.3.1). A span of opaque has the
+   bytes without their length. */
 typedef struct mls_group_secrets_fields {
   /* opaque joiner_secret<V>; */
   tls_codec_span joiner_secret;
@@ -78,8 +78,8 @@ typedef struct mls_group_secrets_fields {
   tls_codec_span psks;
 } mls_group_secrets_fields;
 
-/* Where the fields of a KeyPackage are (RFC 9420, section 10). Of opaque it is the bytes without
-   their length. */
+/* Where the fields of a KeyPackage are (RFC 9420, section 10). A span of opaque has the bytes
+   without their length. */
 typedef struct mls_key_package_fields {
   /* ProtocolVersion version; */
   tls_codec_span version;
@@ -95,8 +95,8 @@ typedef struct mls_key_package_fields {
   tls_codec_span signature;
 } mls_key_package_fields;
 
-/* Where the fields of a LeafNode are (RFC 9420, section 7.2). Of opaque it is the bytes without
-   their length. */
+/* Where the fields of a LeafNode are (RFC 9420, section 7.2). A span of opaque has the bytes
+   without their length. */
 typedef struct mls_leaf_node_fields {
   /* HPKEPublicKey encryption_key; */
   tls_codec_span encryption_key;
@@ -122,7 +122,7 @@ typedef struct mls_message_fields {
   tls_codec_span wire_format;
 } mls_message_fields;
 
-/* Where the fields of a PrivateMessage are (RFC 9420, section 6.3). Of opaque it is the bytes
+/* Where the fields of a PrivateMessage are (RFC 9420, section 6.3). A span of opaque has the bytes
    without their length. */
 typedef struct mls_private_message_fields {
   /* opaque group_id<V>; */
@@ -167,8 +167,8 @@ typedef struct mls_sender_data_fields {
   tls_codec_span reuse_guard;
 } mls_sender_data_fields;
 
-/* Where the fields of a Welcome are (RFC 9420, section 12.4.3.1). Of opaque it is the bytes without
-   their length. */
+/* Where the fields of a Welcome are (RFC 9420, section 12.4.3.1). A span of opaque has the bytes
+   without their length. */
 typedef struct mls_welcome_fields {
   /* CipherSuite cipher_suite; */
   tls_codec_span cipher_suite;

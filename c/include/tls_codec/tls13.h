@@ -18,7 +18,7 @@ typedef struct tls13_alert_fields {
   tls_codec_span description;
 } tls13_alert_fields;
 
-/* Where the fields of a Certificate are (RFC 8446, section 4.4.2). Of opaque it is the bytes
+/* Where the fields of a Certificate are (RFC 8446, section 4.4.2). A span of opaque has the bytes
    without their length. */
 typedef struct tls13_certificate_fields {
   /* opaque certificate_request_context<0..2^8-1>; */
@@ -27,8 +27,8 @@ typedef struct tls13_certificate_fields {
   tls_codec_span certificate_list;
 } tls13_certificate_fields;
 
-/* Where the fields of a CertificateRequest are (RFC 8446, section 4.3.2). Of opaque it is the bytes
-   without their length. */
+/* Where the fields of a CertificateRequest are (RFC 8446, section 4.3.2). A span of opaque has the
+   bytes without their length. */
 typedef struct tls13_certificate_request_fields {
   /* opaque certificate_request_context<0..2^8-1>; */
   tls_codec_span certificate_request_context;
@@ -36,8 +36,8 @@ typedef struct tls13_certificate_request_fields {
   tls_codec_span extensions;
 } tls13_certificate_request_fields;
 
-/* Where the fields of a CertificateVerify are (RFC 8446, section 4.4.3). Of opaque it is the bytes
-   without their length. */
+/* Where the fields of a CertificateVerify are (RFC 8446, section 4.4.3). A span of opaque has the
+   bytes without their length. */
 typedef struct tls13_certificate_verify_fields {
   /* SignatureScheme algorithm; */
   tls_codec_span algorithm;
@@ -45,7 +45,7 @@ typedef struct tls13_certificate_verify_fields {
   tls_codec_span signature;
 } tls13_certificate_verify_fields;
 
-/* Where the fields of a ClientHello are (RFC 8446, section 4.1.2). Of opaque it is the bytes
+/* Where the fields of a ClientHello are (RFC 8446, section 4.1.2). A span of opaque has the bytes
    without their length. */
 typedef struct tls13_client_hello_fields {
   /* ProtocolVersion legacy_version = 0x0303; */
@@ -82,8 +82,8 @@ typedef struct tls13_key_update_fields {
   tls_codec_span request_update;
 } tls13_key_update_fields;
 
-/* Where the fields of a NewSessionTicket are (RFC 8446, section 4.6.1). Of opaque it is the bytes
-   without their length. */
+/* Where the fields of a NewSessionTicket are (RFC 8446, section 4.6.1). A span of opaque has the
+   bytes without their length. */
 typedef struct tls13_new_session_ticket_fields {
   /* uint32 ticket_lifetime; */
   tls_codec_span ticket_lifetime;
@@ -97,7 +97,7 @@ typedef struct tls13_new_session_ticket_fields {
   tls_codec_span extensions;
 } tls13_new_session_ticket_fields;
 
-/* Where the fields of a ServerHello are (RFC 8446, section 4.1.3). Of opaque it is the bytes
+/* Where the fields of a ServerHello are (RFC 8446, section 4.1.3). A span of opaque has the bytes
    without their length. */
 typedef struct tls13_server_hello_fields {
   /* ProtocolVersion legacy_version = 0x0303; */
@@ -114,7 +114,7 @@ typedef struct tls13_server_hello_fields {
   tls_codec_span extensions;
 } tls13_server_hello_fields;
 
-/* Where the fields of a TLSCiphertext are (RFC 8446, section 5.2). Of opaque it is the bytes
+/* Where the fields of a TLSCiphertext are (RFC 8446, section 5.2). A span of opaque has the bytes
    without their length. */
 typedef struct tls13_tls_ciphertext_fields {
   /* ContentType opaque_type = application_data; */
@@ -125,8 +125,8 @@ typedef struct tls13_tls_ciphertext_fields {
   tls_codec_span encrypted_record;
 } tls13_tls_ciphertext_fields;
 
-/* Where the fields of a TLSPlaintext are (RFC 8446, section 5.1). Of opaque it is the bytes without
-   their length. */
+/* Where the fields of a TLSPlaintext are (RFC 8446, section 5.1). A span of opaque has the bytes
+   without their length. */
 typedef struct tls13_tls_plaintext_fields {
   /* ContentType type; */
   tls_codec_span kind;

@@ -12,7 +12,7 @@ merkle_leaf_type_code v = 0
 abbrev pub merkle_leaf_type_name : MerkleLeafType → List ℕ
 merkle_leaf_type_name v = codes "timestamped_entry"
 
--- which numbers there are
+-- whether a value has this number
 abbrev pub merkle_leaf_type_has : ℕ → Bool
 merkle_leaf_type_has n = n == 0
 

@@ -12,7 +12,7 @@ signature_type_certificate_timestamp_code v = 0
 abbrev pub signature_type_certificate_timestamp_name : SignatureTypeCertificateTimestamp → List ℕ
 signature_type_certificate_timestamp_name v = codes "certificate_timestamp"
 
--- which numbers there are
+-- whether a value has this number
 abbrev pub signature_type_certificate_timestamp_has : ℕ → Bool
 signature_type_certificate_timestamp_has n = n == 0
 

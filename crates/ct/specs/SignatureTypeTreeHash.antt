@@ -12,7 +12,7 @@ signature_type_tree_hash_code v = 1
 abbrev pub signature_type_tree_hash_name : SignatureTypeTreeHash → List ℕ
 signature_type_tree_hash_name v = codes "tree_hash"
 
--- which numbers there are
+-- whether a value has this number
 abbrev pub signature_type_tree_hash_has : ℕ → Bool
 signature_type_tree_hash_has n = n == 1
 

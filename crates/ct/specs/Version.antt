@@ -12,7 +12,7 @@ version_code v = 0
 abbrev pub version_name : Version → List ℕ
 version_name v = codes "v1"
 
--- which numbers there are
+-- whether a value has this number
 abbrev pub version_has : ℕ → Bool
 version_has n = n == 0
 

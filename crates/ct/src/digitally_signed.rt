@@ -93,7 +93,7 @@ impl Parted for DigitallySigned {
     ghost as_parts = { λ bytes is. is };
 }
 
-/// The encoding of a [`DigitallySigned`], by its fields.
+/// The encoding of a [`DigitallySigned`], split into its fields.
 #[derive(Drop)]
 pub struct DigitallySignedView<'a> {
     /// `SignatureAndHashAlgorithm algorithm;`
@@ -114,7 +114,7 @@ impl<'a> From<Encoded<'a, DigitallySigned>> for DigitallySignedView<'a> {
     }
 }
 
-/// Two are equal exactly where each field is.
+/// Two values are equal if and only if all their fields are equal.
 pub fn is_compared_by_its_fields()
     ensures { (x y : DigitallySigned) →
         ⟦<DigitallySigned as PartialEq>⟧.eq x y

@@ -37,7 +37,7 @@ impl HashAlgorithm {
     /// `sha512`
     pub const SHA512: HashAlgorithm = HashAlgorithm(6);
 
-    /// Its name in the text, if it has one.
+    /// Its name in the presentation language, if it has one.
     pub fn name(&self) -> Option<&'static str>
         ensures { option_map (λ t. t.now) result ≡ listed_name hash_algorithm_names self.now.0 }
     {
@@ -54,7 +54,7 @@ impl HashAlgorithm {
     }
 }
 
-/// Its name, or else its number in hexadecimal, two digits a byte. A width pads names alone.
+/// Its name, or else its number in hexadecimal, two digits per byte. A width pads only names.
 impl fmt::Display for HashAlgorithm {
     ghost output = { λ v. Some (name_or_number hash_algorithm_names 2 v.0) };
 
@@ -76,7 +76,7 @@ impl From<HashAlgorithm> for u8 {
     }
 }
 
-/// The one that has this number.
+/// The value with this number.
 impl From<u8> for HashAlgorithm {
     ghost from_gives = { λ number v. v.0 ≡ number };
 
@@ -153,13 +153,13 @@ impl Told for HashAlgorithm {
     }
 }
 
-/// Two are equal exactly where their numbers are.
+/// Two values are equal if and only if their numbers are equal.
 pub fn is_compared_by_its_number()
     ensures { (x y : HashAlgorithm) →
         ⟦<HashAlgorithm as PartialEq>⟧.eq x y ≡ nat_eq x.0 y.0 }
 {}
 
-/// Two are in the order of their numbers.
+/// Values are ordered by their numbers.
 pub fn is_ordered_by_its_number()
     ensures { (x y : HashAlgorithm) →
         ⟦<HashAlgorithm as Ord>⟧.cmp x y ≡ nat_cmp x.0 y.0 }

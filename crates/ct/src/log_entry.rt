@@ -157,7 +157,7 @@ impl Choice for LogEntry {
     ghost as_choice = { λ bytes is. is };
 }
 
-/// The encoding of a [`LogEntry`], by its case and fields.
+/// The encoding of a [`LogEntry`], split into its case and fields.
 #[derive(Drop)]
 pub enum LogEntryView<'a> {
     /// `case x509_entry: X509ChainEntry;`
@@ -183,7 +183,7 @@ impl<'a> From<Encoded<'a, LogEntry>> for LogEntryView<'a> {
 }
 
 impl LogEntry {
-    /// The tag of its case.
+    /// The tag of this value's case.
     pub fn entry_type(&self) -> u16
         ensures { result ≡ log_entry_tag self.now }
     {
@@ -212,7 +212,7 @@ impl From<PrecertChainEntry> for LogEntry {
     }
 }
 
-/// Two are equal exactly where they are of one case, and each field is.
+/// Two values are equal if and only if they have the same case and all their fields are equal.
 pub fn is_compared_by_its_case()
     ensures tag { (x y : LogEntry) →
         IsTrue (⟦<LogEntry as PartialEq>⟧.eq x y) → log_entry_tag x ≡ log_entry_tag y }

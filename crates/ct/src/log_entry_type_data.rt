@@ -158,7 +158,7 @@ impl Choice for LogEntryTypeData {
     ghost as_choice = { λ bytes is. is };
 }
 
-/// The encoding of a [`LogEntryTypeData`], by its case and fields.
+/// The encoding of a [`LogEntryTypeData`], split into its case and fields.
 #[derive(Drop)]
 pub enum LogEntryTypeDataView<'a> {
     /// `case x509_entry: ASN.1Cert;`
@@ -184,7 +184,7 @@ impl<'a> From<Encoded<'a, LogEntryTypeData>> for LogEntryTypeDataView<'a> {
 }
 
 impl LogEntryTypeData {
-    /// The tag of its case.
+    /// The tag of this value's case.
     pub fn entry_type(&self) -> u16
         ensures { result ≡ log_entry_type_data_tag self.now }
     {
@@ -213,7 +213,7 @@ impl From<PreCert> for LogEntryTypeData {
     }
 }
 
-/// Two are equal exactly where they are of one case, and each field is.
+/// Two values are equal if and only if they have the same case and all their fields are equal.
 pub fn is_compared_by_its_case()
     ensures tag { (x y : LogEntryTypeData) →
         IsTrue (⟦<LogEntryTypeData as PartialEq>⟧.eq x y)

@@ -74,7 +74,7 @@ impl Parted for LogID {
     ghost as_parts = { λ bytes is. is };
 }
 
-/// The encoding of a [`LogID`], by its fields.
+/// The encoding of a [`LogID`], split into its fields.
 #[derive(Drop)]
 pub struct LogIDView<'a> {
     /// `opaque key_id[32];`
@@ -90,7 +90,7 @@ impl<'a> From<Encoded<'a, LogID>> for LogIDView<'a> {
     }
 }
 
-/// Two are equal exactly where each field is.
+/// Two values are equal if and only if all their fields are equal.
 pub fn is_compared_by_its_fields()
     ensures { (x y : LogID) →
         ⟦<LogID as PartialEq>⟧.eq x y

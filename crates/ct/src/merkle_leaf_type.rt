@@ -31,14 +31,14 @@ impl MerkleLeafType {
         0
     }
 
-    /// Its name in the text.
+    /// Its name in the presentation language.
     pub fn name(&self) -> &'static str
         ensures { result.now ≡ merkle_leaf_type_name self.now }
     {
         "timestamped_entry"
     }
 
-    /// The value that has this number.
+    /// The value with this number, if there is one.
     pub fn of_code(code: u8) -> Option<MerkleLeafType>
         ensures { MatchOption result (merkle_leaf_type_has code ≡ false)
             (λ v. merkle_leaf_type_code v ≡ code) }
@@ -70,7 +70,7 @@ impl From<MerkleLeafType> for u8 {
     }
 }
 
-/// The value that has this number.
+/// The value with this number.
 impl TryFrom<u8> for MerkleLeafType {
     type Error = Error;
 
@@ -167,14 +167,14 @@ impl Told for MerkleLeafType {
     }
 }
 
-/// Two are equal exactly where their numbers are.
+/// Two values are equal if and only if their numbers are equal.
 pub fn is_compared_by_its_number()
     ensures { (x y : MerkleLeafType) →
         ⟦<MerkleLeafType as PartialEq>⟧.eq x y
         ≡ nat_eq (merkle_leaf_type_code x) (merkle_leaf_type_code y) }
 {}
 
-/// Two are in the order of their numbers.
+/// Values are ordered by their numbers.
 pub fn is_ordered_by_its_number()
     ensures { (x y : MerkleLeafType) →
         ⟦<MerkleLeafType as Ord>⟧.cmp x y

@@ -115,7 +115,7 @@ impl Parted for MerkleTreeLeaf {
     ghost as_parts = { λ bytes is. is };
 }
 
-/// The encoding of a [`MerkleTreeLeaf`], by its fields.
+/// The encoding of a [`MerkleTreeLeaf`], split into its fields.
 #[derive(Drop)]
 pub struct MerkleTreeLeafView<'a> {
     /// `Version version;`
@@ -140,7 +140,7 @@ impl<'a> From<Encoded<'a, MerkleTreeLeaf>> for MerkleTreeLeafView<'a> {
     }
 }
 
-/// Two are equal exactly where each field is.
+/// Two values are equal if and only if all their fields are equal.
 pub fn is_compared_by_its_fields()
     ensures { (x y : MerkleTreeLeaf) →
         ⟦<MerkleTreeLeaf as PartialEq>⟧.eq x y

@@ -94,7 +94,7 @@ impl Parted for PreCert {
     ghost as_parts = { λ bytes is. is };
 }
 
-/// The encoding of a [`PreCert`], by its fields.
+/// The encoding of a [`PreCert`], split into its fields.
 #[derive(Drop)]
 pub struct PreCertView<'a> {
     /// `opaque issuer_key_hash[32];`
@@ -115,7 +115,7 @@ impl<'a> From<Encoded<'a, PreCert>> for PreCertView<'a> {
     }
 }
 
-/// Two are equal exactly where each field is.
+/// Two values are equal if and only if all their fields are equal.
 pub fn is_compared_by_its_fields()
     ensures { (x y : PreCert) →
         ⟦<PreCert as PartialEq>⟧.eq x y

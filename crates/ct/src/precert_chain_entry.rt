@@ -110,7 +110,7 @@ impl Parted for PrecertChainEntry {
     ghost as_parts = { λ bytes is. is };
 }
 
-/// The encoding of a [`PrecertChainEntry`], by its fields.
+/// The encoding of a [`PrecertChainEntry`], split into its fields.
 #[derive(Drop)]
 pub struct PrecertChainEntryView<'a> {
     /// `ASN.1Cert pre_certificate;`
@@ -132,7 +132,7 @@ impl<'a> From<Encoded<'a, PrecertChainEntry>> for PrecertChainEntryView<'a> {
     }
 }
 
-/// Two are equal exactly where each field is.
+/// Two values are equal if and only if all their fields are equal.
 pub fn is_compared_by_its_fields()
     ensures { (x y : PrecertChainEntry) →
         ⟦<PrecertChainEntry as PartialEq>⟧.eq x y

@@ -28,7 +28,7 @@ impl SignatureAlgorithm {
     /// `ecdsa`
     pub const ECDSA: SignatureAlgorithm = SignatureAlgorithm(3);
 
-    /// Its name in the text, if it has one.
+    /// Its name in the presentation language, if it has one.
     pub fn name(&self) -> Option<&'static str>
         ensures { option_map (λ t. t.now) result ≡ listed_name signature_algorithm_names
             self.now.0 }
@@ -43,7 +43,7 @@ impl SignatureAlgorithm {
     }
 }
 
-/// Its name, or else its number in hexadecimal, two digits a byte. A width pads names alone.
+/// Its name, or else its number in hexadecimal, two digits per byte. A width pads only names.
 impl fmt::Display for SignatureAlgorithm {
     ghost output = { λ v. Some (name_or_number signature_algorithm_names 2 v.0) };
 
@@ -65,7 +65,7 @@ impl From<SignatureAlgorithm> for u8 {
     }
 }
 
-/// The one that has this number.
+/// The value with this number.
 impl From<u8> for SignatureAlgorithm {
     ghost from_gives = { λ number v. v.0 ≡ number };
 
@@ -145,13 +145,13 @@ impl Told for SignatureAlgorithm {
     }
 }
 
-/// Two are equal exactly where their numbers are.
+/// Two values are equal if and only if their numbers are equal.
 pub fn is_compared_by_its_number()
     ensures { (x y : SignatureAlgorithm) →
         ⟦<SignatureAlgorithm as PartialEq>⟧.eq x y ≡ nat_eq x.0 y.0 }
 {}
 
-/// Two are in the order of their numbers.
+/// Values are ordered by their numbers.
 pub fn is_ordered_by_its_number()
     ensures { (x y : SignatureAlgorithm) →
         ⟦<SignatureAlgorithm as Ord>⟧.cmp x y ≡ nat_cmp x.0 y.0 }

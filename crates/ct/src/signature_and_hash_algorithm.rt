@@ -85,7 +85,7 @@ impl Parted for SignatureAndHashAlgorithm {
     ghost as_parts = { λ bytes is. is };
 }
 
-/// The encoding of a [`SignatureAndHashAlgorithm`], by its fields.
+/// The encoding of a [`SignatureAndHashAlgorithm`], split into its fields.
 #[derive(Drop)]
 pub struct SignatureAndHashAlgorithmView<'a> {
     /// `HashAlgorithm hash;`
@@ -103,7 +103,7 @@ impl<'a> From<Encoded<'a, SignatureAndHashAlgorithm>> for SignatureAndHashAlgori
     }
 }
 
-/// Two are equal exactly where each field is.
+/// Two values are equal if and only if all their fields are equal.
 pub fn is_compared_by_its_fields()
     ensures { (x y : SignatureAndHashAlgorithm) →
         ⟦<SignatureAndHashAlgorithm as PartialEq>⟧.eq x y

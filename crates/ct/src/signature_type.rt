@@ -22,7 +22,7 @@ impl SignatureType {
     /// `tree_hash`
     pub const TREE_HASH: SignatureType = SignatureType(1);
 
-    /// Its name in the text, if it has one.
+    /// Its name in the presentation language, if it has one.
     pub fn name(&self) -> Option<&'static str>
         ensures { option_map (λ t. t.now) result ≡ listed_name signature_type_names self.now.0 }
     {
@@ -34,7 +34,7 @@ impl SignatureType {
     }
 }
 
-/// Its name, or else its number in hexadecimal, two digits a byte. A width pads names alone.
+/// Its name, or else its number in hexadecimal, two digits per byte. A width pads only names.
 impl fmt::Display for SignatureType {
     ghost output = { λ v. Some (name_or_number signature_type_names 2 v.0) };
 
@@ -56,7 +56,7 @@ impl From<SignatureType> for u8 {
     }
 }
 
-/// The one that has this number.
+/// The value with this number.
 impl From<u8> for SignatureType {
     ghost from_gives = { λ number v. v.0 ≡ number };
 
@@ -133,13 +133,13 @@ impl Told for SignatureType {
     }
 }
 
-/// Two are equal exactly where their numbers are.
+/// Two values are equal if and only if their numbers are equal.
 pub fn is_compared_by_its_number()
     ensures { (x y : SignatureType) →
         ⟦<SignatureType as PartialEq>⟧.eq x y ≡ nat_eq x.0 y.0 }
 {}
 
-/// Two are in the order of their numbers.
+/// Values are ordered by their numbers.
 pub fn is_ordered_by_its_number()
     ensures { (x y : SignatureType) →
         ⟦<SignatureType as Ord>⟧.cmp x y ≡ nat_cmp x.0 y.0 }

@@ -31,14 +31,14 @@ impl SignatureTypeCertificateTimestamp {
         0
     }
 
-    /// Its name in the text.
+    /// Its name in the presentation language.
     pub fn name(&self) -> &'static str
         ensures { result.now ≡ signature_type_certificate_timestamp_name self.now }
     {
         "certificate_timestamp"
     }
 
-    /// The value that has this number.
+    /// The value with this number, if there is one.
     pub fn of_code(code: u8) -> Option<SignatureTypeCertificateTimestamp>
         ensures { MatchOption result (signature_type_certificate_timestamp_has code ≡ false)
             (λ v. signature_type_certificate_timestamp_code v ≡ code) }
@@ -71,7 +71,7 @@ impl From<SignatureTypeCertificateTimestamp> for u8 {
     }
 }
 
-/// The value that has this number.
+/// The value with this number.
 impl TryFrom<u8> for SignatureTypeCertificateTimestamp {
     type Error = Error;
 
@@ -173,7 +173,7 @@ impl Told for SignatureTypeCertificateTimestamp {
     }
 }
 
-/// Two are equal exactly where their numbers are.
+/// Two values are equal if and only if their numbers are equal.
 pub fn is_compared_by_its_number()
     ensures { (x y : SignatureTypeCertificateTimestamp) →
         ⟦<SignatureTypeCertificateTimestamp as PartialEq>⟧.eq x y
@@ -181,7 +181,7 @@ pub fn is_compared_by_its_number()
         (signature_type_certificate_timestamp_code y) }
 {}
 
-/// Two are in the order of their numbers.
+/// Values are ordered by their numbers.
 pub fn is_ordered_by_its_number()
     ensures { (x y : SignatureTypeCertificateTimestamp) →
         ⟦<SignatureTypeCertificateTimestamp as Ord>⟧.cmp x y

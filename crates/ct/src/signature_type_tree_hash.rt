@@ -31,14 +31,14 @@ impl SignatureTypeTreeHash {
         1
     }
 
-    /// Its name in the text.
+    /// Its name in the presentation language.
     pub fn name(&self) -> &'static str
         ensures { result.now ≡ signature_type_tree_hash_name self.now }
     {
         "tree_hash"
     }
 
-    /// The value that has this number.
+    /// The value with this number, if there is one.
     pub fn of_code(code: u8) -> Option<SignatureTypeTreeHash>
         ensures { MatchOption result (signature_type_tree_hash_has code ≡ false)
             (λ v. signature_type_tree_hash_code v ≡ code) }
@@ -70,7 +70,7 @@ impl From<SignatureTypeTreeHash> for u8 {
     }
 }
 
-/// The value that has this number.
+/// The value with this number.
 impl TryFrom<u8> for SignatureTypeTreeHash {
     type Error = Error;
 
@@ -170,14 +170,14 @@ impl Told for SignatureTypeTreeHash {
     }
 }
 
-/// Two are equal exactly where their numbers are.
+/// Two values are equal if and only if their numbers are equal.
 pub fn is_compared_by_its_number()
     ensures { (x y : SignatureTypeTreeHash) →
         ⟦<SignatureTypeTreeHash as PartialEq>⟧.eq x y
         ≡ nat_eq (signature_type_tree_hash_code x) (signature_type_tree_hash_code y) }
 {}
 
-/// Two are in the order of their numbers.
+/// Values are ordered by their numbers.
 pub fn is_ordered_by_its_number()
     ensures { (x y : SignatureTypeTreeHash) →
         ⟦<SignatureTypeTreeHash as Ord>⟧.cmp x y

@@ -126,7 +126,7 @@ impl Parted for SignedCertificateTimestamp {
     ghost as_parts = { λ bytes is. is };
 }
 
-/// The encoding of a [`SignedCertificateTimestamp`], by its fields.
+/// The encoding of a [`SignedCertificateTimestamp`], split into its fields.
 #[derive(Drop)]
 pub struct SignedCertificateTimestampView<'a> {
     /// `Version sct_version;`
@@ -159,7 +159,7 @@ impl<'a> From<Encoded<'a, SignedCertificateTimestamp>> for SignedCertificateTime
     }
 }
 
-/// Two are equal exactly where each field is.
+/// Two values are equal if and only if all their fields are equal.
 pub fn is_compared_by_its_fields()
     ensures { (x y : SignedCertificateTimestamp) →
         ⟦<SignedCertificateTimestamp as PartialEq>⟧.eq x y

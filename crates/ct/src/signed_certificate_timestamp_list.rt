@@ -85,7 +85,7 @@ impl Parted for SignedCertificateTimestampList {
     ghost as_parts = { λ bytes is. is };
 }
 
-/// The encoding of a [`SignedCertificateTimestampList`], by its fields.
+/// The encoding of a [`SignedCertificateTimestampList`], split into its fields.
 #[derive(Drop)]
 pub struct SignedCertificateTimestampListView<'a> {
     /// `SerializedSCT sct_list<1..2^16-1>;`
@@ -104,7 +104,7 @@ impl<'a> From<Encoded<'a, SignedCertificateTimestampList>>
     }
 }
 
-/// Two are equal exactly where each field is.
+/// Two values are equal if and only if all their fields are equal.
 pub fn is_compared_by_its_fields()
     ensures { (x y : SignedCertificateTimestampList) →
         ⟦<SignedCertificateTimestampList as PartialEq>⟧.eq x y

@@ -128,7 +128,7 @@ impl Parted for SignedCertificateTimestampTBS {
     ghost as_parts = { λ bytes is. is };
 }
 
-/// The encoding of a [`SignedCertificateTimestampTBS`], by its fields.
+/// The encoding of a [`SignedCertificateTimestampTBS`], split into its fields.
 #[derive(Drop)]
 pub struct SignedCertificateTimestampTBSView<'a> {
     /// `Version sct_version;`
@@ -164,7 +164,7 @@ impl<'a> From<Encoded<'a, SignedCertificateTimestampTBS>>
     }
 }
 
-/// Two are equal exactly where each field is.
+/// Two values are equal if and only if all their fields are equal.
 pub fn is_compared_by_its_fields()
     ensures { (x y : SignedCertificateTimestampTBS) →
         ⟦<SignedCertificateTimestampTBS as PartialEq>⟧.eq x y

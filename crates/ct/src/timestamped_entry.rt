@@ -115,7 +115,7 @@ impl Parted for TimestampedEntry {
     ghost as_parts = { λ bytes is. is };
 }
 
-/// The encoding of a [`TimestampedEntry`], by its fields.
+/// The encoding of a [`TimestampedEntry`], split into its fields.
 #[derive(Drop)]
 pub struct TimestampedEntryView<'a> {
     /// `uint64 timestamp;`
@@ -140,7 +140,7 @@ impl<'a> From<Encoded<'a, TimestampedEntry>> for TimestampedEntryView<'a> {
     }
 }
 
-/// Two are equal exactly where each field is.
+/// Two values are equal if and only if all their fields are equal.
 pub fn is_compared_by_its_fields()
     ensures { (x y : TimestampedEntry) →
         ⟦<TimestampedEntry as PartialEq>⟧.eq x y

@@ -167,7 +167,7 @@ impl Choice for TimestampedEntryLogEntryTypeData {
     ghost as_choice = { λ bytes is. is };
 }
 
-/// The encoding of a [`TimestampedEntryLogEntryTypeData`], by its case and fields.
+/// The encoding of a [`TimestampedEntryLogEntryTypeData`], split into its case and fields.
 #[derive(Drop)]
 pub enum TimestampedEntryLogEntryTypeDataView<'a> {
     /// `case x509_entry: ASN.1Cert;`
@@ -196,7 +196,7 @@ impl<'a> From<Encoded<'a, TimestampedEntryLogEntryTypeData>>
 }
 
 impl TimestampedEntryLogEntryTypeData {
-    /// The tag of its case.
+    /// The tag of this value's case.
     pub fn entry_type(&self) -> u16
         ensures { result ≡ timestamped_entry_log_entry_type_data_tag self.now }
     {
@@ -227,7 +227,7 @@ impl From<PreCert> for TimestampedEntryLogEntryTypeData {
     }
 }
 
-/// Two are equal exactly where they are of one case, and each field is.
+/// Two values are equal if and only if they have the same case and all their fields are equal.
 pub fn is_compared_by_its_case()
     ensures tag { (x y : TimestampedEntryLogEntryTypeData) →
         IsTrue (⟦<TimestampedEntryLogEntryTypeData as PartialEq>⟧.eq x y)

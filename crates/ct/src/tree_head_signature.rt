@@ -122,7 +122,7 @@ impl Parted for TreeHeadSignature {
     ghost as_parts = { λ bytes is. is };
 }
 
-/// The encoding of a [`TreeHeadSignature`], by its fields.
+/// The encoding of a [`TreeHeadSignature`], split into its fields.
 #[derive(Drop)]
 pub struct TreeHeadSignatureView<'a> {
     /// `Version version;`
@@ -155,7 +155,7 @@ impl<'a> From<Encoded<'a, TreeHeadSignature>> for TreeHeadSignatureView<'a> {
     }
 }
 
-/// Two are equal exactly where each field is.
+/// Two values are equal if and only if all their fields are equal.
 pub fn is_compared_by_its_fields()
     ensures { (x y : TreeHeadSignature) →
         ⟦<TreeHeadSignature as PartialEq>⟧.eq x y

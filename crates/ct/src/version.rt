@@ -31,14 +31,14 @@ impl Version {
         0
     }
 
-    /// Its name in the text.
+    /// Its name in the presentation language.
     pub fn name(&self) -> &'static str
         ensures { result.now ≡ version_name self.now }
     {
         "v1"
     }
 
-    /// The value that has this number.
+    /// The value with this number, if there is one.
     pub fn of_code(code: u8) -> Option<Version>
         ensures { MatchOption result (version_has code ≡ false) (λ v. version_code v ≡ code) }
     {
@@ -69,7 +69,7 @@ impl From<Version> for u8 {
     }
 }
 
-/// The value that has this number.
+/// The value with this number.
 impl TryFrom<u8> for Version {
     type Error = Error;
 
@@ -163,14 +163,14 @@ impl Told for Version {
     }
 }
 
-/// Two are equal exactly where their numbers are.
+/// Two values are equal if and only if their numbers are equal.
 pub fn is_compared_by_its_number()
     ensures { (x y : Version) →
         ⟦<Version as PartialEq>⟧.eq x y
         ≡ nat_eq (version_code x) (version_code y) }
 {}
 
-/// Two are in the order of their numbers.
+/// Values are ordered by their numbers.
 pub fn is_ordered_by_its_number()
     ensures { (x y : Version) →
         ⟦<Version as Ord>⟧.cmp x y

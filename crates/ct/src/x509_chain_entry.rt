@@ -110,7 +110,7 @@ impl Parted for X509ChainEntry {
     ghost as_parts = { λ bytes is. is };
 }
 
-/// The encoding of a [`X509ChainEntry`], by its fields.
+/// The encoding of a [`X509ChainEntry`], split into its fields.
 #[derive(Drop)]
 pub struct X509ChainEntryView<'a> {
     /// `ASN.1Cert leaf_certificate;`
@@ -131,7 +131,7 @@ impl<'a> From<Encoded<'a, X509ChainEntry>> for X509ChainEntryView<'a> {
     }
 }
 
-/// Two are equal exactly where each field is.
+/// Two values are equal if and only if all their fields are equal.
 pub fn is_compared_by_its_fields()
     ensures { (x y : X509ChainEntry) →
         ⟦<X509ChainEntry as PartialEq>⟧.eq x y

@@ -25,7 +25,8 @@ type BorrowedCredentials<'a> = Tagged<
 
 impl Credential {
     fn cases(&self) -> BorrowedCredentials<'_>
-        ensures { ⟦<BorrowedCredentials<'static> as Size>⟧.plain result ≡ credential_plain self.now }
+        ensures { ⟦<BorrowedCredentials<'static> as Size>⟧.plain result
+            ≡ credential_plain self.now }
     {
         let cases = match self {
             Credential::Basic(identity) => Or::First(Case(ByRef(identity))),

@@ -37,7 +37,8 @@ pub(crate) type BorrowedExtensions<'a> = Else<
 
 impl HelloExtension {
     pub(crate) fn cases(&self) -> BorrowedExtensions<'_>
-        ensures { ⟦<Chosen<BorrowedExtensions<'static>> as SizeFor<u16>>⟧.plain (record { 0 = result })
+        ensures { ⟦<Chosen<BorrowedExtensions<'static>> as SizeFor<u16>>⟧.plain
+            (record { 0 = result })
             ≡ hello_extension_plain self.now }
     {
         match self {

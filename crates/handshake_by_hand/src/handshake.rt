@@ -46,7 +46,8 @@ type BorrowedHandshakes<'a> = Tagged<u8, Else<BorrowedKnown<'a>, u8, ByRef<'a, T
 
 impl Handshake {
     fn cases(&self) -> BorrowedHandshakes<'_>
-        ensures { ⟦<BorrowedHandshakes<'static> as Size>⟧.plain result ≡ handshake_plain self.now }
+        ensures { ⟦<BorrowedHandshakes<'static> as Size>⟧.plain result
+            ≡ handshake_plain self.now }
     {
         let cases = match self {
             Handshake::EndOfEarlyData => {

@@ -35,7 +35,8 @@ type BorrowedKeyShares<'a> = Chosen<
 
 impl KeyShare {
     fn cases(&self) -> BorrowedKeyShares<'_>
-        ensures { ⟦<BorrowedKeyShares<'static> as SizeFor<u8>>⟧.plain result ≡ key_share_plain self.now }
+        ensures { ⟦<BorrowedKeyShares<'static> as SizeFor<u8>>⟧.plain result
+            ≡ key_share_plain self.now }
     {
         let cases = match self {
             KeyShare::ClientHello(client_shares) => Or::First(Case(ByRef(client_shares))),

@@ -15,7 +15,7 @@ abbrev pub body_kind_name : BodyKind → List ℕ
 body_kind_name Chat = codes "chat"
 body_kind_name File = codes "file"
 
--- which numbers there are
+-- whether a value has this number
 abbrev pub body_kind_has : ℕ → Bool
 body_kind_has n = (n == 1) || (n == 2)
 
@@ -32,7 +32,7 @@ body_kind_format = values_format 1 body_kind_has
 pub body_kind_meets : MeetsLaws body_kind_format
 body_kind_meets = tagged_meets 1 (omega arith) (values_meet body_kind_has)
 
--- the number of a value, by what it stands for
+-- the number of a value, from what the value stands for
 abbrev pub body_kind_selected : Tree → ℕ
 body_kind_selected (Join (Number tag) vs) = tag
 body_kind_selected _ = 0

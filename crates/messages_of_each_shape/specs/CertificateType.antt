@@ -15,7 +15,7 @@ abbrev pub certificate_type_name : CertificateType → List ℕ
 certificate_type_name X509 = codes "X509"
 certificate_type_name RawPublicKey = codes "RawPublicKey"
 
--- which numbers there are
+-- whether a value has this number
 abbrev pub certificate_type_has : ℕ → Bool
 certificate_type_has n = (n == 0) || (n == 2)
 
@@ -32,7 +32,7 @@ certificate_type_format = values_format 1 certificate_type_has
 pub certificate_type_meets : MeetsLaws certificate_type_format
 certificate_type_meets = tagged_meets 1 (omega arith) (values_meet certificate_type_has)
 
--- the number of a value, by what it stands for
+-- the number of a value, from what the value stands for
 abbrev pub certificate_type_selected : Tree → ℕ
 certificate_type_selected (Join (Number tag) vs) = tag
 certificate_type_selected _ = 0

@@ -15,7 +15,7 @@ abbrev pub client_or_server_extension_name : ClientOrServerExtension → List �
 client_or_server_extension_name Client = codes "client"
 client_or_server_extension_name Server = codes "server"
 
--- which numbers there are
+-- whether a value has this number
 abbrev pub client_or_server_extension_has : ℕ → Bool
 client_or_server_extension_has n = (n == 0) || (n == 1)
 
@@ -33,7 +33,7 @@ client_or_server_extension_format = values_format 1 client_or_server_extension_h
 pub client_or_server_extension_meets : MeetsLaws client_or_server_extension_format
 client_or_server_extension_meets = tagged_meets 1 (omega arith) (values_meet client_or_server_extension_has)
 
--- the number of a value, by what it stands for
+-- the number of a value, from what the value stands for
 abbrev pub client_or_server_extension_selected : Tree → ℕ
 client_or_server_extension_selected (Join (Number tag) vs) = tag
 client_or_server_extension_selected _ = 0

@@ -12,7 +12,7 @@ form_x04_code v = 4
 abbrev pub form_x04_name : FormX04 → List ℕ
 form_x04_name v = codes "0x04"
 
--- which numbers there are
+-- whether a value has this number
 abbrev pub form_x04_has : ℕ → Bool
 form_x04_has n = n == 4
 

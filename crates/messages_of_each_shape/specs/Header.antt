@@ -13,6 +13,6 @@ header_format = pair_format (number_format 2) bytes_format
 pub header_meets : MeetsLaws header_format
 header_meets = pair_meets u16_meets bytes_meets
 
--- the u16 in what a value stands for
+-- the u16 of a value, from what the value stands for
 abbrev pub header_u16 : Tree → Tree
 header_u16 c = first_of c

@@ -17,7 +17,7 @@ level_name Low = codes "low"
 level_name Middle = codes "middle"
 level_name High = codes "high"
 
--- which numbers there are
+-- whether a value has this number
 abbrev pub level_has : ℕ → Bool
 level_has n = (n == 1) || ((n == 256) || (n == 65535))
 

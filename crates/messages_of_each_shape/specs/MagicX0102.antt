@@ -12,7 +12,7 @@ magic_x0102_code v = 258
 abbrev pub magic_x0102_name : MagicX0102 → List ℕ
 magic_x0102_name v = codes "0x0102"
 
--- which numbers there are
+-- whether a value has this number
 abbrev pub magic_x0102_has : ℕ → Bool
 magic_x0102_has n = n == 258
 

@@ -18,7 +18,7 @@ name_type_names =
     (0, codes "host_name") ∷
     []
 
--- the number of a value, by what it stands for
+-- the number of a value, from what the value stands for
 abbrev pub name_type_selected : Tree → ℕ
 name_type_selected (Number tag) = tag
 name_type_selected _ = 0

@@ -12,7 +12,7 @@ name_type_host_name_code v = 0
 abbrev pub name_type_host_name_name : NameTypeHostName → List ℕ
 name_type_host_name_name v = codes "host_name"
 
--- which numbers there are
+-- whether a value has this number
 abbrev pub name_type_host_name_has : ℕ → Bool
 name_type_host_name_has n = n == 0
 

@@ -13,6 +13,6 @@ named_format = pair_format (number_format 1) name_type_format
 pub named_meets : MeetsLaws named_format
 named_meets = pair_meets u8_meets name_type_meets
 
--- the NameType in what a value stands for
+-- the NameType of a value, from what the value stands for
 abbrev pub named_name_type : Tree → Tree
 named_name_type c = second_of c

@@ -12,7 +12,7 @@ version_xfefd_code v = 65277
 abbrev pub version_xfefd_name : VersionXfefd → List ℕ
 version_xfefd_name v = codes "0xfefd"
 
--- which numbers there are
+-- whether a value has this number
 abbrev pub version_xfefd_has : ℕ → Bool
 version_xfefd_has n = n == 65277
 

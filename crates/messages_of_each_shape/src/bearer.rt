@@ -35,7 +35,8 @@ type ByRefParts<'a> = (
 
 impl Bearer {
     fn parts(&self) -> ByRefParts<'_>
-        ensures { ⟦<ByRefParts<'static> as Size>⟧.plain result ≡ bearer_plain self.now }
+        ensures { ⟦<ByRefParts<'static> as Size>⟧.plain result
+            ≡ bearer_plain self.now }
     {
         let first = &self.named;
         let rest = (By(ByRefIn(&self.body), PhantomData), ByRef(&self.last));
@@ -55,7 +56,7 @@ impl Size for Bearer {
     ghost lawful = { bearer_meets };
 }
 
-/// `EncodingError("value does not fit its context")`: a field is of another case.
+/// `EncodingError("value does not fit its context")`: a field's case is for another tag.
 impl Serialize for Bearer {
     fn tls_serialize<W: Sink>(&self, writer: &mut W) -> Result<usize, Error> {
         write_as(self, &self.parts(), writer)
@@ -113,7 +114,7 @@ impl Validate for Bearer {
     }
 }
 
-/// Two are equal exactly where each field is.
+/// Two values are equal if and only if all their fields are equal.
 pub fn is_compared_by_its_fields()
     ensures { (x y : Bearer) →
         ⟦<Bearer as PartialEq>⟧.eq x y

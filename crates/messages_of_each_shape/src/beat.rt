@@ -14,8 +14,8 @@ use tls_codec_views::{Encoded, Parted};
 
 /// `Beat`.
 ///
-/// Bytes go to the end behind it, `opaque padding[padding_length];`: it is read and written
-/// as `Followed<Beat>`.
+/// Bytes follow it to the end, `opaque padding[padding_length];`: it is read and written as
+/// `Followed<Beat>`.
 #[derive(PartialEq, Eq, Debug, Clone, Drop)]
 pub struct Beat {
     /// `BodyKind type;`
@@ -84,7 +84,7 @@ impl Parted for Beat {
     ghost as_parts = { λ bytes is. is };
 }
 
-/// The encoding of a [`Beat`], by its fields.
+/// The encoding of a [`Beat`], split into its fields.
 #[derive(Drop)]
 pub struct BeatView<'a> {
     /// `BodyKind type;`
@@ -102,7 +102,7 @@ impl<'a> From<Encoded<'a, Beat>> for BeatView<'a> {
     }
 }
 
-/// Two are equal exactly where each field is.
+/// Two values are equal if and only if all their fields are equal.
 pub fn is_compared_by_its_fields()
     ensures { (x y : Beat) →
         ⟦<Beat as PartialEq>⟧.eq x y

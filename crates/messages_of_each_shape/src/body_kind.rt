@@ -40,7 +40,7 @@ impl BodyKind {
         }
     }
 
-    /// Its name in the text.
+    /// Its name in the presentation language.
     pub fn name(&self) -> &'static str
         ensures { result.now ≡ body_kind_name self.now }
     {
@@ -50,7 +50,7 @@ impl BodyKind {
         }
     }
 
-    /// The value that has this number.
+    /// The value with this number, if there is one.
     pub fn of_code(code: u8) -> Option<BodyKind>
         ensures { MatchOption result (body_kind_has code ≡ false) (λ v. body_kind_code v ≡ code) }
     {
@@ -82,7 +82,7 @@ impl From<BodyKind> for u8 {
     }
 }
 
-/// The value that has this number.
+/// The value with this number.
 impl TryFrom<u8> for BodyKind {
     type Error = Error;
 
@@ -220,14 +220,14 @@ impl ValidateKeyed for BodyKind {
     }
 }
 
-/// Two are equal exactly where their numbers are.
+/// Two values are equal if and only if their numbers are equal.
 pub fn is_compared_by_its_number()
     ensures { (x y : BodyKind) →
         ⟦<BodyKind as PartialEq>⟧.eq x y
         ≡ nat_eq (body_kind_code x) (body_kind_code y) }
 {}
 
-/// Two are in the order of their numbers.
+/// Values are ordered by their numbers.
 pub fn is_ordered_by_its_number()
     ensures { (x y : BodyKind) →
         ⟦<BodyKind as Ord>⟧.cmp x y

@@ -11,7 +11,7 @@ use tls_codec::{
 use tls_codec_cases::{Case, Chosen, Or, append_as_for, write_as_for};
 use tls_codec_validate::{Rejected, ValidateFor};
 
-/// `select (body_kind)` of `KindBody`: no byte of it tells the tag.
+/// `select (body_kind)` of `KindBody`: its bytes don't have the tag.
 #[derive(PartialEq, Eq, Debug, Clone, Drop)]
 pub enum BodyKindData {
     /// `case chat: uint16 code;`
@@ -58,7 +58,7 @@ impl SizeFor<BodyKind> for BodyKindData {
     ghost lawful = { body_kind_data_meets_for };
 }
 
-/// `EncodingError("value does not fit its context")`: the value is of another case.
+/// `EncodingError("value does not fit its context")`: the value's case is for another tag.
 impl SerializeFor<BodyKind> for BodyKindData {
     fn tls_serialize_for<W: Sink>(
         &self,
@@ -131,7 +131,7 @@ impl From<VLBytes> for BodyKindData {
     }
 }
 
-/// Two are equal exactly where they are of one case, and each field is.
+/// Two values are equal if and only if they have the same case and all their fields are equal.
 pub fn is_compared_by_its_case()
     ensures tag { (x y : BodyKindData) →
         IsTrue (⟦<BodyKindData as PartialEq>⟧.eq x y)

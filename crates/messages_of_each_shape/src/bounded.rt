@@ -86,7 +86,7 @@ impl Parted for Bounded {
     ghost as_parts = { λ bytes is. is };
 }
 
-/// The encoding of a [`Bounded`], by its fields.
+/// The encoding of a [`Bounded`], split into its fields.
 #[derive(Drop)]
 pub struct BoundedView<'a> {
     /// `opaque session<0..32>;`
@@ -104,7 +104,7 @@ impl<'a> From<Encoded<'a, Bounded>> for BoundedView<'a> {
     }
 }
 
-/// Two are equal exactly where each field is.
+/// Two values are equal if and only if all their fields are equal.
 pub fn is_compared_by_its_fields()
     ensures { (x y : Bounded) →
         ⟦<Bounded as PartialEq>⟧.eq x y

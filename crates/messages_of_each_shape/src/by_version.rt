@@ -10,7 +10,7 @@ use tls_codec::{
 use tls_codec_cases::{Case, Chosen, Or, append_as_for, write_as_for};
 use tls_codec_validate::{Rejected, ValidateFor};
 
-/// `select (version)` of `ByVersion`: no byte of it tells the tag.
+/// `select (version)` of `ByVersion`: its bytes don't have the tag.
 #[derive(PartialEq, Eq, Debug, Clone, Drop)]
 pub enum ByVersion {
     /// `case case_1: uint8 short;`
@@ -39,7 +39,8 @@ type ByRefCases<'a> = Chosen<
 
 impl ByVersion {
     fn cases(&self) -> ByRefCases<'_>
-        ensures { ⟦<ByRefCases<'static> as SizeFor<u16>>⟧.plain result ≡ by_version_plain self.now }
+        ensures { ⟦<ByRefCases<'static> as SizeFor<u16>>⟧.plain result
+            ≡ by_version_plain self.now }
     {
         let cases = match self {
             ByVersion::Case1(short) => Or::First(Or::First(Case(ByRef(short)))),
@@ -80,7 +81,7 @@ impl SizeFor<u16> for ByVersion {
     ghost lawful = { by_version_meets_for };
 }
 
-/// `EncodingError("value does not fit its context")`: the value is of another case.
+/// `EncodingError("value does not fit its context")`: the value's case is for another tag.
 impl SerializeFor<u16> for ByVersion {
     fn tls_serialize_for<W: Sink>(&self, version: &u16, writer: &mut W) -> Result<usize, Error> {
         write_as_for(self, &self.cases(), version, writer)
@@ -136,7 +137,7 @@ impl From<u8> for ByVersion {
     }
 }
 
-/// Two are equal exactly where they are of one case, and each field is.
+/// Two values are equal if and only if they have the same case and all their fields are equal.
 pub fn is_compared_by_its_case()
     ensures tag { (x y : ByVersion) →
         IsTrue (⟦<ByVersion as PartialEq>⟧.eq x y) → by_version_tag x ≡ by_version_tag y }

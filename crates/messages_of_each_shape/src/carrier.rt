@@ -40,7 +40,8 @@ type ByRefParts<'a> = ByRefThen<
 
 impl Carrier {
     fn parts(&self) -> ByRefParts<'_>
-        ensures { ⟦<ByRefParts<'static> as Size>⟧.plain result ≡ carrier_plain self.now }
+        ensures { ⟦<ByRefParts<'static> as Size>⟧.plain result
+            ≡ carrier_plain self.now }
     {
         let first = &self.body_kind;
         let rest = (
@@ -63,7 +64,7 @@ impl Size for Carrier {
     ghost lawful = { carrier_meets };
 }
 
-/// `EncodingError("value does not fit its context")`: a field is of another case.
+/// `EncodingError("value does not fit its context")`: a field's case is for another tag.
 impl Serialize for Carrier {
     fn tls_serialize<W: Sink>(&self, writer: &mut W) -> Result<usize, Error> {
         write_as(self, &self.parts(), writer)
@@ -129,7 +130,7 @@ impl Validate for Carrier {
     }
 }
 
-/// Two are equal exactly where each field is.
+/// Two values are equal if and only if all their fields are equal.
 pub fn is_compared_by_its_fields()
     ensures { (x y : Carrier) →
         ⟦<Carrier as PartialEq>⟧.eq x y

@@ -43,7 +43,7 @@ impl CertificateType {
         }
     }
 
-    /// Its name in the text.
+    /// Its name in the presentation language.
     pub fn name(&self) -> &'static str
         ensures { result.now ≡ certificate_type_name self.now }
     {
@@ -53,7 +53,7 @@ impl CertificateType {
         }
     }
 
-    /// The value that has this number.
+    /// The value with this number, if there is one.
     pub fn of_code(code: u8) -> Option<CertificateType>
         ensures { MatchOption result (certificate_type_has code ≡ false)
             (λ v. certificate_type_code v ≡ code) }
@@ -86,7 +86,7 @@ impl From<CertificateType> for u8 {
     }
 }
 
-/// The value that has this number.
+/// The value with this number.
 impl TryFrom<u8> for CertificateType {
     type Error = Error;
 
@@ -227,14 +227,14 @@ impl ValidateKeyed for CertificateType {
     }
 }
 
-/// Two are equal exactly where their numbers are.
+/// Two values are equal if and only if their numbers are equal.
 pub fn is_compared_by_its_number()
     ensures { (x y : CertificateType) →
         ⟦<CertificateType as PartialEq>⟧.eq x y
         ≡ nat_eq (certificate_type_code x) (certificate_type_code y) }
 {}
 
-/// Two are in the order of their numbers.
+/// Values are ordered by their numbers.
 pub fn is_ordered_by_its_number()
     ensures { (x y : CertificateType) →
         ⟦<CertificateType as Ord>⟧.cmp x y

@@ -12,7 +12,7 @@ use tls_codec::{
 use tls_codec_cases::{Case, Chosen, Or, append_as_for, write_as_for};
 use tls_codec_validate::{Rejected, ValidateFor};
 
-/// `select (certificate_type)` of `Entry`: no byte of it tells the tag.
+/// `select (certificate_type)` of `Entry`: its bytes don't have the tag.
 #[derive(PartialEq, Eq, Debug, Clone, Drop)]
 pub enum CertificateTypeData {
     /// `case X509: opaque cert_data<1..2^24-1>;`
@@ -64,7 +64,7 @@ impl SizeFor<CertificateType> for CertificateTypeData {
     ghost lawful = { certificate_type_data_meets_for };
 }
 
-/// `EncodingError("value does not fit its context")`: the value is of another case.
+/// `EncodingError("value does not fit its context")`: the value's case is for another tag.
 impl SerializeFor<CertificateType> for CertificateTypeData {
     fn tls_serialize_for<W: Sink>(
         &self,
@@ -137,7 +137,7 @@ impl From<VLBytes> for CertificateTypeData {
     }
 }
 
-/// Two are equal exactly where they are of one case, and each field is.
+/// Two values are equal if and only if they have the same case and all their fields are equal.
 pub fn is_compared_by_its_case()
     ensures tag { (x y : CertificateTypeData) →
         IsTrue (⟦<CertificateTypeData as PartialEq>⟧.eq x y)

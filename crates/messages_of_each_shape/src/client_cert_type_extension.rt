@@ -12,8 +12,8 @@ use tls_codec::{
 use tls_codec_cases::{Case, Chosen, Or, append_as_for, write_as_for};
 use tls_codec_validate::{Rejected, ValidateFor};
 
-/// `select (ClientOrServerExtension)` of `ClientCertTypeExtension`: no byte of it tells the
-/// tag.
+/// `select (ClientOrServerExtension)` of `ClientCertTypeExtension`: its bytes don't have
+/// the tag.
 #[derive(PartialEq, Eq, Debug, Clone, Drop)]
 pub enum ClientCertTypeExtension {
     /// `case client: CertificateType client_certificate_types<1..2^8-1>;`
@@ -76,7 +76,7 @@ impl SizeFor<ClientOrServerExtension> for ClientCertTypeExtension {
     ghost lawful = { client_cert_type_extension_meets_for };
 }
 
-/// `EncodingError("value does not fit its context")`: the value is of another case.
+/// `EncodingError("value does not fit its context")`: the value's case is for another tag.
 impl SerializeFor<ClientOrServerExtension> for ClientCertTypeExtension {
     fn tls_serialize_for<W: Sink>(
         &self,
@@ -153,7 +153,7 @@ impl From<CertificateType> for ClientCertTypeExtension {
     }
 }
 
-/// Two are equal exactly where they are of one case, and each field is.
+/// Two values are equal if and only if they have the same case and all their fields are equal.
 pub fn is_compared_by_its_case()
     ensures tag { (x y : ClientCertTypeExtension) →
         IsTrue (⟦<ClientCertTypeExtension as PartialEq>⟧.eq x y)

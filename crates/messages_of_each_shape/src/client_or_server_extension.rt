@@ -41,7 +41,7 @@ impl ClientOrServerExtension {
         }
     }
 
-    /// Its name in the text.
+    /// Its name in the presentation language.
     pub fn name(&self) -> &'static str
         ensures { result.now ≡ client_or_server_extension_name self.now }
     {
@@ -51,7 +51,7 @@ impl ClientOrServerExtension {
         }
     }
 
-    /// The value that has this number.
+    /// The value with this number, if there is one.
     pub fn of_code(code: u8) -> Option<ClientOrServerExtension>
         ensures { MatchOption result (client_or_server_extension_has code ≡ false)
             (λ v. client_or_server_extension_code v ≡ code) }
@@ -84,7 +84,7 @@ impl From<ClientOrServerExtension> for u8 {
     }
 }
 
-/// The value that has this number.
+/// The value with this number.
 impl TryFrom<u8> for ClientOrServerExtension {
     type Error = Error;
 
@@ -228,14 +228,14 @@ impl ValidateKeyed for ClientOrServerExtension {
     }
 }
 
-/// Two are equal exactly where their numbers are.
+/// Two values are equal if and only if their numbers are equal.
 pub fn is_compared_by_its_number()
     ensures { (x y : ClientOrServerExtension) →
         ⟦<ClientOrServerExtension as PartialEq>⟧.eq x y
         ≡ nat_eq (client_or_server_extension_code x) (client_or_server_extension_code y) }
 {}
 
-/// Two are in the order of their numbers.
+/// Values are ordered by their numbers.
 pub fn is_ordered_by_its_number()
     ensures { (x y : ClientOrServerExtension) →
         ⟦<ClientOrServerExtension as Ord>⟧.cmp x y

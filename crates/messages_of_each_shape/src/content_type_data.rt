@@ -226,7 +226,7 @@ impl Choice for ContentTypeData {
     ghost as_choice = { λ bytes is. is };
 }
 
-/// The encoding of a [`ContentTypeData`], by its case and fields.
+/// The encoding of a [`ContentTypeData`], split into its case and fields.
 #[derive(Drop)]
 pub enum ContentTypeDataView<'a> {
     /// `case application:`
@@ -280,7 +280,7 @@ impl<'a> From<Encoded<'a, ContentTypeData>> for ContentTypeDataView<'a> {
 }
 
 impl ContentTypeData {
-    /// The tag of its case.
+    /// The tag of this value's case.
     pub fn content_type(&self) -> u8
         ensures { result ≡ content_type_data_tag self.now }
     {
@@ -291,7 +291,7 @@ impl ContentTypeData {
     }
 }
 
-/// Two are equal exactly where they are of one case, and each field is.
+/// Two values are equal if and only if they have the same case and all their fields are equal.
 pub fn is_compared_by_its_case()
     ensures tag { (x y : ContentTypeData) →
         IsTrue (⟦<ContentTypeData as PartialEq>⟧.eq x y)

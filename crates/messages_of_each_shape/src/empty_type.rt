@@ -16,7 +16,7 @@ use tls_codec_views::{Encoded, Parted, Told};
 pub struct EmptyType(pub u8);
 
 impl EmptyType {
-    /// Its name in the text, if it has one.
+    /// Its name in the presentation language, if it has one.
     pub fn name(&self) -> Option<&'static str>
         ensures { option_map (λ t. t.now) result ≡ listed_name empty_type_names self.now.0 }
     {
@@ -26,7 +26,7 @@ impl EmptyType {
     }
 }
 
-/// Its name, or else its number in hexadecimal, two digits a byte. A width pads names alone.
+/// Its name, or else its number in hexadecimal, two digits per byte. A width pads only names.
 impl fmt::Display for EmptyType {
     ghost output = { λ v. Some (name_or_number empty_type_names 2 v.0) };
 
@@ -48,7 +48,7 @@ impl From<EmptyType> for u8 {
     }
 }
 
-/// The one that has this number.
+/// The value with this number.
 impl From<u8> for EmptyType {
     ghost from_gives = { λ number v. v.0 ≡ number };
 
@@ -125,13 +125,13 @@ impl Told for EmptyType {
     }
 }
 
-/// Two are equal exactly where their numbers are.
+/// Two values are equal if and only if their numbers are equal.
 pub fn is_compared_by_its_number()
     ensures { (x y : EmptyType) →
         ⟦<EmptyType as PartialEq>⟧.eq x y ≡ nat_eq x.0 y.0 }
 {}
 
-/// Two are in the order of their numbers.
+/// Values are ordered by their numbers.
 pub fn is_ordered_by_its_number()
     ensures { (x y : EmptyType) →
         ⟦<EmptyType as Ord>⟧.cmp x y ≡ nat_cmp x.0 y.0 }

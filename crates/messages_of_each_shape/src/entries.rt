@@ -36,7 +36,7 @@ impl SizeFor<CertificateType> for Entries {
     ghost lawful = { entries_meets_for };
 }
 
-/// `EncodingError("value does not fit its context")`: a field is of another case.
+/// `EncodingError("value does not fit its context")`: a field's case is for another tag.
 impl SerializeFor<CertificateType> for Entries {
     fn tls_serialize_for<W: Sink>(
         &self,
@@ -91,7 +91,7 @@ impl ValidateFor<CertificateType> for Entries {
     }
 }
 
-/// Two are equal exactly where each field is.
+/// Two values are equal if and only if all their fields are equal.
 pub fn is_compared_by_its_fields()
     ensures { (x y : Entries) →
         ⟦<Entries as PartialEq>⟧.eq x y

@@ -46,7 +46,7 @@ impl SizeFor<CertificateType> for Entry {
     ghost lawful = { entry_meets_for };
 }
 
-/// `EncodingError("value does not fit its context")`: a field is of another case.
+/// `EncodingError("value does not fit its context")`: a field's case is for another tag.
 impl SerializeFor<CertificateType> for Entry {
     fn tls_serialize_for<W: Sink>(
         &self,
@@ -134,7 +134,7 @@ impl ValidateFor<CertificateType> for Entry {
     }
 }
 
-/// Two are equal exactly where each field is.
+/// Two values are equal if and only if all their fields are equal.
 pub fn is_compared_by_its_fields()
     ensures { (x y : Entry) →
         ⟦<Entry as PartialEq>⟧.eq x y

@@ -31,14 +31,14 @@ impl FormX04 {
         4
     }
 
-    /// Its name in the text.
+    /// Its name in the presentation language.
     pub fn name(&self) -> &'static str
         ensures { result.now ≡ form_x04_name self.now }
     {
         "0x04"
     }
 
-    /// The value that has this number.
+    /// The value with this number, if there is one.
     pub fn of_code(code: u8) -> Option<FormX04>
         ensures { MatchOption result (form_x04_has code ≡ false) (λ v. form_x04_code v ≡ code) }
     {
@@ -69,7 +69,7 @@ impl From<FormX04> for u8 {
     }
 }
 
-/// The value that has this number.
+/// The value with this number.
 impl TryFrom<u8> for FormX04 {
     type Error = Error;
 
@@ -163,14 +163,14 @@ impl Told for FormX04 {
     }
 }
 
-/// Two are equal exactly where their numbers are.
+/// Two values are equal if and only if their numbers are equal.
 pub fn is_compared_by_its_number()
     ensures { (x y : FormX04) →
         ⟦<FormX04 as PartialEq>⟧.eq x y
         ≡ nat_eq (form_x04_code x) (form_x04_code y) }
 {}
 
-/// Two are in the order of their numbers.
+/// Values are ordered by their numbers.
 pub fn is_ordered_by_its_number()
     ensures { (x y : FormX04) →
         ⟦<FormX04 as Ord>⟧.cmp x y

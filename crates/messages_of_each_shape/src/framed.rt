@@ -114,7 +114,7 @@ impl Parted for Framed {
     ghost as_parts = { λ bytes is. is };
 }
 
-/// The encoding of a [`Framed`], by its fields.
+/// The encoding of a [`Framed`], split into its fields.
 #[derive(Drop)]
 pub struct FramedView<'a> {
     /// `uint32 epoch;`
@@ -139,7 +139,7 @@ impl<'a> From<Encoded<'a, Framed>> for FramedView<'a> {
     }
 }
 
-/// Two are equal exactly where each field is.
+/// Two values are equal if and only if all their fields are equal.
 pub fn is_compared_by_its_fields()
     ensures { (x y : Framed) →
         ⟦<Framed as PartialEq>⟧.eq x y

@@ -83,7 +83,7 @@ impl Parted for Header {
     ghost as_parts = { λ bytes is. is };
 }
 
-/// The encoding of a [`Header`], by its fields.
+/// The encoding of a [`Header`], split into its fields.
 #[derive(Drop)]
 pub struct HeaderView<'a> {
     /// `uint16 version;`
@@ -134,7 +134,7 @@ impl ValidateKeyed for Header {
     }
 }
 
-/// Two are equal exactly where each field is.
+/// Two values are equal if and only if all their fields are equal.
 pub fn is_compared_by_its_fields()
     ensures { (x y : Header) →
         ⟦<Header as PartialEq>⟧.eq x y

@@ -181,7 +181,7 @@ impl Choice for Identity {
     ghost as_choice = { λ bytes is. is };
 }
 
-/// The encoding of a [`Identity`], by its case and fields.
+/// The encoding of a [`Identity`], split into its case and fields.
 #[derive(Drop)]
 pub enum IdentityView<'a> {
     /// `case full:`
@@ -231,7 +231,7 @@ impl<'a> From<Encoded<'a, Identity>> for IdentityView<'a> {
 }
 
 impl Identity {
-    /// The tag of its case.
+    /// The tag of this value's case.
     pub fn identity_type(&self) -> u16
         ensures { result ≡ identity_tag self.now }
     {
@@ -242,7 +242,7 @@ impl Identity {
     }
 }
 
-/// Two are equal exactly where they are of one case, and each field is.
+/// Two values are equal if and only if they have the same case and all their fields are equal.
 pub fn is_compared_by_its_case()
     ensures tag { (x y : Identity) →
         IsTrue (⟦<Identity as PartialEq>⟧.eq x y) → identity_tag x ≡ identity_tag y }

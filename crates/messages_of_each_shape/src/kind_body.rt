@@ -34,7 +34,7 @@ impl SizeFor<BodyKind> for KindBody {
     ghost lawful = { kind_body_meets_for };
 }
 
-/// `EncodingError("value does not fit its context")`: a field is of another case.
+/// `EncodingError("value does not fit its context")`: a field's case is for another tag.
 impl SerializeFor<BodyKind> for KindBody {
     fn tls_serialize_for<W: Sink>(
         &self,
@@ -89,7 +89,7 @@ impl ValidateFor<BodyKind> for KindBody {
     }
 }
 
-/// Two are equal exactly where each field is.
+/// Two values are equal if and only if all their fields are equal.
 pub fn is_compared_by_its_fields()
     ensures { (x y : KindBody) →
         ⟦<KindBody as PartialEq>⟧.eq x y

@@ -41,7 +41,7 @@ impl Level {
         }
     }
 
-    /// Its name in the text.
+    /// Its name in the presentation language.
     pub fn name(&self) -> &'static str
         ensures { result.now ≡ level_name self.now }
     {
@@ -52,7 +52,7 @@ impl Level {
         }
     }
 
-    /// The value that has this number.
+    /// The value with this number, if there is one.
     pub fn of_code(code: u16) -> Option<Level>
         ensures { MatchOption result (level_has code ≡ false) (λ v. level_code v ≡ code) }
     {
@@ -85,7 +85,7 @@ impl From<Level> for u16 {
     }
 }
 
-/// The value that has this number.
+/// The value with this number.
 impl TryFrom<u16> for Level {
     type Error = Error;
 
@@ -181,14 +181,14 @@ impl Told for Level {
     }
 }
 
-/// Two are equal exactly where their numbers are.
+/// Two values are equal if and only if their numbers are equal.
 pub fn is_compared_by_its_number()
     ensures { (x y : Level) →
         ⟦<Level as PartialEq>⟧.eq x y
         ≡ nat_eq (level_code x) (level_code y) }
 {}
 
-/// Two are in the order of their numbers.
+/// Values are ordered by their numbers.
 pub fn is_ordered_by_its_number()
     ensures { (x y : Level) →
         ⟦<Level as Ord>⟧.cmp x y

@@ -98,7 +98,7 @@ impl Parted for Line {
     ghost as_parts = { λ bytes is. is };
 }
 
-/// The encoding of a [`Line`], by its fields.
+/// The encoding of a [`Line`], split into its fields.
 #[derive(Drop)]
 pub struct LineView<'a> {
     /// `uint32 before;`
@@ -122,7 +122,7 @@ impl<'a> From<Encoded<'a, Line>> for LineView<'a> {
     }
 }
 
-/// Two are equal exactly where each field is.
+/// Two values are equal if and only if all their fields are equal.
 pub fn is_compared_by_its_fields()
     ensures { (x y : Line) →
         ⟦<Line as PartialEq>⟧.eq x y

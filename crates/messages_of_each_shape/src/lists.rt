@@ -141,7 +141,7 @@ impl Parted for Lists {
     ghost as_parts = { λ bytes is. is };
 }
 
-/// The encoding of a [`Lists`], by its fields.
+/// The encoding of a [`Lists`], split into its fields.
 #[derive(Drop)]
 pub struct ListsView<'a> {
     /// `uint16 octets<0..2^8-1>;`
@@ -184,7 +184,7 @@ impl<'a> From<Encoded<'a, Lists>> for ListsView<'a> {
     }
 }
 
-/// Two are equal exactly where each field is.
+/// Two values are equal if and only if all their fields are equal.
 pub fn is_compared_by_its_fields()
     ensures { (x y : Lists) →
         ⟦<Lists as PartialEq>⟧.eq x y

@@ -31,14 +31,14 @@ impl MagicX0102 {
         258
     }
 
-    /// Its name in the text.
+    /// Its name in the presentation language.
     pub fn name(&self) -> &'static str
         ensures { result.now ≡ magic_x0102_name self.now }
     {
         "0x0102"
     }
 
-    /// The value that has this number.
+    /// The value with this number, if there is one.
     pub fn of_code(code: u16) -> Option<MagicX0102>
         ensures { MatchOption result (magic_x0102_has code ≡ false)
             (λ v. magic_x0102_code v ≡ code) }
@@ -70,7 +70,7 @@ impl From<MagicX0102> for u16 {
     }
 }
 
-/// The value that has this number.
+/// The value with this number.
 impl TryFrom<u16> for MagicX0102 {
     type Error = Error;
 
@@ -164,14 +164,14 @@ impl Told for MagicX0102 {
     }
 }
 
-/// Two are equal exactly where their numbers are.
+/// Two values are equal if and only if their numbers are equal.
 pub fn is_compared_by_its_number()
     ensures { (x y : MagicX0102) →
         ⟦<MagicX0102 as PartialEq>⟧.eq x y
         ≡ nat_eq (magic_x0102_code x) (magic_x0102_code y) }
 {}
 
-/// Two are in the order of their numbers.
+/// Values are ordered by their numbers.
 pub fn is_ordered_by_its_number()
     ensures { (x y : MagicX0102) →
         ⟦<MagicX0102 as Ord>⟧.cmp x y

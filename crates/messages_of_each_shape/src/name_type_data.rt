@@ -11,7 +11,7 @@ use tls_codec::{
 use tls_codec_cases::{Case, Chosen, Or, append_as_for, write_as_for};
 use tls_codec_validate::{Rejected, ValidateFor};
 
-/// `select (name_type)` of `Bearer`: no byte of it tells the tag.
+/// `select (name_type)` of `Bearer`: its bytes don't have the tag.
 #[derive(PartialEq, Eq, Debug, Clone, Drop)]
 pub enum NameTypeData {
     /// `case host_name: uint8 host;`
@@ -58,7 +58,7 @@ impl SizeFor<NameType> for NameTypeData {
     ghost lawful = { name_type_data_meets_for };
 }
 
-/// `EncodingError("value does not fit its context")`: the value is of another case.
+/// `EncodingError("value does not fit its context")`: the value's case is for another tag.
 impl SerializeFor<NameType> for NameTypeData {
     fn tls_serialize_for<W: Sink>(
         &self,
@@ -131,7 +131,7 @@ impl From<Key> for NameTypeData {
     }
 }
 
-/// Two are equal exactly where they are of one case, and each field is.
+/// Two values are equal if and only if they have the same case and all their fields are equal.
 pub fn is_compared_by_its_case()
     ensures tag { (x y : NameTypeData) →
         IsTrue (⟦<NameTypeData as PartialEq>⟧.eq x y)

@@ -31,14 +31,14 @@ impl NameTypeHostName {
         0
     }
 
-    /// Its name in the text.
+    /// Its name in the presentation language.
     pub fn name(&self) -> &'static str
         ensures { result.now ≡ name_type_host_name_name self.now }
     {
         "host_name"
     }
 
-    /// The value that has this number.
+    /// The value with this number, if there is one.
     pub fn of_code(code: u8) -> Option<NameTypeHostName>
         ensures { MatchOption result (name_type_host_name_has code ≡ false)
             (λ v. name_type_host_name_code v ≡ code) }
@@ -70,7 +70,7 @@ impl From<NameTypeHostName> for u8 {
     }
 }
 
-/// The value that has this number.
+/// The value with this number.
 impl TryFrom<u8> for NameTypeHostName {
     type Error = Error;
 
@@ -167,14 +167,14 @@ impl Told for NameTypeHostName {
     }
 }
 
-/// Two are equal exactly where their numbers are.
+/// Two values are equal if and only if their numbers are equal.
 pub fn is_compared_by_its_number()
     ensures { (x y : NameTypeHostName) →
         ⟦<NameTypeHostName as PartialEq>⟧.eq x y
         ≡ nat_eq (name_type_host_name_code x) (name_type_host_name_code y) }
 {}
 
-/// Two are in the order of their numbers.
+/// Values are ordered by their numbers.
 pub fn is_ordered_by_its_number()
     ensures { (x y : NameTypeHostName) →
         ⟦<NameTypeHostName as Ord>⟧.cmp x y

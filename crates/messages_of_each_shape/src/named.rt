@@ -80,7 +80,7 @@ impl Parted for Named {
     ghost as_parts = { λ bytes is. is };
 }
 
-/// The encoding of a [`Named`], by its fields.
+/// The encoding of a [`Named`], split into its fields.
 #[derive(Drop)]
 pub struct NamedView<'a> {
     /// `uint8 before;`
@@ -131,7 +131,7 @@ impl ValidateKeyed for Named {
     }
 }
 
-/// Two are equal exactly where each field is.
+/// Two values are equal if and only if all their fields are equal.
 pub fn is_compared_by_its_fields()
     ensures { (x y : Named) →
         ⟦<Named as PartialEq>⟧.eq x y

@@ -24,7 +24,7 @@ pub type RatchetTree = Vec<Option<Row>>;
 /// `Inner`.
 ///
 /// Its content ends at `BodyKind type;`, the last byte that isn't zero. Zeros go to the
-/// end, `uint8 zeros[length_of_padding];`: it is read of all that there is.
+/// end, `uint8 zeros[length_of_padding];`: all bytes are read.
 pub type Inner = InnerPlaintext<BodyKind>;
 
 /// `opaque Datum[3];`.

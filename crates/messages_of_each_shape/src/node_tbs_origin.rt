@@ -14,7 +14,7 @@ const EXTERNAL: u8 = 4;
 
 /// `NodeSource node_source` of `NodeTBS`, and what comes after each.
 ///
-/// It has references to its fields, and is only written.
+/// It has references to its fields. It can only be encoded.
 #[derive(PartialEq, Eq, Debug, Clone, Copy)]
 pub enum NodeTBSOrigin<'a> {
     /// `case update:`
@@ -86,7 +86,7 @@ impl Serialize for NodeTBSOrigin<'_> {
 }
 
 impl NodeTBSOrigin<'_> {
-    /// The tag of its case.
+    /// The tag of this value's case.
     pub fn node_source(&self) -> u8
         ensures { result ≡ node_tbs_origin_tag self.now }
     {
@@ -107,7 +107,7 @@ impl<'a> From<&'a Key> for NodeTBSOrigin<'a> {
     }
 }
 
-/// Two are equal exactly where they are of one case, and each field is.
+/// Two values are equal if and only if they have the same case and all their fields are equal.
 pub fn is_compared_by_its_case()
     ensures tag { (x y : NodeTBSOrigin) →
         IsTrue (⟦<NodeTBSOrigin<'static> as PartialEq>⟧.eq x y)

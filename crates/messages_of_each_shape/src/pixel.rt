@@ -78,7 +78,7 @@ impl Parted for Pixel {
     ghost as_parts = { λ bytes is. is };
 }
 
-/// The encoding of a [`Pixel`], by its fields.
+/// The encoding of a [`Pixel`], split into its fields.
 #[derive(Drop)]
 pub struct PixelView<'a> {
     /// `uint8 x;`
@@ -96,7 +96,7 @@ impl<'a> From<Encoded<'a, Pixel>> for PixelView<'a> {
     }
 }
 
-/// Two are equal exactly where each field is.
+/// Two values are equal if and only if all their fields are equal.
 pub fn is_compared_by_its_fields()
     ensures { (x y : Pixel) →
         ⟦<Pixel as PartialEq>⟧.eq x y

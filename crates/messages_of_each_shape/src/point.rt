@@ -87,7 +87,7 @@ impl Parted for Point {
     ghost as_parts = { λ bytes is. is };
 }
 
-/// The encoding of a [`Point`], by its fields.
+/// The encoding of a [`Point`], split into its fields.
 #[derive(Drop)]
 pub struct PointView<'a> {
     /// `uint8 form;`
@@ -107,7 +107,7 @@ impl<'a> From<Encoded<'a, Point>> for PointView<'a> {
     }
 }
 
-/// Two are equal exactly where each field is.
+/// Two values are equal if and only if all their fields are equal.
 pub fn is_compared_by_its_fields()
     ensures { (x y : Point) →
         ⟦<Point as PartialEq>⟧.eq x y

@@ -79,7 +79,7 @@ impl Parted for ServerName {
     ghost as_parts = { λ bytes is. is };
 }
 
-/// The encoding of a [`ServerName`], by its fields.
+/// The encoding of a [`ServerName`], split into its fields.
 #[derive(Drop)]
 pub struct ServerNameView<'a> {
     /// `NameType name_type;`
@@ -97,7 +97,7 @@ impl<'a> From<Encoded<'a, ServerName>> for ServerNameView<'a> {
     }
 }
 
-/// Two are equal exactly where each field is.
+/// Two values are equal if and only if all their fields are equal.
 pub fn is_compared_by_its_fields()
     ensures { (x y : ServerName) →
         ⟦<ServerName as PartialEq>⟧.eq x y

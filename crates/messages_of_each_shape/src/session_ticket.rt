@@ -119,7 +119,7 @@ impl Parted for SessionTicket {
     ghost as_parts = { λ bytes is. is };
 }
 
-/// The encoding of a [`SessionTicket`], by its fields.
+/// The encoding of a [`SessionTicket`], split into its fields.
 #[derive(Drop)]
 pub struct SessionTicketView<'a> {
     /// `ASN.1Cert a.1;`
@@ -152,7 +152,7 @@ impl<'a> From<Encoded<'a, SessionTicket>> for SessionTicketView<'a> {
     }
 }
 
-/// Two are equal exactly where each field is.
+/// Two values are equal if and only if all their fields are equal.
 pub fn is_compared_by_its_fields()
     ensures { (x y : SessionTicket) →
         ⟦<SessionTicket as PartialEq>⟧.eq x y

@@ -110,7 +110,7 @@ impl Parted for SizedType {
     ghost as_parts = { λ bytes is. is };
 }
 
-/// The encoding of a [`SizedType`], by its fields.
+/// The encoding of a [`SizedType`], split into its fields.
 #[derive(Drop)]
 pub struct SizedTypeView<'a> {
     /// `uint8 before;`
@@ -134,7 +134,7 @@ impl<'a> From<Encoded<'a, SizedType>> for SizedTypeView<'a> {
     }
 }
 
-/// Two are equal exactly where each field is.
+/// Two values are equal if and only if all their fields are equal.
 pub fn is_compared_by_its_fields()
     ensures { (x y : SizedType) →
         ⟦<SizedType as PartialEq>⟧.eq x y

@@ -75,7 +75,7 @@ impl Parted for ThreeData {
     ghost as_parts = { λ bytes is. is };
 }
 
-/// The encoding of a [`ThreeData`], by its fields.
+/// The encoding of a [`ThreeData`], split into its fields.
 #[derive(Drop)]
 pub struct ThreeDataView<'a> {
     /// `Datum data[9];`
@@ -91,7 +91,7 @@ impl<'a> From<Encoded<'a, ThreeData>> for ThreeDataView<'a> {
     }
 }
 
-/// Two are equal exactly where each field is.
+/// Two values are equal if and only if all their fields are equal.
 pub fn is_compared_by_its_fields()
     ensures { (x y : ThreeData) →
         ⟦<ThreeData as PartialEq>⟧.eq x y

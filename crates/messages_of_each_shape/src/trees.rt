@@ -75,7 +75,7 @@ impl Parted for Trees {
     ghost as_parts = { λ bytes is. is };
 }
 
-/// The encoding of a [`Trees`], by its fields.
+/// The encoding of a [`Trees`], split into its fields.
 #[derive(Drop)]
 pub struct TreesView<'a> {
     /// `ratchet_tree tree;`
@@ -91,7 +91,7 @@ impl<'a> From<Encoded<'a, Trees>> for TreesView<'a> {
     }
 }
 
-/// Two are equal exactly where each field is.
+/// Two values are equal if and only if all their fields are equal.
 pub fn is_compared_by_its_fields()
     ensures { (x y : Trees) →
         ⟦<Trees as PartialEq>⟧.eq x y

@@ -49,7 +49,8 @@ type ByRefCases<'a> = Tagged<
 
 impl VersionData {
     fn cases(&self) -> ByRefCases<'_>
-        ensures { ⟦<ByRefCases<'static> as Size>⟧.plain result ≡ version_data_plain self.now }
+        ensures { ⟦<ByRefCases<'static> as Size>⟧.plain result
+            ≡ version_data_plain self.now }
     {
         let cases = match self {
             VersionData::Case7 { short, long } => Or::First(Or::First(Case(Enclosed(
@@ -102,7 +103,7 @@ impl Serialize for VersionData {
 impl Deserialize for VersionData {
     ghost names = { ⟦<Cases as Deserialize>⟧.names };
 
-    /// `TrailingData`: the case's fields end before their length does.
+    /// `TrailingData`: bytes are left within the length, after the fields of the case.
     /// `UnknownValue`: no case has the tag.
     fn tls_deserialize<R: Source>(alloc: Global, src: &mut R) -> Result<VersionData, Error> {
         let cases = <Cases>::tls_deserialize(alloc, src)?;
@@ -113,7 +114,7 @@ impl Deserialize for VersionData {
 impl DeserializeBytes for VersionData {
     ghost names = { ⟦<Cases as DeserializeBytes>⟧.names };
 
-    /// `TrailingData`: the case's fields end before their length does.
+    /// `TrailingData`: bytes are left within the length, after the fields of the case.
     /// `UnknownValue`: no case has the tag.
     fn tls_deserialize_bytes(alloc: Global, whole: &[u8]) -> Result<(VersionData, &[u8]), Error> {
         let (cases, rest) = <Cases>::tls_deserialize_bytes(alloc, whole)?;
@@ -137,7 +138,7 @@ impl Choice for VersionData {
     ghost as_choice = { λ bytes is. is };
 }
 
-/// The encoding of a [`VersionData`], by its case and fields.
+/// The encoding of a [`VersionData`], split into its case and fields.
 #[derive(Drop)]
 pub enum VersionDataView<'a> {
     /// `case case_7:`
@@ -167,7 +168,7 @@ impl<'a> From<Encoded<'a, VersionData>> for VersionDataView<'a> {
 }
 
 impl VersionData {
-    /// The tag of its case.
+    /// The tag of this value's case.
     pub fn version(&self) -> u16
         ensures { result ≡ version_data_tag self.now }
     {
@@ -188,7 +189,7 @@ impl From<Key> for VersionData {
     }
 }
 
-/// Two are equal exactly where they are of one case, and each field is.
+/// Two values are equal if and only if they have the same case and all their fields are equal.
 pub fn is_compared_by_its_case()
     ensures tag { (x y : VersionData) →
         IsTrue (⟦<VersionData as PartialEq>⟧.eq x y) → version_data_tag x ≡ version_data_tag y }

@@ -31,14 +31,14 @@ impl VersionXfefd {
         65277
     }
 
-    /// Its name in the text.
+    /// Its name in the presentation language.
     pub fn name(&self) -> &'static str
         ensures { result.now ≡ version_xfefd_name self.now }
     {
         "0xfefd"
     }
 
-    /// The value that has this number.
+    /// The value with this number, if there is one.
     pub fn of_code(code: u16) -> Option<VersionXfefd>
         ensures { MatchOption result (version_xfefd_has code ≡ false)
             (λ v. version_xfefd_code v ≡ code) }
@@ -70,7 +70,7 @@ impl From<VersionXfefd> for u16 {
     }
 }
 
-/// The value that has this number.
+/// The value with this number.
 impl TryFrom<u16> for VersionXfefd {
     type Error = Error;
 
@@ -164,14 +164,14 @@ impl Told for VersionXfefd {
     }
 }
 
-/// Two are equal exactly where their numbers are.
+/// Two values are equal if and only if their numbers are equal.
 pub fn is_compared_by_its_number()
     ensures { (x y : VersionXfefd) →
         ⟦<VersionXfefd as PartialEq>⟧.eq x y
         ≡ nat_eq (version_xfefd_code x) (version_xfefd_code y) }
 {}
 
-/// Two are in the order of their numbers.
+/// Values are ordered by their numbers.
 pub fn is_ordered_by_its_number()
     ensures { (x y : VersionXfefd) →
         ⟦<VersionXfefd as Ord>⟧.cmp x y

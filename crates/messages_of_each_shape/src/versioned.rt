@@ -27,7 +27,8 @@ type ByRefParts<'a> = ByRefThen<'a, Header, By<u16, ByRefIn<'a, ByVersion>>>;
 
 impl Versioned {
     fn parts(&self) -> ByRefParts<'_>
-        ensures { ⟦<ByRefParts<'static> as Size>⟧.plain result ≡ versioned_plain self.now }
+        ensures { ⟦<ByRefParts<'static> as Size>⟧.plain result
+            ≡ versioned_plain self.now }
     {
         let first = &self.header;
         let rest = By(ByRefIn(&self.parts_), PhantomData);
@@ -47,7 +48,7 @@ impl Size for Versioned {
     ghost lawful = { versioned_meets };
 }
 
-/// `EncodingError("value does not fit its context")`: a field is of another case.
+/// `EncodingError("value does not fit its context")`: a field's case is for another tag.
 impl Serialize for Versioned {
     fn tls_serialize<W: Sink>(&self, writer: &mut W) -> Result<usize, Error> {
         write_as(self, &self.parts(), writer)
@@ -94,7 +95,7 @@ impl Validate for Versioned {
     }
 }
 
-/// Two are equal exactly where each field is.
+/// Two values are equal if and only if all their fields are equal.
 pub fn is_compared_by_its_fields()
     ensures { (x y : Versioned) →
         ⟦<Versioned as PartialEq>⟧.eq x y

@@ -158,7 +158,7 @@ impl Parted for Wide {
     ghost as_parts = { λ bytes is. is };
 }
 
-/// The encoding of a [`Wide`], by its fields.
+/// The encoding of a [`Wide`], split into its fields.
 #[derive(Drop)]
 pub struct WideView<'a> {
     /// `uint8 a;`
@@ -220,7 +220,7 @@ impl<'a> From<Encoded<'a, Wide>> for WideView<'a> {
     }
 }
 
-/// Two are equal exactly where each field is.
+/// Two values are equal if and only if all their fields are equal.
 pub fn is_compared_by_its_fields()
     ensures { (x y : Wide) →
         ⟦<Wide as PartialEq>⟧.eq x y

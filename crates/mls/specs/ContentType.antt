@@ -17,7 +17,7 @@ content_type_name Application = codes "application"
 content_type_name Proposal = codes "proposal"
 content_type_name Commit = codes "commit"
 
--- which numbers there are
+-- whether a value has this number
 abbrev pub content_type_has : ℕ → Bool
 content_type_has n = (n == 1) || ((n == 2) || (n == 3))
 
@@ -35,7 +35,7 @@ content_type_format = values_format 1 content_type_has
 pub content_type_meets : MeetsLaws content_type_format
 content_type_meets = tagged_meets 1 (omega arith) (values_meet content_type_has)
 
--- the number of a value, by what it stands for
+-- the number of a value, from what the value stands for
 abbrev pub content_type_selected : Tree → ℕ
 content_type_selected (Join (Number tag) vs) = tag
 content_type_selected _ = 0

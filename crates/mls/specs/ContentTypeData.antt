@@ -39,7 +39,7 @@ content_type_data_format = tagged_format 1 content_type_data_variants
 pub content_type_data_meets : MeetsLaws content_type_data_format
 content_type_data_meets = tagged_meets 1 (omega arith) content_type_data_variants_meet
 
--- the ContentType in what a value stands for
+-- the ContentType of a value, from what the value stands for
 abbrev pub content_type_data_content_type : Tree → Tree
 content_type_data_content_type (Join number _) = Join number Empty
 content_type_data_content_type _ = Empty

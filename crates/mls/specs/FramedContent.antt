@@ -26,10 +26,10 @@ framed_content_meets =
     (triple_meets bytes_meets u64_meets sender_meets)
     (pair_meets bytes_meets content_type_data_meets)
 
--- the SenderType in what a value stands for
+-- the SenderType of a value, from what the value stands for
 abbrev pub framed_content_sender_type : Tree → Tree
 framed_content_sender_type c = sender_sender_type (third_of (first_of c))
 
--- the ContentType in what a value stands for
+-- the ContentType of a value, from what the value stands for
 abbrev pub framed_content_content_type : Tree → Tree
 framed_content_content_type c = content_type_data_content_type (second_of (second_of c))

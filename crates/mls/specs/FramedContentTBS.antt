@@ -31,6 +31,6 @@ framed_content_tbs_meets =
     (then_meets framed_content_meets (λ c. present_meets ((sender_type_selected (framed_content_sender_type c) == 1)
     || (sender_type_selected (framed_content_sender_type c) == 4)) group_context_meets))
 
--- the ContentType in what a value stands for
+-- the ContentType of a value, from what the value stands for
 abbrev pub framed_content_tbs_content_type : Tree → Tree
 framed_content_tbs_content_type c = framed_content_content_type (first_of (second_of c))

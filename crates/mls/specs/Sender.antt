@@ -40,7 +40,7 @@ sender_format = tagged_format 1 sender_variants
 pub sender_meets : MeetsLaws sender_format
 sender_meets = tagged_meets 1 (omega arith) sender_variants_meet
 
--- the SenderType in what a value stands for
+-- the SenderType of a value, from what the value stands for
 abbrev pub sender_sender_type : Tree → Tree
 sender_sender_type (Join number _) = Join number Empty
 sender_sender_type _ = Empty

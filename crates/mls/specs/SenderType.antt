@@ -19,7 +19,7 @@ sender_type_name External = codes "external"
 sender_type_name NewMemberProposal = codes "new_member_proposal"
 sender_type_name NewMemberCommit = codes "new_member_commit"
 
--- which numbers there are
+-- whether a value has this number
 abbrev pub sender_type_has : ℕ → Bool
 sender_type_has n = (n == 1) || ((n == 2) || ((n == 3) || (n == 4)))
 
@@ -38,7 +38,7 @@ sender_type_format = values_format 1 sender_type_has
 pub sender_type_meets : MeetsLaws sender_type_format
 sender_type_meets = tagged_meets 1 (omega arith) (values_meet sender_type_has)
 
--- the number of a value, by what it stands for
+-- the number of a value, from what the value stands for
 abbrev pub sender_type_selected : Tree → ℕ
 sender_type_selected (Join (Number tag) vs) = tag
 sender_type_selected _ = 0

@@ -57,7 +57,7 @@ impl Size for AuthenticatedContent {
     ghost lawful = { authenticated_content_meets };
 }
 
-/// `EncodingError("value does not fit its context")`: a field is of another case.
+/// `EncodingError("value does not fit its context")`: a field's case is for another tag.
 impl Serialize for AuthenticatedContent {
     fn tls_serialize<W: Sink>(&self, writer: &mut W) -> Result<usize, Error> {
         write_as(self, &self.parts(), writer)
@@ -125,7 +125,7 @@ impl Validate for AuthenticatedContent {
     }
 }
 
-/// Two are equal exactly where each field is.
+/// Two values are equal if and only if all their fields are equal.
 pub fn is_compared_by_its_fields()
     ensures { (x y : AuthenticatedContent) →
         ⟦<AuthenticatedContent as PartialEq>⟧.eq x y

@@ -10,7 +10,7 @@ use tls_codec_cases::{By, append_as, write_as};
 
 /// `AuthenticatedContentTBM` (RFC 9420, section 6.2).
 ///
-/// It has references to its fields, and is only written.
+/// It has references to its fields. It can only be encoded.
 #[derive(PartialEq, Eq, Debug, Clone, Copy)]
 pub struct AuthenticatedContentTBM<'a> {
     /// `FramedContentTBS content_tbs;`
@@ -48,7 +48,7 @@ impl Size for AuthenticatedContentTBM<'_> {
     ghost lawful = { authenticated_content_tbm_meets };
 }
 
-/// `EncodingError("value does not fit its context")`: a field is of another case.
+/// `EncodingError("value does not fit its context")`: a field's case is for another tag.
 impl Serialize for AuthenticatedContentTBM<'_> {
     fn tls_serialize<W: Sink>(&self, writer: &mut W) -> Result<usize, Error> {
         write_as(self, &self.parts(), writer)
@@ -59,7 +59,7 @@ impl Serialize for AuthenticatedContentTBM<'_> {
     }
 }
 
-/// Two are equal exactly where each field is.
+/// Two values are equal if and only if all their fields are equal.
 pub fn is_compared_by_its_fields()
     ensures { (x y : AuthenticatedContentTBM) →
         ⟦<AuthenticatedContentTBM<'static> as PartialEq>⟧.eq x y

@@ -43,7 +43,7 @@ impl ContentType {
         }
     }
 
-    /// Its name in the text.
+    /// Its name in the presentation language.
     pub fn name(&self) -> &'static str
         ensures { result.now ≡ content_type_name self.now }
     {
@@ -54,7 +54,7 @@ impl ContentType {
         }
     }
 
-    /// The value that has this number.
+    /// The value with this number, if there is one.
     pub fn of_code(code: u8) -> Option<ContentType>
         ensures { MatchOption result (content_type_has code ≡ false)
             (λ v. content_type_code v ≡ code) }
@@ -88,7 +88,7 @@ impl From<ContentType> for u8 {
     }
 }
 
-/// The value that has this number.
+/// The value with this number.
 impl TryFrom<u8> for ContentType {
     type Error = Error;
 
@@ -227,14 +227,14 @@ impl ValidateKeyed for ContentType {
     }
 }
 
-/// Two are equal exactly where their numbers are.
+/// Two values are equal if and only if their numbers are equal.
 pub fn is_compared_by_its_number()
     ensures { (x y : ContentType) →
         ⟦<ContentType as PartialEq>⟧.eq x y
         ≡ nat_eq (content_type_code x) (content_type_code y) }
 {}
 
-/// Two are in the order of their numbers.
+/// Values are ordered by their numbers.
 pub fn is_ordered_by_its_number()
     ensures { (x y : ContentType) →
         ⟦<ContentType as Ord>⟧.cmp x y

@@ -121,7 +121,7 @@ impl Parted for FramedContent {
     ghost as_parts = { λ bytes is. is };
 }
 
-/// The encoding of a [`FramedContent`], by its fields.
+/// The encoding of a [`FramedContent`], split into its fields.
 #[derive(Drop)]
 pub struct FramedContentView<'a> {
     /// `opaque group_id<V>;`
@@ -209,7 +209,7 @@ impl ValidateKeyed for FramedContent {
     }
 }
 
-/// Two are equal exactly where each field is.
+/// Two values are equal if and only if all their fields are equal.
 pub fn is_compared_by_its_fields()
     ensures { (x y : FramedContent) →
         ⟦<FramedContent as PartialEq>⟧.eq x y

@@ -46,7 +46,7 @@ impl SizeFor<ContentType> for FramedContentAuthData {
     ghost lawful = { framed_content_auth_data_meets_for };
 }
 
-/// `EncodingError("value does not fit its context")`: a field is of another case.
+/// `EncodingError("value does not fit its context")`: a field's case is for another tag.
 impl SerializeFor<ContentType> for FramedContentAuthData {
     fn tls_serialize_for<W: Sink>(
         &self,
@@ -136,7 +136,7 @@ impl ValidateFor<ContentType> for FramedContentAuthData {
     }
 }
 
-/// Two are equal exactly where each field is.
+/// Two values are equal if and only if all their fields are equal.
 pub fn is_compared_by_its_fields()
     ensures { (x y : FramedContentAuthData) →
         ⟦<FramedContentAuthData as PartialEq>⟧.eq x y

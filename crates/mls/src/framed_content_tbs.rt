@@ -12,7 +12,7 @@ use tls_codec_cases::{AnyOf, By, Holds, Is, append_as, write_as};
 
 /// `FramedContentTBS` (RFC 9420, section 6.1).
 ///
-/// It has references to its fields, and is only written.
+/// It has references to its fields. It can only be encoded.
 #[derive(PartialEq, Eq, Debug, Clone, Copy)]
 pub struct FramedContentTBS<'a> {
     /// `ProtocolVersion version = mls10;`
@@ -32,7 +32,8 @@ type ByRefParts<'a> = (
 
 impl FramedContentTBS<'_> {
     fn parts(&self) -> ByRefParts<'_>
-        ensures { ⟦<ByRefParts<'static> as Size>⟧.plain result ≡ framed_content_tbs_plain self.now }
+        ensures { ⟦<ByRefParts<'static> as Size>⟧.plain result
+            ≡ framed_content_tbs_plain self.now }
     {
         let first = self.content;
         let rest = By(
@@ -61,7 +62,7 @@ impl Size for FramedContentTBS<'_> {
     ghost lawful = { framed_content_tbs_meets };
 }
 
-/// `EncodingError("value does not fit its context")`: a field is of another case.
+/// `EncodingError("value does not fit its context")`: a field's case is for another tag.
 impl Serialize for FramedContentTBS<'_> {
     fn tls_serialize<W: Sink>(&self, writer: &mut W) -> Result<usize, Error> {
         write_as(self, &self.parts(), writer)
@@ -80,7 +81,7 @@ impl Holds<ContentType> for FramedContentTBS<'_> {
     }
 }
 
-/// Two are equal exactly where each field is.
+/// Two values are equal if and only if all their fields are equal.
 pub fn is_compared_by_its_fields()
     ensures { (x y : FramedContentTBS) →
         ⟦<FramedContentTBS<'static> as PartialEq>⟧.eq x y

@@ -9,7 +9,7 @@ use tls_codec_cases::append_as;
 
 /// `InterimTranscriptHashInput` (RFC 9420, section 8.2).
 ///
-/// It has references to its fields, and is only written.
+/// It has references to its fields. It can only be encoded.
 #[derive(PartialEq, Eq, Debug, Clone, Copy)]
 pub struct InterimTranscriptHashInput<'a> {
     /// `MAC confirmation_tag;`
@@ -38,7 +38,7 @@ impl Serialize for InterimTranscriptHashInput<'_> {
     }
 }
 
-/// Two are equal exactly where each field is.
+/// Two values are equal if and only if all their fields are equal.
 pub fn is_compared_by_its_fields()
     ensures { (x y : InterimTranscriptHashInput) →
         ⟦<InterimTranscriptHashInput<'static> as PartialEq>⟧.eq x y

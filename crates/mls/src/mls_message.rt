@@ -89,7 +89,7 @@ impl Parted for MLSMessage {
     ghost as_parts = { λ bytes is. is };
 }
 
-/// The encoding of a [`MLSMessage`], by its fields.
+/// The encoding of a [`MLSMessage`], split into its fields.
 #[derive(Drop)]
 pub struct MLSMessageView<'a> {
     /// `ProtocolVersion version = mls10;`
@@ -110,7 +110,7 @@ impl<'a> From<Encoded<'a, MLSMessage>> for MLSMessageView<'a> {
     }
 }
 
-/// Two are equal exactly where each field is.
+/// Two values are equal if and only if all their fields are equal.
 pub fn is_compared_by_its_fields()
     ensures { (x y : MLSMessage) →
         ⟦<MLSMessage as PartialEq>⟧.eq x y

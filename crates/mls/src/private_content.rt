@@ -12,8 +12,8 @@ use tls_codec::{
 use tls_codec_cases::{Case, Chosen, Or, append_as_for, write_as_for};
 use tls_codec_validate::{Rejected, ValidateFor};
 
-/// `select (content_type)` of `PrivateMessageContent` (RFC 9420, section 6.3.1): no byte of
-/// it tells the tag.
+/// `select (content_type)` of `PrivateMessageContent` (RFC 9420, section 6.3.1): its bytes
+/// don't have the tag.
 #[derive(PartialEq, Eq, Debug, Clone, Drop)]
 pub enum PrivateContent {
     /// `case application: opaque application_data<V>;`
@@ -68,7 +68,7 @@ impl SizeFor<ContentType> for PrivateContent {
     ghost lawful = { private_content_meets_for };
 }
 
-/// `EncodingError("value does not fit its context")`: the value is of another case.
+/// `EncodingError("value does not fit its context")`: the value's case is for another tag.
 impl SerializeFor<ContentType> for PrivateContent {
     fn tls_serialize_for<W: Sink>(
         &self,
@@ -150,7 +150,7 @@ impl From<Commit> for PrivateContent {
     }
 }
 
-/// Two are equal exactly where they are of one case, and each field is.
+/// Two values are equal if and only if they have the same case and all their fields are equal.
 pub fn is_compared_by_its_case()
     ensures tag { (x y : PrivateContent) →
         IsTrue (⟦<PrivateContent as PartialEq>⟧.eq x y)

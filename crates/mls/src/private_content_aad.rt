@@ -9,7 +9,7 @@ use tls_codec_cases::append_as;
 
 /// `PrivateContentAAD` (RFC 9420, section 6.3.1).
 ///
-/// It has references to its fields, and is only written.
+/// It has references to its fields. It can only be encoded.
 #[derive(PartialEq, Eq, Debug, Clone, Copy)]
 pub struct PrivateContentAAD<'a> {
     /// `opaque group_id<V>;`
@@ -59,7 +59,7 @@ impl Serialize for PrivateContentAAD<'_> {
     }
 }
 
-/// Two are equal exactly where each field is.
+/// Two values are equal if and only if all their fields are equal.
 pub fn is_compared_by_its_fields()
     ensures { (x y : PrivateContentAAD) →
         ⟦<PrivateContentAAD<'static> as PartialEq>⟧.eq x y

@@ -145,7 +145,7 @@ impl Parted for PrivateMessage {
     ghost as_parts = { λ bytes is. is };
 }
 
-/// The encoding of a [`PrivateMessage`], by its fields.
+/// The encoding of a [`PrivateMessage`], split into its fields.
 #[derive(Drop)]
 pub struct PrivateMessageView<'a> {
     /// `opaque group_id<V>;`
@@ -181,7 +181,7 @@ impl<'a> From<Encoded<'a, PrivateMessage>> for PrivateMessageView<'a> {
     }
 }
 
-/// Two are equal exactly where each field is.
+/// Two values are equal if and only if all their fields are equal.
 pub fn is_compared_by_its_fields()
     ensures { (x y : PrivateMessage) →
         ⟦<PrivateMessage as PartialEq>⟧.eq x y

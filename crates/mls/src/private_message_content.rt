@@ -12,8 +12,8 @@ use tls_codec_validate::{Rejected, ValidateFor};
 
 /// `PrivateMessageContent` (RFC 9420, section 6.3.1).
 ///
-/// Zeros go to the end behind it, `opaque padding[length_of_padding];`: it is read and
-/// written as `Padded<PrivateMessageContent>`.
+/// Zeros follow it to the end, `opaque padding[length_of_padding];`: it is read and written
+/// as `Padded<PrivateMessageContent>`.
 #[derive(PartialEq, Eq, Debug, Clone, Drop)]
 pub struct PrivateMessageContent {
     /// `select (content_type);`
@@ -36,7 +36,7 @@ impl SizeFor<ContentType> for PrivateMessageContent {
     ghost lawful = { private_message_content_meets_for };
 }
 
-/// `EncodingError("value does not fit its context")`: a field is of another case.
+/// `EncodingError("value does not fit its context")`: a field's case is for another tag.
 impl SerializeFor<ContentType> for PrivateMessageContent {
     fn tls_serialize_for<W: Sink>(
         &self,
@@ -91,7 +91,7 @@ impl ValidateFor<ContentType> for PrivateMessageContent {
     }
 }
 
-/// Two are equal exactly where each field is.
+/// Two values are equal if and only if all their fields are equal.
 pub fn is_compared_by_its_fields()
     ensures { (x y : PrivateMessageContent) →
         ⟦<PrivateMessageContent as PartialEq>⟧.eq x y

@@ -44,7 +44,8 @@ type ByRefParts<'a> = ByRefThen<
 
 impl PublicMessage {
     fn parts(&self) -> ByRefParts<'_>
-        ensures { ⟦<ByRefParts<'static> as Size>⟧.plain result ≡ public_message_plain self.now }
+        ensures { ⟦<ByRefParts<'static> as Size>⟧.plain result
+            ≡ public_message_plain self.now }
     {
         let first = &self.content;
         let rest = (
@@ -73,7 +74,7 @@ impl Size for PublicMessage {
     ghost lawful = { public_message_meets };
 }
 
-/// `EncodingError("value does not fit its context")`: a field is of another case.
+/// `EncodingError("value does not fit its context")`: a field's case is for another tag.
 impl Serialize for PublicMessage {
     fn tls_serialize<W: Sink>(&self, writer: &mut W) -> Result<usize, Error> {
         write_as(self, &self.parts(), writer)
@@ -149,7 +150,7 @@ impl Validate for PublicMessage {
     }
 }
 
-/// Two are equal exactly where each field is.
+/// Two values are equal if and only if all their fields are equal.
 pub fn is_compared_by_its_fields()
     ensures { (x y : PublicMessage) →
         ⟦<PublicMessage as PartialEq>⟧.eq x y

@@ -171,7 +171,7 @@ impl Choice for Sender {
     ghost as_choice = { λ bytes is. is };
 }
 
-/// The encoding of a [`Sender`], by its case and fields.
+/// The encoding of a [`Sender`], split into its case and fields.
 #[derive(Drop)]
 pub enum SenderView<'a> {
     /// `case member: uint32 leaf_index;`
@@ -247,7 +247,7 @@ impl ValidateKeyed for Sender {
 }
 
 impl Sender {
-    /// The tag of its case.
+    /// The tag of this value's case.
     pub fn sender_type(&self) -> SenderType
         ensures { sender_type_code result ≡ sender_tag self.now }
     {
@@ -260,7 +260,7 @@ impl Sender {
     }
 }
 
-/// Two are equal exactly where they are of one case, and each field is.
+/// Two values are equal if and only if they have the same case and all their fields are equal.
 pub fn is_compared_by_its_case()
     ensures tag { (x y : Sender) →
         IsTrue (⟦<Sender as PartialEq>⟧.eq x y) → sender_tag x ≡ sender_tag y }

@@ -111,7 +111,7 @@ impl Parted for SenderData {
     ghost as_parts = { λ bytes is. is };
 }
 
-/// The encoding of a [`SenderData`], by its fields.
+/// The encoding of a [`SenderData`], split into its fields.
 #[derive(Drop)]
 pub struct SenderDataView<'a> {
     /// `uint32 leaf_index;`
@@ -136,7 +136,7 @@ impl<'a> From<Encoded<'a, SenderData>> for SenderDataView<'a> {
     }
 }
 
-/// Two are equal exactly where each field is.
+/// Two values are equal if and only if all their fields are equal.
 pub fn is_compared_by_its_fields()
     ensures { (x y : SenderData) →
         ⟦<SenderData as PartialEq>⟧.eq x y

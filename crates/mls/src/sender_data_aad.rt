@@ -9,7 +9,7 @@ use tls_codec_cases::append_as;
 
 /// `SenderDataAAD` (RFC 9420, section 6.3.2).
 ///
-/// It has references to its fields, and is only written.
+/// It has references to its fields. It can only be encoded.
 #[derive(PartialEq, Eq, Debug, Clone, Copy)]
 pub struct SenderDataAAD<'a> {
     /// `opaque group_id<V>;`
@@ -60,7 +60,7 @@ impl Serialize for SenderDataAAD<'_> {
     }
 }
 
-/// Two are equal exactly where each field is.
+/// Two values are equal if and only if all their fields are equal.
 pub fn is_compared_by_its_fields()
     ensures { (x y : SenderDataAAD) →
         ⟦<SenderDataAAD<'static> as PartialEq>⟧.eq x y

@@ -46,7 +46,7 @@ impl SenderType {
         }
     }
 
-    /// Its name in the text.
+    /// Its name in the presentation language.
     pub fn name(&self) -> &'static str
         ensures { result.now ≡ sender_type_name self.now }
     {
@@ -58,7 +58,7 @@ impl SenderType {
         }
     }
 
-    /// The value that has this number.
+    /// The value with this number, if there is one.
     pub fn of_code(code: u8) -> Option<SenderType>
         ensures { MatchOption result (sender_type_has code ≡ false)
             (λ v. sender_type_code v ≡ code) }
@@ -93,7 +93,7 @@ impl From<SenderType> for u8 {
     }
 }
 
-/// The value that has this number.
+/// The value with this number.
 impl TryFrom<u8> for SenderType {
     type Error = Error;
 
@@ -233,14 +233,14 @@ impl ValidateKeyed for SenderType {
     }
 }
 
-/// Two are equal exactly where their numbers are.
+/// Two values are equal if and only if their numbers are equal.
 pub fn is_compared_by_its_number()
     ensures { (x y : SenderType) →
         ⟦<SenderType as PartialEq>⟧.eq x y
         ≡ nat_eq (sender_type_code x) (sender_type_code y) }
 {}
 
-/// Two are in the order of their numbers.
+/// Values are ordered by their numbers.
 pub fn is_ordered_by_its_number()
     ensures { (x y : SenderType) →
         ⟦<SenderType as Ord>⟧.cmp x y

@@ -31,7 +31,7 @@ impl WireFormat {
     /// `mls_key_package`
     pub const MLS_KEY_PACKAGE: WireFormat = WireFormat(5);
 
-    /// Its name in the text, if it has one.
+    /// Its name in the presentation language, if it has one.
     pub fn name(&self) -> Option<&'static str>
         ensures { option_map (λ t. t.now) result ≡ listed_name wire_format_names self.now.0 }
     {
@@ -46,7 +46,7 @@ impl WireFormat {
     }
 }
 
-/// Its name, or else its number in hexadecimal, two digits a byte. A width pads names alone.
+/// Its name, or else its number in hexadecimal, two digits per byte. A width pads only names.
 impl fmt::Display for WireFormat {
     ghost output = { λ v. Some (name_or_number wire_format_names 4 v.0) };
 
@@ -68,7 +68,7 @@ impl From<WireFormat> for u16 {
     }
 }
 
-/// The one that has this number.
+/// The value with this number.
 impl From<u16> for WireFormat {
     ghost from_gives = { λ number v. v.0 ≡ number };
 
@@ -145,13 +145,13 @@ impl Told for WireFormat {
     }
 }
 
-/// Two are equal exactly where their numbers are.
+/// Two values are equal if and only if their numbers are equal.
 pub fn is_compared_by_its_number()
     ensures { (x y : WireFormat) →
         ⟦<WireFormat as PartialEq>⟧.eq x y ≡ nat_eq x.0 y.0 }
 {}
 
-/// Two are in the order of their numbers.
+/// Values are ordered by their numbers.
 pub fn is_ordered_by_its_number()
     ensures { (x y : WireFormat) →
         ⟦<WireFormat as Ord>⟧.cmp x y ≡ nat_cmp x.0 y.0 }

@@ -251,7 +251,7 @@ impl Choice for WireFormatData {
     ghost as_choice = { λ bytes is. is };
 }
 
-/// The encoding of a [`WireFormatData`], by its case and fields.
+/// The encoding of a [`WireFormatData`], split into its case and fields.
 #[derive(Drop)]
 pub enum WireFormatDataView<'a> {
     /// `case mls_public_message: PublicMessage public_message;`
@@ -289,7 +289,7 @@ impl<'a> From<Encoded<'a, WireFormatData>> for WireFormatDataView<'a> {
 }
 
 impl WireFormatData {
-    /// The tag of its case.
+    /// The tag of this value's case.
     pub fn wire_format(&self) -> WireFormat
         ensures { result.0 ≡ wire_format_data_tag self.now }
     {
@@ -348,7 +348,7 @@ impl From<KeyPackage> for WireFormatData {
     }
 }
 
-/// Two are equal exactly where they are of one case, and each field is.
+/// Two values are equal if and only if they have the same case and all their fields are equal.
 pub fn is_compared_by_its_case()
     ensures tag { (x y : WireFormatData) →
         IsTrue (⟦<WireFormatData as PartialEq>⟧.eq x y)

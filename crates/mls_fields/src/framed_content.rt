@@ -7,7 +7,8 @@ use mls::{ContentTypeData, Sender};
 use tls_codec::TlsVarInt;
 use tls_codec_outcome::{Content, Locate, Span, Whole};
 
-/// Where the fields of a `FramedContent` are (RFC 9420, section 6). Of `opaque` it is the bytes without their length.
+/// Where the fields of a `FramedContent` are (RFC 9420, section 6). A span of `opaque` has the bytes
+/// without their length.
 #[repr(C)]
 #[derive(Clone, Copy, PartialEq, Eq, Debug)]
 pub struct FramedContentFields {

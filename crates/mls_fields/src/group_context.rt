@@ -8,7 +8,8 @@ use mls_proposals::ProtocolVersionMls10;
 use tls_codec::TlsVarInt;
 use tls_codec_outcome::{Content, Locate, Span, Whole};
 
-/// Where the fields of a `GroupContext` are (RFC 9420, section 8.1). Of `opaque` it is the bytes without their length.
+/// Where the fields of a `GroupContext` are (RFC 9420, section 8.1). A span of `opaque` has the bytes
+/// without their length.
 #[repr(C)]
 #[derive(Clone, Copy, PartialEq, Eq, Debug)]
 pub struct GroupContextFields {

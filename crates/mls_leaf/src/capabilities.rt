@@ -122,7 +122,7 @@ impl Parted for Capabilities {
     ghost as_parts = { λ bytes is. is };
 }
 
-/// The encoding of a [`Capabilities`], by its fields.
+/// The encoding of a [`Capabilities`], split into its fields.
 #[derive(Drop)]
 pub struct CapabilitiesView<'a> {
     /// `ProtocolVersion versions<V>;`
@@ -155,7 +155,7 @@ impl<'a> From<Encoded<'a, Capabilities>> for CapabilitiesView<'a> {
     }
 }
 
-/// Two are equal exactly where each field is.
+/// Two values are equal if and only if all their fields are equal.
 pub fn is_compared_by_its_fields()
     ensures { (x y : Capabilities) →
         ⟦<Capabilities as PartialEq>⟧.eq x y

@@ -74,7 +74,7 @@ impl Parted for Certificate {
     ghost as_parts = { λ bytes is. is };
 }
 
-/// The encoding of a [`Certificate`], by its fields.
+/// The encoding of a [`Certificate`], split into its fields.
 #[derive(Drop)]
 pub struct CertificateView<'a> {
     /// `opaque cert_data<V>;`
@@ -90,7 +90,7 @@ impl<'a> From<Encoded<'a, Certificate>> for CertificateView<'a> {
     }
 }
 
-/// Two are equal exactly where each field is.
+/// Two values are equal if and only if all their fields are equal.
 pub fn is_compared_by_its_fields()
     ensures { (x y : Certificate) →
         ⟦<Certificate as PartialEq>⟧.eq x y

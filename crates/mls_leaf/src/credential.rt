@@ -138,7 +138,7 @@ impl Choice for Credential {
     ghost as_choice = { λ bytes is. is };
 }
 
-/// The encoding of a [`Credential`], by its case and fields.
+/// The encoding of a [`Credential`], split into its case and fields.
 #[derive(Drop)]
 pub enum CredentialView<'a> {
     /// `case basic: opaque identity<V>;`
@@ -164,7 +164,7 @@ impl<'a> From<Encoded<'a, Credential>> for CredentialView<'a> {
 }
 
 impl Credential {
-    /// The tag of its case.
+    /// The tag of this value's case.
     pub fn credential_type(&self) -> CredentialType
         ensures { result.0 ≡ credential_tag self.now }
     {
@@ -193,7 +193,7 @@ impl From<Vec<Certificate>> for Credential {
     }
 }
 
-/// Two are equal exactly where they are of one case, and each field is.
+/// Two values are equal if and only if they have the same case and all their fields are equal.
 pub fn is_compared_by_its_case()
     ensures tag { (x y : Credential) →
         IsTrue (⟦<Credential as PartialEq>⟧.eq x y) → credential_tag x ≡ credential_tag y }

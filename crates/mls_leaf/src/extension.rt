@@ -96,7 +96,7 @@ impl Parted for Extension {
     ghost as_parts = { λ bytes is. is };
 }
 
-/// The encoding of a [`Extension`], by its fields.
+/// The encoding of a [`Extension`], split into its fields.
 #[derive(Drop)]
 pub struct ExtensionView<'a> {
     /// `ExtensionType extension_type;`
@@ -117,7 +117,7 @@ impl<'a> From<Encoded<'a, Extension>> for ExtensionView<'a> {
     }
 }
 
-/// Two are equal exactly where each field is.
+/// Two values are equal if and only if all their fields are equal.
 pub fn is_compared_by_its_fields()
     ensures { (x y : Extension) →
         ⟦<Extension as PartialEq>⟧.eq x y

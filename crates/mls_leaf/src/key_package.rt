@@ -127,7 +127,7 @@ impl Parted for KeyPackage {
     ghost as_parts = { λ bytes is. is };
 }
 
-/// The encoding of a [`KeyPackage`], by its fields.
+/// The encoding of a [`KeyPackage`], split into its fields.
 #[derive(Drop)]
 pub struct KeyPackageView<'a> {
     /// `ProtocolVersion version;`
@@ -165,7 +165,7 @@ impl<'a> From<Encoded<'a, KeyPackage>> for KeyPackageView<'a> {
     }
 }
 
-/// Two are equal exactly where each field is.
+/// Two values are equal if and only if all their fields are equal.
 pub fn is_compared_by_its_fields()
     ensures { (x y : KeyPackage) →
         ⟦<KeyPackage as PartialEq>⟧.eq x y

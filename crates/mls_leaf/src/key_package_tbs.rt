@@ -9,7 +9,7 @@ use tls_codec_cases::append_as;
 
 /// `KeyPackageTBS` (RFC 9420, section 10).
 ///
-/// It has references to its fields, and is only written.
+/// It has references to its fields. It can only be encoded.
 #[derive(PartialEq, Eq, Debug, Clone, Copy)]
 pub struct KeyPackageTBS<'a> {
     /// `ProtocolVersion version;`
@@ -61,7 +61,7 @@ impl Serialize for KeyPackageTBS<'_> {
     }
 }
 
-/// What is signed of a `KeyPackage`.
+/// The part of a `KeyPackage` that is signed.
 impl<'a> From<&'a KeyPackage> for KeyPackageTBS<'a> {
     ghost from_gives = { λ whole borrowed.
         (borrowed.version.now ≡ whole.now.version)
@@ -81,7 +81,7 @@ impl<'a> From<&'a KeyPackage> for KeyPackageTBS<'a> {
     }
 }
 
-/// Two are equal exactly where each field is.
+/// Two values are equal if and only if all their fields are equal.
 pub fn is_compared_by_its_fields()
     ensures { (x y : KeyPackageTBS) →
         ⟦<KeyPackageTBS<'static> as PartialEq>⟧.eq x y

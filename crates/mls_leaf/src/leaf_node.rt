@@ -146,7 +146,7 @@ impl Parted for LeafNode {
     ghost as_parts = { λ bytes is. is };
 }
 
-/// The encoding of a [`LeafNode`], by its fields.
+/// The encoding of a [`LeafNode`], split into its fields.
 #[derive(Drop)]
 pub struct LeafNodeView<'a> {
     /// `HPKEPublicKey encryption_key;`
@@ -188,7 +188,7 @@ impl<'a> From<Encoded<'a, LeafNode>> for LeafNodeView<'a> {
     }
 }
 
-/// Two are equal exactly where each field is.
+/// Two values are equal if and only if all their fields are equal.
 pub fn is_compared_by_its_fields()
     ensures { (x y : LeafNode) →
         ⟦<LeafNode as PartialEq>⟧.eq x y

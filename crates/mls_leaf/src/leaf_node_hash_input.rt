@@ -95,7 +95,7 @@ impl Parted for LeafNodeHashInput {
     ghost as_parts = { λ bytes is. is };
 }
 
-/// The encoding of a [`LeafNodeHashInput`], by its fields.
+/// The encoding of a [`LeafNodeHashInput`], split into its fields.
 #[derive(Drop)]
 pub struct LeafNodeHashInputView<'a> {
     /// `uint32 leaf_index;`
@@ -116,7 +116,7 @@ impl<'a> From<Encoded<'a, LeafNodeHashInput>> for LeafNodeHashInputView<'a> {
     }
 }
 
-/// Two are equal exactly where each field is.
+/// Two values are equal if and only if all their fields are equal.
 pub fn is_compared_by_its_fields()
     ensures { (x y : LeafNodeHashInput) →
         ⟦<LeafNodeHashInput as PartialEq>⟧.eq x y

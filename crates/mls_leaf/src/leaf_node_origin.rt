@@ -169,7 +169,7 @@ impl Choice for LeafNodeOrigin {
     ghost as_choice = { λ bytes is. is };
 }
 
-/// The encoding of a [`LeafNodeOrigin`], by its case and fields.
+/// The encoding of a [`LeafNodeOrigin`], split into its case and fields.
 #[derive(Drop)]
 pub enum LeafNodeOriginView<'a> {
     /// `case key_package: Lifetime lifetime;`
@@ -199,7 +199,7 @@ impl<'a> From<Encoded<'a, LeafNodeOrigin>> for LeafNodeOriginView<'a> {
 }
 
 impl LeafNodeOrigin {
-    /// The tag of its case.
+    /// The tag of this value's case.
     pub fn leaf_node_source(&self) -> u8
         ensures { result ≡ leaf_node_origin_tag self.now }
     {
@@ -229,7 +229,7 @@ impl From<VLBytes> for LeafNodeOrigin {
     }
 }
 
-/// Two are equal exactly where they are of one case, and each field is.
+/// Two values are equal if and only if they have the same case and all their fields are equal.
 pub fn is_compared_by_its_case()
     ensures tag { (x y : LeafNodeOrigin) →
         IsTrue (⟦<LeafNodeOrigin as PartialEq>⟧.eq x y)

@@ -12,7 +12,7 @@ use tls_codec_cases::append_as;
 /// What the signature of a leaf node is over. Its second select is on a tag that was read
 /// earlier.
 ///
-/// It has references to its fields, and is only written.
+/// It has references to its fields. It can only be encoded.
 #[derive(PartialEq, Eq, Debug, Clone, Copy)]
 pub struct LeafNodeTBS<'a> {
     /// `HPKEPublicKey encryption_key;`
@@ -79,7 +79,7 @@ impl Serialize for LeafNodeTBS<'_> {
     }
 }
 
-/// Two are equal exactly where each field is.
+/// Two values are equal if and only if all their fields are equal.
 pub fn is_compared_by_its_fields()
     ensures { (x y : LeafNodeTBS) →
         ⟦<LeafNodeTBS<'static> as PartialEq>⟧.eq x y

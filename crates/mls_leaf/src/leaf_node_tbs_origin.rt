@@ -15,7 +15,7 @@ const COMMIT: u8 = 3;
 /// `LeafNodeSource leaf_node_source` of `LeafNodeTBS` (RFC 9420, section 7.2), and what
 /// comes after each.
 ///
-/// It has references to its fields, and is only written.
+/// It has references to its fields. It can only be encoded.
 #[derive(PartialEq, Eq, Debug, Clone, Copy)]
 pub enum LeafNodeTBSOrigin<'a> {
     /// `case key_package:`
@@ -133,7 +133,7 @@ impl Serialize for LeafNodeTBSOrigin<'_> {
 }
 
 impl LeafNodeTBSOrigin<'_> {
-    /// The tag of its case.
+    /// The tag of this value's case.
     pub fn leaf_node_source(&self) -> u8
         ensures { result ≡ leaf_node_tbs_origin_tag self.now }
     {
@@ -145,7 +145,7 @@ impl LeafNodeTBSOrigin<'_> {
     }
 }
 
-/// Two are equal exactly where they are of one case, and each field is.
+/// Two values are equal if and only if they have the same case and all their fields are equal.
 pub fn is_compared_by_its_case()
     ensures tag { (x y : LeafNodeTBSOrigin) →
         IsTrue (⟦<LeafNodeTBSOrigin<'static> as PartialEq>⟧.eq x y)

@@ -91,7 +91,7 @@ impl Parted for Lifetime {
     ghost as_parts = { λ bytes is. is };
 }
 
-/// The encoding of a [`Lifetime`], by its fields.
+/// The encoding of a [`Lifetime`], split into its fields.
 #[derive(Drop)]
 pub struct LifetimeView<'a> {
     /// `uint64 not_before;`
@@ -112,7 +112,7 @@ impl<'a> From<Encoded<'a, Lifetime>> for LifetimeView<'a> {
     }
 }
 
-/// Two are equal exactly where each field is.
+/// Two values are equal if and only if all their fields are equal.
 pub fn is_compared_by_its_fields()
     ensures { (x y : Lifetime) →
         ⟦<Lifetime as PartialEq>⟧.eq x y

@@ -136,7 +136,7 @@ impl Choice for Node {
     ghost as_choice = { λ bytes is. is };
 }
 
-/// The encoding of a [`Node`], by its case and fields.
+/// The encoding of a [`Node`], split into its case and fields.
 #[derive(Drop)]
 pub enum NodeView<'a> {
     /// `case leaf: LeafNode leaf_node;`
@@ -162,7 +162,7 @@ impl<'a> From<Encoded<'a, Node>> for NodeView<'a> {
 }
 
 impl Node {
-    /// The tag of its case.
+    /// The tag of this value's case.
     pub fn node_type(&self) -> u8
         ensures { result ≡ node_tag self.now }
     {
@@ -191,7 +191,7 @@ impl From<ParentNode> for Node {
     }
 }
 
-/// Two are equal exactly where they are of one case, and each field is.
+/// Two values are equal if and only if they have the same case and all their fields are equal.
 pub fn is_compared_by_its_case()
     ensures tag { (x y : Node) →
         IsTrue (⟦<Node as PartialEq>⟧.eq x y) → node_tag x ≡ node_tag y }

@@ -9,7 +9,7 @@ use tls_codec_cases::append_as;
 
 /// `ParentHashInput` (RFC 9420, section 7.9).
 ///
-/// It has references to its fields, and is only written.
+/// It has references to its fields. It can only be encoded.
 #[derive(PartialEq, Eq, Debug, Clone, Copy)]
 pub struct ParentHashInput<'a> {
     /// `HPKEPublicKey encryption_key;`
@@ -60,7 +60,7 @@ impl Serialize for ParentHashInput<'_> {
     }
 }
 
-/// Two are equal exactly where each field is.
+/// Two values are equal if and only if all their fields are equal.
 pub fn is_compared_by_its_fields()
     ensures { (x y : ParentHashInput) →
         ⟦<ParentHashInput<'static> as PartialEq>⟧.eq x y

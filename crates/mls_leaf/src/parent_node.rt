@@ -114,7 +114,7 @@ impl Parted for ParentNode {
     ghost as_parts = { λ bytes is. is };
 }
 
-/// The encoding of a [`ParentNode`], by its fields.
+/// The encoding of a [`ParentNode`], split into its fields.
 #[derive(Drop)]
 pub struct ParentNodeView<'a> {
     /// `HPKEPublicKey encryption_key;`
@@ -139,7 +139,7 @@ impl<'a> From<Encoded<'a, ParentNode>> for ParentNodeView<'a> {
     }
 }
 
-/// Two are equal exactly where each field is.
+/// Two values are equal if and only if all their fields are equal.
 pub fn is_compared_by_its_fields()
     ensures { (x y : ParentNode) →
         ⟦<ParentNode as PartialEq>⟧.eq x y

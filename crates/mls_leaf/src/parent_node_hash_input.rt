@@ -120,7 +120,7 @@ impl Parted for ParentNodeHashInput {
     ghost as_parts = { λ bytes is. is };
 }
 
-/// The encoding of a [`ParentNodeHashInput`], by its fields.
+/// The encoding of a [`ParentNodeHashInput`], split into its fields.
 #[derive(Drop)]
 pub struct ParentNodeHashInputView<'a> {
     /// `optional<ParentNode> parent_node;`
@@ -145,7 +145,7 @@ impl<'a> From<Encoded<'a, ParentNodeHashInput>> for ParentNodeHashInputView<'a> 
     }
 }
 
-/// Two are equal exactly where each field is.
+/// Two values are equal if and only if all their fields are equal.
 pub fn is_compared_by_its_fields()
     ensures { (x y : ParentNodeHashInput) →
         ⟦<ParentNodeHashInput as PartialEq>⟧.eq x y

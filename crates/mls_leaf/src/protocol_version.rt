@@ -19,7 +19,7 @@ impl ProtocolVersion {
     /// `mls10`
     pub const MLS10: ProtocolVersion = ProtocolVersion(1);
 
-    /// Its name in the text, if it has one.
+    /// Its name in the presentation language, if it has one.
     pub fn name(&self) -> Option<&'static str>
         ensures { option_map (λ t. t.now) result ≡ listed_name protocol_version_names self.now.0 }
     {
@@ -30,7 +30,7 @@ impl ProtocolVersion {
     }
 }
 
-/// Its name, or else its number in hexadecimal, two digits a byte. A width pads names alone.
+/// Its name, or else its number in hexadecimal, two digits per byte. A width pads only names.
 impl fmt::Display for ProtocolVersion {
     ghost output = { λ v. Some (name_or_number protocol_version_names 4 v.0) };
 
@@ -52,7 +52,7 @@ impl From<ProtocolVersion> for u16 {
     }
 }
 
-/// The one that has this number.
+/// The value with this number.
 impl From<u16> for ProtocolVersion {
     ghost from_gives = { λ number v. v.0 ≡ number };
 
@@ -132,13 +132,13 @@ impl Told for ProtocolVersion {
     }
 }
 
-/// Two are equal exactly where their numbers are.
+/// Two values are equal if and only if their numbers are equal.
 pub fn is_compared_by_its_number()
     ensures { (x y : ProtocolVersion) →
         ⟦<ProtocolVersion as PartialEq>⟧.eq x y ≡ nat_eq x.0 y.0 }
 {}
 
-/// Two are in the order of their numbers.
+/// Values are ordered by their numbers.
 pub fn is_ordered_by_its_number()
     ensures { (x y : ProtocolVersion) →
         ⟦<ProtocolVersion as Ord>⟧.cmp x y ≡ nat_cmp x.0 y.0 }

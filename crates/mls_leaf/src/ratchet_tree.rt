@@ -75,7 +75,7 @@ impl Parted for RatchetTree {
     ghost as_parts = { λ bytes is. is };
 }
 
-/// The encoding of a [`RatchetTree`], by its fields.
+/// The encoding of a [`RatchetTree`], split into its fields.
 #[derive(Drop)]
 pub struct RatchetTreeView<'a> {
     /// `optional<Node> ratchet_tree<V>;`
@@ -91,7 +91,7 @@ impl<'a> From<Encoded<'a, RatchetTree>> for RatchetTreeView<'a> {
     }
 }
 
-/// Two are equal exactly where each field is.
+/// Two values are equal if and only if all their fields are equal.
 pub fn is_compared_by_its_fields()
     ensures { (x y : RatchetTree) →
         ⟦<RatchetTree as PartialEq>⟧.eq x y

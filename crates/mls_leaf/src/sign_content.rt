@@ -8,7 +8,7 @@ use tls_codec_cases::append_as;
 
 /// `SignContent` (RFC 9420, section 5.1.2).
 ///
-/// It has references to its fields, and is only written.
+/// It has references to its fields. It can only be encoded.
 #[derive(PartialEq, Eq, Debug, Clone, Copy)]
 pub struct SignContent<'a> {
     /// `opaque label<V>;`
@@ -39,7 +39,7 @@ impl Serialize for SignContent<'_> {
     }
 }
 
-/// Two are equal exactly where each field is.
+/// Two values are equal if and only if all their fields are equal.
 pub fn is_compared_by_its_fields()
     ensures { (x y : SignContent) →
         ⟦<SignContent<'static> as PartialEq>⟧.eq x y

@@ -141,7 +141,7 @@ impl Choice for TreeHashInput {
     ghost as_choice = { λ bytes is. is };
 }
 
-/// The encoding of a [`TreeHashInput`], by its case and fields.
+/// The encoding of a [`TreeHashInput`], split into its case and fields.
 #[derive(Drop)]
 pub enum TreeHashInputView<'a> {
     /// `case leaf: LeafNodeHashInput leaf_node;`
@@ -167,7 +167,7 @@ impl<'a> From<Encoded<'a, TreeHashInput>> for TreeHashInputView<'a> {
 }
 
 impl TreeHashInput {
-    /// The tag of its case.
+    /// The tag of this value's case.
     pub fn node_type(&self) -> u8
         ensures { result ≡ tree_hash_input_tag self.now }
     {
@@ -196,7 +196,7 @@ impl From<ParentNodeHashInput> for TreeHashInput {
     }
 }
 
-/// Two are equal exactly where they are of one case, and each field is.
+/// Two values are equal if and only if they have the same case and all their fields are equal.
 pub fn is_compared_by_its_case()
     ensures tag { (x y : TreeHashInput) →
         IsTrue (⟦<TreeHashInput as PartialEq>⟧.eq x y)

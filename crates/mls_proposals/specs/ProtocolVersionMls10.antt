@@ -12,7 +12,7 @@ protocol_version_mls10_code v = 1
 abbrev pub protocol_version_mls10_name : ProtocolVersionMls10 → List ℕ
 protocol_version_mls10_name v = codes "mls10"
 
--- which numbers there are
+-- whether a value has this number
 abbrev pub protocol_version_mls10_has : ℕ → Bool
 protocol_version_mls10_has n = n == 1
 

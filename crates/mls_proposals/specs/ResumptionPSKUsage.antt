@@ -17,7 +17,7 @@ resumption_psk_usage_name Application = codes "application"
 resumption_psk_usage_name Reinit = codes "reinit"
 resumption_psk_usage_name Branch = codes "branch"
 
--- which numbers there are
+-- whether a value has this number
 abbrev pub resumption_psk_usage_has : ℕ → Bool
 resumption_psk_usage_has n = (n == 1) || ((n == 2) || (n == 3))
 

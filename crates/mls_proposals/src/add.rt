@@ -75,7 +75,7 @@ impl Parted for Add {
     ghost as_parts = { λ bytes is. is };
 }
 
-/// The encoding of a [`Add`], by its fields.
+/// The encoding of a [`Add`], split into its fields.
 #[derive(Drop)]
 pub struct AddView<'a> {
     /// `KeyPackage key_package;`
@@ -91,7 +91,7 @@ impl<'a> From<Encoded<'a, Add>> for AddView<'a> {
     }
 }
 
-/// Two are equal exactly where each field is.
+/// Two values are equal if and only if all their fields are equal.
 pub fn is_compared_by_its_fields()
     ensures { (x y : Add) →
         ⟦<Add as PartialEq>⟧.eq x y

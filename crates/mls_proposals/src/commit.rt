@@ -79,7 +79,7 @@ impl Parted for Commit {
     ghost as_parts = { λ bytes is. is };
 }
 
-/// The encoding of a [`Commit`], by its fields.
+/// The encoding of a [`Commit`], split into its fields.
 #[derive(Drop)]
 pub struct CommitView<'a> {
     /// `ProposalOrRef proposals<V>;`
@@ -97,7 +97,7 @@ impl<'a> From<Encoded<'a, Commit>> for CommitView<'a> {
     }
 }
 
-/// Two are equal exactly where each field is.
+/// Two values are equal if and only if all their fields are equal.
 pub fn is_compared_by_its_fields()
     ensures { (x y : Commit) →
         ⟦<Commit as PartialEq>⟧.eq x y

@@ -111,7 +111,7 @@ impl Parted for EncryptedGroupSecrets {
     ghost as_parts = { λ bytes is. is };
 }
 
-/// The encoding of a [`EncryptedGroupSecrets`], by its fields.
+/// The encoding of a [`EncryptedGroupSecrets`], split into its fields.
 #[derive(Drop)]
 pub struct EncryptedGroupSecretsView<'a> {
     /// `KeyPackageRef new_member;`
@@ -132,7 +132,7 @@ impl<'a> From<Encoded<'a, EncryptedGroupSecrets>> for EncryptedGroupSecretsView<
     }
 }
 
-/// Two are equal exactly where each field is.
+/// Two values are equal if and only if all their fields are equal.
 pub fn is_compared_by_its_fields()
     ensures { (x y : EncryptedGroupSecrets) →
         ⟦<EncryptedGroupSecrets as PartialEq>⟧.eq x y

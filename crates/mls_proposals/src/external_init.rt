@@ -74,7 +74,7 @@ impl Parted for ExternalInit {
     ghost as_parts = { λ bytes is. is };
 }
 
-/// The encoding of a [`ExternalInit`], by its fields.
+/// The encoding of a [`ExternalInit`], split into its fields.
 #[derive(Drop)]
 pub struct ExternalInitView<'a> {
     /// `opaque kem_output<V>;`
@@ -90,7 +90,7 @@ impl<'a> From<Encoded<'a, ExternalInit>> for ExternalInitView<'a> {
     }
 }
 
-/// Two are equal exactly where each field is.
+/// Two values are equal if and only if all their fields are equal.
 pub fn is_compared_by_its_fields()
     ensures { (x y : ExternalInit) →
         ⟦<ExternalInit as PartialEq>⟧.eq x y

@@ -75,7 +75,7 @@ impl Parted for ExternalPub {
     ghost as_parts = { λ bytes is. is };
 }
 
-/// The encoding of a [`ExternalPub`], by its fields.
+/// The encoding of a [`ExternalPub`], split into its fields.
 #[derive(Drop)]
 pub struct ExternalPubView<'a> {
     /// `HPKEPublicKey external_pub;`
@@ -91,7 +91,7 @@ impl<'a> From<Encoded<'a, ExternalPub>> for ExternalPubView<'a> {
     }
 }
 
-/// Two are equal exactly where each field is.
+/// Two values are equal if and only if all their fields are equal.
 pub fn is_compared_by_its_fields()
     ensures { (x y : ExternalPub) →
         ⟦<ExternalPub as PartialEq>⟧.eq x y

@@ -95,7 +95,7 @@ impl Parted for ExternalSender {
     ghost as_parts = { λ bytes is. is };
 }
 
-/// The encoding of a [`ExternalSender`], by its fields.
+/// The encoding of a [`ExternalSender`], split into its fields.
 #[derive(Drop)]
 pub struct ExternalSenderView<'a> {
     /// `SignaturePublicKey signature_key;`
@@ -116,7 +116,7 @@ impl<'a> From<Encoded<'a, ExternalSender>> for ExternalSenderView<'a> {
     }
 }
 
-/// Two are equal exactly where each field is.
+/// Two values are equal if and only if all their fields are equal.
 pub fn is_compared_by_its_fields()
     ensures { (x y : ExternalSender) →
         ⟦<ExternalSender as PartialEq>⟧.eq x y

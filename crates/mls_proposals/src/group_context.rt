@@ -144,7 +144,7 @@ impl Parted for GroupContext {
     ghost as_parts = { λ bytes is. is };
 }
 
-/// The encoding of a [`GroupContext`], by its fields.
+/// The encoding of a [`GroupContext`], split into its fields.
 #[derive(Drop)]
 pub struct GroupContextView<'a> {
     /// `ProtocolVersion version = mls10;`
@@ -185,7 +185,7 @@ impl<'a> From<Encoded<'a, GroupContext>> for GroupContextView<'a> {
     }
 }
 
-/// Two are equal exactly where each field is.
+/// Two values are equal if and only if all their fields are equal.
 pub fn is_compared_by_its_fields()
     ensures { (x y : GroupContext) →
         ⟦<GroupContext as PartialEq>⟧.eq x y

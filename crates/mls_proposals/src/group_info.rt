@@ -133,7 +133,7 @@ impl Parted for GroupInfo {
     ghost as_parts = { λ bytes is. is };
 }
 
-/// The encoding of a [`GroupInfo`], by its fields.
+/// The encoding of a [`GroupInfo`], split into its fields.
 #[derive(Drop)]
 pub struct GroupInfoView<'a> {
     /// `GroupContext group_context;`
@@ -167,7 +167,7 @@ impl<'a> From<Encoded<'a, GroupInfo>> for GroupInfoView<'a> {
     }
 }
 
-/// Two are equal exactly where each field is.
+/// Two values are equal if and only if all their fields are equal.
 pub fn is_compared_by_its_fields()
     ensures { (x y : GroupInfo) →
         ⟦<GroupInfo as PartialEq>⟧.eq x y

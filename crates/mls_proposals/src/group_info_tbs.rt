@@ -10,7 +10,7 @@ use tls_codec_cases::append_as;
 
 /// `GroupInfoTBS` (RFC 9420, section 12.4.3).
 ///
-/// It has references to its fields, and is only written.
+/// It has references to its fields. It can only be encoded.
 #[derive(PartialEq, Eq, Debug, Clone, Copy)]
 pub struct GroupInfoTBS<'a> {
     /// `GroupContext group_context;`
@@ -60,7 +60,7 @@ impl Serialize for GroupInfoTBS<'_> {
     }
 }
 
-/// What is signed of a `GroupInfo`.
+/// The part of a `GroupInfo` that is signed.
 impl<'a> From<&'a GroupInfo> for GroupInfoTBS<'a> {
     ghost from_gives = { λ whole borrowed.
         (borrowed.group_context.now ≡ whole.now.group_context)
@@ -78,7 +78,7 @@ impl<'a> From<&'a GroupInfo> for GroupInfoTBS<'a> {
     }
 }
 
-/// Two are equal exactly where each field is.
+/// Two values are equal if and only if all their fields are equal.
 pub fn is_compared_by_its_fields()
     ensures { (x y : GroupInfoTBS) →
         ⟦<GroupInfoTBS<'static> as PartialEq>⟧.eq x y

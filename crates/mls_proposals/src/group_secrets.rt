@@ -114,7 +114,7 @@ impl Parted for GroupSecrets {
     ghost as_parts = { λ bytes is. is };
 }
 
-/// The encoding of a [`GroupSecrets`], by its fields.
+/// The encoding of a [`GroupSecrets`], split into its fields.
 #[derive(Drop)]
 pub struct GroupSecretsView<'a> {
     /// `opaque joiner_secret<V>;`
@@ -139,7 +139,7 @@ impl<'a> From<Encoded<'a, GroupSecrets>> for GroupSecretsView<'a> {
     }
 }
 
-/// Two are equal exactly where each field is.
+/// Two values are equal if and only if all their fields are equal.
 pub fn is_compared_by_its_fields()
     ensures { (x y : GroupSecrets) →
         ⟦<GroupSecrets as PartialEq>⟧.eq x y

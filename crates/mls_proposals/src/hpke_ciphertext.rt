@@ -96,7 +96,7 @@ impl Parted for HPKECiphertext {
     ghost as_parts = { λ bytes is. is };
 }
 
-/// The encoding of a [`HPKECiphertext`], by its fields.
+/// The encoding of a [`HPKECiphertext`], split into its fields.
 #[derive(Drop)]
 pub struct HPKECiphertextView<'a> {
     /// `opaque kem_output<V>;`
@@ -117,7 +117,7 @@ impl<'a> From<Encoded<'a, HPKECiphertext>> for HPKECiphertextView<'a> {
     }
 }
 
-/// Two are equal exactly where each field is.
+/// Two values are equal if and only if all their fields are equal.
 pub fn is_compared_by_its_fields()
     ensures { (x y : HPKECiphertext) →
         ⟦<HPKECiphertext as PartialEq>⟧.eq x y

@@ -8,7 +8,7 @@ use tls_codec_cases::append_as;
 
 /// `KDFLabel` (RFC 9420, section 8).
 ///
-/// It has references to its fields, and is only written.
+/// It has references to its fields. It can only be encoded.
 #[derive(PartialEq, Eq, Debug, Clone, Copy)]
 pub struct KDFLabel<'a> {
     /// `uint16 length;`
@@ -45,7 +45,7 @@ impl Serialize for KDFLabel<'_> {
     }
 }
 
-/// Two are equal exactly where each field is.
+/// Two values are equal if and only if all their fields are equal.
 pub fn is_compared_by_its_fields()
     ensures { (x y : KDFLabel) →
         ⟦<KDFLabel<'static> as PartialEq>⟧.eq x y

@@ -74,7 +74,7 @@ impl Parted for PathSecret {
     ghost as_parts = { λ bytes is. is };
 }
 
-/// The encoding of a [`PathSecret`], by its fields.
+/// The encoding of a [`PathSecret`], split into its fields.
 #[derive(Drop)]
 pub struct PathSecretView<'a> {
     /// `opaque path_secret<V>;`
@@ -90,7 +90,7 @@ impl<'a> From<Encoded<'a, PathSecret>> for PathSecretView<'a> {
     }
 }
 
-/// Two are equal exactly where each field is.
+/// Two values are equal if and only if all their fields are equal.
 pub fn is_compared_by_its_fields()
     ensures { (x y : PathSecret) →
         ⟦<PathSecret as PartialEq>⟧.eq x y

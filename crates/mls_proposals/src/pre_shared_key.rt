@@ -75,7 +75,7 @@ impl Parted for PreSharedKey {
     ghost as_parts = { λ bytes is. is };
 }
 
-/// The encoding of a [`PreSharedKey`], by its fields.
+/// The encoding of a [`PreSharedKey`], split into its fields.
 #[derive(Drop)]
 pub struct PreSharedKeyView<'a> {
     /// `PreSharedKeyID psk;`
@@ -91,7 +91,7 @@ impl<'a> From<Encoded<'a, PreSharedKey>> for PreSharedKeyView<'a> {
     }
 }
 
-/// Two are equal exactly where each field is.
+/// Two values are equal if and only if all their fields are equal.
 pub fn is_compared_by_its_fields()
     ensures { (x y : PreSharedKey) →
         ⟦<PreSharedKey as PartialEq>⟧.eq x y

@@ -84,7 +84,7 @@ impl Parted for PreSharedKeyID {
     ghost as_parts = { λ bytes is. is };
 }
 
-/// The encoding of a [`PreSharedKeyID`], by its fields.
+/// The encoding of a [`PreSharedKeyID`], split into its fields.
 #[derive(Drop)]
 pub struct PreSharedKeyIDView<'a> {
     /// `PSKType psktype;`
@@ -102,7 +102,7 @@ impl<'a> From<Encoded<'a, PreSharedKeyID>> for PreSharedKeyIDView<'a> {
     }
 }
 
-/// Two are equal exactly where each field is.
+/// Two values are equal if and only if all their fields are equal.
 pub fn is_compared_by_its_fields()
     ensures { (x y : PreSharedKeyID) →
         ⟦<PreSharedKeyID as PartialEq>⟧.eq x y

@@ -270,7 +270,7 @@ impl Choice for Proposal {
     ghost as_choice = { λ bytes is. is };
 }
 
-/// The encoding of a [`Proposal`], by its case and fields.
+/// The encoding of a [`Proposal`], split into its case and fields.
 #[derive(Drop)]
 pub enum ProposalView<'a> {
     /// `case add: Add add;`
@@ -316,7 +316,7 @@ impl<'a> From<Encoded<'a, Proposal>> for ProposalView<'a> {
 }
 
 impl Proposal {
-    /// The tag of its case.
+    /// The tag of this value's case.
     pub fn proposal_type(&self) -> ProposalType
         ensures { result.0 ≡ proposal_tag self.now }
     {
@@ -395,7 +395,7 @@ impl From<GroupContextExtensions> for Proposal {
     }
 }
 
-/// Two are equal exactly where they are of one case, and each field is.
+/// Two values are equal if and only if they have the same case and all their fields are equal.
 pub fn is_compared_by_its_case()
     ensures tag { (x y : Proposal) →
         IsTrue (⟦<Proposal as PartialEq>⟧.eq x y) → proposal_tag x ≡ proposal_tag y }

@@ -146,7 +146,7 @@ impl Choice for ProposalOrRef {
     ghost as_choice = { λ bytes is. is };
 }
 
-/// The encoding of a [`ProposalOrRef`], by its case and fields.
+/// The encoding of a [`ProposalOrRef`], split into its case and fields.
 #[derive(Drop)]
 pub enum ProposalOrRefView<'a> {
     /// `case proposal: Proposal proposal;`
@@ -172,7 +172,7 @@ impl<'a> From<Encoded<'a, ProposalOrRef>> for ProposalOrRefView<'a> {
 }
 
 impl ProposalOrRef {
-    /// The tag of its case.
+    /// The tag of this value's case.
     pub fn kind(&self) -> u8
         ensures { result ≡ proposal_or_ref_tag self.now }
     {
@@ -201,7 +201,7 @@ impl From<ProposalRef> for ProposalOrRef {
     }
 }
 
-/// Two are equal exactly where they are of one case, and each field is.
+/// Two values are equal if and only if they have the same case and all their fields are equal.
 pub fn is_compared_by_its_case()
     ensures tag { (x y : ProposalOrRef) →
         IsTrue (⟦<ProposalOrRef as PartialEq>⟧.eq x y)

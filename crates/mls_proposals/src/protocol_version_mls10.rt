@@ -31,14 +31,14 @@ impl ProtocolVersionMls10 {
         1
     }
 
-    /// Its name in the text.
+    /// Its name in the presentation language.
     pub fn name(&self) -> &'static str
         ensures { result.now ≡ protocol_version_mls10_name self.now }
     {
         "mls10"
     }
 
-    /// The value that has this number.
+    /// The value with this number, if there is one.
     pub fn of_code(code: u16) -> Option<ProtocolVersionMls10>
         ensures { MatchOption result (protocol_version_mls10_has code ≡ false)
             (λ v. protocol_version_mls10_code v ≡ code) }
@@ -70,7 +70,7 @@ impl From<ProtocolVersionMls10> for u16 {
     }
 }
 
-/// The value that has this number.
+/// The value with this number.
 impl TryFrom<u16> for ProtocolVersionMls10 {
     type Error = Error;
 
@@ -170,14 +170,14 @@ impl Told for ProtocolVersionMls10 {
     }
 }
 
-/// Two are equal exactly where their numbers are.
+/// Two values are equal if and only if their numbers are equal.
 pub fn is_compared_by_its_number()
     ensures { (x y : ProtocolVersionMls10) →
         ⟦<ProtocolVersionMls10 as PartialEq>⟧.eq x y
         ≡ nat_eq (protocol_version_mls10_code x) (protocol_version_mls10_code y) }
 {}
 
-/// Two are in the order of their numbers.
+/// Values are ordered by their numbers.
 pub fn is_ordered_by_its_number()
     ensures { (x y : ProtocolVersionMls10) →
         ⟦<ProtocolVersionMls10 as Ord>⟧.cmp x y

@@ -9,7 +9,7 @@ use tls_codec_cases::append_as;
 
 /// `PSKLabel` (RFC 9420, section 8.4).
 ///
-/// It has references to its fields, and is only written.
+/// It has references to its fields. It can only be encoded.
 #[derive(PartialEq, Eq, Debug, Clone, Copy)]
 pub struct PSKLabel<'a> {
     /// `PreSharedKeyID id;`
@@ -46,7 +46,7 @@ impl Serialize for PSKLabel<'_> {
     }
 }
 
-/// Two are equal exactly where each field is.
+/// Two values are equal if and only if all their fields are equal.
 pub fn is_compared_by_its_fields()
     ensures { (x y : PSKLabel) →
         ⟦<PSKLabel<'static> as PartialEq>⟧.eq x y

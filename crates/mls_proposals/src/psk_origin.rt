@@ -176,7 +176,7 @@ impl Choice for PSKOrigin {
     ghost as_choice = { λ bytes is. is };
 }
 
-/// The encoding of a [`PSKOrigin`], by its case and fields.
+/// The encoding of a [`PSKOrigin`], split into its case and fields.
 #[derive(Drop)]
 pub enum PSKOriginView<'a> {
     /// `case external: opaque psk_id<V>;`
@@ -219,7 +219,7 @@ impl<'a> From<Encoded<'a, PSKOrigin>> for PSKOriginView<'a> {
 }
 
 impl PSKOrigin {
-    /// The tag of its case.
+    /// The tag of this value's case.
     pub fn psktype(&self) -> u8
         ensures { result ≡ psk_origin_tag self.now }
     {
@@ -239,7 +239,7 @@ impl From<VLBytes> for PSKOrigin {
     }
 }
 
-/// Two are equal exactly where they are of one case, and each field is.
+/// Two values are equal if and only if they have the same case and all their fields are equal.
 pub fn is_compared_by_its_case()
     ensures tag { (x y : PSKOrigin) →
         IsTrue (⟦<PSKOrigin as PartialEq>⟧.eq x y) → psk_origin_tag x ≡ psk_origin_tag y }

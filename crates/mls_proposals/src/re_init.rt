@@ -116,7 +116,7 @@ impl Parted for ReInit {
     ghost as_parts = { λ bytes is. is };
 }
 
-/// The encoding of a [`ReInit`], by its fields.
+/// The encoding of a [`ReInit`], split into its fields.
 #[derive(Drop)]
 pub struct ReInitView<'a> {
     /// `opaque group_id<V>;`
@@ -146,7 +146,7 @@ impl<'a> From<Encoded<'a, ReInit>> for ReInitView<'a> {
     }
 }
 
-/// Two are equal exactly where each field is.
+/// Two values are equal if and only if all their fields are equal.
 pub fn is_compared_by_its_fields()
     ensures { (x y : ReInit) →
         ⟦<ReInit as PartialEq>⟧.eq x y

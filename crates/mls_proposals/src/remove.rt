@@ -74,7 +74,7 @@ impl Parted for Remove {
     ghost as_parts = { λ bytes is. is };
 }
 
-/// The encoding of a [`Remove`], by its fields.
+/// The encoding of a [`Remove`], split into its fields.
 #[derive(Drop)]
 pub struct RemoveView<'a> {
     /// `uint32 removed;`
@@ -90,7 +90,7 @@ impl<'a> From<Encoded<'a, Remove>> for RemoveView<'a> {
     }
 }
 
-/// Two are equal exactly where each field is.
+/// Two values are equal if and only if all their fields are equal.
 pub fn is_compared_by_its_fields()
     ensures { (x y : Remove) →
         ⟦<Remove as PartialEq>⟧.eq x y

@@ -119,7 +119,7 @@ impl Parted for RequiredCapabilities {
     ghost as_parts = { λ bytes is. is };
 }
 
-/// The encoding of a [`RequiredCapabilities`], by its fields.
+/// The encoding of a [`RequiredCapabilities`], split into its fields.
 #[derive(Drop)]
 pub struct RequiredCapabilitiesView<'a> {
     /// `ExtensionType extension_types<V>;`
@@ -144,7 +144,7 @@ impl<'a> From<Encoded<'a, RequiredCapabilities>> for RequiredCapabilitiesView<'a
     }
 }
 
-/// Two are equal exactly where each field is.
+/// Two values are equal if and only if all their fields are equal.
 pub fn is_compared_by_its_fields()
     ensures { (x y : RequiredCapabilities) →
         ⟦<RequiredCapabilities as PartialEq>⟧.eq x y

@@ -39,7 +39,7 @@ impl ResumptionPSKUsage {
         }
     }
 
-    /// Its name in the text.
+    /// Its name in the presentation language.
     pub fn name(&self) -> &'static str
         ensures { result.now ≡ resumption_psk_usage_name self.now }
     {
@@ -50,7 +50,7 @@ impl ResumptionPSKUsage {
         }
     }
 
-    /// The value that has this number.
+    /// The value with this number, if there is one.
     pub fn of_code(code: u8) -> Option<ResumptionPSKUsage>
         ensures { MatchOption result (resumption_psk_usage_has code ≡ false)
             (λ v. resumption_psk_usage_code v ≡ code) }
@@ -84,7 +84,7 @@ impl From<ResumptionPSKUsage> for u8 {
     }
 }
 
-/// The value that has this number.
+/// The value with this number.
 impl TryFrom<u8> for ResumptionPSKUsage {
     type Error = Error;
 
@@ -183,14 +183,14 @@ impl Told for ResumptionPSKUsage {
     }
 }
 
-/// Two are equal exactly where their numbers are.
+/// Two values are equal if and only if their numbers are equal.
 pub fn is_compared_by_its_number()
     ensures { (x y : ResumptionPSKUsage) →
         ⟦<ResumptionPSKUsage as PartialEq>⟧.eq x y
         ≡ nat_eq (resumption_psk_usage_code x) (resumption_psk_usage_code y) }
 {}
 
-/// Two are in the order of their numbers.
+/// Values are ordered by their numbers.
 pub fn is_ordered_by_its_number()
     ensures { (x y : ResumptionPSKUsage) →
         ⟦<ResumptionPSKUsage as Ord>⟧.cmp x y

@@ -75,7 +75,7 @@ impl Parted for Update {
     ghost as_parts = { λ bytes is. is };
 }
 
-/// The encoding of a [`Update`], by its fields.
+/// The encoding of a [`Update`], split into its fields.
 #[derive(Drop)]
 pub struct UpdateView<'a> {
     /// `LeafNode leaf_node;`
@@ -91,7 +91,7 @@ impl<'a> From<Encoded<'a, Update>> for UpdateView<'a> {
     }
 }
 
-/// Two are equal exactly where each field is.
+/// Two values are equal if and only if all their fields are equal.
 pub fn is_compared_by_its_fields()
     ensures { (x y : Update) →
         ⟦<Update as PartialEq>⟧.eq x y

@@ -80,7 +80,7 @@ impl Parted for UpdatePath {
     ghost as_parts = { λ bytes is. is };
 }
 
-/// The encoding of a [`UpdatePath`], by its fields.
+/// The encoding of a [`UpdatePath`], split into its fields.
 #[derive(Drop)]
 pub struct UpdatePathView<'a> {
     /// `LeafNode leaf_node;`
@@ -98,7 +98,7 @@ impl<'a> From<Encoded<'a, UpdatePath>> for UpdatePathView<'a> {
     }
 }
 
-/// Two are equal exactly where each field is.
+/// Two values are equal if and only if all their fields are equal.
 pub fn is_compared_by_its_fields()
     ensures { (x y : UpdatePath) →
         ⟦<UpdatePath as PartialEq>⟧.eq x y

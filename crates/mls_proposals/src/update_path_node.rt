@@ -109,7 +109,7 @@ impl Parted for UpdatePathNode {
     ghost as_parts = { λ bytes is. is };
 }
 
-/// The encoding of a [`UpdatePathNode`], by its fields.
+/// The encoding of a [`UpdatePathNode`], split into its fields.
 #[derive(Drop)]
 pub struct UpdatePathNodeView<'a> {
     /// `HPKEPublicKey encryption_key;`
@@ -131,7 +131,7 @@ impl<'a> From<Encoded<'a, UpdatePathNode>> for UpdatePathNodeView<'a> {
     }
 }
 
-/// Two are equal exactly where each field is.
+/// Two values are equal if and only if all their fields are equal.
 pub fn is_compared_by_its_fields()
     ensures { (x y : UpdatePathNode) →
         ⟦<UpdatePathNode as PartialEq>⟧.eq x y

@@ -115,7 +115,7 @@ impl Parted for Welcome {
     ghost as_parts = { λ bytes is. is };
 }
 
-/// The encoding of a [`Welcome`], by its fields.
+/// The encoding of a [`Welcome`], split into its fields.
 #[derive(Drop)]
 pub struct WelcomeView<'a> {
     /// `CipherSuite cipher_suite;`
@@ -140,7 +140,7 @@ impl<'a> From<Encoded<'a, Welcome>> for WelcomeView<'a> {
     }
 }
 
-/// Two are equal exactly where each field is.
+/// Two values are equal if and only if all their fields are equal.
 pub fn is_compared_by_its_fields()
     ensures { (x y : Welcome) →
         ⟦<Welcome as PartialEq>⟧.eq x y

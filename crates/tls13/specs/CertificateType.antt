@@ -17,7 +17,7 @@ certificate_type_name X509 = codes "X509"
 certificate_type_name OpenPGPReserved = codes "OpenPGP_RESERVED"
 certificate_type_name RawPublicKey = codes "RawPublicKey"
 
--- which numbers there are
+-- whether a value has this number
 abbrev pub certificate_type_has : ℕ → Bool
 certificate_type_has n = (n == 0) || ((n == 1) || (n == 2))
 

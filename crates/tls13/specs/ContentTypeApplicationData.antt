@@ -12,7 +12,7 @@ content_type_application_data_code v = 23
 abbrev pub content_type_application_data_name : ContentTypeApplicationData → List ℕ
 content_type_application_data_name v = codes "application_data"
 
--- which numbers there are
+-- whether a value has this number
 abbrev pub content_type_application_data_has : ℕ → Bool
 content_type_application_data_has n = n == 23
 

@@ -51,7 +51,7 @@ handshake_type_name SupplementalDataReserved = codes "supplemental_data_RESERVED
 handshake_type_name KeyUpdate = codes "key_update"
 handshake_type_name MessageHash = codes "message_hash"
 
--- which numbers there are
+-- whether a value has this number
 abbrev pub handshake_type_has : ℕ → Bool
 handshake_type_has n = (n == 0) || ((n == 1) || ((n == 2) || ((n == 3)
     || ((n == 4) || ((n == 5) || ((n == 6) || ((n == 8) || ((n == 11) || ((n == 12)
@@ -89,7 +89,7 @@ handshake_type_format = values_format 1 handshake_type_has
 pub handshake_type_meets : MeetsLaws handshake_type_format
 handshake_type_meets = tagged_meets 1 (omega arith) (values_meet handshake_type_has)
 
--- the number of a value, by what it stands for
+-- the number of a value, from what the value stands for
 abbrev pub handshake_type_selected : Tree → ℕ
 handshake_type_selected (Join (Number tag) vs) = tag
 handshake_type_selected _ = 0

@@ -15,7 +15,7 @@ abbrev pub key_update_request_name : KeyUpdateRequest → List ℕ
 key_update_request_name UpdateNotRequested = codes "update_not_requested"
 key_update_request_name UpdateRequested = codes "update_requested"
 
--- which numbers there are
+-- whether a value has this number
 abbrev pub key_update_request_has : ℕ → Bool
 key_update_request_has n = (n == 0) || (n == 1)
 

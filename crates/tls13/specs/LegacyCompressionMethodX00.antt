@@ -12,7 +12,7 @@ legacy_compression_method_x00_code v = 0
 abbrev pub legacy_compression_method_x00_name : LegacyCompressionMethodX00 → List ℕ
 legacy_compression_method_x00_name v = codes "0x00"
 
--- which numbers there are
+-- whether a value has this number
 abbrev pub legacy_compression_method_x00_has : ℕ → Bool
 legacy_compression_method_x00_has n = n == 0
 

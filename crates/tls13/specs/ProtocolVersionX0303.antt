@@ -12,7 +12,7 @@ protocol_version_x0303_code v = 771
 abbrev pub protocol_version_x0303_name : ProtocolVersionX0303 → List ℕ
 protocol_version_x0303_name v = codes "0x0303"
 
--- which numbers there are
+-- whether a value has this number
 abbrev pub protocol_version_x0303_has : ℕ → Bool
 protocol_version_x0303_has n = n == 771
 

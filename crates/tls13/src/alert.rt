@@ -79,7 +79,7 @@ impl Parted for Alert {
     ghost as_parts = { λ bytes is. is };
 }
 
-/// The encoding of a [`Alert`], by its fields.
+/// The encoding of a [`Alert`], split into its fields.
 #[derive(Drop)]
 pub struct AlertView<'a> {
     /// `AlertLevel level;`
@@ -97,7 +97,7 @@ impl<'a> From<Encoded<'a, Alert>> for AlertView<'a> {
     }
 }
 
-/// Two are equal exactly where each field is.
+/// Two values are equal if and only if all their fields are equal.
 pub fn is_compared_by_its_fields()
     ensures { (x y : Alert) →
         ⟦<Alert as PartialEq>⟧.eq x y

@@ -118,7 +118,7 @@ impl AlertDescription {
     /// `no_application_protocol`
     pub const NO_APPLICATION_PROTOCOL: AlertDescription = AlertDescription(120);
 
-    /// Its name in the text, if it has one.
+    /// Its name in the presentation language, if it has one.
     pub fn name(&self) -> Option<&'static str>
         ensures { option_map (λ t. t.now) result ≡ listed_name alert_description_names self.now.0 }
     {
@@ -162,7 +162,7 @@ impl AlertDescription {
     }
 }
 
-/// Its name, or else its number in hexadecimal, two digits a byte. A width pads names alone.
+/// Its name, or else its number in hexadecimal, two digits per byte. A width pads only names.
 impl fmt::Display for AlertDescription {
     ghost output = { λ v. Some (name_or_number alert_description_names 2 v.0) };
 
@@ -184,7 +184,7 @@ impl From<AlertDescription> for u8 {
     }
 }
 
-/// The one that has this number.
+/// The value with this number.
 impl From<u8> for AlertDescription {
     ghost from_gives = { λ number v. v.0 ≡ number };
 
@@ -264,13 +264,13 @@ impl Told for AlertDescription {
     }
 }
 
-/// Two are equal exactly where their numbers are.
+/// Two values are equal if and only if their numbers are equal.
 pub fn is_compared_by_its_number()
     ensures { (x y : AlertDescription) →
         ⟦<AlertDescription as PartialEq>⟧.eq x y ≡ nat_eq x.0 y.0 }
 {}
 
-/// Two are in the order of their numbers.
+/// Values are ordered by their numbers.
 pub fn is_ordered_by_its_number()
     ensures { (x y : AlertDescription) →
         ⟦<AlertDescription as Ord>⟧.cmp x y ≡ nat_cmp x.0 y.0 }

@@ -22,7 +22,7 @@ impl AlertLevel {
     /// `fatal`
     pub const FATAL: AlertLevel = AlertLevel(2);
 
-    /// Its name in the text, if it has one.
+    /// Its name in the presentation language, if it has one.
     pub fn name(&self) -> Option<&'static str>
         ensures { option_map (λ t. t.now) result ≡ listed_name alert_level_names self.now.0 }
     {
@@ -34,7 +34,7 @@ impl AlertLevel {
     }
 }
 
-/// Its name, or else its number in hexadecimal, two digits a byte. A width pads names alone.
+/// Its name, or else its number in hexadecimal, two digits per byte. A width pads only names.
 impl fmt::Display for AlertLevel {
     ghost output = { λ v. Some (name_or_number alert_level_names 2 v.0) };
 
@@ -56,7 +56,7 @@ impl From<AlertLevel> for u8 {
     }
 }
 
-/// The one that has this number.
+/// The value with this number.
 impl From<u8> for AlertLevel {
     ghost from_gives = { λ number v. v.0 ≡ number };
 
@@ -133,13 +133,13 @@ impl Told for AlertLevel {
     }
 }
 
-/// Two are equal exactly where their numbers are.
+/// Two values are equal if and only if their numbers are equal.
 pub fn is_compared_by_its_number()
     ensures { (x y : AlertLevel) →
         ⟦<AlertLevel as PartialEq>⟧.eq x y ≡ nat_eq x.0 y.0 }
 {}
 
-/// Two are in the order of their numbers.
+/// Values are ordered by their numbers.
 pub fn is_ordered_by_its_number()
     ensures { (x y : AlertLevel) →
         ⟦<AlertLevel as Ord>⟧.cmp x y ≡ nat_cmp x.0 y.0 }

@@ -85,7 +85,7 @@ impl Parted for CertificateAuthoritiesExtension {
     ghost as_parts = { λ bytes is. is };
 }
 
-/// The encoding of a [`CertificateAuthoritiesExtension`], by its fields.
+/// The encoding of a [`CertificateAuthoritiesExtension`], split into its fields.
 #[derive(Drop)]
 pub struct CertificateAuthoritiesExtensionView<'a> {
     /// `DistinguishedName authorities<3..2^16-1>;`
@@ -104,7 +104,7 @@ impl<'a> From<Encoded<'a, CertificateAuthoritiesExtension>>
     }
 }
 
-/// Two are equal exactly where each field is.
+/// Two values are equal if and only if all their fields are equal.
 pub fn is_compared_by_its_fields()
     ensures { (x y : CertificateAuthoritiesExtension) →
         ⟦<CertificateAuthoritiesExtension as PartialEq>⟧.eq x y

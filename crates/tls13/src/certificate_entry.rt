@@ -98,7 +98,7 @@ impl Parted for CertificateEntry {
     ghost as_parts = { λ bytes is. is };
 }
 
-/// The encoding of a [`CertificateEntry`], by its fields.
+/// The encoding of a [`CertificateEntry`], split into its fields.
 #[derive(Drop)]
 pub struct CertificateEntryView<'a> {
     /// `opaque cert_data<1..2^24-1>;`
@@ -119,7 +119,7 @@ impl<'a> From<Encoded<'a, CertificateEntry>> for CertificateEntryView<'a> {
     }
 }
 
-/// Two are equal exactly where each field is.
+/// Two values are equal if and only if all their fields are equal.
 pub fn is_compared_by_its_fields()
     ensures { (x y : CertificateEntry) →
         ⟦<CertificateEntry as PartialEq>⟧.eq x y

@@ -111,7 +111,7 @@ impl Parted for CertificateRequest {
     ghost as_parts = { λ bytes is. is };
 }
 
-/// The encoding of a [`CertificateRequest`], by its fields.
+/// The encoding of a [`CertificateRequest`], split into its fields.
 #[derive(Drop)]
 pub struct CertificateRequestView<'a> {
     /// `opaque certificate_request_context<0..2^8-1>;`
@@ -133,7 +133,7 @@ impl<'a> From<Encoded<'a, CertificateRequest>> for CertificateRequestView<'a> {
     }
 }
 
-/// Two are equal exactly where each field is.
+/// Two values are equal if and only if all their fields are equal.
 pub fn is_compared_by_its_fields()
     ensures { (x y : CertificateRequest) →
         ⟦<CertificateRequest as PartialEq>⟧.eq x y

@@ -93,7 +93,7 @@ impl Parted for CertificateVerify {
     ghost as_parts = { λ bytes is. is };
 }
 
-/// The encoding of a [`CertificateVerify`], by its fields.
+/// The encoding of a [`CertificateVerify`], split into its fields.
 #[derive(Drop)]
 pub struct CertificateVerifyView<'a> {
     /// `SignatureScheme algorithm;`
@@ -114,7 +114,7 @@ impl<'a> From<Encoded<'a, CertificateVerify>> for CertificateVerifyView<'a> {
     }
 }
 
-/// Two are equal exactly where each field is.
+/// Two values are equal if and only if all their fields are equal.
 pub fn is_compared_by_its_fields()
     ensures { (x y : CertificateVerify) →
         ⟦<CertificateVerify as PartialEq>⟧.eq x y

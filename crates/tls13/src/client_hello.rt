@@ -151,7 +151,7 @@ impl Parted for ClientHello {
     ghost as_parts = { λ bytes is. is };
 }
 
-/// The encoding of a [`ClientHello`], by its fields.
+/// The encoding of a [`ClientHello`], split into its fields.
 #[derive(Drop)]
 pub struct ClientHelloView<'a> {
     /// `ProtocolVersion legacy_version = 0x0303;`
@@ -189,7 +189,7 @@ impl<'a> From<Encoded<'a, ClientHello>> for ClientHelloView<'a> {
     }
 }
 
-/// Two are equal exactly where each field is.
+/// Two values are equal if and only if all their fields are equal.
 pub fn is_compared_by_its_fields()
     ensures { (x y : ClientHello) →
         ⟦<ClientHello as PartialEq>⟧.eq x y

@@ -31,14 +31,14 @@ impl ContentTypeApplicationData {
         23
     }
 
-    /// Its name in the text.
+    /// Its name in the presentation language.
     pub fn name(&self) -> &'static str
         ensures { result.now ≡ content_type_application_data_name self.now }
     {
         "application_data"
     }
 
-    /// The value that has this number.
+    /// The value with this number, if there is one.
     pub fn of_code(code: u8) -> Option<ContentTypeApplicationData>
         ensures { MatchOption result (content_type_application_data_has code ≡ false)
             (λ v. content_type_application_data_code v ≡ code) }
@@ -70,7 +70,7 @@ impl From<ContentTypeApplicationData> for u8 {
     }
 }
 
-/// The value that has this number.
+/// The value with this number.
 impl TryFrom<u8> for ContentTypeApplicationData {
     type Error = Error;
 
@@ -170,14 +170,14 @@ impl Told for ContentTypeApplicationData {
     }
 }
 
-/// Two are equal exactly where their numbers are.
+/// Two values are equal if and only if their numbers are equal.
 pub fn is_compared_by_its_number()
     ensures { (x y : ContentTypeApplicationData) →
         ⟦<ContentTypeApplicationData as PartialEq>⟧.eq x y
         ≡ nat_eq (content_type_application_data_code x) (content_type_application_data_code y) }
 {}
 
-/// Two are in the order of their numbers.
+/// Values are ordered by their numbers.
 pub fn is_ordered_by_its_number()
     ensures { (x y : ContentTypeApplicationData) →
         ⟦<ContentTypeApplicationData as Ord>⟧.cmp x y

@@ -78,7 +78,7 @@ impl Parted for Cookie {
     ghost as_parts = { λ bytes is. is };
 }
 
-/// The encoding of a [`Cookie`], by its fields.
+/// The encoding of a [`Cookie`], split into its fields.
 #[derive(Drop)]
 pub struct CookieView<'a> {
     /// `opaque cookie<1..2^16-1>;`
@@ -94,7 +94,7 @@ impl<'a> From<Encoded<'a, Cookie>> for CookieView<'a> {
     }
 }
 
-/// Two are equal exactly where each field is.
+/// Two values are equal if and only if all their fields are equal.
 pub fn is_compared_by_its_fields()
     ensures { (x y : Cookie) →
         ⟦<Cookie as PartialEq>⟧.eq x y

@@ -11,8 +11,8 @@ use tls_codec::{
 use tls_codec_cases::{Case, Chosen, Or, append_as_for, write_as_for};
 use tls_codec_validate::{Rejected, ValidateFor};
 
-/// `select (msg_type)` of `EarlyDataIndication` (RFC 8446, appendix B.3.1): no byte of it
-/// tells the tag.
+/// `select (msg_type)` of `EarlyDataIndication` (RFC 8446, appendix B.3.1): its bytes don't
+/// have the tag.
 #[derive(PartialEq, Eq, Debug, Clone, Drop)]
 pub enum EarlyDataIndication {
     /// `case new_session_ticket: uint32 max_early_data_size;`
@@ -68,7 +68,7 @@ impl SizeFor<HandshakeType> for EarlyDataIndication {
     ghost lawful = { early_data_indication_meets_for };
 }
 
-/// `EncodingError("value does not fit its context")`: the value is of another case.
+/// `EncodingError("value does not fit its context")`: the value's case is for another tag.
 impl SerializeFor<HandshakeType> for EarlyDataIndication {
     fn tls_serialize_for<W: Sink>(
         &self,
@@ -132,7 +132,7 @@ impl From<u32> for EarlyDataIndication {
     }
 }
 
-/// Two are equal exactly where they are of one case, and each field is.
+/// Two values are equal if and only if they have the same case and all their fields are equal.
 pub fn is_compared_by_its_case()
     ensures tag { (x y : EarlyDataIndication) →
         IsTrue (⟦<EarlyDataIndication as PartialEq>⟧.eq x y)

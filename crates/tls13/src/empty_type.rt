@@ -64,7 +64,7 @@ impl Validate for EmptyType {
     }
 }
 
-/// Two are equal exactly where each field is.
+/// Two values are equal if and only if all their fields are equal.
 pub fn is_compared_by_its_fields()
     ensures { (x y : EmptyType) →
         ⟦<EmptyType as PartialEq>⟧.eq x y

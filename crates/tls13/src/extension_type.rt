@@ -104,7 +104,7 @@ impl ExtensionType {
     /// RFC 8446
     pub const KEY_SHARE: ExtensionType = ExtensionType(51);
 
-    /// Its name in the text, if it has one.
+    /// Its name in the presentation language, if it has one.
     pub fn name(&self) -> Option<&'static str>
         ensures { option_map (λ t. t.now) result ≡ listed_name extension_type_names self.now.0 }
     {
@@ -136,7 +136,7 @@ impl ExtensionType {
     }
 }
 
-/// Its name, or else its number in hexadecimal, two digits a byte. A width pads names alone.
+/// Its name, or else its number in hexadecimal, two digits per byte. A width pads only names.
 impl fmt::Display for ExtensionType {
     ghost output = { λ v. Some (name_or_number extension_type_names 4 v.0) };
 
@@ -158,7 +158,7 @@ impl From<ExtensionType> for u16 {
     }
 }
 
-/// The one that has this number.
+/// The value with this number.
 impl From<u16> for ExtensionType {
     ghost from_gives = { λ number v. v.0 ≡ number };
 
@@ -235,13 +235,13 @@ impl Told for ExtensionType {
     }
 }
 
-/// Two are equal exactly where their numbers are.
+/// Two values are equal if and only if their numbers are equal.
 pub fn is_compared_by_its_number()
     ensures { (x y : ExtensionType) →
         ⟦<ExtensionType as PartialEq>⟧.eq x y ≡ nat_eq x.0 y.0 }
 {}
 
-/// Two are in the order of their numbers.
+/// Values are ordered by their numbers.
 pub fn is_ordered_by_its_number()
     ensures { (x y : ExtensionType) →
         ⟦<ExtensionType as Ord>⟧.cmp x y ≡ nat_cmp x.0 y.0 }

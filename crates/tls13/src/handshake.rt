@@ -102,7 +102,8 @@ type ByRefCases<'a> = Tagged<
 
 impl Handshake {
     fn cases(&self) -> ByRefCases<'_>
-        ensures { ⟦<ByRefCases<'static> as Size>⟧.plain result ≡ handshake_plain self.now }
+        ensures { ⟦<ByRefCases<'static> as Size>⟧.plain result
+            ≡ handshake_plain self.now }
     {
         let cases = match self {
             Handshake::ClientHello(client_hello) => Or::First(Or::First(Or::First(Or::First(Case(
@@ -192,7 +193,7 @@ impl Serialize for Handshake {
 impl Deserialize for Handshake {
     ghost names = { ⟦<Cases as Deserialize>⟧.names };
 
-    /// `TrailingData`: the case's fields end before their length does.
+    /// `TrailingData`: bytes are left within the length, after the fields of the case.
     /// `UnknownValue`: no case has the tag.
     fn tls_deserialize<R: Source>(alloc: Global, src: &mut R) -> Result<Handshake, Error> {
         let cases = <Cases>::tls_deserialize(alloc, src)?;
@@ -203,7 +204,7 @@ impl Deserialize for Handshake {
 impl DeserializeBytes for Handshake {
     ghost names = { ⟦<Cases as DeserializeBytes>⟧.names };
 
-    /// `TrailingData`: the case's fields end before their length does.
+    /// `TrailingData`: bytes are left within the length, after the fields of the case.
     /// `UnknownValue`: no case has the tag.
     fn tls_deserialize_bytes(alloc: Global, whole: &[u8]) -> Result<(Handshake, &[u8]), Error> {
         let (cases, rest) = <Cases>::tls_deserialize_bytes(alloc, whole)?;
@@ -227,7 +228,7 @@ impl Choice for Handshake {
     ghost as_choice = { λ bytes is. is };
 }
 
-/// The encoding of a [`Handshake`], by its case and fields.
+/// The encoding of a [`Handshake`], split into its case and fields.
 #[derive(Drop)]
 pub enum HandshakeView<'a> {
     /// `case client_hello: ClientHello;`
@@ -285,7 +286,7 @@ impl<'a> From<Encoded<'a, Handshake>> for HandshakeView<'a> {
 }
 
 impl Handshake {
-    /// The tag of its case.
+    /// The tag of this value's case.
     pub fn msg_type(&self) -> HandshakeType
         ensures { handshake_type_code result ≡ handshake_tag self.now }
     {
@@ -394,7 +395,7 @@ impl From<KeyUpdate> for Handshake {
     }
 }
 
-/// Two are equal exactly where they are of one case, and each field is.
+/// Two values are equal if and only if they have the same case and all their fields are equal.
 pub fn is_compared_by_its_case()
     ensures tag { (x y : Handshake) →
         IsTrue (⟦<Handshake as PartialEq>⟧.eq x y) → handshake_tag x ≡ handshake_tag y }

@@ -94,7 +94,7 @@ impl HandshakeType {
         }
     }
 
-    /// Its name in the text.
+    /// Its name in the presentation language.
     pub fn name(&self) -> &'static str
         ensures { result.now ≡ handshake_type_name self.now }
     {
@@ -122,7 +122,7 @@ impl HandshakeType {
         }
     }
 
-    /// The value that has this number.
+    /// The value with this number, if there is one.
     pub fn of_code(code: u8) -> Option<HandshakeType>
         ensures { MatchOption result (handshake_type_has code ≡ false)
             (λ v. handshake_type_code v ≡ code) }
@@ -173,7 +173,7 @@ impl From<HandshakeType> for u8 {
     }
 }
 
-/// The value that has this number.
+/// The value with this number.
 impl TryFrom<u8> for HandshakeType {
     type Error = Error;
 
@@ -329,14 +329,14 @@ impl ValidateKeyed for HandshakeType {
     }
 }
 
-/// Two are equal exactly where their numbers are.
+/// Two values are equal if and only if their numbers are equal.
 pub fn is_compared_by_its_number()
     ensures { (x y : HandshakeType) →
         ⟦<HandshakeType as PartialEq>⟧.eq x y
         ≡ nat_eq (handshake_type_code x) (handshake_type_code y) }
 {}
 
-/// Two are in the order of their numbers.
+/// Values are ordered by their numbers.
 pub fn is_ordered_by_its_number()
     ensures { (x y : HandshakeType) →
         ⟦<HandshakeType as Ord>⟧.cmp x y

@@ -90,7 +90,7 @@ impl Parted for KeyShareEntry {
     ghost as_parts = { λ bytes is. is };
 }
 
-/// The encoding of a [`KeyShareEntry`], by its fields.
+/// The encoding of a [`KeyShareEntry`], split into its fields.
 #[derive(Drop)]
 pub struct KeyShareEntryView<'a> {
     /// `NamedGroup group;`
@@ -111,7 +111,7 @@ impl<'a> From<Encoded<'a, KeyShareEntry>> for KeyShareEntryView<'a> {
     }
 }
 
-/// Two are equal exactly where each field is.
+/// Two values are equal if and only if all their fields are equal.
 pub fn is_compared_by_its_fields()
     ensures { (x y : KeyShareEntry) →
         ⟦<KeyShareEntry as PartialEq>⟧.eq x y

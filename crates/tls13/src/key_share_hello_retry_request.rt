@@ -81,7 +81,7 @@ impl Parted for KeyShareHelloRetryRequest {
     ghost as_parts = { λ bytes is. is };
 }
 
-/// The encoding of a [`KeyShareHelloRetryRequest`], by its fields.
+/// The encoding of a [`KeyShareHelloRetryRequest`], split into its fields.
 #[derive(Drop)]
 pub struct KeyShareHelloRetryRequestView<'a> {
     /// `NamedGroup selected_group;`
@@ -97,7 +97,7 @@ impl<'a> From<Encoded<'a, KeyShareHelloRetryRequest>> for KeyShareHelloRetryRequ
     }
 }
 
-/// Two are equal exactly where each field is.
+/// Two values are equal if and only if all their fields are equal.
 pub fn is_compared_by_its_fields()
     ensures { (x y : KeyShareHelloRetryRequest) →
         ⟦<KeyShareHelloRetryRequest as PartialEq>⟧.eq x y

@@ -81,7 +81,7 @@ impl Parted for KeyShareServerHello {
     ghost as_parts = { λ bytes is. is };
 }
 
-/// The encoding of a [`KeyShareServerHello`], by its fields.
+/// The encoding of a [`KeyShareServerHello`], split into its fields.
 #[derive(Drop)]
 pub struct KeyShareServerHelloView<'a> {
     /// `KeyShareEntry server_share;`
@@ -97,7 +97,7 @@ impl<'a> From<Encoded<'a, KeyShareServerHello>> for KeyShareServerHelloView<'a> 
     }
 }
 
-/// Two are equal exactly where each field is.
+/// Two values are equal if and only if all their fields are equal.
 pub fn is_compared_by_its_fields()
     ensures { (x y : KeyShareServerHello) →
         ⟦<KeyShareServerHello as PartialEq>⟧.eq x y

@@ -75,7 +75,7 @@ impl Parted for KeyUpdate {
     ghost as_parts = { λ bytes is. is };
 }
 
-/// The encoding of a [`KeyUpdate`], by its fields.
+/// The encoding of a [`KeyUpdate`], split into its fields.
 #[derive(Drop)]
 pub struct KeyUpdateView<'a> {
     /// `KeyUpdateRequest request_update;`
@@ -91,7 +91,7 @@ impl<'a> From<Encoded<'a, KeyUpdate>> for KeyUpdateView<'a> {
     }
 }
 
-/// Two are equal exactly where each field is.
+/// Two values are equal if and only if all their fields are equal.
 pub fn is_compared_by_its_fields()
     ensures { (x y : KeyUpdate) →
         ⟦<KeyUpdate as PartialEq>⟧.eq x y

@@ -36,7 +36,7 @@ impl KeyUpdateRequest {
         }
     }
 
-    /// Its name in the text.
+    /// Its name in the presentation language.
     pub fn name(&self) -> &'static str
         ensures { result.now ≡ key_update_request_name self.now }
     {
@@ -46,7 +46,7 @@ impl KeyUpdateRequest {
         }
     }
 
-    /// The value that has this number.
+    /// The value with this number, if there is one.
     pub fn of_code(code: u8) -> Option<KeyUpdateRequest>
         ensures { MatchOption result (key_update_request_has code ≡ false)
             (λ v. key_update_request_code v ≡ code) }
@@ -79,7 +79,7 @@ impl From<KeyUpdateRequest> for u8 {
     }
 }
 
-/// The value that has this number.
+/// The value with this number.
 impl TryFrom<u8> for KeyUpdateRequest {
     type Error = Error;
 
@@ -177,14 +177,14 @@ impl Told for KeyUpdateRequest {
     }
 }
 
-/// Two are equal exactly where their numbers are.
+/// Two values are equal if and only if their numbers are equal.
 pub fn is_compared_by_its_number()
     ensures { (x y : KeyUpdateRequest) →
         ⟦<KeyUpdateRequest as PartialEq>⟧.eq x y
         ≡ nat_eq (key_update_request_code x) (key_update_request_code y) }
 {}
 
-/// Two are in the order of their numbers.
+/// Values are ordered by their numbers.
 pub fn is_ordered_by_its_number()
     ensures { (x y : KeyUpdateRequest) →
         ⟦<KeyUpdateRequest as Ord>⟧.cmp x y

@@ -31,14 +31,14 @@ impl LegacyCompressionMethodX00 {
         0
     }
 
-    /// Its name in the text.
+    /// Its name in the presentation language.
     pub fn name(&self) -> &'static str
         ensures { result.now ≡ legacy_compression_method_x00_name self.now }
     {
         "0x00"
     }
 
-    /// The value that has this number.
+    /// The value with this number, if there is one.
     pub fn of_code(code: u8) -> Option<LegacyCompressionMethodX00>
         ensures { MatchOption result (legacy_compression_method_x00_has code ≡ false)
             (λ v. legacy_compression_method_x00_code v ≡ code) }
@@ -70,7 +70,7 @@ impl From<LegacyCompressionMethodX00> for u8 {
     }
 }
 
-/// The value that has this number.
+/// The value with this number.
 impl TryFrom<u8> for LegacyCompressionMethodX00 {
     type Error = Error;
 
@@ -170,14 +170,14 @@ impl Told for LegacyCompressionMethodX00 {
     }
 }
 
-/// Two are equal exactly where their numbers are.
+/// Two values are equal if and only if their numbers are equal.
 pub fn is_compared_by_its_number()
     ensures { (x y : LegacyCompressionMethodX00) →
         ⟦<LegacyCompressionMethodX00 as PartialEq>⟧.eq x y
         ≡ nat_eq (legacy_compression_method_x00_code x) (legacy_compression_method_x00_code y) }
 {}
 
-/// Two are in the order of their numbers.
+/// Values are ordered by their numbers.
 pub fn is_ordered_by_its_number()
     ensures { (x y : LegacyCompressionMethodX00) →
         ⟦<LegacyCompressionMethodX00 as Ord>⟧.cmp x y

@@ -50,7 +50,7 @@ impl NamedGroup {
     /// `ffdhe8192`
     pub const FFDHE8192: NamedGroup = NamedGroup(260);
 
-    /// Its name in the text, if it has one.
+    /// Its name in the presentation language, if it has one.
     pub fn name(&self) -> Option<&'static str>
         ensures { option_map (λ t. t.now) result ≡ listed_name named_group_names self.now.0 }
     {
@@ -71,7 +71,7 @@ impl NamedGroup {
     }
 }
 
-/// Its name, or else its number in hexadecimal, two digits a byte. A width pads names alone.
+/// Its name, or else its number in hexadecimal, two digits per byte. A width pads only names.
 impl fmt::Display for NamedGroup {
     ghost output = { λ v. Some (name_or_number named_group_names 4 v.0) };
 
@@ -93,7 +93,7 @@ impl From<NamedGroup> for u16 {
     }
 }
 
-/// The one that has this number.
+/// The value with this number.
 impl From<u16> for NamedGroup {
     ghost from_gives = { λ number v. v.0 ≡ number };
 
@@ -170,13 +170,13 @@ impl Told for NamedGroup {
     }
 }
 
-/// Two are equal exactly where their numbers are.
+/// Two values are equal if and only if their numbers are equal.
 pub fn is_compared_by_its_number()
     ensures { (x y : NamedGroup) →
         ⟦<NamedGroup as PartialEq>⟧.eq x y ≡ nat_eq x.0 y.0 }
 {}
 
-/// Two are in the order of their numbers.
+/// Values are ordered by their numbers.
 pub fn is_ordered_by_its_number()
     ensures { (x y : NamedGroup) →
         ⟦<NamedGroup as Ord>⟧.cmp x y ≡ nat_cmp x.0 y.0 }

@@ -141,7 +141,7 @@ impl Parted for NewSessionTicket {
     ghost as_parts = { λ bytes is. is };
 }
 
-/// The encoding of a [`NewSessionTicket`], by its fields.
+/// The encoding of a [`NewSessionTicket`], split into its fields.
 #[derive(Drop)]
 pub struct NewSessionTicketView<'a> {
     /// `uint32 ticket_lifetime;`
@@ -174,7 +174,7 @@ impl<'a> From<Encoded<'a, NewSessionTicket>> for NewSessionTicketView<'a> {
     }
 }
 
-/// Two are equal exactly where each field is.
+/// Two values are equal if and only if all their fields are equal.
 pub fn is_compared_by_its_fields()
     ensures { (x y : NewSessionTicket) →
         ⟦<NewSessionTicket as PartialEq>⟧.eq x y

@@ -93,7 +93,7 @@ impl Parted for OfferedPsks {
     ghost as_parts = { λ bytes is. is };
 }
 
-/// The encoding of a [`OfferedPsks`], by its fields.
+/// The encoding of a [`OfferedPsks`], split into its fields.
 #[derive(Drop)]
 pub struct OfferedPsksView<'a> {
     /// `PskIdentity identities<7..2^16-1>;`
@@ -114,7 +114,7 @@ impl<'a> From<Encoded<'a, OfferedPsks>> for OfferedPsksView<'a> {
     }
 }
 
-/// Two are equal exactly where each field is.
+/// Two values are equal if and only if all their fields are equal.
 pub fn is_compared_by_its_fields()
     ensures { (x y : OfferedPsks) →
         ⟦<OfferedPsks as PartialEq>⟧.eq x y

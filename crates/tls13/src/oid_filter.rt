@@ -108,7 +108,7 @@ impl Parted for OIDFilter {
     ghost as_parts = { λ bytes is. is };
 }
 
-/// The encoding of a [`OIDFilter`], by its fields.
+/// The encoding of a [`OIDFilter`], split into its fields.
 #[derive(Drop)]
 pub struct OIDFilterView<'a> {
     /// `opaque certificate_extension_oid<1..2^8-1>;`
@@ -130,7 +130,7 @@ impl<'a> From<Encoded<'a, OIDFilter>> for OIDFilterView<'a> {
     }
 }
 
-/// Two are equal exactly where each field is.
+/// Two values are equal if and only if all their fields are equal.
 pub fn is_compared_by_its_fields()
     ensures { (x y : OIDFilter) →
         ⟦<OIDFilter as PartialEq>⟧.eq x y

@@ -11,8 +11,8 @@ use tls_codec::{
 use tls_codec_cases::{Case, Chosen, Or, append_as_for, write_as_for};
 use tls_codec_validate::{Rejected, ValidateFor};
 
-/// `select (msg_type)` of `PreSharedKeyExtension` (RFC 8446, appendix B.3.1): no byte of it
-/// tells the tag.
+/// `select (msg_type)` of `PreSharedKeyExtension` (RFC 8446, appendix B.3.1): its bytes
+/// don't have the tag.
 #[derive(PartialEq, Eq, Debug, Clone, Drop)]
 pub enum PreSharedKeyExtension {
     /// `case client_hello: OfferedPsks;`
@@ -64,7 +64,7 @@ impl SizeFor<HandshakeType> for PreSharedKeyExtension {
     ghost lawful = { pre_shared_key_extension_meets_for };
 }
 
-/// `EncodingError("value does not fit its context")`: the value is of another case.
+/// `EncodingError("value does not fit its context")`: the value's case is for another tag.
 impl SerializeFor<HandshakeType> for PreSharedKeyExtension {
     fn tls_serialize_for<W: Sink>(
         &self,
@@ -137,7 +137,7 @@ impl From<u16> for PreSharedKeyExtension {
     }
 }
 
-/// Two are equal exactly where they are of one case, and each field is.
+/// Two values are equal if and only if they have the same case and all their fields are equal.
 pub fn is_compared_by_its_case()
     ensures tag { (x y : PreSharedKeyExtension) →
         IsTrue (⟦<PreSharedKeyExtension as PartialEq>⟧.eq x y)

@@ -31,14 +31,14 @@ impl ProtocolVersionX0303 {
         771
     }
 
-    /// Its name in the text.
+    /// Its name in the presentation language.
     pub fn name(&self) -> &'static str
         ensures { result.now ≡ protocol_version_x0303_name self.now }
     {
         "0x0303"
     }
 
-    /// The value that has this number.
+    /// The value with this number, if there is one.
     pub fn of_code(code: u16) -> Option<ProtocolVersionX0303>
         ensures { MatchOption result (protocol_version_x0303_has code ≡ false)
             (λ v. protocol_version_x0303_code v ≡ code) }
@@ -70,7 +70,7 @@ impl From<ProtocolVersionX0303> for u16 {
     }
 }
 
-/// The value that has this number.
+/// The value with this number.
 impl TryFrom<u16> for ProtocolVersionX0303 {
     type Error = Error;
 
@@ -170,14 +170,14 @@ impl Told for ProtocolVersionX0303 {
     }
 }
 
-/// Two are equal exactly where their numbers are.
+/// Two values are equal if and only if their numbers are equal.
 pub fn is_compared_by_its_number()
     ensures { (x y : ProtocolVersionX0303) →
         ⟦<ProtocolVersionX0303 as PartialEq>⟧.eq x y
         ≡ nat_eq (protocol_version_x0303_code x) (protocol_version_x0303_code y) }
 {}
 
-/// Two are in the order of their numbers.
+/// Values are ordered by their numbers.
 pub fn is_ordered_by_its_number()
     ensures { (x y : ProtocolVersionX0303) →
         ⟦<ProtocolVersionX0303 as Ord>⟧.cmp x y

@@ -95,7 +95,7 @@ impl Parted for PskIdentity {
     ghost as_parts = { λ bytes is. is };
 }
 
-/// The encoding of a [`PskIdentity`], by its fields.
+/// The encoding of a [`PskIdentity`], split into its fields.
 #[derive(Drop)]
 pub struct PskIdentityView<'a> {
     /// `opaque identity<1..2^16-1>;`
@@ -116,7 +116,7 @@ impl<'a> From<Encoded<'a, PskIdentity>> for PskIdentityView<'a> {
     }
 }
 
-/// Two are equal exactly where each field is.
+/// Two values are equal if and only if all their fields are equal.
 pub fn is_compared_by_its_fields()
     ensures { (x y : PskIdentity) →
         ⟦<PskIdentity as PartialEq>⟧.eq x y

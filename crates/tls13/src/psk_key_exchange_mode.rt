@@ -22,7 +22,7 @@ impl PskKeyExchangeMode {
     /// `psk_dhe_ke`
     pub const PSK_DHE_KE: PskKeyExchangeMode = PskKeyExchangeMode(1);
 
-    /// Its name in the text, if it has one.
+    /// Its name in the presentation language, if it has one.
     pub fn name(&self) -> Option<&'static str>
         ensures { option_map (λ t. t.now) result ≡ listed_name psk_key_exchange_mode_names
             self.now.0 }
@@ -35,7 +35,7 @@ impl PskKeyExchangeMode {
     }
 }
 
-/// Its name, or else its number in hexadecimal, two digits a byte. A width pads names alone.
+/// Its name, or else its number in hexadecimal, two digits per byte. A width pads only names.
 impl fmt::Display for PskKeyExchangeMode {
     ghost output = { λ v. Some (name_or_number psk_key_exchange_mode_names 2 v.0) };
 
@@ -57,7 +57,7 @@ impl From<PskKeyExchangeMode> for u8 {
     }
 }
 
-/// The one that has this number.
+/// The value with this number.
 impl From<u8> for PskKeyExchangeMode {
     ghost from_gives = { λ number v. v.0 ≡ number };
 
@@ -137,13 +137,13 @@ impl Told for PskKeyExchangeMode {
     }
 }
 
-/// Two are equal exactly where their numbers are.
+/// Two values are equal if and only if their numbers are equal.
 pub fn is_compared_by_its_number()
     ensures { (x y : PskKeyExchangeMode) →
         ⟦<PskKeyExchangeMode as PartialEq>⟧.eq x y ≡ nat_eq x.0 y.0 }
 {}
 
-/// Two are in the order of their numbers.
+/// Values are ordered by their numbers.
 pub fn is_ordered_by_its_number()
     ensures { (x y : PskKeyExchangeMode) →
         ⟦<PskKeyExchangeMode as Ord>⟧.cmp x y ≡ nat_cmp x.0 y.0 }

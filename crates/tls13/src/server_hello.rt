@@ -160,7 +160,7 @@ impl Parted for ServerHello {
     ghost as_parts = { λ bytes is. is };
 }
 
-/// The encoding of a [`ServerHello`], by its fields.
+/// The encoding of a [`ServerHello`], split into its fields.
 #[derive(Drop)]
 pub struct ServerHelloView<'a> {
     /// `ProtocolVersion legacy_version = 0x0303;`
@@ -198,7 +198,7 @@ impl<'a> From<Encoded<'a, ServerHello>> for ServerHelloView<'a> {
     }
 }
 
-/// Two are equal exactly where each field is.
+/// Two values are equal if and only if all their fields are equal.
 pub fn is_compared_by_its_fields()
     ensures { (x y : ServerHello) →
         ⟦<ServerHello as PartialEq>⟧.eq x y

@@ -82,7 +82,7 @@ impl SignatureScheme {
     /// `dsa_sha512_RESERVED`
     pub const DSA_SHA512_RESERVED: SignatureScheme = SignatureScheme(1538);
 
-    /// Its name in the text, if it has one.
+    /// Its name in the presentation language, if it has one.
     pub fn name(&self) -> Option<&'static str>
         ensures { option_map (λ t. t.now) result ≡ listed_name signature_scheme_names self.now.0 }
     {
@@ -112,7 +112,7 @@ impl SignatureScheme {
     }
 }
 
-/// Its name, or else its number in hexadecimal, two digits a byte. A width pads names alone.
+/// Its name, or else its number in hexadecimal, two digits per byte. A width pads only names.
 impl fmt::Display for SignatureScheme {
     ghost output = { λ v. Some (name_or_number signature_scheme_names 4 v.0) };
 
@@ -134,7 +134,7 @@ impl From<SignatureScheme> for u16 {
     }
 }
 
-/// The one that has this number.
+/// The value with this number.
 impl From<u16> for SignatureScheme {
     ghost from_gives = { λ number v. v.0 ≡ number };
 
@@ -214,13 +214,13 @@ impl Told for SignatureScheme {
     }
 }
 
-/// Two are equal exactly where their numbers are.
+/// Two values are equal if and only if their numbers are equal.
 pub fn is_compared_by_its_number()
     ensures { (x y : SignatureScheme) →
         ⟦<SignatureScheme as PartialEq>⟧.eq x y ≡ nat_eq x.0 y.0 }
 {}
 
-/// Two are in the order of their numbers.
+/// Values are ordered by their numbers.
 pub fn is_ordered_by_its_number()
     ensures { (x y : SignatureScheme) →
         ⟦<SignatureScheme as Ord>⟧.cmp x y ≡ nat_cmp x.0 y.0 }

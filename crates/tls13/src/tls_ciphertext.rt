@@ -121,7 +121,7 @@ impl Parted for TLSCiphertext {
     ghost as_parts = { λ bytes is. is };
 }
 
-/// The encoding of a [`TLSCiphertext`], by its fields.
+/// The encoding of a [`TLSCiphertext`], split into its fields.
 #[derive(Drop)]
 pub struct TLSCiphertextView<'a> {
     /// `ContentType opaque_type = application_data;`
@@ -148,7 +148,7 @@ impl<'a> From<Encoded<'a, TLSCiphertext>> for TLSCiphertextView<'a> {
     }
 }
 
-/// Two are equal exactly where each field is.
+/// Two values are equal if and only if all their fields are equal.
 pub fn is_compared_by_its_fields()
     ensures { (x y : TLSCiphertext) →
         ⟦<TLSCiphertext as PartialEq>⟧.eq x y

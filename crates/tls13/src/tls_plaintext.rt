@@ -114,7 +114,7 @@ impl Parted for TLSPlaintext {
     ghost as_parts = { λ bytes is. is };
 }
 
-/// The encoding of a [`TLSPlaintext`], by its fields.
+/// The encoding of a [`TLSPlaintext`], split into its fields.
 #[derive(Drop)]
 pub struct TLSPlaintextView<'a> {
     /// `ContentType type;`
@@ -139,7 +139,7 @@ impl<'a> From<Encoded<'a, TLSPlaintext>> for TLSPlaintextView<'a> {
     }
 }
 
-/// Two are equal exactly where each field is.
+/// Two values are equal if and only if all their fields are equal.
 pub fn is_compared_by_its_fields()
     ensures { (x y : TLSPlaintext) →
         ⟦<TLSPlaintext as PartialEq>⟧.eq x y

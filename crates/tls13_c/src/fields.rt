@@ -99,7 +99,8 @@ pub extern "C" fn tls13_encrypted_extensions_locate(
     ensures status { Decides encrypted_extensions_format bytes.now result.status }
     ensures taken { IsTaken encrypted_extensions_format bytes.now result.status result.taken }
     ensures rejected { IsRejection ⟦<EncryptedExtensions as DeserializeBytes>⟧.names
-        ⟦<EncryptedExtensions as Validate>⟧.places bytes.now result.status result.at result.detail }
+        ⟦<EncryptedExtensions as Validate>⟧.places bytes.now
+        result.status result.at result.detail }
     ensures fields { result.status ≡ 0 → AreEncryptedExtensionsFields bytes.now fields.new }
     ensures kept { result.status ≢ 0 → fields.new ≡ fields.old }
 {
@@ -119,7 +120,8 @@ pub extern "C" fn tls13_certificate_request_locate(
     ensures status { Decides certificate_request_format bytes.now result.status }
     ensures taken { IsTaken certificate_request_format bytes.now result.status result.taken }
     ensures rejected { IsRejection ⟦<CertificateRequest as DeserializeBytes>⟧.names
-        ⟦<CertificateRequest as Validate>⟧.places bytes.now result.status result.at result.detail }
+        ⟦<CertificateRequest as Validate>⟧.places bytes.now
+        result.status result.at result.detail }
     ensures fields { result.status ≡ 0 → AreCertificateRequestFields bytes.now fields.new }
     ensures kept { result.status ≢ 0 → fields.new ≡ fields.old }
 {

@@ -6,7 +6,8 @@ ghost use Rattle.tls13_fields.specs.CertificateVerifyFields.{AreCertificateVerif
 use tls_codec_outcome::{Content, Locate, Span, Whole};
 use tls13::SignatureScheme;
 
-/// Where the fields of a `CertificateVerify` are (RFC 8446, section 4.4.3). Of `opaque` it is the bytes without their length.
+/// Where the fields of a `CertificateVerify` are (RFC 8446, section 4.4.3). A span of `opaque` has the bytes
+/// without their length.
 #[repr(C)]
 #[derive(Clone, Copy, PartialEq, Eq, Debug)]
 pub struct CertificateVerifyFields {

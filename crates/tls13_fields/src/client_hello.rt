@@ -7,7 +7,8 @@ use tls_codec::{TlsVec, Within};
 use tls_codec_outcome::{Content, Locate, Span, Whole};
 use tls13::{CipherSuite, Extension, ProtocolVersionX0303, Random};
 
-/// Where the fields of a `ClientHello` are (RFC 8446, section 4.1.2). Of `opaque` it is the bytes without their length.
+/// Where the fields of a `ClientHello` are (RFC 8446, section 4.1.2). A span of `opaque` has the bytes
+/// without their length.
 #[repr(C)]
 #[derive(Clone, Copy, PartialEq, Eq, Debug)]
 pub struct ClientHelloFields {

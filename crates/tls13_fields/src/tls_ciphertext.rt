@@ -6,7 +6,8 @@ ghost use Rattle.tls13_fields.specs.TLSCiphertextFields.{AreTLSCiphertextFields}
 use tls_codec_outcome::{Content, Locate, Span, Whole};
 use tls13::{ContentTypeApplicationData, ProtocolVersionX0303};
 
-/// Where the fields of a `TLSCiphertext` are (RFC 8446, section 5.2). Of `opaque` it is the bytes without their length.
+/// Where the fields of a `TLSCiphertext` are (RFC 8446, section 5.2). A span of `opaque` has the bytes
+/// without their length.
 #[repr(C)]
 #[derive(Clone, Copy, PartialEq, Eq, Debug)]
 pub struct TLSCiphertextFields {

@@ -6,7 +6,8 @@ ghost use Rattle.tls13_fields.specs.TLSPlaintextFields.{AreTLSPlaintextFields};
 use tls_codec_outcome::{Content, Locate, Span, Whole};
 use tls13::{ContentType, ProtocolVersion};
 
-/// Where the fields of a `TLSPlaintext` are (RFC 8446, section 5.1). Of `opaque` it is the bytes without their length.
+/// Where the fields of a `TLSPlaintext` are (RFC 8446, section 5.1). A span of `opaque` has the bytes
+/// without their length.
 #[repr(C)]
 #[derive(Clone, Copy, PartialEq, Eq, Debug)]
 pub struct TLSPlaintextFields {

@@ -30,10 +30,10 @@ pub fn decided<
         (then_names T.format T.DeserializeBytes.names U.DeserializeBytesFor.names) }
     ensures source { SameSourceNames ⟦<Then<T, U> as Deserialize>⟧.names
         (then_source_names T.format T.Deserialize.names U.DeserializeFor.names) }
-    ensures borrowed { Means ⟦<ByRefThen<'a, T, U> as Size>⟧
+    ensures by_ref { Means ⟦<ByRefThen<'a, T, U> as Size>⟧
         (λ v. Join (T.plain v.first.now) (U.plain v.rest))
         (then_format T.format U.format_for) }
-    ensures borrowed_pair { Means ⟦<ByRefThen2<'a, T, U, V> as Size>⟧
+    ensures by_ref_pair { Means ⟦<ByRefThen2<'a, T, U, V> as Size>⟧
         (λ v. Join (T.plain v.first.now) (pair_tree (U.plain v.second) (V.plain v.third)))
         (then_format T.format (λ c. pair_format (U.format_for c) (V.format_for c))) }
 {}
@@ -46,7 +46,7 @@ pub fn payloads<'a, C: Size, K: Condition<C>, T: Deserialize + DeserializeBytes 
         → SameNames (⟦<When<K, T> as DeserializeBytesFor<C>>⟧.names c) T.DeserializeBytes.names }
     ensures when_source { (c : Tree)
         → SameSourceNames (⟦<When<K, T> as DeserializeFor<C>>⟧.names c) T.Deserialize.names }
-    ensures when_borrowed { (c : Tree) → SameFormat (⟦<ByRefWhen<'a, K, T> as SizeFor<C>>⟧.format_for c)
+    ensures when_by_ref { (c : Tree) → SameFormat (⟦<ByRefWhen<'a, K, T> as SizeFor<C>>⟧.format_for c)
         (present_format (K.holds c) T.format) }
 
     ensures always { (c : Tree) → SameFormat (⟦<Always<T> as SizeFor<C>>⟧.format_for c) T.format }
@@ -54,7 +54,7 @@ pub fn payloads<'a, C: Size, K: Condition<C>, T: Deserialize + DeserializeBytes 
         → SameNames (⟦<Always<T> as DeserializeBytesFor<C>>⟧.names c) T.DeserializeBytes.names }
     ensures always_source { (c : Tree)
         → SameSourceNames (⟦<Always<T> as DeserializeFor<C>>⟧.names c) T.Deserialize.names }
-    ensures always_borrowed { (c : Tree) → SameFormat (⟦<ByRef<'a, T> as SizeFor<C>>⟧.format_for c)
+    ensures always_by_ref { (c : Tree) → SameFormat (⟦<ByRef<'a, T> as SizeFor<C>>⟧.format_for c)
         T.format }
 {}
 
@@ -66,7 +66,7 @@ pub fn parts<
     U: DeserializeFor<C> + DeserializeBytesFor<C>,
     V: DeserializeFor<C> + DeserializeBytesFor<C>,
 >()
-    ensures borrowed { (c : Tree) → SameFormat (⟦<ByRefIn<'a, T> as SizeFor<C>>⟧.format_for c)
+    ensures by_ref { (c : Tree) → SameFormat (⟦<ByRefIn<'a, T> as SizeFor<C>>⟧.format_for c)
         (T.format_for c) }
 
     ensures pair { (c : Tree) → SameFormat (⟦<(T, U) as SizeFor<C>>⟧.format_for c)

@@ -47,12 +47,12 @@ pub fn numbers<'a>()
     ensures u32 { Means ⟦<u32 as Size>⟧ Number (number_format 4) }
     ensures u64 { Means ⟦<u64 as Size>⟧ Number (number_format 8) }
 
-    ensures u8_borrowed { Means ⟦<&'a u8 as Size>⟧ (λ n. Number n.now) (number_format 1) }
-    ensures u16_borrowed { Means ⟦<&'a u16 as Size>⟧ (λ n. Number n.now) (number_format 2) }
-    ensures u24_borrowed { Means ⟦<&'a U24 as Size>⟧ (λ n. Number (uint24.number_of n.now))
+    ensures u8_by_ref { Means ⟦<&'a u8 as Size>⟧ (λ n. Number n.now) (number_format 1) }
+    ensures u16_by_ref { Means ⟦<&'a u16 as Size>⟧ (λ n. Number n.now) (number_format 2) }
+    ensures u24_by_ref { Means ⟦<&'a U24 as Size>⟧ (λ n. Number (uint24.number_of n.now))
         (number_format 3) }
-    ensures u32_borrowed { Means ⟦<&'a u32 as Size>⟧ (λ n. Number n.now) (number_format 4) }
-    ensures u64_borrowed { Means ⟦<&'a u64 as Size>⟧ (λ n. Number n.now) (number_format 8) }
+    ensures u32_by_ref { Means ⟦<&'a u32 as Size>⟧ (λ n. Number n.now) (number_format 4) }
+    ensures u64_by_ref { Means ⟦<&'a u64 as Size>⟧ (λ n. Number n.now) (number_format 8) }
 {}
 
 /// Why numbers are not read: `EndOfStream` for too few bytes, or the source failed.
@@ -89,7 +89,7 @@ pub fn arrays<const LEN: usize>()
 /// Options: a byte 0, or a byte 1 and the payload (RFC 9420, section 2.1.1).
 pub fn options<'a, T: Deserialize + DeserializeBytes>()
     ensures is { Means ⟦<Option<T> as Size>⟧ (option_plain T.plain) (option_format T.format) }
-    ensures borrowed { Means ⟦<&'a Option<T> as Size>⟧ (λ v. option_plain T.plain v.now)
+    ensures by_ref { Means ⟦<&'a Option<T> as Size>⟧ (λ v. option_plain T.plain v.now)
         (option_format T.format) }
     ensures slice { SameNames ⟦<Option<T> as DeserializeBytes>⟧.names
         (option_names T.DeserializeBytes.names) }
@@ -142,7 +142,7 @@ pub fn boxes<'a, T: Deserialize + DeserializeBytes + 'a>()
         (box_names T.format T.DeserializeBytes.names) }
     ensures source { SameSourceNames ⟦<Box<T> as Deserialize>⟧.names
         (box_source_names T.format T.Deserialize.names) }
-    ensures borrowed { Means ⟦<ByRef<'a, T> as Size>⟧ (λ v. T.plain v.0.now) T.format }
+    ensures by_ref { Means ⟦<ByRef<'a, T> as Size>⟧ (λ v. T.plain v.0.now) T.format }
 {}
 
 /// Borrowed values in a row: two or three as the pair and the triple, and more as pairs and triples of those.
@@ -158,38 +158,38 @@ pub fn borrowed_rows<
     H: Size + 'a,
     I: Size + 'a,
 >()
-    ensures borrowed2 { Means ⟦<ByRef2<'a, A, B> as Size>⟧
+    ensures by_ref2 { Means ⟦<ByRef2<'a, A, B> as Size>⟧
         (λ v. pair_tree (A.plain v.0.now) (B.plain v.1.now))
         (pair_format A.format B.format) }
-    ensures borrowed3 { Means ⟦<ByRef3<'a, A, B, C> as Size>⟧
+    ensures by_ref3 { Means ⟦<ByRef3<'a, A, B, C> as Size>⟧
         (λ v. triple_tree (A.plain v.0.now) (B.plain v.1.now) (C.plain v.2.now))
         (triple_format A.format B.format C.format) }
-    ensures borrowed4 { Means ⟦<ByRef4<'a, A, B, C, D> as Size>⟧
+    ensures by_ref4 { Means ⟦<ByRef4<'a, A, B, C, D> as Size>⟧
         (λ v. pair_tree (pair_tree (A.plain v.0.now) (B.plain v.1.now))
         (pair_tree (C.plain v.2.now) (D.plain v.3.now)))
         (pair_format (pair_format A.format B.format) (pair_format C.format D.format)) }
-    ensures borrowed5 { Means ⟦<ByRef5<'a, A, B, C, D, E> as Size>⟧
+    ensures by_ref5 { Means ⟦<ByRef5<'a, A, B, C, D, E> as Size>⟧
         (λ v. pair_tree (triple_tree (A.plain v.0.now) (B.plain v.1.now) (C.plain v.2.now))
         (pair_tree (D.plain v.3.now) (E.plain v.4.now)))
         (pair_format (triple_format A.format B.format C.format) (pair_format D.format E.format)) }
-    ensures borrowed6 { Means ⟦<ByRef6<'a, A, B, C, D, E, F> as Size>⟧
+    ensures by_ref6 { Means ⟦<ByRef6<'a, A, B, C, D, E, F> as Size>⟧
         (λ v. pair_tree (triple_tree (A.plain v.0.now) (B.plain v.1.now) (C.plain v.2.now))
         (triple_tree (D.plain v.3.now) (E.plain v.4.now) (F.plain v.5.now)))
         (pair_format (triple_format A.format B.format C.format)
         (triple_format D.format E.format F.format)) }
-    ensures borrowed7 { Means ⟦<ByRef7<'a, A, B, C, D, E, F, G> as Size>⟧
+    ensures by_ref7 { Means ⟦<ByRef7<'a, A, B, C, D, E, F, G> as Size>⟧
         (λ v. triple_tree (triple_tree (A.plain v.0.now) (B.plain v.1.now) (C.plain v.2.now))
         (pair_tree (D.plain v.3.now) (E.plain v.4.now))
         (pair_tree (F.plain v.5.now) (G.plain v.6.now)))
         (triple_format (triple_format A.format B.format C.format) (pair_format D.format E.format)
         (pair_format F.format G.format)) }
-    ensures borrowed8 { Means ⟦<ByRef8<'a, A, B, C, D, E, F, G, H> as Size>⟧
+    ensures by_ref8 { Means ⟦<ByRef8<'a, A, B, C, D, E, F, G, H> as Size>⟧
         (λ v. triple_tree (triple_tree (A.plain v.0.now) (B.plain v.1.now) (C.plain v.2.now))
         (triple_tree (D.plain v.3.now) (E.plain v.4.now) (F.plain v.5.now))
         (pair_tree (G.plain v.6.now) (H.plain v.7.now)))
         (triple_format (triple_format A.format B.format C.format)
         (triple_format D.format E.format F.format) (pair_format G.format H.format)) }
-    ensures borrowed9 { Means ⟦<ByRef9<'a, A, B, C, D, E, F, G, H, I> as Size>⟧
+    ensures by_ref9 { Means ⟦<ByRef9<'a, A, B, C, D, E, F, G, H, I> as Size>⟧
         (λ v. triple_tree (triple_tree (A.plain v.0.now) (B.plain v.1.now) (C.plain v.2.now))
         (triple_tree (D.plain v.3.now) (E.plain v.4.now) (F.plain v.5.now))
         (triple_tree (G.plain v.6.now) (H.plain v.7.now) (I.plain v.8.now)))
@@ -201,7 +201,7 @@ pub fn borrowed_rows<
 /// section 2.1.2).
 pub fn lists<'a, T: Deserialize + DeserializeBytes>()
     ensures is { Means ⟦<Vec<T> as Size>⟧ (λ v. trees T.plain v.items) (list_format T.format) }
-    ensures borrowed { Means ⟦<&'a Vec<T> as Size>⟧ (λ v. trees T.plain v.now.items)
+    ensures by_ref { Means ⟦<&'a Vec<T> as Size>⟧ (λ v. trees T.plain v.now.items)
         (list_format T.format) }
     ensures elements { Means ⟦<&'a [T] as Size>⟧ (λ v. trees T.plain v.now) (list_format T.format) }
     ensures slice { SameNames ⟦<Vec<T> as DeserializeBytes>⟧.names
@@ -213,7 +213,7 @@ pub fn lists<'a, T: Deserialize + DeserializeBytes>()
 /// Strings: their UTF-8 after its length.
 pub fn texts<'a>()
     ensures owned { Means ⟦<String as Size>⟧ (λ s. number_trees (string_bytes s)) text_format }
-    ensures borrowed { Means ⟦<&'a str as Size>⟧ (λ s. number_trees s.now) text_format }
+    ensures by_ref { Means ⟦<&'a str as Size>⟧ (λ s. number_trees s.now) text_format }
     ensures slice { SameNames ⟦<String as DeserializeBytes>⟧.names TextRefused }
     ensures source { SameSourceNames ⟦<String as Deserialize>⟧.names TextSourceRefused }
 {}
@@ -231,11 +231,11 @@ pub fn byte_vectors<'a>()
     ensures secret_vl_byte_vec { Means ⟦<SecretVLByteVec as Size>⟧
         (λ v. number_trees (secret_vec_bytes_of v)) bytes_format }
 
-    ensures vl_bytes_borrowed { Means ⟦<&'a VLBytes as Size>⟧ (λ v. number_trees (bytes_of v.now))
+    ensures vl_bytes_by_ref { Means ⟦<&'a VLBytes as Size>⟧ (λ v. number_trees (bytes_of v.now))
         bytes_format }
-    ensures vl_byte_vec_borrowed { Means ⟦<&'a VLByteVec as Size>⟧
+    ensures vl_byte_vec_by_ref { Means ⟦<&'a VLByteVec as Size>⟧
         (λ v. number_trees (vec_bytes_of v.now)) bytes_format }
-    ensures vl_byte_slice_borrowed { Means ⟦<&'a VLByteSlice<'a> as Size>⟧
+    ensures vl_byte_slice_by_ref { Means ⟦<&'a VLByteSlice<'a> as Size>⟧
         (λ v. number_trees (slice_bytes_of v.now)) bytes_format }
 {}
 
@@ -263,7 +263,7 @@ pub fn byte_vectors_refused()
 /// The same under any name.
 pub fn byte_vectors_of_any_name<'a, N: 'a>()
     ensures is { Means ⟦<VarBytes<N> as Size>⟧ (λ v. number_trees (bytes_of v)) bytes_format }
-    ensures borrowed { Means ⟦<&'a VarBytes<N> as Size>⟧ (λ v. number_trees (bytes_of v.now))
+    ensures by_ref { Means ⟦<&'a VarBytes<N> as Size>⟧ (λ v. number_trees (bytes_of v.now))
         bytes_format }
     ensures secret { Means ⟦<SecretVarBytes<N> as Size>⟧
         (λ v. number_trees (secret_bytes_of v)) bytes_format }
@@ -299,7 +299,7 @@ pub fn bounded_lengths<F: LengthField, const LEAST: usize, const MOST: usize>()
 pub fn vectors<'a, F: LengthField, T: Deserialize + DeserializeBytes + Zeroize>()
     ensures list { Means ⟦<TlsVec<F, T> as Size>⟧ (λ v. trees T.plain (elements_of v))
         (counted_list_format F.field T.format) }
-    ensures list_borrowed { Means ⟦<&'a TlsVec<F, T> as Size>⟧ (λ v. trees T.plain (elements_of v.now))
+    ensures list_by_ref { Means ⟦<&'a TlsVec<F, T> as Size>⟧ (λ v. trees T.plain (elements_of v.now))
         (counted_list_format F.field T.format) }
     ensures list_slice { SameNames ⟦<TlsVec<F, T> as DeserializeBytes>⟧.names
         (counted_list_names F.field T.format T.DeserializeBytes.names) }
@@ -308,7 +308,7 @@ pub fn vectors<'a, F: LengthField, T: Deserialize + DeserializeBytes + Zeroize>(
 
     ensures secret { Means ⟦<SecretTlsVec<F, T> as Size>⟧
         (λ v. trees T.plain (secret_elements_of v)) (counted_list_format F.field T.format) }
-    ensures secret_borrowed { Means ⟦<&'a SecretTlsVec<F, T> as Size>⟧
+    ensures secret_by_ref { Means ⟦<&'a SecretTlsVec<F, T> as Size>⟧
         (λ v. trees T.plain (secret_elements_of v.now)) (counted_list_format F.field T.format) }
     ensures secret_slice { SameNames ⟦<SecretTlsVec<F, T> as DeserializeBytes>⟧.names
         (counted_list_names F.field T.format T.DeserializeBytes.names) }
@@ -327,13 +327,13 @@ pub fn slices<'a, T: Size + 'a>()
     ensures four { Means ⟦<TlsSliceU32<'a, T> as Size>⟧ (λ v. trees T.plain (u32_elements_of v))
         (fixed_list_format 4 T.format) }
 
-    ensures one_borrowed { Means ⟦<&'a TlsSliceU8<'a, T> as Size>⟧
+    ensures one_by_ref { Means ⟦<&'a TlsSliceU8<'a, T> as Size>⟧
         (λ v. trees T.plain (u8_elements_of v.now)) (fixed_list_format 1 T.format) }
-    ensures two_borrowed { Means ⟦<&'a TlsSliceU16<'a, T> as Size>⟧
+    ensures two_by_ref { Means ⟦<&'a TlsSliceU16<'a, T> as Size>⟧
         (λ v. trees T.plain (u16_elements_of v.now)) (fixed_list_format 2 T.format) }
-    ensures three_borrowed { Means ⟦<&'a TlsSliceU24<'a, T> as Size>⟧
+    ensures three_by_ref { Means ⟦<&'a TlsSliceU24<'a, T> as Size>⟧
         (λ v. trees T.plain (u24_elements_of v.now)) (fixed_list_format 3 T.format) }
-    ensures four_borrowed { Means ⟦<&'a TlsSliceU32<'a, T> as Size>⟧
+    ensures four_by_ref { Means ⟦<&'a TlsSliceU32<'a, T> as Size>⟧
         (λ v. trees T.plain (u32_elements_of v.now)) (fixed_list_format 4 T.format) }
 {}
 
@@ -341,7 +341,7 @@ pub fn slices<'a, T: Size + 'a>()
 pub fn counted_bytes<'a, F: LengthField>()
     ensures is { Means ⟦<TlsByteVec<F> as Size>⟧ (λ v. number_trees (fixed_bytes_of v))
         (counted_bytes_format F.field) }
-    ensures borrowed { Means ⟦<&'a TlsByteVec<F> as Size>⟧ (λ v. number_trees (fixed_bytes_of v.now))
+    ensures by_ref { Means ⟦<&'a TlsByteVec<F> as Size>⟧ (λ v. number_trees (fixed_bytes_of v.now))
         (counted_bytes_format F.field) }
     ensures slice { SameNames ⟦<TlsByteVec<F> as DeserializeBytes>⟧.names (OpaqueCopyRefused F.field) }
     ensures source { SameSourceNames ⟦<TlsByteVec<F> as Deserialize>⟧.names
@@ -367,12 +367,12 @@ pub fn byte_slices<'a>()
     ensures four { Means ⟦<TlsByteSliceU32<'a> as Size>⟧ (λ v. number_trees (u32_bytes_of v))
         (fixed_bytes_format 4) }
 
-    ensures one_borrowed { Means ⟦<&'a TlsByteSliceU8<'a> as Size>⟧
+    ensures one_by_ref { Means ⟦<&'a TlsByteSliceU8<'a> as Size>⟧
         (λ v. number_trees (u8_bytes_of v.now)) (fixed_bytes_format 1) }
-    ensures two_borrowed { Means ⟦<&'a TlsByteSliceU16<'a> as Size>⟧
+    ensures two_by_ref { Means ⟦<&'a TlsByteSliceU16<'a> as Size>⟧
         (λ v. number_trees (u16_bytes_of v.now)) (fixed_bytes_format 2) }
-    ensures three_borrowed { Means ⟦<&'a TlsByteSliceU24<'a> as Size>⟧
+    ensures three_by_ref { Means ⟦<&'a TlsByteSliceU24<'a> as Size>⟧
         (λ v. number_trees (u24_bytes_of v.now)) (fixed_bytes_format 3) }
-    ensures four_borrowed { Means ⟦<&'a TlsByteSliceU32<'a> as Size>⟧
+    ensures four_by_ref { Means ⟦<&'a TlsByteSliceU32<'a> as Size>⟧
         (λ v. number_trees (u32_bytes_of v.now)) (fixed_bytes_format 4) }
 {}

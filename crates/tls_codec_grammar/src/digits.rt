@@ -44,7 +44,7 @@ pub fn read_digits<R: Source, const K: usize>(bytes: &mut R) -> Result<[u8; K], 
     ensures bytes { IfOk result AreBytes }
     ensures named { IfErr result
         (Named (number_format K) (ReadRefused K) R.Source bytes.old bytes.new) }
-    ensures only_interrupted { IfOk result (λ _. OnlyInterrupted (R.counts bytes.old) (R.counts bytes.new)) }
+    ensures retried { IfOk result (λ _. OnlyInterrupted (R.counts bytes.old) (R.counts bytes.new)) }
 {
     let mut digits = [0u8; K];
     read_exactly(bytes, &mut digits)?;

@@ -59,7 +59,7 @@ pub trait LengthField {
         ensures ok { IfOk result (λ n. GaveNumber R.given field.spells src.old src.new n) }
         ensures refused { IfErr result
             (RefusedFor R.Source (NumberNotRead field.refuses) src.old src.new) }
-        ensures only_interrupted { IfOk result (λ _. OnlyInterrupted (R.counts src.old) (R.counts src.new)) };
+        ensures retried { IfOk result (λ _. OnlyInterrupted (R.counts src.old) (R.counts src.new)) };
 
     /// The length that the bytes begin with, and the rest of them.
     ///

@@ -56,7 +56,7 @@ impl Source for Drip<'_> {
         ensures too_few { result ≡ TooFew
             → IsShortOf (length _into.old) (Some (bytes_left self.old)) × (self.new ≡ self.old) }
         ensures unknown { result ≡ Unknown → self.new ≡ self.old }
-        ensures only_interrupted { no_counts ≡ no_counts }
+        ensures retried { no_counts ≡ no_counts }
         ensures never { result ≡ Unknown }
     {
         Fill::Unknown
@@ -65,7 +65,7 @@ impl Source for Drip<'_> {
     fn append_at_hand(&mut self, _out: &mut Vec<u8>, _n: usize) -> bool
         ensures appended { AppendedAtHand (λ a g b. bytes_left a ≡ g ++ bytes_left b) self.old
             self.new _n result _out.old _out.new }
-        ensures only_interrupted { no_counts ≡ no_counts }
+        ensures retried { no_counts ≡ no_counts }
         ensures never { result ≡ false }
     {
         false

@@ -143,7 +143,7 @@ impl<R: Source> Source for Failing<R> {
         ensures too_few { result ≡ TooFew
             → IsShortOf (length _into.old) (R.coming (inner_of self.old)) × (self.new ≡ self.old) }
         ensures unknown { result ≡ Unknown → self.new ≡ self.old }
-        ensures only_interrupted { counts_with R.counts self.new ≡ counts_with R.counts self.old }
+        ensures retried { counts_with R.counts self.new ≡ counts_with R.counts self.old }
         ensures never { result ≡ Unknown }
     {
         Fill::Unknown
@@ -152,7 +152,7 @@ impl<R: Source> Source for Failing<R> {
     fn append_at_hand(&mut self, _out: &mut Vec<u8>, _n: usize) -> bool
         ensures appended { AppendedAtHand (GaveBehind R.given) self.old self.new _n result _out.old
             _out.new }
-        ensures only_interrupted { counts_with R.counts self.new ≡ counts_with R.counts self.old }
+        ensures retried { counts_with R.counts self.new ≡ counts_with R.counts self.old }
         ensures never { result ≡ false }
     {
         false

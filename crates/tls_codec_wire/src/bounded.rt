@@ -88,7 +88,7 @@ impl<R: Source> Source for Bounded<'_, R> {
         ensures too_few { result ≡ TooFew
             → IsShortOf (length into.old) (first_bytes R.coming self.old) × (self.new ≡ self.old) }
         ensures unknown { result ≡ Unknown → self.new ≡ self.old }
-        ensures only_interrupted { R.counts (inner_of self.new) ≡ R.counts (inner_of self.old) }
+        ensures retried { R.counts (inner_of self.new) ≡ R.counts (inner_of self.old) }
         ensures beyond { limit_of self.old < length into.old → result ≡ TooFew }
     {
         let Bounded { inner, limit } = self;

@@ -69,7 +69,7 @@ pub trait Source {
         ensures too_few { result ≡ TooFew
             → IsShortOf (length _into.old) (coming self.old) × (self.new ≡ self.old) }
         ensures unknown { result ≡ Unknown → self.new ≡ self.old }
-        ensures only_interrupted { counts self.new ≡ counts self.old }
+        ensures retried { counts self.new ≡ counts self.old }
     {
         Fill::Unknown
     }
@@ -80,7 +80,7 @@ pub trait Source {
     /// A list of numbers is read by one such call.
     fn append_at_hand(&mut self, _out: &mut Vec<u8>, _n: usize) -> bool
         ensures appended { AppendedAtHand given self.old self.new _n result _out.old _out.new }
-        ensures only_interrupted { counts self.new ≡ counts self.old }
+        ensures retried { counts self.new ≡ counts self.old }
     {
         false
     }

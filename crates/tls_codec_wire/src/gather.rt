@@ -39,7 +39,7 @@ pub fn read_bytes_bounded<R: Source>(
     ensures count { IfOk result (λ bytes. length bytes.items ≡ len) }
     ensures refused { IfErr result (RefusedFor R.Source (BytesRefused len) src.old src.new) }
     ensures too_long { 2 ^ 63 ≤ len → (result ≡ Err InvalidVectorLength) × (src.new ≡ src.old) }
-    ensures only_interrupted { IfOk result (λ _. OnlyInterrupted (R.counts src.old) (R.counts src.new)) }
+    ensures retried { IfOk result (λ _. OnlyInterrupted (R.counts src.old) (R.counts src.new)) }
     ensures ended { result ≡ Err EndOfStream
         → OnlyInterrupted (R.counts src.old) (R.counts src.new) }
     ensures tried { TriedWithin len (R.counts src.old) (R.counts src.new) result }
@@ -66,7 +66,7 @@ fn take_at_hand<R: Source>(alloc: Global, src: &mut R, len: usize) -> Result<Opt
         (λ taken. MatchOption taken (src.new ≡ src.old)
         (λ bytes. R.given src.old bytes.items src.new × (length bytes.items ≡ len))) }
     ensures err { IfErr result (λ e. (e ≡ OutOfMemory) × (src.new ≡ src.old)) }
-    ensures only_interrupted { R.counts src.new ≡ R.counts src.old }
+    ensures retried { R.counts src.new ≡ R.counts src.old }
 {
     if !are_at_hand(len, src.at_hand()) {
         return Ok(None);
@@ -103,8 +103,8 @@ pub fn gather<R: Source>(src: &mut R, bytes: &mut Vec<u8>, len: usize) -> Result
     ensures count { IfOk result (λ _. length bytes.new.items ≡ length bytes.old.items + len) }
     ensures refused { IfErr result (RefusedFor R.Source (BytesRefused len) src.old src.new) }
     ensures ended { result ≡ Err EndOfStream → IsAtEnd (R.coming src.new) }
-    ensures only_interrupted { IfOk result (λ _. OnlyInterrupted (R.counts src.old) (R.counts src.new)) }
-    ensures ended_after_interruptions { result ≡ Err EndOfStream
+    ensures retried { IfOk result (λ _. OnlyInterrupted (R.counts src.old) (R.counts src.new)) }
+    ensures ended_retried { result ≡ Err EndOfStream
         → OnlyInterrupted (R.counts src.old) (R.counts src.new) }
     ensures tried { TriedWithin len (R.counts src.old) (R.counts src.new) result }
 {

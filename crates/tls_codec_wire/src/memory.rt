@@ -36,7 +36,7 @@ impl Source for &[u8] {
         ensures too_few { result ≡ TooFew
             → (length self.old.now < length into.old) × (self.new ≡ self.old) }
         ensures unknown { result ≡ Unknown → self.new ≡ self.old }
-        ensures only_interrupted { no_counts ≡ no_counts }
+        ensures retried { no_counts ≡ no_counts }
         ensures known { result ≡ Unknown → ⊥ }
     {
         let n = into.len();

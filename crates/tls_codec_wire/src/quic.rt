@@ -36,7 +36,7 @@ pub fn read_varint<R: Source>(src: &mut R) -> Result<TlsVarInt, Error>
     ensures ok { IfOk result (λ n. GaveNumber R.given Varint src.old src.new (number_of n)) }
     ensures refused { IfErr result
         (RefusedFor R.Source (NumberNotRead (RefusesBelow (2 ^ 62))) src.old src.new) }
-    ensures only_interrupted { IfOk result (λ _. OnlyInterrupted (R.counts src.old) (R.counts src.new)) }
+    ensures retried { IfOk result (λ _. OnlyInterrupted (R.counts src.old) (R.counts src.new)) }
     ensures ended { result ≡ Err EndOfStream
         → OnlyInterrupted (R.counts src.old) (R.counts src.new) }
 {
@@ -67,7 +67,7 @@ pub fn write_varint<W: Sink>(sink: &mut W, n: TlsVarInt) -> Result<usize, Error>
         (number_of n) }
     ensures counts { NoneFell (W.counts sink.old) (W.counts sink.new) }
     ensures refused { IfErr result (WriteRefused (W.counts sink.old) (W.counts sink.new)) }
-    ensures only_interrupted { IfOk result (λ _. OnlyInterrupted (W.counts sink.old) (W.counts sink.new)) }
+    ensures retried { IfOk result (λ _. OnlyInterrupted (W.counts sink.old) (W.counts sink.new)) }
 {
     let width = write_below::<W, LIMIT>(sink, n.value())?;
     Ok(width)

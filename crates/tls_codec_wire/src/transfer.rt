@@ -38,7 +38,7 @@ pub fn read_exactly<R: Source>(src: &mut R, into: &mut [u8]) -> Result<(), Error
     ensures bytes { OnOk result (AreBytes into.new) }
     ensures refused { IfErr result
         (RefusedFor R.Source (ReadRefused (length into.old)) src.old src.new) }
-    ensures only_interrupted { OnOk result (OnlyInterrupted (R.counts src.old) (R.counts src.new)) }
+    ensures retried { OnOk result (OnlyInterrupted (R.counts src.old) (R.counts src.new)) }
     ensures ended { result ≡ Err EndOfStream
         → OnlyInterrupted (R.counts src.old) (R.counts src.new) }
     ensures tried { TriedWithin (length into.old) (R.counts src.old) (R.counts src.new) result }
@@ -61,7 +61,7 @@ fn read_as_it_comes<R: Source>(src: &mut R, into: &mut [u8]) -> Result<(), Error
     ensures bytes { OnOk result (AreBytes into.new) }
     ensures refused { IfErr result
         (RefusedFor R.Source (ReadRefused (length into.old)) src.old src.new) }
-    ensures only_interrupted { OnOk result (OnlyInterrupted (R.counts src.old) (R.counts src.new)) }
+    ensures retried { OnOk result (OnlyInterrupted (R.counts src.old) (R.counts src.new)) }
     ensures ended { result ≡ Err EndOfStream
         → OnlyInterrupted (R.counts src.old) (R.counts src.new) }
     ensures tried { TriedWithin (length into.old) (R.counts src.old) (R.counts src.new) result }
@@ -95,7 +95,7 @@ fn read_as_it_comes<R: Source>(src: &mut R, into: &mut [u8]) -> Result<(), Error
 pub fn expect_end<R: Source>(src: &mut R) -> Result<(), Error>
     ensures ok { OnOk result (Seen R.Source src.old src.new []) }
     ensures gave { OnOk result (R.given src.old [] src.new) }
-    ensures only_interrupted { OnOk result (OnlyInterrupted (R.counts src.old) (R.counts src.new)) }
+    ensures retried { OnOk result (OnlyInterrupted (R.counts src.old) (R.counts src.new)) }
     ensures refused { IfErr result (RefusedFor R.Source EndRefused src.old src.new) }
 {
     let mut byte = [0u8; 1];
@@ -123,7 +123,7 @@ pub fn write_all<W: Sink>(sink: &mut W, bytes: &[u8]) -> Result<(), Error>
     ensures beginning { Received (W.received sink.old) (W.received sink.new) bytes.now }
     ensures counts { NoneFell (W.counts sink.old) (W.counts sink.new) }
     ensures refused { IfErr result (WriteRefused (W.counts sink.old) (W.counts sink.new)) }
-    ensures only_interrupted { OnOk result (OnlyInterrupted (W.counts sink.old) (W.counts sink.new)) }
+    ensures retried { OnOk result (OnlyInterrupted (W.counts sink.old) (W.counts sink.new)) }
     ensures tried { TriedWithin (length bytes.now) (W.counts sink.old) (W.counts sink.new) result }
     ensures nothing_sent { length bytes.now ≡ 0 → (result ≡ Ok tt) × (sink.new ≡ sink.old) }
 {

@@ -29,7 +29,7 @@ pub(crate) fn read_below<R: Source, const LIMIT: u64>(src: &mut R) -> Result<u64
     ensures ok { IfOk result (λ n. GaveNumber R.given (SpelledBelow LIMIT) src.old src.new n) }
     ensures refused { IfErr result
         (RefusedFor R.Source (NumberNotRead (RefusesBelow LIMIT)) src.old src.new) }
-    ensures only_interrupted { IfOk result (λ _. OnlyInterrupted (R.counts src.old) (R.counts src.new)) }
+    ensures retried { IfOk result (λ _. OnlyInterrupted (R.counts src.old) (R.counts src.new)) }
     ensures ended { result ≡ Err EndOfStream
         → OnlyInterrupted (R.counts src.old) (R.counts src.new) }
 {
@@ -54,7 +54,7 @@ fn read_few<R: Source>(src: &mut R, into: &mut [u8]) -> Result<(), Error>
     ensures bytes { OnOk result (AreBytes into.new) }
     ensures refused { IfErr result
         (RefusedFor R.Source (ReadRefused (length into.old)) src.old src.new) }
-    ensures only_interrupted { OnOk result (OnlyInterrupted (R.counts src.old) (R.counts src.new)) }
+    ensures retried { OnOk result (OnlyInterrupted (R.counts src.old) (R.counts src.new)) }
     ensures ended { result ≡ Err EndOfStream
         → OnlyInterrupted (R.counts src.old) (R.counts src.new) }
 {
@@ -174,7 +174,7 @@ pub(crate) fn write_below<W: Sink, const LIMIT: u64>(
     ensures counts { NoneFell (W.counts sink.old) (W.counts sink.new) }
     ensures refused { IfErr result
         (NumberNotSent LIMIT number (W.counts sink.old) (W.counts sink.new)) }
-    ensures only_interrupted { IfOk result (λ _. OnlyInterrupted (W.counts sink.old) (W.counts sink.new)) }
+    ensures retried { IfOk result (λ _. OnlyInterrupted (W.counts sink.old) (W.counts sink.new)) }
     ensures too_great { LIMIT ≤ number
         → (result ≡ Err InvalidVectorLength) × (sink.new ≡ sink.old) }
 {

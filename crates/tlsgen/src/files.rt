@@ -47,12 +47,11 @@ fn write_file<R: Files>(rt: &R, path: &str, text: &str) -> anyhow::Result<()> {
 }
 
 /// Compares each file with the file of its path in a folder, and prints the first line that
-/// differs. For a whole crate it also prints the first file there that isn't written.
+/// differs, or the first file there that isn't written.
 pub fn compare_with<R: Print + AllocGlobal + Alloc + Files + Clone + Drop>(
     rt: &R,
     folder: &str,
     written: &[Written],
-    is_whole: bool,
 ) -> anyhow::Result<ExitCode> {
     for file in written {
         let inner = file.path.as_str();
@@ -66,11 +65,9 @@ pub fn compare_with<R: Print + AllocGlobal + Alloc + Files + Clone + Drop>(
             return Ok(ExitCode::from(1));
         }
     }
-    if is_whole {
-        if let Some(inner) = stale_file(rt, folder, written)? {
-            println!(rt; "{folder}/{inner}: isn't written for the input")?;
-            return Ok(ExitCode::from(1));
-        }
+    if let Some(inner) = stale_file(rt, folder, written)? {
+        println!(rt; "{folder}/{inner}: isn't written for the input")?;
+        return Ok(ExitCode::from(1));
     }
     Ok(ExitCode::SUCCESS)
 }

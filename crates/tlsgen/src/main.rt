@@ -4,12 +4,10 @@
 //! It prints each file after a line with its path. With `--to FOLDER` it writes them there. With
 //! `--compare FOLDER` it ends with status 0 if the files there differ at most in layout. Else it
 //! ends with status 1 and prints the first line that differs, or the first file that can't be read
-//! or isn't written. With `--show` it writes one file in place of those: a module that shows the
-//! messages as a tree, for a crate that has `show::Show` and uses `message_tree`. `--notes FILE`
-//! has what the RFC says of the text in prose. `--with NAME=FILE`, or `NAME=FILE,NOTES`, names
-//! another crate and its input: the text may name its types. A text that is rejected or can't be
-//! read, and a file that can't be written, end it with status 2. It writes nothing before it has
-//! read the whole text.
+//! or isn't written. `--notes FILE` has what the RFC says of the text in prose. `--with NAME=FILE`,
+//! or `NAME=FILE,NOTES`, names another crate and its input: the text may name its types. A text
+//! that is rejected or can't be read, and a file that can't be written, end it with status 2. It
+//! writes nothing before it has read the whole text.
 //!
 //! - [`words`]: the command line.
 //! - [`texts`]: the texts of a crate and of those that it is over.
@@ -26,7 +24,6 @@ use std::rt::Files;
 use std::{env, fs};
 use texts::Texts;
 use tlsgen_emit::file::files_of;
-use tlsgen_emit::shows::file_of;
 use tlsgen_model::names::is_crate_name;
 use tlsgen_model::plan::Plan;
 use tlsgen_syntax::refusal::Trouble;
@@ -60,17 +57,12 @@ fn main(rt: HostRuntime) -> anyhow::Result<ExitCode> {
     let Some(plan) = plan(&rt, &mut texts)? else {
         return Ok(ExitCode::from(REFUSED));
     };
-    let written = if matches.get_flag("show") {
-        vec![in alloc; file_of(alloc, name, texts.crates.as_slice(), &plan)?]?
-    } else {
-        files_of(alloc, name, texts.crates.as_slice(), &plan)?
-    };
+    let written = files_of(alloc, name, texts.crates.as_slice(), &plan)?;
     if let Some(folder) = matches.get_str("to") {
         return files::write_to(&rt, folder, written.as_slice());
     }
     if let Some(folder) = matches.get_str("compare") {
-        let is_whole = !matches.get_flag("show");
-        return files::compare_with(&rt, folder, written.as_slice(), is_whole);
+        return files::compare_with(&rt, folder, written.as_slice());
     }
     files::print(&rt, written.as_slice())
 }

@@ -3,7 +3,7 @@
 use clap::{Arg, ArgAction, Command};
 use std::alloc::{AllocError, Global};
 
-/// The command line of the program: `INPUT --crate NAME [--notes FILE] [--with NAME=FILE].. [--show] [--to FOLDER | --compare FOLDER]`.
+/// The command line of the program: `INPUT --crate NAME [--notes FILE] [--with NAME=FILE].. [--to FOLDER | --compare FOLDER]`.
 pub fn command<'a>(alloc: Global) -> Result<Command<'a>, AllocError> {
     let input = Arg::new(alloc, "INPUT")
         .required(true)
@@ -36,10 +36,6 @@ pub fn command<'a>(alloc: Global) -> Result<Command<'a>, AllocError> {
         .action(ArgAction::Set)
         .conflicts_with("to")?
         .help("Compare the files of this folder with what would be written, but for layout");
-    let show = Arg::new(alloc, "show")
-        .long("show")
-        .action(ArgAction::SetTrue)
-        .help("Write one file: a module that shows the crate's messages as a tree");
     Command::new(alloc, "tlsgen")
         .about(
             "Writes a crate of proved messages from the presentation language of TLS (RFC 8446, section 3)",
@@ -48,7 +44,6 @@ pub fn command<'a>(alloc: Global) -> Result<Command<'a>, AllocError> {
         .arg(name)?
         .arg(notes)?
         .arg(with)?
-        .arg(show)?
         .arg(to)?
         .arg(compare)
 }

@@ -143,7 +143,7 @@ impl<'a> Form<'a> {
         ];
         self.holes.set_all(alloc, &texts)?;
         self.holes
-            .set_all(alloc, if self.is_borrowed { &LENT } else { &NOT_LENT })?;
+            .set_all(alloc, if self.is_borrowed { &BORROWED } else { &OWNED })?;
         self.holes.set("doc", doc(alloc, message.doc.as_str())?)?;
         views::set_name(alloc, names, &mut self.holes, message)
     }
@@ -252,7 +252,7 @@ impl<'a> Form<'a> {
         ensures { self.new.kind ≡ self.old.kind }
     {
         if self.is_borrowed {
-            return self.holes.set_each(alloc, &structs::LENT);
+            return self.holes.set_each(alloc, &structs::BORROWED);
         }
         let columns = self.holes.filled(alloc, "$types$")?.len();
         let is_long = columns > structs::LONG;
@@ -370,9 +370,9 @@ fn add_names(cases: &mut Vec<&'static str>, names: &[&'static str]) -> Result<()
     Ok(())
 }
 
-// The holes for a borrowed message; `NOT_LENT` has those for an owned one. The hole `static` is the
+// The holes for a borrowed message; `OWNED` has those for an owned one. The hole `static` is the
 // lifetime in a clause.
-static LENT: [(&str, &str); 6] = [
+static BORROWED: [(&str, &str); 6] = [
     (
         "borrowed_doc",
         "///\n/// It has references to its fields. It can only be encoded.\n",
@@ -384,7 +384,7 @@ static LENT: [(&str, &str); 6] = [
     ("matched", "*self"),
 ];
 
-static NOT_LENT: [(&str, &str); 6] = [
+static OWNED: [(&str, &str); 6] = [
     ("borrowed_doc", ""),
     ("derives", "PartialEq, Eq, Debug, Clone, Drop"),
     ("lifetime", ""),

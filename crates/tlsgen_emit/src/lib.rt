@@ -1,7 +1,6 @@
 //! The files that are written for a plan: code, definitions and answers.
 //!
 //! - [`file`]: [`files_of`](file::files_of), all files of a crate, each of them a [`Written`](tlsgen_model::emitted::Written).
-//! - [`shows`]: [`file_of`](shows::file_of), the module that shows messages as a tree.
 //! - `code`, `specs` and `proofs`: the texts of `src/`, `specs/` and the answers, by `templates`; `imports`: which
 //!   lines of imports a text needs, by the `vocabulary`; `docs`: doc comments; `breaks`: where long lines are broken.
 //! - `forms`: a message as what stands for the holes of its templates; `template` and `lines` fill these. `parts`: its values
@@ -32,7 +31,6 @@ mod parts;
 mod present;
 mod proofs;
 mod rows;
-pub mod shows;
 mod specs;
 mod sums;
 mod tags;

@@ -24,12 +24,6 @@ static DECLARED_IN_VARIANT: &str = "        /// `$declared$`
 $comment$        $name$: $type$,
 ";
 
-static SHOWN_IN_STRUCT: &str = "        self.$name$.show(tree, \"$name$\")?;
-";
-
-static SHOWN_IN_VARIANT: &str = "                $name$.show(tree, \"$name$\")?;
-";
-
 // A field of a value, and of two that are compared.
 static IN_STRUCT: [(&str, &str); 3] = [
     ("v", "v.$name$$now$"),
@@ -97,7 +91,7 @@ static PRESENT_ON_TAG: [(&str, &str); 4] = [
 ];
 
 // A field that is borrowed itself stands for itself, where nothing decides it.
-static LENT: [(&str, &str); 4] = [
+static BORROWED: [(&str, &str); 4] = [
     ("part", "$type$"),
     ("borrowed_part", "$rust$"),
     ("bound", "$name$"),
@@ -130,12 +124,12 @@ impl Owner {
         }
     }
 
-    /// How a field is declared, and shown.
-    pub fn lines(self) -> (&'static str, &'static str) {
+    /// How a field is declared.
+    pub fn declared(self) -> &'static str {
         if self.is_struct() {
-            (DECLARED_IN_STRUCT, SHOWN_IN_STRUCT)
+            DECLARED_IN_STRUCT
         } else {
-            (DECLARED_IN_VARIANT, SHOWN_IN_VARIANT)
+            DECLARED_IN_VARIANT
         }
     }
 
@@ -161,7 +155,7 @@ impl Owner {
             (Owner::StructInContext, _) => &IN_CONTEXT,
             (Owner::Behind, _) if is_present => &PRESENT_ON_TAG,
             (Owner::Behind, _) => &ON_TAG,
-            _ if is_borrowed => &LENT,
+            _ if is_borrowed => &BORROWED,
             _ => &ALONE,
         }
     }

@@ -59,7 +59,7 @@ impl Row {
         })
     }
 
-    /// Sets the holes `fields`, `first`, `stated`, `comment`, `declared`, `borrowed`, `borrowed_types`, `shown`, `pattern`, `lets`, `types`,
+    /// Sets the holes `fields`, `first`, `stated`, `comment`, `declared`, `borrowed`, `borrowed_types`, `pattern`, `lets`, `types`,
     /// `path`, `split`, `apart`, `alike`, `gap`, `plain`, `format` and `law`.
     pub fn set(&self, alloc: Global, holes: &mut Holes) -> Result<(), AllocError> {
         self.set_lists(alloc, holes)?;
@@ -105,11 +105,9 @@ impl Row {
 
     // The fields one after another.
     fn set_lists(&self, alloc: Global, holes: &mut Holes) -> Result<(), AllocError> {
-        let (declared, shown) = self.owner.lines();
         let lists = [
             ("fields", "$name$", ", "),
-            ("declared", declared, ""),
-            ("shown", shown, ""),
+            ("declared", self.owner.declared(), ""),
         ];
         for (word, template, between) in lists {
             holes.set(

@@ -2,7 +2,7 @@
 
 use crate::parts::Part;
 use crate::template::Holes;
-use crate::templates::sums::{ALONE, ENCLOSED, LENT, NOT_LENT, Wrapping};
+use crate::templates::sums::{ALONE, BORROWED, ENCLOSED, OWNED, Wrapping};
 use std::alloc::{AllocError, Global};
 use tlsgen_model::plan::Variant;
 
@@ -132,7 +132,7 @@ pub fn set(
         ],
     )?;
     holes.set_each(alloc, wrapping)?;
-    holes.set_each(alloc, if has_fields(parts) { &LENT } else { &NOT_LENT })
+    holes.set_each(alloc, if has_fields(parts) { &BORROWED } else { &OWNED })
 }
 
 // A text for each case.

@@ -7,7 +7,6 @@ pub mod holds;
 pub mod keys;
 pub mod opens;
 pub mod selectors;
-pub mod shows;
 pub mod structs;
 pub mod structs_in_context;
 pub mod structs_on_tags;

@@ -4,7 +4,9 @@ use crate::joining::{FORMATS, Join, LAWS, TREES};
 use crate::owners::Owner;
 use crate::rows::Row;
 use crate::template::Holes;
-use crate::templates::structs_on_tags::{BEFORE, BEHIND, FIRST, GIVER, LATER, LENT, OWNED, Part};
+use crate::templates::structs_on_tags::{
+    BEFORE, BEHIND, BORROWED, FIRST, GIVER, LATER, OWNED, Part,
+};
 use crate::types::{Names, par};
 use crate::uses::Uses;
 use std::alloc::{AllocError, Global};
@@ -86,7 +88,7 @@ pub fn set<'a>(
         set_part(alloc, holes, &before, &BEFORE)?;
         holes.set_each(alloc, &LATER)?;
     }
-    let parts = if is_borrowed { &LENT } else { &OWNED };
+    let parts = if is_borrowed { &BORROWED } else { &OWNED };
     holes.set_each(alloc, parts)
 }
 

@@ -57,7 +57,7 @@ impl<'a> Resolver<'a> {
         let zeros_line = declared(self.alloc, ending.zeros)?;
         write!(
             doc,
-            "\n\nIts content ends at `{kind_line}`, the last byte that isn't zero. Zeros go to the end, `{zeros_line}`: it is read of all that there is."
+            "\n\nIts content ends at `{kind_line}`, the last byte that isn't zero. Zeros go to the end, `{zeros_line}`: all bytes are read."
         )?;
         self.out.aliases.push(Alias {
             name: type_name(self.alloc, one.name.text.as_str())?,

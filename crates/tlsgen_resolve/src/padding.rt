@@ -61,6 +61,6 @@ pub fn push_padding(
     let line = declared(alloc, field)?;
     write!(
         doc,
-        "\n\n{what} go to the end behind it, `{line}`: it is read and written as `{of}<{name}>`."
+        "\n\n{what} follow it to the end, `{line}`: it is read and written as `{of}<{name}>`."
     )
 }

@@ -204,7 +204,7 @@ impl<'a> Resolver<'a> {
         let by = tag.name.text.as_str();
         let section = section_doc(self.alloc, sequence.remark)?;
         let mut doc = format!(in self.alloc;
-            "`select ({by})` of `{of}`{section}: no byte of it tells the tag."
+            "`select ({by})` of `{of}`{section}: its bytes don't have the tag."
         )?;
         if is_all {
             push_comment(&mut doc, sequence.remark)?;

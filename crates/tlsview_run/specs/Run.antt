@@ -27,7 +27,7 @@ pub record SentView {S T : Type 0} (views : Views) (source : SourceGhosts S) (si
   pub lines : List ℕ
   pub viewed : ViewsInput views source old new accepted lines
   pub sent : Appends (sink.received before) (sink.received after) lines
-  pub only_interrupted : OnlyInterrupted (sink.counts before) (sink.counts after)
+  pub retried : OnlyInterrupted (sink.counts before) (sink.counts after)
 
 -- the sink failed, or it had no memory
 abbrev pub SinkIsToBlame : Counts → Counts → Type 0

@@ -62,7 +62,7 @@ pub record GaveAll {S : Type 0} (source : SourceGhosts S) (old new : S) (text : 
   pub at_end : IsAtEnd (source.coming new)
   pub whole : IsWhole (source.coming old) text
   pub size : length text ≤ longest
-  pub only_interrupted : OnlyInterrupted (source.counts old) (source.counts new)
+  pub retried : OnlyInterrupted (source.counts old) (source.counts new)
 
 -- the input gave one byte more than an input may have
 pub record GaveTooMuch {S : Type 0} (source : SourceGhosts S) (old new : S) : Type 0 where
@@ -70,7 +70,7 @@ pub record GaveTooMuch {S : Type 0} (source : SourceGhosts S) (old new : S) : Ty
   pub held : source.given old text new
   pub size : length text ≡ longest + 1
   pub told : IsTooLong (source.coming old)
-  pub only_interrupted : OnlyInterrupted (source.counts old) (source.counts new)
+  pub retried : OnlyInterrupted (source.counts old) (source.counts new)
 
 -- why no text is read
 abbrev pub WhyNoText : {S : Type 0} → SourceGhosts S → S → S → InputFault → Type 0

@@ -40,7 +40,7 @@ pub fn read_text<R: Source>(alloc: Global, input: &mut R) -> Result<Vec<u8>, Inp
 fn next_piece<R: Source>(input: &mut R, into: &mut [u8]) -> Result<usize, InputFault>
     ensures bound { IfOk result (λ count. count ≤ length into.new) }
     ensures gave { IfOk result (λ count. R.given input.old (take count into.new) input.new) }
-    ensures only_interrupted { OnOk result (OnlyInterrupted (R.counts input.old) (R.counts input.new)) }
+    ensures retried { OnOk result (OnlyInterrupted (R.counts input.old) (R.counts input.new)) }
     ensures kept { OnErr result (R.given input.old [] input.new) }
     ensures end { result ≡ Ok 0 → 0 < length into.old → IsAtEnd (R.coming input.new) }
     ensures err { IfErr result (WhyNoPiece (R.counts input.old) (R.counts input.new)) }

@@ -162,7 +162,7 @@ fn read_field<R: Source, const K: usize>(src: &mut R) -> Result<[u8; K], Error>
     ensures bytes { IfOk result AreBytes }
     ensures refused { IfErr result
         (RefusedFor R.Source (NumberNotRead (RefusesDigits K)) src.old src.new) }
-    ensures only_interrupted { IfOk result (λ _. OnlyInterrupted (R.counts src.old) (R.counts src.new)) }
+    ensures retried { IfOk result (λ _. OnlyInterrupted (R.counts src.old) (R.counts src.new)) }
 {
     match read_digits(src) {
         Ok(digits) => Ok(digits),

@@ -51,7 +51,7 @@ pub static ALONE: [(&str, &str); 3] = [
 ];
 
 /// One that is borrowed is only written.
-pub static LENT: [(&str, &str); 3] = [("read_parts", ""), ("read", ""), ("read_path", "")];
+pub static BORROWED: [(&str, &str); 3] = [("read_parts", ""), ("read", ""), ("read_path", "")];
 
 const CODE: &str = "$doc$$borrowed_doc$#[derive($derives$)]
 pub struct $name$$lifetime$ {

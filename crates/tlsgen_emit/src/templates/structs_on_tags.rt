@@ -128,7 +128,7 @@ $before_lets$        let Then { first: $giver$, rest } = rest;
 pub static OWNED: [(&str, &str); 1] = [("read_parts", "type Parts = $then_types$;\n\n")];
 
 /// One that is borrowed is only written.
-pub static LENT: [(&str, &str); 1] = [("read_parts", "")];
+pub static BORROWED: [(&str, &str); 1] = [("read_parts", "")];
 
 const CODE: &str = "$doc$$borrowed_doc$#[derive($derives$)]
 pub struct $name$$lifetime$ {

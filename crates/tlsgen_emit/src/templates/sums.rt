@@ -83,7 +83,7 @@ pub static CHOSEN: [(&str, &str); 4] = [
 ];
 
 /// How a value of cases with fields is borrowed.
-pub static LENT: [(&str, &str); 3] = [
+pub static BORROWED: [(&str, &str); 3] = [
     (
         "borrowed_alias",
         "type ByRefCases<'a> = $borrowed_of_all$;\n\n",
@@ -93,7 +93,7 @@ pub static LENT: [(&str, &str); 3] = [
 ];
 
 /// No case has fields: nothing is borrowed.
-pub static NOT_LENT: [(&str, &str); 3] = [
+pub static OWNED: [(&str, &str); 3] = [
     ("borrowed_alias", ""),
     ("borrowed_any", "Cases"),
     ("borrowed_static", "Cases"),
@@ -148,7 +148,8 @@ type Cases = $of_all$;
 
 $borrowed_alias$impl $name$ {
     fn cases(&self) -> $borrowed_any$
-        ensures { ⟦<$borrowed_static$ as $sized$>⟧.plain result ≡ $module$_plain self.now }
+        ensures { ⟦<$borrowed_static$ as $sized$>⟧.plain result
+            ≡ $module$_plain self.now }
     {
 $lends$        $wrapped$
     }

@@ -25,7 +25,7 @@ returns-in_err-row-in-Err-clause-refused g c =
     let source = g.met.R.Source in
     let p = err_from_is_err_and c.from_residual-in_err-row-in-Err.result c.from_residual-in_err-row-in-Err.ensures.1 in
     rw (p.1, p.2) (refused_now _ source.gives_nothing (source.gives_in_order _ _ _ _ _ c.loop-came.invariant.came.held c.pull_onto.ensures.gave.held)
-    (λ rest. not_gathered _ _ _ _ _ (fault_refuses _ _ _ _ _ c.in-Err.fault _ _ _ refl c.loop-came.invariant.counted c.loop-came.invariant.only_interrupted c.in-Err.ensures.counted c.in_err-row-in-Err.ensures.err)))
+    (λ rest. not_gathered _ _ _ _ _ (fault_refuses _ _ _ _ _ c.in-Err.fault _ _ _ refl c.loop-came.invariant.counted c.loop-came.invariant.retried c.in-Err.ensures.counted c.in_err-row-in-Err.ensures.err)))
 
 -- what a call moved comes after what the calls before it moved
 pulled_then : {S : Type 0} {given : Gives S} {a b c : S} {m k : ℕ} {r : Result ℕ Fault} {us vs ws xs : List ℕ} → GivesInOrder given
@@ -53,7 +53,7 @@ loop-came-init g c = record {
   within = omega arith;
   row = omega arith;
   came = record { bytes = []; held = g.met.R.Source.gives_nothing _; appended = search rules; count = refl };
-  only_interrupted = only_interrupted_refl _;
+  retried = only_interrupted_refl _;
   counted = omega arith;
   tried = omega arith;
   gathered = λ all. refl;
@@ -64,7 +64,7 @@ loop-came-preserved-in-Ok g c = record {
   within = omega (arith, c.in-Ok.ensures.bound, c.min-step.ensures);
   row = omega arith;
   came = pulled_then g.met.R.Source.gives_in_order c.loop-came.invariant.came (c.in_ok-reserve_exact.ensures.items) c.in-Ok.ensures.gave refl;
-  only_interrupted = search rules;
+  retried = search rules;
   counted = omega (arith, c.loop-came.invariant.counted, c.in-Ok.ensures.counted.1);
   tried = omega (arith, c.loop-came.invariant.tried, c.loop-came.invariant.row, c.in-Ok.ensures.counted.1);
   gathered = λ all. refl;
@@ -79,7 +79,7 @@ loop-came-preserved g c = record {
   within = c.loop-came.invariant.within;
   row = search rules;
   came = pulled_then g.met.R.Source.gives_in_order c.loop-came.invariant.came (c.in_ok-reserve_exact.ensures.items) c.in-Err.ensures.gave (omega arith);
-  only_interrupted = search rules;
+  retried = search rules;
   counted = search rules;
   tried = search rules;
   gathered = λ all. absurd (omega arith);

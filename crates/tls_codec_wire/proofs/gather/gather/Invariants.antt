@@ -9,7 +9,7 @@ invariant-loop-came g l = record {
   within : l.came ≤ l.len;
   row : l.row ≤ 16;
   came : PulledOnto g.R.Source.given l.fn.src l.src (Ok l.came) l.fn.bytes.items l.bytes.items;
-  only_interrupted : OnlyInterrupted (g.R.Source.counts l.fn.src) (g.R.Source.counts l.src);
+  retried : OnlyInterrupted (g.R.Source.counts l.fn.src) (g.R.Source.counts l.src);
   counted : RoseBy l.row (g.R.Source.counts l.fn.src).interruptions (g.R.Source.counts l.src).interruptions;
   tried : (g.R.Source.counts l.src).interruptions ≤ (g.R.Source.counts l.fn.src).interruptions + (16 * l.came + l.row);
   gathered : l.len ≤ l.came → l.row ≡ 0;

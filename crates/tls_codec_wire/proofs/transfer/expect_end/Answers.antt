@@ -17,8 +17,8 @@ pub returns-in-Err-EndOfStream-clause-ok : goal.returns-in-Err-EndOfStream-claus
 returns-in-Err-EndOfStream-clause-ok g c =
     at_end (subst (λ (u : Error). RefusedFor g.R.Source (ReadRefused 1) c.args.src.now c.read_exactly.new.src u) c.in-Err-EndOfStream.field-0-is c.in-Err-EndOfStream.ensures.refused)
 
-pub returns-in-Err-EndOfStream-clause-only_interrupted : goal.returns-in-Err-EndOfStream-clause-only_interrupted
-returns-in-Err-EndOfStream-clause-only_interrupted g c =
+pub returns-in-Err-EndOfStream-clause-retried : goal.returns-in-Err-EndOfStream-clause-retried
+returns-in-Err-EndOfStream-clause-retried g c =
     c.read_exactly.ensures.ended (c.in-Err-EndOfStream.is ∙ ap Err c.in-Err-EndOfStream.field-0-is)
 
 pub returns-in-Err-clause-refused : goal.returns-in-Err-clause-refused

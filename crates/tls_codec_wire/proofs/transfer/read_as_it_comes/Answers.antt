@@ -17,7 +17,7 @@ loop-at-preserved-in-Ok g c = record {
   row = search rules;
   gave = subst (λ (xs : List ℕ). g.R.Source.given c.args.src.now xs c.pull.new.self) (take-put_mid_more _ _ _ _ _ c.loop-at.invariant.within c.in-Ok.ensures.bound)
       (g.met.R.Source.gives_in_order _ _ _ _ _ c.loop-at.invariant.gave c.in-Ok.ensures.gave);
-  only_interrupted = search rules;
+  retried = search rules;
   counted = omega (arith, c.loop-at.invariant.counted, c.in-Ok.ensures.counted.1);
   tried = omega (arith, c.loop-at.invariant.tried, c.loop-at.invariant.row, c.in-Ok.ensures.counted.1);
   moved = λ all. refl;
@@ -36,7 +36,7 @@ loop-at-preserved g c =
       row = search rules;
       gave = subst (λ (xs : List ℕ). g.R.Source.given c.args.src.now xs c.pull.new.self) (take-put_mid_same _ _ _ _ c.loop-at.invariant.within)
           (g.met.R.Source.gives_in_order _ _ _ _ _ c.loop-at.invariant.gave c.in-Err.ensures.gave);
-      only_interrupted = search rules;
+      retried = search rules;
       counted = search rules;
       tried = search rules;
       moved = λ all. absurd (omega arith);
@@ -49,7 +49,7 @@ loop-at-init g c = record {
   within = omega arith;
   row = omega arith;
   gave = g.met.R.Source.gives_nothing _;
-  only_interrupted = only_interrupted_refl _;
+  retried = only_interrupted_refl _;
   counted = omega arith;
   tried = omega arith;
   moved = λ all. refl;
@@ -70,7 +70,7 @@ returns-in_err-row-in-Err-clause-refused g c =
     let before = c.loop-at.invariant in
     let p = err_from_is_err_and c.from_residual.result c.from_residual.ensures.1 in
     rw (p.1, p.2) (refused_now _ source.gives_nothing (source.gives_in_order _ _ _ _ _ before.gave c.pull.ensures.gave)
-    (λ rest. fault_refuses _ _ _ _ _ c.in-Err.fault _ _ _ refl before.counted before.only_interrupted c.in-Err.ensures.counted c.in_err-row-in-Err.ensures.err))
+    (λ rest. fault_refuses _ _ _ _ _ c.in-Err.fault _ _ _ refl before.counted before.retried c.in-Err.ensures.counted c.in_err-row-in-Err.ensures.err))
 
 pub returns-clause-tried : goal.returns-clause-tried
 returns-clause-tried g c =

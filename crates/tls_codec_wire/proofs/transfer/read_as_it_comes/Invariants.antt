@@ -9,7 +9,7 @@ invariant-loop-at g l = record {
   within : l.at ≤ length l.into;
   row : l.row ≤ 16;
   gave : g.R.Source.given l.fn.src (take l.at l.into) l.src;
-  only_interrupted : OnlyInterrupted (g.R.Source.counts l.fn.src) (g.R.Source.counts l.src);
+  retried : OnlyInterrupted (g.R.Source.counts l.fn.src) (g.R.Source.counts l.src);
   counted : RoseBy l.row (g.R.Source.counts l.fn.src).interruptions (g.R.Source.counts l.src).interruptions;
   bytes : AreBytes l.into;
   tried : (g.R.Source.counts l.src).interruptions ≤ (g.R.Source.counts l.fn.src).interruptions + (16 * l.at + l.row);

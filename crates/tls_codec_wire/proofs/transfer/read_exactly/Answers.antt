@@ -14,14 +14,14 @@ returns-in-TooFew-clause-refused g c =
     too_few _ g.met.R.Source.gives_nothing (omega (arith, eqb-false (length c.args.into.now) 0 (sym c.is_empty.ensures ∙ c.if-is_empty.false))) few.0 few.1
 
 -- nothing was counted
-only_interrupted_if_same : {a b : Counts} → b ≡ a → OnlyInterrupted a b
-only_interrupted_if_same {a} {b} same = subst (OnlyInterrupted a) (sym same) (only_interrupted_refl a)
+retried_if_same : {a b : Counts} → b ≡ a → OnlyInterrupted a b
+retried_if_same {a} {b} same = subst (OnlyInterrupted a) (sym same) (only_interrupted_refl a)
 
 pub returns-in-Full-clause-gave : goal.returns-in-Full-clause-gave
 returns-in-Full-clause-gave g c = record { bytes = _; held = c.in-Full.ensures.filled refl }
 
-pub returns-in-Full-clause-only_interrupted : goal.returns-in-Full-clause-only_interrupted
-returns-in-Full-clause-only_interrupted g c = only_interrupted_if_same c.in-Full.ensures.only_interrupted
+pub returns-in-Full-clause-retried : goal.returns-in-Full-clause-retried
+returns-in-Full-clause-retried g c = retried_if_same c.in-Full.ensures.retried
 
 pub returns-in-TooFew-clause-gave : goal.returns-in-TooFew-clause-gave
 returns-in-TooFew-clause-gave g c =
@@ -29,4 +29,4 @@ returns-in-TooFew-clause-gave g c =
     record { bytes = []; held = subst (g.R.Source.given c.args.src.now []) (sym few.1) (g.met.R.Source.gives_nothing _) }
 
 pub returns-in-TooFew-clause-ended : goal.returns-in-TooFew-clause-ended
-returns-in-TooFew-clause-ended g c ended = only_interrupted_if_same c.in-TooFew.ensures.only_interrupted
+returns-in-TooFew-clause-ended g c ended = retried_if_same c.in-TooFew.ensures.retried

@@ -9,7 +9,7 @@ invariant-loop-at g l = record {
   within : l.at ≤ length l.bytes;
   row : l.row ≤ 16;
   took : Appends (g.W.Sink.received l.fn.sink) (g.W.Sink.received l.sink) (take l.at l.bytes);
-  only_interrupted : OnlyInterrupted (g.W.Sink.counts l.fn.sink) (g.W.Sink.counts l.sink);
+  retried : OnlyInterrupted (g.W.Sink.counts l.fn.sink) (g.W.Sink.counts l.sink);
   counted : RoseBy l.row (g.W.Sink.counts l.fn.sink).interruptions (g.W.Sink.counts l.sink).interruptions;
   tried : (g.W.Sink.counts l.sink).interruptions ≤ (g.W.Sink.counts l.fn.sink).interruptions + (16 * l.at + l.row);
   moved : length l.bytes ≤ l.at → l.row ≡ 0;

@@ -56,15 +56,15 @@ returns-in_err-read_few-clause-refused g c =
     let p = err_from_is_err_and c.from_residual-in_err-read_few.result c.from_residual-in_err-read_few.ensures.1 in
     let first = c.read_exactly.new.into in
     let one : length first ≡ 1 = search rules in
-    let fell = only_interrupted_grows c.in_ok-read_exactly.ensures.only_interrupted in
+    let fell = only_interrupted_grows c.in_ok-read_exactly.ensures.retried in
     let held = subst (λ (u : List ℕ). g.R.Source.given c.args.src.now u c.read_exactly.new.src) (one_byte first one) c.in_ok-read_exactly.ensures.filled in
     rw (p.1, p.2) (refused_later (get_or first 0 0 ∷ []) source.gives_in_order held (too_few_digits _ c.said_by-more.ensures (length-take-le c.said_by-more.result.0 (0 ∷ 0 ∷ 0 ∷ 0 ∷ 0 ∷ 0 ∷ 0 ∷ []) (omega (arith, c.said_by-more.ensures.few))) _ _ _ _ fell) c.in_err-read_few.ensures.refused)
 
-pub returns-clause-only_interrupted : goal.returns-clause-only_interrupted
-returns-clause-only_interrupted g c = only_interrupted_trans c.in_ok-read_exactly.ensures.only_interrupted c.in_ok-read_few.ensures.only_interrupted
+pub returns-clause-retried : goal.returns-clause-retried
+returns-clause-retried g c = only_interrupted_trans c.in_ok-read_exactly.ensures.retried c.in_ok-read_few.ensures.retried
 
 pub returns-in_err-number-clause-ended : goal.returns-in_err-number-clause-ended
-returns-in_err-number-clause-ended g c ended = only_interrupted_trans c.in_ok-read_exactly.ensures.only_interrupted c.in_ok-read_few.ensures.only_interrupted
+returns-in_err-number-clause-ended g c ended = only_interrupted_trans c.in_ok-read_exactly.ensures.retried c.in_ok-read_few.ensures.retried
 
 pub returns-in_err-read_few-clause-ended : goal.returns-in_err-read_few-clause-ended
 returns-in_err-read_few-clause-ended g c ended =
@@ -72,4 +72,4 @@ returns-in_err-read_few-clause-ended g c ended =
     let result = p.1 in
     let same = p.2 in
     let was = c.in_err-read_few.was in
-    only_interrupted_trans c.in_ok-read_exactly.ensures.only_interrupted (c.read_few.ensures.ended cc)
+    only_interrupted_trans c.in_ok-read_exactly.ensures.retried (c.read_few.ensures.ended cc)

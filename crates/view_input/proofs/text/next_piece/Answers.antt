@@ -19,6 +19,6 @@ loop-row-preserved g c =
     let raised = rw c.in-Err-Interrupted.field-0-is at c.in-Err-Interrupted.ensures.counted in
     record {
       gave = g.met.R.Source.gives_in_order _ _ _ _ _ c.loop-row.invariant.gave c.in-Err-Interrupted.ensures.gave;
-      only_interrupted = interrupted_again c.loop-row.invariant.only_interrupted raised;
+      retried = interrupted_again c.loop-row.invariant.retried raised;
       counted = omega (arith, c.loop-row.invariant.counted, raised.1);
     }

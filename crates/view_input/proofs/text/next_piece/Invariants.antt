@@ -6,6 +6,6 @@ use Rattle.view_input.proofs.text.next_piece.Given as goal
 abbrev pub invariant-loop-row : goal.invariant-loop-row
 invariant-loop-row g l = record {
   gave : g.R.Source.given l.fn.input [] l.input;
-  only_interrupted : OnlyInterrupted (g.R.Source.counts l.fn.input) (g.R.Source.counts l.input);
+  retried : OnlyInterrupted (g.R.Source.counts l.fn.input) (g.R.Source.counts l.input);
   counted : RoseBy l._row (g.R.Source.counts l.fn.input).interruptions (g.R.Source.counts l.input).interruptions;
 }

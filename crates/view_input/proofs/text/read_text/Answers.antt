@@ -22,7 +22,7 @@ returns-then-count-eq0-clause-ok g c =
       at_end = at_end;
       whole = all_given _ _ _ (g.met.R.Source.gives_from_front _ _ _ held) at_end;
       size = omega arith;
-      only_interrupted = only_interrupted_trans c.loop-piece.invariant.only_interrupted c.in_ok-count.ensures.only_interrupted;
+      retried = only_interrupted_trans c.loop-piece.invariant.retried c.in_ok-count.ensures.retried;
     }
 
 pub returns-in_err-extend_from_slice-clause-gave :

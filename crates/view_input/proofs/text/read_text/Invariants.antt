@@ -7,7 +7,7 @@ use Rattle.view_input.proofs.text.read_text.Given as goal
 abbrev pub invariant-loop-piece : goal.invariant-loop-piece
 invariant-loop-piece g l = record {
   gave : g.R.Source.given l.fn.input l.text.items l.input;
-  only_interrupted : OnlyInterrupted (g.R.Source.counts l.fn.input) (g.R.Source.counts l.input);
+  retried : OnlyInterrupted (g.R.Source.counts l.fn.input) (g.R.Source.counts l.input);
   size : length l.text.items ≤ longest + 1;
 }
 

@@ -1,2 +1,0 @@
--- The lines of a tree.
-pub mod Lines
