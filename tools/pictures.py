@@ -166,9 +166,9 @@ def sections():
 
 
 def crates(dark):
-    """All crates, in the sections of crates.txt: an arrow leads to what a section stands on."""
+    """All crates, in the sections of crates.txt: an arrow leads to what a section uses."""
     library, messages, generator, programs, tests, benchmark = sections()
-    p = Picture(500, "All crates, in six groups, with what each group stands on", dark)
+    p = Picture(500, "All crates, in six groups, with what each group uses", dark)
 
     def group(x, y, width, section, columns, role="plain"):
         """A box with the names of a section's crates, in this many columns; returns its height."""
@@ -220,12 +220,12 @@ def crates(dark):
     p.line(450, 40, 470, 40, "ink")
     arrow(460, middle + 40, 451, middle + 40)
     p.line(470, middle + 80, 450, middle + 80, "ink", dashed=True)
-    p.text(WIDTH / 2, p.height - 14, "an arrow leads to what a group stands on; the dashed line: the generator writes these crates", 12, "soft")
+    p.text(WIDTH / 2, p.height - 14, "an arrow leads to what a group uses; the dashed line: the generator writes these crates", 12, "soft")
     return p
 
 
 def tlsdump(dark):
-    """A terminal with a stored run of tlsdump, and with one that is refused."""
+    """A terminal with a stored run of tlsdump, and with one that is rejected."""
     folder = TOP / "crates" / "tlsdump" / "runs"
     shown = (folder / "private_message.stdout").read_text().splitlines()
     refused = (folder / "refused_identity.stdout").read_text().splitlines()
@@ -238,7 +238,7 @@ def tlsdump(dark):
     lines = [("ink", "$ tlsdump --binary auto private_message"), *[("soft", line) for line in shown], ("ink", "")]
     lines += [("ink", f"$ echo {digits} | tlsdump KeyPackage"), *[("soft", line) for line in refused[:-1]]]
     lines += [("end", refused[-1]), *[("end", line) for line in told]]
-    p = Picture(56 + 17 * len(lines), "A message as tlsdump shows it, and one that it refuses", dark)
+    p = Picture(56 + 17 * len(lines), "A message as tlsdump shows it, and one that it rejects", dark)
     p.box(12, 12, WIDTH - 24, 32 + 17 * len(lines), "plain", 6)
     for at, (role, line) in enumerate(lines):
         depth = len(line) - len(line.lstrip())

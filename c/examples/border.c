@@ -7,6 +7,10 @@
 int main(void) {
   static uint8_t bytes[1 << 20];
   size_t length = fread(bytes, 1, sizeof bytes, stdin);
+  if (length == sizeof bytes || ferror(stdin)) {
+    fprintf(stderr, "%zu bytes or more, or the read failed\n", sizeof bytes);
+    return 1;
+  }
   tls_codec_outcome said = mls_message_validate(bytes, length);
   uint32_t status = tls_codec_exactly(said, length);
   if (status != TLS_CODEC_ACCEPTED) {
