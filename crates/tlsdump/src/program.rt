@@ -1,4 +1,4 @@
-//! The program, from its words to its status.
+//! The program, from its arguments to its exit status.
 
 use crate::answer::{Answer, json, tree};
 use crate::dump::dump_of;
@@ -22,7 +22,7 @@ use tlsgen_syntax::syntax::Item;
 const ALL: u8 = 0;
 /// A field was rejected.
 const REFUSED: u8 = 1;
-/// The words or the input can't be read.
+/// The arguments or the input can't be read.
 const UNREAD: u8 = 2;
 /// Memory or the output failed.
 const FAILED: u8 = 3;
@@ -76,7 +76,7 @@ fn run<R: Env + Files + Print + Eprint + AllocGlobal, I: Read + Drop>(
     };
     let Some(kind) = found else {
         eprintln!(rt;
-            "tlsdump: the first bytes are those of no MLSMessage and no TLS record: name the TYPE \
+            "tlsdump: the input begins like neither an MLSMessage nor a TLS record: give a TYPE \
              (--list prints them)"
         )?;
         return Ok(UNREAD);
@@ -85,14 +85,33 @@ fn run<R: Env + Files + Print + Eprint + AllocGlobal, I: Read + Drop>(
 }
 
 // Prints why a word names no type.
-fn print_unknown<R: Eprint>(rt: &R, word: &str, named: Named<'_>) -> anyhow::Result<()> {
+fn print_unknown<R: Eprint + AllocGlobal>(
+    rt: &R,
+    word: &str,
+    named: Named<'_>,
+) -> anyhow::Result<()> {
     match named {
         Named::Several => eprintln!(rt;
-            "tlsdump: several types {word}: write mls.{word}, tls.{word} or ct.{word}"
+            "tlsdump: {word} names several types: write {}",
+            types_named(rt.alloc(), word)?
         )?,
-        _ => eprintln!(rt; "tlsdump: no type {word}: --list prints them")?,
+        _ => eprintln!(rt; "tlsdump: there is no type {word}: --list prints them")?,
     }
     Ok(())
+}
+
+// The types of this name, as `mls.Extension or tls.Extension`.
+fn types_named(alloc: Global, name: &str) -> Result<String, AllocError> {
+    let mut out = String::new(alloc);
+    for protocol in PROTOCOLS {
+        if protocol.has(name) {
+            if !out.is_empty() {
+                out.push_str(" or ")?;
+            }
+            write!(&mut out, "{}.{name}", protocol.word())?;
+        }
+    }
+    Ok(out)
 }
 
 // The bytes that the input encodes, or prints why there are none.
@@ -114,7 +133,7 @@ fn bytes_from<R: Files + Eprint + AllocGlobal, I: Read + Drop>(
     Ok(None)
 }
 
-// How the input encodes bytes, by the words.
+// How the input encodes bytes, by the arguments.
 fn notation_of(matches: &ArgMatches<'_>) -> Notation {
     if matches.get_flag("binary") {
         Notation::Binary
@@ -188,16 +207,14 @@ fn text_of<R: Files + Eprint + AllocGlobal, I: Read + Drop>(
 fn print_fault<R: Eprint>(rt: &R, fault: NoBytes) -> anyhow::Result<()> {
     match fault {
         NoBytes::Digit { line, column, byte } => eprintln!(rt;
-            "tlsdump: line {line}, column {column}: no hex digit (0x{byte:02x}); --binary takes \
+            "tlsdump: line {line}, column {column}: 0x{byte:02x} is no hex digit; --binary takes \
              the bytes themselves, --base64 base64"
         )?,
         NoBytes::Odd(count) => eprintln!(rt;
-            "tlsdump: {count} hex digits, which is no even number; --binary takes the bytes \
-             themselves"
+            "tlsdump: an odd number of hex digits ({count}); --binary takes the bytes themselves"
         )?,
         NoBytes::Base64 => eprintln!(rt;
-            "tlsdump: the input looks like base64, and is none; --binary takes the bytes \
-             themselves"
+            "tlsdump: the input looks like base64, but isn't; --binary takes the bytes themselves"
         )?,
         NoBytes::Memory => eprintln!(rt; "tlsdump: out of memory")?,
     }
