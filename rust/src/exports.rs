@@ -1,7 +1,7 @@
 //! Written by tools/exports.py. Don't edit.
 #![allow(missing_docs)]
 
-/// What a call says of bytes.
+/// The result of a call.
 #[repr(C)]
 #[derive(Clone, Copy, Default)]
 pub struct Outcome {

@@ -28,15 +28,15 @@ typedef struct tls_codec_span {
   size_t size;
 } tls_codec_span;
 
-/* What a call says of bytes. */
+/* The result of a call. */
 typedef struct tls_codec_outcome {
   /* TLS_CODEC_ACCEPTED if the bytes begin with an encoding, and else the number of the error. */
   uint32_t status;
   /* How many bytes the encoding has; 0 if there is none. */
   size_t taken;
-  /* Where the first byte of the rejected field is; 0 of bytes that are accepted. */
+  /* The offset of the rejected field's first byte; 0 if the bytes are accepted. */
   size_t at;
-  /* The value that TLS_CODEC_UNKNOWN_VALUE has; of other errors 0. */
+  /* The value of an TLS_CODEC_UNKNOWN_VALUE; 0 for other errors. */
   uint64_t detail;
 } tls_codec_outcome;
 

@@ -19,7 +19,8 @@ pub struct CommitFields {
 type Parts = (Whole<Vec<ProposalOrRef>>, Whole<Option<UpdatePath>>);
 
 impl CommitFields {
-    /// Those of the message that begins the bytes, if there is one.
+    /// The fields of the message that the bytes begin with. If they begin with none, the spans mean
+    /// nothing.
     pub fn of(bytes: &[u8]) -> CommitFields
         ensures { Located commit_format AreCommitFields bytes.now result }
     {

@@ -30,7 +30,8 @@ type Parts = (
 );
 
 impl FramedContentFields {
-    /// Those of the message that begins the bytes, if there is one.
+    /// The fields of the message that the bytes begin with. If they begin with none, the spans mean
+    /// nothing.
     pub fn of(bytes: &[u8]) -> FramedContentFields
         ensures { Located framed_content_format AreFramedContentFields bytes.now result }
     {

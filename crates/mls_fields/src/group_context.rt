@@ -40,7 +40,8 @@ type Parts = (
 );
 
 impl GroupContextFields {
-    /// Those of the message that begins the bytes, if there is one.
+    /// The fields of the message that the bytes begin with. If they begin with none, the spans mean
+    /// nothing.
     pub fn of(bytes: &[u8]) -> GroupContextFields
         ensures { Located group_context_format AreGroupContextFields bytes.now result }
     {

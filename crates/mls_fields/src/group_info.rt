@@ -35,7 +35,8 @@ type Parts = (
 );
 
 impl GroupInfoFields {
-    /// Those of the message that begins the bytes, if there is one.
+    /// The fields of the message that the bytes begin with. If they begin with none, the spans mean
+    /// nothing.
     pub fn of(bytes: &[u8]) -> GroupInfoFields
         ensures { Located group_info_format AreGroupInfoFields bytes.now result }
     {

@@ -27,7 +27,8 @@ type Parts = (
 );
 
 impl GroupSecretsFields {
-    /// Those of the message that begins the bytes, if there is one.
+    /// The fields of the message that the bytes begin with. If they begin with none, the spans mean
+    /// nothing.
     pub fn of(bytes: &[u8]) -> GroupSecretsFields
         ensures { Located group_secrets_format AreGroupSecretsFields bytes.now result }
     {

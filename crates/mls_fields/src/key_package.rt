@@ -36,7 +36,8 @@ type Parts = (
 );
 
 impl KeyPackageFields {
-    /// Those of the message that begins the bytes, if there is one.
+    /// The fields of the message that the bytes begin with. If they begin with none, the spans mean
+    /// nothing.
     pub fn of(bytes: &[u8]) -> KeyPackageFields
         ensures { Located key_package_format AreKeyPackageFields bytes.now result }
     {

@@ -1,6 +1,7 @@
 //! Where the fields of messages of MLS are, found without allocation.
 //!
-//! The places are those of a message that was validated: `mls_c` exports the two together.
+//! Call these only for bytes that were validated: for others nothing is said of the spans. `mls_c`
+//! does both.
 #![tactic(auto)]
 
 mod commit;

@@ -20,7 +20,8 @@ pub struct MLSMessageFields {
 type Parts = (Whole<ProtocolVersionMls10>, Whole<WireFormatData>);
 
 impl MLSMessageFields {
-    /// Those of the message that begins the bytes, if there is one.
+    /// The fields of the message that the bytes begin with. If they begin with none, the spans mean
+    /// nothing.
     pub fn of(bytes: &[u8]) -> MLSMessageFields
         ensures { Located mls_message_format AreMLSMessageFields bytes.now result }
     {

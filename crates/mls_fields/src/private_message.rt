@@ -32,7 +32,8 @@ type Parts = (
 );
 
 impl PrivateMessageFields {
-    /// Those of the message that begins the bytes, if there is one.
+    /// The fields of the message that the bytes begin with. If they begin with none, the spans mean
+    /// nothing.
     pub fn of(bytes: &[u8]) -> PrivateMessageFields
         ensures { Located private_message_format ArePrivateMessageFields bytes.now result }
     {

@@ -4,7 +4,7 @@ ghost use Rattle.tls_codec_outcome.specs.Fields.{Located};
 ghost use Rattle.mls_fields.specs.ProposalFields.{AreProposalFields};
 
 use mls_proposals::Proposal;
-use tls_codec_outcome::{Case, Locate, Span, Tagged};
+use tls_codec_outcome::{Locate, Span, TagAndBody, TaggedEnum};
 
 /// Where the fields of a `Proposal` are (RFC 9420, section 12.1).
 #[repr(C)]
@@ -18,10 +18,10 @@ pub struct ProposalFields {
 
 struct Cases {}
 
-impl Tagged for Cases {
-    ghost WIDE = { 2 };
+impl TaggedEnum for Cases {
+    ghost TAG_LEN = { 2 };
 
-    const WIDE: usize = 2;
+    const TAG_LEN: usize = 2;
 
     type Whole = Proposal;
 
@@ -33,11 +33,12 @@ impl Tagged for Cases {
 }
 
 impl ProposalFields {
-    /// Those of the message that begins the bytes, if there is one.
+    /// The fields of the message that the bytes begin with. If they begin with none, the spans mean
+    /// nothing.
     pub fn of(bytes: &[u8]) -> ProposalFields
         ensures { Located proposal_format AreProposalFields bytes.now result }
     {
-        let ((proposal_type, body), _) = <Case<Cases>>::locate(bytes, 0);
+        let ((proposal_type, body), _) = <TagAndBody<Cases>>::locate(bytes, 0);
         ProposalFields {
             proposal_type,
             body,

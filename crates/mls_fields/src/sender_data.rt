@@ -20,7 +20,8 @@ pub struct SenderDataFields {
 type Parts = (Whole<u32>, Whole<u32>, Whole<[u8; 4]>);
 
 impl SenderDataFields {
-    /// Those of the message that begins the bytes, if there is one.
+    /// The fields of the message that the bytes begin with. If they begin with none, the spans mean
+    /// nothing.
     pub fn of(bytes: &[u8]) -> SenderDataFields
         ensures { Located sender_data_format AreSenderDataFields bytes.now result }
     {

@@ -28,7 +28,8 @@ type Parts = (
 );
 
 impl WelcomeFields {
-    /// Those of the message that begins the bytes, if there is one.
+    /// The fields of the message that the bytes begin with. If they begin with none, the spans mean
+    /// nothing.
     pub fn of(bytes: &[u8]) -> WelcomeFields
         ensures { Located welcome_format AreWelcomeFields bytes.now result }
     {

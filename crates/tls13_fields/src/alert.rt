@@ -19,7 +19,8 @@ pub struct AlertFields {
 type Parts = (Whole<AlertLevel>, Whole<AlertDescription>);
 
 impl AlertFields {
-    /// Those of the message that begins the bytes, if there is one.
+    /// The fields of the message that the bytes begin with. If they begin with none, the spans mean
+    /// nothing.
     pub fn of(bytes: &[u8]) -> AlertFields
         ensures { Located alert_format AreAlertFields bytes.now result }
     {

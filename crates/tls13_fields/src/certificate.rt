@@ -21,7 +21,8 @@ pub struct CertificateFields {
 type Parts = (Content<u8>, Whole<TlsVecU24<CertificateEntry>>);
 
 impl CertificateFields {
-    /// Those of the message that begins the bytes, if there is one.
+    /// The fields of the message that the bytes begin with. If they begin with none, the spans mean
+    /// nothing.
     pub fn of(bytes: &[u8]) -> CertificateFields
         ensures { Located certificate_format AreCertificateFields bytes.now result }
     {

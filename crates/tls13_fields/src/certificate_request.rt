@@ -21,7 +21,8 @@ pub struct CertificateRequestFields {
 type Parts = (Content<u8>, Whole<TlsVec<Within<u16, 2, 65535>, Extension>>);
 
 impl CertificateRequestFields {
-    /// Those of the message that begins the bytes, if there is one.
+    /// The fields of the message that the bytes begin with. If they begin with none, the spans mean
+    /// nothing.
     pub fn of(bytes: &[u8]) -> CertificateRequestFields
         ensures { Located certificate_request_format AreCertificateRequestFields bytes.now result }
     {

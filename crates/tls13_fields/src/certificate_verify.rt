@@ -20,7 +20,8 @@ pub struct CertificateVerifyFields {
 type Parts = (Whole<SignatureScheme>, Content<u16>);
 
 impl CertificateVerifyFields {
-    /// Those of the message that begins the bytes, if there is one.
+    /// The fields of the message that the bytes begin with. If they begin with none, the spans mean
+    /// nothing.
     pub fn of(bytes: &[u8]) -> CertificateVerifyFields
         ensures { Located certificate_verify_format AreCertificateVerifyFields bytes.now result }
     {

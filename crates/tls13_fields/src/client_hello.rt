@@ -40,7 +40,8 @@ type Parts = (
 );
 
 impl ClientHelloFields {
-    /// Those of the message that begins the bytes, if there is one.
+    /// The fields of the message that the bytes begin with. If they begin with none, the spans mean
+    /// nothing.
     pub fn of(bytes: &[u8]) -> ClientHelloFields
         ensures { Located client_hello_format AreClientHelloFields bytes.now result }
     {

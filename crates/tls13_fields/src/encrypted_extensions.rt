@@ -18,7 +18,8 @@ pub struct EncryptedExtensionsFields {
 type Parts = Whole<TlsVecU16<Extension>>;
 
 impl EncryptedExtensionsFields {
-    /// Those of the message that begins the bytes, if there is one.
+    /// The fields of the message that the bytes begin with. If they begin with none, the spans mean
+    /// nothing.
     pub fn of(bytes: &[u8]) -> EncryptedExtensionsFields
         ensures { Located encrypted_extensions_format AreEncryptedExtensionsFields
             bytes.now result }

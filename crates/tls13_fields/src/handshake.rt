@@ -3,7 +3,7 @@ ghost use Rattle.tls13.specs.Handshake.{handshake_format, handshake_variants};
 ghost use Rattle.tls_codec_outcome.specs.Fields.{Located};
 ghost use Rattle.tls13_fields.specs.HandshakeFields.{AreHandshakeFields};
 
-use tls_codec_outcome::{Case, Locate, Span, Tagged};
+use tls_codec_outcome::{Locate, Span, TagAndBody, TaggedEnum};
 use tls13::Handshake;
 
 /// Where the fields of a `Handshake` are (RFC 8446, section 4).
@@ -18,10 +18,10 @@ pub struct HandshakeFields {
 
 struct Cases {}
 
-impl Tagged for Cases {
-    ghost WIDE = { 1 };
+impl TaggedEnum for Cases {
+    ghost TAG_LEN = { 1 };
 
-    const WIDE: usize = 1;
+    const TAG_LEN: usize = 1;
 
     type Whole = Handshake;
 
@@ -33,11 +33,12 @@ impl Tagged for Cases {
 }
 
 impl HandshakeFields {
-    /// Those of the message that begins the bytes, if there is one.
+    /// The fields of the message that the bytes begin with. If they begin with none, the spans mean
+    /// nothing.
     pub fn of(bytes: &[u8]) -> HandshakeFields
         ensures { Located handshake_format AreHandshakeFields bytes.now result }
     {
-        let ((msg_type, body), _) = <Case<Cases>>::locate(bytes, 0);
+        let ((msg_type, body), _) = <TagAndBody<Cases>>::locate(bytes, 0);
         HandshakeFields { msg_type, body }
     }
 }

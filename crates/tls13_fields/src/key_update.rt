@@ -17,7 +17,8 @@ pub struct KeyUpdateFields {
 type Parts = Whole<KeyUpdateRequest>;
 
 impl KeyUpdateFields {
-    /// Those of the message that begins the bytes, if there is one.
+    /// The fields of the message that the bytes begin with. If they begin with none, the spans mean
+    /// nothing.
     pub fn of(bytes: &[u8]) -> KeyUpdateFields
         ensures { Located key_update_format AreKeyUpdateFields bytes.now result }
     {

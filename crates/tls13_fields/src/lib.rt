@@ -1,6 +1,7 @@
 //! Where the fields of messages of TLS 1.3 are, found without allocation.
 //!
-//! The places are those of a message that was validated: `tls13_c` exports the two together.
+//! Call these only for bytes that were validated: for others nothing is said of the spans. `tls13_c`
+//! does both.
 #![tactic(auto)]
 
 mod alert;

@@ -33,7 +33,8 @@ type Parts = (
 );
 
 impl NewSessionTicketFields {
-    /// Those of the message that begins the bytes, if there is one.
+    /// The fields of the message that the bytes begin with. If they begin with none, the spans mean
+    /// nothing.
     pub fn of(bytes: &[u8]) -> NewSessionTicketFields
         ensures { Located new_session_ticket_format AreNewSessionTicketFields bytes.now result }
     {

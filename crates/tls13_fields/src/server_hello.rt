@@ -40,7 +40,8 @@ type Parts = (
 );
 
 impl ServerHelloFields {
-    /// Those of the message that begins the bytes, if there is one.
+    /// The fields of the message that the bytes begin with. If they begin with none, the spans mean
+    /// nothing.
     pub fn of(bytes: &[u8]) -> ServerHelloFields
         ensures { Located server_hello_format AreServerHelloFields bytes.now result }
     {

@@ -26,7 +26,8 @@ type Parts = (
 );
 
 impl TLSCiphertextFields {
-    /// Those of the message that begins the bytes, if there is one.
+    /// The fields of the message that the bytes begin with. If they begin with none, the spans mean
+    /// nothing.
     pub fn of(bytes: &[u8]) -> TLSCiphertextFields
         ensures { Located tls_ciphertext_format AreTLSCiphertextFields bytes.now result }
     {

@@ -22,7 +22,8 @@ pub struct TLSPlaintextFields {
 type Parts = (Whole<ContentType>, Whole<ProtocolVersion>, Content<u16>);
 
 impl TLSPlaintextFields {
-    /// Those of the message that begins the bytes, if there is one.
+    /// The fields of the message that the bytes begin with. If they begin with none, the spans mean
+    /// nothing.
     pub fn of(bytes: &[u8]) -> TLSPlaintextFields
         ensures { Located tls_plaintext_format AreTLSPlaintextFields bytes.now result }
     {

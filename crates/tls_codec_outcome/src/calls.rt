@@ -10,7 +10,7 @@ use tls_codec_base::DeserializeBytes;
 use tls_codec_validate::Validate;
 use tls_codec_wire::Error;
 
-/// Whether the bytes begin with an encoding of a `T`. No memory is asked for.
+/// Whether the bytes begin with an encoding of a `T`. Requests no memory.
 pub fn validate<T: Validate>(bytes: &[u8]) -> Outcome
     ensures status { Decides T.format bytes.now result.status }
     ensures taken { IsTaken T.format bytes.now result.status result.taken }

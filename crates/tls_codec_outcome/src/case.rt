@@ -10,11 +10,11 @@ use std::marker::PhantomData;
 use tls_codec_validate::Validate;
 
 /// An enum, which begins with the tag of its case.
-pub trait Tagged {
-    ghost WIDE: { ℕ };
+pub trait TaggedEnum {
+    ghost TAG_LEN: { ℕ };
 
     /// How many bytes the tag has.
-    const WIDE: usize;
+    const TAG_LEN: usize;
 
     /// The enum.
     type Whole: Validate;
@@ -22,40 +22,40 @@ pub trait Tagged {
     // Its cases.
     ghost variants: { Variants };
 
-    ghost is_tagged: { IsTagged WIDE variants Self.Whole.format };
+    ghost is_tagged: { IsTagged TAG_LEN variants Self.Whole.format };
 
-    ghost has_tagged: { HasTagged WIDE variants Self.Whole.format };
+    ghost has_tagged: { HasTagged TAG_LEN variants Self.Whole.format };
 }
 
 /// The two parts of an enum: its tag, and what its case has.
-pub struct Case<E> {
+pub struct TagAndBody<E> {
     of: PhantomData<E>,
 }
 
-impl<E: Tagged> Locate for Case<E> {
+impl<E: TaggedEnum> Locate for TagAndBody<E> {
     type Places = (Span, Span);
 
     ghost format = { E.Whole.format };
 
     ghost end = { λ places. span_end places.1 };
 
-    ghost are_places = { λ x from places. IsCaseFrom E.WIDE E.variants x from places.0 places.1 };
+    ghost are_places = { λ x from places. IsCaseFrom E.TAG_LEN E.variants x from places.0 places.1 };
 
     fn locate(bytes: &[u8], from: usize) -> ((Span, Span), usize) {
         let whole = field_at::<E::Whole>(bytes, from);
         let tag = Span {
             offset: from,
-            size: E::WIDE,
+            size: E::TAG_LEN,
         };
         let body = Span {
-            offset: from.saturating_add(E::WIDE),
-            size: whole.size.saturating_sub(E::WIDE),
+            offset: from.saturating_add(E::TAG_LEN),
+            size: whole.size.saturating_sub(E::TAG_LEN),
         };
         ((tag, body), whole.end())
     }
 
     ghost lawful = { E.Whole.lawful };
 
-    ghost ends = { λ x from places are. case_ends E.WIDE E.variants E.Whole.format E.has_tagged x
+    ghost ends = { λ x from places are. case_ends E.TAG_LEN E.variants E.Whole.format E.has_tagged x
         from places.0 places.1 are };
 }

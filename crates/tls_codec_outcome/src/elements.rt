@@ -9,11 +9,10 @@ use crate::fields::{Span, behind};
 use crate::outcome::{ACCEPTED, Outcome};
 use tls_codec_validate::Validate;
 
-/// The element that the place `left` begins with. The bytes there are the rest of a list. What is
-/// left then comes after the element.
+/// Validates the element at the front of `left`, the rest of a list. If it is accepted, `element` is
+/// its place, and `left` begins after it. Otherwise neither changes.
 ///
-/// It says what [`validate`] says of the bytes that are left. If those are rejected, both places
-/// are as they were.
+/// The result is that of [`validate`] for the bytes of `left`.
 pub fn next<T: Validate>(bytes: &[u8], left: &mut Span, element: &mut Span) -> Outcome
     ensures status { Decides T.format (left_in bytes.now left.old) result.status }
     ensures taken { IsTaken T.format (left_in bytes.now left.old) result.status result.taken }

@@ -1,12 +1,12 @@
-//! What calls say of bytes, in numbers: for callers in C, C++, Rust, Python and others.
+//! Results of calls for callers in C, C++, Rust, Python and others, in plain numbers.
 //!
 //! A static library exports functions whose arguments and results are numbers. This crate has what is common to them:
 //!
-//! - [`Outcome`]: what a call says.
+//! - [`Outcome`]: the result of a call.
 //! - [`validate`]: whether bytes begin with an encoding, without memory. [`check`]: the same by the decoder, which makes the
 //!   value.
-//! - [`Locate`]: where the parts of a message are, each a [`Span`]. [`Whole`], [`Content`], [`Case`], [`Deciding`]: a part; a tuple of parts is
-//!   one too. [`field_at`], [`content_at`], [`tag_at`]: one alone.
+//! - [`Locate`]: where the parts of a message are, each a [`Span`]. [`Whole`], [`Content`],
+//!   [`TagAndBody`], [`Deciding`]: a part; a tuple of parts is one too. [`field_at`], [`content_at`], [`tag_at`]: one alone.
 //! - [`next`]: the elements of a list, one after another.
 //! - [`status_of`], [`detail_of`]: the numbers of an error.
 #![tactic(auto)]
@@ -21,7 +21,7 @@ mod numbers;
 mod outcome;
 
 pub use calls::{check, validate};
-pub use case::{Case, Tagged};
+pub use case::{TagAndBody, TaggedEnum};
 pub use decided::Deciding;
 pub use elements::next;
 pub use fields::{Span, content_at, field_at, tag_at};

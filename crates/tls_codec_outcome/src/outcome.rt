@@ -1,9 +1,9 @@
-//! [`Outcome`]: what a call says of bytes.
+//! [`Outcome`]: the result of a call.
 
 /// The status of bytes that begin with an encoding.
 pub const ACCEPTED: u32 = 0;
 
-/// What a call says of bytes.
+/// The result of a call.
 #[repr(C)]
 #[derive(Clone, Copy, PartialEq, Eq, Debug)]
 pub struct Outcome {
@@ -11,8 +11,8 @@ pub struct Outcome {
     pub status: u32,
     /// How many bytes the encoding has; 0 if there is none.
     pub taken: usize,
-    /// Where the first byte of the rejected field is; 0 of bytes that are accepted.
+    /// The offset of the rejected field's first byte; 0 if the bytes are accepted.
     pub at: usize,
-    /// The value that `UnknownValue` has; of other errors 0.
+    /// The value of an `UnknownValue`; 0 for other errors.
     pub detail: u64,
 }
