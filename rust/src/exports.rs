@@ -270,62 +270,62 @@ pub mod tls13 {
         }
     }
 
-    /// `TLSPlaintext` (RFC 8446, appendix B.1). The message that the bytes begin with, and the rest of them.
+    /// `TLSPlaintext` (RFC 8446, section 5.1). The message that the bytes begin with, and the rest of them.
     pub fn tls_plaintext(bytes: &[u8]) -> Result<(&[u8], &[u8]), Rejected> {
         split(bytes, foreign::tls13_tls_plaintext_validate)
     }
 
-    /// `TLSCiphertext` (RFC 8446, appendix B.1). The message that the bytes begin with, and the rest of them.
+    /// `TLSCiphertext` (RFC 8446, section 5.2). The message that the bytes begin with, and the rest of them.
     pub fn tls_ciphertext(bytes: &[u8]) -> Result<(&[u8], &[u8]), Rejected> {
         split(bytes, foreign::tls13_tls_ciphertext_validate)
     }
 
-    /// `Alert` (RFC 8446, appendix B.2). The message that the bytes begin with, and the rest of them.
+    /// `Alert` (RFC 8446, section 6). The message that the bytes begin with, and the rest of them.
     pub fn alert(bytes: &[u8]) -> Result<(&[u8], &[u8]), Rejected> {
         split(bytes, foreign::tls13_alert_validate)
     }
 
-    /// `Handshake` (RFC 8446, appendix B.3). The message that the bytes begin with, and the rest of them.
+    /// `Handshake` (RFC 8446, section 4). The message that the bytes begin with, and the rest of them.
     pub fn handshake(bytes: &[u8]) -> Result<(&[u8], &[u8]), Rejected> {
         split(bytes, foreign::tls13_handshake_validate)
     }
 
-    /// `ClientHello` (RFC 8446, appendix B.3.1). The message that the bytes begin with, and the rest of them.
+    /// `ClientHello` (RFC 8446, section 4.1.2). The message that the bytes begin with, and the rest of them.
     pub fn client_hello(bytes: &[u8]) -> Result<(&[u8], &[u8]), Rejected> {
         split(bytes, foreign::tls13_client_hello_validate)
     }
 
-    /// `ServerHello` (RFC 8446, appendix B.3.1). The message that the bytes begin with, and the rest of them.
+    /// `ServerHello` (RFC 8446, section 4.1.3). The message that the bytes begin with, and the rest of them.
     pub fn server_hello(bytes: &[u8]) -> Result<(&[u8], &[u8]), Rejected> {
         split(bytes, foreign::tls13_server_hello_validate)
     }
 
-    /// `EncryptedExtensions` (RFC 8446, appendix B.3.2). The message that the bytes begin with, and the rest of them.
+    /// `EncryptedExtensions` (RFC 8446, section 4.3.1). The message that the bytes begin with, and the rest of them.
     pub fn encrypted_extensions(bytes: &[u8]) -> Result<(&[u8], &[u8]), Rejected> {
         split(bytes, foreign::tls13_encrypted_extensions_validate)
     }
 
-    /// `CertificateRequest` (RFC 8446, appendix B.3.2). The message that the bytes begin with, and the rest of them.
+    /// `CertificateRequest` (RFC 8446, section 4.3.2). The message that the bytes begin with, and the rest of them.
     pub fn certificate_request(bytes: &[u8]) -> Result<(&[u8], &[u8]), Rejected> {
         split(bytes, foreign::tls13_certificate_request_validate)
     }
 
-    /// `Certificate` (RFC 8446, appendix B.3.3). The message that the bytes begin with, and the rest of them.
+    /// `Certificate` (RFC 8446, section 4.4.2). The message that the bytes begin with, and the rest of them.
     pub fn certificate(bytes: &[u8]) -> Result<(&[u8], &[u8]), Rejected> {
         split(bytes, foreign::tls13_certificate_validate)
     }
 
-    /// `CertificateVerify` (RFC 8446, appendix B.3.3). The message that the bytes begin with, and the rest of them.
+    /// `CertificateVerify` (RFC 8446, section 4.4.3). The message that the bytes begin with, and the rest of them.
     pub fn certificate_verify(bytes: &[u8]) -> Result<(&[u8], &[u8]), Rejected> {
         split(bytes, foreign::tls13_certificate_verify_validate)
     }
 
-    /// `NewSessionTicket` (RFC 8446, appendix B.3.4). The message that the bytes begin with, and the rest of them.
+    /// `NewSessionTicket` (RFC 8446, section 4.6.1). The message that the bytes begin with, and the rest of them.
     pub fn new_session_ticket(bytes: &[u8]) -> Result<(&[u8], &[u8]), Rejected> {
         split(bytes, foreign::tls13_new_session_ticket_validate)
     }
 
-    /// `KeyUpdate` (RFC 8446, appendix B.3.5). The message that the bytes begin with, and the rest of them.
+    /// `KeyUpdate` (RFC 8446, section 4.6.3). The message that the bytes begin with, and the rest of them.
     pub fn key_update(bytes: &[u8]) -> Result<(&[u8], &[u8]), Rejected> {
         split(bytes, foreign::tls13_key_update_validate)
     }
@@ -668,62 +668,62 @@ pub mod tls13_check {
         }
     }
 
-    /// `TLSPlaintext` (RFC 8446, appendix B.1). The message that the bytes begin with, and the rest of them.
+    /// `TLSPlaintext` (RFC 8446, section 5.1). The message that the bytes begin with, and the rest of them.
     pub fn tls_plaintext(bytes: &[u8]) -> Result<(&[u8], &[u8]), Error> {
         decode(bytes, foreign::tls13_tls_plaintext_check)
     }
 
-    /// `TLSCiphertext` (RFC 8446, appendix B.1). The message that the bytes begin with, and the rest of them.
+    /// `TLSCiphertext` (RFC 8446, section 5.2). The message that the bytes begin with, and the rest of them.
     pub fn tls_ciphertext(bytes: &[u8]) -> Result<(&[u8], &[u8]), Error> {
         decode(bytes, foreign::tls13_tls_ciphertext_check)
     }
 
-    /// `Alert` (RFC 8446, appendix B.2). The message that the bytes begin with, and the rest of them.
+    /// `Alert` (RFC 8446, section 6). The message that the bytes begin with, and the rest of them.
     pub fn alert(bytes: &[u8]) -> Result<(&[u8], &[u8]), Error> {
         decode(bytes, foreign::tls13_alert_check)
     }
 
-    /// `Handshake` (RFC 8446, appendix B.3). The message that the bytes begin with, and the rest of them.
+    /// `Handshake` (RFC 8446, section 4). The message that the bytes begin with, and the rest of them.
     pub fn handshake(bytes: &[u8]) -> Result<(&[u8], &[u8]), Error> {
         decode(bytes, foreign::tls13_handshake_check)
     }
 
-    /// `ClientHello` (RFC 8446, appendix B.3.1). The message that the bytes begin with, and the rest of them.
+    /// `ClientHello` (RFC 8446, section 4.1.2). The message that the bytes begin with, and the rest of them.
     pub fn client_hello(bytes: &[u8]) -> Result<(&[u8], &[u8]), Error> {
         decode(bytes, foreign::tls13_client_hello_check)
     }
 
-    /// `ServerHello` (RFC 8446, appendix B.3.1). The message that the bytes begin with, and the rest of them.
+    /// `ServerHello` (RFC 8446, section 4.1.3). The message that the bytes begin with, and the rest of them.
     pub fn server_hello(bytes: &[u8]) -> Result<(&[u8], &[u8]), Error> {
         decode(bytes, foreign::tls13_server_hello_check)
     }
 
-    /// `EncryptedExtensions` (RFC 8446, appendix B.3.2). The message that the bytes begin with, and the rest of them.
+    /// `EncryptedExtensions` (RFC 8446, section 4.3.1). The message that the bytes begin with, and the rest of them.
     pub fn encrypted_extensions(bytes: &[u8]) -> Result<(&[u8], &[u8]), Error> {
         decode(bytes, foreign::tls13_encrypted_extensions_check)
     }
 
-    /// `CertificateRequest` (RFC 8446, appendix B.3.2). The message that the bytes begin with, and the rest of them.
+    /// `CertificateRequest` (RFC 8446, section 4.3.2). The message that the bytes begin with, and the rest of them.
     pub fn certificate_request(bytes: &[u8]) -> Result<(&[u8], &[u8]), Error> {
         decode(bytes, foreign::tls13_certificate_request_check)
     }
 
-    /// `Certificate` (RFC 8446, appendix B.3.3). The message that the bytes begin with, and the rest of them.
+    /// `Certificate` (RFC 8446, section 4.4.2). The message that the bytes begin with, and the rest of them.
     pub fn certificate(bytes: &[u8]) -> Result<(&[u8], &[u8]), Error> {
         decode(bytes, foreign::tls13_certificate_check)
     }
 
-    /// `CertificateVerify` (RFC 8446, appendix B.3.3). The message that the bytes begin with, and the rest of them.
+    /// `CertificateVerify` (RFC 8446, section 4.4.3). The message that the bytes begin with, and the rest of them.
     pub fn certificate_verify(bytes: &[u8]) -> Result<(&[u8], &[u8]), Error> {
         decode(bytes, foreign::tls13_certificate_verify_check)
     }
 
-    /// `NewSessionTicket` (RFC 8446, appendix B.3.4). The message that the bytes begin with, and the rest of them.
+    /// `NewSessionTicket` (RFC 8446, section 4.6.1). The message that the bytes begin with, and the rest of them.
     pub fn new_session_ticket(bytes: &[u8]) -> Result<(&[u8], &[u8]), Error> {
         decode(bytes, foreign::tls13_new_session_ticket_check)
     }
 
-    /// `KeyUpdate` (RFC 8446, appendix B.3.5). The message that the bytes begin with, and the rest of them.
+    /// `KeyUpdate` (RFC 8446, section 4.6.3). The message that the bytes begin with, and the rest of them.
     pub fn key_update(bytes: &[u8]) -> Result<(&[u8], &[u8]), Error> {
         decode(bytes, foreign::tls13_key_update_check)
     }

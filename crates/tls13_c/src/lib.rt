@@ -26,7 +26,7 @@ use tls13::{
     Handshake, KeyUpdate, NewSessionTicket, ServerHello, TLSCiphertext, TLSPlaintext,
 };
 
-/// `TLSPlaintext` (RFC 8446, appendix B.1).
+/// `TLSPlaintext` (RFC 8446, section 5.1).
 #[unsafe(no_mangle)]
 pub extern "C" fn tls13_tls_plaintext_validate(bytes: &[u8]) -> Outcome
     ensures status { Decides tls_plaintext_format bytes.now result.status }
@@ -37,7 +37,7 @@ pub extern "C" fn tls13_tls_plaintext_validate(bytes: &[u8]) -> Outcome
     validate::<TLSPlaintext>(bytes)
 }
 
-/// `TLSCiphertext` (RFC 8446, appendix B.1).
+/// `TLSCiphertext` (RFC 8446, section 5.2).
 #[unsafe(no_mangle)]
 pub extern "C" fn tls13_tls_ciphertext_validate(bytes: &[u8]) -> Outcome
     ensures status { Decides tls_ciphertext_format bytes.now result.status }
@@ -48,7 +48,7 @@ pub extern "C" fn tls13_tls_ciphertext_validate(bytes: &[u8]) -> Outcome
     validate::<TLSCiphertext>(bytes)
 }
 
-/// `Alert` (RFC 8446, appendix B.2).
+/// `Alert` (RFC 8446, section 6).
 #[unsafe(no_mangle)]
 pub extern "C" fn tls13_alert_validate(bytes: &[u8]) -> Outcome
     ensures status { Decides alert_format bytes.now result.status }
@@ -59,7 +59,7 @@ pub extern "C" fn tls13_alert_validate(bytes: &[u8]) -> Outcome
     validate::<Alert>(bytes)
 }
 
-/// `Handshake` (RFC 8446, appendix B.3).
+/// `Handshake` (RFC 8446, section 4).
 #[unsafe(no_mangle)]
 pub extern "C" fn tls13_handshake_validate(bytes: &[u8]) -> Outcome
     ensures status { Decides handshake_format bytes.now result.status }
@@ -70,7 +70,7 @@ pub extern "C" fn tls13_handshake_validate(bytes: &[u8]) -> Outcome
     validate::<Handshake>(bytes)
 }
 
-/// `ClientHello` (RFC 8446, appendix B.3.1).
+/// `ClientHello` (RFC 8446, section 4.1.2).
 #[unsafe(no_mangle)]
 pub extern "C" fn tls13_client_hello_validate(bytes: &[u8]) -> Outcome
     ensures status { Decides client_hello_format bytes.now result.status }
@@ -81,7 +81,7 @@ pub extern "C" fn tls13_client_hello_validate(bytes: &[u8]) -> Outcome
     validate::<ClientHello>(bytes)
 }
 
-/// `ServerHello` (RFC 8446, appendix B.3.1).
+/// `ServerHello` (RFC 8446, section 4.1.3).
 #[unsafe(no_mangle)]
 pub extern "C" fn tls13_server_hello_validate(bytes: &[u8]) -> Outcome
     ensures status { Decides server_hello_format bytes.now result.status }
@@ -92,7 +92,7 @@ pub extern "C" fn tls13_server_hello_validate(bytes: &[u8]) -> Outcome
     validate::<ServerHello>(bytes)
 }
 
-/// `EncryptedExtensions` (RFC 8446, appendix B.3.2).
+/// `EncryptedExtensions` (RFC 8446, section 4.3.1).
 #[unsafe(no_mangle)]
 pub extern "C" fn tls13_encrypted_extensions_validate(bytes: &[u8]) -> Outcome
     ensures status { Decides encrypted_extensions_format bytes.now result.status }
@@ -103,7 +103,7 @@ pub extern "C" fn tls13_encrypted_extensions_validate(bytes: &[u8]) -> Outcome
     validate::<EncryptedExtensions>(bytes)
 }
 
-/// `CertificateRequest` (RFC 8446, appendix B.3.2).
+/// `CertificateRequest` (RFC 8446, section 4.3.2).
 #[unsafe(no_mangle)]
 pub extern "C" fn tls13_certificate_request_validate(bytes: &[u8]) -> Outcome
     ensures status { Decides certificate_request_format bytes.now result.status }
@@ -114,7 +114,7 @@ pub extern "C" fn tls13_certificate_request_validate(bytes: &[u8]) -> Outcome
     validate::<CertificateRequest>(bytes)
 }
 
-/// `Certificate` (RFC 8446, appendix B.3.3).
+/// `Certificate` (RFC 8446, section 4.4.2).
 #[unsafe(no_mangle)]
 pub extern "C" fn tls13_certificate_validate(bytes: &[u8]) -> Outcome
     ensures status { Decides certificate_format bytes.now result.status }
@@ -125,7 +125,7 @@ pub extern "C" fn tls13_certificate_validate(bytes: &[u8]) -> Outcome
     validate::<Certificate>(bytes)
 }
 
-/// `CertificateVerify` (RFC 8446, appendix B.3.3).
+/// `CertificateVerify` (RFC 8446, section 4.4.3).
 #[unsafe(no_mangle)]
 pub extern "C" fn tls13_certificate_verify_validate(bytes: &[u8]) -> Outcome
     ensures status { Decides certificate_verify_format bytes.now result.status }
@@ -136,7 +136,7 @@ pub extern "C" fn tls13_certificate_verify_validate(bytes: &[u8]) -> Outcome
     validate::<CertificateVerify>(bytes)
 }
 
-/// `NewSessionTicket` (RFC 8446, appendix B.3.4).
+/// `NewSessionTicket` (RFC 8446, section 4.6.1).
 #[unsafe(no_mangle)]
 pub extern "C" fn tls13_new_session_ticket_validate(bytes: &[u8]) -> Outcome
     ensures status { Decides new_session_ticket_format bytes.now result.status }
@@ -147,7 +147,7 @@ pub extern "C" fn tls13_new_session_ticket_validate(bytes: &[u8]) -> Outcome
     validate::<NewSessionTicket>(bytes)
 }
 
-/// `KeyUpdate` (RFC 8446, appendix B.3.5).
+/// `KeyUpdate` (RFC 8446, section 4.6.3).
 #[unsafe(no_mangle)]
 pub extern "C" fn tls13_key_update_validate(bytes: &[u8]) -> Outcome
     ensures status { Decides key_update_format bytes.now result.status }

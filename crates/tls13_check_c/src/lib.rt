@@ -27,7 +27,7 @@ use tls13::{
     Handshake, KeyUpdate, NewSessionTicket, ServerHello, TLSCiphertext, TLSPlaintext,
 };
 
-/// `TLSPlaintext` (RFC 8446, appendix B.1).
+/// `TLSPlaintext` (RFC 8446, section 5.1).
 #[unsafe(no_mangle)]
 pub extern "C" fn tls13_tls_plaintext_check(alloc: Global, bytes: &[u8]) -> Outcome
     ensures status { DecidesInMemory tls_plaintext_format bytes.now result.status }
@@ -39,7 +39,7 @@ pub extern "C" fn tls13_tls_plaintext_check(alloc: Global, bytes: &[u8]) -> Outc
     check::<TLSPlaintext>(alloc, bytes)
 }
 
-/// `TLSCiphertext` (RFC 8446, appendix B.1).
+/// `TLSCiphertext` (RFC 8446, section 5.2).
 #[unsafe(no_mangle)]
 pub extern "C" fn tls13_tls_ciphertext_check(alloc: Global, bytes: &[u8]) -> Outcome
     ensures status { DecidesInMemory tls_ciphertext_format bytes.now result.status }
@@ -51,7 +51,7 @@ pub extern "C" fn tls13_tls_ciphertext_check(alloc: Global, bytes: &[u8]) -> Out
     check::<TLSCiphertext>(alloc, bytes)
 }
 
-/// `Alert` (RFC 8446, appendix B.2).
+/// `Alert` (RFC 8446, section 6).
 #[unsafe(no_mangle)]
 pub extern "C" fn tls13_alert_check(alloc: Global, bytes: &[u8]) -> Outcome
     ensures status { DecidesInMemory alert_format bytes.now result.status }
@@ -63,7 +63,7 @@ pub extern "C" fn tls13_alert_check(alloc: Global, bytes: &[u8]) -> Outcome
     check::<Alert>(alloc, bytes)
 }
 
-/// `Handshake` (RFC 8446, appendix B.3).
+/// `Handshake` (RFC 8446, section 4).
 #[unsafe(no_mangle)]
 pub extern "C" fn tls13_handshake_check(alloc: Global, bytes: &[u8]) -> Outcome
     ensures status { DecidesInMemory handshake_format bytes.now result.status }
@@ -75,7 +75,7 @@ pub extern "C" fn tls13_handshake_check(alloc: Global, bytes: &[u8]) -> Outcome
     check::<Handshake>(alloc, bytes)
 }
 
-/// `ClientHello` (RFC 8446, appendix B.3.1).
+/// `ClientHello` (RFC 8446, section 4.1.2).
 #[unsafe(no_mangle)]
 pub extern "C" fn tls13_client_hello_check(alloc: Global, bytes: &[u8]) -> Outcome
     ensures status { DecidesInMemory client_hello_format bytes.now result.status }
@@ -87,7 +87,7 @@ pub extern "C" fn tls13_client_hello_check(alloc: Global, bytes: &[u8]) -> Outco
     check::<ClientHello>(alloc, bytes)
 }
 
-/// `ServerHello` (RFC 8446, appendix B.3.1).
+/// `ServerHello` (RFC 8446, section 4.1.3).
 #[unsafe(no_mangle)]
 pub extern "C" fn tls13_server_hello_check(alloc: Global, bytes: &[u8]) -> Outcome
     ensures status { DecidesInMemory server_hello_format bytes.now result.status }
@@ -99,7 +99,7 @@ pub extern "C" fn tls13_server_hello_check(alloc: Global, bytes: &[u8]) -> Outco
     check::<ServerHello>(alloc, bytes)
 }
 
-/// `EncryptedExtensions` (RFC 8446, appendix B.3.2).
+/// `EncryptedExtensions` (RFC 8446, section 4.3.1).
 #[unsafe(no_mangle)]
 pub extern "C" fn tls13_encrypted_extensions_check(alloc: Global, bytes: &[u8]) -> Outcome
     ensures status { DecidesInMemory encrypted_extensions_format bytes.now result.status }
@@ -112,7 +112,7 @@ pub extern "C" fn tls13_encrypted_extensions_check(alloc: Global, bytes: &[u8]) 
     check::<EncryptedExtensions>(alloc, bytes)
 }
 
-/// `CertificateRequest` (RFC 8446, appendix B.3.2).
+/// `CertificateRequest` (RFC 8446, section 4.3.2).
 #[unsafe(no_mangle)]
 pub extern "C" fn tls13_certificate_request_check(alloc: Global, bytes: &[u8]) -> Outcome
     ensures status { DecidesInMemory certificate_request_format bytes.now result.status }
@@ -125,7 +125,7 @@ pub extern "C" fn tls13_certificate_request_check(alloc: Global, bytes: &[u8]) -
     check::<CertificateRequest>(alloc, bytes)
 }
 
-/// `Certificate` (RFC 8446, appendix B.3.3).
+/// `Certificate` (RFC 8446, section 4.4.2).
 #[unsafe(no_mangle)]
 pub extern "C" fn tls13_certificate_check(alloc: Global, bytes: &[u8]) -> Outcome
     ensures status { DecidesInMemory certificate_format bytes.now result.status }
@@ -137,7 +137,7 @@ pub extern "C" fn tls13_certificate_check(alloc: Global, bytes: &[u8]) -> Outcom
     check::<Certificate>(alloc, bytes)
 }
 
-/// `CertificateVerify` (RFC 8446, appendix B.3.3).
+/// `CertificateVerify` (RFC 8446, section 4.4.3).
 #[unsafe(no_mangle)]
 pub extern "C" fn tls13_certificate_verify_check(alloc: Global, bytes: &[u8]) -> Outcome
     ensures status { DecidesInMemory certificate_verify_format bytes.now result.status }
@@ -149,7 +149,7 @@ pub extern "C" fn tls13_certificate_verify_check(alloc: Global, bytes: &[u8]) ->
     check::<CertificateVerify>(alloc, bytes)
 }
 
-/// `NewSessionTicket` (RFC 8446, appendix B.3.4).
+/// `NewSessionTicket` (RFC 8446, section 4.6.1).
 #[unsafe(no_mangle)]
 pub extern "C" fn tls13_new_session_ticket_check(alloc: Global, bytes: &[u8]) -> Outcome
     ensures status { DecidesInMemory new_session_ticket_format bytes.now result.status }
@@ -161,7 +161,7 @@ pub extern "C" fn tls13_new_session_ticket_check(alloc: Global, bytes: &[u8]) ->
     check::<NewSessionTicket>(alloc, bytes)
 }
 
-/// `KeyUpdate` (RFC 8446, appendix B.3.5).
+/// `KeyUpdate` (RFC 8446, section 4.6.3).
 #[unsafe(no_mangle)]
 pub extern "C" fn tls13_key_update_check(alloc: Global, bytes: &[u8]) -> Outcome
     ensures status { DecidesInMemory key_update_format bytes.now result.status }
