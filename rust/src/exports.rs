@@ -742,6 +742,7 @@ pub mod mls {
         pub struct MLSMessageFields {
             pub version: Span,
             pub wire_format: Span,
+            pub message: Span,
         }
 
         /// Where the fields of a `PublicMessage` are (RFC 9420, section 6.2).
@@ -774,6 +775,7 @@ pub mod mls {
             pub sender: Span,
             pub authenticated_data: Span,
             pub content_type: Span,
+            pub content: Span,
         }
 
         /// Where the fields of a `SenderData` are (RFC 9420, section 6.3.2).
@@ -806,6 +808,7 @@ pub mod mls {
             pub credential: Span,
             pub capabilities: Span,
             pub leaf_node_source: Span,
+            pub origin: Span,
             pub extensions: Span,
             pub signature: Span,
         }
@@ -981,8 +984,10 @@ pub mod mls {
     pub struct MLSMessageFields<'a> {
         /// `ProtocolVersion version = mls10;`
         pub version: &'a [u8],
-        /// `WireFormat wire_format;` and the message after it
+        /// `WireFormat wire_format;`
         pub wire_format: &'a [u8],
+        /// The message after it, in the form that `wire_format` says
+        pub message: &'a [u8],
     }
 
     /// `MLSMessage` (RFC 9420, section 6), and where its fields are. Of the message that the bytes begin with; and the rest of them.
@@ -994,6 +999,7 @@ pub mod mls {
         let fields = MLSMessageFields {
             version: found.version.of(bytes),
             wire_format: found.wire_format.of(bytes),
+            message: found.message.of(bytes),
         };
         Ok((fields, rest))
     }
@@ -1068,8 +1074,10 @@ pub mod mls {
         pub sender: &'a [u8],
         /// `opaque authenticated_data<V>;`
         pub authenticated_data: &'a [u8],
-        /// `ContentType content_type;` and the content after it
+        /// `ContentType content_type;`
         pub content_type: &'a [u8],
+        /// What its case has: `application_data` with its length, a `Proposal` or a `Commit`
+        pub content: &'a [u8],
     }
 
     /// `FramedContent` (RFC 9420, section 6), with which a `PublicMessage` begins, and where its fields are. Of the message that the bytes begin with; and the rest of them.
@@ -1084,6 +1092,7 @@ pub mod mls {
             sender: found.sender.of(bytes),
             authenticated_data: found.authenticated_data.of(bytes),
             content_type: found.content_type.of(bytes),
+            content: found.content.of(bytes),
         };
         Ok((fields, rest))
     }
@@ -1158,8 +1167,10 @@ pub mod mls {
         pub credential: &'a [u8],
         /// `Capabilities capabilities;`
         pub capabilities: &'a [u8],
-        /// `LeafNodeSource leaf_node_source;` and what its case has
+        /// `LeafNodeSource leaf_node_source;`
         pub leaf_node_source: &'a [u8],
+        /// What its case has: a `Lifetime`, nothing, or a `parent_hash` with its length
+        pub origin: &'a [u8],
         /// `Extension extensions<V>;` with its length
         pub extensions: &'a [u8],
         /// `opaque signature<V>;`
@@ -1178,6 +1189,7 @@ pub mod mls {
             credential: found.credential.of(bytes),
             capabilities: found.capabilities.of(bytes),
             leaf_node_source: found.leaf_node_source.of(bytes),
+            origin: found.origin.of(bytes),
             extensions: found.extensions.of(bytes),
             signature: found.signature.of(bytes),
         };

@@ -29,8 +29,10 @@ typedef struct mls_framed_content_fields {
   tls_codec_span sender;
   /* opaque authenticated_data<V>; */
   tls_codec_span authenticated_data;
-  /* ContentType content_type; and the content after it */
+  /* ContentType content_type; */
   tls_codec_span content_type;
+  /* What its case has: application_data with its length, a Proposal or a Commit */
+  tls_codec_span content;
 } mls_framed_content_fields;
 
 /* Where the fields of a GroupContext are (RFC 9420, section 8.1). A span of opaque has the bytes
@@ -106,8 +108,10 @@ typedef struct mls_leaf_node_fields {
   tls_codec_span credential;
   /* Capabilities capabilities; */
   tls_codec_span capabilities;
-  /* LeafNodeSource leaf_node_source; and what its case has */
+  /* LeafNodeSource leaf_node_source; */
   tls_codec_span leaf_node_source;
+  /* What its case has: a Lifetime, nothing, or a parent_hash with its length */
+  tls_codec_span origin;
   /* Extension extensions<V>; with its length */
   tls_codec_span extensions;
   /* opaque signature<V>; */
@@ -118,8 +122,10 @@ typedef struct mls_leaf_node_fields {
 typedef struct mls_message_fields {
   /* ProtocolVersion version = mls10; */
   tls_codec_span version;
-  /* WireFormat wire_format; and the message after it */
+  /* WireFormat wire_format; */
   tls_codec_span wire_format;
+  /* The message after it, in the form that wire_format says */
+  tls_codec_span message;
 } mls_message_fields;
 
 /* Where the fields of a PrivateMessage are (RFC 9420, section 6.3). A span of opaque has the bytes

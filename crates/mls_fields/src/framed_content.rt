@@ -1,11 +1,12 @@
 //! The fields of `FramedContent`.
+ghost use Rattle.mls.specs.ContentTypeData.{content_type_data_variants};
 ghost use Rattle.mls.specs.FramedContent.{framed_content_format};
 ghost use Rattle.tls_codec_outcome.specs.Fields.{Located};
 ghost use Rattle.mls_fields.specs.FramedContentFields.{AreFramedContentFields};
 
 use mls::{ContentTypeData, Sender};
 use tls_codec::TlsVarInt;
-use tls_codec_outcome::{Content, Locate, Span, Whole};
+use tls_codec_outcome::{Content, Locate, Span, TagAndBody, TaggedEnum, Whole};
 
 /// Where the fields of a `FramedContent` are (RFC 9420, section 6). A span of `opaque` has the bytes
 /// without their length.
@@ -20,13 +21,31 @@ pub struct FramedContentFields {
     pub sender: Span,
     /// `opaque authenticated_data<V>;`
     pub authenticated_data: Span,
-    /// `ContentType content_type;` and the content after it
+    /// `ContentType content_type;`
     pub content_type: Span,
+    /// What its case has: `application_data` with its length, a `Proposal` or a `Commit`
+    pub content: Span,
+}
+
+struct Contents {}
+
+impl TaggedEnum for Contents {
+    ghost TAG_LEN = { 1 };
+
+    const TAG_LEN: usize = 1;
+
+    type Whole = ContentTypeData;
+
+    ghost variants = { content_type_data_variants };
+
+    ghost is_tagged = { λ bytes v is. is };
+
+    ghost has_tagged = { λ bytes v is. is };
 }
 
 type Parts = (
     (Content<TlsVarInt>, Whole<u64>, Whole<Sender>),
-    (Content<TlsVarInt>, Whole<ContentTypeData>),
+    (Content<TlsVarInt>, TagAndBody<Contents>),
 );
 
 impl FramedContentFields {
@@ -35,15 +54,15 @@ impl FramedContentFields {
     pub fn of(bytes: &[u8]) -> FramedContentFields
         ensures { Located framed_content_format AreFramedContentFields bytes.now result }
     {
-        let (((group_id, epoch, sender), (authenticated_data, content_type)), _) = <Parts>::locate(
-            bytes, 0,
-        );
+        let (((group_id, epoch, sender), (authenticated_data, (content_type, content))), _) =
+            <Parts>::locate(bytes, 0);
         FramedContentFields {
             group_id,
             epoch,
             sender,
             authenticated_data,
             content_type,
+            content,
         }
     }
 }

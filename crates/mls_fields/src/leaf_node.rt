@@ -1,11 +1,12 @@
 //! The fields of `LeafNode`.
 ghost use Rattle.mls_leaf.specs.LeafNode.{leaf_node_format};
+ghost use Rattle.mls_leaf.specs.LeafNodeOrigin.{leaf_node_origin_variants};
 ghost use Rattle.tls_codec_outcome.specs.Fields.{Located};
 ghost use Rattle.mls_fields.specs.LeafNodeFields.{AreLeafNodeFields};
 
 use mls_leaf::{Capabilities, Credential, Extension, LeafNodeOrigin};
 use tls_codec::TlsVarInt;
-use tls_codec_outcome::{Content, Locate, Span, Whole};
+use tls_codec_outcome::{Content, Locate, Span, TagAndBody, TaggedEnum, Whole};
 
 /// Where the fields of a `LeafNode` are (RFC 9420, section 7.2). A span of `opaque` has the bytes
 /// without their length.
@@ -20,17 +21,35 @@ pub struct LeafNodeFields {
     pub credential: Span,
     /// `Capabilities capabilities;`
     pub capabilities: Span,
-    /// `LeafNodeSource leaf_node_source;` and what its case has
+    /// `LeafNodeSource leaf_node_source;`
     pub leaf_node_source: Span,
+    /// What its case has: a `Lifetime`, nothing, or a `parent_hash` with its length
+    pub origin: Span,
     /// `Extension extensions<V>;` with its length
     pub extensions: Span,
     /// `opaque signature<V>;`
     pub signature: Span,
 }
 
+struct Origins {}
+
+impl TaggedEnum for Origins {
+    ghost TAG_LEN = { 1 };
+
+    const TAG_LEN: usize = 1;
+
+    type Whole = LeafNodeOrigin;
+
+    ghost variants = { leaf_node_origin_variants };
+
+    ghost is_tagged = { λ bytes v is. is };
+
+    ghost has_tagged = { λ bytes v is. is };
+}
+
 type Parts = (
     (Content<TlsVarInt>, Content<TlsVarInt>, Whole<Credential>),
-    (Whole<Capabilities>, Whole<LeafNodeOrigin>),
+    (Whole<Capabilities>, TagAndBody<Origins>),
     (Whole<Vec<Extension>>, Content<TlsVarInt>),
 );
 
@@ -43,7 +62,7 @@ impl LeafNodeFields {
         let (
             (
                 (encryption_key, signature_key, credential),
-                (capabilities, leaf_node_source),
+                (capabilities, (leaf_node_source, origin)),
                 (extensions, signature),
             ),
             _,
@@ -54,6 +73,7 @@ impl LeafNodeFields {
             credential,
             capabilities,
             leaf_node_source,
+            origin,
             extensions,
             signature,
         }

@@ -1,11 +1,12 @@
 //! The fields of `MLSMessage`.
 ghost use Rattle.mls.specs.MLSMessage.{mls_message_format};
+ghost use Rattle.mls.specs.WireFormatData.{wire_format_data_variants};
 ghost use Rattle.tls_codec_outcome.specs.Fields.{Located};
 ghost use Rattle.mls_fields.specs.MLSMessageFields.{AreMLSMessageFields};
 
 use mls::WireFormatData;
 use mls_proposals::ProtocolVersionMls10;
-use tls_codec_outcome::{Locate, Span, Whole};
+use tls_codec_outcome::{Locate, Span, TagAndBody, TaggedEnum, Whole};
 
 /// Where the fields of an `MLSMessage` are (RFC 9420, section 6).
 #[repr(C)]
@@ -13,11 +14,29 @@ use tls_codec_outcome::{Locate, Span, Whole};
 pub struct MLSMessageFields {
     /// `ProtocolVersion version = mls10;`
     pub version: Span,
-    /// `WireFormat wire_format;` and the message after it
+    /// `WireFormat wire_format;`
     pub wire_format: Span,
+    /// The message after it, in the form that `wire_format` says
+    pub message: Span,
 }
 
-type Parts = (Whole<ProtocolVersionMls10>, Whole<WireFormatData>);
+struct Formats {}
+
+impl TaggedEnum for Formats {
+    ghost TAG_LEN = { 2 };
+
+    const TAG_LEN: usize = 2;
+
+    type Whole = WireFormatData;
+
+    ghost variants = { wire_format_data_variants };
+
+    ghost is_tagged = { λ bytes v is. is };
+
+    ghost has_tagged = { λ bytes v is. is };
+}
+
+type Parts = (Whole<ProtocolVersionMls10>, TagAndBody<Formats>);
 
 impl MLSMessageFields {
     /// The fields of the message that the bytes begin with. If they begin with none, the spans mean
@@ -25,10 +44,11 @@ impl MLSMessageFields {
     pub fn of(bytes: &[u8]) -> MLSMessageFields
         ensures { Located mls_message_format AreMLSMessageFields bytes.now result }
     {
-        let ((version, wire_format), _) = <Parts>::locate(bytes, 0);
+        let ((version, (wire_format, message)), _) = <Parts>::locate(bytes, 0);
         MLSMessageFields {
             version,
             wire_format,
+            message,
         }
     }
 }

@@ -12,7 +12,7 @@ pub fn located(alloc: Global, name: &str, bytes: &[u8]) -> Result<Vec<Span>, All
     match name {
         "mls_message" => {
             let it = MLSMessageFields::of(bytes);
-            [it.version, it.wire_format].to_vec(alloc)
+            [it.version, it.wire_format, it.message].to_vec(alloc)
         }
         "mls_public_message" => {
             let it = PublicMessageFields::of(bytes);
@@ -31,7 +31,8 @@ pub fn located(alloc: Global, name: &str, bytes: &[u8]) -> Result<Vec<Span>, All
         "mls_framed_content" => {
             let it = FramedContentFields::of(bytes);
             let front = [it.group_id, it.epoch, it.sender];
-            both(alloc, &front, &[it.authenticated_data, it.content_type])
+            let back = [it.authenticated_data, it.content_type, it.content];
+            both(alloc, &front, &back)
         }
         "mls_sender_data" => {
             let it = SenderDataFields::of(bytes);
@@ -90,6 +91,7 @@ fn located_of_a_member(alloc: Global, name: &str, bytes: &[u8]) -> Result<Vec<Sp
             let back = [
                 it.capabilities,
                 it.leaf_node_source,
+                it.origin,
                 it.extensions,
                 it.signature,
             ];
