@@ -2,7 +2,7 @@
 """benchmarks.py OWN CRATE: draws docs/benchmarks.svg, and prints the table of BENCHMARKS.md.
 
 OWN has what `tls_codec_bench run` printed, CRATE what a program over the Rust crate printed: a line for each case, its name,
-the bytes, and the nanoseconds of each call, with tabs between. OWN has validation last, which the crate doesn't have. A file
+the bytes, and the nanoseconds of each call, with tabs between. OWN has validation and views last, which the crate doesn't have. A file
 may have the lines of several runs: the lowest figure of each is taken."""
 import html
 import math
@@ -39,7 +39,7 @@ def lowest(path):
     rows = {}
     for line in open(path, encoding="utf-8"):
         part = line.rstrip("\n").split("\t")
-        if len(part) in (6, 7):
+        if 6 <= len(part) <= 8:
             figures = [float(x) for x in part[2:]]
             old = rows.get(part[0])
             rows[part[0]] = (int(part[1]), [min(p) for p in zip(old[1], figures)] if old else figures)
@@ -88,8 +88,8 @@ def drawing(own, crate):
 
 def table(own, crate):
     copies = {size: figures for name, (size, figures) in own.items() if name.startswith("copy")}
-    print("| Case | Bytes | Plain copy: new, reused | Encode | Into a vector | Slice | Reader | Validate |")
-    print("|---|---|---|---|---|---|---|---|")
+    print("| Case | Bytes | Plain copy: new, reused | Encode | Into a vector | Slice | Reader | Validate | View |")
+    print("|---|---|---|---|---|---|---|---|---|")
     for name, (size, figures) in own.items():
         if name.startswith("copy"):
             continue

@@ -14,7 +14,7 @@ import subprocess
 import sys
 import tempfile
 
-CALLS = ("encode", "encode_into", "decode_slice", "decode_reader", "decode_outside", "validate")
+CALLS = ("encode", "encode_into", "decode_slice", "decode_reader", "decode_outside", "validate", "view")
 TIMED = re.compile(r"tls_codec_bench::calls::(\w+)::")
 
 

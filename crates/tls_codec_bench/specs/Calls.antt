@@ -1,5 +1,5 @@
 -- What is made by the calls that are timed.
-use Rattle.std.specs.Prelude.{◌≡◌, ℕ, List, length}
+use Rattle.std.specs.Prelude.{◌≡◌, ◌++◌, ℕ, List, length}
 use Rattle.tls_codec_grammar.specs.Tree.{Tree}
 use Rattle.tls_codec_grammar.specs.Grammar.{Grammar}
 use Rattle.tls_codec_grammar.specs.Shortest.{IsShortest}
@@ -15,3 +15,8 @@ pub record IsLengthOf (spells : Grammar) (v : Tree) (n : ℕ) : Type 0 where
   pub form : List ℕ
   pub shortest : IsShortest spells form v
   pub count : n ≡ length form
+
+-- x ends with these bytes
+pub record IsEndOf (x part : List ℕ) : Type 0 where
+  pub front : List ℕ
+  pub whole : x ≡ front ++ part

@@ -8,3 +8,4 @@ pub record IsOfCopy (count : ℕ) (figures : Figures) : Type 0 where
   pub slice : figures.slice ≡ figures.encode
   pub reader : figures.reader ≡ figures.encode
   pub validate : figures.validate ≡ figures.encode
+  pub view : figures.view ≡ figures.encode

@@ -1,9 +1,10 @@
 //! The calls that are timed. None is inlined, so that each builds what it returns.
 ghost use Rattle.std.specs.Prelude.{◌≡◌, length, IfOk};
 ghost use Rattle.tls_codec_grammar.specs.Shortest.{IsShortest};
-ghost use Rattle.tls_codec_bench.specs.Calls.{BeginsWith, IsLengthOf};
+ghost use Rattle.tls_codec_bench.specs.Calls.{BeginsWith, IsEndOf, IsLengthOf};
 ghost use Rattle.tls_codec_validate.specs.Validated.{Validates};
 
+use crate::in_place::InPlace;
 use std::alloc::{AllocError, Global};
 use std::io::Cursor;
 use tls_codec_base::{Deserialize, DeserializeBytes, Serialize};
@@ -82,4 +83,12 @@ pub fn validate<T: Validate>(bytes: &[u8]) -> Result<&[u8], Rejected<'_>>
     ensures { Validates T.format bytes.now result }
 {
     T::tls_validate_prefix(bytes)
+}
+
+/// The last part of the encoding that the bytes are, which is validated and taken apart. No value is made.
+#[inline(never)]
+pub fn view<T: InPlace>(bytes: &[u8]) -> Result<&[u8], Rejected<'_>>
+    ensures { IfOk result (λ part. IsEndOf bytes.now part.now) }
+{
+    T::last_part(bytes)
 }

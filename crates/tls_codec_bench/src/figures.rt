@@ -5,9 +5,11 @@ ghost use Rattle.tls_codec_bench.specs.declared.cases.Case.TheVariants.{Copy1048
 
 use crate::calls::{
     copy, copy_into, decode_outside, decode_reader, decode_slice, encode, encode_into, validate,
+    view,
 };
 use crate::cases::Case;
 use crate::fault::BenchFault;
+use crate::in_place::InPlace;
 use crate::noise::Noise;
 use crate::timing::time;
 use crate::values::FromNoise;
@@ -17,7 +19,6 @@ use std::cell::RefCell;
 use std::rt::Clock;
 use tls_codec_base::{Deserialize, Serialize};
 use tls_codec_bytes::TlsByteVecU32;
-use tls_codec_validate::Validate;
 use tls_codec_vec::TlsVecU32;
 use tls_codec_vectors::Log;
 use tls_codec_vl::VLBytes;
@@ -50,6 +51,8 @@ pub struct Figures {
     pub reader: u64,
     /// `tls_validate_prefix`.
     pub validate: u64,
+    /// `Encoded::new`, and taking the encoding apart, one level deep.
+    pub view: u64,
 }
 
 /// Times a case.
@@ -113,6 +116,7 @@ fn measure_copy<C: Clock>(alloc: Global, clock: &C, count: usize) -> Result<Figu
         slice: nanos,
         reader: nanos,
         validate: nanos,
+        view: nanos,
     })
 }
 
@@ -123,7 +127,7 @@ fn measure_codec<T, C: Clock>(
     shape: &[usize],
 ) -> Result<Figures, BenchFault>
 where
-    T: FromNoise + Serialize + Deserialize + Validate,
+    T: FromNoise + Serialize + Deserialize + InPlace,
 {
     let value = T::from_noise(alloc, &mut Noise::new(), shape)?;
     let Ok(bytes) = encode(alloc, &value) else {
@@ -138,6 +142,7 @@ where
     let slice = time(clock, || decode_slice::<T>(alloc, &bytes).is_ok())?;
     let reader = time(clock, || decode_reader::<T>(alloc, &bytes).is_ok())?;
     let validate = time(clock, || validate::<T>(&bytes).is_ok())?;
+    let view = time(clock, || view::<T>(&bytes).is_ok())?;
     Ok(Figures {
         bytes: bytes.len(),
         encode,
@@ -145,6 +150,7 @@ where
         slice,
         reader,
         validate,
+        view,
     })
 }
 
@@ -155,7 +161,7 @@ fn measure_outside<T, C: Clock>(
     shape: &[usize],
 ) -> Result<Figures, BenchFault>
 where
-    T: FromNoise + Serialize + Deserialize + Validate,
+    T: FromNoise + Serialize + Deserialize + InPlace,
 {
     let figures = measure_codec::<T, C>(alloc, clock, shape)?;
     let value = T::from_noise(alloc, &mut Noise::new(), shape)?;

@@ -4,14 +4,15 @@
 //! encoding, with a tab between. With the argument `run` it prints a line for each case, with tabs
 //! between: its name, the bytes of its encoding, and the nanoseconds of a call of
 //! `tls_serialize_detached`, of `tls_serialize_into` a vector that is used again, of
-//! `tls_deserialize_bytes`, of `tls_deserialize` over a slice and of `tls_validate_prefix`. In the
-//! rows that end with `outside`, `tls_deserialize` is over a `Cursor`, which has no bytes at hand.
-//! A figure is the median of 15 batches of at least 20 milliseconds. With any other argument it
-//! ends with status 1.
+//! `tls_deserialize_bytes`, of `tls_deserialize` over a slice, of `tls_validate_prefix`, and of
+//! `Encoded::new` with what takes its first level apart. In the rows that end with `outside`,
+//! `tls_deserialize` is over a `Cursor`, which has no bytes at hand. A figure is the median of 15
+//! batches of at least 20 milliseconds. With any other argument it ends with status 1.
 //!
 //! - [`cases`]: the cases and their names. [`values`] and [`messages`]: their values, over the
 //!   numbers of a [`noise`].
-//! - [`calls`]: the calls that are timed. [`figures`]: the figures of a case.
+//! - [`calls`]: the calls that are timed. [`in_place`]: what is read in place. [`figures`]: the
+//!   figures of a case.
 //! - [`timing`]: how long a call takes. [`median`]: the middle one of the batches. [`ticks`]: a
 //!   clock that goes on by a set step.
 //! - [`fault`]: [`BenchFault`](fault::BenchFault), why nothing is timed.
@@ -21,6 +22,7 @@ mod calls;
 mod cases;
 mod fault;
 mod figures;
+mod in_place;
 mod median;
 mod messages;
 mod noise;
@@ -66,13 +68,14 @@ fn print_rows<R: Print + AllocGlobal + Clock>(rt: &R) -> Result<(), BenchFault> 
         let figures = measure(rt.alloc(), rt, case)?;
         let name = case.name();
         println!(rt;
-            "{name}\t{}\t{}\t{}\t{}\t{}\t{}",
+            "{name}\t{}\t{}\t{}\t{}\t{}\t{}\t{}",
             figures.bytes,
             figures.encode,
             figures.into,
             figures.slice,
             figures.reader,
-            figures.validate
+            figures.validate,
+            figures.view
         )?;
     }
     Ok(())

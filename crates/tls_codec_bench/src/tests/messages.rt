@@ -1,6 +1,6 @@
 //! Messages as the derive of the Rust crate `tls_codec` 0.5.0 writes them.
 use super::same;
-use crate::calls::{decode_slice, encode};
+use crate::calls::{decode_slice, encode, view};
 use crate::noise::Noise;
 use crate::values::FromNoise;
 use mls::{KeyPackage, PrivateMessage, UpdatePath, Welcome};
@@ -98,4 +98,11 @@ fn messages_have_the_shape_that_is_asked_for(rt: HostRuntime) -> Result<(), Fail
         same(&rt, node.encrypted_path_secret.len(), 5);
     }
     Ok(())
+}
+
+// Its signature: a length of two bytes, and 64 bytes.
+#[test]
+fn the_last_field_of_a_key_package_is_viewed(rt: HostRuntime) {
+    let (_, signature) = KEY_PACKAGE.split_at(304);
+    same(&rt, view::<KeyPackage>(&KEY_PACKAGE), Ok(signature));
 }

@@ -1,0 +1,9 @@
+use Rattle.std.proofs.Common.{◌++◌}
+use Rattle.tls_codec_bench.proofs.Ends.{end_of_four}
+use Rattle.tls_codec_bench.proofs.in_place.KeyPackageInPlace.last_part.Goals as goal
+
+pub returns : goal.returns
+returns c =
+    let view = c.from.result in
+    end_of_four c.args.bytes.now c.in_ok-encoded.encoded (view.version ++ (view.cipher_suite ++ view.init_key)) view.leaf_node view.extensions view.signature _
+    c.in_ok-encoded.ensures.same c.from.ensures c.as_bytes.ensures.same
