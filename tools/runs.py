@@ -3,6 +3,7 @@
 
 A program is built once, without proof (`rt try`). A run is a file with the input; NAME.args has its words, and
 NAME.stdout what it must print. rt ci runs a program on one input alone, and proves it again for another one.
+Then tlsdump runs with a request for memory refused: it prints nothing and ends with status 3.
 """
 import pathlib
 import re
@@ -72,6 +73,11 @@ SHOWN = {
 }
 
 
+# The request for memory of the run `key_package` of tlsdump that is refused, and the status then.
+REFUSED = 1000
+NO_MEMORY = 3
+
+
 def make(cases):
     """Writes the runs that aren't stored."""
     for name, count in MADE.items():
@@ -81,8 +87,23 @@ def make(cases):
         (cases / f"{name}.stdout").write_text(SHOWN[name])
 
 
+def is_refused():
+    """Whether tlsdump ends as it must, and prints nothing, if a request for memory is refused."""
+    folder = CRATES / "tlsdump"
+    with tempfile.TemporaryDirectory() as cases:
+        shutil.copy(folder / "runs" / "key_package", cases)
+        pathlib.Path(cases, "key_package.stdout").touch()
+        words = ["rt", "try", "--fail-alloc", str(REFUSED), "--cases", cases]
+        ran = subprocess.run(words, cwd=folder, capture_output=True, text=True)
+    told = ran.stdout + ran.stderr
+    if re.search(rf"^case=key_package run=ended status={NO_MEMORY} .*output=expected ", told, re.M):
+        return True
+    print(told)
+    return False
+
+
 def main():
-    passed = 0
+    passed = int(is_refused())
     for program, runs in STATUS.items():
         folder = CRATES / program
         with tempfile.TemporaryDirectory() as room:
@@ -98,7 +119,7 @@ def main():
         passed += len(same)
         if len(same) < len(runs):
             print(told)
-    wanted = sum(map(len, STATUS.values()))
+    wanted = sum(map(len, STATUS.values())) + 1
     print(f"{passed} of {wanted} runs print what they must, with their exit status")
     print(f"{passed} passed, {wanted - passed} failed")
     sys.exit(passed < wanted)
