@@ -1,16 +1,18 @@
 #!/usr/bin/env python3
-"""Compares each crate that tlsgen wrote with what the program writes today, but for layout.
+"""Compares each crate that tlsgen wrote with what the program writes today, but for layout, and its stored output byte for byte.
 
-The program is built once, without proof (`rt try`), and run once a crate. A line says of each whether it is the same.
+The program is built once, without proof (`rt try`), and run once a crate. The last line counts those that are the same.
 """
 import pathlib
 import re
+import shutil
 import subprocess
 import sys
 import tempfile
 
 CRATES = pathlib.Path(__file__).resolve().parent.parent / "crates"
 MLS = ["mls_leaf", "mls_proposals", "mls"]
+STORED = "hello"
 
 # For each run: the crate whose files are compared, the text, and the words.
 RUNS = {
@@ -39,14 +41,20 @@ def main():
             pathlib.Path(cases, f"{run}.args").write_text("\n".join([f"{text}.tls", "--crate", run, *more, "--compare", f"of_{run}"]) + "\n")
             for file in files_of(crate):
                 words += ["--data", f"of_{run}/{file}={CRATES / crate / file}"]
+        # the run of rt ci, whose output is stored
+        pathlib.Path(cases, STORED).touch()
+        for kind in ("args", "stdout"):
+            shutil.copy(CRATES / "tlsgen" / kind, pathlib.Path(cases, f"{STORED}.{kind}"))
         ran = subprocess.run(["rt", "try", "--cases", cases, *words], cwd=CRATES / "tlsgen", capture_output=True, text=True)
     told = ran.stdout + ran.stderr
     same = {run for run in RUNS if re.search(rf"^case={run} run=ended status=0 ", told, re.M)}
-    print(f"{len(same)} of {len(RUNS)} written crates are what tlsgen writes today")
-    if len(same) < len(RUNS):
+    same |= set(re.findall(rf"^case=({STORED}) run=ended status=0 .*output=expected ", told, re.M))
+    wanted = len(RUNS) + 1
+    print(f"{len(same)} of {wanted} texts are what tlsgen writes today")
+    if len(same) < wanted:
         print(told)
-    print(f"{len(same)} passed, {len(RUNS) - len(same)} failed")
-    sys.exit(len(same) < len(RUNS))
+    print(f"{len(same)} passed, {wanted - len(same)} failed")
+    sys.exit(len(same) < wanted)
 
 
 if __name__ == "__main__":

@@ -139,11 +139,6 @@ pub static LEMMAS: [&str; 24] = [
 /// What code takes of the codec.
 pub static NAMES: [&str; 40] = [
     "Always",
-    "Deserialize",
-    "DeserializeBytes",
-    "DeserializeBytesFor",
-    "DeserializeFor",
-    "Error",
     "ByRef",
     "ByRef2",
     "ByRef3",
@@ -156,6 +151,11 @@ pub static NAMES: [&str; 40] = [
     "ByRefIn",
     "ByRefThen",
     "ByRefWhen",
+    "Deserialize",
+    "DeserializeBytes",
+    "DeserializeBytesFor",
+    "DeserializeFor",
+    "Error",
     "Serialize",
     "SerializeFor",
     "Sink",
