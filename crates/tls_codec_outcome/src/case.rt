@@ -39,7 +39,8 @@ impl<E: TaggedEnum> Locate for TagAndBody<E> {
 
     ghost end = { λ places. span_end places.1 };
 
-    ghost are_places = { λ x from places. IsCaseFrom E.TAG_LEN E.variants x from places.0 places.1 };
+    ghost are_places = { λ x from places. IsCaseFrom E.TAG_LEN E.variants x from
+        places.0 places.1 };
 
     fn locate(bytes: &[u8], from: usize) -> ((Span, Span), usize) {
         let whole = field_at::<E::Whole>(bytes, from);
@@ -56,6 +57,6 @@ impl<E: TaggedEnum> Locate for TagAndBody<E> {
 
     ghost lawful = { E.Whole.lawful };
 
-    ghost ends = { λ x from places are. case_ends E.TAG_LEN E.variants E.Whole.format E.has_tagged x
-        from places.0 places.1 are };
+    ghost ends = { λ x from places are. case_ends E.TAG_LEN E.variants E.Whole.format
+        E.has_tagged x from places.0 places.1 are };
 }
