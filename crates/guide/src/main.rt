@@ -1,5 +1,5 @@
-//! `guide [FILE]` reads an extension of MLS from a file, or from standard input, and writes its shortest form to
-//! standard output.
+//! `guide [FILE]` reads an extension of MLS from a file, or from standard input, and writes its
+//! canonical encoding to standard output.
 //!
 //! It is a program as a user of `tls_codec` writes it; docs/GUIDE.md goes through it.
 //!

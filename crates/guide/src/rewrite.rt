@@ -5,7 +5,8 @@ use crate::extension::Extension;
 use std::alloc::Global;
 use tls_codec::{Deserialize, Error, Serialize, Sink, Source};
 
-/// Reads an extension from a source, sends its shortest form to a sink, and returns how many bytes that is.
+/// Reads an extension from a source, sends its canonical encoding to a sink, and returns how many
+/// bytes that is.
 ///
 /// If none is read, nothing is sent.
 pub fn rewrite<R: Source, W: Sink>(

@@ -22,8 +22,8 @@
 //! - Parts that an earlier field or another struct decides: the traits [`SizeFor`], [`SerializeFor`],
 //!   [`DeserializeFor`] and [`DeserializeBytesFor`] of a type in a context; [`Then`], a first part and what it decides;
 //!   [`When`], a part that is there or not, by a [`Condition`]; and [`context`] for the rest.
-//! - [`unknown_value`]: the refusal of a tag that an enum of your own doesn't have. [`first_room`]: room for
-//!   a whole encoding at once.
+//! - [`unknown_value`]: the error for a tag that an enum of your own doesn't have. [`first_room`]:
+//!   room for a whole encoding at once.
 //! - [`laws`]: what holds of the encodings of every type with the traits. [`refusals`]: where two
 //!   errors come from.
 #![tactic(auto)]

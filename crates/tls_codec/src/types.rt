@@ -124,7 +124,7 @@ pub fn triples<
         (fields_source_names U.format U.Deserialize.names V.Deserialize.names)) }
 {}
 
-/// Types of one value, of no bytes: they are never refused.
+/// Types of one value, of no bytes: they are never rejected.
 pub fn nothing<T>()
     ensures unit { Means ⟦<() as Size>⟧ (λ v. Empty) nothing_format }
     ensures unit_slice { SameNames ⟦<() as DeserializeBytes>⟧.names (λ x e. ⊥) }

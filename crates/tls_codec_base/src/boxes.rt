@@ -40,7 +40,7 @@ impl<T: SerializeBytes> SerializeBytes for Box<T> {
 impl<T: Deserialize> Deserialize for Box<T> {
     ghost names = { box_source_names T.format T.names };
 
-    /// `OutOfMemory`: allocation of the box failed. Every other refusal is the content's.
+    /// `OutOfMemory`: allocation of the box failed. Every other error is the content's.
     fn tls_deserialize<R: Source>(alloc: Global, bytes: &mut R) -> Result<Box<T>, Error> {
         let content = T::tls_deserialize(alloc, bytes)?;
         boxed(alloc, content)
@@ -50,7 +50,7 @@ impl<T: Deserialize> Deserialize for Box<T> {
 impl<T: DeserializeBytes> DeserializeBytes for Box<T> {
     ghost names = { box_names T.format T.names };
 
-    /// `OutOfMemory`: allocation of the box failed. Every other refusal is the content's.
+    /// `OutOfMemory`: allocation of the box failed. Every other error is the content's.
     fn tls_deserialize_bytes(alloc: Global, bytes: &[u8]) -> Result<(Box<T>, &[u8]), Error> {
         let (content, rest) = T::tls_deserialize_bytes(alloc, bytes)?;
         let content = boxed(alloc, content)?;

@@ -3,8 +3,8 @@ use crate::traits::{Serialize, SerializeBytes, Size};
 use std::alloc::Global;
 use tls_codec_wire::{Error, Sink};
 
-/// A borrowed value. It is written as the value itself is, so a message is written as the tuple of its
-/// parts.
+/// A borrowed value, encoded as the value itself is. With it a message is encoded as a tuple of its
+/// fields, none of which is copied.
 #[derive(Drop)]
 pub struct ByRef<'a, T>(pub &'a T);
 

@@ -11,7 +11,8 @@
 //! - `Vec<T>`: elements in one context, after their length. Calls on elements: [`lists`](crate::lists).
 //! - [`split_enclosed`], [`read_enclosed`], [`write_enclosed`], [`append_enclosed`]: a value that fills what a length
 //!   counts.
-//! - [`present`]: what [`When`] does, for code of your own; [`misfit`], the refusal of a value that doesn't fit.
+//! - [`present`]: what [`When`] does, for code of your own; [`misfit`], the error for a value that
+//!   doesn't fit.
 
 mod always;
 mod by_ref_then;

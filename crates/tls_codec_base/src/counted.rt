@@ -29,10 +29,11 @@ pub fn announced_len<F: LengthField, T: Size>(elements: &[T]) -> usize
     engines::announced_len::<F, T, Alone>(&Alone, elements)
 }
 
-/// Sends a list's shortest form, and returns how many bytes that is, saturated at `usize::MAX`.
+/// Sends a list's canonical encoding, and returns how many bytes that is, saturated at
+/// `usize::MAX`.
 ///
-/// `InvalidVectorLength`: the field doesn't hold the number of the elements' bytes, and nothing was sent.
-/// Every other refusal is an element's or the sink's.
+/// `InvalidVectorLength`: the field doesn't hold the number of the elements' bytes, and nothing was
+/// sent. Every other error is an element's or the sink's.
 pub fn write<F: LengthField, T: Serialize, W: Sink>(
     writer: &mut W,
     elements: &[T],
@@ -46,11 +47,11 @@ pub fn write<F: LengthField, T: Serialize, W: Sink>(
     engines::write::<F, T, Alone, W>(&Alone, writer, elements)
 }
 
-/// Appends a list's shortest form to a vector, and returns how many bytes that is.
+/// Appends a list's canonical encoding to a vector, and returns how many bytes that is.
 ///
-/// `InvalidVectorLength`: the field doesn't hold the number of the elements' bytes, or the vector would pass
-/// `isize::MAX` bytes. Every other refusal is an element's, or `OutOfMemory`. No element is asked for its
-/// announced length. After a refusal the vector has the bytes from before.
+/// `InvalidVectorLength`: the field doesn't hold the number of the elements' bytes, or the vector
+/// would pass `isize::MAX` bytes. Every other error is an element's, or `OutOfMemory`. No element
+/// is asked for its announced length. After an error the vector has the bytes from before.
 pub fn append<F: LengthField, T: Serialize>(
     out: &mut Vec<u8>,
     elements: &[T],
@@ -66,9 +67,9 @@ pub fn append<F: LengthField, T: Serialize>(
     engines::append::<F, T, Alone>(&Alone, out, elements)
 }
 
-/// A list's shortest form. Each element is written to a vector of its own first.
+/// A list's canonical encoding. Each element is written to a vector of its own first.
 ///
-/// The refusals are those of [`append`].
+/// The errors are those of [`append`].
 pub fn to_vec<F: LengthField, T: SerializeBytes>(
     alloc: Global,
     elements: &[T],
@@ -95,7 +96,7 @@ pub fn to_vec<F: LengthField, T: SerializeBytes>(
 
 /// The list that the bytes to come encode. Only its encoding is taken.
 ///
-/// The length is rejected as in [`LengthField::read_length`]. Every other refusal is that of
+/// The length is rejected as in [`LengthField::read_length`]. Every other error is that of
 /// [`lists::from_reader`](crate::lists::from_reader).
 pub fn read<F: LengthField, T: Deserialize, R: Source>(
     alloc: Global,
@@ -112,7 +113,7 @@ pub fn read<F: LengthField, T: Deserialize, R: Source>(
 
 /// The list that the bytes begin with, and the rest of them, which isn't copied.
 ///
-/// The length is rejected as in [`LengthField::split_length`]. Every other refusal is that of
+/// The length is rejected as in [`LengthField::split_length`]. Every other error is that of
 /// [`lists::from_slice`](crate::lists::from_slice).
 pub fn split<F: LengthField, T: DeserializeBytes>(
     alloc: Global,

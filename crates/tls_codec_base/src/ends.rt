@@ -10,7 +10,7 @@ use tls_codec_wire::{Error, Source, expect_end};
 
 /// The value that all of the bytes to come encode, as in a file that holds one message.
 ///
-/// `TrailingData`: a value was read, and another byte came after it. Every other refusal is that of
+/// `TrailingData`: a value was read, and another byte came after it. Every other error is that of
 /// [`tls_deserialize`](Deserialize::tls_deserialize), or the source's after the value.
 ///
 /// ```rust

@@ -1,9 +1,9 @@
 //! The laws of options, products, lists and strings, each from the laws of its parts. Then:
 //!
-//! - what these laws mean for encodings and for shortest forms, those of lists among them;
+//! - what these laws mean for encodings, also of lists, and for which of them are canonical;
 //! - that equal bytes are encoded alike, and what is left of a source that reports its bytes;
-//! - that both decoders agree, and for which bytes a source is refused;
-//! - that encoders refuse only what has no form, and which values are full.
+//! - that both decoders agree, and for which bytes a source is rejected;
+//! - that encoders reject only a value without an encoding, and which values are full.
 //!
 //! The functions do nothing. Their contracts state the laws, and so are proved.
 ghost use Rattle.std.specs.Prelude.{◌≡◌, ◌↔◌, ℕ, ◌<◌, ◌^◌, List, [], ◌++◌, length, Vec};
@@ -64,7 +64,7 @@ pub fn spellings_are_prefix_free<T: Size>()
 {}
 
 /// A list has an encoding exactly if each of its elements has one that isn't empty, and their
-/// shortest forms together have a number of bytes that its length field holds.
+/// canonical encodings together have a number of bytes that its length field holds.
 pub fn lists_are_spelled_where_their_elements_fit<F: LengthField, T: Size>()
     ensures { (v : Tree)
         → HasReadingSpelling (counted_list_format F.field T.format).spells v
@@ -72,8 +72,8 @@ pub fn lists_are_spelled_where_their_elements_fit<F: LengthField, T: Size>()
         × FitTogether T.format.spells F.field.holds v) }
 {}
 
-/// The shortest form of a full value, whatever comes after it, begins with exactly one encoding.
-/// That one is of this value, and leaves what comes after.
+/// The canonical encoding of a full value, whatever comes after it, begins with exactly one
+/// encoding. That one is of this value, and leaves what comes after.
 pub fn shortest_forms_are_read_back<T: Size>()
     ensures { (form rest : List ℕ) (v : Tree)
         → IsShortest T.format.spells form v
@@ -81,7 +81,7 @@ pub fn shortest_forms_are_read_back<T: Size>()
         → BeginsWithOne T.format.spells (form ++ rest) v rest }
 {}
 
-/// A proper prefix of the shortest form of a full value begins with no encoding. So if a sink
+/// A proper prefix of the canonical encoding of a full value begins with no encoding. So if a sink
 /// failed before the end, both decoders reject what it received.
 pub fn forms_cut_short_have_no_spelling<T: Size>()
     ensures { (part form : List ℕ) (v : Tree)
@@ -92,7 +92,7 @@ pub fn forms_cut_short_have_no_spelling<T: Size>()
         → NoneBegins T.format.spells part }
 {}
 
-/// Whatever encodes a value, in either direction, is its shortest form: there is no other encoding.
+/// Whatever encodes a value, in either direction, is its canonical encoding: there is no other.
 pub fn spellings_are_shortest_forms<T: Size>()
     ensures { (d : Direction) (s : List ℕ) (v : Tree)
         → T.format.spells d s v
@@ -120,8 +120,8 @@ pub fn what_was_read_is_written_again<T: Size, R: Source, W: Sink>()
         → Appends (W.received old) (W.received new) b.front }
 {}
 
-/// If the elements of a list all have shortest forms whose length its field doesn't hold, the list is
-/// refused before any of it is sent. So is a string of that many bytes.
+/// If the elements of a list all have canonical encodings whose length its field doesn't hold, the
+/// list is rejected before any of it is sent. So is a string of that many bytes.
 pub fn contents_out_of_bounds_are_not_sent<F: LengthField, T: Size>()
     ensures lists { (form : List ℕ) (v : Tree)
         → IsShortest (content T.format.spells) form v
@@ -133,7 +133,7 @@ pub fn contents_out_of_bounds_are_not_sent<F: LengthField, T: Size>()
         → text_format.out_of_bounds v }
 {}
 
-/// The shortest content is the elements' shortest forms in a row.
+/// The shortest content is the elements' canonical encodings in a row.
 pub fn shortest_contents_are_in_a_row<T: Size>()
     ensures none { (form : List ℕ) → IsShortest (content T.format.spells) form Empty ↔ (form ≡ []) }
     ensures more { (form : List ℕ) (v vs : Tree)
@@ -142,7 +142,7 @@ pub fn shortest_contents_are_in_a_row<T: Size>()
         (λ b. IsShortest (content T.format.spells) b vs) }
 {}
 
-/// After one form of length, equal bytes have equal encodings, whatever type they are in: the
+/// After a length of one width, equal bytes have equal encodings, whatever type they are in: the
 /// encodings of their number, and then the bytes.
 pub fn equal_bytes_have_equal_spellings<F: LengthField>()
     ensures bytes { (d : Direction) (s contents : List ℕ)

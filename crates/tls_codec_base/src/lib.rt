@@ -3,8 +3,7 @@
 //!
 //! The layer above relies only on the contracts of [`traits`], and so do the types here that have
 //! parameters. A decoder accepts exactly the inputs that begin with an encoding, gives its one
-//! value and leaves the rest unread. An encoder writes the shortest form of its value, its
-//! canonical encoding.
+//! value and leaves the rest unread. An encoder writes the canonical encoding of its value.
 //!
 //! - [`traits`]: [`Size`], [`Serialize`], [`SerializeBytes`], [`Deserialize`], [`DeserializeBytes`].
 //! - [`numbers`]: `u8`, `u16`, `U24`, `u32` and `u64`.
@@ -15,7 +14,7 @@
 //! - [`boxes`]: `Box<T>`. [`by_ref`]: [`ByRef`], a borrowed value, for messages of your own; [`by_refs`]:
 //!   [`ByRef2`] to [`ByRef9`], two to nine of them in a row.
 //! - [`context`]: parts that something read earlier decides, with four traits of their own.
-//! - [`tags`]: [`unknown_value`], the refusal of a tag that an enum of your own doesn't have.
+//! - [`tags`]: [`unknown_value`], the error for a tag that an enum of your own doesn't have.
 //! - [`lists`]: the engines that every list goes through. [`vectors`]: `Vec<T>` and `&[T]`.
 //! - [`ends`]: [`deserialize_to_end`], a value and the end of its source. [`rooms`]: [`first_room`], room
 //!   for a whole encoding.

@@ -88,8 +88,8 @@ impl<T: SerializeBytes> SerializeBytes for Option<T> {
 impl<T: Deserialize> Deserialize for Option<T> {
     ghost names = { option_source_names T.names };
 
-    /// `EndOfStream`: no byte comes. `DecodingError("option tag is not 0 or 1")`: another tag comes.
-    /// Every other refusal is the payload's.
+    /// `EndOfStream`: no byte comes. `DecodingError("option tag is not 0 or 1")`: another tag
+    /// comes. Every other error is the payload's.
     fn tls_deserialize<R: Source>(alloc: Global, bytes: &mut R) -> Result<Option<T>, Error> {
         let mut tag = [0u8; 1];
         read_exactly(bytes, &mut tag)?;
@@ -107,8 +107,8 @@ impl<T: Deserialize> Deserialize for Option<T> {
 impl<T: DeserializeBytes> DeserializeBytes for Option<T> {
     ghost names = { option_names T.names };
 
-    /// `EndOfStream`: there is no byte. `DecodingError("option tag is not 0 or 1")`: there is another
-    /// tag. Every other refusal is the payload's.
+    /// `EndOfStream`: there is no byte. `DecodingError("option tag is not 0 or 1")`: there is
+    /// another tag. Every other error is the payload's.
     fn tls_deserialize_bytes(alloc: Global, bytes: &[u8]) -> Result<(Option<T>, &[u8]), Error> {
         let Some((tag, rest)) = bytes.split_first() else {
             return Err(Error::EndOfStream);

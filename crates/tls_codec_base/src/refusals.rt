@@ -1,6 +1,6 @@
-//! Where two errors come from. No decoder of the types here returns `TrailingData`: the exact forms do, and
-//! the calls that look for the end of a source. `InvalidVectorLength` comes if the shortest forms of elements
-//! together pass their length field.
+//! Where two errors come from. No decoder of the types here returns `TrailingData`: the exact forms
+//! do, and the calls that look for the end of a source. `InvalidVectorLength` comes if the
+//! canonical encodings of elements together pass their length field.
 //!
 //! The functions do nothing. Their contracts state the laws, and so are proved.
 ghost use Rattle.std.specs.Prelude.{◌≡◌, ◌⊎◌, ℕ, List, length, IsErrAnd, Result, Vec};
@@ -92,8 +92,9 @@ pub fn parts_read_are_never_trailing<
         → SourceNeverTrailing (counted_list_source_names F.field T.format T.names) }
 {}
 
-/// If the elements of a list all have shortest forms whose length its field doesn't hold, encoders to memory
-/// refuse the list as `InvalidVectorLength`, or because memory ran out. So they do a string of that many bytes.
+/// If the elements of a list all have canonical encodings whose length its field doesn't hold,
+/// encoders to memory reject the list as `InvalidVectorLength`, or because memory ran out. So they
+/// do a string of that many bytes.
 pub fn contents_out_of_bounds_are_refused<F: LengthField, T: Size>()
     ensures appended { (form : List ℕ) (v : Tree) (old new : List ℕ) (result : Result ℕ Error)
         → IsShortest (content T.format.spells) form v

@@ -7,7 +7,7 @@ use std::alloc::AllocError;
 /// Requests room for a value's encoding at once, if the vector has no room at all. So the encoding of
 /// a message of many fields doesn't grow a new vector field by field.
 ///
-/// An error: the request was refused, and the vector is as before.
+/// An error: the allocation failed, and the vector is as before.
 ///
 /// ```rust
 /// let mut out = Vec::new(alloc);

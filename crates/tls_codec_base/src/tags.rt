@@ -1,4 +1,4 @@
-//! [`unknown_value`], the refusal of a tag that an enum of your own doesn't have.
+//! [`unknown_value`], the error for a tag that an enum of your own doesn't have.
 ghost use Rattle.std.specs.Prelude.{◌≡◌};
 ghost use Rattle.tls_codec_wire.specs.declared.error.Error.TheVariants.{UnknownValue};
 

@@ -31,7 +31,7 @@ impl Serialize for String {
         self.as_str().tls_serialize(writer)
     }
 
-    /// The refusals are those of a `&str`.
+    /// The errors are those of a `&str`.
     #[inline(always)]
     fn tls_serialize_into(&self, out: &mut Vec<u8>) -> Result<usize, Error> {
         self.as_str().tls_serialize_into(out)
@@ -92,7 +92,7 @@ impl Size for &str {
 
 impl Serialize for &str {
     /// `InvalidVectorLength`: there are more bytes than the greatest length, and nothing was sent.
-    /// Every other refusal is the sink's.
+    /// Every other error is the sink's.
     fn tls_serialize<W: Sink>(&self, writer: &mut W) -> Result<usize, Error> {
         opaque::write::<TlsVarInt, W>(writer, self.as_bytes())
     }

@@ -27,12 +27,11 @@ pub trait Size {
     // What is said of its spellings.
     ghost format: { Format };
 
-    /// The number of bytes of the value's shortest form, its canonical encoding, saturated at
-    /// `usize::MAX`.
+    /// The number of bytes of the value's canonical encoding, saturated at `usize::MAX`.
     fn tls_serialized_len(&self) -> usize
         ensures { result ≡ format.announced (plain self.now) };
 
-    /// The number of bytes of each value's shortest form, if all values have the same number.
+    /// The number of bytes of each value's canonical encoding, if all values have the same number.
     /// `None` if they don't, or if that isn't known.
     ///
     /// Provided. A type of fixed width may return it; then lengths of its lists need no sums.
@@ -42,8 +41,9 @@ pub trait Size {
         None
     }
 
-    /// Sends the elements' shortest forms in a row, and returns how many bytes that is, saturated
-    /// at `usize::MAX`. `None` if such elements are sent one by one; then nothing is sent.
+    /// Sends the elements' canonical encodings in a row, and returns how many bytes that is,
+    /// saturated at `usize::MAX`. `None` if such elements are sent one by one; then nothing is
+    /// sent.
     ///
     /// Provided. A type of fixed width may do it at once, and every list then goes through here.
     fn tls_send_elements<W: Sink>(elements: &[Self], sink: &mut W) -> Result<Option<usize>, Error>
@@ -57,16 +57,16 @@ pub trait Size {
 
 /// A type that is written to a sink.
 pub trait Serialize: Size {
-    /// Appends the value's shortest form to what the sink has received, and returns how many bytes
-    /// that is, saturated at `usize::MAX`.
+    /// Appends the value's canonical encoding to what the sink has received, and returns how many
+    /// bytes that is, saturated at `usize::MAX`.
     fn tls_serialize<W: Sink>(&self, writer: &mut W) -> Result<usize, Error>
         ensures writes { Writes Self.format (Self.plain self.now) W.Sink writer.old writer.new
             result }
         ensures out_of_bounds { Self.format.out_of_bounds (Self.plain self.now)
             → (result ≡ Err InvalidVectorLength) × (writer.new ≡ writer.old) };
 
-    /// Appends the value's shortest form to a vector, and returns how many bytes that is. After a
-    /// refusal the vector has the bytes from before.
+    /// Appends the value's canonical encoding to a vector, and returns how many bytes that is.
+    /// After an error the vector has the bytes from before.
     fn tls_serialize_into(&self, out: &mut Vec<u8>) -> Result<usize, Error>
         ensures appends { AppendsForm Self.format (Self.plain self.now) out.old.items out.new.items
             result }
@@ -84,7 +84,7 @@ pub trait Serialize: Size {
         }
     }
 
-    /// The value's shortest form.
+    /// The value's canonical encoding.
     final fn tls_serialize_detached(&self, alloc: Global) -> Result<Vec<u8>, Error>
         ensures makes { Makes Self.format (Self.plain self.now) result }
         ensures out_of_bounds { Self.format.out_of_bounds (Self.plain self.now)
@@ -99,7 +99,7 @@ pub trait Serialize: Size {
 
 /// A type that is written to a vector of its own.
 pub trait SerializeBytes: Size {
-    /// The value's shortest form.
+    /// The value's canonical encoding.
     fn tls_serialize_bytes(&self, alloc: Global) -> Result<Vec<u8>, Error>
         ensures makes { Makes Self.format (Self.plain self.now) result }
         ensures out_of_bounds { Self.format.out_of_bounds (Self.plain self.now)
@@ -119,7 +119,7 @@ pub trait Deserialize: Size + Drop {
 
     /// The value that all of the bytes encode, read as from a source.
     ///
-    /// `TrailingData`: a value was read, and a byte is left. Every other refusal is that of
+    /// `TrailingData`: a value was read, and a byte is left. Every other error is that of
     /// [`tls_deserialize`](Deserialize::tls_deserialize).
     final fn tls_deserialize_exact(alloc: Global, bytes: &[u8]) -> Result<Self, Error>
         ensures reads { ReadsWhole Self.format Self.plain bytes.now result }
@@ -168,7 +168,7 @@ pub trait DeserializeBytes: Size + Drop {
 
     /// The value that all of the bytes encode.
     ///
-    /// `TrailingData`: a value was read, and a byte is left. Every other refusal is that of
+    /// `TrailingData`: a value was read, and a byte is left. Every other error is that of
     /// [`tls_deserialize_bytes`](DeserializeBytes::tls_deserialize_bytes).
     final fn tls_deserialize_exact_bytes(alloc: Global, bytes: &[u8]) -> Result<Self, Error>
         ensures reads { ReadsWhole Self.format Self.plain bytes.now result }

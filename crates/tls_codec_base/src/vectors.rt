@@ -23,14 +23,14 @@ impl<T: Size> Size for Vec<T> {
 }
 
 impl<T: Serialize> Serialize for Vec<T> {
-    /// `InvalidVectorLength`: the elements have more bytes than the greatest length, and nothing was
-    /// sent. Every other refusal is an element's or the sink's.
+    /// `InvalidVectorLength`: the elements have more bytes than the greatest length, and nothing
+    /// was sent. Every other error is an element's or the sink's.
     fn tls_serialize<W: Sink>(&self, writer: &mut W) -> Result<usize, Error> {
         counted::write::<TlsVarInt, T, W>(writer, self.as_slice())
     }
 
     /// `InvalidVectorLength`: the elements have more bytes than the greatest length, or the vector
-    /// would pass `isize::MAX` bytes. Every other refusal is an element's, or `OutOfMemory`.
+    /// would pass `isize::MAX` bytes. Every other error is an element's, or `OutOfMemory`.
     fn tls_serialize_into(&self, out: &mut Vec<u8>) -> Result<usize, Error> {
         counted::append::<TlsVarInt, T>(out, self.as_slice())
     }
@@ -94,7 +94,7 @@ impl<T: Serialize> Serialize for &[T] {
         counted::write::<TlsVarInt, T, W>(writer, self)
     }
 
-    /// The refusals are those of a `Vec<T>`.
+    /// The errors are those of a `Vec<T>`.
     fn tls_serialize_into(&self, out: &mut Vec<u8>) -> Result<usize, Error> {
         counted::append::<TlsVarInt, T>(out, self)
     }

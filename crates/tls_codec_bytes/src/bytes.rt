@@ -48,8 +48,8 @@ pub type TlsByteVecU24 = TlsByteVec<U24>;
 pub type TlsByteVecU32 = TlsByteVec<u32>;
 
 impl<F> TlsByteVec<F> {
-    /// These bytes, which aren't copied. If the length field doesn't hold their number, they are refused
-    /// when they are written.
+    /// These bytes, which aren't copied. If the length field doesn't hold their number, they are
+    /// rejected when they are written.
     pub fn new(vec: Vec<u8>) -> TlsByteVec<F>
         ensures { bytes_of result ≡ vec.items }
     {

@@ -25,8 +25,8 @@ impl<F: LengthField> Size for TlsByteVec<F> {
 }
 
 impl<F: LengthField> Serialize for TlsByteVec<F> {
-    /// `InvalidVectorLength`: `F` doesn't hold the number of the bytes, and nothing was sent.
-    /// Every other refusal is the sink's.
+    /// `InvalidVectorLength`: `F` doesn't hold the number of the bytes, and nothing was sent. Every
+    /// other error is the sink's.
     fn tls_serialize<W: Sink>(&self, writer: &mut W) -> Result<usize, Error> {
         opaque::write::<F, W>(writer, self.as_slice())
     }

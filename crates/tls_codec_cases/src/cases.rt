@@ -78,7 +78,7 @@ pub trait WriteCases: Cases {
         ensures { Writes (Self.variants.parts (Self.tag_of self.now)) (Self.parts self.now) W.Sink
             writer.old writer.new result };
 
-    /// Appends the parts after the tag; the vector is as it was after a refusal.
+    /// Appends the parts after the tag; the vector is as it was after an error.
     fn append_parts(&self, out: &mut Vec<u8>) -> Result<usize, Error>
         requires { Self.distinct ≡ true }
         ensures { AppendsForm (Self.variants.parts (Self.tag_of self.now)) (Self.parts self.now)

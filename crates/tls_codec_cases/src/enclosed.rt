@@ -12,8 +12,9 @@ use tls_codec_wire::{Error, Sink, Source};
 
 /// A value after its length `F`, which it fills, as the body of an extension (RFC 8446, section 4.2).
 ///
-/// `TrailingData`: a value was read, and a byte is left of what the length counts. `InvalidVectorLength`: the field
-/// doesn't hold the number of the value's bytes, and nothing was sent. Every other refusal is the length's or the value's.
+/// `TrailingData`: a value was read, and a byte is left of what the length counts.
+/// `InvalidVectorLength`: the field doesn't hold the number of the value's bytes, and nothing was
+/// sent. Every other error is the length's or the value's.
 #[derive(PartialEq, Drop)]
 pub struct Enclosed<F, T>(pub T, pub PhantomData<F>);
 

@@ -26,7 +26,7 @@ pub struct Followed<T> {
 impl<T> Followed<T> {
     /// The value that all of the bytes encode.
     ///
-    /// `OutOfMemory`: there was none for the bytes after the content. Every other refusal is the
+    /// `OutOfMemory`: there was none for the bytes after the content. Every other error is the
     /// content's.
     pub fn tls_deserialize_exact_bytes(alloc: Global, bytes: &[u8]) -> Result<Followed<T>, Error>
     where
@@ -40,7 +40,7 @@ impl<T> Followed<T> {
         Ok(Followed { content, rest })
     }
 
-    /// The number of bytes of the value's form, saturated at `usize::MAX`.
+    /// The number of bytes of the value's encoding, saturated at `usize::MAX`.
     pub fn tls_serialized_len(&self) -> usize
     where
         T: Size,
@@ -51,8 +51,8 @@ impl<T> Followed<T> {
         length.saturating_add(self.rest.len())
     }
 
-    /// Appends the value's form to a vector, and returns how many bytes that is. After a refusal the
-    /// vector has the bytes from before. Every refusal but `OutOfMemory` is the content's.
+    /// Appends the value's encoding to a vector, and returns how many bytes that is. After an error
+    /// the vector has the bytes from before. Every error but `OutOfMemory` is the content's.
     pub fn tls_serialize_into(&self, out: &mut Vec<u8>) -> Result<usize, Error>
     where
         T: Serialize,

@@ -31,8 +31,8 @@ pub struct InnerPlaintext<T> {
 impl<T> InnerPlaintext<T> {
     /// The value that all of the bytes encode.
     ///
-    /// `DecodingError("type is not there")`: there is no byte but zeros. `OutOfMemory`: there was none for the content.
-    /// Every other refusal is that of the type's byte.
+    /// `DecodingError("type is not there")`: there is no byte but zeros. `OutOfMemory`: there was
+    /// none for the content. Every other error is that of the type's byte.
     pub fn tls_deserialize_exact_bytes(
         alloc: Global,
         bytes: &[u8],
@@ -55,7 +55,7 @@ impl<T> InnerPlaintext<T> {
         })
     }
 
-    /// The number of bytes of the value's form, saturated at `usize::MAX`.
+    /// The number of bytes of the value's encoding, saturated at `usize::MAX`.
     pub fn tls_serialized_len(&self) -> usize
     where
         T: Size,
@@ -65,11 +65,12 @@ impl<T> InnerPlaintext<T> {
         self.content.len().saturating_add(ending)
     }
 
-    /// Appends the value's form to a vector, and returns how many bytes that is. After a refusal the vector has the bytes
-    /// from before.
+    /// Appends the value's encoding to a vector, and returns how many bytes that is. After an error
+    /// the vector has the bytes from before.
     ///
-    /// `EncodingError("type is not a byte other than zero")`: the type has another form. `InvalidVectorLength`: the form
-    /// doesn't fit into a vector. Every other refusal is the type's.
+    /// `EncodingError("type is not a byte other than zero")`: the type has another encoding.
+    /// `InvalidVectorLength`: the encoding doesn't fit into a vector. Every other error is the
+    /// type's.
     pub fn tls_serialize_into(&self, out: &mut Vec<u8>) -> Result<usize, Error>
     where
         T: Serialize,

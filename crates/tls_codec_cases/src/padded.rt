@@ -27,7 +27,7 @@ impl<T> Padded<T> {
     /// The value that all of the bytes encode in this context.
     ///
     /// `DecodingError("padding is not zeros")`: a byte after the content isn't zero. Every other
-    /// refusal is the content's.
+    /// error is the content's.
     pub fn tls_deserialize_exact_bytes_for<C: Size>(
         context: &C,
         alloc: Global,
@@ -48,7 +48,7 @@ impl<T> Padded<T> {
         Ok(Padded { content, padding })
     }
 
-    /// The number of bytes of the value's form in this context, saturated at `usize::MAX`.
+    /// The number of bytes of the value's encoding in this context, saturated at `usize::MAX`.
     pub fn tls_serialized_len_for<C: Size>(&self, context: &C) -> usize
     where
         T: SizeFor<C>,
@@ -59,10 +59,11 @@ impl<T> Padded<T> {
         length.saturating_add(self.padding)
     }
 
-    /// Appends the value's form in this context to a vector, and returns how many bytes that is. After a refusal the
-    /// vector has the bytes from before.
+    /// Appends the value's encoding in this context to a vector, and returns how many bytes that
+    /// is. After an error the vector has the bytes from before.
     ///
-    /// `InvalidVectorLength`: the form doesn't fit into a vector. Every other refusal is the content's.
+    /// `InvalidVectorLength`: the encoding doesn't fit into a vector. Every other error is the
+    /// content's.
     pub fn tls_serialize_into_for<C: Size>(
         &self,
         context: &C,

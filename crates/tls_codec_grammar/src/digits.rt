@@ -51,7 +51,7 @@ pub fn read_digits<R: Source, const K: usize>(bytes: &mut R) -> Result<[u8; K], 
     Ok(digits)
 }
 
-/// Sends digits, and returns how many they are. Every refusal is the sink's, as in [`write_all`].
+/// Sends digits, and returns how many they are. Every error is the sink's, as in [`write_all`].
 pub fn write_digits<W: Sink>(writer: &mut W, digits: &[u8]) -> Result<usize, Error>
     ensures writes { Writes (number_format (length digits.now)) (Number (value digits.now)) W.Sink
         writer.old writer.new result }

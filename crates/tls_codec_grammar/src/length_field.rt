@@ -25,8 +25,8 @@ pub use writing::{fill_gap, open_gap, write_length};
 
 /// What comes before a content and says how many bytes the content has.
 ///
-/// The type stands for the form of a length, and no value of it is made. Your own form of lengths
-/// implements this too.
+/// The type stands for the encoding of a length, and no value of it is made. Your own encoding of
+/// lengths implements this too.
 ///
 /// ```rust
 /// let mut src = [0u8, 3, 0xaa].as_slice();
@@ -51,7 +51,7 @@ pub trait LengthField {
     /// Reads a length. Only its bytes are taken.
     ///
     /// `DecodingError("read failed")` and `OutOfMemory` are the source's, as in
-    /// [`read_exactly`](tls_codec_wire::read_exactly). Every other refusal is the field's:
+    /// [`read_exactly`](tls_codec_wire::read_exactly). Every other error is the field's:
     /// `EndOfStream` if the bytes end within a length. For a [`TlsVarInt`] it is also
     /// `InvalidVectorLength`, if the length has more bytes than it needs, or is above the greatest.
     fn read_length<R: Source>(src: &mut R) -> Result<usize, Error>
@@ -63,7 +63,7 @@ pub trait LengthField {
 
     /// The length that the bytes begin with, and the rest of them.
     ///
-    /// The refusals are the field's, as in [`read_length`](LengthField::read_length).
+    /// The errors are the field's, as in [`read_length`](LengthField::read_length).
     fn split_length(bytes: &[u8]) -> Result<(usize, &[u8]), Error>
         ensures ok { IfOk result
             (λ found. BeginsNumber field.spells bytes.now found.0 found.1.now) }

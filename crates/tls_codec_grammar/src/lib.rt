@@ -1,8 +1,8 @@
 //! What the formats of the TLS presentation language are (RFC 8446, section 3): which bytes encode
 //! which value, which laws a format meets, and what decoders and encoders of it return.
 //!
-//! The definitions are in `specs`. The calls here need no trait of a value: they know the width of a
-//! number, or the form of a length.
+//! The definitions are in `specs`. The calls here need no trait of a value: they know the width of
+//! a number, or the encoding of a length.
 //!
 //! - [`digits`]: numbers of k bytes.
 //! - [`length_field`]: [`LengthField`], what comes before a content and says how many bytes it has;

@@ -23,10 +23,10 @@ pub fn announced_len<F: LengthField>(content: &[u8]) -> usize
     F::width(length).saturating_add(length)
 }
 
-/// Sends the shortest form of some bytes, and returns how many bytes that is.
+/// Sends the canonical encoding of some bytes, and returns how many bytes that is.
 ///
-/// `InvalidVectorLength`: the field doesn't hold their number, and nothing was sent. Every
-/// other refusal is the sink's, as in `write_all`.
+/// `InvalidVectorLength`: the field doesn't hold their number, and nothing was sent. Every other
+/// error is the sink's, as in `write_all`.
 pub fn write<F: LengthField, W: Sink>(sink: &mut W, content: &[u8]) -> Result<usize, Error>
     ensures writes { Writes (counted_bytes_format F.field) (number_trees content.now) W.Sink
         sink.old sink.new result }
@@ -38,10 +38,10 @@ pub fn write<F: LengthField, W: Sink>(sink: &mut W, content: &[u8]) -> Result<us
     Ok(width.saturating_add(content.len()))
 }
 
-/// Appends the shortest form of some bytes to a vector, and returns how many bytes that is.
+/// Appends the canonical encoding of some bytes to a vector, and returns how many bytes that is.
 ///
-/// `InvalidVectorLength`: the field doesn't hold their number. `OutOfMemory`: allocation
-/// failed. After a refusal the vector has the bytes from before.
+/// `InvalidVectorLength`: the field doesn't hold their number. `OutOfMemory`: allocation failed.
+/// After an error the vector has the bytes from before.
 #[inline(always)]
 pub fn append<F: LengthField>(out: &mut Vec<u8>, content: &[u8]) -> Result<usize, Error>
     ensures appends { AppendsForm (counted_bytes_format F.field) (number_trees content.now)
@@ -62,7 +62,7 @@ pub fn append<F: LengthField>(out: &mut Vec<u8>, content: &[u8]) -> Result<usize
     Ok(form.len() + content.len())
 }
 
-/// The shortest form of some bytes.
+/// The canonical encoding of some bytes.
 ///
 /// `InvalidVectorLength`: the field doesn't hold their number.
 pub fn to_vec<F: LengthField>(alloc: Global, content: &[u8]) -> Result<Vec<u8>, Error>
@@ -81,8 +81,9 @@ pub fn to_vec<F: LengthField>(alloc: Global, content: &[u8]) -> Result<Vec<u8>, 
 
 /// The bytes that a prefix of `whole` encodes, and the rest of it. Neither is copied.
 ///
-/// If no length begins it, the refusal is that of [`split_length`](LengthField::split_length). If fewer
-/// bytes come after the length than it declares, it is the field's [`cut_off`](LengthField::cut_off).
+/// If no length begins it, the error is that of [`split_length`](LengthField::split_length). If
+/// fewer bytes come after the length than it declares, it is the field's
+/// [`cut_off`](LengthField::cut_off).
 #[inline(always)]
 pub fn split<F: LengthField>(whole: &[u8]) -> Result<(&[u8], &[u8]), Error>
     ensures splits { Splits (record (counted_bytes_format F.field) { lean = true })
@@ -98,8 +99,8 @@ pub fn split<F: LengthField>(whole: &[u8]) -> Result<(&[u8], &[u8]), Error>
 
 /// A copy of the bytes that a prefix of `whole` encodes, and the rest of it, which isn't copied.
 ///
-/// `OutOfMemory`: allocation failed for the copy of bytes that are all there. Every other refusal is as in
-/// [`split`].
+/// `OutOfMemory`: allocation failed for the copy of bytes that are all there. Every other error is
+/// as in [`split`].
 #[inline(always)]
 pub fn split_copied<F: LengthField>(alloc: Global, whole: &[u8]) -> Result<(Vec<u8>, &[u8]), Error>
     ensures splits { Splits (counted_bytes_format F.field) (λ content. number_trees content.items)

@@ -24,14 +24,14 @@ impl<F: LengthField, T: Size + Zeroize> Size for SecretTlsVec<F, T> {
 }
 
 impl<F: LengthField, T: Serialize + Zeroize> Serialize for SecretTlsVec<F, T> {
-    /// `InvalidVectorLength`: `F` doesn't hold the number of the elements' bytes, and nothing was sent.
-    /// Every other refusal is an element's or the sink's.
+    /// `InvalidVectorLength`: `F` doesn't hold the number of the elements' bytes, and nothing was
+    /// sent. Every other error is an element's or the sink's.
     fn tls_serialize<W: Sink>(&self, writer: &mut W) -> Result<usize, Error> {
         counted::write::<F, T, W>(writer, self.as_slice())
     }
 
-    /// `InvalidVectorLength`: `F` doesn't hold the number of the elements' bytes, or the vector would pass
-    /// `isize::MAX` bytes. Every other refusal is an element's, or `OutOfMemory`.
+    /// `InvalidVectorLength`: `F` doesn't hold the number of the elements' bytes, or the vector
+    /// would pass `isize::MAX` bytes. Every other error is an element's, or `OutOfMemory`.
     fn tls_serialize_into(&self, out: &mut Vec<u8>) -> Result<usize, Error> {
         counted::append::<F, T>(out, self.as_slice())
     }
@@ -40,7 +40,7 @@ impl<F: LengthField, T: Serialize + Zeroize> Serialize for SecretTlsVec<F, T> {
 impl<F: LengthField, T: Deserialize + Zeroize> Deserialize for SecretTlsVec<F, T> {
     ghost names = { counted_list_source_names F.field T.format T.names };
 
-    /// `EndOfStream`: there is no whole length. Every other refusal is that of the elements.
+    /// `EndOfStream`: there is no whole length. Every other error is that of the elements.
     fn tls_deserialize<R: Source>(
         alloc: Global,
         bytes: &mut R,
@@ -53,7 +53,7 @@ impl<F: LengthField, T: Deserialize + Zeroize> Deserialize for SecretTlsVec<F, T
 impl<F: LengthField, T: DeserializeBytes + Zeroize> DeserializeBytes for SecretTlsVec<F, T> {
     ghost names = { counted_list_names F.field T.format T.names };
 
-    /// `EndOfStream`: there is no whole length. Every other refusal is that of the elements.
+    /// `EndOfStream`: there is no whole length. Every other error is that of the elements.
     fn tls_deserialize_bytes(
         alloc: Global,
         bytes: &[u8],

@@ -44,7 +44,7 @@ impl<'a> Size for TlsByteSliceU8<'a> {
 
 impl<'a> Serialize for TlsByteSliceU8<'a> {
     /// `InvalidVectorLength`: there are more than 255 bytes, and nothing was sent. Every other
-    /// refusal is the sink's.
+    /// error is the sink's.
     fn tls_serialize<W: Sink>(&self, writer: &mut W) -> Result<usize, Error> {
         opaque::write::<u8, W>(writer, self.0)
     }
@@ -113,7 +113,7 @@ impl<'a> Size for TlsByteSliceU16<'a> {
 
 impl<'a> Serialize for TlsByteSliceU16<'a> {
     /// `InvalidVectorLength`: there are more than 65,535 bytes, and nothing was sent. Every other
-    /// refusal is the sink's.
+    /// error is the sink's.
     fn tls_serialize<W: Sink>(&self, writer: &mut W) -> Result<usize, Error> {
         opaque::write::<u16, W>(writer, self.0)
     }
@@ -181,8 +181,8 @@ impl<'a> Size for TlsByteSliceU24<'a> {
 }
 
 impl<'a> Serialize for TlsByteSliceU24<'a> {
-    /// `InvalidVectorLength`: there are more than 16,777,215 bytes, and nothing was sent. Every other
-    /// refusal is the sink's.
+    /// `InvalidVectorLength`: there are more than 16,777,215 bytes, and nothing was sent. Every
+    /// other error is the sink's.
     fn tls_serialize<W: Sink>(&self, writer: &mut W) -> Result<usize, Error> {
         opaque::write::<U24, W>(writer, self.0)
     }
@@ -251,8 +251,8 @@ impl<'a> Size for TlsByteSliceU32<'a> {
 }
 
 impl<'a> Serialize for TlsByteSliceU32<'a> {
-    /// `InvalidVectorLength`: there are more than 4,294,967,295 bytes, and nothing was sent. Every other
-    /// refusal is the sink's.
+    /// `InvalidVectorLength`: there are more than 4,294,967,295 bytes, and nothing was sent. Every
+    /// other error is the sink's.
     fn tls_serialize<W: Sink>(&self, writer: &mut W) -> Result<usize, Error> {
         opaque::write::<u32, W>(writer, self.0)
     }

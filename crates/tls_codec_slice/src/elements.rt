@@ -52,13 +52,13 @@ impl<'a, T: Size> Size for TlsSliceU8<'a, T> {
 
 impl<'a, T: Serialize> Serialize for TlsSliceU8<'a, T> {
     /// `InvalidVectorLength`: the elements have more than 255 bytes, and nothing was sent. Every
-    /// other refusal is an element's or the sink's.
+    /// other error is an element's or the sink's.
     fn tls_serialize<W: Sink>(&self, writer: &mut W) -> Result<usize, Error> {
         counted::write::<u8, T, W>(writer, self.0)
     }
 
     /// `InvalidVectorLength`: the elements have more than 255 bytes, or the vector would pass
-    /// `isize::MAX` bytes. Every other refusal is an element's, or `OutOfMemory`.
+    /// `isize::MAX` bytes. Every other error is an element's, or `OutOfMemory`.
     fn tls_serialize_into(&self, out: &mut Vec<u8>) -> Result<usize, Error> {
         counted::append::<u8, T>(out, self.0)
     }
@@ -130,13 +130,13 @@ impl<'a, T: Size> Size for TlsSliceU16<'a, T> {
 
 impl<'a, T: Serialize> Serialize for TlsSliceU16<'a, T> {
     /// `InvalidVectorLength`: the elements have more than 65,535 bytes, and nothing was sent. Every
-    /// other refusal is an element's or the sink's.
+    /// other error is an element's or the sink's.
     fn tls_serialize<W: Sink>(&self, writer: &mut W) -> Result<usize, Error> {
         counted::write::<u16, T, W>(writer, self.0)
     }
 
     /// `InvalidVectorLength`: the elements have more than 65,535 bytes, or the vector would pass
-    /// `isize::MAX` bytes. Every other refusal is an element's, or `OutOfMemory`.
+    /// `isize::MAX` bytes. Every other error is an element's, or `OutOfMemory`.
     fn tls_serialize_into(&self, out: &mut Vec<u8>) -> Result<usize, Error> {
         counted::append::<u16, T>(out, self.0)
     }
@@ -207,14 +207,14 @@ impl<'a, T: Size> Size for TlsSliceU24<'a, T> {
 }
 
 impl<'a, T: Serialize> Serialize for TlsSliceU24<'a, T> {
-    /// `InvalidVectorLength`: the elements have more than 16,777,215 bytes, and nothing was sent. Every
-    /// other refusal is an element's or the sink's.
+    /// `InvalidVectorLength`: the elements have more than 16,777,215 bytes, and nothing was sent.
+    /// Every other error is an element's or the sink's.
     fn tls_serialize<W: Sink>(&self, writer: &mut W) -> Result<usize, Error> {
         counted::write::<U24, T, W>(writer, self.0)
     }
 
-    /// `InvalidVectorLength`: the elements have more than 16,777,215 bytes, or the vector would pass
-    /// `isize::MAX` bytes. Every other refusal is an element's, or `OutOfMemory`.
+    /// `InvalidVectorLength`: the elements have more than 16,777,215 bytes, or the vector would
+    /// pass `isize::MAX` bytes. Every other error is an element's, or `OutOfMemory`.
     fn tls_serialize_into(&self, out: &mut Vec<u8>) -> Result<usize, Error> {
         counted::append::<U24, T>(out, self.0)
     }
@@ -285,14 +285,14 @@ impl<'a, T: Size> Size for TlsSliceU32<'a, T> {
 }
 
 impl<'a, T: Serialize> Serialize for TlsSliceU32<'a, T> {
-    /// `InvalidVectorLength`: the elements have more than 4,294,967,295 bytes, and nothing was sent. Every
-    /// other refusal is an element's or the sink's.
+    /// `InvalidVectorLength`: the elements have more than 4,294,967,295 bytes, and nothing was
+    /// sent. Every other error is an element's or the sink's.
     fn tls_serialize<W: Sink>(&self, writer: &mut W) -> Result<usize, Error> {
         counted::write::<u32, T, W>(writer, self.0)
     }
 
-    /// `InvalidVectorLength`: the elements have more than 4,294,967,295 bytes, or the vector would pass
-    /// `isize::MAX` bytes. Every other refusal is an element's, or `OutOfMemory`.
+    /// `InvalidVectorLength`: the elements have more than 4,294,967,295 bytes, or the vector would
+    /// pass `isize::MAX` bytes. Every other error is an element's, or `OutOfMemory`.
     fn tls_serialize_into(&self, out: &mut Vec<u8>) -> Result<usize, Error> {
         counted::append::<u32, T>(out, self.0)
     }

@@ -1,7 +1,8 @@
 //! Whether bytes begin with an encoding, and where it ends, without making its value.
 //!
-//! Validation asks for no memory: its calls are given no allocator. A decoder accepts the same bytes, if there is
-//! memory for the value, and every refusal here is one that the type's slice decoder names for these bytes.
+//! Validation asks for no memory: its calls are given no allocator. A decoder accepts the same
+//! bytes, if there is memory for the value, and every error here is one that the type's slice
+//! decoder names for these bytes.
 //!
 //! - [`Validate`]: the trait of every type with a decoder that no context decides. `T::tls_validate` is for all of the
 //!   bytes, `T::tls_validate_prefix` for the encoding that they begin with. `T::tls_deserialize_validated` makes the

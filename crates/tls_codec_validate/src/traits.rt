@@ -53,8 +53,8 @@ pub trait Validate: DeserializeBytes {
     /// The value that the bytes begin with, and the rest of them. They are validated first, so bytes that are rejected
     /// cost no memory at all.
     ///
-    /// `OutOfMemory`: allocation failed, and an encoding begins the bytes. Every other refusal is that of
-    /// [`tls_validate_prefix`](Validate::tls_validate_prefix).
+    /// `OutOfMemory`: allocation failed, and an encoding begins the bytes. Every other error is
+    /// that of [`tls_validate_prefix`](Validate::tls_validate_prefix).
     final fn tls_deserialize_validated_prefix(
         alloc: Global,
         bytes: &[u8],
@@ -73,8 +73,8 @@ pub trait Validate: DeserializeBytes {
     /// The value that all of the bytes encode. They are validated first, so bytes that are rejected
     /// cost no memory at all.
     ///
-    /// `OutOfMemory`: allocation failed, and the bytes are an encoding. Every other refusal is that of
-    /// [`tls_validate`](Validate::tls_validate).
+    /// `OutOfMemory`: allocation failed, and the bytes are an encoding. Every other error is that
+    /// of [`tls_validate`](Validate::tls_validate).
     final fn tls_deserialize_validated(alloc: Global, bytes: &[u8]) -> Result<Self, Error>
         ensures reads { ReadsWhole Self.format Self.plain bytes.now result }
         ensures named { IfErr result

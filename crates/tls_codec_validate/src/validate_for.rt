@@ -63,8 +63,8 @@ pub trait ValidateFor<X: Keyed>: DeserializeBytesFor<X> {
     /// The value that the bytes begin with in this context, and the rest of them. They are validated first, so bytes that
     /// are rejected cost no memory at all.
     ///
-    /// `OutOfMemory`: allocation failed, and an encoding begins the bytes. Every other refusal is that of
-    /// [`tls_validate_prefix_for`](ValidateFor::tls_validate_prefix_for).
+    /// `OutOfMemory`: allocation failed, and an encoding begins the bytes. Every other error is
+    /// that of [`tls_validate_prefix_for`](ValidateFor::tls_validate_prefix_for).
     final fn tls_deserialize_validated_prefix_for<'a>(
         context: &X,
         alloc: Global,
@@ -87,8 +87,8 @@ pub trait ValidateFor<X: Keyed>: DeserializeBytesFor<X> {
     /// The value that all of the bytes encode in this context. They are validated first, so bytes
     /// that are rejected cost no memory at all.
     ///
-    /// `OutOfMemory`: allocation failed, and the bytes are an encoding. Every other refusal is that of
-    /// [`tls_validate_for`](ValidateFor::tls_validate_for).
+    /// `OutOfMemory`: allocation failed, and the bytes are an encoding. Every other error is that
+    /// of [`tls_validate_for`](ValidateFor::tls_validate_for).
     final fn tls_deserialize_validated_for(
         context: &X,
         alloc: Global,

@@ -25,14 +25,14 @@ impl<F: LengthField, T: Size> Size for TlsVec<F, T> {
 }
 
 impl<F: LengthField, T: Serialize> Serialize for TlsVec<F, T> {
-    /// `InvalidVectorLength`: `F` doesn't hold the number of the elements' bytes, and nothing was sent.
-    /// Every other refusal is an element's or the sink's.
+    /// `InvalidVectorLength`: `F` doesn't hold the number of the elements' bytes, and nothing was
+    /// sent. Every other error is an element's or the sink's.
     fn tls_serialize<W: Sink>(&self, writer: &mut W) -> Result<usize, Error> {
         counted::write::<F, T, W>(writer, self.as_slice())
     }
 
-    /// `InvalidVectorLength`: `F` doesn't hold the number of the elements' bytes, or the vector would pass
-    /// `isize::MAX` bytes. Every other refusal is an element's, or `OutOfMemory`.
+    /// `InvalidVectorLength`: `F` doesn't hold the number of the elements' bytes, or the vector
+    /// would pass `isize::MAX` bytes. Every other error is an element's, or `OutOfMemory`.
     fn tls_serialize_into(&self, out: &mut Vec<u8>) -> Result<usize, Error> {
         counted::append::<F, T>(out, self.as_slice())
     }
@@ -42,8 +42,8 @@ impl<F: LengthField, T: Deserialize> Deserialize for TlsVec<F, T> {
     ghost names = { counted_list_source_names F.field T.format T.names };
 
     /// `EndOfStream`: there is no whole length, or an element passes the end that it declares.
-    /// `DecodingError("vector element consumed 0 bytes")`: an element takes no byte. Every other refusal
-    /// is an element's, the source's, or `OutOfMemory`.
+    /// `DecodingError("vector element consumed 0 bytes")`: an element takes no byte. Every other
+    /// error is an element's, the source's, or `OutOfMemory`.
     fn tls_deserialize<R: Source>(alloc: Global, bytes: &mut R) -> Result<TlsVec<F, T>, Error> {
         let elements = counted::read::<F, T, R>(alloc, bytes)?;
         Ok(TlsVec::new(elements))
@@ -53,9 +53,10 @@ impl<F: LengthField, T: Deserialize> Deserialize for TlsVec<F, T> {
 impl<F: LengthField, T: DeserializeBytes> DeserializeBytes for TlsVec<F, T> {
     ghost names = { counted_list_names F.field T.format T.names };
 
-    /// `EndOfStream`: there is no whole length. `DecodingError("elements do not fill the declared length")`:
-    /// an element passes the end that it declares. `DecodingError("vector element consumed 0 bytes")`: an
-    /// element takes no byte. Every other refusal is an element's, or `OutOfMemory`.
+    /// `EndOfStream`: there is no whole length.
+    /// `DecodingError("elements do not fill the declared length")`: an element passes the end that
+    /// it declares. `DecodingError("vector element consumed 0 bytes")`: an element takes no byte.
+    /// Every other error is an element's, or `OutOfMemory`.
     fn tls_deserialize_bytes(alloc: Global, bytes: &[u8]) -> Result<(TlsVec<F, T>, &[u8]), Error> {
         let (elements, rest) = counted::split::<F, T>(alloc, bytes)?;
         Ok((TlsVec::new(elements), rest))

@@ -8,8 +8,9 @@ use tls_codec_wire::Error;
 
 /// The elements that an iterator gives, in its order. It has to end.
 ///
-/// They are pushed one by one. No room is requested by the iterator's hint: if such a request is refused,
-/// std goes on. `OutOfMemory`: there was no memory for them, and those that it gave are dropped.
+/// They are pushed one by one. No room is requested by the iterator's hint: if such an allocation
+/// fails, std goes on. `OutOfMemory`: there was no memory for them, and those that it gave are
+/// dropped.
 pub fn collected<T: Drop, I: IntoIterator<Item = T>>(
     alloc: Global,
     iter: I,

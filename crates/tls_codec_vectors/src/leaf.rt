@@ -45,7 +45,7 @@ impl Serialize for Leaf {
 impl Deserialize for Leaf {
     ghost names = { ⟦<(u16, VLBytes) as Deserialize>⟧.names };
 
-    /// Every refusal is that of a field.
+    /// Every error is that of a field.
     fn tls_deserialize<R: Source>(alloc: Global, src: &mut R) -> Result<Leaf, Error> {
         let (code, name) = <(u16, VLBytes)>::tls_deserialize(alloc, src)?;
         Ok(Leaf { code, name })
@@ -55,7 +55,7 @@ impl Deserialize for Leaf {
 impl DeserializeBytes for Leaf {
     ghost names = { ⟦<(u16, VLBytes) as DeserializeBytes>⟧.names };
 
-    /// Every refusal is that of a field.
+    /// Every error is that of a field.
     fn tls_deserialize_bytes(alloc: Global, whole: &[u8]) -> Result<(Leaf, &[u8]), Error> {
         let ((code, name), rest) = <(u16, VLBytes)>::tls_deserialize_bytes(alloc, whole)?;
         Ok((Leaf { code, name }, rest))

@@ -31,8 +31,8 @@ impl Size for Log {
 }
 
 impl Serialize for Log {
-    /// `InvalidVectorLength`: the identity or the leaves have more bytes than their length counts. Every
-    /// other refusal is that of a field.
+    /// `InvalidVectorLength`: the identity or the leaves have more bytes than their length counts.
+    /// Every other error is that of a field.
     fn tls_serialize<W: Sink>(&self, writer: &mut W) -> Result<usize, Error> {
         (ByRef(&self.id), ByRef(&self.leaves), ByRef(&self.last)).tls_serialize(writer)
     }
@@ -45,7 +45,7 @@ impl Serialize for Log {
 impl Deserialize for Log {
     ghost names = { ⟦<(TlsByteVecU8, TlsVecU16<Leaf>, Option<Step>) as Deserialize>⟧.names };
 
-    /// Every refusal is that of a field.
+    /// Every error is that of a field.
     fn tls_deserialize<R: Source>(alloc: Global, src: &mut R) -> Result<Log, Error> {
         let (id, leaves, last) = <(TlsByteVecU8, TlsVecU16<Leaf>, Option<Step>)>::tls_deserialize(
             alloc, src,
@@ -57,7 +57,7 @@ impl Deserialize for Log {
 impl DeserializeBytes for Log {
     ghost names = { ⟦<(TlsByteVecU8, TlsVecU16<Leaf>, Option<Step>) as DeserializeBytes>⟧.names };
 
-    /// Every refusal is that of a field.
+    /// Every error is that of a field.
     fn tls_deserialize_bytes(alloc: Global, whole: &[u8]) -> Result<(Log, &[u8]), Error> {
         let ((id, leaves, last), rest) = <(
             TlsByteVecU8,

@@ -17,7 +17,7 @@ const NOTE: u8 = 1;
 
 const JUMP: u8 = 2;
 
-// The refusal of a tag that no step has.
+// The error for a tag that no step has.
 fn unknown(tag: u8) -> Error
     ensures { result ≡ Error.UnknownValue tag }
 {
@@ -79,8 +79,8 @@ impl Deserialize for Step {
         (variant_source_names 2 ⟦<u32 as Deserialize>⟧.names
         no_variant_source_names))) };
 
-    /// `UnknownValue`: no step has the tag. `EndOfStream`: no byte comes for it. Every other refusal is
-    /// that of what comes after the tag.
+    /// `UnknownValue`: no step has the tag. `EndOfStream`: no byte comes for it. Every other error
+    /// is that of what comes after the tag.
     fn tls_deserialize<R: Source>(alloc: Global, src: &mut R) -> Result<Step, Error> {
         let tag = u8::tls_deserialize(alloc, src)?;
         match tag {
@@ -105,8 +105,8 @@ impl DeserializeBytes for Step {
         (variant_names 2 ⟦<u32 as DeserializeBytes>⟧.names
         no_variant_names))) };
 
-    /// `UnknownValue`: no step has the tag. `EndOfStream`: there is no byte for it. Every other refusal
-    /// is that of what comes after the tag.
+    /// `UnknownValue`: no step has the tag. `EndOfStream`: there is no byte for it. Every other
+    /// error is that of what comes after the tag.
     fn tls_deserialize_bytes(alloc: Global, whole: &[u8]) -> Result<(Step, &[u8]), Error> {
         let (tag, rest) = u8::tls_deserialize_bytes(alloc, whole)?;
         match tag {

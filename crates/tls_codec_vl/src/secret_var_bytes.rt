@@ -159,7 +159,7 @@ impl<N> Size for SecretVarBytes<N> {
 
 impl<N> Serialize for SecretVarBytes<N> {
     /// `InvalidVectorLength`: there are more bytes than the greatest length, and nothing was sent.
-    /// Every other refusal is the sink's.
+    /// Every other error is the sink's.
     fn tls_serialize<W: Sink>(&self, writer: &mut W) -> Result<usize, Error> {
         self.0.tls_serialize(writer)
     }

@@ -173,7 +173,7 @@ impl<N> Size for VarBytes<N> {
 
 impl<N> Serialize for VarBytes<N> {
     /// `InvalidVectorLength`: there are more bytes than the greatest length, and nothing was sent.
-    /// Every other refusal is the sink's.
+    /// Every other error is the sink's.
     fn tls_serialize<W: Sink>(&self, writer: &mut W) -> Result<usize, Error> {
         opaque::write::<TlsVarInt, W>(writer, self.as_slice())
     }

@@ -55,7 +55,7 @@ impl<'a> Size for VLByteSlice<'a> {
 
 impl<'a> Serialize for VLByteSlice<'a> {
     /// `InvalidVectorLength`: there are more bytes than the greatest length, and nothing was sent.
-    /// Every other refusal is the sink's.
+    /// Every other error is the sink's.
     fn tls_serialize<W: Sink>(&self, writer: &mut W) -> Result<usize, Error> {
         opaque::write::<TlsVarInt, W>(writer, self.as_slice())
     }

@@ -22,7 +22,8 @@ pub enum Error {
     /// its field. Or a list's content passes its length field, or a vector would pass `isize::MAX`
     /// bytes.
     InvalidVectorLength,
-    /// Never returned; kept for users of the Rust crate.
+    /// Never returned by this library. It has the name and the number that callers of the Rust
+    /// crate and in other languages know.
     InvalidWriteLength(&'static str),
     /// A slice has another length than the array it was to become.
     InvalidInput,
@@ -36,7 +37,7 @@ pub enum Error {
     UnknownValue(u64),
     /// A number is too large for the type it was to become.
     LibraryError,
-    /// Memory was refused.
+    /// An allocation failed.
     OutOfMemory,
 }
 

@@ -17,10 +17,10 @@ const FIRST_ROOM: usize = 4096;
 
 /// A vector of the next `len` bytes.
 ///
-/// Room for bytes at hand is requested once. Else it is requested as they come: for 4,096 at first, and
-/// then for as many as came or are at hand. So a length without its bytes costs nothing.
-/// `InvalidVectorLength`: `len` is above `isize::MAX`, and nothing was taken. `OutOfMemory`: the source
-/// or the vector had none. Every other refusal, and interruptions, are as in
+/// Room for bytes at hand is requested once. Else it is requested as they come: for 4,096 at first,
+/// and then for as many as came or are at hand. So a length without its bytes costs nothing.
+/// `InvalidVectorLength`: `len` is above `isize::MAX`, and nothing was taken. `OutOfMemory`: the
+/// source or the vector had none. Every other error, and interruptions, are as in
 /// [`read_exactly`](crate::read_exactly).
 ///
 /// ```rust
@@ -87,8 +87,9 @@ fn are_at_hand(len: usize, at_hand: &[u8]) -> bool
 
 /// Appends the next `len` bytes to a vector, as they come.
 ///
-/// After a refusal the vector has all bytes that came. `EndOfStream`: these were all bytes to come. Every other
-/// refusal, the room that is requested, and interruptions are as in [`read_bytes_bounded`].
+/// After an error the vector has all bytes that came. `EndOfStream`: these were all bytes to come.
+/// Every other error, the room that is requested, and interruptions are as in
+/// [`read_bytes_bounded`].
 ///
 /// ```rust
 /// let mut src = [1u8, 2, 3].as_slice();

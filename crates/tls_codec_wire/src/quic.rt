@@ -59,7 +59,7 @@ pub fn split_varint(bytes: &[u8]) -> Result<(TlsVarInt, &[u8]), Error>
 
 /// Sends a number, and returns how many bytes that is.
 ///
-/// Every refusal is the sink's, as in [`write_all`](crate::write_all).
+/// Every error is the sink's, as in [`write_all`](crate::write_all).
 pub fn write_varint<W: Sink>(sink: &mut W, n: TlsVarInt) -> Result<usize, Error>
     ensures ok { IfOk result
         (SentNumber Varint (W.received sink.old) (W.received sink.new) (number_of n)) }

@@ -12,17 +12,17 @@ ghost use Rattle.tls_codec_wire.specs.declared.device.Fault.TheVariants.{Interru
 use crate::device::{Fault, Fill, Sink, Source};
 use crate::error::Error;
 
-/// How many interruptions in a row are tried again. A call that is interrupted once more is refused.
+/// How many interruptions in a row are tried again. A call that is interrupted once more fails.
 pub const MOST_INTERRUPTIONS: u8 = 16;
 
 /// Fills the buffer with the next bytes.
 ///
-/// If the source has them at hand, they are taken in one step. If it knows that there are fewer, none
-/// is taken. Else a call that is interrupted is tried again, up to [`MOST_INTERRUPTIONS`] times in a
-/// row; a call that moves a byte starts the row anew. `EndOfStream`: fewer bytes came than the buffer
-/// has room for. `DecodingError("read failed")`: the source failed, or was interrupted more often in a
-/// row. `OutOfMemory`: the source had none. After a refusal nothing is said of the buffer's content.
-/// An empty buffer makes no call.
+/// If the source has them at hand, they are taken in one step. If it knows that there are fewer,
+/// none is taken. Else a call that is interrupted is tried again, up to [`MOST_INTERRUPTIONS`]
+/// times in a row; a call that moves a byte starts the row anew. `EndOfStream`: fewer bytes came
+/// than the buffer has room for. `DecodingError("read failed")`: the source failed, or was
+/// interrupted more often in a row. `OutOfMemory`: the source had none. After an error nothing is
+/// said of the buffer's content. An empty buffer makes no call.
 ///
 /// ```rust
 /// let mut src = [1u8, 2, 3].as_slice();
@@ -110,7 +110,7 @@ pub fn expect_end<R: Source>(src: &mut R) -> Result<(), Error>
 ///
 /// A call that is interrupted is tried again, up to [`MOST_INTERRUPTIONS`] times in a row; a call
 /// that moves a byte starts the row anew. `EncodingError("write failed")`: the sink failed, took no
-/// byte, or was interrupted more often in a row. `OutOfMemory`: the sink had none. After a refusal
+/// byte, or was interrupted more often in a row. `OutOfMemory`: the sink had none. After an error
 /// the sink has received a prefix of the piece. An empty piece makes no call.
 ///
 /// ```rust

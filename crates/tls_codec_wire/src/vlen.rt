@@ -60,7 +60,7 @@ pub fn split_length(bytes: &[u8]) -> Result<(usize, &[u8]), Error>
 
 /// Sends a length, and returns how many bytes it has.
 ///
-/// `InvalidVectorLength`: it is above the greatest length, and nothing was sent. Every other refusal
+/// `InvalidVectorLength`: it is above the greatest length, and nothing was sent. Every other error
 /// is the sink's, as in [`write_all`](crate::write_all).
 ///
 /// ```rust
@@ -104,7 +104,7 @@ pub fn length_width(content_length: usize) -> usize
 /// how many bytes the length has.
 ///
 /// `InvalidVectorLength`: these are more bytes than the greatest length, or the vector would pass
-/// `isize::MAX` bytes. `OutOfMemory`: allocation failed. After a refusal the vector is as it was.
+/// `isize::MAX` bytes. `OutOfMemory`: allocation failed. After an error the vector is as it was.
 ///
 /// ```rust
 /// let mut out = Vec::from_slice(alloc, &[0xaa, 1, 2])?;

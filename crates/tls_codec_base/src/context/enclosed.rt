@@ -19,7 +19,7 @@ use tls_codec_wire::{Bounded, Error, Sink, Source};
 ///
 /// The length is rejected as in [`LengthField::split_length`], and bytes that are fewer than it
 /// says by [`LengthField::cut_off`]. `TrailingData`: a value was read, and a byte is left of what
-/// the length counts. Every other refusal is the value's.
+/// the length counts. Every other error is the value's.
 pub fn split_enclosed<'a, C: Size, F: LengthField, T: DeserializeBytesFor<C>>(
     context: &C,
     alloc: Global,
@@ -46,8 +46,8 @@ pub fn split_enclosed<'a, C: Size, F: LengthField, T: DeserializeBytesFor<C>>(
 /// The value that fills what the length `F` counts, read in a context. Only the length and what it counts are taken.
 ///
 /// The length is rejected as in [`LengthField::read_length`]. `TrailingData`: a value was read, and
-/// a byte is left of what the length counts. Every other refusal is the value's, which is read from
-/// a source that ends where the length says.
+/// a byte is left of what the length counts. Every other error is the value's, which is read from a
+/// source that ends where the length says.
 pub fn read_enclosed<C: Size, F: LengthField, T: DeserializeFor<C>, R: Source>(
     context: &C,
     alloc: Global,
@@ -106,11 +106,11 @@ fn filling_within<C: Size, T: DeserializeFor<C>, R: Source>(
     Ok(value)
 }
 
-/// Sends the length `F` of a value's shortest form, and that form, and returns how many bytes that is, saturated at
-/// `usize::MAX`.
+/// Sends the length `F` of a value's canonical encoding, and that encoding, and returns how many
+/// bytes that is, saturated at `usize::MAX`.
 ///
-/// `InvalidVectorLength`: the field doesn't hold the number of the form's bytes, and nothing was sent. Every other
-/// refusal is the value's or the sink's.
+/// `InvalidVectorLength`: the field doesn't hold the number of the encoding's bytes, and nothing
+/// was sent. Every other error is the value's or the sink's.
 pub fn write_enclosed<C: Size, F: LengthField, T: SerializeFor<C>, W: Sink>(
     context: &C,
     value: &T,
@@ -125,11 +125,11 @@ pub fn write_enclosed<C: Size, F: LengthField, T: SerializeFor<C>, W: Sink>(
     Ok(sent.saturating_add(width))
 }
 
-/// Appends the length `F` of a value's shortest form, and that form, to a vector, and returns how many bytes that is.
-/// After a refusal the vector has the bytes from before.
+/// Appends the length `F` of a value's canonical encoding, and that encoding, to a vector, and
+/// returns how many bytes that is. After an error the vector has the bytes from before.
 ///
-/// The refusals are those of [`write_enclosed`], or `OutOfMemory`; `InvalidVectorLength` is also a vector that would
-/// pass `isize::MAX` bytes.
+/// The errors are those of [`write_enclosed`], or `OutOfMemory`; `InvalidVectorLength` is also a
+/// vector that would pass `isize::MAX` bytes.
 pub fn append_enclosed<C: Size, F: LengthField, T: SerializeFor<C>>(
     context: &C,
     value: &T,

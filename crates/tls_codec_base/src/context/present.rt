@@ -10,7 +10,7 @@ use crate::traits::{Deserialize, DeserializeBytes, Serialize, Size};
 use std::alloc::Global;
 use tls_codec_wire::{Error, Sink, Source};
 
-/// The refusal of a value that isn't the one that its context asks for: it has no encoding there.
+/// The error for a value that isn't the one that its context asks for: it has no encoding there.
 pub fn misfit() -> Error
     ensures { DoesNotFit result }
 {
@@ -42,7 +42,8 @@ pub fn is_as_told<T: Size>(there: bool, value: &Option<T>) -> bool
     }
 }
 
-/// The number of bytes of a payload's shortest form, saturated at `usize::MAX`; 0 if there is none.
+/// The number of bytes of a payload's canonical encoding, saturated at `usize::MAX`; 0 if there is
+/// none.
 pub fn present_len<T: Size>(value: &Option<T>) -> usize
     ensures { result ≡ present_length T.format.announced (option_plain T.plain value.now) }
 {
@@ -82,8 +83,8 @@ pub fn write_present<T: Serialize, W: Sink>(
 
 /// Appends a payload that should be `there`, or nothing, and returns how many bytes that is.
 ///
-/// The refusals are those of [`write_present`], or `OutOfMemory`. After a refusal the vector has the bytes from
-/// before.
+/// The errors are those of [`write_present`], or `OutOfMemory`. After an error the vector has the
+/// bytes from before.
 pub fn append_present<T: Serialize>(
     there: bool,
     value: &Option<T>,
@@ -108,7 +109,7 @@ pub fn append_present<T: Serialize>(
     }
 }
 
-/// The payload if it should be `there`, read from a source. Every refusal is the payload's.
+/// The payload if it should be `there`, read from a source. Every error is the payload's.
 pub fn read_present<T: Deserialize, R: Source>(
     there: bool,
     alloc: Global,
@@ -126,8 +127,8 @@ pub fn read_present<T: Deserialize, R: Source>(
     Ok(None)
 }
 
-/// The payload if it should be `there`, which the bytes begin with, and the rest of them. Every refusal is the
-/// payload's.
+/// The payload if it should be `there`, which the bytes begin with, and the rest of them. Every
+/// error is the payload's.
 pub fn split_present<T: DeserializeBytes>(
     there: bool,
     alloc: Global,

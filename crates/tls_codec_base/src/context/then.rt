@@ -9,10 +9,11 @@ use crate::traits::{Deserialize, DeserializeBytes, Size};
 use std::alloc::Global;
 use tls_codec_wire::{Error, Source};
 
-/// A first part, and the rest, which is read in the first part's context.
+/// A first part, and the rest, which is read with the first part as its context.
 ///
-/// A message with a part that an earlier one decides is read as this pair and taken apart. It is written as
-/// [`ByRefThen`](crate::ByRefThen) or [`ByRefThen2`](crate::ByRefThen2).
+/// A decoder of a message in which one part decides the format of a later one reads this pair, and
+/// takes it apart. It is written as [`ByRefThen`](crate::ByRefThen) or
+/// [`ByRefThen2`](crate::ByRefThen2).
 #[derive(Drop)]
 pub struct Then<T, U> {
     /// The first part.

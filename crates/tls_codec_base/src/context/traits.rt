@@ -25,7 +25,8 @@ pub trait SizeFor<C: Size> {
     // What is said of its spellings, by what the context stands for.
     ghost format_for: { Tree → Format };
 
-    /// The number of bytes of the value's shortest form in this context, saturated at `usize::MAX`.
+    /// The number of bytes of the value's canonical encoding in this context, saturated at
+    /// `usize::MAX`.
     fn tls_serialized_len_for(&self, context: &C) -> usize
         ensures { result ≡ (format_for (C.plain context.now)).announced (plain self.now) };
 
@@ -37,16 +38,16 @@ pub trait SizeFor<C: Size> {
 /// `EncodingError("value does not fit its context")`: the value isn't the one that the context asks
 /// for, and has no encoding there.
 pub trait SerializeFor<C: Size>: SizeFor<C> {
-    /// Appends the value's shortest form in this context to what the sink has received, and returns how many bytes
-    /// that is, saturated at `usize::MAX`.
+    /// Appends the value's canonical encoding in this context to what the sink has received, and
+    /// returns how many bytes that is, saturated at `usize::MAX`.
     ///
     /// If a part doesn't fit, the sink may have received the parts before it. A vector has the bytes from before.
     fn tls_serialize_for<W: Sink>(&self, context: &C, writer: &mut W) -> Result<usize, Error>
         ensures writes { Writes (Self.format_for (C.plain context.now)) (Self.plain self.now) W.Sink
             writer.old writer.new result };
 
-    /// Appends the value's shortest form in this context to a vector, and returns how many bytes that is. After a
-    /// refusal the vector has the bytes from before.
+    /// Appends the value's canonical encoding in this context to a vector, and returns how many
+    /// bytes that is. After an error the vector has the bytes from before.
     fn tls_serialize_into_for(&self, context: &C, out: &mut Vec<u8>) -> Result<usize, Error>
         ensures appends { AppendsForm (Self.format_for (C.plain context.now)) (Self.plain self.now)
             out.old.items out.new.items result }
@@ -61,7 +62,7 @@ pub trait SerializeFor<C: Size>: SizeFor<C> {
         }
     }
 
-    /// The value's shortest form in this context.
+    /// The value's canonical encoding in this context.
     final fn tls_serialize_detached_for(&self, context: &C, alloc: Global) -> Result<Vec<u8>, Error>
         ensures makes { Makes (Self.format_for (C.plain context.now)) (Self.plain self.now) result }
     {
@@ -90,7 +91,7 @@ pub trait DeserializeFor<C: Size>: SizeFor<C> + Drop {
 
     /// The value that all of the bytes encode in this context, read as from a source.
     ///
-    /// `TrailingData`: a value was read, and a byte is left. Every other refusal is that of
+    /// `TrailingData`: a value was read, and a byte is left. Every other error is that of
     /// [`tls_deserialize_for`](DeserializeFor::tls_deserialize_for).
     final fn tls_deserialize_exact_for(
         context: &C,
@@ -130,7 +131,7 @@ pub trait DeserializeBytesFor<C: Size>: SizeFor<C> + Drop {
 
     /// The value that all of the bytes encode in this context.
     ///
-    /// `TrailingData`: a value was read, and a byte is left. Every other refusal is that of
+    /// `TrailingData`: a value was read, and a byte is left. Every other error is that of
     /// [`tls_deserialize_bytes_for`](DeserializeBytesFor::tls_deserialize_bytes_for).
     final fn tls_deserialize_exact_bytes_for(
         context: &C,

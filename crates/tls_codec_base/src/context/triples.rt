@@ -39,7 +39,7 @@ impl<C: Size, T: DeserializeFor<C>, U: DeserializeFor<C>, V: DeserializeFor<C>> 
     ghost names = { λ c. fields_source_names (T.format_for c) (T.names c)
         (fields_source_names (U.format_for c) (U.names c) (V.names c)) };
 
-    /// Every refusal is that of a part.
+    /// Every error is that of a part.
     fn tls_deserialize_for<R: Source>(
         context: &C,
         alloc: Global,
@@ -61,7 +61,7 @@ impl<
     ghost names = { λ c. fields_names (T.format_for c) (T.names c)
         (fields_names (U.format_for c) (U.names c) (V.names c)) };
 
-    /// Every refusal is that of a part.
+    /// Every error is that of a part.
     fn tls_deserialize_bytes_for<'a>(
         context: &C,
         alloc: Global,

@@ -25,8 +25,8 @@ impl<C: Size, T: SizeFor<C>> SizeFor<C> for Vec<T> {
 }
 
 impl<C: Size, T: SerializeFor<C>> SerializeFor<C> for Vec<T> {
-    /// `InvalidVectorLength`: the elements have more bytes than the greatest length, and nothing was
-    /// sent. Every other refusal is an element's or the sink's.
+    /// `InvalidVectorLength`: the elements have more bytes than the greatest length, and nothing
+    /// was sent. Every other error is an element's or the sink's.
     fn tls_serialize_for<W: Sink>(&self, context: &C, writer: &mut W) -> Result<usize, Error> {
         counted::write_for::<C, TlsVarInt, T, W>(context, writer, self.as_slice())
     }

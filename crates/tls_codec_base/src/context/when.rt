@@ -1,5 +1,5 @@
-//! [`When`]: a payload that is there if a context says so, as `case commit: MAC confirmation_tag;` of a select whose
-//! tag is elsewhere (RFC 9420, section 6).
+//! [`When`]: a payload that is there if a context says so, as `case commit: MAC confirmation_tag;`
+//! of a select whose tag is elsewhere (RFC 9420, section 6.1).
 ghost use Rattle.std.specs.Prelude.{◌≡◌, ℕ, Bool, false, is_none, is_some, if◌then◌else◌, List};
 ghost use Rattle.tls_codec_grammar.specs.Grammar.{Direction};
 ghost use Rattle.tls_codec_grammar.specs.Tree.{Tree, option_plain};

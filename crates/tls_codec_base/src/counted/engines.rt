@@ -84,7 +84,7 @@ pub(crate) fn append<F: LengthField, T, K: ElementWriter<T>>(
     }
 }
 
-// The same, but after a refusal more bytes may be left after those from before.
+// The same, but after an error more bytes may be left after those from before.
 fn append_after_gap<F: LengthField, T, K: ElementWriter<T>>(
     coding: &K,
     out: &mut Vec<u8>,

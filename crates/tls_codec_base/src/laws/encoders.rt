@@ -1,4 +1,4 @@
-//! An encoder refuses only what has no form.
+//! An encoder rejects only a value without an encoding.
 ghost use Rattle.std.specs.Prelude.{ℕ, ◌+◌, List, length};
 ghost use Rattle.tls_codec_wire.specs.Device.{Received};
 ghost use Rattle.tls_codec_wire.specs.Transfer.{WriteRefused};
@@ -11,8 +11,9 @@ ghost use Rattle.tls_codec_base.specs.Encoders.{NoVectorOf};
 use crate::traits::Size;
 use tls_codec_wire::Sink;
 
-/// A value that has a shortest form is refused only by the sink, which has received a prefix of it;
-/// because memory ran out; or because the vector, with what it had, would pass `isize::MAX` bytes.
+/// A value that has a canonical encoding is rejected only where the sink fails, which has received
+/// a prefix of it; because memory ran out; or because the vector, with what it had, would pass
+/// `isize::MAX` bytes.
 pub fn encoders_refuse_only_what_has_no_form<T: Size, W: Sink>()
     ensures sent { (form : List ℕ) (v : Tree) (old new : W) (e : Error)
         → IsShortest T.format.spells form v → Writes T.format v W.Sink old new (Err e)

@@ -1,4 +1,5 @@
-//! Which values are full: those that have a form and hold no nonempty list of a hollow type.
+//! Which values are full: those that have a canonical encoding and hold no nonempty list of a
+//! hollow type.
 ghost use Rattle.std.specs.Prelude.{◌≡◌, ◌↔◌, ◌⊎◌, ℕ, List};
 ghost use Rattle.tls_codec_grammar.specs.Format.{array_format, counted_bytes_format, counted_list_format, nothing_format, number_format, option_format, pair_format, text_format, triple_format, varint_format, with_memory};
 ghost use Rattle.tls_codec_grammar.specs.Grammar.{Reading};
@@ -20,9 +21,9 @@ pub fn each_value_is_full<F: LengthField>()
     ensures texts { (v : Tree) → IsFull text_format.spells v }
 {}
 
-/// A value that has a form is full exactly if the form is read as it. Options, pairs, triples,
-/// boxes and choices with a tag are full exactly if their parts are. A list is full exactly if it
-/// is empty, or its elements are full and their type isn't hollow.
+/// A value that has a canonical encoding is full exactly if that is read as it. Options, pairs,
+/// triples, boxes and choices with a tag are full exactly if their parts are. A list is full
+/// exactly if it is empty, or its elements are full and their type isn't hollow.
 pub fn full_values_have_full_parts<F: LengthField, T: Size, U: Size, V: Size>()
     ensures read { (form : List ℕ) (v : Tree) → IsShortest T.format.spells form v
         → (IsFull T.format.spells v ↔ T.format.spells Reading form v) }

@@ -1,4 +1,4 @@
-//! What a refusal says of the bytes of a source, whether it reports those to come or not.
+//! What an error says of the bytes of a source, whether it reports those to come or not.
 ghost use Rattle.std.specs.Prelude.{◌≡◌, ℕ, List, None, Some};
 ghost use Rattle.tls_codec_wire.specs.declared.error.Error.{Error};
 ghost use Rattle.tls_codec_grammar.specs.Decoding.{LeavesSource, Named, RefusesSource};
@@ -9,8 +9,8 @@ ghost use Rattle.tls_codec_base.specs.Refusals.{SawSpelling};
 use crate::traits::Deserialize;
 use tls_codec_wire::Source;
 
-/// A source that reports the bytes to come is refused for those. One that never reports any, such
-/// as a file or a socket, is refused for the bytes that it gave: no prefix of them is an encoding,
+/// A source that reports the bytes to come is rejected for those. One that never reports any, such
+/// as a file or a socket, is rejected for the bytes that it gave: no prefix of them is an encoding,
 /// a fault was counted, or memory ran out.
 ///
 /// What is read to the end of a source is all that was to come, or all that was given.

@@ -30,8 +30,8 @@ pub fn content_len<T: Size>(elements: &[T]) -> Result<usize, Error>
     engines::content_len(&Alone, elements)
 }
 
-/// Sends the elements' shortest forms in a row, without a length, and returns how many bytes that
-/// is, saturated at `usize::MAX`.
+/// Sends the elements' canonical encodings in a row, without a length, and returns how many bytes
+/// that is, saturated at `usize::MAX`.
 ///
 /// ```rust
 /// let mut out = Vec::new(alloc);
@@ -45,10 +45,10 @@ pub fn write<T: Serialize, W: Sink>(sink: &mut W, elements: &[T]) -> Result<usiz
     engines::write(&Alone, sink, elements)
 }
 
-/// Appends the elements' shortest forms in a row, without a length, and returns how many bytes that
-/// is.
+/// Appends the elements' canonical encodings in a row, without a length, and returns how many bytes
+/// that is.
 ///
-/// A refusal is an element's, and leaves the vector's bytes as they were.
+/// An error is an element's, and leaves the vector's bytes as they were.
 ///
 /// ```rust
 /// let mut out = Vec::from_slice(alloc, &[9])?;
@@ -62,11 +62,11 @@ pub fn append<T: Serialize>(out: &mut Vec<u8>, elements: &[T]) -> Result<usize, 
     engines::append(&Alone, out, elements)
 }
 
-/// Appends the elements' shortest forms in a row, each made by `tls_serialize_bytes`, and returns how
-/// many bytes that is.
+/// Appends the elements' canonical encodings in a row, each made by `tls_serialize_bytes`, and
+/// returns how many bytes that is.
 ///
-/// A refusal is an element's, or `InvalidVectorLength` if the vector would pass `isize::MAX` bytes. It
-/// leaves the vector's bytes as they were.
+/// An error is an element's, or `InvalidVectorLength` if the vector would pass `isize::MAX` bytes.
+/// It leaves the vector's bytes as they were.
 pub fn append_bytes<T: SerializeBytes>(
     alloc: Global,
     out: &mut Vec<u8>,
@@ -100,7 +100,7 @@ fn append_each_form<T: SerializeBytes>(
     Ok(out.len() - at)
 }
 
-// Appends the shortest form of one element, and returns how many bytes that is.
+// Appends the canonical encoding of one element, and returns how many bytes that is.
 fn append_form<T: SerializeBytes>(
     alloc: Global,
     out: &mut Vec<u8>,

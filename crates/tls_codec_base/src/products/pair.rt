@@ -45,7 +45,7 @@ impl<T: Serialize, U: Serialize> Serialize for (T, U) {
 impl<T: Deserialize, U: Deserialize> Deserialize for (T, U) {
     ghost names = { fields_source_names T.format T.names U.names };
 
-    /// Every refusal is that of a part.
+    /// Every error is that of a part.
     fn tls_deserialize<R: Source>(alloc: Global, bytes: &mut R) -> Result<(T, U), Error> {
         let first = T::tls_deserialize(alloc, bytes)?;
         let second = U::tls_deserialize(alloc, bytes)?;
@@ -56,7 +56,7 @@ impl<T: Deserialize, U: Deserialize> Deserialize for (T, U) {
 impl<T: DeserializeBytes, U: DeserializeBytes> DeserializeBytes for (T, U) {
     ghost names = { fields_names T.format T.names U.names };
 
-    /// Every refusal is that of a part.
+    /// Every error is that of a part.
     fn tls_deserialize_bytes(alloc: Global, bytes: &[u8]) -> Result<((T, U), &[u8]), Error> {
         let (first, rest) = T::tls_deserialize_bytes(alloc, bytes)?;
         let (second, rest) = U::tls_deserialize_bytes(alloc, rest)?;

@@ -55,7 +55,7 @@ impl<T: Deserialize, U: Deserialize, V: Deserialize> Deserialize for (T, U, V) {
     ghost names = { fields_source_names T.format T.names
         (fields_source_names U.format U.names V.names) };
 
-    /// Every refusal is that of a part.
+    /// Every error is that of a part.
     fn tls_deserialize<R: Source>(alloc: Global, bytes: &mut R) -> Result<(T, U, V), Error> {
         let first = T::tls_deserialize(alloc, bytes)?;
         let second = U::tls_deserialize(alloc, bytes)?;
@@ -67,7 +67,7 @@ impl<T: Deserialize, U: Deserialize, V: Deserialize> Deserialize for (T, U, V) {
 impl<T: DeserializeBytes, U: DeserializeBytes, V: DeserializeBytes> DeserializeBytes for (T, U, V) {
     ghost names = { fields_names T.format T.names (fields_names U.format U.names V.names) };
 
-    /// Every refusal is that of a part.
+    /// Every error is that of a part.
     fn tls_deserialize_bytes(alloc: Global, bytes: &[u8]) -> Result<((T, U, V), &[u8]), Error> {
         let (first, rest) = T::tls_deserialize_bytes(alloc, bytes)?;
         let (second, rest) = U::tls_deserialize_bytes(alloc, rest)?;

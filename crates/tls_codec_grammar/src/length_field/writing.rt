@@ -16,7 +16,7 @@ const LEAST_ROOM: usize = 8;
 
 /// Sends a length, and returns how many bytes it has.
 ///
-/// `InvalidVectorLength`: the field doesn't hold it, and nothing was sent. Every other refusal is the
+/// `InvalidVectorLength`: the field doesn't hold it, and nothing was sent. Every other error is the
 /// sink's, as in [`write_all`].
 pub fn write_length<F: LengthField, W: Sink>(
     sink: &mut W,
@@ -148,7 +148,7 @@ fn append_one(out: &mut Vec<u8>, byte: u8) -> Result<(), AllocError>
 /// has. The bytes after the gap are moved only if the gap has another width.
 ///
 /// `InvalidVectorLength`: the field doesn't hold their number, or the vector would pass
-/// `isize::MAX` bytes. `OutOfMemory`: allocation failed for a wider length. After a refusal the
+/// `isize::MAX` bytes. `OutOfMemory`: allocation failed for a wider length. After an error the
 /// bytes before the gap are as they were.
 #[inline(always)]
 pub fn fill_gap<F: LengthField>(out: &mut Vec<u8>, at: usize, gap: usize) -> Result<usize, Error>

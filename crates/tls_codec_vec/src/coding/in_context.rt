@@ -26,8 +26,8 @@ impl<C: Size, F: LengthField, T: SizeFor<C>> SizeFor<C> for TlsVec<F, T> {
 }
 
 impl<C: Size, F: LengthField, T: SerializeFor<C>> SerializeFor<C> for TlsVec<F, T> {
-    /// `InvalidVectorLength`: `F` doesn't hold the number of the elements' bytes, and nothing was sent.
-    /// Every other refusal is an element's or the sink's.
+    /// `InvalidVectorLength`: `F` doesn't hold the number of the elements' bytes, and nothing was
+    /// sent. Every other error is an element's or the sink's.
     fn tls_serialize_for<W: Sink>(&self, context: &C, writer: &mut W) -> Result<usize, Error> {
         counted::write_for::<C, F, T, W>(context, writer, self.as_slice())
     }

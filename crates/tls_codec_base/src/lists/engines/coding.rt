@@ -29,17 +29,17 @@ pub(crate) trait ElementCoding<T> {
     // What is said of its spellings.
     ghost format: { Self → Format };
 
-    /// The number of bytes of the element's shortest form, saturated at `usize::MAX`.
+    /// The number of bytes of the element's canonical encoding, saturated at `usize::MAX`.
     fn element_len(&self, element: &T) -> usize
         ensures { result ≡ (format self.now).announced (plain element.now) };
 
-    /// The number of bytes of each element's shortest form, if all have the same number. `None` if
-    /// they don't, or if that isn't known.
+    /// The number of bytes of each element's canonical encoding, if all have the same number.
+    /// `None` if they don't, or if that isn't known.
     fn fixed_len(&self) -> Option<usize>
         ensures { IfSome result (λ n. (v : T) → (format self.now).announced (plain v) ≡ n) };
 
-    /// Sends the elements' shortest forms in a row. `None` if such elements are sent one by one;
-    /// then nothing is sent.
+    /// Sends the elements' canonical encodings in a row. `None` if such elements are sent one by
+    /// one; then nothing is sent.
     fn send_at_once<W: Sink>(&self, elements: &[T], sink: &mut W) -> Result<Option<usize>, Error>
         ensures { AllSent (format self.now) (trees plain elements.now) W.Sink sink.old sink.new
             result };
@@ -49,13 +49,13 @@ pub(crate) trait ElementCoding<T> {
 
 /// A way in which elements are written.
 pub(crate) trait ElementWriter<T>: ElementCoding<T> {
-    /// Sends the element's shortest form.
+    /// Sends the element's canonical encoding.
     fn write_element<W: Sink>(&self, element: &T, sink: &mut W) -> Result<usize, Error>
         ensures writes { Writes (Self.format self.now) (Self.plain element.now) W.Sink sink.old
             sink.new result };
 
-    /// Appends the element's shortest form to a vector. After a refusal the vector has the bytes from
-    /// before.
+    /// Appends the element's canonical encoding to a vector. After an error the vector has the
+    /// bytes from before.
     fn append_element(&self, element: &T, out: &mut Vec<u8>) -> Result<usize, Error>
         ensures appends { AppendsForm (Self.format self.now) (Self.plain element.now) out.old.items
             out.new.items result };
