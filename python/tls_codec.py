@@ -1,8 +1,8 @@
-"""Whether bytes are a message of TLS 1.3 or MLS, told by the static libraries of this repository in one shared object.
+"""Validates messages of TLS 1.3 and MLS by the static libraries of this repository, linked as one shared object.
 
     cc -shared -o libtls_codec.so -Wl,--whole-archive libmls_c.a libtls13_c.a libtls_codec_c.a -Wl,--no-whole-archive
 
-The decoders want libmls_check_c.a, libtls13_check_c.a and libtls_codec_heap.a in it too.
+The decoders need libmls_check_c.a, libtls13_check_c.a and libtls_codec_heap.a in it too.
 
     codec = Codec("./libtls_codec.so")
     message, rest = codec.split("mls_key_package", data)

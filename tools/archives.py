@@ -2,7 +2,7 @@
 """archives.py [FOLDER [TARGET]]: proves the static libraries and puts their archives into a folder, c/out if none is given.
 
 They are built over the libraries that `rt ci` left in crates/*/out/rlib. Where some aren't there, `rt lib` proves and builds all that
-is wanted, which takes longer. Beside them lies libtls_codec_heap.a, which decoders want: malloc and free by the names by which Rattle calls
+is wanted, which takes longer. Beside them lies libtls_codec_heap.a, which decoders need: malloc and free by the names by which Rattle calls
 them. TARGET is x86_64-unknown-linux-gnu if none is given. For aarch64-unknown-linux-gnu the kit has no such heap.
 """
 from __future__ import annotations
@@ -19,7 +19,7 @@ from libraries import CRATES, TOP, Libraries
 HEAP = "libtls_codec_heap.a"
 TARGET = "x86_64-unknown-linux-gnu"
 # Up to which cost LLVM copies a function into its callers; its own bound is 225. Messages of one archive share the validators of their
-# parts, and by that bound most of these stay functions of their own (docs/CALLERS.md, Figures).
+# parts, and by that bound most of these stay functions of their own (docs/DECISIONS.md, "How are the archives compiled?").
 INLINED = 1500
 
 

@@ -1,7 +1,8 @@
 #!/usr/bin/env python3
-"""Lists words of this project's dialect in its pages, with what to write in their place: those at the top and docs/*.md.
+"""Lists words of this project's dialect, with what to write in their place: in the pages, those at the top and docs/*.md, and in the
+comments of what users read: the library, `guide`, `mls` and its siblings, the Rust crate.
 
-Words in `code`, in blocks and in links' targets don't count. Prints a line for each; last 'N passed, N failed', which counts pages; the
+Words in `code`, in blocks and in links' targets don't count. Prints a line for each; last 'N passed, N failed', which counts files; the
 exit status is 1 if one failed. To find more, add a line to WORDS.
 """
 import pathlib
@@ -9,8 +10,9 @@ import re
 import sys
 
 TOP = pathlib.Path(__file__).resolve().parent.parent
-# pages that aren't rewritten yet
-NOT_YET = set()
+PAGES = ("*.md", "docs/*.md")
+SOURCES = ("rust/src/*.rs", "rust/tests/*.rs", "crates/tls_codec*/src/**/*.rt", "crates/guide/src/*.rt", "crates/mls*/src/*.rt")
+COMMENT = re.compile(r"\s*//[/!]?(.*)$")
 
 WORDS = {
     r"(?:of|by|over|upon) (?:which|whom)": "a sentence of its own, or `whose`",
@@ -55,23 +57,28 @@ def prose(text):
     return "\n".join(lines)
 
 
+def comments(text):
+    """The comments of a source, line for line."""
+    found = [COMMENT.match(line) for line in text.split("\n")]
+    return "\n".join(it[1] if it else "" for it in found)
+
+
 def findings(page):
-    """Each word of the dialect in a page: its line, the word, and what is better."""
-    text = prose(page.read_text())
+    """Each word of the dialect in a page, or in a source's comments: its line, the word, and what is better."""
+    text = page.read_text()
+    text = prose(text if page.suffix == ".md" else comments(text))
     for found in PATTERN.finditer(re.sub(r"\n", " ", text)):
         line = text.count("\n", 0, found.start()) + 1
         yield line, found[0], BETTER[found.lastindex - 1]
 
 
-def pages():
-    for page in [*sorted(TOP.glob("*.md")), *sorted((TOP / "docs").glob("*.md"))]:
-        if page.relative_to(TOP).as_posix() not in NOT_YET:
-            yield page
+def files(forms):
+    return [file for form in forms for file in sorted(TOP.glob(form))]
 
 
 def main():
     passed, failed = 0, 0
-    for page in pages():
+    for page in files((*PAGES, *SOURCES)):
         found = list(findings(page))
         for line, word, better in found:
             print(f"{page.relative_to(TOP)}:{line}: {word!r}: {better}")

@@ -23,7 +23,10 @@ C = {"u16": "uint16_t", "u32": "uint32_t", "u64": "uint64_t", "usize": "size_t"}
 # The libraries whose structs cross, and what their names begin with in C.
 STRUCTS = {"tls_codec_outcome": "tls_codec", "mls_fields": "mls", "tls13_fields": "tls13"}
 LONGEST = 100
-SAFE = "so many bytes are at the pointer, and nothing changes them during the call, which keeps no pointer."
+SAFE = "the pointer is of as many bytes as the length says, and nothing changes them during the call, which keeps no pointer."
+# What a call does, in C, by the end of its name; and what is put before its text in the source, or in place of the words there.
+ASKED = {"_validate": ": whether the bytes begin with one.", "_check": ": whether the bytes begin with one, by the decoder."}
+FOUND = re.compile(r"(its fields are|its content is)\.")
 
 
 class Unread(Exception):
@@ -38,6 +41,15 @@ class Export:
     text: str
     parameters: list[tuple[str, str]]
     result: str
+
+    def in_c(self) -> str:
+        """What the call does, as a header says it."""
+        asked = ASKED.get("_" + self.name.rpartition("_")[2])
+        return self.text.removesuffix(".") + asked if asked else FOUND.sub(r"\1, if the bytes begin with one.", self.text)
+
+    def message(self) -> str:
+        """The message, or what else is found, with the section of its RFC."""
+        return re.split(r", and where |: the next one", self.text.removesuffix("."))[0]
 
     def prototype(self) -> str:
         words = [word for name, kind in self.parameters for word in in_c(name, kind)]
@@ -124,7 +136,7 @@ def libraries() -> list[str]:
 
 
 def decoders() -> list[str]:
-    """Those that want a heap."""
+    """Those that need a heap."""
     return [it for it in libraries() if it.endswith("_check_c")]
 
 
@@ -208,7 +220,7 @@ def header(crate: str) -> str:
     for it in structs():
         body += ["", *struct_in_c(it)] if it in taken and structs()[it].crate != "tls_codec_outcome" else []
     for it in exports_of(crate):
-        body += ["", *comment(it.text), it.prototype()]
+        body += ["", *comment(it.in_c()), it.prototype()]
     return guarded(name, crate, [*body, "", "#ifdef __cplusplus", "}", "#endif"])
 
 
@@ -236,25 +248,24 @@ def taken_by(export: Export) -> str:
 def found_in_rust(export: Export, name: str, text: str, kinds: tuple[str, str, str]) -> list[str]:
     """The function that finds one thing: its type, what is passed to be filled, and what is returned of that."""
     returned, filled, found = kinds
-    lines = ["", f"    /// {export.text} {text}, and the rest of the bytes.", f"    pub fn {name}(bytes: &[u8]) -> Result<({returned}, &[u8]), Rejected> {{"]
+    lines = ["", f"    /// {export.text} Returns {text}, and the rest of the bytes.", f"    pub fn {name}(bytes: &[u8]) -> Result<({returned}, &[u8]), Rejected> {{"]
     lines += [f"        let mut found = {filled};", f"        // SAFETY: {SAFE}"]
     lines += [f"        let said = unsafe {{ foreign::{export.name}(bytes.as_ptr(), bytes.len(), &mut found) }};"]
     return [*lines, "        let (_, rest) = split_as(bytes, said)?;", f"        Ok(({found}, rest))", "    }"]
 
 
 def content_in_rust(export: Export, name: str) -> list[str]:
-    return found_in_rust(export, name, "That content", ("&[u8]", "Span::default()", "found.of(bytes)"))
+    return found_in_rust(export, name, "that content", ("&[u8]", "Span::default()", "found.of(bytes)"))
 
 
 def kind_in_rust(export: Export, name: str) -> list[str]:
     kind = taken_by(export)
-    return found_in_rust(export, name, "Its number", (kind, f"0{kind}", "found"))
+    return found_in_rust(export, name, "that number", (kind, f"0{kind}", "found"))
 
 
 def elements_in_rust(export: Export, name: str) -> list[str]:
     """The iterator over the elements of a list."""
-    text = export.text.partition(": the next one")[0]
-    lines = ["", f"    /// {text}: each of a list, of which these are the bytes after its length."]
+    lines = ["", f"    /// {export.message()}: an iterator over a list's elements. `content` is the list without its length."]
     return [*lines, f"    pub fn {name}_elements(content: &[u8]) -> Elements<'_> {{", f"        Elements::of(content, foreign::{export.name})", "    }"]
 
 
@@ -267,7 +278,7 @@ def located_in_rust(module: str, export: Export) -> list[str]:
     lines = ["", f"    /// {it.text}", "    #[derive(Clone, Copy, PartialEq, Eq, Debug)]", f"    pub struct {kind}<'a> {{"]
     for text, field, _ in it.fields:
         lines += [f"        /// {text}", f"        pub {field}: &'a [u8],"]
-    lines += ["    }", "", f"    /// {export.text} Of the message that the bytes begin with; and the rest of them.", f"    pub fn {name}(bytes: &[u8]) -> Result<({kind}<'_>, &[u8]), Rejected> {{"]
+    lines += ["    }", "", f"    /// {export.message()}: returns the fields of the one that `bytes` begin with, and the rest.", f"    pub fn {name}(bytes: &[u8]) -> Result<({kind}<'_>, &[u8]), Rejected> {{"]
     lines += [f"        let mut found = foreign::{kind}::default();"]
     lines += [f"        // SAFETY: {SAFE}"]
     lines += [f"        let said = unsafe {{ foreign::{export.name}(bytes.as_ptr(), bytes.len(), &mut found) }};"]
@@ -282,8 +293,8 @@ def encoder_in_rust(export: Export, name: str) -> list[str]:
     kinds = dict(export.parameters)
     passed = [f"{it}.as{'_mut' if kinds[it] == '&mut [u8]' else ''}_ptr(), {it}.len()" if kinds[it].endswith("[u8]") else it for it in taken]
     parameters = ", ".join(f"{it}: {kind}" for it, kind in export.parameters).replace("&mut [u8]", "&'a mut [u8]")
-    lines = ["", f"    /// {export.text} It returns all bytes that are written, if they are accepted.", f"    pub fn {name}<'a>({parameters}) -> Result<&'a [u8], Rejected> {{"]
-    lines += ["        // SAFETY: so many bytes are at each pointer, and nothing else changes or reads them during the call, which keeps none."]
+    lines = ["", f"    /// {export.text} Returns the written bytes, if they are accepted.", f"    pub fn {name}<'a>({parameters}) -> Result<&'a [u8], Rejected> {{"]
+    lines += ["        // SAFETY: each pointer is of as many bytes as its length says, and nothing else changes or reads them during the call, which keeps none."]
     lines += [f"        let said = unsafe {{ foreign::{export.name}({', '.join(passed)}) }};"]
     sizes = [f"{it}.len()" for it in taken if kinds[it] == "&[u8]"]
     return [*lines, f"        written_as(out, 4 + {' + '.join(sizes)}, said)", "    }"]
@@ -297,7 +308,7 @@ def decoders_in_rust(crate: str) -> list[str]:
     body += ['        unsafe extern "C" {', *[f"            {it.declaration()}" for it in exports], "        }", "    }"]
     for it in exports:
         short = it.name.removesuffix("_check").removeprefix(f"{name.removesuffix('_check')}_")
-        body += ["", f"    /// {it.text} The message that the bytes begin with, and the rest of them."]
+        body += ["", f"    /// {it.message()}: returns the bytes of the one that `bytes` begin with, and the rest, by the decoder."]
         body += [f"    pub fn {short}(bytes: &[u8]) -> Result<(&[u8], &[u8]), Error> {{", f"        decode(bytes, foreign::{it.name})", "    }"]
     return [*body, "}"]
 
@@ -327,7 +338,7 @@ def module_in_rust(crate: str) -> list[str]:
     body += ["        }", "    }"]
     for it in whole:
         short = it.name.removesuffix("_validate").removeprefix(f"{name}_")
-        body += ["", f"    /// {it.text} The message that the bytes begin with, and the rest of them."]
+        body += ["", f"    /// {it.message()}: returns the bytes of the one that `bytes` begin with, and the rest."]
         body += [f"    pub fn {short}(bytes: &[u8]) -> Result<(&[u8], &[u8]), Rejected> {{"]
         body += [f"        split(bytes, foreign::{it.name})", "    }"]
     for it in located:

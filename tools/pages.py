@@ -155,11 +155,15 @@ def main():
         found = [*check_quotes(lines, files), *check_links(page, lines), *check_merged(lines)]
         if page.name != "CHANGELOG.md":
             found += check_names(lines, words)
-        if page.relative_to(TOP).as_posix() not in dialect.NOT_YET:
-            found += ((number, f"{word!r}: {better}") for number, word, better in dialect.findings(page))
+        found += ((number, f"{word!r}: {better}") for number, word, better in dialect.findings(page))
         for number, text in sorted(found):
             print(f"{page.relative_to(TOP)}:{number}: {text}")
             failed.add(page)
+    commented = dialect.files(dialect.SOURCES)
+    for source in commented:
+        for number, word, better in dialect.findings(source):
+            print(f"{source.relative_to(TOP)}:{number}: {word!r}: {better}")
+            failed.add("comments")
     for text in reading.findings()[0]:
         print(text)
         failed.add(TOP / "docs/MAP.md")
@@ -167,8 +171,10 @@ def main():
         if (TOP / "docs" / name).read_text() != draw(False).svg():
             print(f"docs/{name}: not as tools/pictures.py draws it")
             failed.add(name)
-    print(f"{len(PAGES)} pages and {len(pictures.PICTURES)} pictures were compared with the crates")
-    print(f"{len(PAGES) + len(pictures.PICTURES) - len(failed)} passed, {len(failed)} failed")
+    # (the sources count as one)
+    read = len(PAGES) + len(pictures.PICTURES) + 1
+    print(f"{len(PAGES)} pages and {len(pictures.PICTURES)} pictures were compared with the crates, and the words of {len(commented)} sources read")
+    print(f"{read - len(failed)} passed, {len(failed)} failed")
     return 1 if failed else 0
 
 

@@ -82,42 +82,42 @@ pub mod tls_codec {
         }
     }
 
-    /// A variable-length integer (RFC 9000, section 16) in its least width. The message that the bytes begin with, and the rest of them.
+    /// A variable-length integer (RFC 9000, section 16) in its least width: returns the bytes of the one that `bytes` begin with, and the rest.
     pub fn varint(bytes: &[u8]) -> Result<(&[u8], &[u8]), Rejected> {
         split(bytes, foreign::tls_codec_varint_validate)
     }
 
-    /// `opaque content<V>` (RFC 9420, section 2.1.2), and where its content is. A list `<V>` has its elements there. That content, and the rest of the bytes.
+    /// `opaque content<V>` (RFC 9420, section 2.1.2), and where its content is. A list `<V>` has its elements there. Returns that content, and the rest of the bytes.
     pub fn opaque_v_locate(bytes: &[u8]) -> Result<(&[u8], &[u8]), Rejected> {
         let mut found = Span::default();
-        // SAFETY: so many bytes are at the pointer, and nothing changes them during the call, which keeps no pointer.
+        // SAFETY: the pointer is of as many bytes as the length says, and nothing changes them during the call, which keeps no pointer.
         let said = unsafe { foreign::tls_codec_opaque_v_locate(bytes.as_ptr(), bytes.len(), &mut found) };
         let (_, rest) = split_as(bytes, said)?;
         Ok((found.of(bytes), rest))
     }
 
-    /// `opaque content<0..2^8-1>` (RFC 8446, section 3.4), and where its content is. That content, and the rest of the bytes.
+    /// `opaque content<0..2^8-1>` (RFC 8446, section 3.4), and where its content is. Returns that content, and the rest of the bytes.
     pub fn opaque_u8_locate(bytes: &[u8]) -> Result<(&[u8], &[u8]), Rejected> {
         let mut found = Span::default();
-        // SAFETY: so many bytes are at the pointer, and nothing changes them during the call, which keeps no pointer.
+        // SAFETY: the pointer is of as many bytes as the length says, and nothing changes them during the call, which keeps no pointer.
         let said = unsafe { foreign::tls_codec_opaque_u8_locate(bytes.as_ptr(), bytes.len(), &mut found) };
         let (_, rest) = split_as(bytes, said)?;
         Ok((found.of(bytes), rest))
     }
 
-    /// `opaque content<0..2^16-1>`, and where its content is. That content, and the rest of the bytes.
+    /// `opaque content<0..2^16-1>`, and where its content is. Returns that content, and the rest of the bytes.
     pub fn opaque_u16_locate(bytes: &[u8]) -> Result<(&[u8], &[u8]), Rejected> {
         let mut found = Span::default();
-        // SAFETY: so many bytes are at the pointer, and nothing changes them during the call, which keeps no pointer.
+        // SAFETY: the pointer is of as many bytes as the length says, and nothing changes them during the call, which keeps no pointer.
         let said = unsafe { foreign::tls_codec_opaque_u16_locate(bytes.as_ptr(), bytes.len(), &mut found) };
         let (_, rest) = split_as(bytes, said)?;
         Ok((found.of(bytes), rest))
     }
 
-    /// `opaque content<0..2^24-1>`, and where its content is. That content, and the rest of the bytes.
+    /// `opaque content<0..2^24-1>`, and where its content is. Returns that content, and the rest of the bytes.
     pub fn opaque_u24_locate(bytes: &[u8]) -> Result<(&[u8], &[u8]), Rejected> {
         let mut found = Span::default();
-        // SAFETY: so many bytes are at the pointer, and nothing changes them during the call, which keeps no pointer.
+        // SAFETY: the pointer is of as many bytes as the length says, and nothing changes them during the call, which keeps no pointer.
         let said = unsafe { foreign::tls_codec_opaque_u24_locate(bytes.as_ptr(), bytes.len(), &mut found) };
         let (_, rest) = split_as(bytes, said)?;
         Ok((found.of(bytes), rest))
@@ -270,62 +270,62 @@ pub mod tls13 {
         }
     }
 
-    /// `TLSPlaintext` (RFC 8446, section 5.1). The message that the bytes begin with, and the rest of them.
+    /// `TLSPlaintext` (RFC 8446, section 5.1): returns the bytes of the one that `bytes` begin with, and the rest.
     pub fn tls_plaintext(bytes: &[u8]) -> Result<(&[u8], &[u8]), Rejected> {
         split(bytes, foreign::tls13_tls_plaintext_validate)
     }
 
-    /// `TLSCiphertext` (RFC 8446, section 5.2). The message that the bytes begin with, and the rest of them.
+    /// `TLSCiphertext` (RFC 8446, section 5.2): returns the bytes of the one that `bytes` begin with, and the rest.
     pub fn tls_ciphertext(bytes: &[u8]) -> Result<(&[u8], &[u8]), Rejected> {
         split(bytes, foreign::tls13_tls_ciphertext_validate)
     }
 
-    /// `Alert` (RFC 8446, section 6). The message that the bytes begin with, and the rest of them.
+    /// `Alert` (RFC 8446, section 6): returns the bytes of the one that `bytes` begin with, and the rest.
     pub fn alert(bytes: &[u8]) -> Result<(&[u8], &[u8]), Rejected> {
         split(bytes, foreign::tls13_alert_validate)
     }
 
-    /// `Handshake` (RFC 8446, section 4). The message that the bytes begin with, and the rest of them.
+    /// `Handshake` (RFC 8446, section 4): returns the bytes of the one that `bytes` begin with, and the rest.
     pub fn handshake(bytes: &[u8]) -> Result<(&[u8], &[u8]), Rejected> {
         split(bytes, foreign::tls13_handshake_validate)
     }
 
-    /// `ClientHello` (RFC 8446, section 4.1.2). The message that the bytes begin with, and the rest of them.
+    /// `ClientHello` (RFC 8446, section 4.1.2): returns the bytes of the one that `bytes` begin with, and the rest.
     pub fn client_hello(bytes: &[u8]) -> Result<(&[u8], &[u8]), Rejected> {
         split(bytes, foreign::tls13_client_hello_validate)
     }
 
-    /// `ServerHello` (RFC 8446, section 4.1.3). The message that the bytes begin with, and the rest of them.
+    /// `ServerHello` (RFC 8446, section 4.1.3): returns the bytes of the one that `bytes` begin with, and the rest.
     pub fn server_hello(bytes: &[u8]) -> Result<(&[u8], &[u8]), Rejected> {
         split(bytes, foreign::tls13_server_hello_validate)
     }
 
-    /// `EncryptedExtensions` (RFC 8446, section 4.3.1). The message that the bytes begin with, and the rest of them.
+    /// `EncryptedExtensions` (RFC 8446, section 4.3.1): returns the bytes of the one that `bytes` begin with, and the rest.
     pub fn encrypted_extensions(bytes: &[u8]) -> Result<(&[u8], &[u8]), Rejected> {
         split(bytes, foreign::tls13_encrypted_extensions_validate)
     }
 
-    /// `CertificateRequest` (RFC 8446, section 4.3.2). The message that the bytes begin with, and the rest of them.
+    /// `CertificateRequest` (RFC 8446, section 4.3.2): returns the bytes of the one that `bytes` begin with, and the rest.
     pub fn certificate_request(bytes: &[u8]) -> Result<(&[u8], &[u8]), Rejected> {
         split(bytes, foreign::tls13_certificate_request_validate)
     }
 
-    /// `Certificate` (RFC 8446, section 4.4.2). The message that the bytes begin with, and the rest of them.
+    /// `Certificate` (RFC 8446, section 4.4.2): returns the bytes of the one that `bytes` begin with, and the rest.
     pub fn certificate(bytes: &[u8]) -> Result<(&[u8], &[u8]), Rejected> {
         split(bytes, foreign::tls13_certificate_validate)
     }
 
-    /// `CertificateVerify` (RFC 8446, section 4.4.3). The message that the bytes begin with, and the rest of them.
+    /// `CertificateVerify` (RFC 8446, section 4.4.3): returns the bytes of the one that `bytes` begin with, and the rest.
     pub fn certificate_verify(bytes: &[u8]) -> Result<(&[u8], &[u8]), Rejected> {
         split(bytes, foreign::tls13_certificate_verify_validate)
     }
 
-    /// `NewSessionTicket` (RFC 8446, section 4.6.1). The message that the bytes begin with, and the rest of them.
+    /// `NewSessionTicket` (RFC 8446, section 4.6.1): returns the bytes of the one that `bytes` begin with, and the rest.
     pub fn new_session_ticket(bytes: &[u8]) -> Result<(&[u8], &[u8]), Rejected> {
         split(bytes, foreign::tls13_new_session_ticket_validate)
     }
 
-    /// `KeyUpdate` (RFC 8446, section 4.6.3). The message that the bytes begin with, and the rest of them.
+    /// `KeyUpdate` (RFC 8446, section 4.6.3): returns the bytes of the one that `bytes` begin with, and the rest.
     pub fn key_update(bytes: &[u8]) -> Result<(&[u8], &[u8]), Rejected> {
         split(bytes, foreign::tls13_key_update_validate)
     }
@@ -339,10 +339,10 @@ pub mod tls13 {
         pub body: &'a [u8],
     }
 
-    /// `Handshake` (RFC 8446, section 4), and where its fields are. Of the message that the bytes begin with; and the rest of them.
+    /// `Handshake` (RFC 8446, section 4): returns the fields of the one that `bytes` begin with, and the rest.
     pub fn handshake_locate(bytes: &[u8]) -> Result<(HandshakeFields<'_>, &[u8]), Rejected> {
         let mut found = foreign::HandshakeFields::default();
-        // SAFETY: so many bytes are at the pointer, and nothing changes them during the call, which keeps no pointer.
+        // SAFETY: the pointer is of as many bytes as the length says, and nothing changes them during the call, which keeps no pointer.
         let said = unsafe { foreign::tls13_handshake_locate(bytes.as_ptr(), bytes.len(), &mut found) };
         let (_, rest) = split_as(bytes, said)?;
         let fields = HandshakeFields {
@@ -369,10 +369,10 @@ pub mod tls13 {
         pub extensions: &'a [u8],
     }
 
-    /// `ClientHello` (RFC 8446, section 4.1.2), and where its fields are. Of the message that the bytes begin with; and the rest of them.
+    /// `ClientHello` (RFC 8446, section 4.1.2): returns the fields of the one that `bytes` begin with, and the rest.
     pub fn client_hello_locate(bytes: &[u8]) -> Result<(ClientHelloFields<'_>, &[u8]), Rejected> {
         let mut found = foreign::ClientHelloFields::default();
-        // SAFETY: so many bytes are at the pointer, and nothing changes them during the call, which keeps no pointer.
+        // SAFETY: the pointer is of as many bytes as the length says, and nothing changes them during the call, which keeps no pointer.
         let said = unsafe { foreign::tls13_client_hello_locate(bytes.as_ptr(), bytes.len(), &mut found) };
         let (_, rest) = split_as(bytes, said)?;
         let fields = ClientHelloFields {
@@ -403,10 +403,10 @@ pub mod tls13 {
         pub extensions: &'a [u8],
     }
 
-    /// `ServerHello` (RFC 8446, section 4.1.3), and where its fields are. Of the message that the bytes begin with; and the rest of them.
+    /// `ServerHello` (RFC 8446, section 4.1.3): returns the fields of the one that `bytes` begin with, and the rest.
     pub fn server_hello_locate(bytes: &[u8]) -> Result<(ServerHelloFields<'_>, &[u8]), Rejected> {
         let mut found = foreign::ServerHelloFields::default();
-        // SAFETY: so many bytes are at the pointer, and nothing changes them during the call, which keeps no pointer.
+        // SAFETY: the pointer is of as many bytes as the length says, and nothing changes them during the call, which keeps no pointer.
         let said = unsafe { foreign::tls13_server_hello_locate(bytes.as_ptr(), bytes.len(), &mut found) };
         let (_, rest) = split_as(bytes, said)?;
         let fields = ServerHelloFields {
@@ -427,10 +427,10 @@ pub mod tls13 {
         pub extensions: &'a [u8],
     }
 
-    /// `EncryptedExtensions` (RFC 8446, section 4.3.1), and where its fields are. Of the message that the bytes begin with; and the rest of them.
+    /// `EncryptedExtensions` (RFC 8446, section 4.3.1): returns the fields of the one that `bytes` begin with, and the rest.
     pub fn encrypted_extensions_locate(bytes: &[u8]) -> Result<(EncryptedExtensionsFields<'_>, &[u8]), Rejected> {
         let mut found = foreign::EncryptedExtensionsFields::default();
-        // SAFETY: so many bytes are at the pointer, and nothing changes them during the call, which keeps no pointer.
+        // SAFETY: the pointer is of as many bytes as the length says, and nothing changes them during the call, which keeps no pointer.
         let said = unsafe { foreign::tls13_encrypted_extensions_locate(bytes.as_ptr(), bytes.len(), &mut found) };
         let (_, rest) = split_as(bytes, said)?;
         let fields = EncryptedExtensionsFields {
@@ -448,10 +448,10 @@ pub mod tls13 {
         pub extensions: &'a [u8],
     }
 
-    /// `CertificateRequest` (RFC 8446, section 4.3.2), and where its fields are. Of the message that the bytes begin with; and the rest of them.
+    /// `CertificateRequest` (RFC 8446, section 4.3.2): returns the fields of the one that `bytes` begin with, and the rest.
     pub fn certificate_request_locate(bytes: &[u8]) -> Result<(CertificateRequestFields<'_>, &[u8]), Rejected> {
         let mut found = foreign::CertificateRequestFields::default();
-        // SAFETY: so many bytes are at the pointer, and nothing changes them during the call, which keeps no pointer.
+        // SAFETY: the pointer is of as many bytes as the length says, and nothing changes them during the call, which keeps no pointer.
         let said = unsafe { foreign::tls13_certificate_request_locate(bytes.as_ptr(), bytes.len(), &mut found) };
         let (_, rest) = split_as(bytes, said)?;
         let fields = CertificateRequestFields {
@@ -470,10 +470,10 @@ pub mod tls13 {
         pub certificate_list: &'a [u8],
     }
 
-    /// `Certificate` (RFC 8446, section 4.4.2), and where its fields are. Of the message that the bytes begin with; and the rest of them.
+    /// `Certificate` (RFC 8446, section 4.4.2): returns the fields of the one that `bytes` begin with, and the rest.
     pub fn certificate_locate(bytes: &[u8]) -> Result<(CertificateFields<'_>, &[u8]), Rejected> {
         let mut found = foreign::CertificateFields::default();
-        // SAFETY: so many bytes are at the pointer, and nothing changes them during the call, which keeps no pointer.
+        // SAFETY: the pointer is of as many bytes as the length says, and nothing changes them during the call, which keeps no pointer.
         let said = unsafe { foreign::tls13_certificate_locate(bytes.as_ptr(), bytes.len(), &mut found) };
         let (_, rest) = split_as(bytes, said)?;
         let fields = CertificateFields {
@@ -492,10 +492,10 @@ pub mod tls13 {
         pub signature: &'a [u8],
     }
 
-    /// `CertificateVerify` (RFC 8446, section 4.4.3), and where its fields are. Of the message that the bytes begin with; and the rest of them.
+    /// `CertificateVerify` (RFC 8446, section 4.4.3): returns the fields of the one that `bytes` begin with, and the rest.
     pub fn certificate_verify_locate(bytes: &[u8]) -> Result<(CertificateVerifyFields<'_>, &[u8]), Rejected> {
         let mut found = foreign::CertificateVerifyFields::default();
-        // SAFETY: so many bytes are at the pointer, and nothing changes them during the call, which keeps no pointer.
+        // SAFETY: the pointer is of as many bytes as the length says, and nothing changes them during the call, which keeps no pointer.
         let said = unsafe { foreign::tls13_certificate_verify_locate(bytes.as_ptr(), bytes.len(), &mut found) };
         let (_, rest) = split_as(bytes, said)?;
         let fields = CertificateVerifyFields {
@@ -520,10 +520,10 @@ pub mod tls13 {
         pub extensions: &'a [u8],
     }
 
-    /// `NewSessionTicket` (RFC 8446, section 4.6.1), and where its fields are. Of the message that the bytes begin with; and the rest of them.
+    /// `NewSessionTicket` (RFC 8446, section 4.6.1): returns the fields of the one that `bytes` begin with, and the rest.
     pub fn new_session_ticket_locate(bytes: &[u8]) -> Result<(NewSessionTicketFields<'_>, &[u8]), Rejected> {
         let mut found = foreign::NewSessionTicketFields::default();
-        // SAFETY: so many bytes are at the pointer, and nothing changes them during the call, which keeps no pointer.
+        // SAFETY: the pointer is of as many bytes as the length says, and nothing changes them during the call, which keeps no pointer.
         let said = unsafe { foreign::tls13_new_session_ticket_locate(bytes.as_ptr(), bytes.len(), &mut found) };
         let (_, rest) = split_as(bytes, said)?;
         let fields = NewSessionTicketFields {
@@ -543,10 +543,10 @@ pub mod tls13 {
         pub request_update: &'a [u8],
     }
 
-    /// `KeyUpdate` (RFC 8446, section 4.6.3), and where its fields are. Of the message that the bytes begin with; and the rest of them.
+    /// `KeyUpdate` (RFC 8446, section 4.6.3): returns the fields of the one that `bytes` begin with, and the rest.
     pub fn key_update_locate(bytes: &[u8]) -> Result<(KeyUpdateFields<'_>, &[u8]), Rejected> {
         let mut found = foreign::KeyUpdateFields::default();
-        // SAFETY: so many bytes are at the pointer, and nothing changes them during the call, which keeps no pointer.
+        // SAFETY: the pointer is of as many bytes as the length says, and nothing changes them during the call, which keeps no pointer.
         let said = unsafe { foreign::tls13_key_update_locate(bytes.as_ptr(), bytes.len(), &mut found) };
         let (_, rest) = split_as(bytes, said)?;
         let fields = KeyUpdateFields {
@@ -566,10 +566,10 @@ pub mod tls13 {
         pub fragment: &'a [u8],
     }
 
-    /// `TLSPlaintext` (RFC 8446, section 5.1), and where its fields are. Of the message that the bytes begin with; and the rest of them.
+    /// `TLSPlaintext` (RFC 8446, section 5.1): returns the fields of the one that `bytes` begin with, and the rest.
     pub fn tls_plaintext_locate(bytes: &[u8]) -> Result<(TLSPlaintextFields<'_>, &[u8]), Rejected> {
         let mut found = foreign::TLSPlaintextFields::default();
-        // SAFETY: so many bytes are at the pointer, and nothing changes them during the call, which keeps no pointer.
+        // SAFETY: the pointer is of as many bytes as the length says, and nothing changes them during the call, which keeps no pointer.
         let said = unsafe { foreign::tls13_tls_plaintext_locate(bytes.as_ptr(), bytes.len(), &mut found) };
         let (_, rest) = split_as(bytes, said)?;
         let fields = TLSPlaintextFields {
@@ -591,10 +591,10 @@ pub mod tls13 {
         pub encrypted_record: &'a [u8],
     }
 
-    /// `TLSCiphertext` (RFC 8446, section 5.2), and where its fields are. Of the message that the bytes begin with; and the rest of them.
+    /// `TLSCiphertext` (RFC 8446, section 5.2): returns the fields of the one that `bytes` begin with, and the rest.
     pub fn tls_ciphertext_locate(bytes: &[u8]) -> Result<(TLSCiphertextFields<'_>, &[u8]), Rejected> {
         let mut found = foreign::TLSCiphertextFields::default();
-        // SAFETY: so many bytes are at the pointer, and nothing changes them during the call, which keeps no pointer.
+        // SAFETY: the pointer is of as many bytes as the length says, and nothing changes them during the call, which keeps no pointer.
         let said = unsafe { foreign::tls13_tls_ciphertext_locate(bytes.as_ptr(), bytes.len(), &mut found) };
         let (_, rest) = split_as(bytes, said)?;
         let fields = TLSCiphertextFields {
@@ -614,10 +614,10 @@ pub mod tls13 {
         pub description: &'a [u8],
     }
 
-    /// `Alert` (RFC 8446, section 6), and where its fields are. Of the message that the bytes begin with; and the rest of them.
+    /// `Alert` (RFC 8446, section 6): returns the fields of the one that `bytes` begin with, and the rest.
     pub fn alert_locate(bytes: &[u8]) -> Result<(AlertFields<'_>, &[u8]), Rejected> {
         let mut found = foreign::AlertFields::default();
-        // SAFETY: so many bytes are at the pointer, and nothing changes them during the call, which keeps no pointer.
+        // SAFETY: the pointer is of as many bytes as the length says, and nothing changes them during the call, which keeps no pointer.
         let said = unsafe { foreign::tls13_alert_locate(bytes.as_ptr(), bytes.len(), &mut found) };
         let (_, rest) = split_as(bytes, said)?;
         let fields = AlertFields {
@@ -627,17 +627,17 @@ pub mod tls13 {
         Ok((fields, rest))
     }
 
-    /// `Extension` (RFC 8446, section 4.2): each of a list, of which these are the bytes after its length.
+    /// `Extension` (RFC 8446, section 4.2): an iterator over a list's elements. `content` is the list without its length.
     pub fn extension_elements(content: &[u8]) -> Elements<'_> {
         Elements::of(content, foreign::tls13_extension_next)
     }
 
-    /// `KeyShareEntry` (RFC 8446, section 4.2.8): each of a list, of which these are the bytes after its length.
+    /// `KeyShareEntry` (RFC 8446, section 4.2.8): an iterator over a list's elements. `content` is the list without its length.
     pub fn key_share_entry_elements(content: &[u8]) -> Elements<'_> {
         Elements::of(content, foreign::tls13_key_share_entry_next)
     }
 
-    /// `CertificateEntry` of a `Certificate` (RFC 8446, section 4.4.2): each of a list, of which these are the bytes after its length.
+    /// `CertificateEntry` of a `Certificate` (RFC 8446, section 4.4.2): an iterator over a list's elements. `content` is the list without its length.
     pub fn certificate_entry_elements(content: &[u8]) -> Elements<'_> {
         Elements::of(content, foreign::tls13_certificate_entry_next)
     }
@@ -668,62 +668,62 @@ pub mod tls13_check {
         }
     }
 
-    /// `TLSPlaintext` (RFC 8446, section 5.1). The message that the bytes begin with, and the rest of them.
+    /// `TLSPlaintext` (RFC 8446, section 5.1): returns the bytes of the one that `bytes` begin with, and the rest, by the decoder.
     pub fn tls_plaintext(bytes: &[u8]) -> Result<(&[u8], &[u8]), Error> {
         decode(bytes, foreign::tls13_tls_plaintext_check)
     }
 
-    /// `TLSCiphertext` (RFC 8446, section 5.2). The message that the bytes begin with, and the rest of them.
+    /// `TLSCiphertext` (RFC 8446, section 5.2): returns the bytes of the one that `bytes` begin with, and the rest, by the decoder.
     pub fn tls_ciphertext(bytes: &[u8]) -> Result<(&[u8], &[u8]), Error> {
         decode(bytes, foreign::tls13_tls_ciphertext_check)
     }
 
-    /// `Alert` (RFC 8446, section 6). The message that the bytes begin with, and the rest of them.
+    /// `Alert` (RFC 8446, section 6): returns the bytes of the one that `bytes` begin with, and the rest, by the decoder.
     pub fn alert(bytes: &[u8]) -> Result<(&[u8], &[u8]), Error> {
         decode(bytes, foreign::tls13_alert_check)
     }
 
-    /// `Handshake` (RFC 8446, section 4). The message that the bytes begin with, and the rest of them.
+    /// `Handshake` (RFC 8446, section 4): returns the bytes of the one that `bytes` begin with, and the rest, by the decoder.
     pub fn handshake(bytes: &[u8]) -> Result<(&[u8], &[u8]), Error> {
         decode(bytes, foreign::tls13_handshake_check)
     }
 
-    /// `ClientHello` (RFC 8446, section 4.1.2). The message that the bytes begin with, and the rest of them.
+    /// `ClientHello` (RFC 8446, section 4.1.2): returns the bytes of the one that `bytes` begin with, and the rest, by the decoder.
     pub fn client_hello(bytes: &[u8]) -> Result<(&[u8], &[u8]), Error> {
         decode(bytes, foreign::tls13_client_hello_check)
     }
 
-    /// `ServerHello` (RFC 8446, section 4.1.3). The message that the bytes begin with, and the rest of them.
+    /// `ServerHello` (RFC 8446, section 4.1.3): returns the bytes of the one that `bytes` begin with, and the rest, by the decoder.
     pub fn server_hello(bytes: &[u8]) -> Result<(&[u8], &[u8]), Error> {
         decode(bytes, foreign::tls13_server_hello_check)
     }
 
-    /// `EncryptedExtensions` (RFC 8446, section 4.3.1). The message that the bytes begin with, and the rest of them.
+    /// `EncryptedExtensions` (RFC 8446, section 4.3.1): returns the bytes of the one that `bytes` begin with, and the rest, by the decoder.
     pub fn encrypted_extensions(bytes: &[u8]) -> Result<(&[u8], &[u8]), Error> {
         decode(bytes, foreign::tls13_encrypted_extensions_check)
     }
 
-    /// `CertificateRequest` (RFC 8446, section 4.3.2). The message that the bytes begin with, and the rest of them.
+    /// `CertificateRequest` (RFC 8446, section 4.3.2): returns the bytes of the one that `bytes` begin with, and the rest, by the decoder.
     pub fn certificate_request(bytes: &[u8]) -> Result<(&[u8], &[u8]), Error> {
         decode(bytes, foreign::tls13_certificate_request_check)
     }
 
-    /// `Certificate` (RFC 8446, section 4.4.2). The message that the bytes begin with, and the rest of them.
+    /// `Certificate` (RFC 8446, section 4.4.2): returns the bytes of the one that `bytes` begin with, and the rest, by the decoder.
     pub fn certificate(bytes: &[u8]) -> Result<(&[u8], &[u8]), Error> {
         decode(bytes, foreign::tls13_certificate_check)
     }
 
-    /// `CertificateVerify` (RFC 8446, section 4.4.3). The message that the bytes begin with, and the rest of them.
+    /// `CertificateVerify` (RFC 8446, section 4.4.3): returns the bytes of the one that `bytes` begin with, and the rest, by the decoder.
     pub fn certificate_verify(bytes: &[u8]) -> Result<(&[u8], &[u8]), Error> {
         decode(bytes, foreign::tls13_certificate_verify_check)
     }
 
-    /// `NewSessionTicket` (RFC 8446, section 4.6.1). The message that the bytes begin with, and the rest of them.
+    /// `NewSessionTicket` (RFC 8446, section 4.6.1): returns the bytes of the one that `bytes` begin with, and the rest, by the decoder.
     pub fn new_session_ticket(bytes: &[u8]) -> Result<(&[u8], &[u8]), Error> {
         decode(bytes, foreign::tls13_new_session_ticket_check)
     }
 
-    /// `KeyUpdate` (RFC 8446, section 4.6.3). The message that the bytes begin with, and the rest of them.
+    /// `KeyUpdate` (RFC 8446, section 4.6.3): returns the bytes of the one that `bytes` begin with, and the rest, by the decoder.
     pub fn key_update(bytes: &[u8]) -> Result<(&[u8], &[u8]), Error> {
         decode(bytes, foreign::tls13_key_update_check)
     }
@@ -909,72 +909,72 @@ pub mod mls {
         }
     }
 
-    /// `MLSMessage` (RFC 9420, section 6). The message that the bytes begin with, and the rest of them.
+    /// `MLSMessage` (RFC 9420, section 6): returns the bytes of the one that `bytes` begin with, and the rest.
     pub fn message(bytes: &[u8]) -> Result<(&[u8], &[u8]), Rejected> {
         split(bytes, foreign::mls_message_validate)
     }
 
-    /// `PublicMessage` (RFC 9420, section 6.2). The message that the bytes begin with, and the rest of them.
+    /// `PublicMessage` (RFC 9420, section 6.2): returns the bytes of the one that `bytes` begin with, and the rest.
     pub fn public_message(bytes: &[u8]) -> Result<(&[u8], &[u8]), Rejected> {
         split(bytes, foreign::mls_public_message_validate)
     }
 
-    /// `PrivateMessage` (RFC 9420, section 6.3). The message that the bytes begin with, and the rest of them.
+    /// `PrivateMessage` (RFC 9420, section 6.3): returns the bytes of the one that `bytes` begin with, and the rest.
     pub fn private_message(bytes: &[u8]) -> Result<(&[u8], &[u8]), Rejected> {
         split(bytes, foreign::mls_private_message_validate)
     }
 
-    /// `FramedContent` (RFC 9420, section 6). The message that the bytes begin with, and the rest of them.
+    /// `FramedContent` (RFC 9420, section 6): returns the bytes of the one that `bytes` begin with, and the rest.
     pub fn framed_content(bytes: &[u8]) -> Result<(&[u8], &[u8]), Rejected> {
         split(bytes, foreign::mls_framed_content_validate)
     }
 
-    /// `SenderData` (RFC 9420, section 6.3.2). The message that the bytes begin with, and the rest of them.
+    /// `SenderData` (RFC 9420, section 6.3.2): returns the bytes of the one that `bytes` begin with, and the rest.
     pub fn sender_data(bytes: &[u8]) -> Result<(&[u8], &[u8]), Rejected> {
         split(bytes, foreign::mls_sender_data_validate)
     }
 
-    /// `Welcome` (RFC 9420, section 12.4.3.1). The message that the bytes begin with, and the rest of them.
+    /// `Welcome` (RFC 9420, section 12.4.3.1): returns the bytes of the one that `bytes` begin with, and the rest.
     pub fn welcome(bytes: &[u8]) -> Result<(&[u8], &[u8]), Rejected> {
         split(bytes, foreign::mls_welcome_validate)
     }
 
-    /// `GroupSecrets` (RFC 9420, section 12.4.3.1). The message that the bytes begin with, and the rest of them.
+    /// `GroupSecrets` (RFC 9420, section 12.4.3.1): returns the bytes of the one that `bytes` begin with, and the rest.
     pub fn group_secrets(bytes: &[u8]) -> Result<(&[u8], &[u8]), Rejected> {
         split(bytes, foreign::mls_group_secrets_validate)
     }
 
-    /// `GroupInfo` (RFC 9420, section 12.4.3). The message that the bytes begin with, and the rest of them.
+    /// `GroupInfo` (RFC 9420, section 12.4.3): returns the bytes of the one that `bytes` begin with, and the rest.
     pub fn group_info(bytes: &[u8]) -> Result<(&[u8], &[u8]), Rejected> {
         split(bytes, foreign::mls_group_info_validate)
     }
 
-    /// `GroupContext` (RFC 9420, section 8.1). The message that the bytes begin with, and the rest of them.
+    /// `GroupContext` (RFC 9420, section 8.1): returns the bytes of the one that `bytes` begin with, and the rest.
     pub fn group_context(bytes: &[u8]) -> Result<(&[u8], &[u8]), Rejected> {
         split(bytes, foreign::mls_group_context_validate)
     }
 
-    /// `Commit` (RFC 9420, section 12.4). The message that the bytes begin with, and the rest of them.
+    /// `Commit` (RFC 9420, section 12.4): returns the bytes of the one that `bytes` begin with, and the rest.
     pub fn commit(bytes: &[u8]) -> Result<(&[u8], &[u8]), Rejected> {
         split(bytes, foreign::mls_commit_validate)
     }
 
-    /// `Proposal` (RFC 9420, section 12.1). The message that the bytes begin with, and the rest of them.
+    /// `Proposal` (RFC 9420, section 12.1): returns the bytes of the one that `bytes` begin with, and the rest.
     pub fn proposal(bytes: &[u8]) -> Result<(&[u8], &[u8]), Rejected> {
         split(bytes, foreign::mls_proposal_validate)
     }
 
-    /// `KeyPackage` (RFC 9420, section 10). The message that the bytes begin with, and the rest of them.
+    /// `KeyPackage` (RFC 9420, section 10): returns the bytes of the one that `bytes` begin with, and the rest.
     pub fn key_package(bytes: &[u8]) -> Result<(&[u8], &[u8]), Rejected> {
         split(bytes, foreign::mls_key_package_validate)
     }
 
-    /// `LeafNode` (RFC 9420, section 7.2). The message that the bytes begin with, and the rest of them.
+    /// `LeafNode` (RFC 9420, section 7.2): returns the bytes of the one that `bytes` begin with, and the rest.
     pub fn leaf_node(bytes: &[u8]) -> Result<(&[u8], &[u8]), Rejected> {
         split(bytes, foreign::mls_leaf_node_validate)
     }
 
-    /// `RatchetTree` (RFC 9420, section 12.4.3.3). The message that the bytes begin with, and the rest of them.
+    /// `RatchetTree` (RFC 9420, section 12.4.3.3): returns the bytes of the one that `bytes` begin with, and the rest.
     pub fn ratchet_tree(bytes: &[u8]) -> Result<(&[u8], &[u8]), Rejected> {
         split(bytes, foreign::mls_ratchet_tree_validate)
     }
@@ -990,10 +990,10 @@ pub mod mls {
         pub message: &'a [u8],
     }
 
-    /// `MLSMessage` (RFC 9420, section 6), and where its fields are. Of the message that the bytes begin with; and the rest of them.
+    /// `MLSMessage` (RFC 9420, section 6): returns the fields of the one that `bytes` begin with, and the rest.
     pub fn message_locate(bytes: &[u8]) -> Result<(MLSMessageFields<'_>, &[u8]), Rejected> {
         let mut found = foreign::MLSMessageFields::default();
-        // SAFETY: so many bytes are at the pointer, and nothing changes them during the call, which keeps no pointer.
+        // SAFETY: the pointer is of as many bytes as the length says, and nothing changes them during the call, which keeps no pointer.
         let said = unsafe { foreign::mls_message_locate(bytes.as_ptr(), bytes.len(), &mut found) };
         let (_, rest) = split_as(bytes, said)?;
         let fields = MLSMessageFields {
@@ -1015,10 +1015,10 @@ pub mod mls {
         pub membership_tag: &'a [u8],
     }
 
-    /// `PublicMessage` (RFC 9420, section 6.2), and where its fields are. Of the message that the bytes begin with; and the rest of them.
+    /// `PublicMessage` (RFC 9420, section 6.2): returns the fields of the one that `bytes` begin with, and the rest.
     pub fn public_message_locate(bytes: &[u8]) -> Result<(PublicMessageFields<'_>, &[u8]), Rejected> {
         let mut found = foreign::PublicMessageFields::default();
-        // SAFETY: so many bytes are at the pointer, and nothing changes them during the call, which keeps no pointer.
+        // SAFETY: the pointer is of as many bytes as the length says, and nothing changes them during the call, which keeps no pointer.
         let said = unsafe { foreign::mls_public_message_locate(bytes.as_ptr(), bytes.len(), &mut found) };
         let (_, rest) = split_as(bytes, said)?;
         let fields = PublicMessageFields {
@@ -1046,10 +1046,10 @@ pub mod mls {
         pub ciphertext: &'a [u8],
     }
 
-    /// `PrivateMessage` (RFC 9420, section 6.3), and where its fields are. Of the message that the bytes begin with; and the rest of them.
+    /// `PrivateMessage` (RFC 9420, section 6.3): returns the fields of the one that `bytes` begin with, and the rest.
     pub fn private_message_locate(bytes: &[u8]) -> Result<(PrivateMessageFields<'_>, &[u8]), Rejected> {
         let mut found = foreign::PrivateMessageFields::default();
-        // SAFETY: so many bytes are at the pointer, and nothing changes them during the call, which keeps no pointer.
+        // SAFETY: the pointer is of as many bytes as the length says, and nothing changes them during the call, which keeps no pointer.
         let said = unsafe { foreign::mls_private_message_locate(bytes.as_ptr(), bytes.len(), &mut found) };
         let (_, rest) = split_as(bytes, said)?;
         let fields = PrivateMessageFields {
@@ -1080,10 +1080,10 @@ pub mod mls {
         pub content: &'a [u8],
     }
 
-    /// `FramedContent` (RFC 9420, section 6), with which a `PublicMessage` begins, and where its fields are. Of the message that the bytes begin with; and the rest of them.
+    /// `FramedContent` (RFC 9420, section 6), with which a `PublicMessage` begins: returns the fields of the one that `bytes` begin with, and the rest.
     pub fn framed_content_locate(bytes: &[u8]) -> Result<(FramedContentFields<'_>, &[u8]), Rejected> {
         let mut found = foreign::FramedContentFields::default();
-        // SAFETY: so many bytes are at the pointer, and nothing changes them during the call, which keeps no pointer.
+        // SAFETY: the pointer is of as many bytes as the length says, and nothing changes them during the call, which keeps no pointer.
         let said = unsafe { foreign::mls_framed_content_locate(bytes.as_ptr(), bytes.len(), &mut found) };
         let (_, rest) = split_as(bytes, said)?;
         let fields = FramedContentFields {
@@ -1108,10 +1108,10 @@ pub mod mls {
         pub reuse_guard: &'a [u8],
     }
 
-    /// `SenderData` (RFC 9420, section 6.3.2), and where its fields are. Of the message that the bytes begin with; and the rest of them.
+    /// `SenderData` (RFC 9420, section 6.3.2): returns the fields of the one that `bytes` begin with, and the rest.
     pub fn sender_data_locate(bytes: &[u8]) -> Result<(SenderDataFields<'_>, &[u8]), Rejected> {
         let mut found = foreign::SenderDataFields::default();
-        // SAFETY: so many bytes are at the pointer, and nothing changes them during the call, which keeps no pointer.
+        // SAFETY: the pointer is of as many bytes as the length says, and nothing changes them during the call, which keeps no pointer.
         let said = unsafe { foreign::mls_sender_data_locate(bytes.as_ptr(), bytes.len(), &mut found) };
         let (_, rest) = split_as(bytes, said)?;
         let fields = SenderDataFields {
@@ -1139,10 +1139,10 @@ pub mod mls {
         pub signature: &'a [u8],
     }
 
-    /// `KeyPackage` (RFC 9420, section 10), and where its fields are. Of the message that the bytes begin with; and the rest of them.
+    /// `KeyPackage` (RFC 9420, section 10): returns the fields of the one that `bytes` begin with, and the rest.
     pub fn key_package_locate(bytes: &[u8]) -> Result<(KeyPackageFields<'_>, &[u8]), Rejected> {
         let mut found = foreign::KeyPackageFields::default();
-        // SAFETY: so many bytes are at the pointer, and nothing changes them during the call, which keeps no pointer.
+        // SAFETY: the pointer is of as many bytes as the length says, and nothing changes them during the call, which keeps no pointer.
         let said = unsafe { foreign::mls_key_package_locate(bytes.as_ptr(), bytes.len(), &mut found) };
         let (_, rest) = split_as(bytes, said)?;
         let fields = KeyPackageFields {
@@ -1177,10 +1177,10 @@ pub mod mls {
         pub signature: &'a [u8],
     }
 
-    /// `LeafNode` (RFC 9420, section 7.2), and where its fields are. Of the message that the bytes begin with; and the rest of them.
+    /// `LeafNode` (RFC 9420, section 7.2): returns the fields of the one that `bytes` begin with, and the rest.
     pub fn leaf_node_locate(bytes: &[u8]) -> Result<(LeafNodeFields<'_>, &[u8]), Rejected> {
         let mut found = foreign::LeafNodeFields::default();
-        // SAFETY: so many bytes are at the pointer, and nothing changes them during the call, which keeps no pointer.
+        // SAFETY: the pointer is of as many bytes as the length says, and nothing changes them during the call, which keeps no pointer.
         let said = unsafe { foreign::mls_leaf_node_locate(bytes.as_ptr(), bytes.len(), &mut found) };
         let (_, rest) = split_as(bytes, said)?;
         let fields = LeafNodeFields {
@@ -1207,10 +1207,10 @@ pub mod mls {
         pub encrypted_group_info: &'a [u8],
     }
 
-    /// `Welcome` (RFC 9420, section 12.4.3.1), and where its fields are. Of the message that the bytes begin with; and the rest of them.
+    /// `Welcome` (RFC 9420, section 12.4.3.1): returns the fields of the one that `bytes` begin with, and the rest.
     pub fn welcome_locate(bytes: &[u8]) -> Result<(WelcomeFields<'_>, &[u8]), Rejected> {
         let mut found = foreign::WelcomeFields::default();
-        // SAFETY: so many bytes are at the pointer, and nothing changes them during the call, which keeps no pointer.
+        // SAFETY: the pointer is of as many bytes as the length says, and nothing changes them during the call, which keeps no pointer.
         let said = unsafe { foreign::mls_welcome_locate(bytes.as_ptr(), bytes.len(), &mut found) };
         let (_, rest) = split_as(bytes, said)?;
         let fields = WelcomeFields {
@@ -1232,10 +1232,10 @@ pub mod mls {
         pub psks: &'a [u8],
     }
 
-    /// `GroupSecrets` (RFC 9420, section 12.4.3.1), and where its fields are. Of the message that the bytes begin with; and the rest of them.
+    /// `GroupSecrets` (RFC 9420, section 12.4.3.1): returns the fields of the one that `bytes` begin with, and the rest.
     pub fn group_secrets_locate(bytes: &[u8]) -> Result<(GroupSecretsFields<'_>, &[u8]), Rejected> {
         let mut found = foreign::GroupSecretsFields::default();
-        // SAFETY: so many bytes are at the pointer, and nothing changes them during the call, which keeps no pointer.
+        // SAFETY: the pointer is of as many bytes as the length says, and nothing changes them during the call, which keeps no pointer.
         let said = unsafe { foreign::mls_group_secrets_locate(bytes.as_ptr(), bytes.len(), &mut found) };
         let (_, rest) = split_as(bytes, said)?;
         let fields = GroupSecretsFields {
@@ -1261,10 +1261,10 @@ pub mod mls {
         pub signature: &'a [u8],
     }
 
-    /// `GroupInfo` (RFC 9420, section 12.4.3), and where its fields are. Of the message that the bytes begin with; and the rest of them.
+    /// `GroupInfo` (RFC 9420, section 12.4.3): returns the fields of the one that `bytes` begin with, and the rest.
     pub fn group_info_locate(bytes: &[u8]) -> Result<(GroupInfoFields<'_>, &[u8]), Rejected> {
         let mut found = foreign::GroupInfoFields::default();
-        // SAFETY: so many bytes are at the pointer, and nothing changes them during the call, which keeps no pointer.
+        // SAFETY: the pointer is of as many bytes as the length says, and nothing changes them during the call, which keeps no pointer.
         let said = unsafe { foreign::mls_group_info_locate(bytes.as_ptr(), bytes.len(), &mut found) };
         let (_, rest) = split_as(bytes, said)?;
         let fields = GroupInfoFields {
@@ -1296,10 +1296,10 @@ pub mod mls {
         pub extensions: &'a [u8],
     }
 
-    /// `GroupContext` (RFC 9420, section 8.1), and where its fields are. Of the message that the bytes begin with; and the rest of them.
+    /// `GroupContext` (RFC 9420, section 8.1): returns the fields of the one that `bytes` begin with, and the rest.
     pub fn group_context_locate(bytes: &[u8]) -> Result<(GroupContextFields<'_>, &[u8]), Rejected> {
         let mut found = foreign::GroupContextFields::default();
-        // SAFETY: so many bytes are at the pointer, and nothing changes them during the call, which keeps no pointer.
+        // SAFETY: the pointer is of as many bytes as the length says, and nothing changes them during the call, which keeps no pointer.
         let said = unsafe { foreign::mls_group_context_locate(bytes.as_ptr(), bytes.len(), &mut found) };
         let (_, rest) = split_as(bytes, said)?;
         let fields = GroupContextFields {
@@ -1323,10 +1323,10 @@ pub mod mls {
         pub path: &'a [u8],
     }
 
-    /// `Commit` (RFC 9420, section 12.4), and where its fields are. Of the message that the bytes begin with; and the rest of them.
+    /// `Commit` (RFC 9420, section 12.4): returns the fields of the one that `bytes` begin with, and the rest.
     pub fn commit_locate(bytes: &[u8]) -> Result<(CommitFields<'_>, &[u8]), Rejected> {
         let mut found = foreign::CommitFields::default();
-        // SAFETY: so many bytes are at the pointer, and nothing changes them during the call, which keeps no pointer.
+        // SAFETY: the pointer is of as many bytes as the length says, and nothing changes them during the call, which keeps no pointer.
         let said = unsafe { foreign::mls_commit_locate(bytes.as_ptr(), bytes.len(), &mut found) };
         let (_, rest) = split_as(bytes, said)?;
         let fields = CommitFields {
@@ -1345,10 +1345,10 @@ pub mod mls {
         pub body: &'a [u8],
     }
 
-    /// `Proposal` (RFC 9420, section 12.1), and where its fields are. Of the message that the bytes begin with; and the rest of them.
+    /// `Proposal` (RFC 9420, section 12.1): returns the fields of the one that `bytes` begin with, and the rest.
     pub fn proposal_locate(bytes: &[u8]) -> Result<(ProposalFields<'_>, &[u8]), Rejected> {
         let mut found = foreign::ProposalFields::default();
-        // SAFETY: so many bytes are at the pointer, and nothing changes them during the call, which keeps no pointer.
+        // SAFETY: the pointer is of as many bytes as the length says, and nothing changes them during the call, which keeps no pointer.
         let said = unsafe { foreign::mls_proposal_locate(bytes.as_ptr(), bytes.len(), &mut found) };
         let (_, rest) = split_as(bytes, said)?;
         let fields = ProposalFields {
@@ -1358,38 +1358,38 @@ pub mod mls {
         Ok((fields, rest))
     }
 
-    /// `MLSMessage` (RFC 9420, section 6), and its `WireFormat`: 1 is a public message, 2 a private message, 3 a welcome, 4 a group info, 5 a key package. Its number, and the rest of the bytes.
+    /// `MLSMessage` (RFC 9420, section 6), and its `WireFormat`: 1 is a public message, 2 a private message, 3 a welcome, 4 a group info, 5 a key package. Returns that number, and the rest of the bytes.
     pub fn message_kind(bytes: &[u8]) -> Result<(u16, &[u8]), Rejected> {
         let mut found = 0u16;
-        // SAFETY: so many bytes are at the pointer, and nothing changes them during the call, which keeps no pointer.
+        // SAFETY: the pointer is of as many bytes as the length says, and nothing changes them during the call, which keeps no pointer.
         let said = unsafe { foreign::mls_message_kind(bytes.as_ptr(), bytes.len(), &mut found) };
         let (_, rest) = split_as(bytes, said)?;
         Ok((found, rest))
     }
 
-    /// `FramedContentTBS` (RFC 9420, section 6.1): writes the bytes that are signed of a message into a buffer: the version, the wire format (1 or 2), the encoding of a `FramedContent`, and that of a `GroupContext` if the sender is a member or a new member that commits; else the context is empty. The result is that of validation for the bytes that are written, and `at` counts from the first of them. If the buffer has less than `4 + content_length + context_length` bytes, nothing is written, and the status is that of `InvalidWriteLength`. It returns all bytes that are written, if they are accepted.
+    /// `FramedContentTBS` (RFC 9420, section 6.1): writes the bytes that are signed of a message into a buffer: the version, the wire format (1 or 2), the encoding of a `FramedContent`, and that of a `GroupContext` if the sender is a member or a new member that commits; else the context is empty. The result is that of validation for the bytes that are written, and `at` counts from the first of them. If the buffer has less than `4 + content_length + context_length` bytes, nothing is written, and the status is that of `InvalidWriteLength`. Returns the written bytes, if they are accepted.
     pub fn framed_content_tbs<'a>(wire_format: u16, content: &[u8], context: &[u8], out: &'a mut [u8]) -> Result<&'a [u8], Rejected> {
-        // SAFETY: so many bytes are at each pointer, and nothing else changes or reads them during the call, which keeps none.
+        // SAFETY: each pointer is of as many bytes as its length says, and nothing else changes or reads them during the call, which keeps none.
         let said = unsafe { foreign::mls_framed_content_tbs_encode(wire_format, content.as_ptr(), content.len(), context.as_ptr(), context.len(), out.as_mut_ptr(), out.len()) };
         written_as(out, 4 + content.len() + context.len(), said)
     }
 
-    /// `Extension` (RFC 9420, section 7.2): each of a list, of which these are the bytes after its length.
+    /// `Extension` (RFC 9420, section 7.2): an iterator over a list's elements. `content` is the list without its length.
     pub fn extension_elements(content: &[u8]) -> Elements<'_> {
         Elements::of(content, foreign::mls_extension_next)
     }
 
-    /// `optional<Node>` of a `RatchetTree` (RFC 9420, section 12.4.3.3): each of a list, of which these are the bytes after its length.
+    /// `optional<Node>` of a `RatchetTree` (RFC 9420, section 12.4.3.3): an iterator over a list's elements. `content` is the list without its length.
     pub fn optional_node_elements(content: &[u8]) -> Elements<'_> {
         Elements::of(content, foreign::mls_optional_node_next)
     }
 
-    /// `ProposalOrRef` of a `Commit` (RFC 9420, section 12.4): each of a list, of which these are the bytes after its length.
+    /// `ProposalOrRef` of a `Commit` (RFC 9420, section 12.4): an iterator over a list's elements. `content` is the list without its length.
     pub fn proposal_or_ref_elements(content: &[u8]) -> Elements<'_> {
         Elements::of(content, foreign::mls_proposal_or_ref_next)
     }
 
-    /// `EncryptedGroupSecrets` of a `Welcome` (RFC 9420, section 12.4.3.1): each of a list, of which these are the bytes after its length.
+    /// `EncryptedGroupSecrets` of a `Welcome` (RFC 9420, section 12.4.3.1): an iterator over a list's elements. `content` is the list without its length.
     pub fn encrypted_group_secrets_elements(content: &[u8]) -> Elements<'_> {
         Elements::of(content, foreign::mls_encrypted_group_secrets_next)
     }
@@ -1422,72 +1422,72 @@ pub mod mls_check {
         }
     }
 
-    /// `MLSMessage` (RFC 9420, section 6). The message that the bytes begin with, and the rest of them.
+    /// `MLSMessage` (RFC 9420, section 6): returns the bytes of the one that `bytes` begin with, and the rest, by the decoder.
     pub fn message(bytes: &[u8]) -> Result<(&[u8], &[u8]), Error> {
         decode(bytes, foreign::mls_message_check)
     }
 
-    /// `PublicMessage` (RFC 9420, section 6.2). The message that the bytes begin with, and the rest of them.
+    /// `PublicMessage` (RFC 9420, section 6.2): returns the bytes of the one that `bytes` begin with, and the rest, by the decoder.
     pub fn public_message(bytes: &[u8]) -> Result<(&[u8], &[u8]), Error> {
         decode(bytes, foreign::mls_public_message_check)
     }
 
-    /// `PrivateMessage` (RFC 9420, section 6.3). The message that the bytes begin with, and the rest of them.
+    /// `PrivateMessage` (RFC 9420, section 6.3): returns the bytes of the one that `bytes` begin with, and the rest, by the decoder.
     pub fn private_message(bytes: &[u8]) -> Result<(&[u8], &[u8]), Error> {
         decode(bytes, foreign::mls_private_message_check)
     }
 
-    /// `FramedContent` (RFC 9420, section 6). The message that the bytes begin with, and the rest of them.
+    /// `FramedContent` (RFC 9420, section 6): returns the bytes of the one that `bytes` begin with, and the rest, by the decoder.
     pub fn framed_content(bytes: &[u8]) -> Result<(&[u8], &[u8]), Error> {
         decode(bytes, foreign::mls_framed_content_check)
     }
 
-    /// `SenderData` (RFC 9420, section 6.3.2). The message that the bytes begin with, and the rest of them.
+    /// `SenderData` (RFC 9420, section 6.3.2): returns the bytes of the one that `bytes` begin with, and the rest, by the decoder.
     pub fn sender_data(bytes: &[u8]) -> Result<(&[u8], &[u8]), Error> {
         decode(bytes, foreign::mls_sender_data_check)
     }
 
-    /// `Welcome` (RFC 9420, section 12.4.3.1). The message that the bytes begin with, and the rest of them.
+    /// `Welcome` (RFC 9420, section 12.4.3.1): returns the bytes of the one that `bytes` begin with, and the rest, by the decoder.
     pub fn welcome(bytes: &[u8]) -> Result<(&[u8], &[u8]), Error> {
         decode(bytes, foreign::mls_welcome_check)
     }
 
-    /// `GroupSecrets` (RFC 9420, section 12.4.3.1). The message that the bytes begin with, and the rest of them.
+    /// `GroupSecrets` (RFC 9420, section 12.4.3.1): returns the bytes of the one that `bytes` begin with, and the rest, by the decoder.
     pub fn group_secrets(bytes: &[u8]) -> Result<(&[u8], &[u8]), Error> {
         decode(bytes, foreign::mls_group_secrets_check)
     }
 
-    /// `GroupInfo` (RFC 9420, section 12.4.3). The message that the bytes begin with, and the rest of them.
+    /// `GroupInfo` (RFC 9420, section 12.4.3): returns the bytes of the one that `bytes` begin with, and the rest, by the decoder.
     pub fn group_info(bytes: &[u8]) -> Result<(&[u8], &[u8]), Error> {
         decode(bytes, foreign::mls_group_info_check)
     }
 
-    /// `GroupContext` (RFC 9420, section 8.1). The message that the bytes begin with, and the rest of them.
+    /// `GroupContext` (RFC 9420, section 8.1): returns the bytes of the one that `bytes` begin with, and the rest, by the decoder.
     pub fn group_context(bytes: &[u8]) -> Result<(&[u8], &[u8]), Error> {
         decode(bytes, foreign::mls_group_context_check)
     }
 
-    /// `Commit` (RFC 9420, section 12.4). The message that the bytes begin with, and the rest of them.
+    /// `Commit` (RFC 9420, section 12.4): returns the bytes of the one that `bytes` begin with, and the rest, by the decoder.
     pub fn commit(bytes: &[u8]) -> Result<(&[u8], &[u8]), Error> {
         decode(bytes, foreign::mls_commit_check)
     }
 
-    /// `Proposal` (RFC 9420, section 12.1). The message that the bytes begin with, and the rest of them.
+    /// `Proposal` (RFC 9420, section 12.1): returns the bytes of the one that `bytes` begin with, and the rest, by the decoder.
     pub fn proposal(bytes: &[u8]) -> Result<(&[u8], &[u8]), Error> {
         decode(bytes, foreign::mls_proposal_check)
     }
 
-    /// `KeyPackage` (RFC 9420, section 10). The message that the bytes begin with, and the rest of them.
+    /// `KeyPackage` (RFC 9420, section 10): returns the bytes of the one that `bytes` begin with, and the rest, by the decoder.
     pub fn key_package(bytes: &[u8]) -> Result<(&[u8], &[u8]), Error> {
         decode(bytes, foreign::mls_key_package_check)
     }
 
-    /// `LeafNode` (RFC 9420, section 7.2). The message that the bytes begin with, and the rest of them.
+    /// `LeafNode` (RFC 9420, section 7.2): returns the bytes of the one that `bytes` begin with, and the rest, by the decoder.
     pub fn leaf_node(bytes: &[u8]) -> Result<(&[u8], &[u8]), Error> {
         decode(bytes, foreign::mls_leaf_node_check)
     }
 
-    /// `RatchetTree` (RFC 9420, section 12.4.3.3). The message that the bytes begin with, and the rest of them.
+    /// `RatchetTree` (RFC 9420, section 12.4.3.3): returns the bytes of the one that `bytes` begin with, and the rest, by the decoder.
     pub fn ratchet_tree(bytes: &[u8]) -> Result<(&[u8], &[u8]), Error> {
         decode(bytes, foreign::mls_ratchet_tree_check)
     }

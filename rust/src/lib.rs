@@ -1,8 +1,8 @@
-//! Whether bytes are a message of TLS 1.3 ([`tls13`]) or MLS ([`mls`]), told without a value and without memory.
+//! Validates messages of TLS 1.3 ([`tls13`]) and MLS ([`mls`]) without decoding them, and without allocating.
 //!
 //! The functions are proved, in Rattle, and linked as static libraries: bytes are accepted exactly if they begin with an encoding
 //! of the message, and what is accepted is the message's canonical encoding. `docs/CALLERS.md` of the repository says what is
-//! proved and what is trusted. The feature `check` adds the decoders, which make the value and drop it, and so ask for memory.
+//! proved and what is trusted. The feature `check` adds the decoders, which make the value and drop it, and so allocate.
 //!
 //! ```
 //! use tls_codec_border::{Error, Rejected, exactly, tls13};
@@ -33,7 +33,7 @@ pub use exports::{mls_check, tls13_check};
 /// Why bytes are rejected, and where.
 #[derive(Clone, Copy, PartialEq, Eq, Debug)]
 pub struct Rejected {
-    /// The error that the decoder has too.
+    /// An error that the decoder may name of these bytes.
     pub error: Error,
     /// Where the first byte of the rejected field is; of `TrailingData` the first byte that is left.
     pub at: usize,
@@ -64,12 +64,12 @@ fn split(
     bytes: &[u8],
     call: unsafe extern "C" fn(*const u8, usize) -> Outcome,
 ) -> Result<(&[u8], &[u8]), Rejected> {
-    // SAFETY: so many bytes are at the pointer, and nothing changes them during the call, which keeps no pointer.
+    // SAFETY: the pointer is of as many bytes as the length says, and nothing changes them during the call, which keeps no pointer.
     let said = unsafe { call(bytes.as_ptr(), bytes.len()) };
     split_as(bytes, said)
 }
 
-/// What a decoder says of bytes. It tells no place.
+/// What a decoder says of bytes, without a position.
 #[cfg(feature = "check")]
 fn decode(
     bytes: &[u8],
@@ -134,7 +134,7 @@ impl<'a> Iterator for Elements<'a> {
         }
         let from = self.left.offset;
         let mut element = Span::default();
-        // SAFETY: so many bytes are at the pointer, and nothing changes them during the call, which keeps no pointer.
+        // SAFETY: the pointer is of as many bytes as the length says, and nothing changes them during the call, which keeps no pointer.
         let said = unsafe {
             (self.next)(self.content.as_ptr(), self.content.len(), &mut self.left, &mut element)
         };

@@ -38,7 +38,7 @@ struct Row {
 }
 
 impl Row {
-    /// Of test_outcome a column says what the decoder says. It is what the validator says, but for the place.
+    /// Of test_outcome a column says what the decoder says. It is what the validator says, except for the place.
     fn of(line: &str) -> Row {
         let columns: Vec<&str> = line.split('\t').collect();
         let said = columns.get(3).unwrap_or(&columns[2]);

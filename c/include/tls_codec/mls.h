@@ -198,89 +198,90 @@ tls_codec_outcome mls_proposal_or_ref_next(const uint8_t *bytes, size_t length, 
    it. */
 tls_codec_outcome mls_encrypted_group_secrets_next(const uint8_t *bytes, size_t length, tls_codec_span *left, tls_codec_span *element);
 
-/* MLSMessage (RFC 9420, section 6), and where its fields are. */
+/* MLSMessage (RFC 9420, section 6), and where its fields are, if the bytes begin with one. */
 tls_codec_outcome mls_message_locate(const uint8_t *bytes, size_t length, mls_message_fields *fields);
 
-/* PublicMessage (RFC 9420, section 6.2), and where its fields are. */
+/* PublicMessage (RFC 9420, section 6.2), and where its fields are, if the bytes begin with one. */
 tls_codec_outcome mls_public_message_locate(const uint8_t *bytes, size_t length, mls_public_message_fields *fields);
 
-/* PrivateMessage (RFC 9420, section 6.3), and where its fields are. */
+/* PrivateMessage (RFC 9420, section 6.3), and where its fields are, if the bytes begin with one. */
 tls_codec_outcome mls_private_message_locate(const uint8_t *bytes, size_t length, mls_private_message_fields *fields);
 
-/* FramedContent (RFC 9420, section 6), with which a PublicMessage begins, and where its fields are. */
+/* FramedContent (RFC 9420, section 6), with which a PublicMessage begins, and where its fields are,
+   if the bytes begin with one. */
 tls_codec_outcome mls_framed_content_locate(const uint8_t *bytes, size_t length, mls_framed_content_fields *fields);
 
-/* SenderData (RFC 9420, section 6.3.2), and where its fields are. */
+/* SenderData (RFC 9420, section 6.3.2), and where its fields are, if the bytes begin with one. */
 tls_codec_outcome mls_sender_data_locate(const uint8_t *bytes, size_t length, mls_sender_data_fields *fields);
 
-/* KeyPackage (RFC 9420, section 10), and where its fields are. */
+/* KeyPackage (RFC 9420, section 10), and where its fields are, if the bytes begin with one. */
 tls_codec_outcome mls_key_package_locate(const uint8_t *bytes, size_t length, mls_key_package_fields *fields);
 
-/* LeafNode (RFC 9420, section 7.2), and where its fields are. */
+/* LeafNode (RFC 9420, section 7.2), and where its fields are, if the bytes begin with one. */
 tls_codec_outcome mls_leaf_node_locate(const uint8_t *bytes, size_t length, mls_leaf_node_fields *fields);
 
-/* Welcome (RFC 9420, section 12.4.3.1), and where its fields are. */
+/* Welcome (RFC 9420, section 12.4.3.1), and where its fields are, if the bytes begin with one. */
 tls_codec_outcome mls_welcome_locate(const uint8_t *bytes, size_t length, mls_welcome_fields *fields);
 
-/* GroupSecrets (RFC 9420, section 12.4.3.1), and where its fields are. */
+/* GroupSecrets (RFC 9420, section 12.4.3.1), and where its fields are, if the bytes begin with one. */
 tls_codec_outcome mls_group_secrets_locate(const uint8_t *bytes, size_t length, mls_group_secrets_fields *fields);
 
-/* GroupInfo (RFC 9420, section 12.4.3), and where its fields are. */
+/* GroupInfo (RFC 9420, section 12.4.3), and where its fields are, if the bytes begin with one. */
 tls_codec_outcome mls_group_info_locate(const uint8_t *bytes, size_t length, mls_group_info_fields *fields);
 
-/* GroupContext (RFC 9420, section 8.1), and where its fields are. */
+/* GroupContext (RFC 9420, section 8.1), and where its fields are, if the bytes begin with one. */
 tls_codec_outcome mls_group_context_locate(const uint8_t *bytes, size_t length, mls_group_context_fields *fields);
 
-/* Commit (RFC 9420, section 12.4), and where its fields are. */
+/* Commit (RFC 9420, section 12.4), and where its fields are, if the bytes begin with one. */
 tls_codec_outcome mls_commit_locate(const uint8_t *bytes, size_t length, mls_commit_fields *fields);
 
-/* Proposal (RFC 9420, section 12.1), and where its fields are. */
+/* Proposal (RFC 9420, section 12.1), and where its fields are, if the bytes begin with one. */
 tls_codec_outcome mls_proposal_locate(const uint8_t *bytes, size_t length, mls_proposal_fields *fields);
 
 /* MLSMessage (RFC 9420, section 6), and its WireFormat: 1 is a public message, 2 a private message,
    3 a welcome, 4 a group info, 5 a key package. */
 tls_codec_outcome mls_message_kind(const uint8_t *bytes, size_t length, uint16_t *kind);
 
-/* MLSMessage (RFC 9420, section 6). */
+/* MLSMessage (RFC 9420, section 6): whether the bytes begin with one. */
 tls_codec_outcome mls_message_validate(const uint8_t *bytes, size_t length);
 
-/* PublicMessage (RFC 9420, section 6.2). */
+/* PublicMessage (RFC 9420, section 6.2): whether the bytes begin with one. */
 tls_codec_outcome mls_public_message_validate(const uint8_t *bytes, size_t length);
 
-/* PrivateMessage (RFC 9420, section 6.3). */
+/* PrivateMessage (RFC 9420, section 6.3): whether the bytes begin with one. */
 tls_codec_outcome mls_private_message_validate(const uint8_t *bytes, size_t length);
 
-/* FramedContent (RFC 9420, section 6). */
+/* FramedContent (RFC 9420, section 6): whether the bytes begin with one. */
 tls_codec_outcome mls_framed_content_validate(const uint8_t *bytes, size_t length);
 
-/* SenderData (RFC 9420, section 6.3.2). */
+/* SenderData (RFC 9420, section 6.3.2): whether the bytes begin with one. */
 tls_codec_outcome mls_sender_data_validate(const uint8_t *bytes, size_t length);
 
-/* Welcome (RFC 9420, section 12.4.3.1). */
+/* Welcome (RFC 9420, section 12.4.3.1): whether the bytes begin with one. */
 tls_codec_outcome mls_welcome_validate(const uint8_t *bytes, size_t length);
 
-/* GroupSecrets (RFC 9420, section 12.4.3.1). */
+/* GroupSecrets (RFC 9420, section 12.4.3.1): whether the bytes begin with one. */
 tls_codec_outcome mls_group_secrets_validate(const uint8_t *bytes, size_t length);
 
-/* GroupInfo (RFC 9420, section 12.4.3). */
+/* GroupInfo (RFC 9420, section 12.4.3): whether the bytes begin with one. */
 tls_codec_outcome mls_group_info_validate(const uint8_t *bytes, size_t length);
 
-/* GroupContext (RFC 9420, section 8.1). */
+/* GroupContext (RFC 9420, section 8.1): whether the bytes begin with one. */
 tls_codec_outcome mls_group_context_validate(const uint8_t *bytes, size_t length);
 
-/* Commit (RFC 9420, section 12.4). */
+/* Commit (RFC 9420, section 12.4): whether the bytes begin with one. */
 tls_codec_outcome mls_commit_validate(const uint8_t *bytes, size_t length);
 
-/* Proposal (RFC 9420, section 12.1). */
+/* Proposal (RFC 9420, section 12.1): whether the bytes begin with one. */
 tls_codec_outcome mls_proposal_validate(const uint8_t *bytes, size_t length);
 
-/* KeyPackage (RFC 9420, section 10). */
+/* KeyPackage (RFC 9420, section 10): whether the bytes begin with one. */
 tls_codec_outcome mls_key_package_validate(const uint8_t *bytes, size_t length);
 
-/* LeafNode (RFC 9420, section 7.2). */
+/* LeafNode (RFC 9420, section 7.2): whether the bytes begin with one. */
 tls_codec_outcome mls_leaf_node_validate(const uint8_t *bytes, size_t length);
 
-/* RatchetTree (RFC 9420, section 12.4.3.3). */
+/* RatchetTree (RFC 9420, section 12.4.3.3): whether the bytes begin with one. */
 tls_codec_outcome mls_ratchet_tree_validate(const uint8_t *bytes, size_t length);
 
 /* FramedContentTBS (RFC 9420, section 6.1): writes the bytes that are signed of a message into a

@@ -12,46 +12,46 @@
 extern "C" {
 #endif
 
-/* MLSMessage (RFC 9420, section 6). */
+/* MLSMessage (RFC 9420, section 6): whether the bytes begin with one, by the decoder. */
 tls_codec_outcome mls_message_check(const uint8_t *bytes, size_t length);
 
-/* PublicMessage (RFC 9420, section 6.2). */
+/* PublicMessage (RFC 9420, section 6.2): whether the bytes begin with one, by the decoder. */
 tls_codec_outcome mls_public_message_check(const uint8_t *bytes, size_t length);
 
-/* PrivateMessage (RFC 9420, section 6.3). */
+/* PrivateMessage (RFC 9420, section 6.3): whether the bytes begin with one, by the decoder. */
 tls_codec_outcome mls_private_message_check(const uint8_t *bytes, size_t length);
 
-/* FramedContent (RFC 9420, section 6). */
+/* FramedContent (RFC 9420, section 6): whether the bytes begin with one, by the decoder. */
 tls_codec_outcome mls_framed_content_check(const uint8_t *bytes, size_t length);
 
-/* SenderData (RFC 9420, section 6.3.2). */
+/* SenderData (RFC 9420, section 6.3.2): whether the bytes begin with one, by the decoder. */
 tls_codec_outcome mls_sender_data_check(const uint8_t *bytes, size_t length);
 
-/* Welcome (RFC 9420, section 12.4.3.1). */
+/* Welcome (RFC 9420, section 12.4.3.1): whether the bytes begin with one, by the decoder. */
 tls_codec_outcome mls_welcome_check(const uint8_t *bytes, size_t length);
 
-/* GroupSecrets (RFC 9420, section 12.4.3.1). */
+/* GroupSecrets (RFC 9420, section 12.4.3.1): whether the bytes begin with one, by the decoder. */
 tls_codec_outcome mls_group_secrets_check(const uint8_t *bytes, size_t length);
 
-/* GroupInfo (RFC 9420, section 12.4.3). */
+/* GroupInfo (RFC 9420, section 12.4.3): whether the bytes begin with one, by the decoder. */
 tls_codec_outcome mls_group_info_check(const uint8_t *bytes, size_t length);
 
-/* GroupContext (RFC 9420, section 8.1). */
+/* GroupContext (RFC 9420, section 8.1): whether the bytes begin with one, by the decoder. */
 tls_codec_outcome mls_group_context_check(const uint8_t *bytes, size_t length);
 
-/* Commit (RFC 9420, section 12.4). */
+/* Commit (RFC 9420, section 12.4): whether the bytes begin with one, by the decoder. */
 tls_codec_outcome mls_commit_check(const uint8_t *bytes, size_t length);
 
-/* Proposal (RFC 9420, section 12.1). */
+/* Proposal (RFC 9420, section 12.1): whether the bytes begin with one, by the decoder. */
 tls_codec_outcome mls_proposal_check(const uint8_t *bytes, size_t length);
 
-/* KeyPackage (RFC 9420, section 10). */
+/* KeyPackage (RFC 9420, section 10): whether the bytes begin with one, by the decoder. */
 tls_codec_outcome mls_key_package_check(const uint8_t *bytes, size_t length);
 
-/* LeafNode (RFC 9420, section 7.2). */
+/* LeafNode (RFC 9420, section 7.2): whether the bytes begin with one, by the decoder. */
 tls_codec_outcome mls_leaf_node_check(const uint8_t *bytes, size_t length);
 
-/* RatchetTree (RFC 9420, section 12.4.3.3). */
+/* RatchetTree (RFC 9420, section 12.4.3.3): whether the bytes begin with one, by the decoder. */
 tls_codec_outcome mls_ratchet_tree_check(const uint8_t *bytes, size_t length);
 
 #ifdef __cplusplus

@@ -36,7 +36,7 @@ typedef struct tls_codec_outcome {
   size_t taken;
   /* The offset of the rejected field's first byte; 0 if the bytes are accepted. */
   size_t at;
-  /* The value of an TLS_CODEC_UNKNOWN_VALUE; 0 for other errors. */
+  /* The unknown number, if the error is TLS_CODEC_UNKNOWN_VALUE; 0 for other errors. */
   uint64_t detail;
 } tls_codec_outcome;
 

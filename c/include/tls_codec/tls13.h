@@ -145,76 +145,80 @@ tls_codec_outcome tls13_key_share_entry_next(const uint8_t *bytes, size_t length
 /* CertificateEntry of a Certificate (RFC 8446, section 4.4.2): the next one. left is moved past it. */
 tls_codec_outcome tls13_certificate_entry_next(const uint8_t *bytes, size_t length, tls_codec_span *left, tls_codec_span *element);
 
-/* Handshake (RFC 8446, section 4), and where its fields are. */
+/* Handshake (RFC 8446, section 4), and where its fields are, if the bytes begin with one. */
 tls_codec_outcome tls13_handshake_locate(const uint8_t *bytes, size_t length, tls13_handshake_fields *fields);
 
-/* ClientHello (RFC 8446, section 4.1.2), and where its fields are. */
+/* ClientHello (RFC 8446, section 4.1.2), and where its fields are, if the bytes begin with one. */
 tls_codec_outcome tls13_client_hello_locate(const uint8_t *bytes, size_t length, tls13_client_hello_fields *fields);
 
-/* ServerHello (RFC 8446, section 4.1.3), and where its fields are. */
+/* ServerHello (RFC 8446, section 4.1.3), and where its fields are, if the bytes begin with one. */
 tls_codec_outcome tls13_server_hello_locate(const uint8_t *bytes, size_t length, tls13_server_hello_fields *fields);
 
-/* EncryptedExtensions (RFC 8446, section 4.3.1), and where its fields are. */
+/* EncryptedExtensions (RFC 8446, section 4.3.1), and where its fields are, if the bytes begin with
+   one. */
 tls_codec_outcome tls13_encrypted_extensions_locate(const uint8_t *bytes, size_t length, tls13_encrypted_extensions_fields *fields);
 
-/* CertificateRequest (RFC 8446, section 4.3.2), and where its fields are. */
+/* CertificateRequest (RFC 8446, section 4.3.2), and where its fields are, if the bytes begin with
+   one. */
 tls_codec_outcome tls13_certificate_request_locate(const uint8_t *bytes, size_t length, tls13_certificate_request_fields *fields);
 
-/* Certificate (RFC 8446, section 4.4.2), and where its fields are. */
+/* Certificate (RFC 8446, section 4.4.2), and where its fields are, if the bytes begin with one. */
 tls_codec_outcome tls13_certificate_locate(const uint8_t *bytes, size_t length, tls13_certificate_fields *fields);
 
-/* CertificateVerify (RFC 8446, section 4.4.3), and where its fields are. */
+/* CertificateVerify (RFC 8446, section 4.4.3), and where its fields are, if the bytes begin with
+   one. */
 tls_codec_outcome tls13_certificate_verify_locate(const uint8_t *bytes, size_t length, tls13_certificate_verify_fields *fields);
 
-/* NewSessionTicket (RFC 8446, section 4.6.1), and where its fields are. */
+/* NewSessionTicket (RFC 8446, section 4.6.1), and where its fields are, if the bytes begin with
+   one. */
 tls_codec_outcome tls13_new_session_ticket_locate(const uint8_t *bytes, size_t length, tls13_new_session_ticket_fields *fields);
 
-/* KeyUpdate (RFC 8446, section 4.6.3), and where its fields are. */
+/* KeyUpdate (RFC 8446, section 4.6.3), and where its fields are, if the bytes begin with one. */
 tls_codec_outcome tls13_key_update_locate(const uint8_t *bytes, size_t length, tls13_key_update_fields *fields);
 
-/* TLSPlaintext (RFC 8446, section 5.1), and where its fields are. */
+/* TLSPlaintext (RFC 8446, section 5.1), and where its fields are, if the bytes begin with one. */
 tls_codec_outcome tls13_tls_plaintext_locate(const uint8_t *bytes, size_t length, tls13_tls_plaintext_fields *fields);
 
-/* TLSCiphertext (RFC 8446, section 5.2), and where its fields are. */
+/* TLSCiphertext (RFC 8446, section 5.2), and where its fields are, if the bytes begin with one. */
 tls_codec_outcome tls13_tls_ciphertext_locate(const uint8_t *bytes, size_t length, tls13_tls_ciphertext_fields *fields);
 
-/* Alert (RFC 8446, section 6), and where its fields are. */
+/* Alert (RFC 8446, section 6), and where its fields are, if the bytes begin with one. */
 tls_codec_outcome tls13_alert_locate(const uint8_t *bytes, size_t length, tls13_alert_fields *fields);
 
-/* TLSPlaintext (RFC 8446, section 5.1). */
+/* TLSPlaintext (RFC 8446, section 5.1): whether the bytes begin with one. */
 tls_codec_outcome tls13_tls_plaintext_validate(const uint8_t *bytes, size_t length);
 
-/* TLSCiphertext (RFC 8446, section 5.2). */
+/* TLSCiphertext (RFC 8446, section 5.2): whether the bytes begin with one. */
 tls_codec_outcome tls13_tls_ciphertext_validate(const uint8_t *bytes, size_t length);
 
-/* Alert (RFC 8446, section 6). */
+/* Alert (RFC 8446, section 6): whether the bytes begin with one. */
 tls_codec_outcome tls13_alert_validate(const uint8_t *bytes, size_t length);
 
-/* Handshake (RFC 8446, section 4). */
+/* Handshake (RFC 8446, section 4): whether the bytes begin with one. */
 tls_codec_outcome tls13_handshake_validate(const uint8_t *bytes, size_t length);
 
-/* ClientHello (RFC 8446, section 4.1.2). */
+/* ClientHello (RFC 8446, section 4.1.2): whether the bytes begin with one. */
 tls_codec_outcome tls13_client_hello_validate(const uint8_t *bytes, size_t length);
 
-/* ServerHello (RFC 8446, section 4.1.3). */
+/* ServerHello (RFC 8446, section 4.1.3): whether the bytes begin with one. */
 tls_codec_outcome tls13_server_hello_validate(const uint8_t *bytes, size_t length);
 
-/* EncryptedExtensions (RFC 8446, section 4.3.1). */
+/* EncryptedExtensions (RFC 8446, section 4.3.1): whether the bytes begin with one. */
 tls_codec_outcome tls13_encrypted_extensions_validate(const uint8_t *bytes, size_t length);
 
-/* CertificateRequest (RFC 8446, section 4.3.2). */
+/* CertificateRequest (RFC 8446, section 4.3.2): whether the bytes begin with one. */
 tls_codec_outcome tls13_certificate_request_validate(const uint8_t *bytes, size_t length);
 
-/* Certificate (RFC 8446, section 4.4.2). */
+/* Certificate (RFC 8446, section 4.4.2): whether the bytes begin with one. */
 tls_codec_outcome tls13_certificate_validate(const uint8_t *bytes, size_t length);
 
-/* CertificateVerify (RFC 8446, section 4.4.3). */
+/* CertificateVerify (RFC 8446, section 4.4.3): whether the bytes begin with one. */
 tls_codec_outcome tls13_certificate_verify_validate(const uint8_t *bytes, size_t length);
 
-/* NewSessionTicket (RFC 8446, section 4.6.1). */
+/* NewSessionTicket (RFC 8446, section 4.6.1): whether the bytes begin with one. */
 tls_codec_outcome tls13_new_session_ticket_validate(const uint8_t *bytes, size_t length);
 
-/* KeyUpdate (RFC 8446, section 4.6.3). */
+/* KeyUpdate (RFC 8446, section 4.6.3): whether the bytes begin with one. */
 tls_codec_outcome tls13_key_update_validate(const uint8_t *bytes, size_t length);
 
 #ifdef __cplusplus

@@ -1,5 +1,6 @@
 //! The presentation language of TLS (RFC 8446, section 3), and the variable-length vectors of MLS
-//! (RFC 9420, section 2.1.2). Every name that a user needs is here.
+//! (RFC 9420, section 2.1.2). Validation is in `tls_codec_validate`, reading in place in
+//! `tls_codec_views`, enums with parts in `tls_codec_cases`.
 //!
 //! - The traits: [`Size`], [`Serialize`], [`SerializeBytes`], [`Deserialize`], [`DeserializeBytes`].
 //!   Integers, arrays, options, pairs and triples, boxes, vectors and strings of `std` have them.

@@ -4,7 +4,7 @@ use std::alloc::Global;
 use tls_codec_wire::{Error, Sink};
 
 /// A borrowed value, encoded as the value itself is. With it a message is encoded as a tuple of its
-/// fields, none of which is copied.
+/// fields, and nothing is copied.
 #[derive(Drop)]
 pub struct ByRef<'a, T>(pub &'a T);
 

@@ -10,7 +10,7 @@ ghost use Rattle.tls_codec_grammar.specs.Encoding.{AppendsForm, Writes};
 use tls_codec_base::{Serialize, SerializeFor, Size, SizeFor, first_room};
 use tls_codec_wire::{Error, Sink};
 
-/// What encoders return in place of an error: [`Error`] alone.
+/// The error type of [`write_as`] and [`append_as`]. Only [`Error`] implements it.
 pub trait Raised {
     ghost told: { Result ℕ Self → Result ℕ Error };
 

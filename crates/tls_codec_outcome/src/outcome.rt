@@ -13,6 +13,6 @@ pub struct Outcome {
     pub taken: usize,
     /// The offset of the rejected field's first byte; 0 if the bytes are accepted.
     pub at: usize,
-    /// The value of an `UnknownValue`; 0 for other errors.
+    /// The unknown number, if the error is `UnknownValue`; 0 for other errors.
     pub detail: u64,
 }

@@ -12,7 +12,7 @@ use std::alloc::Global;
 use tls_codec_base::DeserializeBytes;
 use tls_codec_wire::Error;
 
-/// A type whose encodings are told from other bytes without making a value.
+/// A type whose encodings can be validated: no value is made, and nothing is allocated.
 ///
 /// ```rust
 /// assert_eq!(rt; <(u8, Vec<u16>)>::tls_validate(&[7, 2, 0, 1]), Ok(()));

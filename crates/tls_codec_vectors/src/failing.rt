@@ -39,8 +39,8 @@ pub struct Failing<D> {
 }
 
 impl<D> Failing<D> {
-    /// A device whose calls `at` to `at + times - 1` return `fault`. The first call has the number 1, and
-    /// the number stays at `u64::MAX`.
+    /// A device whose calls `at` to `at + times - 1` return `fault`. The first call has the number
+    /// 1, and the number saturates at `u64::MAX`.
     pub fn new(inner: D, at: u64, times: u64, fault: Fault) -> Failing<D>
         ensures inner { inner_of result ≡ inner }
         ensures plan { plan_of result ≡ record { at = at; times = times; fault = fault } }

@@ -1,6 +1,6 @@
 //! Messages of your own: structs and enums, proved to be as lawful as the types that they are made of.
 //!
-//! They use [`tls_codec`] alone. A struct is read as the tuple of its fields and written as the tuple
+//! They use [`tls_codec`] and `tls_codec_validate`. A struct is read as the tuple of its fields and written as the tuple
 //! of its borrowed fields; nothing of that is proved by hand. An enum reads its tag and then what the tag's
 //! variant has; each variant has a line of proof for each call.
 //!

@@ -7,8 +7,8 @@ use tls_codec_validate::Validate;
 use tls_codec_wire::quic::split_varint;
 use tls_codec_wire::{TlsVarInt, U24};
 
-/// A type whose value is read from its encoding without memory, and without a failure: integers, arrays of bytes, and
-/// enums of numbers.
+/// A type whose value is read from an [`Encoded`] without allocating and without failing: integers,
+/// arrays of bytes, and enums of numbers.
 pub trait Told: Validate {
     /// The value.
     fn told(encoded: &Encoded<'_, Self>) -> Self

@@ -22,8 +22,8 @@ pub enum Error {
     /// its field. Or a list's content passes its length field, or a vector would pass `isize::MAX`
     /// bytes.
     InvalidVectorLength,
-    /// Never returned by this library. It has the name and the number that callers of the Rust
-    /// crate and in other languages know.
+    /// No call in Rattle returns it. Callers in other languages get it if their buffer is too
+    /// small.
     InvalidWriteLength(&'static str),
     /// A slice has another length than the array it was to become.
     InvalidInput,
@@ -33,7 +33,7 @@ pub enum Error {
     EndOfStream,
     /// All bytes were to be used, and a byte is left.
     TrailingData,
-    /// A tag that a user's own type doesn't know.
+    /// No case of an enum has this tag.
     UnknownValue(u64),
     /// A number is too large for the type it was to become.
     LibraryError,

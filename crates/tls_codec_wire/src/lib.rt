@@ -1,9 +1,10 @@
 //! What moves bytes under a TLS codec: the errors it returns, the devices that bytes come from and
-//! go to, and the two calls that move a piece whole.
+//! go to, and the calls that move a piece whole, collect a vector, or read and write a
+//! variable-length number.
 //!
-//! The layer above relies on one thing: [`read_exactly`] and [`write_all`] move a piece whole; or
-//! they move a prefix of it and return a named error. The error is tied to a count of the device or
-//! to bytes that aren't there.
+//! The layer above relies on this: [`read_exactly`] and [`write_all`] move a piece whole; or they
+//! move a prefix of it and return a named error. The error is tied to a count of the device or to
+//! bytes that aren't there.
 //!
 //! - [`error`]: [`Error`], why a codec rejects bytes or a value.
 //! - [`device`]: [`Source`] and [`Sink`], and [`Fault`], why one call of them moved nothing.

@@ -45,29 +45,29 @@ impl<X> Outside<X> {
         self.inner
     }
 
-    /// How many bytes it gave as a source, or took as a sink. It stays at `u64::MAX`.
+    /// How many bytes it gave as a source, or took as a sink. Saturates at `u64::MAX`.
     pub fn moved(&self) -> u64
         ensures { result ≡ moved_of self.now }
     {
         self.moved
     }
 
-    /// How many calls failed: by an error of a kind that the other two don't count, or as a write that
-    /// took no byte of some. It stays at `u64::MAX`.
+    /// How many calls failed: by an error of a kind that the other two don't count, or as a write
+    /// that took no byte of some. Saturates at `u64::MAX`.
     pub fn failures(&self) -> u64
         ensures { result ≡ (counts_of self.now).failures }
     {
         self.failures
     }
 
-    /// How many calls ended by an error of kind `Interrupted`. It stays at `u64::MAX`.
+    /// How many calls ended by an error of kind `Interrupted`. Saturates at `u64::MAX`.
     pub fn interruptions(&self) -> u64
         ensures { result ≡ (counts_of self.now).interruptions }
     {
         self.interruptions
     }
 
-    /// How many calls ended by an error of kind `OutOfMemory`. It stays at `u64::MAX`.
+    /// How many calls ended by an error of kind `OutOfMemory`. Saturates at `u64::MAX`.
     pub fn shortages(&self) -> u64
         ensures { result ≡ (counts_of self.now).shortages }
     {

@@ -17,7 +17,7 @@ pub fn misfit() -> Error
     Error::EncodingError("value does not fit its context")
 }
 
-/// Whether a payload is there just if it should be. One that doesn't fit has no encoding.
+/// Whether a payload is there exactly if `there` says so. Another has no encoding.
 pub fn is_as_told<T: Size>(there: bool, value: &Option<T>) -> bool
     ensures fits { result ≡ (if there then is_some value.now else is_none value.now) }
     ensures unfit { result ≡ false
