@@ -21,9 +21,9 @@ def found(codec: Codec, name: str, data: bytes, count: int) -> tuple[list[bytes]
         return parts, (rejected.status, rejected.at, rejected.detail)
 
 
-def wanted(name: str, data: bytes, said: str, filled: str) -> tuple[list[bytes] | int, tuple[int, int, int]]:
+def wanted(name: str, data: bytes, expected: str, filled: str) -> tuple[list[bytes] | int, tuple[int, int, int]]:
     """The same as the row has it: of an element that is rejected its place is behind those before it."""
-    status, _, at, detail = map(int, said.split())
+    status, _, at, detail = map(int, expected.split())
     if name == "mls_message_kind" and not status:
         return int(filled), (0, 0, 0)
     places = [tuple(map(int, it.split("+"))) for it in filled.split() if it != "-"]
@@ -37,14 +37,14 @@ def main() -> int:
     codec, failed = Codec(sys.argv[1]), 0
     with open(sys.argv[2], encoding="utf-8") as file:
         rows = [line.rstrip("\n").split("\t") for line in file]
-    for name, digits, said, filled in rows:
+    for name, digits, expected, filled in rows:
         data = b"" if digits == "-" else bytes.fromhex(digits)
         # a rejected message leaves as much room as any has
         count = filled.count("+") or 8
-        is_told = found(codec, name, data, count) == wanted(name, data, said, filled)
-        if not is_told:
+        is_as_expected = found(codec, name, data, count) == wanted(name, data, expected, filled)
+        if not is_as_expected:
             failed += 1
-            print(f"{name} {digits}: {found(codec, name, data, count)}, and not {said}, {filled}")
+            print(f"{name} {digits}: {found(codec, name, data, count)}, and not {expected}, {filled}")
     print(f"{len(rows)} rows, {failed} failed")
     return 1 if failed or len(rows) < 100 else 0
 

@@ -13,14 +13,14 @@ def main() -> int:
         data = b"" if digits == "-" else bytes.fromhex(digits)
         status, taken, at, detail = map(int, validated.split())
         try:
-            said = (0, len(codec.split(name, data)[0]), 0, 0)
+            outcome = (0, len(codec.split(name, data)[0]), 0, 0)
         except Rejected as rejected:
-            said = (rejected.status, 0, rejected.at, rejected.detail)
+            outcome = (rejected.status, 0, rejected.at, rejected.detail)
         decoded = codec.outcome(f"{name}_check", data)
         is_alike = (decoded.status, decoded.taken, decoded.at, decoded.detail) == (status, taken, 0, detail)
-        if said != (status, taken, at, detail) or not is_alike:
+        if outcome != (status, taken, at, detail) or not is_alike:
             failed += 1
-            print(f"{name} {digits}: {said}, and not {validated}, or the decoder says otherwise")
+            print(f"{name} {digits}: {outcome}, and not {validated}, or the decoder says otherwise")
     try:
         codec.exactly("tls13_alert", b"\1\0\7")
         failed += 1

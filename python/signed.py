@@ -5,7 +5,7 @@ import sys
 from tls_codec import STATUSES, Codec, Rejected
 
 
-def told(codec: Codec, columns: list[str]) -> str:
+def answer(codec: Codec, columns: list[str]) -> str:
     """What is written, or why it is rejected."""
     content, context = (bytes.fromhex("" if it == "-" else it) for it in columns[1:3])
     try:
@@ -23,6 +23,6 @@ def wanted(columns: list[str]) -> str:
 
 codec = Codec(sys.argv[1])
 rows = [line.rstrip("\n").split("\t") for line in open(sys.argv[2], encoding="utf-8")]
-failed = [it for it in rows if told(codec, it) != wanted(it)]
+failed = [it for it in rows if answer(codec, it) != wanted(it)]
 print(f"{len(rows)} rows, {len(failed)} failed", *failed, sep="\n")
 sys.exit(bool(failed or not rows))

@@ -60,15 +60,15 @@ class Codec:
 
     def accepted(self, name: str, data: bytes, *filled: object) -> Outcome:
         """The same of bytes that are accepted."""
-        said = self.outcome(name, data, *filled)
-        if said.status:
-            raise Rejected(said.status, said.at, said.detail)
-        return said
+        outcome = self.outcome(name, data, *filled)
+        if outcome.status:
+            raise Rejected(outcome.status, outcome.at, outcome.detail)
+        return outcome
 
     def split(self, message: str, data: bytes) -> tuple[bytes, bytes]:
         """The message that the bytes begin with, and the rest of them. The message is named as in the headers, without `_validate`."""
-        said = self.accepted(f"{message}_validate", data)
-        return data[: said.taken], data[said.taken :]
+        outcome = self.accepted(f"{message}_validate", data)
+        return data[: outcome.taken], data[outcome.taken :]
 
     def fields(self, message: str, names: list[str], data: bytes) -> dict[str, bytes]:
         """The first fields of the message that the bytes begin with, by the names that its struct has in the headers, in that order."""
@@ -80,9 +80,9 @@ class Codec:
         """The elements of a list, of which these are the bytes after its length: named as in the headers, without `_next`."""
         left, found = Span(0, len(content)), Span()
         while left.size:
-            said, at = self.outcome(f"{element}_next", content, left, found), left.offset
-            if said.status:
-                raise Rejected(said.status, at + said.at, said.detail)
+            outcome, at = self.outcome(f"{element}_next", content, left, found), left.offset
+            if outcome.status:
+                raise Rejected(outcome.status, at + outcome.at, outcome.detail)
             yield found.of(content)
 
     def message_kind(self, data: bytes) -> int:
@@ -96,11 +96,11 @@ class Codec:
         call, out = self.library["mls_framed_content_tbs_encode"], ctypes.create_string_buffer(4 + len(content) + len(context))
         call.restype, pair = Outcome, [ctypes.c_char_p, ctypes.c_size_t]
         call.argtypes = [ctypes.c_uint16, *pair, *pair, ctypes.c_void_p, ctypes.c_size_t]
-        said = call(wire_format, content, len(content), context, len(context), out, len(out))
-        if said.status:
-            raise Rejected(said.status, said.at, said.detail)
-        if said.taken != len(out):
-            raise Rejected(STATUSES.index("TrailingData"), said.taken)
+        outcome = call(wire_format, content, len(content), context, len(context), out, len(out))
+        if outcome.status:
+            raise Rejected(outcome.status, outcome.at, outcome.detail)
+        if outcome.taken != len(out):
+            raise Rejected(STATUSES.index("TrailingData"), outcome.taken)
         return out.raw
 
     def exactly(self, message: str, data: bytes) -> None:

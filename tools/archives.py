@@ -24,7 +24,7 @@ INLINED = 1500
 
 
 class NotBuilt(Exception):
-    """What was said where no archive came of it."""
+    """The output, where no archive was built."""
 
 
 def is_left_by_ci(libraries: Libraries, crate: str) -> bool:
@@ -35,9 +35,9 @@ def is_left_by_ci(libraries: Libraries, crate: str) -> bool:
 
 def ran(words: list[str], crate: str) -> None:
     how = {"stdin": subprocess.DEVNULL, "stdout": subprocess.PIPE, "stderr": subprocess.STDOUT}
-    said = subprocess.run(words, cwd=CRATES / crate, text=True, errors="replace", **how)
-    if said.returncode:
-        raise NotBuilt(f"{crate}: {said.stdout[-3000:]}")
+    output = subprocess.run(words, cwd=CRATES / crate, text=True, errors="replace", **how)
+    if output.returncode:
+        raise NotBuilt(f"{crate}: {output.stdout[-3000:]}")
 
 
 def toolchain(kit: pathlib.Path, folder: pathlib.Path) -> pathlib.Path:

@@ -22,13 +22,13 @@ ROWS = [CRATES / "test_outcome" / "stdout", TOP / "c" / "tests" / "tls13.tsv"]
 TIMED = {"mls_key_package": ("KEY_PACKAGE", "KeyPackage"), "mls_private_message": ("PRIVATE_MESSAGE", "PrivateMessage")}
 
 
-def said(words: list[object]) -> str:
+def output_of(words: list[object]) -> str:
     return subprocess.run([str(it) for it in words], stdout=subprocess.PIPE, stderr=subprocess.STDOUT, text=True, check=True).stdout
 
 
 def size(archive: pathlib.Path) -> int:
     """The bytes of code and constants."""
-    return sum(int(line.split()[0]) for line in said(["size", archive]).splitlines()[1:])
+    return sum(int(line.split()[0]) for line in output_of(["size", archive]).splitlines()[1:])
 
 
 def bench_bytes(name: str) -> bytes:
@@ -41,7 +41,7 @@ def bench_bytes(name: str) -> bytes:
 def stack(program: pathlib.Path) -> None:
     most: dict[str, list[int]] = {}
     for rows in ROWS:
-        for line in said([program, rows]).splitlines():
+        for line in output_of([program, rows]).splitlines():
             name, *calls = line.split()
             family = name.partition("_")[0]
             most[family] = [max(pair) for pair in zip(map(int, calls), most.get(family, [0, 0]))]
@@ -52,7 +52,7 @@ def stack(program: pathlib.Path) -> None:
 def counted(program: pathlib.Path, row: pathlib.Path, call: str) -> int:
     """The instructions of one call."""
     words = ["valgrind", "--tool=callgrind", "--callgrind-out-file=/dev/null", f"--toggle-collect={call}", program, row]
-    return int(re.search(r"Collected : (\d+)", said(words)).group(1))
+    return int(re.search(r"Collected : (\d+)", output_of(words)).group(1))
 
 
 def main() -> int:
@@ -65,14 +65,14 @@ def main() -> int:
         program, row = pathlib.Path(folder) / "figures", pathlib.Path(folder) / "row"
         source = TOP / "c" / "tests" / "figures.c"
         words = ["cc", "-std=c99", "-O2", "-pthread", "-I", TOP / "c" / "include", "-o", program, source, *built]
-        said([*words, archives / "libtls_codec_heap.a", "-Wl,-z,now"])
+        output_of([*words, archives / "libtls_codec_heap.a", "-Wl,-z,now"])
         stack(program)
         for message, (name, case) in TIMED.items():
             data = bench_bytes(name)
             row.write_text(f"{message}\t{data.hex()}\n")
             beside = in_rattle.get(case, {})
-            told = f", in Rattle {beside['validate']:.0f}" if beside else ""
-            print(f"{message}_validate of {len(data)} bytes: {counted(program, row, f'{message}_validate')} instructions{told}")
+            in_rattle = f", in Rattle {beside['validate']:.0f}" if beside else ""
+            print(f"{message}_validate of {len(data)} bytes: {counted(program, row, f'{message}_validate')} instructions{in_rattle}")
     return 0
 
 

@@ -110,9 +110,9 @@ def difference(answers: pathlib.Path, at: int, lines: list[str]) -> str | None:
     if not status.is_file():
         return "it didn't end"
     printed = (answers / f"{at}.out").read_text(errors="replace")
-    said = printed + (answers / f"{at}.err").read_text(errors="replace")
+    output = printed + (answers / f"{at}.err").read_text(errors="replace")
     if status.read_text().strip() != "0":
-        return f"status {status.read_text().strip()}\n{said[-2000:]}"
+        return f"status {status.read_text().strip()}\n{output[-2000:]}"
     if lines and printed.rstrip("\n").split("\n") != lines:
         return f"it printed\n{printed[-2000:]}"
     return None

@@ -203,9 +203,9 @@ def outcome_header() -> str:
     for it in structs():
         body += [*struct_in_c(it), ""] if structs()[it].crate == "tls_codec_outcome" else []
     body += ["/* The status if all of the bytes are to be used: TLS_CODEC_TRAILING_DATA if one is left. */"]
-    body += ["static inline uint32_t tls_codec_exactly(tls_codec_outcome said, size_t length) {"]
-    body += ["  int is_left = said.status == TLS_CODEC_ACCEPTED && said.taken != length;"]
-    body += ["  return is_left ? (uint32_t)TLS_CODEC_TRAILING_DATA : said.status;", "}", ""]
+    body += ["static inline uint32_t tls_codec_exactly(tls_codec_outcome outcome, size_t length) {"]
+    body += ["  int is_left = outcome.status == TLS_CODEC_ACCEPTED && outcome.taken != length;"]
+    body += ["  return is_left ? (uint32_t)TLS_CODEC_TRAILING_DATA : outcome.status;", "}", ""]
     body += ["/* The name of a status, as \"EndOfStream\"; \"?\" of another number. */"]
     body += ["static inline const char *tls_codec_status_name(uint32_t status) {", "  switch (status) {"]
     body += [f'  case TLS_CODEC_{spaced(name)}: return "{name}";' for name, _, _ in names]
@@ -250,8 +250,8 @@ def found_in_rust(export: Export, name: str, text: str, kinds: tuple[str, str, s
     returned, filled, found = kinds
     lines = ["", f"    /// {export.text} Returns {text}, and the rest of the bytes.", f"    pub fn {name}(bytes: &[u8]) -> Result<({returned}, &[u8]), Rejected> {{"]
     lines += [f"        let mut found = {filled};", f"        // SAFETY: {SAFE}"]
-    lines += [f"        let said = unsafe {{ foreign::{export.name}(bytes.as_ptr(), bytes.len(), &mut found) }};"]
-    return [*lines, "        let (_, rest) = split_as(bytes, said)?;", f"        Ok(({found}, rest))", "    }"]
+    lines += [f"        let outcome = unsafe {{ foreign::{export.name}(bytes.as_ptr(), bytes.len(), &mut found) }};"]
+    return [*lines, "        let (_, rest) = split_as(bytes, outcome)?;", f"        Ok(({found}, rest))", "    }"]
 
 
 def content_in_rust(export: Export, name: str) -> list[str]:
@@ -281,8 +281,8 @@ def located_in_rust(module: str, export: Export) -> list[str]:
     lines += ["    }", "", f"    /// {export.message()}: returns the fields of the one that `bytes` begin with, and the rest.", f"    pub fn {name}(bytes: &[u8]) -> Result<({kind}<'_>, &[u8]), Rejected> {{"]
     lines += [f"        let mut found = foreign::{kind}::default();"]
     lines += [f"        // SAFETY: {SAFE}"]
-    lines += [f"        let said = unsafe {{ foreign::{export.name}(bytes.as_ptr(), bytes.len(), &mut found) }};"]
-    lines += ["        let (_, rest) = split_as(bytes, said)?;", f"        let fields = {kind} {{"]
+    lines += [f"        let outcome = unsafe {{ foreign::{export.name}(bytes.as_ptr(), bytes.len(), &mut found) }};"]
+    lines += ["        let (_, rest) = split_as(bytes, outcome)?;", f"        let fields = {kind} {{"]
     lines += [f"            {field}: found.{field}.of(bytes)," for _, field, _ in it.fields]
     return [*lines, "        };", "        Ok((fields, rest))", "    }"]
 
@@ -295,9 +295,9 @@ def encoder_in_rust(export: Export, name: str) -> list[str]:
     parameters = ", ".join(f"{it}: {kind}" for it, kind in export.parameters).replace("&mut [u8]", "&'a mut [u8]")
     lines = ["", f"    /// {export.text} Returns the written bytes, if they are accepted.", f"    pub fn {name}<'a>({parameters}) -> Result<&'a [u8], Rejected> {{"]
     lines += ["        // SAFETY: each pointer is of as many bytes as its length says, and nothing else changes or reads them during the call, which keeps none."]
-    lines += [f"        let said = unsafe {{ foreign::{export.name}({', '.join(passed)}) }};"]
+    lines += [f"        let outcome = unsafe {{ foreign::{export.name}({', '.join(passed)}) }};"]
     sizes = [f"{it}.len()" for it in taken if kinds[it] == "&[u8]"]
-    return [*lines, f"        written_as(out, 4 + {' + '.join(sizes)}, said)", "    }"]
+    return [*lines, f"        written_as(out, 4 + {' + '.join(sizes)}, outcome)", "    }"]
 
 
 def decoders_in_rust(crate: str) -> list[str]:
@@ -362,9 +362,9 @@ def exports_rust() -> str:
     for name, _, number in numbers():
         body += [f"    /// Status {number}.", f"    {name}(u64)," if name in values else f"    {name},"]
     body += ["    /// A status that these declarations don't have.", "    Other(u32),", "}", ""]
-    body += ["impl Error {", "    pub(crate) fn of(said: &Outcome) -> Error {", "        match said.status {"]
+    body += ["impl Error {", "    pub(crate) fn of(outcome: &Outcome) -> Error {", "        match outcome.status {"]
     for name, _, number in numbers():
-        body += [f"            {number} => Error::{name}(said.detail)," if name in values else f"            {number} => Error::{name},"]
+        body += [f"            {number} => Error::{name}(outcome.detail)," if name in values else f"            {number} => Error::{name},"]
     body += ["            other => Error::Other(other),", "        }", "    }", "}"]
     body += ["", *struct_in_rust("Span")]
     for crate in libraries():

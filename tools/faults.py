@@ -115,14 +115,14 @@ def checked(libraries: Libraries, crate: str, room: pathlib.Path, modules: list[
     return subprocess.run(words, cwd=room / "crates" / crate, text=True, errors="replace", **how).stdout
 
 
-def clauses_refused(said: str, crate: str, room: pathlib.Path) -> dict[str, set[str]]:
+def clauses_refused(output: str, crate: str, room: pathlib.Path) -> dict[str, set[str]]:
     """Of each type the clauses of its law for which an answer is no proof; '?' if the law isn't proved for another reason."""
     found: dict[str, set[str]] = {}
-    errors = [it.groups() for it in re.finditer(r"^\./proofs/(\S+):\d+:\d+: error: `([^`]+)`: (.*)", said, re.M)]
+    errors = [it.groups() for it in re.finditer(r"^\./proofs/(\S+):\d+:\d+: error: `([^`]+)`: (.*)", output, re.M)]
     open_goals = [(file, name) for file, name, text in errors if verdicts.NO_PROOF.match(text)]
     for page in sorted((room / "crates" / crate / "specs").glob("*.antt")):
         word = not page.stem.startswith(OF_LAWS) and re.search(r"^abbrev pub (\w+)_plain ", page.read_text(), re.M)
-        law = word and re.search(rf"^fn {crate}::(\w+::{word[1]}_is_as_printed): (.*)", said, re.M)
+        law = word and re.search(rf"^fn {crate}::(\w+::{word[1]}_is_as_printed): (.*)", output, re.M)
         if not law:
             continue
         answers = f"{law[1].replace('::', '/')}/Answers.antt"
@@ -155,16 +155,16 @@ def main() -> int:
         faults = [read(it) for it in sorted(folder.glob("*.fault"))]
         with tempfile.TemporaryDirectory(prefix="faults-") as it:
             room = pathlib.Path(it)
-            said = checked(libraries, crate, room, prepared(crate, faults, room))
-            refused = clauses_refused(said, crate, room)
-        proved = len(re.findall(rf"^fn {crate}::\w+::\w+_is_as_printed: proved$", said, re.M))
+            output = checked(libraries, crate, room, prepared(crate, faults, room))
+            refused = clauses_refused(output, crate, room)
+        proved = len(re.findall(rf"^fn {crate}::\w+::\w+_is_as_printed: proved$", output, re.M))
         for fault in faults:
             is_so = all([refused.pop(name, set()) == clauses for name, clauses in fault.refused.items()])
-            told = ", ".join(f"{name} by {' and '.join(sorted(clauses))}" for name, clauses in fault.refused.items())
-            print(f"{crate}: {fault.name}: {'refused' if is_so else 'NOT REFUSED AS IT SAYS'}: {told}")
+            clauses_of_laws = ", ".join(f"{name} by {' and '.join(sorted(clauses))}" for name, clauses in fault.refused.items())
+            print(f"{crate}: {fault.name}: {'refused' if is_so else 'NOT REFUSED AS IT SAYS'}: {clauses_of_laws}")
             passed, failed = passed + is_so, failed + (not is_so)
         is_rest_proved = not refused and proved > 0
-        print(f"{crate}: {proved} other laws are proved" if is_rest_proved else f"{crate}: refused too: {refused or said[-2000:]}")
+        print(f"{crate}: {proved} other laws are proved" if is_rest_proved else f"{crate}: refused too: {refused or output[-2000:]}")
         passed, failed = passed + is_rest_proved, failed + (not is_rest_proved)
     print(f"{passed} passed, {failed} failed")
     return 1 if failed or not passed else 0

@@ -59,14 +59,14 @@ def main():
     programs = [it for it in sys.argv[1:] if it != "--same-calls"]
     found = [rows(str(pathlib.Path(program).resolve()), len(programs) < len(sys.argv) - 1) for program in programs[:2]]
     for name, calls in found[0].items():
-        told = []
+        costs_of_calls = []
         for call in CALLS:
             costs = [it.get(name, {}).get(call) for it in found]
             if None not in costs:
                 ratio = f" = {costs[0] / costs[1]:.2f}" if len(costs) > 1 else ""
-                told.append(f"{call} " + " / ".join(f"{cost:.0f}" for cost in costs) + ratio)
-        if told:
-            print(f"{name}: " + ", ".join(told))
+                costs_of_calls.append(f"{call} " + " / ".join(f"{cost:.0f}" for cost in costs) + ratio)
+        if costs_of_calls:
+            print(f"{name}: " + ", ".join(costs_of_calls))
 
 
 if __name__ == "__main__":

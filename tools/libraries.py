@@ -34,11 +34,11 @@ class Libraries:
     def words(self, crate: str) -> list[str]:
         kit = self.kit
         root = "src/main.rt" if (CRATES / crate / "src" / "main.rt").is_file() else "src/lib.rt"
-        said = ["--crate-name", crate, root, "--extern", f"std={kit}/rlibs/std.rlib", "-L", f"dependency={kit}/rlibs"]
+        words = ["--crate-name", crate, root, "--extern", f"std={kit}/rlibs/std.rlib", "-L", f"dependency={kit}/rlibs"]
         for it in self.uses[crate]:
-            said += ["--extern", f"{it}={self.rlib(it) if it in self.uses else f'{kit}/rlibs/{it}.rlib'}"]
+            words += ["--extern", f"{it}={self.rlib(it) if it in self.uses else f'{kit}/rlibs/{it}.rlib'}"]
         for it in self.below(crate):
-            said += ["-L", f"dependency={self.rlib(it).parent}"]
+            words += ["-L", f"dependency={self.rlib(it).parent}"]
         logic = ["--antt-project", f"{kit}/rattle/logic/antt-project.json", "--logic-built", f"{kit}/logic_built"]
         crate_type = ["--crate-type", "staticlib"] if crate in self.static else []
-        return [*said, *logic, "--links", f"{crate}=", "--jobs", "1", *crate_type]
+        return [*words, *logic, "--links", f"{crate}=", "--jobs", "1", *crate_type]

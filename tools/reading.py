@@ -88,11 +88,11 @@ def list_findings():
     section = page[page.index("## What to read") :]
     skipped = set(re.findall(r"`(\w+)`", SKIP.search(section)[1]))
     found, checked, read = [], 0, ""
-    for name, said, text in ITEM.findall(section):
+    for name, stated, text in ITEM.findall(section):
         parts = {(crate, path): part(crate, path, end) for crate, path, end in FILE.findall(text)}
         length = sum(map(len, parts.values()))
         checked += 1
-        if length != int(said):
+        if length != int(stated):
             found.append(f"docs/MAP.md: {name} is {length} lines")
         bodies = {key: "\n".join(line for line in lines if "use Rattle." not in line) for key, lines in parts.items()}
         for (crate, path), lines in parts.items():

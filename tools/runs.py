@@ -95,10 +95,10 @@ def is_refused():
         pathlib.Path(cases, "key_package.stdout").touch()
         words = ["rt", "try", "--fail-alloc", str(REFUSED), "--cases", cases]
         ran = subprocess.run(words, cwd=folder, capture_output=True, text=True)
-    told = ran.stdout + ran.stderr
-    if re.search(rf"^case=key_package run=ended status={NO_MEMORY} .*output=expected ", told, re.M):
+    output = ran.stdout + ran.stderr
+    if re.search(rf"^case=key_package run=ended status={NO_MEMORY} .*output=expected ", output, re.M):
         return True
-    print(told)
+    print(output)
     return False
 
 
@@ -114,11 +114,11 @@ def main():
             assert all((cases / f"{name}.stdout").is_file() for name in runs), program
             words = [word for path in sorted(folder.glob("data/*")) for word in ("--data", f"{path.name}=data/{path.name}")]
             ran = subprocess.run(["rt", "try", "--cases", cases, *words], cwd=folder, capture_output=True, text=True)
-        told = ran.stdout + ran.stderr
-        same = [name for name, status in runs.items() if re.search(rf"^case={name} run=ended status={status} .*output=expected ", told, re.M)]
+        output = ran.stdout + ran.stderr
+        same = [name for name, status in runs.items() if re.search(rf"^case={name} run=ended status={status} .*output=expected ", output, re.M)]
         passed += len(same)
         if len(same) < len(runs):
-            print(told)
+            print(output)
     wanted = sum(map(len, STATUS.values())) + 1
     print(f"{passed} of {wanted} runs print what they must, with their exit status")
     print(f"{passed} passed, {wanted - passed} failed")

@@ -33,7 +33,7 @@ class Kind(enum.Enum):
 
 
 @dataclasses.dataclass(frozen=True)
-class Told:
+class Verdict:
     kind: Kind
     text: str
 
@@ -41,26 +41,26 @@ class Told:
         return f"{self.kind.value}: {self.text}"
 
 
-def of(status: int, output: str, crate: str, function: str) -> Told:
+def of(status: int, output: str, crate: str, function: str) -> Verdict:
     """What a check that ended so says of this function of the crate."""
     lines = output.split("\n")
     start = f"fn {crate}::{function}: "
     own = [it.removeprefix(start) for it in lines if it.startswith(start)]
     if status not in ENDED or len(own) != 1:
-        return Told(Kind.NO_LINE, compiler_line(status, lines))
+        return Verdict(Kind.NO_LINE, compiler_line(status, lines))
     if own[0] == "proved":
-        return Told(Kind.PROVED, own[0])
+        return Verdict(Kind.PROVED, own[0])
     if not own[0].startswith(("no proof", "not proved")):
-        return Told(Kind.UNREAD, own[0])
+        return Verdict(Kind.UNREAD, own[0])
     refused, lost = answers(lines, function)
     if refused:
-        return Told(Kind.REFUSED, refused[0])
+        return Verdict(Kind.REFUSED, refused[0])
     if lost:
-        return Told(Kind.LOST, lost[0])
+        return Verdict(Kind.LOST, lost[0])
     found = OPEN.search(own[0])
     if found:
-        return Told(Kind.REFUSED, f"`search` did not prove {found[1]}")
-    return Told(Kind.WAITS if CALLS.search(own[0]) else Kind.UNREAD, own[0])
+        return Verdict(Kind.REFUSED, f"`search` did not prove {found[1]}")
+    return Verdict(Kind.WAITS if CALLS.search(own[0]) else Kind.UNREAD, own[0])
 
 
 def answers(lines: list[str], function: str) -> tuple[list[str], list[str]]:
@@ -77,8 +77,8 @@ def answers(lines: list[str], function: str) -> tuple[list[str], list[str]]:
 
 def compiler_line(status: int, lines: list[str]) -> str:
     """The first error of what compiles the crate, or else the last line."""
-    said = [it for it in lines if re.search(r"\berror(\[[\w-]+\])?: ", it)] or [it for it in lines[::-1] if it.strip()]
-    return said[0][:300] if said else f"it ended with status {status}, and printed nothing"
+    errors = [it for it in lines if re.search(r"\berror(\[[\w-]+\])?: ", it)] or [it for it in lines[::-1] if it.strip()]
+    return errors[0][:300] if errors else f"it ended with status {status}, and printed nothing"
 
 
 def selftest(folder: pathlib.Path) -> int:
@@ -90,9 +90,9 @@ def selftest(folder: pathlib.Path) -> int:
         crate, status, *wanted = head.split("\n")
         for line in wanted:
             function, kind = line.split()
-            told = of(int(status), output, crate, function)
-            if told.kind is not Kind[kind]:
-                print(f"{path.name}: {function} is {kind}, and read as {told.kind.name}: {told.text}")
+            verdict = of(int(status), output, crate, function)
+            if verdict.kind is not Kind[kind]:
+                print(f"{path.name}: {function} is {kind}, and read as {verdict.kind.name}: {verdict.text}")
                 failed += 1
-    print(f"{len(paths)} outputs of rattle in said/ were read, and {failed} functions in them misread")
+    print(f"{len(paths)} outputs of rattle in outputs/ were read, and {failed} functions in them misread")
     return 1 if failed or not paths else 0

@@ -46,13 +46,13 @@ def main():
         for kind in ("args", "stdout"):
             shutil.copy(CRATES / "tlsgen" / kind, pathlib.Path(cases, f"{STORED}.{kind}"))
         ran = subprocess.run(["rt", "try", "--cases", cases, *words], cwd=CRATES / "tlsgen", capture_output=True, text=True)
-    told = ran.stdout + ran.stderr
-    same = {run for run in RUNS if re.search(rf"^case={run} run=ended status=0 ", told, re.M)}
-    same |= set(re.findall(rf"^case=({STORED}) run=ended status=0 .*output=expected ", told, re.M))
+    output = ran.stdout + ran.stderr
+    same = {run for run in RUNS if re.search(rf"^case={run} run=ended status=0 ", output, re.M)}
+    same |= set(re.findall(rf"^case=({STORED}) run=ended status=0 .*output=expected ", output, re.M))
     wanted = len(RUNS) + 1
     print(f"{len(same)} of {wanted} texts are what tlsgen writes today")
     if len(same) < wanted:
-        print(told)
+        print(output)
     print(f"{len(same)} passed, {wanted - len(same)} failed")
     sys.exit(len(same) < wanted)
 

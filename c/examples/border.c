@@ -11,10 +11,10 @@ int main(void) {
     fprintf(stderr, "%zu bytes or more, or the read failed\n", sizeof bytes);
     return 1;
   }
-  tls_codec_outcome said = mls_message_validate(bytes, length);
-  uint32_t status = tls_codec_exactly(said, length);
+  tls_codec_outcome outcome = mls_message_validate(bytes, length);
+  uint32_t status = tls_codec_exactly(outcome, length);
   if (status != TLS_CODEC_ACCEPTED) {
-    size_t at = status == TLS_CODEC_TRAILING_DATA ? said.taken : said.at;
+    size_t at = status == TLS_CODEC_TRAILING_DATA ? outcome.taken : outcome.at;
     fprintf(stderr, "%s at byte %zu of %zu\n", tls_codec_status_name(status), at, length);
     return 1;
   }

@@ -5,11 +5,11 @@
 int main(void) {
   static uint8_t bytes[1 << 20];
   size_t length = fread(bytes, 1, sizeof bytes, stdin), from = 0;
-  tls_codec_outcome said = tls13_tls_plaintext_validate(bytes, length);
-  while (said.status == TLS_CODEC_ACCEPTED) {
-    printf("%zu\n", said.taken);
-    from += said.taken;
-    said = tls13_tls_plaintext_validate(bytes + from, length - from);
+  tls_codec_outcome outcome = tls13_tls_plaintext_validate(bytes, length);
+  while (outcome.status == TLS_CODEC_ACCEPTED) {
+    printf("%zu\n", outcome.taken);
+    from += outcome.taken;
+    outcome = tls13_tls_plaintext_validate(bytes + from, length - from);
   }
   printf("%zu left\n", length - from);
   return from < length;

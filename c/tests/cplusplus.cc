@@ -12,7 +12,7 @@ int main() {
   const uint8_t alert[] = {1, 0, 0xee};
   const bool is_alert = tls13_alert_validate(alert, sizeof alert).taken == 2 && tls13_alert_check(alert, sizeof alert).taken == 2;
   const uint8_t suite[] = {0, 1};
-  const tls_codec_outcome said = mls_welcome_validate(suite, sizeof suite);
+  const tls_codec_outcome outcome = mls_welcome_validate(suite, sizeof suite);
   const tls_codec_outcome decoded = mls_welcome_check(suite, sizeof suite);
   const tls_codec_outcome none = mls_message_validate(nullptr, 0);
   const uint8_t varint[] = {0x3f, 0xee};
@@ -22,7 +22,7 @@ int main() {
   const bool is_content = tls_codec_opaque_u16_locate(opaque, sizeof opaque, &content).taken == 4 && content.offset == 2 &&
                           content.size == 2;
   const bool is_kept = tls_codec_opaque_v_locate(opaque + 1, 2, &content).status == TLS_CODEC_DECODING_ERROR && content.offset == 2;
-  const bool is_well = is_alert && is_content && is_kept && said.status == TLS_CODEC_END_OF_STREAM && said.at == 2 && one.taken == 1 &&
+  const bool is_well = is_alert && is_content && is_kept && outcome.status == TLS_CODEC_END_OF_STREAM && outcome.at == 2 && one.taken == 1 &&
                        decoded.status == TLS_CODEC_END_OF_STREAM && decoded.at == 0 &&
                        none.status == TLS_CODEC_END_OF_STREAM &&
                        tls_codec_exactly(one, sizeof varint) == TLS_CODEC_TRAILING_DATA &&

@@ -59,9 +59,9 @@ static const struct message *find(const char *name) {
 /* The status, with one request refused, or none if it is 0; 99 if a block is left. */
 static uint32_t with_refused(const struct message *it, const uint8_t *bytes, size_t length, int number) {
   requests = 0, blocks = 0, refused = number, is_watched = 1;
-  tls_codec_outcome said = it->check(bytes, length);
+  tls_codec_outcome outcome = it->check(bytes, length);
   is_watched = 0;
-  return blocks ? 99 : said.status;
+  return blocks ? 99 : outcome.status;
 }
 
 /* The number of requests that were refused one by one, or -1. */
@@ -102,7 +102,7 @@ int main(int count, char **words) {
     all += found > 0 ? found : 0;
     if (found >= 0 && asks_nothing(it, bytes, length)) continue;
     failed++;
-    printf("%s %s: refused memory isn't told, a block is left, or the validator asks for memory\n", name, digits);
+    printf("%s %s: refused memory isn't reported, a block is left, or the validator asks for memory\n", name, digits);
   }
   fclose(file);
   printf("%d rows, %d requests refused, %d failed\n", rows, all, failed);

@@ -24,8 +24,8 @@ static const struct list lists[] = {
 #undef LISTED
 };
 
-struct told {
-  tls_codec_outcome said;
+struct answer {
+  tls_codec_outcome outcome;
   char filled[4096];
 };
 
@@ -35,7 +35,7 @@ static const struct list *find(const char *name) {
   return NULL;
 }
 
-static void add(struct told *it, tls_codec_span place) {
+static void add(struct answer *it, tls_codec_span place) {
   size_t used = strlen(it->filled);
   snprintf(it->filled + used, sizeof it->filled - used, "%s%zu+%zu", used ? " " : "", place.offset, place.size);
 }
@@ -43,16 +43,16 @@ static void add(struct told *it, tls_codec_span place) {
 static int is_place(tls_codec_span it, size_t offset, size_t size) { return it.offset == offset && it.size == size; }
 
 /* Goes over a list. Returns whether each call moves what is left behind the element, or, if it rejects the bytes, moves nothing. */
-static int go_over(next *next, const uint8_t *bytes, size_t length, struct told *told) {
+static int go_over(next *next, const uint8_t *bytes, size_t length, struct answer *answer) {
   tls_codec_span left = {0, length}, element = {7, 8};
   do {
     tls_codec_span old = left, before = element;
-    told->said = next(bytes, length, &left, &element);
-    size_t taken = told->said.taken;
-    if (told->said.status != TLS_CODEC_ACCEPTED)
+    answer->outcome = next(bytes, length, &left, &element);
+    size_t taken = answer->outcome.taken;
+    if (answer->outcome.status != TLS_CODEC_ACCEPTED)
       return !taken && is_place(left, old.offset, old.size) && is_place(element, before.offset, before.size);
     if (!taken || taken > old.size || !is_place(element, old.offset, taken) || !is_place(left, old.offset + taken, old.size - taken)) return 0;
-    add(told, element);
+    add(answer, element);
   } while (left.size);
   return 1;
 }
@@ -60,33 +60,33 @@ static int go_over(next *next, const uint8_t *bytes, size_t length, struct told 
 static int is_sound_with_each_bit_turned(next *next, uint8_t *bytes, size_t length) {
   int failed = 0;
   for (size_t bit = 0; bit < 8 * length; bit++) {
-    struct told told = {{0, 0, 0, 0}, ""};
+    struct answer answer = {{0, 0, 0, 0}, ""};
     bytes[bit / 8] ^= (uint8_t)(1u << bit % 8);
-    failed += !go_over(next, bytes, length, &told);
+    failed += !go_over(next, bytes, length, &answer);
     bytes[bit / 8] ^= (uint8_t)(1u << bit % 8);
   }
   return failed == 0;
 }
 
 /* Calls the function of this name. Returns whether there is one, and its calls are sound. */
-static int call(const char *name, uint8_t *bytes, size_t length, struct told *told) {
+static int call(const char *name, uint8_t *bytes, size_t length, struct answer *answer) {
   const struct list *list = find(name);
-  if (list) return go_over(list->next, bytes, length, told) && is_sound_with_each_bit_turned(list->next, bytes, length);
+  if (list) return go_over(list->next, bytes, length, answer) && is_sound_with_each_bit_turned(list->next, bytes, length);
   if (strcmp(name, "mls_message_kind") == 0) {
     uint16_t kind = 77;
-    told->said = mls_message_kind(bytes, length, &kind);
-    if (told->said.status != TLS_CODEC_ACCEPTED) return kind == 77;
-    sprintf(told->filled, "%d", kind);
+    answer->outcome = mls_message_kind(bytes, length, &kind);
+    if (answer->outcome.status != TLS_CODEC_ACCEPTED) return kind == 77;
+    sprintf(answer->filled, "%d", kind);
     return 1;
   }
 #define LOCATED(message, fields)                                                                      \
   if (strcmp(name, #message "_locate") == 0) {                                                        \
     fields it;                                                                                        \
     tls_codec_span places[sizeof it / sizeof(tls_codec_span)];                                        \
-    told->said = message##_locate(bytes, length, &it);                                                \
-    if (told->said.status != TLS_CODEC_ACCEPTED) return 1;                                            \
+    answer->outcome = message##_locate(bytes, length, &it);                                                \
+    if (answer->outcome.status != TLS_CODEC_ACCEPTED) return 1;                                            \
     memcpy(places, &it, sizeof it);                                                                   \
-    for (size_t i = 0; i < sizeof places / sizeof *places; i++) add(told, places[i]);                 \
+    for (size_t i = 0; i < sizeof places / sizeof *places; i++) add(answer, places[i]);                 \
     return 1;                                                                                         \
   }
 #include "exports.inc"
@@ -104,23 +104,23 @@ static int are_bounds_kept(void) {
   is_well &= tls13_extension_next(bytes, 4, &left, &element).status == TLS_CODEC_END_OF_STREAM && is_place(left, SIZE_MAX, 5);
   left.offset = 0, left.size = 3;
   is_well &= tls13_extension_next(bytes, 4, &left, &element).status == TLS_CODEC_END_OF_STREAM && is_place(element, 0, 4);
-  if (!is_well) printf("tls13_extension_next: a place that isn't in the bytes is told otherwise\n");
+  if (!is_well) printf("tls13_extension_next: a place that isn't in the bytes has another outcome\n");
   return is_well;
 }
 
-static int is_told(const char *name, char *digits, const char *said, const char *filled) {
-  struct told told = {{0, 0, 0, 0}, ""};
+static int is_as_expected(const char *name, char *digits, const char *wanted, const char *filled) {
+  struct answer answer = {{0, 0, 0, 0}, ""};
   char text[128];
   size_t length = strcmp(digits, "-") == 0 ? 0 : strlen(digits) / 2;
   uint8_t *bytes = malloc(length ? length : 1);
   if (!bytes) return 0;
   for (size_t i = 0; i < length; i++) sscanf(digits + 2 * i, "%2" SCNx8, &bytes[i]);
-  int is_sound = call(name, bytes, length, &told);
+  int is_sound = call(name, bytes, length, &answer);
   free(bytes);
-  snprintf(text, sizeof text, "%" PRIu32 " %zu %zu %" PRIu64, told.said.status, told.said.taken, told.said.at, told.said.detail);
-  const char *found = *told.filled ? told.filled : "-";
-  if (is_sound && strcmp(text, said) == 0 && strcmp(found, filled) == 0) return 1;
-  printf("%s %s: %s, %s, and not %s, %s%s\n", name, digits, text, found, said, filled, is_sound ? "" : "; its calls aren't sound");
+  snprintf(text, sizeof text, "%" PRIu32 " %zu %zu %" PRIu64, answer.outcome.status, answer.outcome.taken, answer.outcome.at, answer.outcome.detail);
+  const char *found = *answer.filled ? answer.filled : "-";
+  if (is_sound && strcmp(text, wanted) == 0 && strcmp(found, filled) == 0) return 1;
+  printf("%s %s: %s, %s, and not %s, %s%s\n", name, digits, text, found, wanted, filled, is_sound ? "" : "; its calls aren't sound");
   return 0;
 }
 
@@ -130,10 +130,10 @@ int main(int count, char **words) {
   if (!file) return 2;
   int rows = 0, failed = !are_bounds_kept();
   while (fgets(line, sizeof line, file)) {
-    char *name = strtok(line, "\t"), *digits = strtok(NULL, "\t"), *said = strtok(NULL, "\t"), *filled = strtok(NULL, "\n");
+    char *name = strtok(line, "\t"), *digits = strtok(NULL, "\t"), *wanted = strtok(NULL, "\t"), *filled = strtok(NULL, "\n");
     if (!filled) return 2;
     rows++;
-    failed += !is_told(name, digits, said, filled);
+    failed += !is_as_expected(name, digits, wanted, filled);
   }
   fclose(file);
   printf("%d rows, %d failed\n", rows, failed);

@@ -29,7 +29,7 @@ static const struct message messages[] = {
 
 /* What a `locate` says, and what it leaves in its struct. */
 struct located {
-  tls_codec_outcome said;
+  tls_codec_outcome outcome;
   size_t count;
   tls_codec_span spans[8];
 };
@@ -47,7 +47,7 @@ static struct located locate(const char *name, const uint8_t *bytes, size_t leng
   if (strcmp(name, #message) == 0) {                                   \
     fields it;                                                         \
     memset(&it, 0xa5, sizeof it);                                      \
-    found.said = message##_locate(bytes, length, &it);                 \
+    found.outcome = message##_locate(bytes, length, &it);                 \
     found.count = sizeof it / sizeof(tls_codec_span);                  \
     memcpy(found.spans, &it, sizeof it);                               \
   }
@@ -79,21 +79,21 @@ static int are_in(const struct located *it, size_t taken) {
 }
 
 /* Whether the decoder says the same, but for the place. */
-static int is_decoded_alike(const struct message *it, tls_codec_outcome said, const uint8_t *bytes, size_t length) {
-  said.at = 0;
-  return is_same(it->check(bytes, length), said);
+static int is_decoded_alike(const struct message *it, tls_codec_outcome outcome, const uint8_t *bytes, size_t length) {
+  outcome.at = 0;
+  return is_same(it->check(bytes, length), outcome);
 }
 
 /* What has to be so of any bytes. */
 static int is_sound(const struct message *it, const uint8_t *bytes, size_t length) {
-  tls_codec_outcome said = it->validate(bytes, length);
+  tls_codec_outcome outcome = it->validate(bytes, length);
   struct located found = locate(it->name, bytes, length);
-  int is_accepted = said.status == TLS_CODEC_ACCEPTED;
-  int is_well = is_accepted ? said.taken <= length && !said.at && !said.detail
-                            : !said.taken && said.at <= length && said.status < TLS_CODEC_OUT_OF_MEMORY;
-  is_well &= is_decoded_alike(it, said, bytes, length);
+  int is_accepted = outcome.status == TLS_CODEC_ACCEPTED;
+  int is_well = is_accepted ? outcome.taken <= length && !outcome.at && !outcome.detail
+                            : !outcome.taken && outcome.at <= length && outcome.status < TLS_CODEC_OUT_OF_MEMORY;
+  is_well &= is_decoded_alike(it, outcome, bytes, length);
   if (!found.count) return is_well;
-  return is_well && is_same(said, found.said) && (is_accepted ? are_in(&found, said.taken) : is_kept(&found));
+  return is_well && is_same(outcome, found.outcome) && (is_accepted ? are_in(&found, outcome.taken) : is_kept(&found));
 }
 
 static int is_sound_with_each_bit_turned(const struct message *it, uint8_t *bytes, size_t length) {
@@ -111,7 +111,7 @@ static int is_sound_with_each_bit_turned(const struct message *it, uint8_t *byte
 static int are_placed(const struct message *it, const uint8_t *bytes, size_t length, const char *wanted) {
   char text[512] = "";
   struct located found = locate(it->name, bytes, length);
-  for (size_t i = 0; found.said.status == TLS_CODEC_ACCEPTED && i < found.count; i++) {
+  for (size_t i = 0; found.outcome.status == TLS_CODEC_ACCEPTED && i < found.count; i++) {
     size_t used = strlen(text);
     snprintf(text + used, sizeof text - used, "%s%zu+%zu", i ? " " : "", found.spans[i].offset, found.spans[i].size);
   }
@@ -120,11 +120,11 @@ static int are_placed(const struct message *it, const uint8_t *bytes, size_t len
   return 0;
 }
 
-static int is_told(const char *name, const char *call, tls_codec_outcome said, const char *wanted) {
+static int is_as_expected(const char *name, const char *call, tls_codec_outcome outcome, const char *wanted) {
   char text[128];
-  snprintf(text, sizeof text, "%" PRIu32 " %zu %zu %" PRIu64, said.status, said.taken, said.at, said.detail);
+  snprintf(text, sizeof text, "%" PRIu32 " %zu %zu %" PRIu64, outcome.status, outcome.taken, outcome.at, outcome.detail);
   if (strcmp(text, wanted) == 0) return 1;
-  printf("%s: the %s says %s (%s), and not %s\n", name, call, text, tls_codec_status_name(said.status), wanted);
+  printf("%s: the %s says %s (%s), and not %s\n", name, call, text, tls_codec_status_name(outcome.status), wanted);
   return 0;
 }
 
@@ -152,8 +152,8 @@ int main(int count, char **words) {
       return 2;
     }
     rows++;
-    int is_well = is_told(name, "validator", it->validate(bytes, length), validated);
-    is_well &= !decoded || is_told(name, "decoder", it->check(bytes, length), decoded);
+    int is_well = is_as_expected(name, "validator", it->validate(bytes, length), validated);
+    is_well &= !decoded || is_as_expected(name, "decoder", it->check(bytes, length), decoded);
     is_well &= !decoded || are_placed(it, bytes, length, fields ? fields : "");
     failed += !(is_sound_with_each_bit_turned(it, bytes, length) && is_well);
     free(bytes);

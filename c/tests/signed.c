@@ -1,4 +1,4 @@
-/* signed FILE: what is written of the parts of each row, and what is said of it.
+/* signed FILE: what is written of the parts of each row, and the outcome.
  *
  * A row has a wire format, the hex of a FramedContent and of a GroupContext or `-`, what the call is to say, as
  * `STATUS TAKEN AT DETAIL`, and the hex of what it is to write. A buffer with a byte too few has to be left as it was. */
@@ -31,21 +31,21 @@ int main(int count, char **words) {
   while (fgets(line, sizeof line, file)) {
     uint16_t wire_format = (uint16_t)atoi(strtok(line, "\t"));
     size_t content_length = bytes_of(strtok(NULL, "\t"), content), context_length = bytes_of(strtok(NULL, "\t"), context);
-    char *wanted = strtok(NULL, "\t"), told[100];
+    char *wanted = strtok(NULL, "\t"), text[100];
     size_t size = bytes_of(strtok(NULL, "\t\n"), written);
     uint8_t *out = malloc(size + SPARE);
     if (!out) return 2;
     memset(out, MARK, size + SPARE);
     tls_codec_outcome none = mls_framed_content_tbs_encode(wire_format, content, content_length, context, context_length, out, size - 1);
     int is_kept = none.status == TLS_CODEC_INVALID_WRITE_LENGTH && !none.taken && !none.at && !none.detail && are_marks(out, size + SPARE);
-    tls_codec_outcome said = mls_framed_content_tbs_encode(wire_format, content, content_length, context, context_length, out, size + SPARE);
-    snprintf(told, sizeof told, "%" PRIu32 " %zu %zu %" PRIu64, said.status, said.taken, said.at, said.detail);
+    tls_codec_outcome outcome = mls_framed_content_tbs_encode(wire_format, content, content_length, context, context_length, out, size + SPARE);
+    snprintf(text, sizeof text, "%" PRIu32 " %zu %zu %" PRIu64, outcome.status, outcome.taken, outcome.at, outcome.detail);
     int is_written = memcmp(out, written, size) == 0 && are_marks(out + size, SPARE);
     free(out);
     rows++;
-    if (is_kept && is_written && strcmp(told, wanted) == 0) continue;
+    if (is_kept && is_written && strcmp(text, wanted) == 0) continue;
     failed++;
-    printf("row %d: %s, and not %s; written: %d; kept: %d\n", rows, told, wanted, is_written, is_kept);
+    printf("row %d: %s, and not %s; written: %d; kept: %d\n", rows, text, wanted, is_written, is_kept);
   }
   fclose(file);
   printf("%d rows, %d failed\n", rows, failed);

@@ -40,8 +40,8 @@ pub enum Error {
 }
 
 impl Error {
-    pub(crate) fn of(said: &Outcome) -> Error {
-        match said.status {
+    pub(crate) fn of(outcome: &Outcome) -> Error {
+        match outcome.status {
             1 => Error::EncodingError,
             2 => Error::InvalidVectorLength,
             3 => Error::InvalidWriteLength,
@@ -49,7 +49,7 @@ impl Error {
             5 => Error::DecodingError,
             6 => Error::EndOfStream,
             7 => Error::TrailingData,
-            8 => Error::UnknownValue(said.detail),
+            8 => Error::UnknownValue(outcome.detail),
             9 => Error::LibraryError,
             10 => Error::OutOfMemory,
             other => Error::Other(other),
@@ -91,8 +91,8 @@ pub mod tls_codec {
     pub fn opaque_v_locate(bytes: &[u8]) -> Result<(&[u8], &[u8]), Rejected> {
         let mut found = Span::default();
         // SAFETY: the pointer is of as many bytes as the length says, and nothing changes them during the call, which keeps no pointer.
-        let said = unsafe { foreign::tls_codec_opaque_v_locate(bytes.as_ptr(), bytes.len(), &mut found) };
-        let (_, rest) = split_as(bytes, said)?;
+        let outcome = unsafe { foreign::tls_codec_opaque_v_locate(bytes.as_ptr(), bytes.len(), &mut found) };
+        let (_, rest) = split_as(bytes, outcome)?;
         Ok((found.of(bytes), rest))
     }
 
@@ -100,8 +100,8 @@ pub mod tls_codec {
     pub fn opaque_u8_locate(bytes: &[u8]) -> Result<(&[u8], &[u8]), Rejected> {
         let mut found = Span::default();
         // SAFETY: the pointer is of as many bytes as the length says, and nothing changes them during the call, which keeps no pointer.
-        let said = unsafe { foreign::tls_codec_opaque_u8_locate(bytes.as_ptr(), bytes.len(), &mut found) };
-        let (_, rest) = split_as(bytes, said)?;
+        let outcome = unsafe { foreign::tls_codec_opaque_u8_locate(bytes.as_ptr(), bytes.len(), &mut found) };
+        let (_, rest) = split_as(bytes, outcome)?;
         Ok((found.of(bytes), rest))
     }
 
@@ -109,8 +109,8 @@ pub mod tls_codec {
     pub fn opaque_u16_locate(bytes: &[u8]) -> Result<(&[u8], &[u8]), Rejected> {
         let mut found = Span::default();
         // SAFETY: the pointer is of as many bytes as the length says, and nothing changes them during the call, which keeps no pointer.
-        let said = unsafe { foreign::tls_codec_opaque_u16_locate(bytes.as_ptr(), bytes.len(), &mut found) };
-        let (_, rest) = split_as(bytes, said)?;
+        let outcome = unsafe { foreign::tls_codec_opaque_u16_locate(bytes.as_ptr(), bytes.len(), &mut found) };
+        let (_, rest) = split_as(bytes, outcome)?;
         Ok((found.of(bytes), rest))
     }
 
@@ -118,8 +118,8 @@ pub mod tls_codec {
     pub fn opaque_u24_locate(bytes: &[u8]) -> Result<(&[u8], &[u8]), Rejected> {
         let mut found = Span::default();
         // SAFETY: the pointer is of as many bytes as the length says, and nothing changes them during the call, which keeps no pointer.
-        let said = unsafe { foreign::tls_codec_opaque_u24_locate(bytes.as_ptr(), bytes.len(), &mut found) };
-        let (_, rest) = split_as(bytes, said)?;
+        let outcome = unsafe { foreign::tls_codec_opaque_u24_locate(bytes.as_ptr(), bytes.len(), &mut found) };
+        let (_, rest) = split_as(bytes, outcome)?;
         Ok((found.of(bytes), rest))
     }
 }
@@ -343,8 +343,8 @@ pub mod tls13 {
     pub fn handshake_locate(bytes: &[u8]) -> Result<(HandshakeFields<'_>, &[u8]), Rejected> {
         let mut found = foreign::HandshakeFields::default();
         // SAFETY: the pointer is of as many bytes as the length says, and nothing changes them during the call, which keeps no pointer.
-        let said = unsafe { foreign::tls13_handshake_locate(bytes.as_ptr(), bytes.len(), &mut found) };
-        let (_, rest) = split_as(bytes, said)?;
+        let outcome = unsafe { foreign::tls13_handshake_locate(bytes.as_ptr(), bytes.len(), &mut found) };
+        let (_, rest) = split_as(bytes, outcome)?;
         let fields = HandshakeFields {
             msg_type: found.msg_type.of(bytes),
             body: found.body.of(bytes),
@@ -373,8 +373,8 @@ pub mod tls13 {
     pub fn client_hello_locate(bytes: &[u8]) -> Result<(ClientHelloFields<'_>, &[u8]), Rejected> {
         let mut found = foreign::ClientHelloFields::default();
         // SAFETY: the pointer is of as many bytes as the length says, and nothing changes them during the call, which keeps no pointer.
-        let said = unsafe { foreign::tls13_client_hello_locate(bytes.as_ptr(), bytes.len(), &mut found) };
-        let (_, rest) = split_as(bytes, said)?;
+        let outcome = unsafe { foreign::tls13_client_hello_locate(bytes.as_ptr(), bytes.len(), &mut found) };
+        let (_, rest) = split_as(bytes, outcome)?;
         let fields = ClientHelloFields {
             legacy_version: found.legacy_version.of(bytes),
             random: found.random.of(bytes),
@@ -407,8 +407,8 @@ pub mod tls13 {
     pub fn server_hello_locate(bytes: &[u8]) -> Result<(ServerHelloFields<'_>, &[u8]), Rejected> {
         let mut found = foreign::ServerHelloFields::default();
         // SAFETY: the pointer is of as many bytes as the length says, and nothing changes them during the call, which keeps no pointer.
-        let said = unsafe { foreign::tls13_server_hello_locate(bytes.as_ptr(), bytes.len(), &mut found) };
-        let (_, rest) = split_as(bytes, said)?;
+        let outcome = unsafe { foreign::tls13_server_hello_locate(bytes.as_ptr(), bytes.len(), &mut found) };
+        let (_, rest) = split_as(bytes, outcome)?;
         let fields = ServerHelloFields {
             legacy_version: found.legacy_version.of(bytes),
             random: found.random.of(bytes),
@@ -431,8 +431,8 @@ pub mod tls13 {
     pub fn encrypted_extensions_locate(bytes: &[u8]) -> Result<(EncryptedExtensionsFields<'_>, &[u8]), Rejected> {
         let mut found = foreign::EncryptedExtensionsFields::default();
         // SAFETY: the pointer is of as many bytes as the length says, and nothing changes them during the call, which keeps no pointer.
-        let said = unsafe { foreign::tls13_encrypted_extensions_locate(bytes.as_ptr(), bytes.len(), &mut found) };
-        let (_, rest) = split_as(bytes, said)?;
+        let outcome = unsafe { foreign::tls13_encrypted_extensions_locate(bytes.as_ptr(), bytes.len(), &mut found) };
+        let (_, rest) = split_as(bytes, outcome)?;
         let fields = EncryptedExtensionsFields {
             extensions: found.extensions.of(bytes),
         };
@@ -452,8 +452,8 @@ pub mod tls13 {
     pub fn certificate_request_locate(bytes: &[u8]) -> Result<(CertificateRequestFields<'_>, &[u8]), Rejected> {
         let mut found = foreign::CertificateRequestFields::default();
         // SAFETY: the pointer is of as many bytes as the length says, and nothing changes them during the call, which keeps no pointer.
-        let said = unsafe { foreign::tls13_certificate_request_locate(bytes.as_ptr(), bytes.len(), &mut found) };
-        let (_, rest) = split_as(bytes, said)?;
+        let outcome = unsafe { foreign::tls13_certificate_request_locate(bytes.as_ptr(), bytes.len(), &mut found) };
+        let (_, rest) = split_as(bytes, outcome)?;
         let fields = CertificateRequestFields {
             certificate_request_context: found.certificate_request_context.of(bytes),
             extensions: found.extensions.of(bytes),
@@ -474,8 +474,8 @@ pub mod tls13 {
     pub fn certificate_locate(bytes: &[u8]) -> Result<(CertificateFields<'_>, &[u8]), Rejected> {
         let mut found = foreign::CertificateFields::default();
         // SAFETY: the pointer is of as many bytes as the length says, and nothing changes them during the call, which keeps no pointer.
-        let said = unsafe { foreign::tls13_certificate_locate(bytes.as_ptr(), bytes.len(), &mut found) };
-        let (_, rest) = split_as(bytes, said)?;
+        let outcome = unsafe { foreign::tls13_certificate_locate(bytes.as_ptr(), bytes.len(), &mut found) };
+        let (_, rest) = split_as(bytes, outcome)?;
         let fields = CertificateFields {
             certificate_request_context: found.certificate_request_context.of(bytes),
             certificate_list: found.certificate_list.of(bytes),
@@ -496,8 +496,8 @@ pub mod tls13 {
     pub fn certificate_verify_locate(bytes: &[u8]) -> Result<(CertificateVerifyFields<'_>, &[u8]), Rejected> {
         let mut found = foreign::CertificateVerifyFields::default();
         // SAFETY: the pointer is of as many bytes as the length says, and nothing changes them during the call, which keeps no pointer.
-        let said = unsafe { foreign::tls13_certificate_verify_locate(bytes.as_ptr(), bytes.len(), &mut found) };
-        let (_, rest) = split_as(bytes, said)?;
+        let outcome = unsafe { foreign::tls13_certificate_verify_locate(bytes.as_ptr(), bytes.len(), &mut found) };
+        let (_, rest) = split_as(bytes, outcome)?;
         let fields = CertificateVerifyFields {
             algorithm: found.algorithm.of(bytes),
             signature: found.signature.of(bytes),
@@ -524,8 +524,8 @@ pub mod tls13 {
     pub fn new_session_ticket_locate(bytes: &[u8]) -> Result<(NewSessionTicketFields<'_>, &[u8]), Rejected> {
         let mut found = foreign::NewSessionTicketFields::default();
         // SAFETY: the pointer is of as many bytes as the length says, and nothing changes them during the call, which keeps no pointer.
-        let said = unsafe { foreign::tls13_new_session_ticket_locate(bytes.as_ptr(), bytes.len(), &mut found) };
-        let (_, rest) = split_as(bytes, said)?;
+        let outcome = unsafe { foreign::tls13_new_session_ticket_locate(bytes.as_ptr(), bytes.len(), &mut found) };
+        let (_, rest) = split_as(bytes, outcome)?;
         let fields = NewSessionTicketFields {
             ticket_lifetime: found.ticket_lifetime.of(bytes),
             ticket_age_add: found.ticket_age_add.of(bytes),
@@ -547,8 +547,8 @@ pub mod tls13 {
     pub fn key_update_locate(bytes: &[u8]) -> Result<(KeyUpdateFields<'_>, &[u8]), Rejected> {
         let mut found = foreign::KeyUpdateFields::default();
         // SAFETY: the pointer is of as many bytes as the length says, and nothing changes them during the call, which keeps no pointer.
-        let said = unsafe { foreign::tls13_key_update_locate(bytes.as_ptr(), bytes.len(), &mut found) };
-        let (_, rest) = split_as(bytes, said)?;
+        let outcome = unsafe { foreign::tls13_key_update_locate(bytes.as_ptr(), bytes.len(), &mut found) };
+        let (_, rest) = split_as(bytes, outcome)?;
         let fields = KeyUpdateFields {
             request_update: found.request_update.of(bytes),
         };
@@ -570,8 +570,8 @@ pub mod tls13 {
     pub fn tls_plaintext_locate(bytes: &[u8]) -> Result<(TLSPlaintextFields<'_>, &[u8]), Rejected> {
         let mut found = foreign::TLSPlaintextFields::default();
         // SAFETY: the pointer is of as many bytes as the length says, and nothing changes them during the call, which keeps no pointer.
-        let said = unsafe { foreign::tls13_tls_plaintext_locate(bytes.as_ptr(), bytes.len(), &mut found) };
-        let (_, rest) = split_as(bytes, said)?;
+        let outcome = unsafe { foreign::tls13_tls_plaintext_locate(bytes.as_ptr(), bytes.len(), &mut found) };
+        let (_, rest) = split_as(bytes, outcome)?;
         let fields = TLSPlaintextFields {
             kind: found.kind.of(bytes),
             legacy_record_version: found.legacy_record_version.of(bytes),
@@ -595,8 +595,8 @@ pub mod tls13 {
     pub fn tls_ciphertext_locate(bytes: &[u8]) -> Result<(TLSCiphertextFields<'_>, &[u8]), Rejected> {
         let mut found = foreign::TLSCiphertextFields::default();
         // SAFETY: the pointer is of as many bytes as the length says, and nothing changes them during the call, which keeps no pointer.
-        let said = unsafe { foreign::tls13_tls_ciphertext_locate(bytes.as_ptr(), bytes.len(), &mut found) };
-        let (_, rest) = split_as(bytes, said)?;
+        let outcome = unsafe { foreign::tls13_tls_ciphertext_locate(bytes.as_ptr(), bytes.len(), &mut found) };
+        let (_, rest) = split_as(bytes, outcome)?;
         let fields = TLSCiphertextFields {
             opaque_type: found.opaque_type.of(bytes),
             legacy_record_version: found.legacy_record_version.of(bytes),
@@ -618,8 +618,8 @@ pub mod tls13 {
     pub fn alert_locate(bytes: &[u8]) -> Result<(AlertFields<'_>, &[u8]), Rejected> {
         let mut found = foreign::AlertFields::default();
         // SAFETY: the pointer is of as many bytes as the length says, and nothing changes them during the call, which keeps no pointer.
-        let said = unsafe { foreign::tls13_alert_locate(bytes.as_ptr(), bytes.len(), &mut found) };
-        let (_, rest) = split_as(bytes, said)?;
+        let outcome = unsafe { foreign::tls13_alert_locate(bytes.as_ptr(), bytes.len(), &mut found) };
+        let (_, rest) = split_as(bytes, outcome)?;
         let fields = AlertFields {
             level: found.level.of(bytes),
             description: found.description.of(bytes),
@@ -994,8 +994,8 @@ pub mod mls {
     pub fn message_locate(bytes: &[u8]) -> Result<(MLSMessageFields<'_>, &[u8]), Rejected> {
         let mut found = foreign::MLSMessageFields::default();
         // SAFETY: the pointer is of as many bytes as the length says, and nothing changes them during the call, which keeps no pointer.
-        let said = unsafe { foreign::mls_message_locate(bytes.as_ptr(), bytes.len(), &mut found) };
-        let (_, rest) = split_as(bytes, said)?;
+        let outcome = unsafe { foreign::mls_message_locate(bytes.as_ptr(), bytes.len(), &mut found) };
+        let (_, rest) = split_as(bytes, outcome)?;
         let fields = MLSMessageFields {
             version: found.version.of(bytes),
             wire_format: found.wire_format.of(bytes),
@@ -1019,8 +1019,8 @@ pub mod mls {
     pub fn public_message_locate(bytes: &[u8]) -> Result<(PublicMessageFields<'_>, &[u8]), Rejected> {
         let mut found = foreign::PublicMessageFields::default();
         // SAFETY: the pointer is of as many bytes as the length says, and nothing changes them during the call, which keeps no pointer.
-        let said = unsafe { foreign::mls_public_message_locate(bytes.as_ptr(), bytes.len(), &mut found) };
-        let (_, rest) = split_as(bytes, said)?;
+        let outcome = unsafe { foreign::mls_public_message_locate(bytes.as_ptr(), bytes.len(), &mut found) };
+        let (_, rest) = split_as(bytes, outcome)?;
         let fields = PublicMessageFields {
             content: found.content.of(bytes),
             auth: found.auth.of(bytes),
@@ -1050,8 +1050,8 @@ pub mod mls {
     pub fn private_message_locate(bytes: &[u8]) -> Result<(PrivateMessageFields<'_>, &[u8]), Rejected> {
         let mut found = foreign::PrivateMessageFields::default();
         // SAFETY: the pointer is of as many bytes as the length says, and nothing changes them during the call, which keeps no pointer.
-        let said = unsafe { foreign::mls_private_message_locate(bytes.as_ptr(), bytes.len(), &mut found) };
-        let (_, rest) = split_as(bytes, said)?;
+        let outcome = unsafe { foreign::mls_private_message_locate(bytes.as_ptr(), bytes.len(), &mut found) };
+        let (_, rest) = split_as(bytes, outcome)?;
         let fields = PrivateMessageFields {
             group_id: found.group_id.of(bytes),
             epoch: found.epoch.of(bytes),
@@ -1084,8 +1084,8 @@ pub mod mls {
     pub fn framed_content_locate(bytes: &[u8]) -> Result<(FramedContentFields<'_>, &[u8]), Rejected> {
         let mut found = foreign::FramedContentFields::default();
         // SAFETY: the pointer is of as many bytes as the length says, and nothing changes them during the call, which keeps no pointer.
-        let said = unsafe { foreign::mls_framed_content_locate(bytes.as_ptr(), bytes.len(), &mut found) };
-        let (_, rest) = split_as(bytes, said)?;
+        let outcome = unsafe { foreign::mls_framed_content_locate(bytes.as_ptr(), bytes.len(), &mut found) };
+        let (_, rest) = split_as(bytes, outcome)?;
         let fields = FramedContentFields {
             group_id: found.group_id.of(bytes),
             epoch: found.epoch.of(bytes),
@@ -1112,8 +1112,8 @@ pub mod mls {
     pub fn sender_data_locate(bytes: &[u8]) -> Result<(SenderDataFields<'_>, &[u8]), Rejected> {
         let mut found = foreign::SenderDataFields::default();
         // SAFETY: the pointer is of as many bytes as the length says, and nothing changes them during the call, which keeps no pointer.
-        let said = unsafe { foreign::mls_sender_data_locate(bytes.as_ptr(), bytes.len(), &mut found) };
-        let (_, rest) = split_as(bytes, said)?;
+        let outcome = unsafe { foreign::mls_sender_data_locate(bytes.as_ptr(), bytes.len(), &mut found) };
+        let (_, rest) = split_as(bytes, outcome)?;
         let fields = SenderDataFields {
             leaf_index: found.leaf_index.of(bytes),
             generation: found.generation.of(bytes),
@@ -1143,8 +1143,8 @@ pub mod mls {
     pub fn key_package_locate(bytes: &[u8]) -> Result<(KeyPackageFields<'_>, &[u8]), Rejected> {
         let mut found = foreign::KeyPackageFields::default();
         // SAFETY: the pointer is of as many bytes as the length says, and nothing changes them during the call, which keeps no pointer.
-        let said = unsafe { foreign::mls_key_package_locate(bytes.as_ptr(), bytes.len(), &mut found) };
-        let (_, rest) = split_as(bytes, said)?;
+        let outcome = unsafe { foreign::mls_key_package_locate(bytes.as_ptr(), bytes.len(), &mut found) };
+        let (_, rest) = split_as(bytes, outcome)?;
         let fields = KeyPackageFields {
             version: found.version.of(bytes),
             cipher_suite: found.cipher_suite.of(bytes),
@@ -1181,8 +1181,8 @@ pub mod mls {
     pub fn leaf_node_locate(bytes: &[u8]) -> Result<(LeafNodeFields<'_>, &[u8]), Rejected> {
         let mut found = foreign::LeafNodeFields::default();
         // SAFETY: the pointer is of as many bytes as the length says, and nothing changes them during the call, which keeps no pointer.
-        let said = unsafe { foreign::mls_leaf_node_locate(bytes.as_ptr(), bytes.len(), &mut found) };
-        let (_, rest) = split_as(bytes, said)?;
+        let outcome = unsafe { foreign::mls_leaf_node_locate(bytes.as_ptr(), bytes.len(), &mut found) };
+        let (_, rest) = split_as(bytes, outcome)?;
         let fields = LeafNodeFields {
             encryption_key: found.encryption_key.of(bytes),
             signature_key: found.signature_key.of(bytes),
@@ -1211,8 +1211,8 @@ pub mod mls {
     pub fn welcome_locate(bytes: &[u8]) -> Result<(WelcomeFields<'_>, &[u8]), Rejected> {
         let mut found = foreign::WelcomeFields::default();
         // SAFETY: the pointer is of as many bytes as the length says, and nothing changes them during the call, which keeps no pointer.
-        let said = unsafe { foreign::mls_welcome_locate(bytes.as_ptr(), bytes.len(), &mut found) };
-        let (_, rest) = split_as(bytes, said)?;
+        let outcome = unsafe { foreign::mls_welcome_locate(bytes.as_ptr(), bytes.len(), &mut found) };
+        let (_, rest) = split_as(bytes, outcome)?;
         let fields = WelcomeFields {
             cipher_suite: found.cipher_suite.of(bytes),
             secrets: found.secrets.of(bytes),
@@ -1236,8 +1236,8 @@ pub mod mls {
     pub fn group_secrets_locate(bytes: &[u8]) -> Result<(GroupSecretsFields<'_>, &[u8]), Rejected> {
         let mut found = foreign::GroupSecretsFields::default();
         // SAFETY: the pointer is of as many bytes as the length says, and nothing changes them during the call, which keeps no pointer.
-        let said = unsafe { foreign::mls_group_secrets_locate(bytes.as_ptr(), bytes.len(), &mut found) };
-        let (_, rest) = split_as(bytes, said)?;
+        let outcome = unsafe { foreign::mls_group_secrets_locate(bytes.as_ptr(), bytes.len(), &mut found) };
+        let (_, rest) = split_as(bytes, outcome)?;
         let fields = GroupSecretsFields {
             joiner_secret: found.joiner_secret.of(bytes),
             path_secret: found.path_secret.of(bytes),
@@ -1265,8 +1265,8 @@ pub mod mls {
     pub fn group_info_locate(bytes: &[u8]) -> Result<(GroupInfoFields<'_>, &[u8]), Rejected> {
         let mut found = foreign::GroupInfoFields::default();
         // SAFETY: the pointer is of as many bytes as the length says, and nothing changes them during the call, which keeps no pointer.
-        let said = unsafe { foreign::mls_group_info_locate(bytes.as_ptr(), bytes.len(), &mut found) };
-        let (_, rest) = split_as(bytes, said)?;
+        let outcome = unsafe { foreign::mls_group_info_locate(bytes.as_ptr(), bytes.len(), &mut found) };
+        let (_, rest) = split_as(bytes, outcome)?;
         let fields = GroupInfoFields {
             group_context: found.group_context.of(bytes),
             extensions: found.extensions.of(bytes),
@@ -1300,8 +1300,8 @@ pub mod mls {
     pub fn group_context_locate(bytes: &[u8]) -> Result<(GroupContextFields<'_>, &[u8]), Rejected> {
         let mut found = foreign::GroupContextFields::default();
         // SAFETY: the pointer is of as many bytes as the length says, and nothing changes them during the call, which keeps no pointer.
-        let said = unsafe { foreign::mls_group_context_locate(bytes.as_ptr(), bytes.len(), &mut found) };
-        let (_, rest) = split_as(bytes, said)?;
+        let outcome = unsafe { foreign::mls_group_context_locate(bytes.as_ptr(), bytes.len(), &mut found) };
+        let (_, rest) = split_as(bytes, outcome)?;
         let fields = GroupContextFields {
             version: found.version.of(bytes),
             cipher_suite: found.cipher_suite.of(bytes),
@@ -1327,8 +1327,8 @@ pub mod mls {
     pub fn commit_locate(bytes: &[u8]) -> Result<(CommitFields<'_>, &[u8]), Rejected> {
         let mut found = foreign::CommitFields::default();
         // SAFETY: the pointer is of as many bytes as the length says, and nothing changes them during the call, which keeps no pointer.
-        let said = unsafe { foreign::mls_commit_locate(bytes.as_ptr(), bytes.len(), &mut found) };
-        let (_, rest) = split_as(bytes, said)?;
+        let outcome = unsafe { foreign::mls_commit_locate(bytes.as_ptr(), bytes.len(), &mut found) };
+        let (_, rest) = split_as(bytes, outcome)?;
         let fields = CommitFields {
             proposals: found.proposals.of(bytes),
             path: found.path.of(bytes),
@@ -1349,8 +1349,8 @@ pub mod mls {
     pub fn proposal_locate(bytes: &[u8]) -> Result<(ProposalFields<'_>, &[u8]), Rejected> {
         let mut found = foreign::ProposalFields::default();
         // SAFETY: the pointer is of as many bytes as the length says, and nothing changes them during the call, which keeps no pointer.
-        let said = unsafe { foreign::mls_proposal_locate(bytes.as_ptr(), bytes.len(), &mut found) };
-        let (_, rest) = split_as(bytes, said)?;
+        let outcome = unsafe { foreign::mls_proposal_locate(bytes.as_ptr(), bytes.len(), &mut found) };
+        let (_, rest) = split_as(bytes, outcome)?;
         let fields = ProposalFields {
             proposal_type: found.proposal_type.of(bytes),
             body: found.body.of(bytes),
@@ -1362,16 +1362,16 @@ pub mod mls {
     pub fn message_kind(bytes: &[u8]) -> Result<(u16, &[u8]), Rejected> {
         let mut found = 0u16;
         // SAFETY: the pointer is of as many bytes as the length says, and nothing changes them during the call, which keeps no pointer.
-        let said = unsafe { foreign::mls_message_kind(bytes.as_ptr(), bytes.len(), &mut found) };
-        let (_, rest) = split_as(bytes, said)?;
+        let outcome = unsafe { foreign::mls_message_kind(bytes.as_ptr(), bytes.len(), &mut found) };
+        let (_, rest) = split_as(bytes, outcome)?;
         Ok((found, rest))
     }
 
     /// `FramedContentTBS` (RFC 9420, section 6.1): writes the bytes that are signed of a message into a buffer: the version, the wire format (1 or 2), the encoding of a `FramedContent`, and that of a `GroupContext` if the sender is a member or a new member that commits; else the context is empty. The result is that of validation for the bytes that are written, and `at` counts from the first of them. If the buffer has less than `4 + content_length + context_length` bytes, nothing is written, and the status is that of `InvalidWriteLength`. Returns the written bytes, if they are accepted.
     pub fn framed_content_tbs<'a>(wire_format: u16, content: &[u8], context: &[u8], out: &'a mut [u8]) -> Result<&'a [u8], Rejected> {
         // SAFETY: each pointer is of as many bytes as its length says, and nothing else changes or reads them during the call, which keeps none.
-        let said = unsafe { foreign::mls_framed_content_tbs_encode(wire_format, content.as_ptr(), content.len(), context.as_ptr(), context.len(), out.as_mut_ptr(), out.len()) };
-        written_as(out, 4 + content.len() + context.len(), said)
+        let outcome = unsafe { foreign::mls_framed_content_tbs_encode(wire_format, content.as_ptr(), content.len(), context.as_ptr(), context.len(), out.as_mut_ptr(), out.len()) };
+        written_as(out, 4 + content.len() + context.len(), outcome)
     }
 
     /// `Extension` (RFC 9420, section 7.2): an iterator over a list's elements. `content` is the list without its length.

@@ -65,8 +65,8 @@ fn split(
     call: unsafe extern "C" fn(*const u8, usize) -> Outcome,
 ) -> Result<(&[u8], &[u8]), Rejected> {
     // SAFETY: the pointer is of as many bytes as the length says, and nothing changes them during the call, which keeps no pointer.
-    let said = unsafe { call(bytes.as_ptr(), bytes.len()) };
-    split_as(bytes, said)
+    let outcome = unsafe { call(bytes.as_ptr(), bytes.len()) };
+    split_as(bytes, outcome)
 }
 
 /// What a decoder says of bytes, without a position.
@@ -79,20 +79,20 @@ fn decode(
 }
 
 /// The bytes as a call says that they are to be split.
-fn split_as(bytes: &[u8], said: Outcome) -> Result<(&[u8], &[u8]), Rejected> {
-    if said.status != 0 {
+fn split_as(bytes: &[u8], outcome: Outcome) -> Result<(&[u8], &[u8]), Rejected> {
+    if outcome.status != 0 {
         return Err(Rejected {
-            error: Error::of(&said),
-            at: said.at,
+            error: Error::of(&outcome),
+            at: outcome.at,
         });
     }
-    Ok(bytes.split_at(said.taken))
+    Ok(bytes.split_at(outcome.taken))
 }
 
 /// The bytes that a call wrote, if all of them are accepted.
-fn written_as(out: &mut [u8], size: usize, said: Outcome) -> Result<&[u8], Rejected> {
+fn written_as(out: &mut [u8], size: usize, outcome: Outcome) -> Result<&[u8], Rejected> {
     let out: &[u8] = out;
-    exactly(split_as(out.get(..size).unwrap_or(out), said))
+    exactly(split_as(out.get(..size).unwrap_or(out), outcome))
 }
 
 type Next = unsafe extern "C" fn(*const u8, usize, &mut Span, &mut Span) -> Outcome;
@@ -135,14 +135,14 @@ impl<'a> Iterator for Elements<'a> {
         let from = self.left.offset;
         let mut element = Span::default();
         // SAFETY: the pointer is of as many bytes as the length says, and nothing changes them during the call, which keeps no pointer.
-        let said = unsafe {
+        let outcome = unsafe {
             (self.next)(self.content.as_ptr(), self.content.len(), &mut self.left, &mut element)
         };
-        if said.status != 0 {
+        if outcome.status != 0 {
             self.left.size = 0;
             return Some(Err(Rejected {
-                error: Error::of(&said),
-                at: from + said.at,
+                error: Error::of(&outcome),
+                at: from + outcome.at,
             }));
         }
         Some(Ok(element.of(self.content)))

@@ -41,14 +41,14 @@ impl Row {
     /// Of test_outcome a column says what the decoder says. It is what the validator says, except for the place.
     fn of(line: &str) -> Row {
         let columns: Vec<&str> = line.split('\t').collect();
-        let said = columns.get(3).unwrap_or(&columns[2]);
-        let said: Vec<u64> = said.split(' ').map(|it| it.parse().expect("a number")).collect();
+        let numbers = columns.get(3).unwrap_or(&columns[2]);
+        let numbers: Vec<u64> = numbers.split(' ').map(|it| it.parse().expect("a number")).collect();
         Row {
             message: MESSAGES.iter().find(|it| it.name == columns[0]).expect("a message"),
             bytes: bytes_of(columns[1]),
-            decoded: match said[0] {
-                0 => Ok(said[1] as usize),
-                status => Err(error_of(status, said[3])),
+            decoded: match numbers[0] {
+                0 => Ok(numbers[1] as usize),
+                status => Err(error_of(status, numbers[3])),
             },
         }
     }

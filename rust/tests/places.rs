@@ -50,7 +50,7 @@ fn fields<'a>(name: &str, bytes: &'a [u8]) -> Option<Fields<'a>> {
 struct Row {
     name: String,
     bytes: Vec<u8>,
-    said: Vec<u64>,
+    numbers: Vec<u64>,
     filled: String,
 }
 
@@ -62,22 +62,22 @@ impl Row {
         Row {
             name: columns[0].to_string(),
             bytes: (0..digits.len()).step_by(2).map(byte).collect(),
-            said: columns[2].split(' ').map(|it| it.parse().expect("a number")).collect(),
+            numbers: columns[2].split(' ').map(|it| it.parse().expect("a number")).collect(),
             filled: columns[3].to_string(),
         }
     }
 
     /// The error of a call that rejects what is left from this place on.
     fn rejected(&self, from: usize) -> Rejected {
-        let error = match self.said[0] {
+        let error = match self.numbers[0] {
             2 => Error::InvalidVectorLength,
             5 => Error::DecodingError,
             6 => Error::EndOfStream,
             7 => Error::TrailingData,
-            8 => Error::UnknownValue(self.said[3]),
+            8 => Error::UnknownValue(self.numbers[3]),
             other => panic!("no row has status {other}"),
         };
-        Rejected { error, at: from + self.said[2] as usize }
+        Rejected { error, at: from + self.numbers[2] as usize }
     }
 
     /// The bytes at the row's places.
@@ -107,7 +107,7 @@ fn each_row_is_told() {
     let file = concat!(env!("CARGO_MANIFEST_DIR"), "/../crates/test_places/stdout");
     let text = fs::read_to_string(file).expect("the rows are there");
     for row in text.lines().map(Row::of) {
-        let is_accepted = row.said[0] == 0;
+        let is_accepted = row.numbers[0] == 0;
         if let Some(elements) = elements(&row.name, &row.bytes) {
             row.elements_are_told(elements);
         } else if let Some(found) = fields(&row.name, &row.bytes) {
@@ -115,7 +115,7 @@ fn each_row_is_told() {
             assert_eq!(found, wanted, "{}", row.name);
         } else {
             assert_eq!(row.name, "mls_message_kind");
-            let rest = &row.bytes[row.said[1] as usize..];
+            let rest = &row.bytes[row.numbers[1] as usize..];
             let wanted = if is_accepted { Ok((row.filled.parse().expect("a number"), rest)) } else { Err(row.rejected(0)) };
             assert_eq!(mls::message_kind(&row.bytes), wanted);
         }

@@ -55,10 +55,10 @@ fn are_told(file: &str) {
     for row in text.lines() {
         let columns: Vec<&str> = row.split('\t').collect();
         let bytes = bytes_of(columns[1]);
-        let said: Vec<u64> = columns[2].split(' ').map(|it| it.parse().expect("a number")).collect();
-        let wanted = match said[0] {
-            0 => Ok(bytes.split_at(said[1] as usize)),
-            status => Err(Rejected { error: error_of(status, said[3]), at: said[2] as usize }),
+        let numbers: Vec<u64> = columns[2].split(' ').map(|it| it.parse().expect("a number")).collect();
+        let wanted = match numbers[0] {
+            0 => Ok(bytes.split_at(numbers[1] as usize)),
+            status => Err(Rejected { error: error_of(status, numbers[3]), at: numbers[2] as usize }),
         };
         assert_eq!(split(columns[0], &bytes), wanted, "{row}");
     }

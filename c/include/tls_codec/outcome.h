@@ -41,9 +41,9 @@ typedef struct tls_codec_outcome {
 } tls_codec_outcome;
 
 /* The status if all of the bytes are to be used: TLS_CODEC_TRAILING_DATA if one is left. */
-static inline uint32_t tls_codec_exactly(tls_codec_outcome said, size_t length) {
-  int is_left = said.status == TLS_CODEC_ACCEPTED && said.taken != length;
-  return is_left ? (uint32_t)TLS_CODEC_TRAILING_DATA : said.status;
+static inline uint32_t tls_codec_exactly(tls_codec_outcome outcome, size_t length) {
+  int is_left = outcome.status == TLS_CODEC_ACCEPTED && outcome.taken != length;
+  return is_left ? (uint32_t)TLS_CODEC_TRAILING_DATA : outcome.status;
 }
 
 /* The name of a status, as "EndOfStream"; "?" of another number. */
