@@ -230,10 +230,19 @@ class Reader:
                 self.select(of, part, depth)
             else:
                 self.field(of, part, part["name"], depth)
+                self.has_case(of, part["name"], depth)
         if of == "Handshake":
             if self.left():
                 raise Refused("length", depth)
             self.end = end
+
+    def has_case(self, of, name, depth):
+        """A tag that no case of a select in its struct has is refused where it is."""
+        for part in self.text.structs[of]:
+            if "cases" in part and part["path"] in ([name], [of, name]):
+                if not any(self.known[name] in labels for labels, _ in part["cases"]):
+                    self.lines.pop()
+                    raise Refused(name, depth)
 
     def select(self, of, select, depth):
         tag = self.text.fixed.get((of, select["path"][-1])) or self.known[select["path"][-1]]
@@ -471,7 +480,12 @@ def named(words, input):
     return next((protocol, names[0]) for protocol in ("ct", "tls", "mls") if names[0] in Text(PROTOCOLS[protocol]).structs)
 
 
-def printed(input, words):
+def position(refusal):
+    """The byte that the line of a rejection names."""
+    return int(re.match(r"refused at byte (\d+), ", refusal)[1])
+
+
+def printed(input, words, refusal):
     bytes = bytes_of(input, words)
     protocol, of = named(words, bytes)
     text, at, out, values = Text(PROTOCOLS[protocol]), 0, "", []
@@ -491,7 +505,7 @@ def printed(input, words):
         if refused or at >= len(bytes):
             break
     if "--json" in words:
-        value = {"messages": values, "type": of} | ({"refused_at": REFUSED_AT, "refusal": REFUSAL} if refused else {})
+        value = {"messages": values, "type": of} | ({"refused_at": position(refusal), "refusal": refusal} if refused else {})
         return json.dumps(value, indent=2, sort_keys=True, ensure_ascii=False) + "\n"
     return out
 
@@ -533,7 +547,8 @@ def main():
         elif path.name == "list":
             tree = listed()
         else:
-            tree = printed((folder / "data" / "message" if path.name == "file" else path).read_bytes(), words)
+            input = folder / "data" / "message" if path.name == "file" else path
+            tree = printed(input.read_bytes(), words, REFUSALS.get(path.name))
         if "--write" in sys.argv:
             stored.write_text(tree)
         if stored.is_file() and stored.read_text() == tree:
@@ -550,12 +565,53 @@ def main():
 UNREAD = ("several_types", "unknown_type", "wrong_digit", "odd_digits", "no_file")
 # outputs that are no tree
 BY_HAND = ("help", "version")
-# what is told of the stored run json_refused
-REFUSED_AT = 28
-REFUSAL = (
-    "refused at byte 28, in key_package.leaf_node.capabilities.versions[1]: "
-    'DecodingError("elements do not fill the declared length"): expected ProtocolVersion: mls10 (1), 1 byte is left'
-)
+# What is printed of the stored runs that are rejected, by hand: the byte, the path, the error, and what was expected there.
+REFUSALS = {
+    "json_refused": (
+        'refused at byte 28, in key_package.leaf_node.capabilities.versions[1]: DecodingError("elements do not fill the '
+        'declared length"): expected ProtocolVersion: mls10 (1), 1 byte is left'
+    ),
+    # RFC 9420, section 6: the version is mls10, and there are five wire formats
+    "json_version": 'refused at byte 0, in version: UnknownValue(2): expected ProtocolVersion: mls10 (1), 2 (0x2) is there',
+    "json_wire_format": (
+        'refused at byte 2, in wire_format: UnknownValue(9): expected WireFormat: mls_public_message (1), '
+        'mls_private_message (2), mls_welcome (3), mls_group_info (4), mls_key_package (5), 9 (0x9) is there'
+    ),
+    # sections 7.2 and 10: a version, a suite, three keys, and then a credential
+    "json_credential_type": (
+        'refused at byte 13, in leaf_node.credential.credential_type: UnknownValue(9): expected CredentialType: basic '
+        '(1), x509 (2), 9 (0x9) is there'
+    ),
+    "json_identity_cut_off": (
+        'refused at byte 15, in leaf_node.credential.identity: DecodingError("declared content is not there"): expected '
+        'opaque identity<V>, its length announces 63 bytes, 5 are left'
+    ),
+    # section 2.1.2: a length has the fewest bytes
+    "json_identity_wide_length": (
+        'refused at byte 15, in leaf_node.credential.identity: InvalidVectorLength: expected opaque identity<V>, its '
+        "length isn't in the fewest bytes, or is 2^30 or more"
+    ),
+    # three bytes hold one version of two, and half of another
+    "json_capabilities": (
+        'refused at byte 3, in versions[1]: DecodingError("elements do not fill the declared length"): expected '
+        'ProtocolVersion: mls10 (1), 1 byte is left'
+    ),
+    # section 12.4: no proposals, and a path or none
+    "json_option_tag": (
+        'refused at byte 1, in path: DecodingError("option tag is not 0 or 1"): expected 0, or 1 before UpdatePath, 2 '
+        '(0x2) is there'
+    ),
+    # section 7.2: a number of four bytes
+    "json_leaf_index": 'refused at byte 1, in leaf_index: EndOfStream: expected uint32 leaf_index, 3 bytes are left',
+    # RFC 8446, section 4: the length has the remaining bytes, and 99 is no type of a message
+    "json_handshake_length": 'refused at byte 1, in length: EndOfStream: expected uint24 length, its length announces 262 bytes, 2 are left',
+    "json_handshake_type": 'refused at byte 0, in msg_type: UnknownValue(99): expected HandshakeType, 99 (0x63) is there',
+    # section 4.1.2: a version, 32 bytes, and a session's id of at most 32
+    "json_session_id": (
+        'refused at byte 34, in legacy_session_id: InvalidVectorLength: expected opaque legacy_session_id<0..32>, its '
+        'length is 33 bytes'
+    ),
+}
 
 if __name__ == "__main__":
     main()

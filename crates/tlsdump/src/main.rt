@@ -34,8 +34,6 @@ mod kinds;
 mod notation;
 mod program;
 mod show;
-#[cfg(test)]
-mod tests;
 mod texts;
 mod told;
 mod walk;
