@@ -3,7 +3,8 @@
 
 A program is built once, without proof (`rt try`). A run is a file with the input; NAME.args has its words, and
 NAME.stdout what it must print. rt ci runs a program on one input alone, and proves it again for another one.
-Then tlsdump runs with a request for memory refused: it prints nothing and ends with status 3.
+Then tlsdump runs with a request for memory refused: it prints nothing and ends with status 3. As `rt ci` built it, it runs without room
+for its output, which is status 3 too, and on what is rejected: standard error has the line of trees.py.
 """
 import pathlib
 import re
@@ -11,6 +12,9 @@ import shutil
 import subprocess
 import sys
 import tempfile
+
+sys.dont_write_bytecode = True
+import trees
 
 CRATES = pathlib.Path(__file__).resolve().parent.parent / "crates"
 
@@ -84,9 +88,9 @@ SHOWN = {
 }
 
 
-# The request for memory of the run `key_package` of tlsdump that is refused, and the status then.
+# The request for memory of the run `key_package` of tlsdump that is refused, and the status where memory or the output fails.
 REFUSED = 1000
-NO_MEMORY = 3
+NO_ROOM = 3
 
 
 def make(cases):
@@ -107,14 +111,37 @@ def is_refused():
         words = ["rt", "try", "--fail-alloc", str(REFUSED), "--cases", cases]
         ran = subprocess.run(words, cwd=folder, capture_output=True, text=True)
     output = ran.stdout + ran.stderr
-    if re.search(rf"^case=key_package run=ended status={NO_MEMORY} .*output=expected ", output, re.M):
+    if re.search(rf"^case=key_package run=ended status={NO_ROOM} .*output=expected ", output, re.M):
         return True
     print(output)
     return False
 
 
+def built(words, name, output):
+    """tlsdump as rt ci built it, on a stored input: its status, and the lines on standard error."""
+    folder = CRATES / "tlsdump"
+    with (folder / "runs" / name).open("rb") as input, open(output, "wb") as out:
+        ran = subprocess.run([folder / "out" / "tlsdump", *words], stdin=input, stdout=out, stderr=subprocess.PIPE)
+    return ran.returncode, ran.stderr.decode()
+
+
+def streams():
+    """What standard error and the status say of an output without room, and of each input that is rejected."""
+    status, printed = built([], "key_package", "/dev/full")
+    yield "full", (status, printed.startswith("tlsdump: ")) == (NO_ROOM, True), printed
+    for name, line in trees.REFUSALS.items():
+        words = (CRATES / "tlsdump" / "runs" / f"{name}.args").read_text().split()
+        status, printed = built([word for word in words if word != "--json"], name, "/dev/null")
+        yield name, (status, printed) == (1, f"tlsdump: {line}\n"), printed
+
+
 def main():
     passed = int(is_refused())
+    asked = 1
+    for name, is_so, printed in streams():
+        asked, passed = asked + 1, passed + is_so
+        if not is_so:
+            print(f"tlsdump, {name}: standard error has {printed!r}")
     for program, runs in STATUS.items():
         folder = CRATES / program
         with tempfile.TemporaryDirectory() as room:
@@ -130,7 +157,7 @@ def main():
         passed += len(same)
         if len(same) < len(runs):
             print(output)
-    wanted = sum(map(len, STATUS.values())) + 1
+    wanted = sum(map(len, STATUS.values())) + asked
     print(f"{passed} of {wanted} runs print what they must, with their exit status")
     print(f"{passed} passed, {wanted - passed} failed")
     sys.exit(passed < wanted)
