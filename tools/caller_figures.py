@@ -71,8 +71,8 @@ def main() -> int:
             data = bench_bytes(name)
             row.write_text(f"{message}\t{data.hex()}\n")
             beside = in_rattle.get(case, {})
-            in_rattle = f", in Rattle {beside['validate']:.0f}" if beside else ""
-            print(f"{message}_validate of {len(data)} bytes: {counted(program, row, f'{message}_validate')} instructions{in_rattle}")
+            beside_it = f", in Rattle {beside['validate']:.0f}" if beside else ""
+            print(f"{message}_validate of {len(data)} bytes: {counted(program, row, f'{message}_validate')} instructions{beside_it}")
     return 0
 
 
