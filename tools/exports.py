@@ -23,7 +23,7 @@ C = {"u16": "uint16_t", "u32": "uint32_t", "u64": "uint64_t", "usize": "size_t"}
 # The libraries whose structs cross, and what their names begin with in C.
 STRUCTS = {"tls_codec_outcome": "tls_codec", "mls_fields": "mls", "tls13_fields": "tls13"}
 LONGEST = 100
-SAFE = "the pointer is of as many bytes as the length says, and nothing changes them during the call, which keeps no pointer."
+SAFE = "the pointer and the length are of one slice, nothing changes it during the call, and the call keeps no pointer."
 # What a call does, in C, by the end of its name; and what is put before its text in the source, or in place of the words there.
 ASKED = {"_validate": ": whether the bytes begin with one.", "_check": ": whether the bytes begin with one, by the decoder."}
 FOUND = re.compile(r"(its fields are|its content is)\.")
@@ -294,7 +294,7 @@ def encoder_in_rust(export: Export, name: str) -> list[str]:
     passed = [f"{it}.as{'_mut' if kinds[it] == '&mut [u8]' else ''}_ptr(), {it}.len()" if kinds[it].endswith("[u8]") else it for it in taken]
     parameters = ", ".join(f"{it}: {kind}" for it, kind in export.parameters).replace("&mut [u8]", "&'a mut [u8]")
     lines = ["", f"    /// {export.text} Returns the written bytes, if they are accepted.", f"    pub fn {name}<'a>({parameters}) -> Result<&'a [u8], Rejected> {{"]
-    lines += ["        // SAFETY: each pointer is of as many bytes as its length says, and nothing else changes or reads them during the call, which keeps none."]
+    lines += ["        // SAFETY: each pointer and its length are of one slice, nothing else changes or reads it during the call, and the call keeps no pointer."]
     lines += [f"        let outcome = unsafe {{ foreign::{export.name}({', '.join(passed)}) }};"]
     sizes = [f"{it}.len()" for it in taken if kinds[it] == "&[u8]"]
     return [*lines, f"        written_as(out, 4 + {' + '.join(sizes)}, outcome)", "    }"]

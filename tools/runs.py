@@ -3,8 +3,8 @@
 
 A program is built once, without proof (`rt try`). A run is a file with the input; NAME.args has its words, and
 NAME.stdout what it must print. rt ci runs a program on one input alone, and proves it again for another one.
-Then tlsdump runs with a request for memory refused: it prints nothing and ends with status 3. As `rt ci` built it, it runs without room
-for its output, which is status 3 too, and on what is rejected: standard error has the line of trees.py.
+Then tlsdump runs with a request for memory refused: it prints nothing and ends with status 3. The program that `rt ci` left in out/
+runs with an output that is full, which is status 3 too, and on rejected inputs: standard error has the line that trees.py has for each.
 """
 import pathlib
 import re
@@ -136,6 +136,8 @@ def streams():
 
 
 def main():
+    if not (CRATES / "tlsdump" / "out" / "tlsdump").is_file():
+        sys.exit("crates/tlsdump/out/tlsdump is not there: rt ci or rt run builds it\n0 passed, 1 failed")
     passed = int(is_refused())
     asked = 1
     for name, is_so, printed in streams():

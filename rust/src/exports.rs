@@ -90,7 +90,7 @@ pub mod tls_codec {
     /// `opaque content<V>` (RFC 9420, section 2.1.2), and where its content is. A list `<V>` has its elements there. Returns that content, and the rest of the bytes.
     pub fn opaque_v_locate(bytes: &[u8]) -> Result<(&[u8], &[u8]), Rejected> {
         let mut found = Span::default();
-        // SAFETY: the pointer is of as many bytes as the length says, and nothing changes them during the call, which keeps no pointer.
+        // SAFETY: the pointer and the length are of one slice, nothing changes it during the call, and the call keeps no pointer.
         let outcome = unsafe { foreign::tls_codec_opaque_v_locate(bytes.as_ptr(), bytes.len(), &mut found) };
         let (_, rest) = split_as(bytes, outcome)?;
         Ok((found.of(bytes), rest))
@@ -99,7 +99,7 @@ pub mod tls_codec {
     /// `opaque content<0..2^8-1>` (RFC 8446, section 3.4), and where its content is. Returns that content, and the rest of the bytes.
     pub fn opaque_u8_locate(bytes: &[u8]) -> Result<(&[u8], &[u8]), Rejected> {
         let mut found = Span::default();
-        // SAFETY: the pointer is of as many bytes as the length says, and nothing changes them during the call, which keeps no pointer.
+        // SAFETY: the pointer and the length are of one slice, nothing changes it during the call, and the call keeps no pointer.
         let outcome = unsafe { foreign::tls_codec_opaque_u8_locate(bytes.as_ptr(), bytes.len(), &mut found) };
         let (_, rest) = split_as(bytes, outcome)?;
         Ok((found.of(bytes), rest))
@@ -108,7 +108,7 @@ pub mod tls_codec {
     /// `opaque content<0..2^16-1>`, and where its content is. Returns that content, and the rest of the bytes.
     pub fn opaque_u16_locate(bytes: &[u8]) -> Result<(&[u8], &[u8]), Rejected> {
         let mut found = Span::default();
-        // SAFETY: the pointer is of as many bytes as the length says, and nothing changes them during the call, which keeps no pointer.
+        // SAFETY: the pointer and the length are of one slice, nothing changes it during the call, and the call keeps no pointer.
         let outcome = unsafe { foreign::tls_codec_opaque_u16_locate(bytes.as_ptr(), bytes.len(), &mut found) };
         let (_, rest) = split_as(bytes, outcome)?;
         Ok((found.of(bytes), rest))
@@ -117,7 +117,7 @@ pub mod tls_codec {
     /// `opaque content<0..2^24-1>`, and where its content is. Returns that content, and the rest of the bytes.
     pub fn opaque_u24_locate(bytes: &[u8]) -> Result<(&[u8], &[u8]), Rejected> {
         let mut found = Span::default();
-        // SAFETY: the pointer is of as many bytes as the length says, and nothing changes them during the call, which keeps no pointer.
+        // SAFETY: the pointer and the length are of one slice, nothing changes it during the call, and the call keeps no pointer.
         let outcome = unsafe { foreign::tls_codec_opaque_u24_locate(bytes.as_ptr(), bytes.len(), &mut found) };
         let (_, rest) = split_as(bytes, outcome)?;
         Ok((found.of(bytes), rest))
@@ -342,7 +342,7 @@ pub mod tls13 {
     /// `Handshake` (RFC 8446, section 4): returns the fields of the one that `bytes` begin with, and the rest.
     pub fn handshake_locate(bytes: &[u8]) -> Result<(HandshakeFields<'_>, &[u8]), Rejected> {
         let mut found = foreign::HandshakeFields::default();
-        // SAFETY: the pointer is of as many bytes as the length says, and nothing changes them during the call, which keeps no pointer.
+        // SAFETY: the pointer and the length are of one slice, nothing changes it during the call, and the call keeps no pointer.
         let outcome = unsafe { foreign::tls13_handshake_locate(bytes.as_ptr(), bytes.len(), &mut found) };
         let (_, rest) = split_as(bytes, outcome)?;
         let fields = HandshakeFields {
@@ -372,7 +372,7 @@ pub mod tls13 {
     /// `ClientHello` (RFC 8446, section 4.1.2): returns the fields of the one that `bytes` begin with, and the rest.
     pub fn client_hello_locate(bytes: &[u8]) -> Result<(ClientHelloFields<'_>, &[u8]), Rejected> {
         let mut found = foreign::ClientHelloFields::default();
-        // SAFETY: the pointer is of as many bytes as the length says, and nothing changes them during the call, which keeps no pointer.
+        // SAFETY: the pointer and the length are of one slice, nothing changes it during the call, and the call keeps no pointer.
         let outcome = unsafe { foreign::tls13_client_hello_locate(bytes.as_ptr(), bytes.len(), &mut found) };
         let (_, rest) = split_as(bytes, outcome)?;
         let fields = ClientHelloFields {
@@ -406,7 +406,7 @@ pub mod tls13 {
     /// `ServerHello` (RFC 8446, section 4.1.3): returns the fields of the one that `bytes` begin with, and the rest.
     pub fn server_hello_locate(bytes: &[u8]) -> Result<(ServerHelloFields<'_>, &[u8]), Rejected> {
         let mut found = foreign::ServerHelloFields::default();
-        // SAFETY: the pointer is of as many bytes as the length says, and nothing changes them during the call, which keeps no pointer.
+        // SAFETY: the pointer and the length are of one slice, nothing changes it during the call, and the call keeps no pointer.
         let outcome = unsafe { foreign::tls13_server_hello_locate(bytes.as_ptr(), bytes.len(), &mut found) };
         let (_, rest) = split_as(bytes, outcome)?;
         let fields = ServerHelloFields {
@@ -430,7 +430,7 @@ pub mod tls13 {
     /// `EncryptedExtensions` (RFC 8446, section 4.3.1): returns the fields of the one that `bytes` begin with, and the rest.
     pub fn encrypted_extensions_locate(bytes: &[u8]) -> Result<(EncryptedExtensionsFields<'_>, &[u8]), Rejected> {
         let mut found = foreign::EncryptedExtensionsFields::default();
-        // SAFETY: the pointer is of as many bytes as the length says, and nothing changes them during the call, which keeps no pointer.
+        // SAFETY: the pointer and the length are of one slice, nothing changes it during the call, and the call keeps no pointer.
         let outcome = unsafe { foreign::tls13_encrypted_extensions_locate(bytes.as_ptr(), bytes.len(), &mut found) };
         let (_, rest) = split_as(bytes, outcome)?;
         let fields = EncryptedExtensionsFields {
@@ -451,7 +451,7 @@ pub mod tls13 {
     /// `CertificateRequest` (RFC 8446, section 4.3.2): returns the fields of the one that `bytes` begin with, and the rest.
     pub fn certificate_request_locate(bytes: &[u8]) -> Result<(CertificateRequestFields<'_>, &[u8]), Rejected> {
         let mut found = foreign::CertificateRequestFields::default();
-        // SAFETY: the pointer is of as many bytes as the length says, and nothing changes them during the call, which keeps no pointer.
+        // SAFETY: the pointer and the length are of one slice, nothing changes it during the call, and the call keeps no pointer.
         let outcome = unsafe { foreign::tls13_certificate_request_locate(bytes.as_ptr(), bytes.len(), &mut found) };
         let (_, rest) = split_as(bytes, outcome)?;
         let fields = CertificateRequestFields {
@@ -473,7 +473,7 @@ pub mod tls13 {
     /// `Certificate` (RFC 8446, section 4.4.2): returns the fields of the one that `bytes` begin with, and the rest.
     pub fn certificate_locate(bytes: &[u8]) -> Result<(CertificateFields<'_>, &[u8]), Rejected> {
         let mut found = foreign::CertificateFields::default();
-        // SAFETY: the pointer is of as many bytes as the length says, and nothing changes them during the call, which keeps no pointer.
+        // SAFETY: the pointer and the length are of one slice, nothing changes it during the call, and the call keeps no pointer.
         let outcome = unsafe { foreign::tls13_certificate_locate(bytes.as_ptr(), bytes.len(), &mut found) };
         let (_, rest) = split_as(bytes, outcome)?;
         let fields = CertificateFields {
@@ -495,7 +495,7 @@ pub mod tls13 {
     /// `CertificateVerify` (RFC 8446, section 4.4.3): returns the fields of the one that `bytes` begin with, and the rest.
     pub fn certificate_verify_locate(bytes: &[u8]) -> Result<(CertificateVerifyFields<'_>, &[u8]), Rejected> {
         let mut found = foreign::CertificateVerifyFields::default();
-        // SAFETY: the pointer is of as many bytes as the length says, and nothing changes them during the call, which keeps no pointer.
+        // SAFETY: the pointer and the length are of one slice, nothing changes it during the call, and the call keeps no pointer.
         let outcome = unsafe { foreign::tls13_certificate_verify_locate(bytes.as_ptr(), bytes.len(), &mut found) };
         let (_, rest) = split_as(bytes, outcome)?;
         let fields = CertificateVerifyFields {
@@ -523,7 +523,7 @@ pub mod tls13 {
     /// `NewSessionTicket` (RFC 8446, section 4.6.1): returns the fields of the one that `bytes` begin with, and the rest.
     pub fn new_session_ticket_locate(bytes: &[u8]) -> Result<(NewSessionTicketFields<'_>, &[u8]), Rejected> {
         let mut found = foreign::NewSessionTicketFields::default();
-        // SAFETY: the pointer is of as many bytes as the length says, and nothing changes them during the call, which keeps no pointer.
+        // SAFETY: the pointer and the length are of one slice, nothing changes it during the call, and the call keeps no pointer.
         let outcome = unsafe { foreign::tls13_new_session_ticket_locate(bytes.as_ptr(), bytes.len(), &mut found) };
         let (_, rest) = split_as(bytes, outcome)?;
         let fields = NewSessionTicketFields {
@@ -546,7 +546,7 @@ pub mod tls13 {
     /// `KeyUpdate` (RFC 8446, section 4.6.3): returns the fields of the one that `bytes` begin with, and the rest.
     pub fn key_update_locate(bytes: &[u8]) -> Result<(KeyUpdateFields<'_>, &[u8]), Rejected> {
         let mut found = foreign::KeyUpdateFields::default();
-        // SAFETY: the pointer is of as many bytes as the length says, and nothing changes them during the call, which keeps no pointer.
+        // SAFETY: the pointer and the length are of one slice, nothing changes it during the call, and the call keeps no pointer.
         let outcome = unsafe { foreign::tls13_key_update_locate(bytes.as_ptr(), bytes.len(), &mut found) };
         let (_, rest) = split_as(bytes, outcome)?;
         let fields = KeyUpdateFields {
@@ -569,7 +569,7 @@ pub mod tls13 {
     /// `TLSPlaintext` (RFC 8446, section 5.1): returns the fields of the one that `bytes` begin with, and the rest.
     pub fn tls_plaintext_locate(bytes: &[u8]) -> Result<(TLSPlaintextFields<'_>, &[u8]), Rejected> {
         let mut found = foreign::TLSPlaintextFields::default();
-        // SAFETY: the pointer is of as many bytes as the length says, and nothing changes them during the call, which keeps no pointer.
+        // SAFETY: the pointer and the length are of one slice, nothing changes it during the call, and the call keeps no pointer.
         let outcome = unsafe { foreign::tls13_tls_plaintext_locate(bytes.as_ptr(), bytes.len(), &mut found) };
         let (_, rest) = split_as(bytes, outcome)?;
         let fields = TLSPlaintextFields {
@@ -594,7 +594,7 @@ pub mod tls13 {
     /// `TLSCiphertext` (RFC 8446, section 5.2): returns the fields of the one that `bytes` begin with, and the rest.
     pub fn tls_ciphertext_locate(bytes: &[u8]) -> Result<(TLSCiphertextFields<'_>, &[u8]), Rejected> {
         let mut found = foreign::TLSCiphertextFields::default();
-        // SAFETY: the pointer is of as many bytes as the length says, and nothing changes them during the call, which keeps no pointer.
+        // SAFETY: the pointer and the length are of one slice, nothing changes it during the call, and the call keeps no pointer.
         let outcome = unsafe { foreign::tls13_tls_ciphertext_locate(bytes.as_ptr(), bytes.len(), &mut found) };
         let (_, rest) = split_as(bytes, outcome)?;
         let fields = TLSCiphertextFields {
@@ -617,7 +617,7 @@ pub mod tls13 {
     /// `Alert` (RFC 8446, section 6): returns the fields of the one that `bytes` begin with, and the rest.
     pub fn alert_locate(bytes: &[u8]) -> Result<(AlertFields<'_>, &[u8]), Rejected> {
         let mut found = foreign::AlertFields::default();
-        // SAFETY: the pointer is of as many bytes as the length says, and nothing changes them during the call, which keeps no pointer.
+        // SAFETY: the pointer and the length are of one slice, nothing changes it during the call, and the call keeps no pointer.
         let outcome = unsafe { foreign::tls13_alert_locate(bytes.as_ptr(), bytes.len(), &mut found) };
         let (_, rest) = split_as(bytes, outcome)?;
         let fields = AlertFields {
@@ -993,7 +993,7 @@ pub mod mls {
     /// `MLSMessage` (RFC 9420, section 6): returns the fields of the one that `bytes` begin with, and the rest.
     pub fn message_locate(bytes: &[u8]) -> Result<(MLSMessageFields<'_>, &[u8]), Rejected> {
         let mut found = foreign::MLSMessageFields::default();
-        // SAFETY: the pointer is of as many bytes as the length says, and nothing changes them during the call, which keeps no pointer.
+        // SAFETY: the pointer and the length are of one slice, nothing changes it during the call, and the call keeps no pointer.
         let outcome = unsafe { foreign::mls_message_locate(bytes.as_ptr(), bytes.len(), &mut found) };
         let (_, rest) = split_as(bytes, outcome)?;
         let fields = MLSMessageFields {
@@ -1018,7 +1018,7 @@ pub mod mls {
     /// `PublicMessage` (RFC 9420, section 6.2): returns the fields of the one that `bytes` begin with, and the rest.
     pub fn public_message_locate(bytes: &[u8]) -> Result<(PublicMessageFields<'_>, &[u8]), Rejected> {
         let mut found = foreign::PublicMessageFields::default();
-        // SAFETY: the pointer is of as many bytes as the length says, and nothing changes them during the call, which keeps no pointer.
+        // SAFETY: the pointer and the length are of one slice, nothing changes it during the call, and the call keeps no pointer.
         let outcome = unsafe { foreign::mls_public_message_locate(bytes.as_ptr(), bytes.len(), &mut found) };
         let (_, rest) = split_as(bytes, outcome)?;
         let fields = PublicMessageFields {
@@ -1049,7 +1049,7 @@ pub mod mls {
     /// `PrivateMessage` (RFC 9420, section 6.3): returns the fields of the one that `bytes` begin with, and the rest.
     pub fn private_message_locate(bytes: &[u8]) -> Result<(PrivateMessageFields<'_>, &[u8]), Rejected> {
         let mut found = foreign::PrivateMessageFields::default();
-        // SAFETY: the pointer is of as many bytes as the length says, and nothing changes them during the call, which keeps no pointer.
+        // SAFETY: the pointer and the length are of one slice, nothing changes it during the call, and the call keeps no pointer.
         let outcome = unsafe { foreign::mls_private_message_locate(bytes.as_ptr(), bytes.len(), &mut found) };
         let (_, rest) = split_as(bytes, outcome)?;
         let fields = PrivateMessageFields {
@@ -1083,7 +1083,7 @@ pub mod mls {
     /// `FramedContent` (RFC 9420, section 6), with which a `PublicMessage` begins: returns the fields of the one that `bytes` begin with, and the rest.
     pub fn framed_content_locate(bytes: &[u8]) -> Result<(FramedContentFields<'_>, &[u8]), Rejected> {
         let mut found = foreign::FramedContentFields::default();
-        // SAFETY: the pointer is of as many bytes as the length says, and nothing changes them during the call, which keeps no pointer.
+        // SAFETY: the pointer and the length are of one slice, nothing changes it during the call, and the call keeps no pointer.
         let outcome = unsafe { foreign::mls_framed_content_locate(bytes.as_ptr(), bytes.len(), &mut found) };
         let (_, rest) = split_as(bytes, outcome)?;
         let fields = FramedContentFields {
@@ -1111,7 +1111,7 @@ pub mod mls {
     /// `SenderData` (RFC 9420, section 6.3.2): returns the fields of the one that `bytes` begin with, and the rest.
     pub fn sender_data_locate(bytes: &[u8]) -> Result<(SenderDataFields<'_>, &[u8]), Rejected> {
         let mut found = foreign::SenderDataFields::default();
-        // SAFETY: the pointer is of as many bytes as the length says, and nothing changes them during the call, which keeps no pointer.
+        // SAFETY: the pointer and the length are of one slice, nothing changes it during the call, and the call keeps no pointer.
         let outcome = unsafe { foreign::mls_sender_data_locate(bytes.as_ptr(), bytes.len(), &mut found) };
         let (_, rest) = split_as(bytes, outcome)?;
         let fields = SenderDataFields {
@@ -1142,7 +1142,7 @@ pub mod mls {
     /// `KeyPackage` (RFC 9420, section 10): returns the fields of the one that `bytes` begin with, and the rest.
     pub fn key_package_locate(bytes: &[u8]) -> Result<(KeyPackageFields<'_>, &[u8]), Rejected> {
         let mut found = foreign::KeyPackageFields::default();
-        // SAFETY: the pointer is of as many bytes as the length says, and nothing changes them during the call, which keeps no pointer.
+        // SAFETY: the pointer and the length are of one slice, nothing changes it during the call, and the call keeps no pointer.
         let outcome = unsafe { foreign::mls_key_package_locate(bytes.as_ptr(), bytes.len(), &mut found) };
         let (_, rest) = split_as(bytes, outcome)?;
         let fields = KeyPackageFields {
@@ -1180,7 +1180,7 @@ pub mod mls {
     /// `LeafNode` (RFC 9420, section 7.2): returns the fields of the one that `bytes` begin with, and the rest.
     pub fn leaf_node_locate(bytes: &[u8]) -> Result<(LeafNodeFields<'_>, &[u8]), Rejected> {
         let mut found = foreign::LeafNodeFields::default();
-        // SAFETY: the pointer is of as many bytes as the length says, and nothing changes them during the call, which keeps no pointer.
+        // SAFETY: the pointer and the length are of one slice, nothing changes it during the call, and the call keeps no pointer.
         let outcome = unsafe { foreign::mls_leaf_node_locate(bytes.as_ptr(), bytes.len(), &mut found) };
         let (_, rest) = split_as(bytes, outcome)?;
         let fields = LeafNodeFields {
@@ -1210,7 +1210,7 @@ pub mod mls {
     /// `Welcome` (RFC 9420, section 12.4.3.1): returns the fields of the one that `bytes` begin with, and the rest.
     pub fn welcome_locate(bytes: &[u8]) -> Result<(WelcomeFields<'_>, &[u8]), Rejected> {
         let mut found = foreign::WelcomeFields::default();
-        // SAFETY: the pointer is of as many bytes as the length says, and nothing changes them during the call, which keeps no pointer.
+        // SAFETY: the pointer and the length are of one slice, nothing changes it during the call, and the call keeps no pointer.
         let outcome = unsafe { foreign::mls_welcome_locate(bytes.as_ptr(), bytes.len(), &mut found) };
         let (_, rest) = split_as(bytes, outcome)?;
         let fields = WelcomeFields {
@@ -1235,7 +1235,7 @@ pub mod mls {
     /// `GroupSecrets` (RFC 9420, section 12.4.3.1): returns the fields of the one that `bytes` begin with, and the rest.
     pub fn group_secrets_locate(bytes: &[u8]) -> Result<(GroupSecretsFields<'_>, &[u8]), Rejected> {
         let mut found = foreign::GroupSecretsFields::default();
-        // SAFETY: the pointer is of as many bytes as the length says, and nothing changes them during the call, which keeps no pointer.
+        // SAFETY: the pointer and the length are of one slice, nothing changes it during the call, and the call keeps no pointer.
         let outcome = unsafe { foreign::mls_group_secrets_locate(bytes.as_ptr(), bytes.len(), &mut found) };
         let (_, rest) = split_as(bytes, outcome)?;
         let fields = GroupSecretsFields {
@@ -1264,7 +1264,7 @@ pub mod mls {
     /// `GroupInfo` (RFC 9420, section 12.4.3): returns the fields of the one that `bytes` begin with, and the rest.
     pub fn group_info_locate(bytes: &[u8]) -> Result<(GroupInfoFields<'_>, &[u8]), Rejected> {
         let mut found = foreign::GroupInfoFields::default();
-        // SAFETY: the pointer is of as many bytes as the length says, and nothing changes them during the call, which keeps no pointer.
+        // SAFETY: the pointer and the length are of one slice, nothing changes it during the call, and the call keeps no pointer.
         let outcome = unsafe { foreign::mls_group_info_locate(bytes.as_ptr(), bytes.len(), &mut found) };
         let (_, rest) = split_as(bytes, outcome)?;
         let fields = GroupInfoFields {
@@ -1299,7 +1299,7 @@ pub mod mls {
     /// `GroupContext` (RFC 9420, section 8.1): returns the fields of the one that `bytes` begin with, and the rest.
     pub fn group_context_locate(bytes: &[u8]) -> Result<(GroupContextFields<'_>, &[u8]), Rejected> {
         let mut found = foreign::GroupContextFields::default();
-        // SAFETY: the pointer is of as many bytes as the length says, and nothing changes them during the call, which keeps no pointer.
+        // SAFETY: the pointer and the length are of one slice, nothing changes it during the call, and the call keeps no pointer.
         let outcome = unsafe { foreign::mls_group_context_locate(bytes.as_ptr(), bytes.len(), &mut found) };
         let (_, rest) = split_as(bytes, outcome)?;
         let fields = GroupContextFields {
@@ -1326,7 +1326,7 @@ pub mod mls {
     /// `Commit` (RFC 9420, section 12.4): returns the fields of the one that `bytes` begin with, and the rest.
     pub fn commit_locate(bytes: &[u8]) -> Result<(CommitFields<'_>, &[u8]), Rejected> {
         let mut found = foreign::CommitFields::default();
-        // SAFETY: the pointer is of as many bytes as the length says, and nothing changes them during the call, which keeps no pointer.
+        // SAFETY: the pointer and the length are of one slice, nothing changes it during the call, and the call keeps no pointer.
         let outcome = unsafe { foreign::mls_commit_locate(bytes.as_ptr(), bytes.len(), &mut found) };
         let (_, rest) = split_as(bytes, outcome)?;
         let fields = CommitFields {
@@ -1348,7 +1348,7 @@ pub mod mls {
     /// `Proposal` (RFC 9420, section 12.1): returns the fields of the one that `bytes` begin with, and the rest.
     pub fn proposal_locate(bytes: &[u8]) -> Result<(ProposalFields<'_>, &[u8]), Rejected> {
         let mut found = foreign::ProposalFields::default();
-        // SAFETY: the pointer is of as many bytes as the length says, and nothing changes them during the call, which keeps no pointer.
+        // SAFETY: the pointer and the length are of one slice, nothing changes it during the call, and the call keeps no pointer.
         let outcome = unsafe { foreign::mls_proposal_locate(bytes.as_ptr(), bytes.len(), &mut found) };
         let (_, rest) = split_as(bytes, outcome)?;
         let fields = ProposalFields {
@@ -1361,7 +1361,7 @@ pub mod mls {
     /// `MLSMessage` (RFC 9420, section 6), and its `WireFormat`: 1 is a public message, 2 a private message, 3 a welcome, 4 a group info, 5 a key package. Returns that number, and the rest of the bytes.
     pub fn message_kind(bytes: &[u8]) -> Result<(u16, &[u8]), Rejected> {
         let mut found = 0u16;
-        // SAFETY: the pointer is of as many bytes as the length says, and nothing changes them during the call, which keeps no pointer.
+        // SAFETY: the pointer and the length are of one slice, nothing changes it during the call, and the call keeps no pointer.
         let outcome = unsafe { foreign::mls_message_kind(bytes.as_ptr(), bytes.len(), &mut found) };
         let (_, rest) = split_as(bytes, outcome)?;
         Ok((found, rest))
@@ -1369,7 +1369,7 @@ pub mod mls {
 
     /// `FramedContentTBS` (RFC 9420, section 6.1): writes the bytes that are signed of a message into a buffer: the version, the wire format (1 or 2), the encoding of a `FramedContent`, and that of a `GroupContext` if the sender is a member or a new member that commits; else the context is empty. The result is that of validation for the bytes that are written, and `at` counts from the first of them. If the buffer has less than `4 + content_length + context_length` bytes, nothing is written, and the status is that of `InvalidWriteLength`. Returns the written bytes, if they are accepted.
     pub fn framed_content_tbs<'a>(wire_format: u16, content: &[u8], context: &[u8], out: &'a mut [u8]) -> Result<&'a [u8], Rejected> {
-        // SAFETY: each pointer is of as many bytes as its length says, and nothing else changes or reads them during the call, which keeps none.
+        // SAFETY: each pointer and its length are of one slice, nothing else changes or reads it during the call, and the call keeps no pointer.
         let outcome = unsafe { foreign::mls_framed_content_tbs_encode(wire_format, content.as_ptr(), content.len(), context.as_ptr(), context.len(), out.as_mut_ptr(), out.len()) };
         written_as(out, 4 + content.len() + context.len(), outcome)
     }

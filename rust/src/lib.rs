@@ -64,7 +64,7 @@ fn split(
     bytes: &[u8],
     call: unsafe extern "C" fn(*const u8, usize) -> Outcome,
 ) -> Result<(&[u8], &[u8]), Rejected> {
-    // SAFETY: the pointer is of as many bytes as the length says, and nothing changes them during the call, which keeps no pointer.
+    // SAFETY: the pointer and the length are of one slice, nothing changes it during the call, and the call keeps no pointer.
     let outcome = unsafe { call(bytes.as_ptr(), bytes.len()) };
     split_as(bytes, outcome)
 }
@@ -134,7 +134,7 @@ impl<'a> Iterator for Elements<'a> {
         }
         let from = self.left.offset;
         let mut element = Span::default();
-        // SAFETY: the pointer is of as many bytes as the length says, and nothing changes them during the call, which keeps no pointer.
+        // SAFETY: the pointer and the length are of one slice, nothing changes it during the call, and the call keeps no pointer.
         let outcome = unsafe {
             (self.next)(self.content.as_ptr(), self.content.len(), &mut self.left, &mut element)
         };
