@@ -1,7 +1,7 @@
 -- LogEntry: what it stands for, its format and its law.
 use Rattle.std.proofs.Common.{arith}
 use Rattle.std.specs.Prelude.{ℕ}
-use Rattle.tls_codec.specs.OwnMessages.{Tree, Number, Empty, Join, Format, nothing_format, fields_format, Variants, no_variant, variant, tagged_format, MeetsLaws, MeetVariantLaws, nothing_meets, fields_meets, no_variant_meets, variant_meets, tagged_meets}
+use Rattle.tls_codec.specs.OwnMessages.{Tree, Number, Empty, Join, Format, nothing_format, fields_format, Variants, no_variant, variant, tagged_format, MeetsLaws, MeetsVariantLaws, nothing_meets, fields_meets, no_variant_meets, variant_meets, tagged_meets}
 use Rattle.ct.specs.X509ChainEntry.{x509_chain_entry_plain, x509_chain_entry_format, x509_chain_entry_meets}
 use Rattle.ct.specs.PrecertChainEntry.{precert_chain_entry_plain, precert_chain_entry_format, precert_chain_entry_meets}
 use Rattle.ct.specs.declared.log_entry.LogEntry.{LogEntry}
@@ -22,7 +22,7 @@ log_entry_variants =
     (variant 1 (fields_format precert_chain_entry_format nothing_format)
     no_variant)
 
-pub log_entry_variants_meet : MeetVariantLaws log_entry_variants
+pub log_entry_variants_meet : MeetsVariantLaws log_entry_variants
 log_entry_variants_meet =
     variant_meets 0 (fields_meets x509_chain_entry_meets nothing_meets)
     (variant_meets 1 (fields_meets precert_chain_entry_meets nothing_meets)

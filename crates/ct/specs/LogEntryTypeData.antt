@@ -1,7 +1,7 @@
 -- LogEntryTypeData: what it stands for, its format and its law.
 use Rattle.std.proofs.Common.{arith}
 use Rattle.std.specs.Prelude.{ℕ}
-use Rattle.tls_codec.specs.OwnMessages.{Tree, Number, Empty, Join, number_trees, Format, nothing_format, fields_format, bounded_bytes_format, Variants, no_variant, variant, tagged_format, MeetsLaws, MeetVariantLaws, nothing_meets, fields_meets, bounded_bytes_meets, no_variant_meets, variant_meets, tagged_meets}
+use Rattle.tls_codec.specs.OwnMessages.{Tree, Number, Empty, Join, number_trees, Format, nothing_format, fields_format, bounded_bytes_format, Variants, no_variant, variant, tagged_format, MeetsLaws, MeetsVariantLaws, nothing_meets, fields_meets, bounded_bytes_meets, no_variant_meets, variant_meets, tagged_meets}
 use Rattle.tls_codec.specs.Contents.{fixed_bytes_of}
 use Rattle.ct.specs.PreCert.{pre_cert_plain, pre_cert_format, pre_cert_meets}
 use Rattle.ct.specs.declared.log_entry_type_data.LogEntryTypeData.{LogEntryTypeData}
@@ -22,7 +22,7 @@ log_entry_type_data_variants =
     (variant 1 (fields_format pre_cert_format nothing_format)
     no_variant)
 
-pub log_entry_type_data_variants_meet : MeetVariantLaws log_entry_type_data_variants
+pub log_entry_type_data_variants_meet : MeetsVariantLaws log_entry_type_data_variants
 log_entry_type_data_variants_meet =
     variant_meets 0 (fields_meets (bounded_bytes_meets 3 1 16777215 (omega arith)) nothing_meets)
     (variant_meets 1 (fields_meets pre_cert_meets nothing_meets)

@@ -9,7 +9,7 @@ use std::alloc::Global;
 use std::fmt;
 use tls_codec::{Deserialize, DeserializeBytes, Error, Serialize, Sink, Size, Source};
 use tls_codec_validate::{Rejected, Validate};
-use tls_codec_views::{Encoded, Parted, Told};
+use tls_codec_views::{Encoded, Parted, ReadInPlace};
 
 /// `HashAlgorithm` (RFC 5246, section 7.4.1.4.1).
 #[derive(PartialEq, Eq, PartialOrd, Ord, Hash, Debug, Clone, Copy)]
@@ -147,8 +147,8 @@ impl Parted for HashAlgorithm {
     ghost as_parts = { λ bytes is. is };
 }
 
-impl Told for HashAlgorithm {
-    fn told(encoded: &Encoded<'_, HashAlgorithm>) -> HashAlgorithm {
+impl ReadInPlace for HashAlgorithm {
+    fn read(encoded: &Encoded<'_, HashAlgorithm>) -> HashAlgorithm {
         HashAlgorithm(encoded.parts().get())
     }
 }

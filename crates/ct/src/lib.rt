@@ -1,4 +1,4 @@
-//! Messages, written by `tlsgen`.
+//! Messages of Certificate Transparency (RFC 6962, sections 3.1 to 3.5), as printed. Written by `tlsgen`.
 #![tactic(auto)]
 
 pub mod digitally_signed;

@@ -175,8 +175,8 @@ impl<'a> From<Encoded<'a, LogEntry>> for LogEntryView<'a> {
     fn from(whole: Encoded<'a, LogEntry>) -> LogEntryView<'a> {
         let (tag, parts) = whole.case();
         match tag {
-            0 => LogEntryView::X509Entry(Encoded::alone(parts)),
-            1 => LogEntryView::PrecertEntry(Encoded::alone(parts)),
+            0 => LogEntryView::X509Entry(Encoded::from_only_part(parts)),
+            1 => LogEntryView::PrecertEntry(Encoded::from_only_part(parts)),
             _ => unreachable!(),
         }
     }

@@ -176,8 +176,8 @@ impl<'a> From<Encoded<'a, LogEntryTypeData>> for LogEntryTypeDataView<'a> {
     fn from(whole: Encoded<'a, LogEntryTypeData>) -> LogEntryTypeDataView<'a> {
         let (tag, parts) = whole.case();
         match tag {
-            0 => LogEntryTypeDataView::X509Entry(Encoded::alone(parts)),
-            1 => LogEntryTypeDataView::PrecertEntry(Encoded::alone(parts)),
+            0 => LogEntryTypeDataView::X509Entry(Encoded::from_only_part(parts)),
+            1 => LogEntryTypeDataView::PrecertEntry(Encoded::from_only_part(parts)),
             _ => unreachable!(),
         }
     }

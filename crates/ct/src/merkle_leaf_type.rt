@@ -14,7 +14,7 @@ use tls_codec::{
     Deserialize, DeserializeBytes, Error, Serialize, Sink, Size, Source, unknown_value,
 };
 use tls_codec_validate::{Rejected, Validate, split_u8};
-use tls_codec_views::{Encoded, Numbered, Told};
+use tls_codec_views::{Encoded, Numbered, ReadInPlace};
 
 /// `MerkleLeafType` (RFC 6962, section 3.4).
 #[derive(PartialEq, Eq, PartialOrd, Ord, Hash, Debug, Clone, Copy)]
@@ -158,8 +158,8 @@ impl Numbered for MerkleLeafType {
     ghost as_values = { λ bytes is. is };
 }
 
-impl Told for MerkleLeafType {
-    fn told(encoded: &Encoded<'_, MerkleLeafType>) -> MerkleLeafType {
+impl ReadInPlace for MerkleLeafType {
+    fn read(encoded: &Encoded<'_, MerkleLeafType>) -> MerkleLeafType {
         match encoded.number() {
             0 => MerkleLeafType::TimestampedEntry,
             _ => unreachable!(),

@@ -9,7 +9,7 @@ use std::alloc::Global;
 use std::fmt;
 use tls_codec::{Deserialize, DeserializeBytes, Error, Serialize, Sink, Size, Source};
 use tls_codec_validate::{Rejected, Validate};
-use tls_codec_views::{Encoded, Parted, Told};
+use tls_codec_views::{Encoded, Parted, ReadInPlace};
 
 /// `SignatureAlgorithm` (RFC 5246, section 7.4.1.4.1).
 #[derive(PartialEq, Eq, PartialOrd, Ord, Hash, Debug, Clone, Copy)]
@@ -139,8 +139,8 @@ impl Parted for SignatureAlgorithm {
     ghost as_parts = { λ bytes is. is };
 }
 
-impl Told for SignatureAlgorithm {
-    fn told(encoded: &Encoded<'_, SignatureAlgorithm>) -> SignatureAlgorithm {
+impl ReadInPlace for SignatureAlgorithm {
+    fn read(encoded: &Encoded<'_, SignatureAlgorithm>) -> SignatureAlgorithm {
         SignatureAlgorithm(encoded.parts().get())
     }
 }

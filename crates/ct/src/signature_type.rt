@@ -9,7 +9,7 @@ use std::alloc::Global;
 use std::fmt;
 use tls_codec::{Deserialize, DeserializeBytes, Error, Serialize, Sink, Size, Source};
 use tls_codec_validate::{Rejected, Validate};
-use tls_codec_views::{Encoded, Parted, Told};
+use tls_codec_views::{Encoded, Parted, ReadInPlace};
 
 /// `SignatureType` (RFC 6962, section 3.2).
 #[derive(PartialEq, Eq, PartialOrd, Ord, Hash, Debug, Clone, Copy)]
@@ -127,8 +127,8 @@ impl Parted for SignatureType {
     ghost as_parts = { λ bytes is. is };
 }
 
-impl Told for SignatureType {
-    fn told(encoded: &Encoded<'_, SignatureType>) -> SignatureType {
+impl ReadInPlace for SignatureType {
+    fn read(encoded: &Encoded<'_, SignatureType>) -> SignatureType {
         SignatureType(encoded.parts().get())
     }
 }

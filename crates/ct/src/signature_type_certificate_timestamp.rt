@@ -14,7 +14,7 @@ use tls_codec::{
     Deserialize, DeserializeBytes, Error, Serialize, Sink, Size, Source, unknown_value,
 };
 use tls_codec_validate::{Rejected, Validate, split_u8};
-use tls_codec_views::{Encoded, Numbered, Told};
+use tls_codec_views::{Encoded, Numbered, ReadInPlace};
 
 /// `SignatureTypeCertificateTimestamp`.
 #[derive(PartialEq, Eq, PartialOrd, Ord, Hash, Debug, Clone, Copy)]
@@ -162,8 +162,8 @@ impl Numbered for SignatureTypeCertificateTimestamp {
     ghost as_values = { λ bytes is. is };
 }
 
-impl Told for SignatureTypeCertificateTimestamp {
-    fn told(
+impl ReadInPlace for SignatureTypeCertificateTimestamp {
+    fn read(
         encoded: &Encoded<'_, SignatureTypeCertificateTimestamp>,
     ) -> SignatureTypeCertificateTimestamp {
         match encoded.number() {

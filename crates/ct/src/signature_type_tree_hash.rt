@@ -14,7 +14,7 @@ use tls_codec::{
     Deserialize, DeserializeBytes, Error, Serialize, Sink, Size, Source, unknown_value,
 };
 use tls_codec_validate::{Rejected, Validate, split_u8};
-use tls_codec_views::{Encoded, Numbered, Told};
+use tls_codec_views::{Encoded, Numbered, ReadInPlace};
 
 /// `SignatureTypeTreeHash`.
 #[derive(PartialEq, Eq, PartialOrd, Ord, Hash, Debug, Clone, Copy)]
@@ -161,8 +161,8 @@ impl Numbered for SignatureTypeTreeHash {
     ghost as_values = { λ bytes is. is };
 }
 
-impl Told for SignatureTypeTreeHash {
-    fn told(encoded: &Encoded<'_, SignatureTypeTreeHash>) -> SignatureTypeTreeHash {
+impl ReadInPlace for SignatureTypeTreeHash {
+    fn read(encoded: &Encoded<'_, SignatureTypeTreeHash>) -> SignatureTypeTreeHash {
         match encoded.number() {
             1 => SignatureTypeTreeHash::TreeHash,
             _ => unreachable!(),

@@ -188,8 +188,8 @@ impl<'a> From<Encoded<'a, TimestampedEntryLogEntryTypeData>>
     ) -> TimestampedEntryLogEntryTypeDataView<'a> {
         let (tag, parts) = whole.case();
         match tag {
-            0 => TimestampedEntryLogEntryTypeDataView::X509Entry(Encoded::alone(parts)),
-            1 => TimestampedEntryLogEntryTypeDataView::PrecertEntry(Encoded::alone(parts)),
+            0 => TimestampedEntryLogEntryTypeDataView::X509Entry(Encoded::from_only_part(parts)),
+            1 => TimestampedEntryLogEntryTypeDataView::PrecertEntry(Encoded::from_only_part(parts)),
             _ => unreachable!(),
         }
     }

@@ -14,7 +14,7 @@ use tls_codec::{
     Deserialize, DeserializeBytes, Error, Serialize, Sink, Size, Source, unknown_value,
 };
 use tls_codec_validate::{Rejected, Validate, split_u8};
-use tls_codec_views::{Encoded, Numbered, Told};
+use tls_codec_views::{Encoded, Numbered, ReadInPlace};
 
 /// `Version` (RFC 6962, section 3.2).
 #[derive(PartialEq, Eq, PartialOrd, Ord, Hash, Debug, Clone, Copy)]
@@ -154,8 +154,8 @@ impl Numbered for Version {
     ghost as_values = { λ bytes is. is };
 }
 
-impl Told for Version {
-    fn told(encoded: &Encoded<'_, Version>) -> Version {
+impl ReadInPlace for Version {
+    fn read(encoded: &Encoded<'_, Version>) -> Version {
         match encoded.number() {
             0 => Version::V1,
             _ => unreachable!(),

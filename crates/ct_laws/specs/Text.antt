@@ -4,7 +4,7 @@ use Rattle.tls_presentation.specs.Cut.{lines}
 
 abbrev pub text : List ℕ
 text = lines (
-    "// RFC 6962, sections 3.1 to 3.5, as it is printed, behind what it takes from RFC 5246 (ct.notes has what the RFCs say in prose). It was written down from memory." ∷
+    "// Messages of Certificate Transparency (RFC 6962, sections 3.1 to 3.5), as printed. What they take from RFC 5246 comes first; ct.notes has what the RFCs say in prose. It was written down from memory." ∷
     "" ∷
     "// ---- RFC 5246, section 4.7, Cryptographic Attributes" ∷
     "" ∷

@@ -2,7 +2,7 @@
 use Rattle.std.specs.Prelude.{◌≡◌, ◌⊎◌, ℕ, List, ◌++◌, Result, Ok, Err}
 use Rattle.tls_codec.specs.OwnMessages.{Tree, Number, Empty, Join, number_trees, Format, number_format, nothing_format, fields_format, bytes_format, MeetsLaws, u16_meets, nothing_meets, fields_meets, bytes_meets}
 use Rattle.tls_codec.specs.Contents.{bytes_of}
-use Rattle.tls_codec.specs.Calls.{Error, LeavesSource, Reads, SinkGhosts, SourceGhosts, Writes}
+use Rattle.tls_codec.specs.Calls.{Error, Reads, RefusesFromSource, SinkGhosts, SourceGhosts, Writes}
 use Rattle.guide.specs.declared.chained.Chained.{Chained}
 use Rattle.guide.specs.declared.extension.Extension.{Extension}
 
@@ -22,7 +22,7 @@ extension_meets = fields_meets u16_meets (fields_meets bytes_meets nothing_meets
 -- no extension was read, and nothing was sent
 pub record NoneRead {S T : Type 0} (source : SourceGhosts S) (old new : S) (before after : T) (result : Result ℕ Error) : Type 0 where
   pub error : Error
-  pub left : LeavesSource extension_format source old new error
+  pub left : RefusesFromSource extension_format source old new error
   pub unsent : after ≡ before
   pub is : result ≡ Err error
 

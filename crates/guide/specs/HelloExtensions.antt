@@ -1,6 +1,6 @@
 -- What an extension of a hello stands for, its type and its data, and its format.
 use Rattle.std.proofs.Common.{arith}
-use Rattle.tls_codec.specs.OwnMessages.{Tree, Number, Join, number_trees, Format, number_format, fixed_list_format, fixed_bytes_format, Variants, no_variant, variant, tagged_format, chosen_format, MeetsLaws, EachMeetsLaws, MeetVariantLaws, u16_meets, fixed_list_meets, fixed_bytes_meets, no_variant_meets, variant_meets, tagged_meets, chosen_meets}
+use Rattle.tls_codec.specs.OwnMessages.{Tree, Number, Join, number_trees, Format, number_format, fixed_list_format, fixed_bytes_format, Variants, no_variant, variant, tagged_format, chosen_format, MeetsLaws, EachMeetsLaws, MeetsVariantLaws, u16_meets, fixed_list_meets, fixed_bytes_meets, no_variant_meets, variant_meets, tagged_meets, chosen_meets}
 use Rattle.tls_codec.specs.Contents.{elements_of, fixed_bytes_of}
 use Rattle.tls_codec_cases.specs.Sums.{either_variants, either_variants_meet}
 use Rattle.tls_codec_cases.specs.Others.{others, others_meet}
@@ -22,7 +22,7 @@ hello_extension_variants =
     (variant 51 (fixed_enclosed_format 2 (number_format 2)) no_variant))
     (others 0xffff (fixed_bytes_format 2))
 
-pub hello_extension_variants_meet : MeetVariantLaws hello_extension_variants
+pub hello_extension_variants_meet : MeetsVariantLaws hello_extension_variants
 hello_extension_variants_meet =
     either_variants_meet
     (either_variants_meet (variant_meets 43 (fixed_enclosed_meets 2 (omega arith) (fixed_list_meets 1 u16_meets)) no_variant_meets)

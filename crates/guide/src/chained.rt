@@ -2,7 +2,7 @@
 ghost use Rattle.std.specs.Prelude.{◌≡◌, ◌++◌, Some, refl};
 ghost use Rattle.std.proofs.Common.{rules};
 ghost use Rattle.std.proofs.lemmas.Grind.{common_steps};
-ghost use Rattle.tls_codec.specs.Devices.{no_counts, stay};
+ghost use Rattle.tls_codec.specs.Devices.{no_counts, none_fell_refl};
 ghost use Rattle.guide.specs.Guide.{left_of};
 
 use tls_codec::{Fault, Source};
@@ -44,5 +44,5 @@ impl Source for Chained<'_> {
 
     ghost gives_from_front = { λ a xs b p. p };
 
-    ghost no_count_falls = { λ a xs b p. stay no_counts };
+    ghost no_count_falls = { λ a xs b p. none_fell_refl no_counts };
 }

@@ -8,6 +8,7 @@ use tls_codec::{
     ByRef, Deserialize, DeserializeBytes, Error, Serialize, Sink, Size, Source, VLBytes,
 };
 use tls_codec_cases::{Case, Or, Tagged, append_as, write_as};
+use tls_codec_validate::{Rejected, Validate};
 
 /// How a member of a group is known to the others (RFC 9420, section 5.3); a certificate is its bytes.
 #[derive(PartialEq, Eq, Debug, Clone, Drop)]
@@ -84,5 +85,13 @@ impl DeserializeBytes for Credential {
     fn tls_deserialize_bytes(alloc: Global, whole: &[u8]) -> Result<(Credential, &[u8]), Error> {
         let (cases, rest) = <Credentials>::tls_deserialize_bytes(alloc, whole)?;
         Ok((Credential::of(cases), rest))
+    }
+}
+
+impl Validate for Credential {
+    ghost places = { ⟦<Credentials as Validate>⟧.places };
+
+    fn tls_validate_prefix(whole: &[u8]) -> Result<&[u8], Rejected<'_>> {
+        <Credentials>::tls_validate_prefix(whole)
     }
 }

@@ -4,6 +4,7 @@ use std::alloc::Global;
 use std::process::Abort;
 use std::test::Fail;
 use tls_codec::{Deserialize, DeserializeBytes, Error, Serialize, Size, VLBytes};
+use tls_codec_validate::Validate;
 
 #[test]
 fn each_credential_comes_back(rt: HostRuntime) -> Result<(), Fail> {
@@ -30,6 +31,7 @@ fn comes_back(
     assert_eq!(rt; sent.as_slice(), bytes);
     assert!(rt; Credential::tls_deserialize_exact(alloc, bytes)? == *value);
     assert!(rt; Credential::tls_deserialize_exact_bytes(alloc, bytes)? == *value);
+    assert!(rt; Credential::tls_validate(bytes).is_ok());
     Ok(())
 }
 
@@ -46,5 +48,7 @@ fn a_credential_of_another_type_is_unknown(rt: HostRuntime) -> Result<(), Fail> 
         Credential::tls_deserialize_exact_bytes(alloc, &bytes).err(),
         unknown
     );
+    let rejected = Credential::tls_validate(&bytes).err();
+    assert_eq!(rt; rejected.map(|rejected| rejected.error), unknown);
     Ok(())
 }

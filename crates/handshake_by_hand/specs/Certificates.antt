@@ -1,6 +1,6 @@
 -- What a certificate message stands for, and which bytes spell it. The certificate type decides what its entries are.
 use Rattle.std.proofs.Common.{arith}
-use Rattle.tls_codec.specs.OwnMessages.{Tree, Number, Join, trees, number_trees, pair_tree, Format, pair_format, fixed_list_format, fixed_bytes_format, bounded_bytes_format, chosen_format, Variants, no_variant, variant, EachMeetsLaws, MeetVariantLaws, pair_meets, fixed_list_meets, fixed_bytes_meets, bounded_bytes_meets, chosen_meets, no_variant_meets, variant_meets}
+use Rattle.tls_codec.specs.OwnMessages.{Tree, Number, Join, trees, number_trees, pair_tree, Format, pair_format, fixed_list_format, fixed_bytes_format, bounded_bytes_format, chosen_format, Variants, no_variant, variant, EachMeetsLaws, MeetsVariantLaws, pair_meets, fixed_list_meets, fixed_bytes_meets, bounded_bytes_meets, chosen_meets, no_variant_meets, variant_meets}
 use Rattle.tls_codec.specs.Contents.{elements_of, fixed_bytes_of}
 use Rattle.tls_codec_cases.specs.Sums.{either_variants, either_variants_meet}
 use Rattle.handshake_by_hand.specs.Extensions.{extension_format, extension_meets, extension_plain}
@@ -21,7 +21,7 @@ certificate_data_variants =
     either_variants (variant 0 (bounded_bytes_format 3 1 0xffffff) no_variant)
     (variant 2 (bounded_bytes_format 3 1 0xffffff) no_variant)
 
-pub certificate_data_variants_meet : MeetVariantLaws certificate_data_variants
+pub certificate_data_variants_meet : MeetsVariantLaws certificate_data_variants
 certificate_data_variants_meet =
     either_variants_meet (variant_meets 0 (bounded_bytes_meets 3 1 0xffffff (omega arith)) no_variant_meets)
     (variant_meets 2 (bounded_bytes_meets 3 1 0xffffff (omega arith)) no_variant_meets)

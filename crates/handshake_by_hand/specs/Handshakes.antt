@@ -1,6 +1,6 @@
 -- What a handshake message stands for, its type and its body, and its format: each body fills its length.
 use Rattle.std.proofs.Common.{arith}
-use Rattle.tls_codec.specs.OwnMessages.{Tree, Number, Empty, Join, number_trees, Format, nothing_format, fixed_bytes_format, Variants, no_variant, variant, tagged_format, MeetsLaws, MeetVariantLaws, nothing_meets, fixed_bytes_meets, no_variant_meets, variant_meets, tagged_meets}
+use Rattle.tls_codec.specs.OwnMessages.{Tree, Number, Empty, Join, number_trees, Format, nothing_format, fixed_bytes_format, Variants, no_variant, variant, tagged_format, MeetsLaws, MeetsVariantLaws, nothing_meets, fixed_bytes_meets, no_variant_meets, variant_meets, tagged_meets}
 use Rattle.tls_codec.specs.Contents.{fixed_bytes_of}
 use Rattle.tls_codec_cases.specs.Sums.{either_variants, either_variants_meet}
 use Rattle.tls_codec_cases.specs.Others.{others, others_meet}
@@ -27,7 +27,7 @@ handshake_variants =
     (variant 24 (fixed_enclosed_format 3 key_update_request_format) no_variant)))
     (others 255 (fixed_bytes_format 3))
 
-pub handshake_variants_meet : MeetVariantLaws handshake_variants
+pub handshake_variants_meet : MeetsVariantLaws handshake_variants
 handshake_variants_meet =
     either_variants_meet
     (either_variants_meet

@@ -1,5 +1,5 @@
 -- What the shares of a message stand for, and which bytes spell them, by the message's type.
-use Rattle.tls_codec.specs.OwnMessages.{Tree, Number, Join, trees, number_trees, pair_tree, Format, number_format, pair_format, fixed_list_format, bounded_bytes_format, chosen_format, Variants, no_variant, variant, MeetsLaws, EachMeetsLaws, MeetVariantLaws, u16_meets, pair_meets, fixed_list_meets, bounded_bytes_meets, chosen_meets, no_variant_meets, variant_meets}
+use Rattle.tls_codec.specs.OwnMessages.{Tree, Number, Join, trees, number_trees, pair_tree, Format, number_format, pair_format, fixed_list_format, bounded_bytes_format, chosen_format, Variants, no_variant, variant, MeetsLaws, EachMeetsLaws, MeetsVariantLaws, u16_meets, pair_meets, fixed_list_meets, bounded_bytes_meets, chosen_meets, no_variant_meets, variant_meets}
 use Rattle.std.proofs.Common.{arith}
 use Rattle.tls_codec.specs.Contents.{elements_of, fixed_bytes_of}
 use Rattle.tls_codec_cases.specs.Sums.{either_variants, either_variants_meet}
@@ -31,7 +31,7 @@ key_share_variants =
     either_variants (variant 1 (fixed_list_format 2 key_share_entry_format) no_variant)
     (either_variants (variant 2 key_share_entry_format no_variant) (variant 6 (number_format 2) no_variant))
 
-pub key_share_variants_meet : MeetVariantLaws key_share_variants
+pub key_share_variants_meet : MeetsVariantLaws key_share_variants
 key_share_variants_meet =
     either_variants_meet (variant_meets 1 (fixed_list_meets 2 key_share_entry_meets) no_variant_meets)
     (either_variants_meet (variant_meets 2 key_share_entry_meets no_variant_meets) (variant_meets 6 u16_meets no_variant_meets))

@@ -1,6 +1,6 @@
 -- ByVersion: what it stands for, its format and its law.
 use Rattle.std.specs.Prelude.{ℕ}
-use Rattle.tls_codec.specs.OwnMessages.{Tree, Number, Empty, Join, number_trees, Format, number_format, nothing_format, bytes_format, Variants, no_variant, variant, triple_tree, triple_format, chosen_format, EachMeetsLaws, MeetVariantLaws, u8_meets, u32_meets, nothing_meets, bytes_meets, no_variant_meets, variant_meets, triple_meets, chosen_meets}
+use Rattle.tls_codec.specs.OwnMessages.{Tree, Number, Empty, Join, number_trees, Format, number_format, nothing_format, bytes_format, Variants, no_variant, variant, triple_tree, triple_format, chosen_format, EachMeetsLaws, MeetsVariantLaws, u8_meets, u32_meets, nothing_meets, bytes_meets, no_variant_meets, variant_meets, triple_meets, chosen_meets}
 use Rattle.tls_codec.specs.Contents.{bytes_of}
 use Rattle.tls_codec_cases.specs.Sums.{either_variants, either_variants_meet}
 use Rattle.tls_codec_cases.specs.Chosen.{number_of}
@@ -23,7 +23,7 @@ by_version_variants =
     either_variants (either_variants (variant 1 (number_format 1) no_variant)
     (variant 2 (triple_format (number_format 4) bytes_format (number_format 1)) no_variant)) (variant 3 nothing_format no_variant)
 
-pub by_version_variants_meet : MeetVariantLaws by_version_variants
+pub by_version_variants_meet : MeetsVariantLaws by_version_variants
 by_version_variants_meet =
     either_variants_meet (either_variants_meet (variant_meets 1 u8_meets no_variant_meets)
     (variant_meets 2 (triple_meets u32_meets bytes_meets u8_meets) no_variant_meets)) (variant_meets 3 nothing_meets no_variant_meets)

@@ -1,7 +1,7 @@
 -- ClientCertTypeExtension: what it stands for, its format and its law.
 use Rattle.std.proofs.Common.{arith}
 use Rattle.std.specs.Prelude.{ℕ}
-use Rattle.tls_codec.specs.OwnMessages.{Tree, Number, Join, trees, Format, bounded_list_format, Variants, no_variant, variant, chosen_format, EachMeetsLaws, MeetVariantLaws, bounded_list_meets, no_variant_meets, variant_meets, chosen_meets}
+use Rattle.tls_codec.specs.OwnMessages.{Tree, Number, Join, trees, Format, bounded_list_format, Variants, no_variant, variant, chosen_format, EachMeetsLaws, MeetsVariantLaws, bounded_list_meets, no_variant_meets, variant_meets, chosen_meets}
 use Rattle.tls_codec.specs.Contents.{elements_of}
 use Rattle.tls_codec_cases.specs.Sums.{either_variants, either_variants_meet}
 use Rattle.messages_of_each_shape.specs.CertificateType.{certificate_type_plain, certificate_type_format, certificate_type_meets}
@@ -23,7 +23,7 @@ client_cert_type_extension_variants =
     either_variants (variant 0 (bounded_list_format 1 1 255 certificate_type_format) no_variant)
     (variant 1 certificate_type_format no_variant)
 
-pub client_cert_type_extension_variants_meet : MeetVariantLaws client_cert_type_extension_variants
+pub client_cert_type_extension_variants_meet : MeetsVariantLaws client_cert_type_extension_variants
 client_cert_type_extension_variants_meet =
     either_variants_meet (variant_meets 0 (bounded_list_meets 1 1 255 (omega arith) certificate_type_meets) no_variant_meets)
     (variant_meets 1 certificate_type_meets no_variant_meets)

@@ -1,7 +1,7 @@
 -- ContentTypeData: what it stands for, its format and its law.
 use Rattle.std.proofs.Common.{arith}
 use Rattle.std.specs.Prelude.{ℕ}
-use Rattle.tls_codec.specs.OwnMessages.{Tree, Number, Join, number_trees, Format, number_format, bytes_format, Variants, no_variant, variant, tagged_format, pair_tree, pair_format, MeetsLaws, MeetVariantLaws, u8_meets, bytes_meets, no_variant_meets, variant_meets, tagged_meets, pair_meets}
+use Rattle.tls_codec.specs.OwnMessages.{Tree, Number, Join, number_trees, Format, number_format, bytes_format, Variants, no_variant, variant, tagged_format, pair_tree, pair_format, MeetsLaws, MeetsVariantLaws, u8_meets, bytes_meets, no_variant_meets, variant_meets, tagged_meets, pair_meets}
 use Rattle.tls_codec.specs.Contents.{bytes_of}
 use Rattle.messages_of_each_shape.specs.declared.content_type_data.ContentTypeData.{ContentTypeData}
 use Rattle.messages_of_each_shape.specs.declared.content_type_data.ContentTypeData.TheVariants.{Application, Proposal}
@@ -22,7 +22,7 @@ content_type_data_variants =
     (variant 2 (pair_format (pair_format bytes_format bytes_format) (number_format 1))
     no_variant)
 
-pub content_type_data_variants_meet : MeetVariantLaws content_type_data_variants
+pub content_type_data_variants_meet : MeetsVariantLaws content_type_data_variants
 content_type_data_variants_meet =
     variant_meets 1 (pair_meets bytes_meets bytes_meets)
     (variant_meets 2 (pair_meets (pair_meets bytes_meets bytes_meets) u8_meets)

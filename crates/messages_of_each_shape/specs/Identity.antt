@@ -1,7 +1,7 @@
 -- Identity: what it stands for, its format and its law.
 use Rattle.std.proofs.Common.{arith}
 use Rattle.std.specs.Prelude.{ℕ}
-use Rattle.tls_codec.specs.OwnMessages.{Tree, Number, Empty, Join, number_trees, option_plain, Format, number_format, option_format, nothing_format, bytes_format, Variants, no_variant, variant, tagged_format, pair_tree, triple_tree, pair_format, triple_format, MeetsLaws, MeetVariantLaws, u32_meets, option_meets, nothing_meets, bytes_meets, no_variant_meets, variant_meets, tagged_meets, pair_meets, triple_meets}
+use Rattle.tls_codec.specs.OwnMessages.{Tree, Number, Empty, Join, number_trees, option_plain, Format, number_format, option_format, nothing_format, bytes_format, Variants, no_variant, variant, tagged_format, pair_tree, triple_tree, pair_format, triple_format, MeetsLaws, MeetsVariantLaws, u32_meets, option_meets, nothing_meets, bytes_meets, no_variant_meets, variant_meets, tagged_meets, pair_meets, triple_meets}
 use Rattle.tls_codec.specs.Contents.{bytes_of}
 use Rattle.messages_of_each_shape.specs.NameType.{name_type_plain, name_type_format, name_type_meets}
 use Rattle.messages_of_each_shape.specs.Level.{level_plain, level_format, level_meets}
@@ -25,7 +25,7 @@ identity_variants =
     (variant 5 nothing_format
     no_variant)
 
-pub identity_variants_meet : MeetVariantLaws identity_variants
+pub identity_variants_meet : MeetsVariantLaws identity_variants
 identity_variants_meet =
     variant_meets 4 (pair_meets (triple_meets name_type_meets level_meets bytes_meets) (pair_meets u32_meets (option_meets bytes_meets)))
     (variant_meets 5 nothing_meets

@@ -1,6 +1,6 @@
 -- NameTypeData: what it stands for, its format and its law.
 use Rattle.std.specs.Prelude.{ℕ}
-use Rattle.tls_codec.specs.OwnMessages.{Tree, Number, Join, number_trees, Format, number_format, bytes_format, Variants, no_variant, variant, chosen_format, EachMeetsLaws, MeetVariantLaws, u8_meets, bytes_meets, no_variant_meets, variant_meets, chosen_meets}
+use Rattle.tls_codec.specs.OwnMessages.{Tree, Number, Join, number_trees, Format, number_format, bytes_format, Variants, no_variant, variant, chosen_format, EachMeetsLaws, MeetsVariantLaws, u8_meets, bytes_meets, no_variant_meets, variant_meets, chosen_meets}
 use Rattle.tls_codec.specs.Contents.{bytes_of}
 use Rattle.tls_codec_cases.specs.Sums.{either_variants, either_variants_meet}
 use Rattle.messages_of_each_shape.specs.NameType.{name_type_selected}
@@ -20,7 +20,7 @@ abbrev pub name_type_data_variants : Variants
 name_type_data_variants =
     either_variants (variant 0 (number_format 1) no_variant) (variant 7 bytes_format no_variant)
 
-pub name_type_data_variants_meet : MeetVariantLaws name_type_data_variants
+pub name_type_data_variants_meet : MeetsVariantLaws name_type_data_variants
 name_type_data_variants_meet =
     either_variants_meet (variant_meets 0 u8_meets no_variant_meets) (variant_meets 7 bytes_meets no_variant_meets)
 

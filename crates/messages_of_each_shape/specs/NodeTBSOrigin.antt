@@ -1,7 +1,7 @@
 -- NodeTBSOrigin: what it stands for, its format and its law.
 use Rattle.std.proofs.Common.{arith}
 use Rattle.std.specs.Prelude.{ℕ}
-use Rattle.tls_codec.specs.OwnMessages.{Tree, Number, Empty, Join, number_trees, Format, number_format, nothing_format, fields_format, bytes_format, Variants, no_variant, variant, tagged_format, pair_tree, pair_format, MeetsLaws, MeetVariantLaws, u8_meets, nothing_meets, fields_meets, bytes_meets, no_variant_meets, variant_meets, tagged_meets, pair_meets}
+use Rattle.tls_codec.specs.OwnMessages.{Tree, Number, Empty, Join, number_trees, Format, number_format, nothing_format, fields_format, bytes_format, Variants, no_variant, variant, tagged_format, pair_tree, pair_format, MeetsLaws, MeetsVariantLaws, u8_meets, nothing_meets, fields_meets, bytes_meets, no_variant_meets, variant_meets, tagged_meets, pair_meets}
 use Rattle.tls_codec.specs.Contents.{bytes_of}
 use Rattle.messages_of_each_shape.specs.declared.node_tbs_origin.NodeTBSOrigin.{NodeTBSOrigin}
 use Rattle.messages_of_each_shape.specs.declared.node_tbs_origin.NodeTBSOrigin.TheVariants.{Update, Commit, External}
@@ -24,7 +24,7 @@ node_tbs_origin_variants =
     (variant 4 (fields_format bytes_format nothing_format)
     no_variant))
 
-pub node_tbs_origin_variants_meet : MeetVariantLaws node_tbs_origin_variants
+pub node_tbs_origin_variants_meet : MeetsVariantLaws node_tbs_origin_variants
 node_tbs_origin_variants_meet =
     variant_meets 2 nothing_meets
     (variant_meets 3 (pair_meets bytes_meets u8_meets)

@@ -12,6 +12,7 @@ use tls_codec::{
 };
 use tls_codec_cases::{By, append_as, write_as};
 use tls_codec_validate::{Rejected, Validate};
+use tls_codec_views::Parted;
 
 /// `Bearer`.
 #[derive(PartialEq, Eq, Debug, Clone, Drop)]
@@ -35,8 +36,7 @@ type ByRefParts<'a> = (
 
 impl Bearer {
     fn parts(&self) -> ByRefParts<'_>
-        ensures { ⟦<ByRefParts<'static> as Size>⟧.plain result
-            ≡ bearer_plain self.now }
+        ensures { ⟦<ByRefParts<'static> as Size>⟧.plain result ≡ bearer_plain self.now }
     {
         let first = &self.named;
         let rest = (By(ByRefIn(&self.body), PhantomData), ByRef(&self.last));
@@ -112,6 +112,12 @@ impl Validate for Bearer {
     fn tls_validate_prefix(whole: &[u8]) -> Result<&[u8], Rejected<'_>> {
         <Parts>::tls_validate_prefix(whole)
     }
+}
+
+impl Parted for Bearer {
+    type Parts = Parts;
+
+    ghost as_parts = { λ bytes is. is };
 }
 
 /// Two values are equal if and only if all their fields are equal.

@@ -18,7 +18,7 @@ use tls_codec_cases::Selector;
 use tls_codec_validate::{
     Keyed, Rejected, TagFirst, TagKeyed, Validate, ValidateKeyed, split_u8, validate_tag_first,
 };
-use tls_codec_views::{Encoded, Numbered, Told};
+use tls_codec_views::{Encoded, Numbered, ReadInPlace};
 
 /// `BodyKind`.
 #[derive(PartialEq, Eq, PartialOrd, Ord, Hash, Debug, Clone, Copy)]
@@ -176,8 +176,8 @@ impl Numbered for BodyKind {
     ghost as_values = { λ bytes is. is };
 }
 
-impl Told for BodyKind {
-    fn told(encoded: &Encoded<'_, BodyKind>) -> BodyKind {
+impl ReadInPlace for BodyKind {
+    fn read(encoded: &Encoded<'_, BodyKind>) -> BodyKind {
         match encoded.number() {
             1 => BodyKind::Chat,
             2 => BodyKind::File,
@@ -207,11 +207,11 @@ impl TagFirst for BodyKind {
 
     ghost variants = { values body_kind_has };
 
-    ghost told = { body_kind_selected };
+    ghost first_tag = { body_kind_selected };
 
     ghost is_tagged = { λ d bytes v spelled. spelled };
 
-    ghost is_told = { λ d bytes tag parts spelled. refl };
+    ghost is_first_tag = { λ d bytes tag parts spelled. refl };
 }
 
 impl ValidateKeyed for BodyKind {

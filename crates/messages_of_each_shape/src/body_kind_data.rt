@@ -1,6 +1,6 @@
 //! [`BodyKindData`].
 ghost use Rattle.std.specs.Prelude.{◌≡◌, IsTrue};
-ghost use Rattle.messages_of_each_shape.specs.BodyKindData.{body_kind_data_format_for, body_kind_data_meets_for, body_kind_data_plain, body_kind_data_tag};
+ghost use Rattle.messages_of_each_shape.specs.BodyKindData.{body_kind_data_format_for, body_kind_data_meets_for, body_kind_data_plain, body_kind_data_tag, body_kind_data_variants};
 ghost use Rattle.messages_of_each_shape.specs.declared.body_kind_data.BodyKindData.{BodyKindData};
 
 use crate::BodyKind;
@@ -10,6 +10,7 @@ use tls_codec::{
 };
 use tls_codec_cases::{Case, Chosen, Or, append_as_for, write_as_for};
 use tls_codec_validate::{Rejected, ValidateFor};
+use tls_codec_views::ChoiceFor;
 
 /// `select (body_kind)` of `KindBody`: its bytes don't have the tag.
 #[derive(PartialEq, Eq, Debug, Clone, Drop)]
@@ -111,6 +112,12 @@ impl ValidateFor<BodyKind> for BodyKindData {
     fn tls_validate_prefix_for<'a>(key: &u64, whole: &'a [u8]) -> Result<&'a [u8], Rejected<'a>> {
         <Cases as ValidateFor<BodyKind>>::tls_validate_prefix_for(key, whole)
     }
+}
+
+impl ChoiceFor<BodyKind> for BodyKindData {
+    ghost variants = { body_kind_data_variants };
+
+    ghost as_choice = { λ c bytes is. is };
 }
 
 /// The case `chat` with this content.

@@ -1,6 +1,6 @@
 //! [`ByVersion`].
 ghost use Rattle.std.specs.Prelude.{◌≡◌, ◌&&◌, IsTrue, true};
-ghost use Rattle.messages_of_each_shape.specs.ByVersion.{by_version_format_for, by_version_meets_for, by_version_plain, by_version_tag};
+ghost use Rattle.messages_of_each_shape.specs.ByVersion.{by_version_format_for, by_version_meets_for, by_version_plain, by_version_tag, by_version_variants};
 ghost use Rattle.messages_of_each_shape.specs.declared.by_version.ByVersion.{ByVersion};
 
 use std::alloc::Global;
@@ -9,6 +9,7 @@ use tls_codec::{
 };
 use tls_codec_cases::{Case, Chosen, Or, append_as_for, write_as_for};
 use tls_codec_validate::{Rejected, ValidateFor};
+use tls_codec_views::ChoiceFor;
 
 /// `select (version)` of `ByVersion`: its bytes don't have the tag.
 #[derive(PartialEq, Eq, Debug, Clone, Drop)]
@@ -126,6 +127,12 @@ impl ValidateFor<u16> for ByVersion {
     fn tls_validate_prefix_for<'a>(key: &u64, whole: &'a [u8]) -> Result<&'a [u8], Rejected<'a>> {
         <Cases as ValidateFor<u16>>::tls_validate_prefix_for(key, whole)
     }
+}
+
+impl ChoiceFor<u16> for ByVersion {
+    ghost variants = { by_version_variants };
+
+    ghost as_choice = { λ c bytes is. is };
 }
 
 /// The case `case_1` with this content.

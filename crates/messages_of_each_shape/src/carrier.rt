@@ -11,6 +11,7 @@ use tls_codec::{
 };
 use tls_codec_cases::{append_as, write_as};
 use tls_codec_validate::{Rejected, Validate};
+use tls_codec_views::Parted;
 
 /// `Carrier`.
 #[derive(PartialEq, Eq, Debug, Clone, Drop)]
@@ -40,8 +41,7 @@ type ByRefParts<'a> = ByRefThen<
 
 impl Carrier {
     fn parts(&self) -> ByRefParts<'_>
-        ensures { ⟦<ByRefParts<'static> as Size>⟧.plain result
-            ≡ carrier_plain self.now }
+        ensures { ⟦<ByRefParts<'static> as Size>⟧.plain result ≡ carrier_plain self.now }
     {
         let first = &self.body_kind;
         let rest = (
@@ -128,6 +128,12 @@ impl Validate for Carrier {
     fn tls_validate_prefix(whole: &[u8]) -> Result<&[u8], Rejected<'_>> {
         <Parts>::tls_validate_prefix(whole)
     }
+}
+
+impl Parted for Carrier {
+    type Parts = Parts;
+
+    ghost as_parts = { λ bytes is. is };
 }
 
 /// Two values are equal if and only if all their fields are equal.

@@ -18,7 +18,7 @@ use tls_codec_cases::Selector;
 use tls_codec_validate::{
     Keyed, Rejected, TagFirst, TagKeyed, Validate, ValidateKeyed, split_u8, validate_tag_first,
 };
-use tls_codec_views::{Encoded, Numbered, Told};
+use tls_codec_views::{Encoded, Numbered, ReadInPlace};
 
 /// `CertificateType`.
 ///
@@ -183,8 +183,8 @@ impl Numbered for CertificateType {
     ghost as_values = { λ bytes is. is };
 }
 
-impl Told for CertificateType {
-    fn told(encoded: &Encoded<'_, CertificateType>) -> CertificateType {
+impl ReadInPlace for CertificateType {
+    fn read(encoded: &Encoded<'_, CertificateType>) -> CertificateType {
         match encoded.number() {
             0 => CertificateType::X509,
             2 => CertificateType::RawPublicKey,
@@ -214,11 +214,11 @@ impl TagFirst for CertificateType {
 
     ghost variants = { values certificate_type_has };
 
-    ghost told = { certificate_type_selected };
+    ghost first_tag = { certificate_type_selected };
 
     ghost is_tagged = { λ d bytes v spelled. spelled };
 
-    ghost is_told = { λ d bytes tag parts spelled. refl };
+    ghost is_first_tag = { λ d bytes tag parts spelled. refl };
 }
 
 impl ValidateKeyed for CertificateType {

@@ -1,6 +1,6 @@
 //! [`CertificateTypeData`].
 ghost use Rattle.std.specs.Prelude.{◌≡◌, IsTrue};
-ghost use Rattle.messages_of_each_shape.specs.CertificateTypeData.{certificate_type_data_format_for, certificate_type_data_meets_for, certificate_type_data_plain, certificate_type_data_tag};
+ghost use Rattle.messages_of_each_shape.specs.CertificateTypeData.{certificate_type_data_format_for, certificate_type_data_meets_for, certificate_type_data_plain, certificate_type_data_tag, certificate_type_data_variants};
 ghost use Rattle.messages_of_each_shape.specs.declared.certificate_type_data.CertificateTypeData.{CertificateTypeData};
 
 use crate::CertificateType;
@@ -11,6 +11,7 @@ use tls_codec::{
 };
 use tls_codec_cases::{Case, Chosen, Or, append_as_for, write_as_for};
 use tls_codec_validate::{Rejected, ValidateFor};
+use tls_codec_views::ChoiceFor;
 
 /// `select (certificate_type)` of `Entry`: its bytes don't have the tag.
 #[derive(PartialEq, Eq, Debug, Clone, Drop)]
@@ -117,6 +118,12 @@ impl ValidateFor<CertificateType> for CertificateTypeData {
     fn tls_validate_prefix_for<'a>(key: &u64, whole: &'a [u8]) -> Result<&'a [u8], Rejected<'a>> {
         <Cases as ValidateFor<CertificateType>>::tls_validate_prefix_for(key, whole)
     }
+}
+
+impl ChoiceFor<CertificateType> for CertificateTypeData {
+    ghost variants = { certificate_type_data_variants };
+
+    ghost as_choice = { λ c bytes is. is };
 }
 
 /// The case `X509` with this content.

@@ -1,6 +1,6 @@
 //! [`ClientCertTypeExtension`].
 ghost use Rattle.std.specs.Prelude.{◌≡◌, IsTrue};
-ghost use Rattle.messages_of_each_shape.specs.ClientCertTypeExtension.{client_cert_type_extension_format_for, client_cert_type_extension_meets_for, client_cert_type_extension_plain, client_cert_type_extension_tag};
+ghost use Rattle.messages_of_each_shape.specs.ClientCertTypeExtension.{client_cert_type_extension_format_for, client_cert_type_extension_meets_for, client_cert_type_extension_plain, client_cert_type_extension_tag, client_cert_type_extension_variants};
 ghost use Rattle.messages_of_each_shape.specs.declared.client_cert_type_extension.ClientCertTypeExtension.{ClientCertTypeExtension};
 
 use crate::{CertificateType, ClientOrServerExtension};
@@ -11,6 +11,7 @@ use tls_codec::{
 };
 use tls_codec_cases::{Case, Chosen, Or, append_as_for, write_as_for};
 use tls_codec_validate::{Rejected, ValidateFor};
+use tls_codec_views::ChoiceFor;
 
 /// `select (ClientOrServerExtension)` of `ClientCertTypeExtension`: its bytes don't have
 /// the tag.
@@ -133,6 +134,12 @@ impl ValidateFor<ClientOrServerExtension> for ClientCertTypeExtension {
     fn tls_validate_prefix_for<'a>(key: &u64, whole: &'a [u8]) -> Result<&'a [u8], Rejected<'a>> {
         <Cases as ValidateFor<ClientOrServerExtension>>::tls_validate_prefix_for(key, whole)
     }
+}
+
+impl ChoiceFor<ClientOrServerExtension> for ClientCertTypeExtension {
+    ghost variants = { client_cert_type_extension_variants };
+
+    ghost as_choice = { λ c bytes is. is };
 }
 
 /// The case `client` with this content.

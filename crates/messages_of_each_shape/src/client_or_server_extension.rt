@@ -18,7 +18,7 @@ use tls_codec_cases::Selector;
 use tls_codec_validate::{
     Keyed, Rejected, TagFirst, TagKeyed, Validate, ValidateKeyed, split_u8, validate_tag_first,
 };
-use tls_codec_views::{Encoded, Numbered, Told};
+use tls_codec_views::{Encoded, Numbered, ReadInPlace};
 
 /// `ClientOrServerExtension`.
 #[derive(PartialEq, Eq, PartialOrd, Ord, Hash, Debug, Clone, Copy)]
@@ -184,8 +184,8 @@ impl Numbered for ClientOrServerExtension {
     ghost as_values = { λ bytes is. is };
 }
 
-impl Told for ClientOrServerExtension {
-    fn told(encoded: &Encoded<'_, ClientOrServerExtension>) -> ClientOrServerExtension {
+impl ReadInPlace for ClientOrServerExtension {
+    fn read(encoded: &Encoded<'_, ClientOrServerExtension>) -> ClientOrServerExtension {
         match encoded.number() {
             0 => ClientOrServerExtension::Client,
             1 => ClientOrServerExtension::Server,
@@ -215,11 +215,11 @@ impl TagFirst for ClientOrServerExtension {
 
     ghost variants = { values client_or_server_extension_has };
 
-    ghost told = { client_or_server_extension_selected };
+    ghost first_tag = { client_or_server_extension_selected };
 
     ghost is_tagged = { λ d bytes v spelled. spelled };
 
-    ghost is_told = { λ d bytes tag parts spelled. refl };
+    ghost is_first_tag = { λ d bytes tag parts spelled. refl };
 }
 
 impl ValidateKeyed for ClientOrServerExtension {

@@ -257,16 +257,18 @@ impl<'a> From<Encoded<'a, ContentTypeData>> for ContentTypeDataView<'a> {
         let (tag, parts) = whole.case();
         match tag {
             1 => {
-                let (authenticated_data, application_data) = Encoded::<(VLBytes, VLBytes)>::known(
-                    parts,
-                ).split();
+                let (authenticated_data, application_data) = Encoded::<
+                    (VLBytes, VLBytes),
+                >::from_proved(parts).split();
                 ContentTypeDataView::Application {
                     authenticated_data,
                     application_data,
                 }
             }
             2 => {
-                let (parts_0, level) = Encoded::<((VLBytes, VLBytes), u8)>::known(parts).split();
+                let (parts_0, level) = Encoded::<((VLBytes, VLBytes), u8)>::from_proved(
+                    parts,
+                ).split();
                 let (authenticated_data, proposal) = parts_0.split();
                 ContentTypeDataView::Proposal {
                     authenticated_data,

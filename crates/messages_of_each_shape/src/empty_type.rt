@@ -9,7 +9,7 @@ use std::alloc::Global;
 use std::fmt;
 use tls_codec::{Deserialize, DeserializeBytes, Error, Serialize, Sink, Size, Source};
 use tls_codec_validate::{Rejected, Validate};
-use tls_codec_views::{Encoded, Parted, Told};
+use tls_codec_views::{Encoded, Parted, ReadInPlace};
 
 /// `Empty`.
 #[derive(PartialEq, Eq, PartialOrd, Ord, Hash, Debug, Clone, Copy)]
@@ -119,8 +119,8 @@ impl Parted for EmptyType {
     ghost as_parts = { λ bytes is. is };
 }
 
-impl Told for EmptyType {
-    fn told(encoded: &Encoded<'_, EmptyType>) -> EmptyType {
+impl ReadInPlace for EmptyType {
+    fn read(encoded: &Encoded<'_, EmptyType>) -> EmptyType {
         EmptyType(encoded.parts().get())
     }
 }

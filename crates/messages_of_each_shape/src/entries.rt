@@ -10,6 +10,7 @@ use tls_codec::{
     SizeFor, Source, TlsVecU24,
 };
 use tls_codec_validate::{Rejected, ValidateFor};
+use tls_codec_views::PartedFor;
 
 /// `Entries`.
 ///
@@ -89,6 +90,12 @@ impl ValidateFor<CertificateType> for Entries {
     fn tls_validate_prefix_for<'a>(key: &u64, whole: &'a [u8]) -> Result<&'a [u8], Rejected<'a>> {
         <Parts as ValidateFor<CertificateType>>::tls_validate_prefix_for(key, whole)
     }
+}
+
+impl PartedFor<CertificateType> for Entries {
+    type Parts = Parts;
+
+    ghost as_parts = { λ c bytes is. is };
 }
 
 /// Two values are equal if and only if all their fields are equal.

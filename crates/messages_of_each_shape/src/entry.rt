@@ -11,6 +11,7 @@ use tls_codec::{
 };
 use tls_codec_cases::{append_as_for, write_as_for};
 use tls_codec_validate::{Rejected, ValidateFor};
+use tls_codec_views::PartedFor;
 
 /// `Entry`.
 #[derive(PartialEq, Eq, Debug, Clone, Drop)]
@@ -132,6 +133,12 @@ impl ValidateFor<CertificateType> for Entry {
     fn tls_validate_prefix_for<'a>(key: &u64, whole: &'a [u8]) -> Result<&'a [u8], Rejected<'a>> {
         <Parts as ValidateFor<CertificateType>>::tls_validate_prefix_for(key, whole)
     }
+}
+
+impl PartedFor<CertificateType> for Entry {
+    type Parts = Parts;
+
+    ghost as_parts = { λ c bytes is. is };
 }
 
 /// Two values are equal if and only if all their fields are equal.

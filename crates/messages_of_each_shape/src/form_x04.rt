@@ -14,7 +14,7 @@ use tls_codec::{
     Deserialize, DeserializeBytes, Error, Serialize, Sink, Size, Source, unknown_value,
 };
 use tls_codec_validate::{Rejected, Validate, split_u8};
-use tls_codec_views::{Encoded, Numbered, Told};
+use tls_codec_views::{Encoded, Numbered, ReadInPlace};
 
 /// `FormX04`.
 #[derive(PartialEq, Eq, PartialOrd, Ord, Hash, Debug, Clone, Copy)]
@@ -154,8 +154,8 @@ impl Numbered for FormX04 {
     ghost as_values = { λ bytes is. is };
 }
 
-impl Told for FormX04 {
-    fn told(encoded: &Encoded<'_, FormX04>) -> FormX04 {
+impl ReadInPlace for FormX04 {
+    fn read(encoded: &Encoded<'_, FormX04>) -> FormX04 {
         match encoded.number() {
             4 => FormX04::X04,
             _ => unreachable!(),

@@ -213,7 +213,7 @@ impl<'a> From<Encoded<'a, Identity>> for IdentityView<'a> {
             4 => {
                 let (parts_0, parts_1) = Encoded::<
                     ((NameType, Level, Key), (u32, Option<Key>)),
-                >::known(parts).split();
+                >::from_proved(parts).split();
                 let (name_type, level, key) = parts_0.split();
                 let (since, last) = parts_1.split();
                 IdentityView::Full {

@@ -10,6 +10,7 @@ use tls_codec::{
     SizeFor, Source,
 };
 use tls_codec_validate::{Rejected, ValidateFor};
+use tls_codec_views::PartedFor;
 
 /// `KindBody`.
 #[derive(PartialEq, Eq, Debug, Clone, Drop)]
@@ -87,6 +88,12 @@ impl ValidateFor<BodyKind> for KindBody {
     fn tls_validate_prefix_for<'a>(key: &u64, whole: &'a [u8]) -> Result<&'a [u8], Rejected<'a>> {
         <Parts as ValidateFor<BodyKind>>::tls_validate_prefix_for(key, whole)
     }
+}
+
+impl PartedFor<BodyKind> for KindBody {
+    type Parts = Parts;
+
+    ghost as_parts = { λ c bytes is. is };
 }
 
 /// Two values are equal if and only if all their fields are equal.

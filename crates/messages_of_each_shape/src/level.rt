@@ -14,7 +14,7 @@ use tls_codec::{
     Deserialize, DeserializeBytes, Error, Serialize, Sink, Size, Source, unknown_value,
 };
 use tls_codec_validate::{Rejected, Validate, split_u16};
-use tls_codec_views::{Encoded, Numbered, Told};
+use tls_codec_views::{Encoded, Numbered, ReadInPlace};
 
 /// `Level`.
 ///
@@ -170,8 +170,8 @@ impl Numbered for Level {
     ghost as_values = { λ bytes is. is };
 }
 
-impl Told for Level {
-    fn told(encoded: &Encoded<'_, Level>) -> Level {
+impl ReadInPlace for Level {
+    fn read(encoded: &Encoded<'_, Level>) -> Level {
         match encoded.number() {
             1 => Level::Low,
             256 => Level::Middle,

@@ -1,4 +1,4 @@
-//! Messages, written by `tlsgen`.
+//! One of each shape that the messages of TLS 1.3 and of MLS lack. Written by `tlsgen`.
 #![tactic(auto)]
 
 pub mod bearer;

@@ -14,7 +14,7 @@ use tls_codec::{
     Deserialize, DeserializeBytes, Error, Serialize, Sink, Size, Source, unknown_value,
 };
 use tls_codec_validate::{Rejected, Validate, split_u16};
-use tls_codec_views::{Encoded, Numbered, Told};
+use tls_codec_views::{Encoded, Numbered, ReadInPlace};
 
 /// `MagicX0102`.
 #[derive(PartialEq, Eq, PartialOrd, Ord, Hash, Debug, Clone, Copy)]
@@ -155,8 +155,8 @@ impl Numbered for MagicX0102 {
     ghost as_values = { λ bytes is. is };
 }
 
-impl Told for MagicX0102 {
-    fn told(encoded: &Encoded<'_, MagicX0102>) -> MagicX0102 {
+impl ReadInPlace for MagicX0102 {
+    fn read(encoded: &Encoded<'_, MagicX0102>) -> MagicX0102 {
         match encoded.number() {
             258 => MagicX0102::X0102,
             _ => unreachable!(),

@@ -10,7 +10,7 @@ use std::fmt;
 use tls_codec::{Deserialize, DeserializeBytes, Error, Serialize, Sink, Size, Source};
 use tls_codec_cases::Selector;
 use tls_codec_validate::{FindTag, Keyed, Rejected, TagKeyed, Validate, ValidateKeyed};
-use tls_codec_views::{Encoded, Parted, Told};
+use tls_codec_views::{Encoded, Parted, ReadInPlace};
 
 /// `NameType`.
 ///
@@ -135,8 +135,8 @@ impl Parted for NameType {
     ghost as_parts = { λ bytes is. is };
 }
 
-impl Told for NameType {
-    fn told(encoded: &Encoded<'_, NameType>) -> NameType {
+impl ReadInPlace for NameType {
+    fn read(encoded: &Encoded<'_, NameType>) -> NameType {
         NameType(encoded.parts().get())
     }
 }

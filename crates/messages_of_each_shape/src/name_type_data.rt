@@ -1,6 +1,6 @@
 //! [`NameTypeData`].
 ghost use Rattle.std.specs.Prelude.{◌≡◌, IsTrue};
-ghost use Rattle.messages_of_each_shape.specs.NameTypeData.{name_type_data_format_for, name_type_data_meets_for, name_type_data_plain, name_type_data_tag};
+ghost use Rattle.messages_of_each_shape.specs.NameTypeData.{name_type_data_format_for, name_type_data_meets_for, name_type_data_plain, name_type_data_tag, name_type_data_variants};
 ghost use Rattle.messages_of_each_shape.specs.declared.name_type_data.NameTypeData.{NameTypeData};
 
 use crate::{Key, NameType};
@@ -10,6 +10,7 @@ use tls_codec::{
 };
 use tls_codec_cases::{Case, Chosen, Or, append_as_for, write_as_for};
 use tls_codec_validate::{Rejected, ValidateFor};
+use tls_codec_views::ChoiceFor;
 
 /// `select (name_type)` of `Bearer`: its bytes don't have the tag.
 #[derive(PartialEq, Eq, Debug, Clone, Drop)]
@@ -111,6 +112,12 @@ impl ValidateFor<NameType> for NameTypeData {
     fn tls_validate_prefix_for<'a>(key: &u64, whole: &'a [u8]) -> Result<&'a [u8], Rejected<'a>> {
         <Cases as ValidateFor<NameType>>::tls_validate_prefix_for(key, whole)
     }
+}
+
+impl ChoiceFor<NameType> for NameTypeData {
+    ghost variants = { name_type_data_variants };
+
+    ghost as_choice = { λ c bytes is. is };
 }
 
 /// The case `host_name` with this content.

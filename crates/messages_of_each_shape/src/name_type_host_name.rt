@@ -14,7 +14,7 @@ use tls_codec::{
     Deserialize, DeserializeBytes, Error, Serialize, Sink, Size, Source, unknown_value,
 };
 use tls_codec_validate::{Rejected, Validate, split_u8};
-use tls_codec_views::{Encoded, Numbered, Told};
+use tls_codec_views::{Encoded, Numbered, ReadInPlace};
 
 /// `NameTypeHostName`.
 #[derive(PartialEq, Eq, PartialOrd, Ord, Hash, Debug, Clone, Copy)]
@@ -158,8 +158,8 @@ impl Numbered for NameTypeHostName {
     ghost as_values = { λ bytes is. is };
 }
 
-impl Told for NameTypeHostName {
-    fn told(encoded: &Encoded<'_, NameTypeHostName>) -> NameTypeHostName {
+impl ReadInPlace for NameTypeHostName {
+    fn read(encoded: &Encoded<'_, NameTypeHostName>) -> NameTypeHostName {
         match encoded.number() {
             0 => NameTypeHostName::HostName,
             _ => unreachable!(),

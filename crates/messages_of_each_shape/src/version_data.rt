@@ -159,9 +159,9 @@ impl<'a> From<Encoded<'a, VersionData>> for VersionDataView<'a> {
     fn from(whole: Encoded<'a, VersionData>) -> VersionDataView<'a> {
         let (tag, parts) = whole.case();
         match tag {
-            7 => VersionDataView::Case7(Encoded::known(parts)),
-            9 => VersionDataView::Case9(Encoded::known(parts)),
-            11 => VersionDataView::Case11(Encoded::known(parts)),
+            7 => VersionDataView::Case7(Encoded::from_proved(parts)),
+            9 => VersionDataView::Case9(Encoded::from_proved(parts)),
+            11 => VersionDataView::Case11(Encoded::from_proved(parts)),
             _ => unreachable!(),
         }
     }

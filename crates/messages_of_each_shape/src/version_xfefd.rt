@@ -14,7 +14,7 @@ use tls_codec::{
     Deserialize, DeserializeBytes, Error, Serialize, Sink, Size, Source, unknown_value,
 };
 use tls_codec_validate::{Rejected, Validate, split_u16};
-use tls_codec_views::{Encoded, Numbered, Told};
+use tls_codec_views::{Encoded, Numbered, ReadInPlace};
 
 /// `VersionXfefd`.
 #[derive(PartialEq, Eq, PartialOrd, Ord, Hash, Debug, Clone, Copy)]
@@ -155,8 +155,8 @@ impl Numbered for VersionXfefd {
     ghost as_values = { λ bytes is. is };
 }
 
-impl Told for VersionXfefd {
-    fn told(encoded: &Encoded<'_, VersionXfefd>) -> VersionXfefd {
+impl ReadInPlace for VersionXfefd {
+    fn read(encoded: &Encoded<'_, VersionXfefd>) -> VersionXfefd {
         match encoded.number() {
             65277 => VersionXfefd::Xfefd,
             _ => unreachable!(),

@@ -11,6 +11,7 @@ use tls_codec::{
 };
 use tls_codec_cases::{By, append_as, write_as};
 use tls_codec_validate::{Rejected, Validate};
+use tls_codec_views::Parted;
 
 /// `Versioned`.
 #[derive(PartialEq, Eq, Debug, Clone, Drop)]
@@ -27,8 +28,7 @@ type ByRefParts<'a> = ByRefThen<'a, Header, By<u16, ByRefIn<'a, ByVersion>>>;
 
 impl Versioned {
     fn parts(&self) -> ByRefParts<'_>
-        ensures { ⟦<ByRefParts<'static> as Size>⟧.plain result
-            ≡ versioned_plain self.now }
+        ensures { ⟦<ByRefParts<'static> as Size>⟧.plain result ≡ versioned_plain self.now }
     {
         let first = &self.header;
         let rest = By(ByRefIn(&self.parts_), PhantomData);
@@ -93,6 +93,12 @@ impl Validate for Versioned {
     fn tls_validate_prefix(whole: &[u8]) -> Result<&[u8], Rejected<'_>> {
         <Parts>::tls_validate_prefix(whole)
     }
+}
+
+impl Parted for Versioned {
+    type Parts = Parts;
+
+    ghost as_parts = { λ bytes is. is };
 }
 
 /// Two values are equal if and only if all their fields are equal.

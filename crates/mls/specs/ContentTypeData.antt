@@ -1,10 +1,10 @@
 -- ContentTypeData: what it stands for, its format and its law.
 use Rattle.std.proofs.Common.{arith}
 use Rattle.std.specs.Prelude.{ℕ}
-use Rattle.tls_codec.specs.OwnMessages.{Tree, Number, Empty, Join, number_trees, Format, nothing_format, fields_format, bytes_format, Variants, no_variant, variant, tagged_format, MeetsLaws, MeetVariantLaws, nothing_meets, fields_meets, bytes_meets, no_variant_meets, variant_meets, tagged_meets}
+use Rattle.tls_codec.specs.OwnMessages.{Tree, Number, Empty, Join, number_trees, Format, nothing_format, fields_format, bytes_format, Variants, no_variant, variant, tagged_format, MeetsLaws, MeetsVariantLaws, nothing_meets, fields_meets, bytes_meets, no_variant_meets, variant_meets, tagged_meets}
 use Rattle.tls_codec.specs.Contents.{bytes_of}
-use Rattle.mls_proposals.specs.Proposal.{proposal_plain, proposal_format, proposal_meets}
-use Rattle.mls_proposals.specs.Commit.{commit_plain, commit_format, commit_meets}
+use Rattle.mls_group.specs.Proposal.{proposal_plain, proposal_format, proposal_meets}
+use Rattle.mls_group.specs.Commit.{commit_plain, commit_format, commit_meets}
 use Rattle.mls.specs.declared.content_type_data.ContentTypeData.{ContentTypeData}
 use Rattle.mls.specs.declared.content_type_data.ContentTypeData.TheVariants.{Application, Proposal, Commit}
 
@@ -26,7 +26,7 @@ content_type_data_variants =
     (variant 3 (fields_format commit_format nothing_format)
     no_variant))
 
-pub content_type_data_variants_meet : MeetVariantLaws content_type_data_variants
+pub content_type_data_variants_meet : MeetsVariantLaws content_type_data_variants
 content_type_data_variants_meet =
     variant_meets 1 (fields_meets bytes_meets nothing_meets)
     (variant_meets 2 (fields_meets proposal_meets nothing_meets)

@@ -2,10 +2,10 @@
 use Rattle.std.specs.Prelude.{◌==◌, ◌||◌}
 use Rattle.tls_codec.specs.OwnMessages.{Tree, Join, option_plain, Format, pair_tree, pair_format, then_format, present_format, MeetsLaws, pair_meets, then_meets, present_meets}
 use Rattle.tls_codec_cases.specs.Held.{first_of, second_of}
-use Rattle.mls_proposals.specs.ProtocolVersionMls10.{protocol_version_mls10_plain, protocol_version_mls10_format, protocol_version_mls10_meets}
+use Rattle.mls_group.specs.ProtocolVersionMls10.{protocol_version_mls10_plain, protocol_version_mls10_format, protocol_version_mls10_meets}
 use Rattle.mls.specs.WireFormat.{wire_format_plain, wire_format_format, wire_format_meets}
 use Rattle.mls.specs.FramedContent.{framed_content_plain, framed_content_format, framed_content_meets}
-use Rattle.mls_proposals.specs.GroupContext.{group_context_plain, group_context_format, group_context_meets}
+use Rattle.mls_group.specs.GroupContext.{group_context_plain, group_context_format, group_context_meets}
 use Rattle.mls.specs.SenderType.{sender_type_selected}
 use Rattle.mls.specs.FramedContent.{framed_content_sender_type}
 use Rattle.mls.specs.FramedContent.{framed_content_content_type}

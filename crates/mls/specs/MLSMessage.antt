@@ -1,6 +1,6 @@
 -- MLSMessage: what it stands for, its format and its law.
 use Rattle.tls_codec.specs.OwnMessages.{Tree, Format, pair_tree, pair_format, MeetsLaws, pair_meets}
-use Rattle.mls_proposals.specs.ProtocolVersionMls10.{protocol_version_mls10_plain, protocol_version_mls10_format, protocol_version_mls10_meets}
+use Rattle.mls_group.specs.ProtocolVersionMls10.{protocol_version_mls10_plain, protocol_version_mls10_format, protocol_version_mls10_meets}
 use Rattle.mls.specs.WireFormatData.{wire_format_data_plain, wire_format_data_format, wire_format_data_meets}
 use Rattle.mls.specs.declared.mls_message.MLSMessage.{MLSMessage}
 

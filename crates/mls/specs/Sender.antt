@@ -1,7 +1,7 @@
 -- Sender: what it stands for, its format and its law.
 use Rattle.std.proofs.Common.{arith}
 use Rattle.std.specs.Prelude.{ℕ}
-use Rattle.tls_codec.specs.OwnMessages.{Tree, Number, Empty, Join, Format, number_format, nothing_format, fields_format, Variants, no_variant, variant, tagged_format, MeetsLaws, MeetVariantLaws, u32_meets, nothing_meets, fields_meets, no_variant_meets, variant_meets, tagged_meets}
+use Rattle.tls_codec.specs.OwnMessages.{Tree, Number, Empty, Join, Format, number_format, nothing_format, fields_format, Variants, no_variant, variant, tagged_format, MeetsLaws, MeetsVariantLaws, u32_meets, nothing_meets, fields_meets, no_variant_meets, variant_meets, tagged_meets}
 use Rattle.mls.specs.declared.sender.Sender.{Sender}
 use Rattle.mls.specs.declared.sender.Sender.TheVariants.{Member, External, NewMemberCommit, NewMemberProposal}
 
@@ -26,7 +26,7 @@ sender_variants =
     (variant 3 nothing_format
     no_variant)))
 
-pub sender_variants_meet : MeetVariantLaws sender_variants
+pub sender_variants_meet : MeetsVariantLaws sender_variants
 sender_variants_meet =
     variant_meets 1 (fields_meets u32_meets nothing_meets)
     (variant_meets 2 (fields_meets u32_meets nothing_meets)

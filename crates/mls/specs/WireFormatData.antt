@@ -1,12 +1,12 @@
 -- WireFormatData: what it stands for, its format and its law.
 use Rattle.std.proofs.Common.{arith}
 use Rattle.std.specs.Prelude.{ℕ}
-use Rattle.tls_codec.specs.OwnMessages.{Tree, Number, Empty, Join, Format, nothing_format, fields_format, Variants, no_variant, variant, tagged_format, MeetsLaws, MeetVariantLaws, nothing_meets, fields_meets, no_variant_meets, variant_meets, tagged_meets}
+use Rattle.tls_codec.specs.OwnMessages.{Tree, Number, Empty, Join, Format, nothing_format, fields_format, Variants, no_variant, variant, tagged_format, MeetsLaws, MeetsVariantLaws, nothing_meets, fields_meets, no_variant_meets, variant_meets, tagged_meets}
 use Rattle.mls.specs.PublicMessage.{public_message_plain, public_message_format, public_message_meets}
 use Rattle.mls.specs.PrivateMessage.{private_message_plain, private_message_format, private_message_meets}
-use Rattle.mls_proposals.specs.Welcome.{welcome_plain, welcome_format, welcome_meets}
-use Rattle.mls_proposals.specs.GroupInfo.{group_info_plain, group_info_format, group_info_meets}
-use Rattle.mls_leaf.specs.KeyPackage.{key_package_plain, key_package_format, key_package_meets}
+use Rattle.mls_group.specs.Welcome.{welcome_plain, welcome_format, welcome_meets}
+use Rattle.mls_group.specs.GroupInfo.{group_info_plain, group_info_format, group_info_meets}
+use Rattle.mls_tree.specs.KeyPackage.{key_package_plain, key_package_format, key_package_meets}
 use Rattle.mls.specs.declared.wire_format_data.WireFormatData.{WireFormatData}
 use Rattle.mls.specs.declared.wire_format_data.WireFormatData.TheVariants.{MlsPublicMessage, MlsPrivateMessage, MlsWelcome, MlsGroupInfo, MlsKeyPackage}
 
@@ -34,7 +34,7 @@ wire_format_data_variants =
     (variant 5 (fields_format key_package_format nothing_format)
     no_variant))))
 
-pub wire_format_data_variants_meet : MeetVariantLaws wire_format_data_variants
+pub wire_format_data_variants_meet : MeetsVariantLaws wire_format_data_variants
 wire_format_data_variants_meet =
     variant_meets 1 (fields_meets public_message_meets nothing_meets)
     (variant_meets 2 (fields_meets private_message_meets nothing_meets)

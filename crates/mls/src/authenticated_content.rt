@@ -12,6 +12,7 @@ use tls_codec::{
 };
 use tls_codec_cases::{By, append_as, write_as};
 use tls_codec_validate::{Rejected, Validate};
+use tls_codec_views::Parted;
 
 /// `AuthenticatedContent` (RFC 9420, section 6.1).
 #[derive(PartialEq, Eq, Debug, Clone, Drop)]
@@ -123,6 +124,12 @@ impl Validate for AuthenticatedContent {
     fn tls_validate_prefix(whole: &[u8]) -> Result<&[u8], Rejected<'_>> {
         <Parts>::tls_validate_prefix(whole)
     }
+}
+
+impl Parted for AuthenticatedContent {
+    type Parts = Parts;
+
+    ghost as_parts = { λ bytes is. is };
 }
 
 /// Two values are equal if and only if all their fields are equal.

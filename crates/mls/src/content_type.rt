@@ -18,7 +18,7 @@ use tls_codec_cases::Selector;
 use tls_codec_validate::{
     Keyed, Rejected, TagFirst, TagKeyed, Validate, ValidateKeyed, split_u8, validate_tag_first,
 };
-use tls_codec_views::{Encoded, Numbered, Told};
+use tls_codec_views::{Encoded, Numbered, ReadInPlace};
 
 /// `ContentType` (RFC 9420, section 6).
 #[derive(PartialEq, Eq, PartialOrd, Ord, Hash, Debug, Clone, Copy)]
@@ -182,8 +182,8 @@ impl Numbered for ContentType {
     ghost as_values = { λ bytes is. is };
 }
 
-impl Told for ContentType {
-    fn told(encoded: &Encoded<'_, ContentType>) -> ContentType {
+impl ReadInPlace for ContentType {
+    fn read(encoded: &Encoded<'_, ContentType>) -> ContentType {
         match encoded.number() {
             1 => ContentType::Application,
             2 => ContentType::Proposal,
@@ -214,11 +214,11 @@ impl TagFirst for ContentType {
 
     ghost variants = { values content_type_has };
 
-    ghost told = { content_type_selected };
+    ghost first_tag = { content_type_selected };
 
     ghost is_tagged = { λ d bytes v spelled. spelled };
 
-    ghost is_told = { λ d bytes tag parts spelled. refl };
+    ghost is_first_tag = { λ d bytes tag parts spelled. refl };
 }
 
 impl ValidateKeyed for ContentType {

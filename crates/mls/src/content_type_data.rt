@@ -12,7 +12,7 @@ ghost use Rattle.std.proofs.Common.{refl};
 ghost use Rattle.mls.specs.ContentTypeData.{content_type_data_variants};
 
 use crate::ContentType;
-use mls_proposals::{Commit, Proposal};
+use mls_group::{Commit, Proposal};
 use std::alloc::Global;
 use tls_codec::{
     ByRef, Deserialize, DeserializeBytes, Error, Serialize, Sink, Size, Source, VLBytes,
@@ -205,9 +205,9 @@ impl<'a> From<Encoded<'a, ContentTypeData>> for ContentTypeDataView<'a> {
     fn from(whole: Encoded<'a, ContentTypeData>) -> ContentTypeDataView<'a> {
         let (tag, parts) = whole.case();
         match tag {
-            1 => ContentTypeDataView::Application(Encoded::alone(parts)),
-            2 => ContentTypeDataView::Proposal(Encoded::alone(parts)),
-            3 => ContentTypeDataView::Commit(Encoded::alone(parts)),
+            1 => ContentTypeDataView::Application(Encoded::from_only_part(parts)),
+            2 => ContentTypeDataView::Proposal(Encoded::from_only_part(parts)),
+            3 => ContentTypeDataView::Commit(Encoded::from_only_part(parts)),
             _ => unreachable!(),
         }
     }
@@ -243,11 +243,12 @@ impl TagFirst for ContentTypeData {
 
     ghost variants = { content_type_data_variants };
 
-    ghost told = { λ c. ⟦<ContentType as Selector>⟧.selected (content_type_data_content_type c) };
+    ghost first_tag = { λ c. ⟦<ContentType as Selector>⟧.selected
+        (content_type_data_content_type c) };
 
     ghost is_tagged = { λ d bytes v spelled. spelled };
 
-    ghost is_told = { λ d bytes tag parts spelled. refl };
+    ghost is_first_tag = { λ d bytes tag parts spelled. refl };
 }
 
 impl ValidateKeyed for ContentTypeData {

@@ -4,7 +4,7 @@ ghost use Rattle.mls.specs.FramedContentAuthData.{framed_content_auth_data_forma
 ghost use Rattle.mls.specs.declared.framed_content_auth_data.FramedContentAuthData.{FramedContentAuthData};
 
 use crate::ContentType;
-use mls_proposals::MAC;
+use mls_group::MAC;
 use std::alloc::Global;
 use std::marker::PhantomData;
 use tls_codec::{
@@ -13,6 +13,7 @@ use tls_codec::{
 };
 use tls_codec_cases::Is;
 use tls_codec_validate::{Rejected, ValidateFor};
+use tls_codec_views::PartedFor;
 
 /// `FramedContentAuthData` (RFC 9420, section 6.1).
 #[derive(PartialEq, Eq, Debug, Clone, Drop)]
@@ -134,6 +135,12 @@ impl ValidateFor<ContentType> for FramedContentAuthData {
     fn tls_validate_prefix_for<'a>(key: &u64, whole: &'a [u8]) -> Result<&'a [u8], Rejected<'a>> {
         <Parts as ValidateFor<ContentType>>::tls_validate_prefix_for(key, whole)
     }
+}
+
+impl PartedFor<ContentType> for FramedContentAuthData {
+    type Parts = Parts;
+
+    ghost as_parts = { λ c bytes is. is };
 }
 
 /// Two values are equal if and only if all their fields are equal.

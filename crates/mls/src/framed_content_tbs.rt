@@ -5,7 +5,7 @@ ghost use Rattle.mls.specs.declared.framed_content_tbs.FramedContentTBS.{FramedC
 ghost use Rattle.mls.specs.FramedContentTBS.{framed_content_tbs_content_type};
 
 use crate::{ContentType, FramedContent, SenderType, WireFormat};
-use mls_proposals::{GroupContext, ProtocolVersionMls10};
+use mls_group::{GroupContext, ProtocolVersionMls10};
 use std::marker::PhantomData;
 use tls_codec::{ByRef, ByRefThen, ByRefWhen, Error, Serialize, Sink, Size};
 use tls_codec_cases::{AnyOf, By, Holds, Is, append_as, write_as};
@@ -32,8 +32,7 @@ type ByRefParts<'a> = (
 
 impl FramedContentTBS<'_> {
     fn parts(&self) -> ByRefParts<'_>
-        ensures { ⟦<ByRefParts<'static> as Size>⟧.plain result
-            ≡ framed_content_tbs_plain self.now }
+        ensures { ⟦<ByRefParts<'static> as Size>⟧.plain result ≡ framed_content_tbs_plain self.now }
     {
         let first = self.content;
         let rest = By(

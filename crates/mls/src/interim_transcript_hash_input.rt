@@ -3,7 +3,7 @@ ghost use Rattle.std.specs.Prelude.{◌≡◌};
 ghost use Rattle.mls.specs.InterimTranscriptHashInput.{interim_transcript_hash_input_format, interim_transcript_hash_input_meets, interim_transcript_hash_input_plain};
 ghost use Rattle.mls.specs.declared.interim_transcript_hash_input.InterimTranscriptHashInput.{InterimTranscriptHashInput};
 
-use mls_proposals::MAC;
+use mls_group::MAC;
 use tls_codec::{ByRef, Error, Serialize, Sink, Size};
 use tls_codec_cases::append_as;
 

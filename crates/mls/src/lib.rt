@@ -1,4 +1,4 @@
-//! Messages, written by `tlsgen`.
+//! Messages of MLS (RFC 9420): framing. Written by `tlsgen`.
 #![tactic(auto)]
 
 pub mod authenticated_content;
@@ -32,21 +32,21 @@ pub use framed_content::{FramedContent, FramedContentView};
 pub use framed_content_auth_data::FramedContentAuthData;
 pub use framed_content_tbs::FramedContentTBS;
 pub use interim_transcript_hash_input::InterimTranscriptHashInput;
-pub use mls_leaf::{
-    Capabilities, Certificate, CipherSuite, Credential, CredentialType, EncryptContext, Extension,
-    ExtensionType, HPKEPublicKey, KeyPackage, KeyPackageTBS, LeafNode, LeafNodeHashInput,
-    LeafNodeOrigin, LeafNodeTBS, LeafNodeTBSOrigin, Lifetime, Node, ParentHashInput, ParentNode,
-    ParentNodeHashInput, ProposalType, ProtocolVersion, RatchetTree, SignContent,
-    SignaturePublicKey, TreeHashInput,
-};
-pub use mls_message::{MLSMessage, MLSMessageView};
-pub use mls_proposals::{
+pub use mls_group::{
     Add, Commit, EncryptedGroupSecrets, ExternalInit, ExternalPub, ExternalSender, ExternalSenders,
     GroupContext, GroupContextExtensions, GroupInfo, GroupInfoTBS, GroupSecrets, HPKECiphertext,
     HashReference, KDFLabel, KeyPackageRef, MAC, PSKLabel, PSKOrigin, PathSecret, PreSharedKey,
     PreSharedKeyID, Proposal, ProposalOrRef, ProposalRef, ProtocolVersionMls10, ReInit,
     RefHashInput, Remove, RequiredCapabilities, ResumptionPSKUsage, Update, UpdatePath,
     UpdatePathNode, Welcome,
+};
+pub use mls_message::{MLSMessage, MLSMessageView};
+pub use mls_tree::{
+    Capabilities, Certificate, CipherSuite, Credential, CredentialType, EncryptContext, Extension,
+    ExtensionType, HPKEPublicKey, KeyPackage, KeyPackageTBS, LeafNode, LeafNodeHashInput,
+    LeafNodeOrigin, LeafNodeTBS, LeafNodeTBSOrigin, Lifetime, Node, ParentHashInput, ParentNode,
+    ParentNodeHashInput, ProposalType, ProtocolVersion, RatchetTree, SignContent,
+    SignaturePublicKey, TreeHashInput,
 };
 pub use private_content::PrivateContent;
 pub use private_content_aad::PrivateContentAAD;

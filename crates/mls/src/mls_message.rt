@@ -4,7 +4,7 @@ ghost use Rattle.mls.specs.MLSMessage.{mls_message_format, mls_message_meets, ml
 ghost use Rattle.mls.specs.declared.mls_message.MLSMessage.{MLSMessage};
 
 use crate::WireFormatData;
-use mls_proposals::ProtocolVersionMls10;
+use mls_group::ProtocolVersionMls10;
 use std::alloc::Global;
 use tls_codec::{ByRef, Deserialize, DeserializeBytes, Error, Serialize, Sink, Size, Source};
 use tls_codec_cases::append_as;

@@ -1,16 +1,17 @@
 //! [`PrivateContent`].
 ghost use Rattle.std.specs.Prelude.{◌≡◌, IsTrue};
-ghost use Rattle.mls.specs.PrivateContent.{private_content_format_for, private_content_meets_for, private_content_plain, private_content_tag};
+ghost use Rattle.mls.specs.PrivateContent.{private_content_format_for, private_content_meets_for, private_content_plain, private_content_tag, private_content_variants};
 ghost use Rattle.mls.specs.declared.private_content.PrivateContent.{PrivateContent};
 
 use crate::ContentType;
-use mls_proposals::{Commit, Proposal};
+use mls_group::{Commit, Proposal};
 use std::alloc::Global;
 use tls_codec::{
     ByRef, DeserializeBytesFor, DeserializeFor, Error, SerializeFor, Sink, SizeFor, Source, VLBytes,
 };
 use tls_codec_cases::{Case, Chosen, Or, append_as_for, write_as_for};
 use tls_codec_validate::{Rejected, ValidateFor};
+use tls_codec_views::ChoiceFor;
 
 /// `select (content_type)` of `PrivateMessageContent` (RFC 9420, section 6.3.1): its bytes
 /// don't have the tag.
@@ -121,6 +122,12 @@ impl ValidateFor<ContentType> for PrivateContent {
     fn tls_validate_prefix_for<'a>(key: &u64, whole: &'a [u8]) -> Result<&'a [u8], Rejected<'a>> {
         <Cases as ValidateFor<ContentType>>::tls_validate_prefix_for(key, whole)
     }
+}
+
+impl ChoiceFor<ContentType> for PrivateContent {
+    ghost variants = { private_content_variants };
+
+    ghost as_choice = { λ c bytes is. is };
 }
 
 /// The case `application` with this content.

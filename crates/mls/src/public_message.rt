@@ -4,7 +4,7 @@ ghost use Rattle.mls.specs.PublicMessage.{public_message_format, public_message_
 ghost use Rattle.mls.specs.declared.public_message.PublicMessage.{PublicMessage};
 
 use crate::{ContentType, FramedContent, FramedContentAuthData, SenderType};
-use mls_proposals::MAC;
+use mls_group::MAC;
 use std::alloc::Global;
 use std::marker::PhantomData;
 use tls_codec::{
@@ -13,6 +13,7 @@ use tls_codec::{
 };
 use tls_codec_cases::{By, Is, append_as, write_as};
 use tls_codec_validate::{Rejected, Validate};
+use tls_codec_views::Parted;
 
 /// `PublicMessage` (RFC 9420, section 6.2).
 #[derive(PartialEq, Eq, Debug, Clone, Drop)]
@@ -44,8 +45,7 @@ type ByRefParts<'a> = ByRefThen<
 
 impl PublicMessage {
     fn parts(&self) -> ByRefParts<'_>
-        ensures { ⟦<ByRefParts<'static> as Size>⟧.plain result
-            ≡ public_message_plain self.now }
+        ensures { ⟦<ByRefParts<'static> as Size>⟧.plain result ≡ public_message_plain self.now }
     {
         let first = &self.content;
         let rest = (
@@ -148,6 +148,12 @@ impl Validate for PublicMessage {
     fn tls_validate_prefix(whole: &[u8]) -> Result<&[u8], Rejected<'_>> {
         <Parts>::tls_validate_prefix(whole)
     }
+}
+
+impl Parted for PublicMessage {
+    type Parts = Parts;
+
+    ghost as_parts = { λ bytes is. is };
 }
 
 /// Two values are equal if and only if all their fields are equal.

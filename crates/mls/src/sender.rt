@@ -195,8 +195,8 @@ impl<'a> From<Encoded<'a, Sender>> for SenderView<'a> {
     fn from(whole: Encoded<'a, Sender>) -> SenderView<'a> {
         let (tag, parts) = whole.case();
         match tag {
-            1 => SenderView::Member(Encoded::alone(parts)),
-            2 => SenderView::External(Encoded::alone(parts)),
+            1 => SenderView::Member(Encoded::from_only_part(parts)),
+            2 => SenderView::External(Encoded::from_only_part(parts)),
             4 => SenderView::NewMemberCommit,
             3 => SenderView::NewMemberProposal,
             _ => unreachable!(),
@@ -233,11 +233,11 @@ impl TagFirst for Sender {
 
     ghost variants = { sender_variants };
 
-    ghost told = { λ c. ⟦<SenderType as Selector>⟧.selected (sender_sender_type c) };
+    ghost first_tag = { λ c. ⟦<SenderType as Selector>⟧.selected (sender_sender_type c) };
 
     ghost is_tagged = { λ d bytes v spelled. spelled };
 
-    ghost is_told = { λ d bytes tag parts spelled. refl };
+    ghost is_first_tag = { λ d bytes tag parts spelled. refl };
 }
 
 impl ValidateKeyed for Sender {

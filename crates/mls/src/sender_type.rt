@@ -18,7 +18,7 @@ use tls_codec_cases::Selector;
 use tls_codec_validate::{
     Keyed, Rejected, TagFirst, TagKeyed, Validate, ValidateKeyed, split_u8, validate_tag_first,
 };
-use tls_codec_views::{Encoded, Numbered, Told};
+use tls_codec_views::{Encoded, Numbered, ReadInPlace};
 
 /// `SenderType` (RFC 9420, section 6).
 #[derive(PartialEq, Eq, PartialOrd, Ord, Hash, Debug, Clone, Copy)]
@@ -187,8 +187,8 @@ impl Numbered for SenderType {
     ghost as_values = { λ bytes is. is };
 }
 
-impl Told for SenderType {
-    fn told(encoded: &Encoded<'_, SenderType>) -> SenderType {
+impl ReadInPlace for SenderType {
+    fn read(encoded: &Encoded<'_, SenderType>) -> SenderType {
         match encoded.number() {
             1 => SenderType::Member,
             2 => SenderType::External,
@@ -220,11 +220,11 @@ impl TagFirst for SenderType {
 
     ghost variants = { values sender_type_has };
 
-    ghost told = { sender_type_selected };
+    ghost first_tag = { sender_type_selected };
 
     ghost is_tagged = { λ d bytes v spelled. spelled };
 
-    ghost is_told = { λ d bytes tag parts spelled. refl };
+    ghost is_first_tag = { λ d bytes tag parts spelled. refl };
 }
 
 impl ValidateKeyed for SenderType {

@@ -9,7 +9,7 @@ use std::alloc::Global;
 use std::fmt;
 use tls_codec::{Deserialize, DeserializeBytes, Error, Serialize, Sink, Size, Source};
 use tls_codec_validate::{Rejected, Validate};
-use tls_codec_views::{Encoded, Parted, Told};
+use tls_codec_views::{Encoded, Parted, ReadInPlace};
 
 /// `WireFormat` (RFC 9420, section 6).
 #[derive(PartialEq, Eq, PartialOrd, Ord, Hash, Debug, Clone, Copy)]
@@ -139,8 +139,8 @@ impl Parted for WireFormat {
     ghost as_parts = { λ bytes is. is };
 }
 
-impl Told for WireFormat {
-    fn told(encoded: &Encoded<'_, WireFormat>) -> WireFormat {
+impl ReadInPlace for WireFormat {
+    fn read(encoded: &Encoded<'_, WireFormat>) -> WireFormat {
         WireFormat(encoded.parts().get())
     }
 }

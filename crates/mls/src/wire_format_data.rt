@@ -8,8 +8,8 @@ ghost use Rattle.tls_codec_views.specs.Views.{IsCase};
 ghost use Rattle.mls.specs.declared.wire_format_data.WireFormatDataView.{WireFormatDataView};
 
 use crate::{PrivateMessage, PublicMessage, WireFormat};
-use mls_leaf::KeyPackage;
-use mls_proposals::{GroupInfo, Welcome};
+use mls_group::{GroupInfo, Welcome};
+use mls_tree::KeyPackage;
 use std::alloc::Global;
 use tls_codec::{
     ByRef, Deserialize, DeserializeBytes, Error, Serialize, Sink, Size, Source, unknown_value,
@@ -278,11 +278,11 @@ impl<'a> From<Encoded<'a, WireFormatData>> for WireFormatDataView<'a> {
     fn from(whole: Encoded<'a, WireFormatData>) -> WireFormatDataView<'a> {
         let (tag, parts) = whole.case();
         match tag {
-            1 => WireFormatDataView::MlsPublicMessage(Encoded::alone(parts)),
-            2 => WireFormatDataView::MlsPrivateMessage(Encoded::alone(parts)),
-            3 => WireFormatDataView::MlsWelcome(Encoded::alone(parts)),
-            4 => WireFormatDataView::MlsGroupInfo(Encoded::alone(parts)),
-            5 => WireFormatDataView::MlsKeyPackage(Encoded::alone(parts)),
+            1 => WireFormatDataView::MlsPublicMessage(Encoded::from_only_part(parts)),
+            2 => WireFormatDataView::MlsPrivateMessage(Encoded::from_only_part(parts)),
+            3 => WireFormatDataView::MlsWelcome(Encoded::from_only_part(parts)),
+            4 => WireFormatDataView::MlsGroupInfo(Encoded::from_only_part(parts)),
+            5 => WireFormatDataView::MlsKeyPackage(Encoded::from_only_part(parts)),
             _ => unreachable!(),
         }
     }

@@ -1,15 +1,15 @@
 //! The elements of a list, one after another.
 ghost use Rattle.std.specs.Prelude.{◌≡◌, ◌≢◌};
-ghost use Rattle.mls_leaf.specs.Extension.{extension_format};
-ghost use Rattle.mls_leaf.specs.Node.{node_format};
-ghost use Rattle.mls_proposals.specs.EncryptedGroupSecrets.{encrypted_group_secrets_format};
-ghost use Rattle.mls_proposals.specs.ProposalOrRef.{proposal_or_ref_format};
+ghost use Rattle.mls_tree.specs.Extension.{extension_format};
+ghost use Rattle.mls_tree.specs.Node.{node_format};
+ghost use Rattle.mls_group.specs.EncryptedGroupSecrets.{encrypted_group_secrets_format};
+ghost use Rattle.mls_group.specs.ProposalOrRef.{proposal_or_ref_format};
 ghost use Rattle.tls_codec.specs.OwnMessages.{option_format};
 ghost use Rattle.tls_codec_outcome.specs.Elements.{IsNext, left_in};
 ghost use Rattle.tls_codec_outcome.specs.Outcomes.{Decides, IsRejection, IsTaken};
 
-use mls_leaf::{Extension, Node};
-use mls_proposals::{EncryptedGroupSecrets, ProposalOrRef};
+use mls_group::{EncryptedGroupSecrets, ProposalOrRef};
+use mls_tree::{Extension, Node};
 use tls_codec::DeserializeBytes;
 use tls_codec_outcome::{Outcome, Span, next};
 use tls_codec_validate::Validate;

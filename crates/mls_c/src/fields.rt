@@ -5,14 +5,14 @@ ghost use Rattle.mls.specs.PublicMessage.{public_message_format};
 ghost use Rattle.mls.specs.PrivateMessage.{private_message_format};
 ghost use Rattle.mls.specs.FramedContent.{framed_content_format};
 ghost use Rattle.mls.specs.SenderData.{sender_data_format};
-ghost use Rattle.mls_leaf.specs.KeyPackage.{key_package_format};
-ghost use Rattle.mls_leaf.specs.LeafNode.{leaf_node_format};
-ghost use Rattle.mls_proposals.specs.Welcome.{welcome_format};
-ghost use Rattle.mls_proposals.specs.GroupSecrets.{group_secrets_format};
-ghost use Rattle.mls_proposals.specs.GroupInfo.{group_info_format};
-ghost use Rattle.mls_proposals.specs.GroupContext.{group_context_format};
-ghost use Rattle.mls_proposals.specs.Commit.{commit_format};
-ghost use Rattle.mls_proposals.specs.Proposal.{proposal_format};
+ghost use Rattle.mls_tree.specs.KeyPackage.{key_package_format};
+ghost use Rattle.mls_tree.specs.LeafNode.{leaf_node_format};
+ghost use Rattle.mls_group.specs.Welcome.{welcome_format};
+ghost use Rattle.mls_group.specs.GroupSecrets.{group_secrets_format};
+ghost use Rattle.mls_group.specs.GroupInfo.{group_info_format};
+ghost use Rattle.mls_group.specs.GroupContext.{group_context_format};
+ghost use Rattle.mls_group.specs.Commit.{commit_format};
+ghost use Rattle.mls_group.specs.Proposal.{proposal_format};
 ghost use Rattle.mls_fields.specs.MLSMessageFields.{AreMLSMessageFields};
 ghost use Rattle.mls_fields.specs.PublicMessageFields.{ArePublicMessageFields};
 ghost use Rattle.mls_fields.specs.PrivateMessageFields.{ArePrivateMessageFields};
@@ -34,8 +34,8 @@ use mls_fields::{
     KeyPackageFields, LeafNodeFields, MLSMessageFields, PrivateMessageFields, ProposalFields,
     PublicMessageFields, SenderDataFields, WelcomeFields,
 };
-use mls_leaf::{KeyPackage, LeafNode};
-use mls_proposals::{Commit, GroupContext, GroupInfo, GroupSecrets, Proposal, Welcome};
+use mls_group::{Commit, GroupContext, GroupInfo, GroupSecrets, Proposal, Welcome};
+use mls_tree::{KeyPackage, LeafNode};
 use tls_codec::DeserializeBytes;
 use tls_codec_outcome::{ACCEPTED, Outcome, validate};
 use tls_codec_validate::Validate;
@@ -50,11 +50,11 @@ pub extern "C" fn mls_message_locate(bytes: &[u8], fields: &mut MLSMessageFields
     ensures fields { result.status ≡ 0 → AreMLSMessageFields bytes.now fields.new }
     ensures kept { result.status ≢ 0 → fields.new ≡ fields.old }
 {
-    let said = validate::<MLSMessage>(bytes);
-    if said.status == ACCEPTED {
-        *fields = MLSMessageFields::of(bytes);
+    let outcome = validate::<MLSMessage>(bytes);
+    if outcome.status == ACCEPTED {
+        *fields = MLSMessageFields::locate(bytes);
     }
-    said
+    outcome
 }
 
 /// `PublicMessage` (RFC 9420, section 6.2), and where its fields are.
@@ -70,11 +70,11 @@ pub extern "C" fn mls_public_message_locate(
     ensures fields { result.status ≡ 0 → ArePublicMessageFields bytes.now fields.new }
     ensures kept { result.status ≢ 0 → fields.new ≡ fields.old }
 {
-    let said = validate::<PublicMessage>(bytes);
-    if said.status == ACCEPTED {
-        *fields = PublicMessageFields::of(bytes);
+    let outcome = validate::<PublicMessage>(bytes);
+    if outcome.status == ACCEPTED {
+        *fields = PublicMessageFields::locate(bytes);
     }
-    said
+    outcome
 }
 
 /// `PrivateMessage` (RFC 9420, section 6.3), and where its fields are.
@@ -90,11 +90,11 @@ pub extern "C" fn mls_private_message_locate(
     ensures fields { result.status ≡ 0 → ArePrivateMessageFields bytes.now fields.new }
     ensures kept { result.status ≢ 0 → fields.new ≡ fields.old }
 {
-    let said = validate::<PrivateMessage>(bytes);
-    if said.status == ACCEPTED {
-        *fields = PrivateMessageFields::of(bytes);
+    let outcome = validate::<PrivateMessage>(bytes);
+    if outcome.status == ACCEPTED {
+        *fields = PrivateMessageFields::locate(bytes);
     }
-    said
+    outcome
 }
 
 /// `FramedContent` (RFC 9420, section 6), with which a `PublicMessage` begins, and where its fields are.
@@ -110,11 +110,11 @@ pub extern "C" fn mls_framed_content_locate(
     ensures fields { result.status ≡ 0 → AreFramedContentFields bytes.now fields.new }
     ensures kept { result.status ≢ 0 → fields.new ≡ fields.old }
 {
-    let said = validate::<FramedContent>(bytes);
-    if said.status == ACCEPTED {
-        *fields = FramedContentFields::of(bytes);
+    let outcome = validate::<FramedContent>(bytes);
+    if outcome.status == ACCEPTED {
+        *fields = FramedContentFields::locate(bytes);
     }
-    said
+    outcome
 }
 
 /// `SenderData` (RFC 9420, section 6.3.2), and where its fields are.
@@ -127,11 +127,11 @@ pub extern "C" fn mls_sender_data_locate(bytes: &[u8], fields: &mut SenderDataFi
     ensures fields { result.status ≡ 0 → AreSenderDataFields bytes.now fields.new }
     ensures kept { result.status ≢ 0 → fields.new ≡ fields.old }
 {
-    let said = validate::<SenderData>(bytes);
-    if said.status == ACCEPTED {
-        *fields = SenderDataFields::of(bytes);
+    let outcome = validate::<SenderData>(bytes);
+    if outcome.status == ACCEPTED {
+        *fields = SenderDataFields::locate(bytes);
     }
-    said
+    outcome
 }
 
 /// `KeyPackage` (RFC 9420, section 10), and where its fields are.
@@ -144,11 +144,11 @@ pub extern "C" fn mls_key_package_locate(bytes: &[u8], fields: &mut KeyPackageFi
     ensures fields { result.status ≡ 0 → AreKeyPackageFields bytes.now fields.new }
     ensures kept { result.status ≢ 0 → fields.new ≡ fields.old }
 {
-    let said = validate::<KeyPackage>(bytes);
-    if said.status == ACCEPTED {
-        *fields = KeyPackageFields::of(bytes);
+    let outcome = validate::<KeyPackage>(bytes);
+    if outcome.status == ACCEPTED {
+        *fields = KeyPackageFields::locate(bytes);
     }
-    said
+    outcome
 }
 
 /// `LeafNode` (RFC 9420, section 7.2), and where its fields are.
@@ -161,11 +161,11 @@ pub extern "C" fn mls_leaf_node_locate(bytes: &[u8], fields: &mut LeafNodeFields
     ensures fields { result.status ≡ 0 → AreLeafNodeFields bytes.now fields.new }
     ensures kept { result.status ≢ 0 → fields.new ≡ fields.old }
 {
-    let said = validate::<LeafNode>(bytes);
-    if said.status == ACCEPTED {
-        *fields = LeafNodeFields::of(bytes);
+    let outcome = validate::<LeafNode>(bytes);
+    if outcome.status == ACCEPTED {
+        *fields = LeafNodeFields::locate(bytes);
     }
-    said
+    outcome
 }
 
 /// `Welcome` (RFC 9420, section 12.4.3.1), and where its fields are.
@@ -178,11 +178,11 @@ pub extern "C" fn mls_welcome_locate(bytes: &[u8], fields: &mut WelcomeFields) -
     ensures fields { result.status ≡ 0 → AreWelcomeFields bytes.now fields.new }
     ensures kept { result.status ≢ 0 → fields.new ≡ fields.old }
 {
-    let said = validate::<Welcome>(bytes);
-    if said.status == ACCEPTED {
-        *fields = WelcomeFields::of(bytes);
+    let outcome = validate::<Welcome>(bytes);
+    if outcome.status == ACCEPTED {
+        *fields = WelcomeFields::locate(bytes);
     }
-    said
+    outcome
 }
 
 /// `GroupSecrets` (RFC 9420, section 12.4.3.1), and where its fields are.
@@ -195,11 +195,11 @@ pub extern "C" fn mls_group_secrets_locate(bytes: &[u8], fields: &mut GroupSecre
     ensures fields { result.status ≡ 0 → AreGroupSecretsFields bytes.now fields.new }
     ensures kept { result.status ≢ 0 → fields.new ≡ fields.old }
 {
-    let said = validate::<GroupSecrets>(bytes);
-    if said.status == ACCEPTED {
-        *fields = GroupSecretsFields::of(bytes);
+    let outcome = validate::<GroupSecrets>(bytes);
+    if outcome.status == ACCEPTED {
+        *fields = GroupSecretsFields::locate(bytes);
     }
-    said
+    outcome
 }
 
 /// `GroupInfo` (RFC 9420, section 12.4.3), and where its fields are.
@@ -212,11 +212,11 @@ pub extern "C" fn mls_group_info_locate(bytes: &[u8], fields: &mut GroupInfoFiel
     ensures fields { result.status ≡ 0 → AreGroupInfoFields bytes.now fields.new }
     ensures kept { result.status ≢ 0 → fields.new ≡ fields.old }
 {
-    let said = validate::<GroupInfo>(bytes);
-    if said.status == ACCEPTED {
-        *fields = GroupInfoFields::of(bytes);
+    let outcome = validate::<GroupInfo>(bytes);
+    if outcome.status == ACCEPTED {
+        *fields = GroupInfoFields::locate(bytes);
     }
-    said
+    outcome
 }
 
 /// `GroupContext` (RFC 9420, section 8.1), and where its fields are.
@@ -229,11 +229,11 @@ pub extern "C" fn mls_group_context_locate(bytes: &[u8], fields: &mut GroupConte
     ensures fields { result.status ≡ 0 → AreGroupContextFields bytes.now fields.new }
     ensures kept { result.status ≢ 0 → fields.new ≡ fields.old }
 {
-    let said = validate::<GroupContext>(bytes);
-    if said.status == ACCEPTED {
-        *fields = GroupContextFields::of(bytes);
+    let outcome = validate::<GroupContext>(bytes);
+    if outcome.status == ACCEPTED {
+        *fields = GroupContextFields::locate(bytes);
     }
-    said
+    outcome
 }
 
 /// `Commit` (RFC 9420, section 12.4), and where its fields are.
@@ -246,11 +246,11 @@ pub extern "C" fn mls_commit_locate(bytes: &[u8], fields: &mut CommitFields) -> 
     ensures fields { result.status ≡ 0 → AreCommitFields bytes.now fields.new }
     ensures kept { result.status ≢ 0 → fields.new ≡ fields.old }
 {
-    let said = validate::<Commit>(bytes);
-    if said.status == ACCEPTED {
-        *fields = CommitFields::of(bytes);
+    let outcome = validate::<Commit>(bytes);
+    if outcome.status == ACCEPTED {
+        *fields = CommitFields::locate(bytes);
     }
-    said
+    outcome
 }
 
 /// `Proposal` (RFC 9420, section 12.1), and where its fields are.
@@ -263,9 +263,9 @@ pub extern "C" fn mls_proposal_locate(bytes: &[u8], fields: &mut ProposalFields)
     ensures fields { result.status ≡ 0 → AreProposalFields bytes.now fields.new }
     ensures kept { result.status ≢ 0 → fields.new ≡ fields.old }
 {
-    let said = validate::<Proposal>(bytes);
-    if said.status == ACCEPTED {
-        *fields = ProposalFields::of(bytes);
+    let outcome = validate::<Proposal>(bytes);
+    if outcome.status == ACCEPTED {
+        *fields = ProposalFields::locate(bytes);
     }
-    said
+    outcome
 }

@@ -21,9 +21,9 @@ pub extern "C" fn mls_message_kind(bytes: &[u8], kind: &mut u16) -> Outcome
     ensures kind { result.status ≡ 0 → IsKind bytes.now kind.new }
     ensures kept { result.status ≢ 0 → kind.new ≡ kind.old }
 {
-    let said = validate::<MLSMessage>(bytes);
-    if said.status == ACCEPTED {
+    let outcome = validate::<MLSMessage>(bytes);
+    if outcome.status == ACCEPTED {
         *kind = kind_of(bytes);
     }
-    said
+    outcome
 }

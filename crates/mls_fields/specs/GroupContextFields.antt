@@ -3,9 +3,9 @@ use Rattle.std.specs.Prelude.{ℕ, List}
 use Rattle.tls_codec.specs.OwnMessages.{list_format, number_format}
 use Rattle.tls_codec_outcome.specs.Fields.{IsContentFrom, IsFieldFrom, span_end}
 use Rattle.tls_codec_grammar.specs.Field.{variable_field}
-use Rattle.mls_leaf.specs.CipherSuite.{cipher_suite_format}
-use Rattle.mls_leaf.specs.Extension.{extension_format}
-use Rattle.mls_proposals.specs.ProtocolVersionMls10.{protocol_version_mls10_format}
+use Rattle.mls_tree.specs.CipherSuite.{cipher_suite_format}
+use Rattle.mls_tree.specs.Extension.{extension_format}
+use Rattle.mls_group.specs.ProtocolVersionMls10.{protocol_version_mls10_format}
 use Rattle.mls_fields.specs.declared.group_context.GroupContextFields.{GroupContextFields}
 
 -- x begins with them, one after the other

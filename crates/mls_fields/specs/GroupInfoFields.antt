@@ -3,8 +3,8 @@ use Rattle.std.specs.Prelude.{ℕ, List}
 use Rattle.tls_codec.specs.OwnMessages.{list_format, number_format}
 use Rattle.tls_codec_outcome.specs.Fields.{IsContentFrom, IsFieldFrom, span_end}
 use Rattle.tls_codec_grammar.specs.Field.{variable_field}
-use Rattle.mls_leaf.specs.Extension.{extension_format}
-use Rattle.mls_proposals.specs.GroupContext.{group_context_format}
+use Rattle.mls_tree.specs.Extension.{extension_format}
+use Rattle.mls_group.specs.GroupContext.{group_context_format}
 use Rattle.mls_fields.specs.declared.group_info.GroupInfoFields.{GroupInfoFields}
 
 -- x begins with them, one after the other

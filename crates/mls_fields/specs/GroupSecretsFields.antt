@@ -3,8 +3,8 @@ use Rattle.std.specs.Prelude.{ℕ, List}
 use Rattle.tls_codec.specs.OwnMessages.{list_format, option_format}
 use Rattle.tls_codec_outcome.specs.Fields.{IsContentFrom, IsFieldFrom, span_end}
 use Rattle.tls_codec_grammar.specs.Field.{variable_field}
-use Rattle.mls_proposals.specs.PathSecret.{path_secret_format}
-use Rattle.mls_proposals.specs.PreSharedKeyID.{pre_shared_key_id_format}
+use Rattle.mls_group.specs.PathSecret.{path_secret_format}
+use Rattle.mls_group.specs.PreSharedKeyID.{pre_shared_key_id_format}
 use Rattle.mls_fields.specs.declared.group_secrets.GroupSecretsFields.{GroupSecretsFields}
 
 -- x begins with them, one after the other

@@ -3,10 +3,10 @@ use Rattle.std.specs.Prelude.{ℕ, List}
 use Rattle.tls_codec.specs.OwnMessages.{list_format}
 use Rattle.tls_codec_outcome.specs.Fields.{IsContentFrom, IsFieldFrom, span_end}
 use Rattle.tls_codec_grammar.specs.Field.{variable_field}
-use Rattle.mls_leaf.specs.ProtocolVersion.{protocol_version_format}
-use Rattle.mls_leaf.specs.CipherSuite.{cipher_suite_format}
-use Rattle.mls_leaf.specs.LeafNode.{leaf_node_format}
-use Rattle.mls_leaf.specs.Extension.{extension_format}
+use Rattle.mls_tree.specs.ProtocolVersion.{protocol_version_format}
+use Rattle.mls_tree.specs.CipherSuite.{cipher_suite_format}
+use Rattle.mls_tree.specs.LeafNode.{leaf_node_format}
+use Rattle.mls_tree.specs.Extension.{extension_format}
 use Rattle.mls_fields.specs.declared.key_package.KeyPackageFields.{KeyPackageFields}
 
 -- x begins with them, one after the other

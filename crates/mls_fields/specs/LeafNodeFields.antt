@@ -4,10 +4,10 @@ use Rattle.tls_codec.specs.OwnMessages.{list_format}
 use Rattle.tls_codec_outcome.specs.Cases.{IsCaseFrom}
 use Rattle.tls_codec_outcome.specs.Fields.{IsContentFrom, IsFieldFrom, span_end}
 use Rattle.tls_codec_grammar.specs.Field.{variable_field}
-use Rattle.mls_leaf.specs.Capabilities.{capabilities_format}
-use Rattle.mls_leaf.specs.Credential.{credential_format}
-use Rattle.mls_leaf.specs.Extension.{extension_format}
-use Rattle.mls_leaf.specs.LeafNodeOrigin.{leaf_node_origin_variants}
+use Rattle.mls_tree.specs.Capabilities.{capabilities_format}
+use Rattle.mls_tree.specs.Credential.{credential_format}
+use Rattle.mls_tree.specs.Extension.{extension_format}
+use Rattle.mls_tree.specs.LeafNodeOrigin.{leaf_node_origin_variants}
 use Rattle.mls_fields.specs.declared.leaf_node.LeafNodeFields.{LeafNodeFields}
 
 -- x begins with them, one after the other; the tag of one byte decides what is after it

@@ -3,7 +3,7 @@ use Rattle.std.specs.Prelude.{ℕ, List}
 use Rattle.tls_codec_outcome.specs.Cases.{IsCaseFrom}
 use Rattle.tls_codec_outcome.specs.Fields.{IsFieldFrom, span_end}
 use Rattle.mls.specs.WireFormatData.{wire_format_data_variants}
-use Rattle.mls_proposals.specs.ProtocolVersionMls10.{protocol_version_mls10_format}
+use Rattle.mls_group.specs.ProtocolVersionMls10.{protocol_version_mls10_format}
 use Rattle.mls_fields.specs.declared.mls_message.MLSMessageFields.{MLSMessageFields}
 
 -- x begins with them, one after the other; the tag of two bytes decides what is after it

@@ -3,8 +3,8 @@ use Rattle.std.specs.Prelude.{ℕ, List}
 use Rattle.tls_codec.specs.OwnMessages.{list_format}
 use Rattle.tls_codec_outcome.specs.Fields.{IsContentFrom, IsFieldFrom, span_end}
 use Rattle.tls_codec_grammar.specs.Field.{variable_field}
-use Rattle.mls_leaf.specs.CipherSuite.{cipher_suite_format}
-use Rattle.mls_proposals.specs.EncryptedGroupSecrets.{encrypted_group_secrets_format}
+use Rattle.mls_tree.specs.CipherSuite.{cipher_suite_format}
+use Rattle.mls_group.specs.EncryptedGroupSecrets.{encrypted_group_secrets_format}
 use Rattle.mls_fields.specs.declared.welcome.WelcomeFields.{WelcomeFields}
 
 -- x begins with them, one after the other

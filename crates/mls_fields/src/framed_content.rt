@@ -6,7 +6,7 @@ ghost use Rattle.mls_fields.specs.FramedContentFields.{AreFramedContentFields};
 
 use mls::{ContentTypeData, Sender};
 use tls_codec::TlsVarInt;
-use tls_codec_outcome::{Content, Locate, Span, TagAndBody, TaggedEnum, Whole};
+use tls_codec_outcome::{Content, Field, Locate, Span, TagAndBody, TaggedEnum};
 
 /// Where the fields of a `FramedContent` are (RFC 9420, section 6). A span of `opaque` has the bytes
 /// without their length.
@@ -34,7 +34,7 @@ impl TaggedEnum for Contents {
 
     const TAG_LEN: usize = 1;
 
-    type Whole = ContentTypeData;
+    type Enum = ContentTypeData;
 
     ghost variants = { content_type_data_variants };
 
@@ -44,14 +44,14 @@ impl TaggedEnum for Contents {
 }
 
 type Parts = (
-    (Content<TlsVarInt>, Whole<u64>, Whole<Sender>),
+    (Content<TlsVarInt>, Field<u64>, Field<Sender>),
     (Content<TlsVarInt>, TagAndBody<Contents>),
 );
 
 impl FramedContentFields {
     /// The fields of the message that the bytes begin with. If they begin with none, the spans mean
     /// nothing.
-    pub fn of(bytes: &[u8]) -> FramedContentFields
+    pub fn locate(bytes: &[u8]) -> FramedContentFields
         ensures { Located framed_content_format AreFramedContentFields bytes.now result }
     {
         let (((group_id, epoch, sender), (authenticated_data, (content_type, content))), _) =

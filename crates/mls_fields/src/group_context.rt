@@ -1,12 +1,12 @@
 //! The fields of `GroupContext`.
-ghost use Rattle.mls_proposals.specs.GroupContext.{group_context_format};
+ghost use Rattle.mls_group.specs.GroupContext.{group_context_format};
 ghost use Rattle.tls_codec_outcome.specs.Fields.{Located};
 ghost use Rattle.mls_fields.specs.GroupContextFields.{AreGroupContextFields};
 
-use mls_leaf::{CipherSuite, Extension};
-use mls_proposals::ProtocolVersionMls10;
+use mls_group::ProtocolVersionMls10;
+use mls_tree::{CipherSuite, Extension};
 use tls_codec::TlsVarInt;
-use tls_codec_outcome::{Content, Locate, Span, Whole};
+use tls_codec_outcome::{Content, Field, Locate, Span};
 
 /// Where the fields of a `GroupContext` are (RFC 9420, section 8.1). A span of `opaque` has the bytes
 /// without their length.
@@ -31,18 +31,18 @@ pub struct GroupContextFields {
 
 type Parts = (
     (
-        Whole<ProtocolVersionMls10>,
-        Whole<CipherSuite>,
+        Field<ProtocolVersionMls10>,
+        Field<CipherSuite>,
         Content<TlsVarInt>,
     ),
-    (Whole<u64>, Content<TlsVarInt>),
-    (Content<TlsVarInt>, Whole<Vec<Extension>>),
+    (Field<u64>, Content<TlsVarInt>),
+    (Content<TlsVarInt>, Field<Vec<Extension>>),
 );
 
 impl GroupContextFields {
     /// The fields of the message that the bytes begin with. If they begin with none, the spans mean
     /// nothing.
-    pub fn of(bytes: &[u8]) -> GroupContextFields
+    pub fn locate(bytes: &[u8]) -> GroupContextFields
         ensures { Located group_context_format AreGroupContextFields bytes.now result }
     {
         let (

@@ -1,12 +1,12 @@
 //! The fields of `GroupInfo`.
-ghost use Rattle.mls_proposals.specs.GroupInfo.{group_info_format};
+ghost use Rattle.mls_group.specs.GroupInfo.{group_info_format};
 ghost use Rattle.tls_codec_outcome.specs.Fields.{Located};
 ghost use Rattle.mls_fields.specs.GroupInfoFields.{AreGroupInfoFields};
 
-use mls_leaf::Extension;
-use mls_proposals::GroupContext;
+use mls_group::GroupContext;
+use mls_tree::Extension;
 use tls_codec::TlsVarInt;
-use tls_codec_outcome::{Content, Locate, Span, Whole};
+use tls_codec_outcome::{Content, Field, Locate, Span};
 
 /// Where the fields of a `GroupInfo` are (RFC 9420, section 12.4.3). A span of `opaque` has the bytes
 /// without their length.
@@ -27,17 +27,17 @@ pub struct GroupInfoFields {
 
 type Parts = (
     (
-        Whole<GroupContext>,
-        Whole<Vec<Extension>>,
+        Field<GroupContext>,
+        Field<Vec<Extension>>,
         Content<TlsVarInt>,
     ),
-    (Whole<u32>, Content<TlsVarInt>),
+    (Field<u32>, Content<TlsVarInt>),
 );
 
 impl GroupInfoFields {
     /// The fields of the message that the bytes begin with. If they begin with none, the spans mean
     /// nothing.
-    pub fn of(bytes: &[u8]) -> GroupInfoFields
+    pub fn locate(bytes: &[u8]) -> GroupInfoFields
         ensures { Located group_info_format AreGroupInfoFields bytes.now result }
     {
         let (((group_context, extensions, confirmation_tag), (signer, signature)), _) =

@@ -1,11 +1,11 @@
 //! The fields of `GroupSecrets`.
-ghost use Rattle.mls_proposals.specs.GroupSecrets.{group_secrets_format};
+ghost use Rattle.mls_group.specs.GroupSecrets.{group_secrets_format};
 ghost use Rattle.tls_codec_outcome.specs.Fields.{Located};
 ghost use Rattle.mls_fields.specs.GroupSecretsFields.{AreGroupSecretsFields};
 
-use mls_proposals::{PathSecret, PreSharedKeyID};
+use mls_group::{PathSecret, PreSharedKeyID};
 use tls_codec::TlsVarInt;
-use tls_codec_outcome::{Content, Locate, Span, Whole};
+use tls_codec_outcome::{Content, Field, Locate, Span};
 
 /// Where the fields of a `GroupSecrets` are (RFC 9420, section 12.4.3.1). A span of `opaque` has the bytes
 /// without their length.
@@ -22,14 +22,14 @@ pub struct GroupSecretsFields {
 
 type Parts = (
     Content<TlsVarInt>,
-    Whole<Option<PathSecret>>,
-    Whole<Vec<PreSharedKeyID>>,
+    Field<Option<PathSecret>>,
+    Field<Vec<PreSharedKeyID>>,
 );
 
 impl GroupSecretsFields {
     /// The fields of the message that the bytes begin with. If they begin with none, the spans mean
     /// nothing.
-    pub fn of(bytes: &[u8]) -> GroupSecretsFields
+    pub fn locate(bytes: &[u8]) -> GroupSecretsFields
         ensures { Located group_secrets_format AreGroupSecretsFields bytes.now result }
     {
         let ((joiner_secret, path_secret, psks), _) = <Parts>::locate(bytes, 0);

@@ -1,11 +1,11 @@
 //! The fields of `KeyPackage`.
-ghost use Rattle.mls_leaf.specs.KeyPackage.{key_package_format};
+ghost use Rattle.mls_tree.specs.KeyPackage.{key_package_format};
 ghost use Rattle.tls_codec_outcome.specs.Fields.{Located};
 ghost use Rattle.mls_fields.specs.KeyPackageFields.{AreKeyPackageFields};
 
-use mls_leaf::{CipherSuite, Extension, LeafNode, ProtocolVersion};
+use mls_tree::{CipherSuite, Extension, LeafNode, ProtocolVersion};
 use tls_codec::TlsVarInt;
-use tls_codec_outcome::{Content, Locate, Span, Whole};
+use tls_codec_outcome::{Content, Field, Locate, Span};
 
 /// Where the fields of a `KeyPackage` are (RFC 9420, section 10). A span of `opaque` has the bytes
 /// without their length.
@@ -28,17 +28,17 @@ pub struct KeyPackageFields {
 
 type Parts = (
     (
-        Whole<ProtocolVersion>,
-        Whole<CipherSuite>,
+        Field<ProtocolVersion>,
+        Field<CipherSuite>,
         Content<TlsVarInt>,
     ),
-    (Whole<LeafNode>, Whole<Vec<Extension>>, Content<TlsVarInt>),
+    (Field<LeafNode>, Field<Vec<Extension>>, Content<TlsVarInt>),
 );
 
 impl KeyPackageFields {
     /// The fields of the message that the bytes begin with. If they begin with none, the spans mean
     /// nothing.
-    pub fn of(bytes: &[u8]) -> KeyPackageFields
+    pub fn locate(bytes: &[u8]) -> KeyPackageFields
         ensures { Located key_package_format AreKeyPackageFields bytes.now result }
     {
         let (((version, cipher_suite, init_key), (leaf_node, extensions, signature)), _) =

@@ -3,13 +3,13 @@ ghost use Rattle.mls.specs.MLSMessage.{mls_message_format};
 ghost use Rattle.tls_codec_outcome.specs.Fields.{Located};
 ghost use Rattle.mls_fields.specs.Kind.{IsKind};
 
-use mls_proposals::ProtocolVersionMls10;
-use tls_codec_outcome::{Locate, Whole, tag_at};
+use mls_group::ProtocolVersionMls10;
+use tls_codec_outcome::{Field, Locate, tag_at};
 
 /// The `WireFormat` of the `MLSMessage` that begins the bytes, if there is one (RFC 9420, section 6).
 pub fn kind_of(bytes: &[u8]) -> u16
     ensures { Located mls_message_format IsKind bytes.now result }
 {
-    let (_, version_end) = <Whole<ProtocolVersionMls10>>::locate(bytes, 0);
+    let (_, version_end) = <Field<ProtocolVersionMls10>>::locate(bytes, 0);
     tag_at(bytes, version_end)
 }

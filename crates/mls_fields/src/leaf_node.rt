@@ -1,12 +1,12 @@
 //! The fields of `LeafNode`.
-ghost use Rattle.mls_leaf.specs.LeafNode.{leaf_node_format};
-ghost use Rattle.mls_leaf.specs.LeafNodeOrigin.{leaf_node_origin_variants};
+ghost use Rattle.mls_tree.specs.LeafNode.{leaf_node_format};
+ghost use Rattle.mls_tree.specs.LeafNodeOrigin.{leaf_node_origin_variants};
 ghost use Rattle.tls_codec_outcome.specs.Fields.{Located};
 ghost use Rattle.mls_fields.specs.LeafNodeFields.{AreLeafNodeFields};
 
-use mls_leaf::{Capabilities, Credential, Extension, LeafNodeOrigin};
+use mls_tree::{Capabilities, Credential, Extension, LeafNodeOrigin};
 use tls_codec::TlsVarInt;
-use tls_codec_outcome::{Content, Locate, Span, TagAndBody, TaggedEnum, Whole};
+use tls_codec_outcome::{Content, Field, Locate, Span, TagAndBody, TaggedEnum};
 
 /// Where the fields of a `LeafNode` are (RFC 9420, section 7.2). A span of `opaque` has the bytes
 /// without their length.
@@ -38,7 +38,7 @@ impl TaggedEnum for Origins {
 
     const TAG_LEN: usize = 1;
 
-    type Whole = LeafNodeOrigin;
+    type Enum = LeafNodeOrigin;
 
     ghost variants = { leaf_node_origin_variants };
 
@@ -48,15 +48,15 @@ impl TaggedEnum for Origins {
 }
 
 type Parts = (
-    (Content<TlsVarInt>, Content<TlsVarInt>, Whole<Credential>),
-    (Whole<Capabilities>, TagAndBody<Origins>),
-    (Whole<Vec<Extension>>, Content<TlsVarInt>),
+    (Content<TlsVarInt>, Content<TlsVarInt>, Field<Credential>),
+    (Field<Capabilities>, TagAndBody<Origins>),
+    (Field<Vec<Extension>>, Content<TlsVarInt>),
 );
 
 impl LeafNodeFields {
     /// The fields of the message that the bytes begin with. If they begin with none, the spans mean
     /// nothing.
-    pub fn of(bytes: &[u8]) -> LeafNodeFields
+    pub fn locate(bytes: &[u8]) -> LeafNodeFields
         ensures { Located leaf_node_format AreLeafNodeFields bytes.now result }
     {
         let (

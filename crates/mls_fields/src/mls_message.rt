@@ -5,8 +5,8 @@ ghost use Rattle.tls_codec_outcome.specs.Fields.{Located};
 ghost use Rattle.mls_fields.specs.MLSMessageFields.{AreMLSMessageFields};
 
 use mls::WireFormatData;
-use mls_proposals::ProtocolVersionMls10;
-use tls_codec_outcome::{Locate, Span, TagAndBody, TaggedEnum, Whole};
+use mls_group::ProtocolVersionMls10;
+use tls_codec_outcome::{Field, Locate, Span, TagAndBody, TaggedEnum};
 
 /// Where the fields of an `MLSMessage` are (RFC 9420, section 6).
 #[repr(C)]
@@ -27,7 +27,7 @@ impl TaggedEnum for Formats {
 
     const TAG_LEN: usize = 2;
 
-    type Whole = WireFormatData;
+    type Enum = WireFormatData;
 
     ghost variants = { wire_format_data_variants };
 
@@ -36,12 +36,12 @@ impl TaggedEnum for Formats {
     ghost has_tagged = { λ bytes v is. is };
 }
 
-type Parts = (Whole<ProtocolVersionMls10>, TagAndBody<Formats>);
+type Parts = (Field<ProtocolVersionMls10>, TagAndBody<Formats>);
 
 impl MLSMessageFields {
     /// The fields of the message that the bytes begin with. If they begin with none, the spans mean
     /// nothing.
-    pub fn of(bytes: &[u8]) -> MLSMessageFields
+    pub fn locate(bytes: &[u8]) -> MLSMessageFields
         ensures { Located mls_message_format AreMLSMessageFields bytes.now result }
     {
         let ((version, (wire_format, message)), _) = <Parts>::locate(bytes, 0);

@@ -5,7 +5,7 @@ ghost use Rattle.mls_fields.specs.PrivateMessageFields.{ArePrivateMessageFields}
 
 use mls::ContentType;
 use tls_codec::TlsVarInt;
-use tls_codec_outcome::{Content, Locate, Span, Whole};
+use tls_codec_outcome::{Content, Field, Locate, Span};
 
 /// Where the fields of a `PrivateMessage` are (RFC 9420, section 6.3). A span of `opaque` has the bytes
 /// without their length.
@@ -27,14 +27,14 @@ pub struct PrivateMessageFields {
 }
 
 type Parts = (
-    (Content<TlsVarInt>, Whole<u64>, Whole<ContentType>),
+    (Content<TlsVarInt>, Field<u64>, Field<ContentType>),
     (Content<TlsVarInt>, Content<TlsVarInt>, Content<TlsVarInt>),
 );
 
 impl PrivateMessageFields {
     /// The fields of the message that the bytes begin with. If they begin with none, the spans mean
     /// nothing.
-    pub fn of(bytes: &[u8]) -> PrivateMessageFields
+    pub fn locate(bytes: &[u8]) -> PrivateMessageFields
         ensures { Located private_message_format ArePrivateMessageFields bytes.now result }
     {
         let (

@@ -1,9 +1,9 @@
 //! The tag of a `Proposal`, and what its case has.
-ghost use Rattle.mls_proposals.specs.Proposal.{proposal_format, proposal_variants};
+ghost use Rattle.mls_group.specs.Proposal.{proposal_format, proposal_variants};
 ghost use Rattle.tls_codec_outcome.specs.Fields.{Located};
 ghost use Rattle.mls_fields.specs.ProposalFields.{AreProposalFields};
 
-use mls_proposals::Proposal;
+use mls_group::Proposal;
 use tls_codec_outcome::{Locate, Span, TagAndBody, TaggedEnum};
 
 /// Where the fields of a `Proposal` are (RFC 9420, section 12.1).
@@ -23,7 +23,7 @@ impl TaggedEnum for Cases {
 
     const TAG_LEN: usize = 2;
 
-    type Whole = Proposal;
+    type Enum = Proposal;
 
     ghost variants = { proposal_variants };
 
@@ -35,7 +35,7 @@ impl TaggedEnum for Cases {
 impl ProposalFields {
     /// The fields of the message that the bytes begin with. If they begin with none, the spans mean
     /// nothing.
-    pub fn of(bytes: &[u8]) -> ProposalFields
+    pub fn locate(bytes: &[u8]) -> ProposalFields
         ensures { Located proposal_format AreProposalFields bytes.now result }
     {
         let ((proposal_type, body), _) = <TagAndBody<Cases>>::locate(bytes, 0);

@@ -4,10 +4,10 @@ ghost use Rattle.tls_codec_outcome.specs.Fields.{Located};
 ghost use Rattle.mls_fields.specs.PublicMessageFields.{ArePublicMessageFields};
 
 use mls::{ContentType, FramedContent, FramedContentAuthData, SenderType};
-use mls_proposals::MAC;
+use mls_group::MAC;
 use tls_codec::When;
 use tls_codec_cases::{By, Is};
-use tls_codec_outcome::{Deciding, Locate, Span};
+use tls_codec_outcome::{DependentFields, Locate, Span};
 
 /// Where the fields of a `PublicMessage` are (RFC 9420, section 6.2).
 #[repr(C)]
@@ -21,7 +21,7 @@ pub struct PublicMessageFields {
     pub membership_tag: Span,
 }
 
-type Parts = Deciding<
+type Parts = DependentFields<
     FramedContent,
     By<ContentType, FramedContentAuthData>,
     By<SenderType, When<Is<1>, MAC>>,
@@ -30,7 +30,7 @@ type Parts = Deciding<
 impl PublicMessageFields {
     /// The fields of the message that the bytes begin with. If they begin with none, the spans mean
     /// nothing.
-    pub fn of(bytes: &[u8]) -> PublicMessageFields
+    pub fn locate(bytes: &[u8]) -> PublicMessageFields
         ensures { Located public_message_format ArePublicMessageFields bytes.now result }
     {
         let ((content, auth, membership_tag), _) = <Parts>::locate(bytes, 0);

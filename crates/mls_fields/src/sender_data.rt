@@ -3,7 +3,7 @@ ghost use Rattle.mls.specs.SenderData.{sender_data_format};
 ghost use Rattle.tls_codec_outcome.specs.Fields.{Located};
 ghost use Rattle.mls_fields.specs.SenderDataFields.{AreSenderDataFields};
 
-use tls_codec_outcome::{Locate, Span, Whole};
+use tls_codec_outcome::{Field, Locate, Span};
 
 /// Where the fields of a `SenderData` are (RFC 9420, section 6.3.2).
 #[repr(C)]
@@ -17,12 +17,12 @@ pub struct SenderDataFields {
     pub reuse_guard: Span,
 }
 
-type Parts = (Whole<u32>, Whole<u32>, Whole<[u8; 4]>);
+type Parts = (Field<u32>, Field<u32>, Field<[u8; 4]>);
 
 impl SenderDataFields {
     /// The fields of the message that the bytes begin with. If they begin with none, the spans mean
     /// nothing.
-    pub fn of(bytes: &[u8]) -> SenderDataFields
+    pub fn locate(bytes: &[u8]) -> SenderDataFields
         ensures { Located sender_data_format AreSenderDataFields bytes.now result }
     {
         let ((leaf_index, generation, reuse_guard), _) = <Parts>::locate(bytes, 0);

@@ -1,12 +1,12 @@
 //! The fields of `Welcome`.
-ghost use Rattle.mls_proposals.specs.Welcome.{welcome_format};
+ghost use Rattle.mls_group.specs.Welcome.{welcome_format};
 ghost use Rattle.tls_codec_outcome.specs.Fields.{Located};
 ghost use Rattle.mls_fields.specs.WelcomeFields.{AreWelcomeFields};
 
-use mls_leaf::CipherSuite;
-use mls_proposals::EncryptedGroupSecrets;
+use mls_group::EncryptedGroupSecrets;
+use mls_tree::CipherSuite;
 use tls_codec::TlsVarInt;
-use tls_codec_outcome::{Content, Locate, Span, Whole};
+use tls_codec_outcome::{Content, Field, Locate, Span};
 
 /// Where the fields of a `Welcome` are (RFC 9420, section 12.4.3.1). A span of `opaque` has the bytes
 /// without their length.
@@ -22,15 +22,15 @@ pub struct WelcomeFields {
 }
 
 type Parts = (
-    Whole<CipherSuite>,
-    Whole<Vec<EncryptedGroupSecrets>>,
+    Field<CipherSuite>,
+    Field<Vec<EncryptedGroupSecrets>>,
     Content<TlsVarInt>,
 );
 
 impl WelcomeFields {
     /// The fields of the message that the bytes begin with. If they begin with none, the spans mean
     /// nothing.
-    pub fn of(bytes: &[u8]) -> WelcomeFields
+    pub fn locate(bytes: &[u8]) -> WelcomeFields
         ensures { Located welcome_format AreWelcomeFields bytes.now result }
     {
         let ((cipher_suite, secrets, encrypted_group_info), _) = <Parts>::locate(bytes, 0);

@@ -31,13 +31,13 @@ use Rattle.mls.specs.SenderDataAAD.{sender_data_aad_format, sender_data_aad_plai
 use Rattle.mls.specs.SenderType.{sender_type_code, sender_type_format, sender_type_name, sender_type_plain}
 use Rattle.mls.specs.WireFormat.{wire_format_format, wire_format_plain}
 use Rattle.mls.specs.WireFormatData.{wire_format_data_format, wire_format_data_plain}
-use Rattle.mls_leaf.specs.KeyPackage.{key_package_plain}
-use Rattle.mls_proposals.specs.Commit.{commit_plain}
-use Rattle.mls_proposals.specs.GroupContext.{group_context_plain}
-use Rattle.mls_proposals.specs.GroupInfo.{group_info_plain}
-use Rattle.mls_proposals.specs.Proposal.{proposal_plain}
-use Rattle.mls_proposals.specs.ProtocolVersionMls10.{protocol_version_mls10_plain}
-use Rattle.mls_proposals.specs.Welcome.{welcome_plain}
+use Rattle.mls_tree.specs.KeyPackage.{key_package_plain}
+use Rattle.mls_group.specs.Commit.{commit_plain}
+use Rattle.mls_group.specs.GroupContext.{group_context_plain}
+use Rattle.mls_group.specs.GroupInfo.{group_info_plain}
+use Rattle.mls_group.specs.Proposal.{proposal_plain}
+use Rattle.mls_group.specs.ProtocolVersionMls10.{protocol_version_mls10_plain}
+use Rattle.mls_group.specs.Welcome.{welcome_plain}
 use Rattle.tls_codec.specs.Contents.{bytes_of}
 use Rattle.mls.specs.declared.authenticated_content.AuthenticatedContent.{AuthenticatedContent}
 use Rattle.mls.specs.declared.authenticated_content_tbm.AuthenticatedContentTBM.{AuthenticatedContentTBM}

@@ -2,7 +2,7 @@
 use Rattle.std.specs.Prelude.{List, [], ◌∷◌, codes}
 use Rattle.tls_presentation.specs.Definition.{Numeral, One, Array, Variable, Is, Width, Ended, Plain, Definition, Alias, Note, FillsZeros, Equals, IsBorrowed, IsCalled, field, has, constant, word, counted, value, case, cases_of, select, enum, struct}
 use Rattle.tls_presentation.specs.Meaning.{Text, text_over}
-use Rattle.mls_proposals_laws.specs.Definitions.{mls_proposals}
+use Rattle.mls_group_laws.specs.Definitions.{mls_group}
 
 abbrev pub content_type_definition : Definition
 content_type_definition = enum
@@ -208,4 +208,4 @@ notes =
     []
 
 abbrev pub mls : Text
-mls = text_over mls_proposals.names notes definitions
+mls = text_over mls_group.names notes definitions

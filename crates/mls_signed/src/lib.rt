@@ -4,6 +4,3 @@
 mod signed_content;
 
 pub use signed_content::{FramedContentTBSParts, framed_content_tbs};
-
-#[cfg(test)]
-mod tests;

@@ -2,7 +2,7 @@
 ghost use Rattle.mls_signed.specs.Signed.{Says, Writes, tbs_bytes};
 
 use mls::{FramedContent, SenderType, WireFormat};
-use mls_proposals::{GroupContext, ProtocolVersionMls10};
+use mls_group::{GroupContext, ProtocolVersionMls10};
 use tls_codec::{DeserializeBytes, Then, When};
 use tls_codec_cases::{AnyOf, By, Is};
 use tls_codec_outcome::{Outcome, validate};

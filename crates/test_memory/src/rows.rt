@@ -4,9 +4,9 @@
 // What a call that makes `$count` requests returns. If one of them is refused, the call must be
 // refused. Then `$unchanged` checks that the value that it borrowed is unchanged, and the call is
 // made again.
-macro_rules! told {
+macro_rules! counted {
     ($requests:expr, $count:expr, $call:expr) => {
-        told!($requests, $count, $call, Error::OutOfMemory, ())
+        counted!($requests, $count, $call, Error::OutOfMemory, ())
     };
     ($requests:expr, $count:expr, $call:expr, $refused:pat, $unchanged:expr) => {
         match $call {
@@ -45,7 +45,7 @@ pub fn all(alloc: Global, requests: &mut Requests) -> Result<(), Wrong> {
 // A vector of these bytes without room for more, so that making it longer in any way requests
 // memory.
 fn full(alloc: Global, requests: &mut Requests, content: &[u8]) -> Result<Vec<u8>, Wrong> {
-    let vec = told!(requests, 1, copied(alloc, content))?;
+    let vec = counted!(requests, 1, copied(alloc, content))?;
     same(vec.capacity(), content.len())?;
     Ok(vec)
 }

@@ -4,6 +4,7 @@ mod each_call;
 mod elsewhere;
 mod held;
 mod in_context;
+mod key_packages;
 mod mls_messages;
 mod of_cases;
 mod parts;
@@ -11,11 +12,16 @@ mod private;
 mod selected;
 mod shapes;
 mod signed;
+mod signed_parts;
 mod to_end;
 mod views;
 
+use std::alloc::Global;
 use std::fmt::Debug;
 use std::process::Abort;
+use tls_codec::{Error, Serialize, VLBytes};
+
+const MISFIT: Error = Error::EncodingError("value does not fit its context");
 
 // An assertion that is written out is proved at each place: this one is proved once.
 fn same<T: PartialEq + Debug + Drop>(rt: &impl Abort, found: T, expected: T) {
@@ -34,4 +40,13 @@ fn same_at<Row: Debug + Drop, T: PartialEq + Debug + Drop>(
 
 fn holds(rt: &impl Abort, condition: bool) {
     assert!(rt; condition);
+}
+
+// No encoder writes the value: a part is for another tag than the one before it.
+fn is_misfit<T: Serialize>(rt: &impl Abort, alloc: Global, value: &T) {
+    same(rt, value.tls_serialize_detached(alloc).err(), Some(MISFIT));
+}
+
+fn one_byte(alloc: Global, byte: u8) -> Result<VLBytes, Error> {
+    VLBytes::from_array(alloc, &[byte])
 }

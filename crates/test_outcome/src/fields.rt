@@ -11,31 +11,31 @@ use tls_codec_outcome::Span;
 pub fn located(alloc: Global, name: &str, bytes: &[u8]) -> Result<Vec<Span>, AllocError> {
     match name {
         "mls_message" => {
-            let it = MLSMessageFields::of(bytes);
+            let it = MLSMessageFields::locate(bytes);
             [it.version, it.wire_format, it.message].to_vec(alloc)
         }
         "mls_public_message" => {
-            let it = PublicMessageFields::of(bytes);
+            let it = PublicMessageFields::locate(bytes);
             [it.content, it.auth, it.membership_tag].to_vec(alloc)
         }
         "mls_private_message" => {
-            let it = PrivateMessageFields::of(bytes);
+            let it = PrivateMessageFields::locate(bytes);
             let front = [it.group_id, it.epoch, it.content_type];
             let back = [
                 it.authenticated_data,
                 it.encrypted_sender_data,
                 it.ciphertext,
             ];
-            both(alloc, &front, &back)
+            joined(alloc, &front, &back)
         }
         "mls_framed_content" => {
-            let it = FramedContentFields::of(bytes);
+            let it = FramedContentFields::locate(bytes);
             let front = [it.group_id, it.epoch, it.sender];
             let back = [it.authenticated_data, it.content_type, it.content];
-            both(alloc, &front, &back)
+            joined(alloc, &front, &back)
         }
         "mls_sender_data" => {
-            let it = SenderDataFields::of(bytes);
+            let it = SenderDataFields::locate(bytes);
             [it.leaf_index, it.generation, it.reuse_guard].to_vec(alloc)
         }
         _ => located_of_a_group(alloc, name, bytes),
@@ -46,31 +46,31 @@ pub fn located(alloc: Global, name: &str, bytes: &[u8]) -> Result<Vec<Span>, All
 fn located_of_a_group(alloc: Global, name: &str, bytes: &[u8]) -> Result<Vec<Span>, AllocError> {
     match name {
         "mls_welcome" => {
-            let it = WelcomeFields::of(bytes);
+            let it = WelcomeFields::locate(bytes);
             let all = [it.cipher_suite, it.secrets, it.encrypted_group_info];
             all.to_vec(alloc)
         }
         "mls_group_secrets" => {
-            let it = GroupSecretsFields::of(bytes);
+            let it = GroupSecretsFields::locate(bytes);
             [it.joiner_secret, it.path_secret, it.psks].to_vec(alloc)
         }
         "mls_group_info" => {
-            let it = GroupInfoFields::of(bytes);
+            let it = GroupInfoFields::locate(bytes);
             let front = [it.group_context, it.extensions, it.confirmation_tag];
-            both(alloc, &front, &[it.signer, it.signature])
+            joined(alloc, &front, &[it.signer, it.signature])
         }
         "mls_group_context" => {
-            let it = GroupContextFields::of(bytes);
+            let it = GroupContextFields::locate(bytes);
             let front = [it.version, it.cipher_suite, it.group_id, it.epoch];
             let back = [it.tree_hash, it.confirmed_transcript_hash, it.extensions];
-            both(alloc, &front, &back)
+            joined(alloc, &front, &back)
         }
         "mls_commit" => {
-            let it = CommitFields::of(bytes);
+            let it = CommitFields::locate(bytes);
             [it.proposals, it.path].to_vec(alloc)
         }
         "mls_proposal" => {
-            let it = ProposalFields::of(bytes);
+            let it = ProposalFields::locate(bytes);
             [it.proposal_type, it.body].to_vec(alloc)
         }
         _ => located_of_a_member(alloc, name, bytes),
@@ -81,12 +81,12 @@ fn located_of_a_group(alloc: Global, name: &str, bytes: &[u8]) -> Result<Vec<Spa
 fn located_of_a_member(alloc: Global, name: &str, bytes: &[u8]) -> Result<Vec<Span>, AllocError> {
     match name {
         "mls_key_package" => {
-            let it = KeyPackageFields::of(bytes);
+            let it = KeyPackageFields::locate(bytes);
             let front = [it.version, it.cipher_suite, it.init_key];
-            both(alloc, &front, &[it.leaf_node, it.extensions, it.signature])
+            joined(alloc, &front, &[it.leaf_node, it.extensions, it.signature])
         }
         "mls_leaf_node" => {
-            let it = LeafNodeFields::of(bytes);
+            let it = LeafNodeFields::locate(bytes);
             let front = [it.encryption_key, it.signature_key, it.credential];
             let back = [
                 it.capabilities,
@@ -95,13 +95,13 @@ fn located_of_a_member(alloc: Global, name: &str, bytes: &[u8]) -> Result<Vec<Sp
                 it.extensions,
                 it.signature,
             ];
-            both(alloc, &front, &back)
+            joined(alloc, &front, &back)
         }
         _ => Ok(Vec::new(alloc)),
     }
 }
 
-fn both(alloc: Global, front: &[Span], back: &[Span]) -> Result<Vec<Span>, AllocError> {
+fn joined(alloc: Global, front: &[Span], back: &[Span]) -> Result<Vec<Span>, AllocError> {
     let mut all = front.to_vec(alloc)?;
     all.extend_from_slice(back)?;
     Ok(all)

@@ -1,5 +1,5 @@
 //! Bytes with a bit turned.
-use crate::messages::told;
+use crate::messages::validated_and_decoded;
 use std::alloc::Global;
 use tls_codec_outcome::Outcome;
 
@@ -24,7 +24,7 @@ fn turn(bytes: &mut [u8], bit: usize) {
 
 // Whether both say the same, except for the place.
 fn agree_on(alloc: Global, name: &str, bytes: &[u8]) -> bool {
-    match told(alloc, name, bytes) {
+    match validated_and_decoded(alloc, name, bytes) {
         Some((validated, decoded)) => Outcome { at: 0, ..validated } == decoded,
         None => false,
     }

@@ -15,7 +15,7 @@ mod fields;
 mod flips;
 mod messages;
 
-use messages::told;
+use messages::validated_and_decoded;
 use std::alloc::{AllocError, Global};
 use std::io;
 use std::io::{BufRead, BufReader, BufWriter, Write};
@@ -40,7 +40,7 @@ fn answer_of(alloc: Global, row: &str) -> Result<String, AllocError> {
     let Some(mut bytes) = bytes_of(alloc, digits) else {
         return "no hex".to_string(alloc);
     };
-    let Some((validated, decoded)) = told(alloc, name, &bytes) else {
+    let Some((validated, decoded)) = validated_and_decoded(alloc, name, &bytes) else {
         return "no message".to_string(alloc);
     };
     let mut answer = format!(in alloc; "{}\t{}", text(alloc, validated)?, text(alloc, decoded)?)?;

@@ -1,5 +1,5 @@
 //! Where the fields of messages of TLS 1.3 are.
-use crate::{Told, add};
+use crate::{Answer, add};
 use std::alloc::{AllocError, Global};
 use tls_codec_outcome::{ACCEPTED, Span, validate};
 use tls_codec_validate::Validate;
@@ -14,10 +14,10 @@ use tls13_fields::{
 };
 
 /// The places of the fields of the message that the bytes begin with. None: no call has this name.
-pub fn told(alloc: Global, name: &str, bytes: &[u8]) -> Result<Option<Told>, AllocError> {
-    let told = match name {
+pub fn answer_of(alloc: Global, name: &str, bytes: &[u8]) -> Result<Option<Answer>, AllocError> {
+    let answer = match name {
         "tls13_client_hello_locate" => {
-            let it = ClientHelloFields::of(bytes);
+            let it = ClientHelloFields::locate(bytes);
             let front = [it.legacy_version, it.random, it.legacy_session_id];
             let back = [
                 it.cipher_suites,
@@ -27,56 +27,56 @@ pub fn told(alloc: Global, name: &str, bytes: &[u8]) -> Result<Option<Told>, All
             located::<ClientHello>(alloc, bytes, &front, &back)?
         }
         "tls13_server_hello_locate" => {
-            let it = ServerHelloFields::of(bytes);
+            let it = ServerHelloFields::locate(bytes);
             let front = [it.legacy_version, it.random, it.legacy_session_id_echo];
             let back = [it.cipher_suite, it.legacy_compression_method, it.extensions];
             located::<ServerHello>(alloc, bytes, &front, &back)?
         }
         "tls13_certificate_locate" => {
-            let it = CertificateFields::of(bytes);
+            let it = CertificateFields::locate(bytes);
             let all = [it.certificate_request_context, it.certificate_list];
             located::<Certificate>(alloc, bytes, &all, &[])?
         }
         "tls13_certificate_verify_locate" => {
-            let it = CertificateVerifyFields::of(bytes);
+            let it = CertificateVerifyFields::locate(bytes);
             located::<CertificateVerify>(alloc, bytes, &[it.algorithm, it.signature], &[])?
         }
         "tls13_new_session_ticket_locate" => {
-            let it = NewSessionTicketFields::of(bytes);
+            let it = NewSessionTicketFields::locate(bytes);
             let front = [it.ticket_lifetime, it.ticket_age_add, it.ticket_nonce];
             located::<NewSessionTicket>(alloc, bytes, &front, &[it.ticket, it.extensions])?
         }
-        _ => return told_of_others(alloc, name, bytes),
+        _ => return answer_of_others(alloc, name, bytes),
     };
-    Ok(Some(told))
+    Ok(Some(answer))
 }
 
-fn told_of_others(alloc: Global, name: &str, bytes: &[u8]) -> Result<Option<Told>, AllocError> {
-    let told = match name {
+fn answer_of_others(alloc: Global, name: &str, bytes: &[u8]) -> Result<Option<Answer>, AllocError> {
+    let answer = match name {
         "tls13_handshake_locate" => {
-            let it = HandshakeFields::of(bytes);
+            let it = HandshakeFields::locate(bytes);
             located::<Handshake>(alloc, bytes, &[it.msg_type, it.body], &[])?
         }
         "tls13_encrypted_extensions_locate" => {
-            let it = EncryptedExtensionsFields::of(bytes);
+            let it = EncryptedExtensionsFields::locate(bytes);
             located::<EncryptedExtensions>(alloc, bytes, &[it.extensions], &[])?
         }
         "tls13_certificate_request_locate" => {
-            let it = CertificateRequestFields::of(bytes);
+            let it = CertificateRequestFields::locate(bytes);
             let all = [it.certificate_request_context, it.extensions];
             located::<CertificateRequest>(alloc, bytes, &all, &[])?
         }
         "tls13_key_update_locate" => {
-            let it = KeyUpdateFields::of(bytes);
+            let it = KeyUpdateFields::locate(bytes);
             located::<KeyUpdate>(alloc, bytes, &[it.request_update], &[])?
         }
         "tls13_tls_plaintext_locate" => {
-            let it = TLSPlaintextFields::of(bytes);
+            let it = TLSPlaintextFields::locate(bytes);
             let all = [it.kind, it.legacy_record_version, it.fragment];
             located::<TLSPlaintext>(alloc, bytes, &all, &[])?
         }
         "tls13_tls_ciphertext_locate" => {
-            let it = TLSCiphertextFields::of(bytes);
+            let it = TLSCiphertextFields::locate(bytes);
             let all = [
                 it.opaque_type,
                 it.legacy_record_version,
@@ -85,12 +85,12 @@ fn told_of_others(alloc: Global, name: &str, bytes: &[u8]) -> Result<Option<Told
             located::<TLSCiphertext>(alloc, bytes, &all, &[])?
         }
         "tls13_alert_locate" => {
-            let it = AlertFields::of(bytes);
+            let it = AlertFields::locate(bytes);
             located::<Alert>(alloc, bytes, &[it.level, it.description], &[])?
         }
         _ => return Ok(None),
     };
-    Ok(Some(told))
+    Ok(Some(answer))
 }
 
 // What the validator says, and the places if it accepts.
@@ -99,13 +99,13 @@ fn located<T: Validate>(
     bytes: &[u8],
     front: &[Span],
     back: &[Span],
-) -> Result<Told, AllocError> {
-    let said = validate::<T>(bytes);
+) -> Result<Answer, AllocError> {
+    let outcome = validate::<T>(bytes);
     let mut places = String::new(alloc);
-    if said.status == ACCEPTED {
+    if outcome.status == ACCEPTED {
         for place in front.iter().chain(back) {
             add(&mut places, *place)?;
         }
     }
-    Ok((said, places))
+    Ok((outcome, places))
 }

@@ -22,27 +22,27 @@ use std::io::{BufRead, BufReader, BufWriter, Write};
 use tls_codec_outcome::{Outcome, Span};
 
 // What the last call says, and what is filled.
-type Told = (Outcome, String);
+type Answer = (Outcome, String);
 
 fn main(rt: HostRuntime) -> io::Result<()> {
     let alloc = rt.alloc();
     let mut out = BufWriter::new(alloc, io::writer(&rt))?;
     for row in BufReader::new(alloc, rt.reader())?.lines(alloc) {
         let row = row?;
-        let answer = answer_of(alloc, row.as_str())?;
+        let answer = line_of(alloc, row.as_str())?;
         writeln!(out, "{row}\t{answer}")?;
     }
     out.flush()
 }
 
-fn answer_of(alloc: Global, row: &str) -> Result<String, AllocError> {
+fn line_of(alloc: Global, row: &str) -> Result<String, AllocError> {
     let Some((name, digits)) = row.split_once('\t') else {
         return "no row".to_string(alloc);
     };
     let Some(bytes) = bytes_of(alloc, digits) else {
         return "no hex".to_string(alloc);
     };
-    let Some((said, filled)) = told(alloc, name, &bytes)? else {
+    let Some((outcome, filled)) = answer_of(alloc, name, &bytes)? else {
         return "no call".to_string(alloc);
     };
     let Outcome {
@@ -50,7 +50,7 @@ fn answer_of(alloc: Global, row: &str) -> Result<String, AllocError> {
         taken,
         at,
         detail,
-    } = said;
+    } = outcome;
     let filled = if filled.is_empty() {
         "-"
     } else {
@@ -59,14 +59,14 @@ fn answer_of(alloc: Global, row: &str) -> Result<String, AllocError> {
     format!(in alloc; "{status} {taken} {at} {detail}\t{filled}")
 }
 
-fn told(alloc: Global, name: &str, bytes: &[u8]) -> Result<Option<Told>, AllocError> {
-    if let Some(told) = elements::told(alloc, name, bytes)? {
-        return Ok(Some(told));
+fn answer_of(alloc: Global, name: &str, bytes: &[u8]) -> Result<Option<Answer>, AllocError> {
+    if let Some(answer) = elements::answer_of(alloc, name, bytes)? {
+        return Ok(Some(answer));
     }
-    if let Some(told) = fields::told(alloc, name, bytes)? {
-        return Ok(Some(told));
+    if let Some(answer) = fields::answer_of(alloc, name, bytes)? {
+        return Ok(Some(answer));
     }
-    kinds::told(alloc, name, bytes)
+    kinds::answer_of(alloc, name, bytes)
 }
 
 // The bytes that hex digits stand for; `-` is none.

@@ -8,7 +8,7 @@ use tls_codec_validate::Validate;
 use tls_codec_vectors::Drip;
 
 /// Each decoder reads the same value from the bytes, to the last one, and each encoder writes it as them.
-pub fn opens<T>(alloc: Global, row: &str, bytes: &[u8]) -> Result<(), Fail>
+pub fn round_trips<T>(alloc: Global, row: &str, bytes: &[u8]) -> Result<(), Fail>
 where
     T: Serialize + Deserialize + Validate + Eq + Debug + Clone,
 {
@@ -43,11 +43,11 @@ fn is_written<T: Serialize + Eq + Debug + Clone>(
 }
 
 /// The round trip: the bytes are this value's, with others after them too, and no prefix is.
-pub fn is_spelled<T>(alloc: Global, row: &str, value: &T, bytes: &[u8]) -> Result<(), Fail>
+pub fn is_encoded_as<T>(alloc: Global, row: &str, value: &T, bytes: &[u8]) -> Result<(), Fail>
 where
     T: Serialize + Deserialize + Validate + Eq + Debug + Clone,
 {
-    opens::<T>(alloc, row, bytes)?;
+    round_trips::<T>(alloc, row, bytes)?;
     let read = done_at(row, T::tls_deserialize_exact_bytes(alloc, bytes))?;
     same_at(row, &read, value)?;
     is_written(alloc, row, value, bytes)?;
@@ -56,7 +56,7 @@ where
     let (found, rest) = T::tls_deserialize_bytes(alloc, &longer)?;
     same_at(row, &found, value)?;
     same_at(row, rest, [0xee].as_slice())?;
-    is_all::<T>(alloc, row, bytes)?;
+    rejects_another_byte::<T>(alloc, row, bytes)?;
     for length in 0..bytes.len() {
         is_refused::<T>(alloc, row, &bytes[..length], Error::EndOfStream)?;
     }
@@ -94,7 +94,11 @@ pub fn is_refused_by<T: Deserialize + Validate>(
 }
 
 // The decoders that read to the end reject another byte after these.
-fn is_all<T: Deserialize + Validate>(alloc: Global, row: &str, bytes: &[u8]) -> Result<(), Fail> {
+fn rejects_another_byte<T: Deserialize + Validate>(
+    alloc: Global,
+    row: &str,
+    bytes: &[u8],
+) -> Result<(), Fail> {
     let mut longer = bytes.to_vec(alloc)?;
     longer.push(0)?;
     let split = T::tls_deserialize_exact_bytes(alloc, &longer).err();

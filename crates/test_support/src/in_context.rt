@@ -8,7 +8,7 @@ use tls_codec_validate::{Keyed, ValidateFor};
 use tls_codec_vectors::Drip;
 
 /// Each decoder reads the same value from the bytes, to the last one, and each encoder writes it as them.
-pub fn opens_in<C: Keyed, T>(
+pub fn round_trips_in<C: Keyed, T>(
     alloc: Global,
     row: &str,
     context: &C,
@@ -56,13 +56,15 @@ pub fn is_misfit<C: Size, T: SerializeFor<C>>(
     context: &C,
     value: &T,
 ) -> Result<(), Fail> {
-    let misfit = Some(Error::EncodingError("value does not fit its context"));
+    let does_not_fit = Some(Error::EncodingError("value does not fit its context"));
     let mut out = Vec::new(alloc);
     let appended = value.tls_serialize_into_for(context, &mut out).err();
-    same_at(row, appended, misfit)?;
+    same_at(row, appended, does_not_fit)?;
     same_at(row, out.len(), 0)?;
+    let detached = value.tls_serialize_detached_for(context, alloc).err();
+    same_at(row, detached, does_not_fit)?;
     let sent = value.tls_serialize_for(context, &mut out).err();
-    same_at(row, sent, misfit)
+    same_at(row, sent, does_not_fit)
 }
 
 /// Each decoder rejects the bytes in a context with this error.

@@ -3,11 +3,12 @@ use std::fmt::Debug;
 use std::process::Abort;
 use std::test::Fail;
 use tls_codec::{
-    Error, SecretTlsVecU8, SecretVLBytes, TlsByteVecU8, TlsByteVecU24, TlsVarInt, TlsVecU16, U24,
-    VLBytes,
+    Always, Error, SecretTlsVecU8, SecretVLBytes, TlsByteVecU8, TlsByteVecU24, TlsVarInt, TlsVecU8,
+    TlsVecU16, U24, VLBytes, When,
 };
+use tls_codec_cases::Is;
 use tls_codec_validate::{Rejected, Validate};
-use tls_codec_views::{Encoded, Told};
+use tls_codec_views::{Encoded, EncodedFor, ReadInPlace};
 
 const NOT_THERE: Error = Error::DecodingError("declared content is not there");
 
@@ -24,7 +25,11 @@ fn encoded<'a, T: Validate>(rt: &impl Abort, bytes: &'a [u8]) -> Encoded<'a, T> 
     }
 }
 
-fn same_value<T: Told + PartialEq + Debug + Drop>(rt: &impl Abort, bytes: &[u8], expected: T) {
+fn same_value<T: ReadInPlace + PartialEq + Debug + Drop>(
+    rt: &impl Abort,
+    bytes: &[u8],
+    expected: T,
+) {
     same(rt, encoded::<T>(rt, bytes).get(), expected);
 }
 
@@ -146,4 +151,87 @@ fn a_value_is_made_of_an_encoding(rt: HostRuntime) -> Result<(), Fail> {
     let value = list.to_value(rt.alloc())?;
     same(&rt, value.as_slice(), [1u16, 2].as_slice());
     Ok(())
+}
+
+fn content_of<'a>(part: &EncodedFor<'a, u8, Always<VLBytes>>) -> &'a [u8] {
+    part.always().content()
+}
+
+fn number_of(part: &EncodedFor<'_, u8, When<Is<3>, u16>>) -> Option<u16> {
+    match part.payload() {
+        Some(number) => Some(number.get()),
+        None => None,
+    }
+}
+
+// Of the context 3 a number follows the text, and of another none.
+fn both_of<'a>(
+    parts: &EncodedFor<'a, u8, (Always<VLBytes>, When<Is<3>, u16>)>,
+) -> (&'a [u8], Option<u16>) {
+    let (text, number) = parts.split();
+    (content_of(&text), number_of(&number))
+}
+
+#[test]
+fn two_parts_in_a_context(rt: HostRuntime) {
+    let Ok(there) = EncodedFor::new(&3, &[1, 0xaa, 0, 7]) else {
+        panic!(rt; "no encoding");
+    };
+    same(&rt, both_of(&there), ([0xaau8].as_slice(), Some(7)));
+    let Ok(absent) = EncodedFor::new(&2, &[1, 0xaa]) else {
+        panic!(rt; "no encoding");
+    };
+    same(&rt, absent.as_bytes(), [1u8, 0xaa].as_slice());
+    same(&rt, both_of(&absent), ([0xaau8].as_slice(), None));
+}
+
+#[test]
+fn three_parts_in_a_context(rt: HostRuntime) {
+    let Ok(found) = EncodedFor::<u8, (Always<u8>, Always<u8>, Always<u8>)>::new(&1, &[5, 6, 7])
+    else {
+        panic!(rt; "no encoding");
+    };
+    let (first, second, third) = found.split();
+    same(&rt, first.as_bytes(), [5u8].as_slice());
+    same(&rt, second.as_bytes(), [6u8].as_slice());
+    same(&rt, third.as_bytes(), [7u8].as_slice());
+}
+
+#[test]
+fn a_part_in_another_context(rt: HostRuntime) {
+    let Ok(found) = EncodedFor::<u8, When<Is<3>, u16>>::new(&3, &[0, 7]) else {
+        panic!(rt; "no encoding");
+    };
+    same(&rt, number_of(&found), Some(7));
+    let trailing = Rejected {
+        error: Error::TrailingData,
+        rest: &[0, 7],
+    };
+    let found = EncodedFor::<u8, When<Is<3>, u16>>::new(&2, &[0, 7]);
+    same(&rt, found.err(), Some(trailing));
+}
+
+#[test]
+fn elements_in_a_context(rt: HostRuntime) {
+    let Ok(list) = EncodedFor::<u8, Vec<When<Is<3>, u16>>>::new(&3, &[4, 0, 5, 0, 6]) else {
+        panic!(rt; "no encoding");
+    };
+    let mut elements = list.elements();
+    for expected in [5, 6] {
+        let Some(element) = elements.next() else {
+            panic!(rt; "no element");
+        };
+        same(&rt, number_of(&element), Some(expected));
+    }
+    same(&rt, elements.next().is_none(), true);
+}
+
+#[test]
+fn elements_after_a_fixed_length_in_a_context(rt: HostRuntime) {
+    let Ok(list) = EncodedFor::<u8, TlsVecU8<When<Is<3>, u16>>>::new(&3, &[2, 0, 7]) else {
+        panic!(rt; "no encoding");
+    };
+    for element in list.elements() {
+        same(&rt, number_of(&element), Some(7));
+    }
 }

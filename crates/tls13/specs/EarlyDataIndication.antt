@@ -1,6 +1,6 @@
 -- EarlyDataIndication: what it stands for, its format and its law.
 use Rattle.std.specs.Prelude.{ℕ}
-use Rattle.tls_codec.specs.OwnMessages.{Tree, Number, Join, Format, number_format, Variants, no_variant, variant, chosen_format, EachMeetsLaws, MeetVariantLaws, u32_meets, no_variant_meets, variant_meets, chosen_meets}
+use Rattle.tls_codec.specs.OwnMessages.{Tree, Number, Join, Format, number_format, Variants, no_variant, variant, chosen_format, EachMeetsLaws, MeetsVariantLaws, u32_meets, no_variant_meets, variant_meets, chosen_meets}
 use Rattle.tls_codec_cases.specs.Sums.{either_variants, either_variants_meet}
 use Rattle.tls13.specs.EmptyType.{empty_type_plain, empty_type_format, empty_type_meets}
 use Rattle.tls13.specs.HandshakeType.{handshake_type_selected}
@@ -23,7 +23,7 @@ early_data_indication_variants =
     either_variants (either_variants (variant 4 (number_format 4) no_variant) (variant 1 empty_type_format no_variant))
     (variant 8 empty_type_format no_variant)
 
-pub early_data_indication_variants_meet : MeetVariantLaws early_data_indication_variants
+pub early_data_indication_variants_meet : MeetsVariantLaws early_data_indication_variants
 early_data_indication_variants_meet =
     either_variants_meet (either_variants_meet (variant_meets 4 u32_meets no_variant_meets)
     (variant_meets 1 empty_type_meets no_variant_meets)) (variant_meets 8 empty_type_meets no_variant_meets)

@@ -1,7 +1,7 @@
 -- Handshake: what it stands for, its format and its law.
 use Rattle.std.proofs.Common.{arith}
 use Rattle.std.specs.Prelude.{ℕ}
-use Rattle.tls_codec.specs.OwnMessages.{Tree, Number, Join, number_trees, Format, fixed_bytes_format, Variants, no_variant, variant, tagged_format, MeetsLaws, MeetVariantLaws, fixed_bytes_meets, no_variant_meets, variant_meets, tagged_meets}
+use Rattle.tls_codec.specs.OwnMessages.{Tree, Number, Join, number_trees, Format, fixed_bytes_format, Variants, no_variant, variant, tagged_format, MeetsLaws, MeetsVariantLaws, fixed_bytes_meets, no_variant_meets, variant_meets, tagged_meets}
 use Rattle.tls_codec.specs.Contents.{fixed_bytes_of}
 use Rattle.tls_codec_cases.specs.Sums.{either_variants, either_variants_meet}
 use Rattle.tls_codec_cases.specs.Enclosed.{fixed_enclosed_format, fixed_enclosed_meets}
@@ -55,7 +55,7 @@ handshake_variants =
     (variant 4 (fixed_enclosed_format 3 new_session_ticket_format) no_variant)
     (variant 24 (fixed_enclosed_format 3 key_update_format) no_variant))
 
-pub handshake_variants_meet : MeetVariantLaws handshake_variants
+pub handshake_variants_meet : MeetsVariantLaws handshake_variants
 handshake_variants_meet =
     either_variants_meet (either_variants_meet (either_variants_meet (either_variants_meet
     (variant_meets 1 (fixed_enclosed_meets 3 (omega arith) client_hello_meets) no_variant_meets)

@@ -1,6 +1,6 @@
 -- PreSharedKeyExtension: what it stands for, its format and its law.
 use Rattle.std.specs.Prelude.{ℕ}
-use Rattle.tls_codec.specs.OwnMessages.{Tree, Number, Join, Format, number_format, Variants, no_variant, variant, chosen_format, EachMeetsLaws, MeetVariantLaws, u16_meets, no_variant_meets, variant_meets, chosen_meets}
+use Rattle.tls_codec.specs.OwnMessages.{Tree, Number, Join, Format, number_format, Variants, no_variant, variant, chosen_format, EachMeetsLaws, MeetsVariantLaws, u16_meets, no_variant_meets, variant_meets, chosen_meets}
 use Rattle.tls_codec_cases.specs.Sums.{either_variants, either_variants_meet}
 use Rattle.tls13.specs.OfferedPsks.{offered_psks_plain, offered_psks_format, offered_psks_meets}
 use Rattle.tls13.specs.HandshakeType.{handshake_type_selected}
@@ -20,7 +20,7 @@ abbrev pub pre_shared_key_extension_variants : Variants
 pre_shared_key_extension_variants =
     either_variants (variant 1 offered_psks_format no_variant) (variant 2 (number_format 2) no_variant)
 
-pub pre_shared_key_extension_variants_meet : MeetVariantLaws pre_shared_key_extension_variants
+pub pre_shared_key_extension_variants_meet : MeetsVariantLaws pre_shared_key_extension_variants
 pre_shared_key_extension_variants_meet =
     either_variants_meet (variant_meets 1 offered_psks_meets no_variant_meets) (variant_meets 2 u16_meets no_variant_meets)
 

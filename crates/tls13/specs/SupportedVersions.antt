@@ -1,7 +1,7 @@
 -- SupportedVersions: what it stands for, its format and its law.
 use Rattle.std.proofs.Common.{arith}
 use Rattle.std.specs.Prelude.{ℕ}
-use Rattle.tls_codec.specs.OwnMessages.{Tree, Number, Join, trees, Format, number_format, bounded_list_format, Variants, no_variant, variant, chosen_format, EachMeetsLaws, MeetVariantLaws, u16_meets, bounded_list_meets, no_variant_meets, variant_meets, chosen_meets}
+use Rattle.tls_codec.specs.OwnMessages.{Tree, Number, Join, trees, Format, number_format, bounded_list_format, Variants, no_variant, variant, chosen_format, EachMeetsLaws, MeetsVariantLaws, u16_meets, bounded_list_meets, no_variant_meets, variant_meets, chosen_meets}
 use Rattle.tls_codec.specs.Contents.{elements_of}
 use Rattle.tls_codec_cases.specs.Sums.{either_variants, either_variants_meet}
 use Rattle.tls13.specs.HandshakeType.{handshake_type_selected}
@@ -21,7 +21,7 @@ abbrev pub supported_versions_variants : Variants
 supported_versions_variants =
     either_variants (variant 1 (bounded_list_format 1 2 254 (number_format 2)) no_variant) (variant 2 (number_format 2) no_variant)
 
-pub supported_versions_variants_meet : MeetVariantLaws supported_versions_variants
+pub supported_versions_variants_meet : MeetsVariantLaws supported_versions_variants
 supported_versions_variants_meet =
     either_variants_meet (variant_meets 1 (bounded_list_meets 1 2 254 (omega arith) u16_meets) no_variant_meets)
     (variant_meets 2 u16_meets no_variant_meets)

@@ -9,7 +9,7 @@ use std::alloc::Global;
 use std::fmt;
 use tls_codec::{Deserialize, DeserializeBytes, Error, Serialize, Sink, Size, Source};
 use tls_codec_validate::{Rejected, Validate};
-use tls_codec_views::{Encoded, Parted, Told};
+use tls_codec_views::{Encoded, Parted, ReadInPlace};
 
 /// `AlertDescription` (RFC 8446, appendix B.2).
 #[derive(PartialEq, Eq, PartialOrd, Ord, Hash, Debug, Clone, Copy)]
@@ -258,8 +258,8 @@ impl Parted for AlertDescription {
     ghost as_parts = { λ bytes is. is };
 }
 
-impl Told for AlertDescription {
-    fn told(encoded: &Encoded<'_, AlertDescription>) -> AlertDescription {
+impl ReadInPlace for AlertDescription {
+    fn read(encoded: &Encoded<'_, AlertDescription>) -> AlertDescription {
         AlertDescription(encoded.parts().get())
     }
 }

@@ -9,7 +9,7 @@ use std::alloc::Global;
 use std::fmt;
 use tls_codec::{Deserialize, DeserializeBytes, Error, Serialize, Sink, Size, Source};
 use tls_codec_validate::{Rejected, Validate};
-use tls_codec_views::{Encoded, Parted, Told};
+use tls_codec_views::{Encoded, Parted, ReadInPlace};
 
 /// `AlertLevel` (RFC 8446, appendix B.2).
 #[derive(PartialEq, Eq, PartialOrd, Ord, Hash, Debug, Clone, Copy)]
@@ -127,8 +127,8 @@ impl Parted for AlertLevel {
     ghost as_parts = { λ bytes is. is };
 }
 
-impl Told for AlertLevel {
-    fn told(encoded: &Encoded<'_, AlertLevel>) -> AlertLevel {
+impl ReadInPlace for AlertLevel {
+    fn read(encoded: &Encoded<'_, AlertLevel>) -> AlertLevel {
         AlertLevel(encoded.parts().get())
     }
 }

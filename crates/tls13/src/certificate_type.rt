@@ -14,7 +14,7 @@ use tls_codec::{
     Deserialize, DeserializeBytes, Error, Serialize, Sink, Size, Source, unknown_value,
 };
 use tls_codec_validate::{Rejected, Validate, split_u8};
-use tls_codec_views::{Encoded, Numbered, Told};
+use tls_codec_views::{Encoded, Numbered, ReadInPlace};
 
 /// `CertificateType` (RFC 8446, appendix B.3.3).
 #[derive(PartialEq, Eq, PartialOrd, Ord, Hash, Debug, Clone, Copy)]
@@ -172,8 +172,8 @@ impl Numbered for CertificateType {
     ghost as_values = { λ bytes is. is };
 }
 
-impl Told for CertificateType {
-    fn told(encoded: &Encoded<'_, CertificateType>) -> CertificateType {
+impl ReadInPlace for CertificateType {
+    fn read(encoded: &Encoded<'_, CertificateType>) -> CertificateType {
         match encoded.number() {
             0 => CertificateType::X509,
             1 => CertificateType::OpenPGPReserved,

@@ -9,7 +9,7 @@ use std::alloc::Global;
 use std::fmt;
 use tls_codec::{Deserialize, DeserializeBytes, Error, Serialize, Sink, Size, Source};
 use tls_codec_validate::{Rejected, Validate};
-use tls_codec_views::{Encoded, Parted, Told};
+use tls_codec_views::{Encoded, Parted, ReadInPlace};
 
 /// `ContentType` (RFC 8446, appendix B.1).
 #[derive(PartialEq, Eq, PartialOrd, Ord, Hash, Debug, Clone, Copy)]
@@ -144,8 +144,8 @@ impl Parted for ContentType {
     ghost as_parts = { λ bytes is. is };
 }
 
-impl Told for ContentType {
-    fn told(encoded: &Encoded<'_, ContentType>) -> ContentType {
+impl ReadInPlace for ContentType {
+    fn read(encoded: &Encoded<'_, ContentType>) -> ContentType {
         ContentType(encoded.parts().get())
     }
 }

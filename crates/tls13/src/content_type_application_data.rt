@@ -14,7 +14,7 @@ use tls_codec::{
     Deserialize, DeserializeBytes, Error, Serialize, Sink, Size, Source, unknown_value,
 };
 use tls_codec_validate::{Rejected, Validate, split_u8};
-use tls_codec_views::{Encoded, Numbered, Told};
+use tls_codec_views::{Encoded, Numbered, ReadInPlace};
 
 /// `ContentTypeApplicationData`.
 #[derive(PartialEq, Eq, PartialOrd, Ord, Hash, Debug, Clone, Copy)]
@@ -161,8 +161,8 @@ impl Numbered for ContentTypeApplicationData {
     ghost as_values = { λ bytes is. is };
 }
 
-impl Told for ContentTypeApplicationData {
-    fn told(encoded: &Encoded<'_, ContentTypeApplicationData>) -> ContentTypeApplicationData {
+impl ReadInPlace for ContentTypeApplicationData {
+    fn read(encoded: &Encoded<'_, ContentTypeApplicationData>) -> ContentTypeApplicationData {
         match encoded.number() {
             23 => ContentTypeApplicationData::ApplicationData,
             _ => unreachable!(),

@@ -1,6 +1,6 @@
 //! [`EarlyDataIndication`].
 ghost use Rattle.std.specs.Prelude.{◌≡◌, IsTrue};
-ghost use Rattle.tls13.specs.EarlyDataIndication.{early_data_indication_format_for, early_data_indication_meets_for, early_data_indication_plain, early_data_indication_tag};
+ghost use Rattle.tls13.specs.EarlyDataIndication.{early_data_indication_format_for, early_data_indication_meets_for, early_data_indication_plain, early_data_indication_tag, early_data_indication_variants};
 ghost use Rattle.tls13.specs.declared.early_data_indication.EarlyDataIndication.{EarlyDataIndication};
 
 use crate::{EmptyType, HandshakeType};
@@ -10,6 +10,7 @@ use tls_codec::{
 };
 use tls_codec_cases::{Case, Chosen, Or, append_as_for, write_as_for};
 use tls_codec_validate::{Rejected, ValidateFor};
+use tls_codec_views::ChoiceFor;
 
 /// `select (msg_type)` of `EarlyDataIndication` (RFC 8446, appendix B.3.1): its bytes don't
 /// have the tag.
@@ -121,6 +122,12 @@ impl ValidateFor<HandshakeType> for EarlyDataIndication {
     fn tls_validate_prefix_for<'a>(key: &u64, whole: &'a [u8]) -> Result<&'a [u8], Rejected<'a>> {
         <Cases as ValidateFor<HandshakeType>>::tls_validate_prefix_for(key, whole)
     }
+}
+
+impl ChoiceFor<HandshakeType> for EarlyDataIndication {
+    ghost variants = { early_data_indication_variants };
+
+    ghost as_choice = { λ c bytes is. is };
 }
 
 /// The case `new_session_ticket` with this content.

@@ -8,6 +8,7 @@ use std::alloc::Global;
 use tls_codec::{Deserialize, DeserializeBytes, Error, Serialize, Sink, Size, Source, TlsVecU16};
 use tls_codec_cases::append_as;
 use tls_codec_validate::{Rejected, Validate};
+use tls_codec_views::{Encoded, Parted};
 
 /// `EncryptedExtensions` (RFC 8446, appendix B.3.2).
 #[derive(PartialEq, Eq, Debug, Clone, Drop)]
@@ -71,6 +72,28 @@ impl Validate for EncryptedExtensions {
 
     fn tls_width() -> Option<usize> {
         <TlsVecU16<Extension>>::tls_width()
+    }
+}
+
+impl Parted for EncryptedExtensions {
+    type Parts = Box<TlsVecU16<Extension>>;
+
+    ghost as_parts = { λ bytes is. is };
+}
+
+/// The encoding of a [`EncryptedExtensions`], split into its fields.
+#[derive(Drop)]
+pub struct EncryptedExtensionsView<'a> {
+    /// `Extension extensions<0..2^16-1>;`
+    pub extensions: Encoded<'a, TlsVecU16<Extension>>,
+}
+
+impl<'a> From<Encoded<'a, EncryptedExtensions>> for EncryptedExtensionsView<'a> {
+    ghost from_gives = { λ whole view. whole ≡ view.extensions };
+
+    fn from(whole: Encoded<'a, EncryptedExtensions>) -> EncryptedExtensionsView<'a> {
+        let extensions = whole.parts().payload();
+        EncryptedExtensionsView { extensions }
     }
 }
 

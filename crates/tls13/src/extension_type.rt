@@ -9,7 +9,7 @@ use std::alloc::Global;
 use std::fmt;
 use tls_codec::{Deserialize, DeserializeBytes, Error, Serialize, Sink, Size, Source};
 use tls_codec_validate::{Rejected, Validate};
-use tls_codec_views::{Encoded, Parted, Told};
+use tls_codec_views::{Encoded, Parted, ReadInPlace};
 
 /// `ExtensionType` (RFC 8446, appendix B.3.1).
 #[derive(PartialEq, Eq, PartialOrd, Ord, Hash, Debug, Clone, Copy)]
@@ -229,8 +229,8 @@ impl Parted for ExtensionType {
     ghost as_parts = { λ bytes is. is };
 }
 
-impl Told for ExtensionType {
-    fn told(encoded: &Encoded<'_, ExtensionType>) -> ExtensionType {
+impl ReadInPlace for ExtensionType {
+    fn read(encoded: &Encoded<'_, ExtensionType>) -> ExtensionType {
         ExtensionType(encoded.parts().get())
     }
 }

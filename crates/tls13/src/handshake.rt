@@ -270,16 +270,16 @@ impl<'a> From<Encoded<'a, Handshake>> for HandshakeView<'a> {
     fn from(whole: Encoded<'a, Handshake>) -> HandshakeView<'a> {
         let (tag, parts) = whole.case();
         match tag {
-            1 => HandshakeView::ClientHello(Encoded::known(parts)),
-            2 => HandshakeView::ServerHello(Encoded::known(parts)),
-            5 => HandshakeView::EndOfEarlyData(Encoded::known(parts)),
-            8 => HandshakeView::EncryptedExtensions(Encoded::known(parts)),
-            13 => HandshakeView::CertificateRequest(Encoded::known(parts)),
-            11 => HandshakeView::Certificate(Encoded::known(parts)),
-            15 => HandshakeView::CertificateVerify(Encoded::known(parts)),
-            20 => HandshakeView::Finished(Encoded::known(parts)),
-            4 => HandshakeView::NewSessionTicket(Encoded::known(parts)),
-            24 => HandshakeView::KeyUpdate(Encoded::known(parts)),
+            1 => HandshakeView::ClientHello(Encoded::from_proved(parts)),
+            2 => HandshakeView::ServerHello(Encoded::from_proved(parts)),
+            5 => HandshakeView::EndOfEarlyData(Encoded::from_proved(parts)),
+            8 => HandshakeView::EncryptedExtensions(Encoded::from_proved(parts)),
+            13 => HandshakeView::CertificateRequest(Encoded::from_proved(parts)),
+            11 => HandshakeView::Certificate(Encoded::from_proved(parts)),
+            15 => HandshakeView::CertificateVerify(Encoded::from_proved(parts)),
+            20 => HandshakeView::Finished(Encoded::from_proved(parts)),
+            4 => HandshakeView::NewSessionTicket(Encoded::from_proved(parts)),
+            24 => HandshakeView::KeyUpdate(Encoded::from_proved(parts)),
             _ => unreachable!(),
         }
     }

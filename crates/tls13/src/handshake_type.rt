@@ -18,7 +18,7 @@ use tls_codec_cases::Selector;
 use tls_codec_validate::{
     Keyed, Rejected, TagFirst, TagKeyed, Validate, ValidateKeyed, split_u8, validate_tag_first,
 };
-use tls_codec_views::{Encoded, Numbered, Told};
+use tls_codec_views::{Encoded, Numbered, ReadInPlace};
 
 /// `HandshakeType` (RFC 8446, appendix B.3).
 #[derive(PartialEq, Eq, PartialOrd, Ord, Hash, Debug, Clone, Copy)]
@@ -267,8 +267,8 @@ impl Numbered for HandshakeType {
     ghost as_values = { λ bytes is. is };
 }
 
-impl Told for HandshakeType {
-    fn told(encoded: &Encoded<'_, HandshakeType>) -> HandshakeType {
+impl ReadInPlace for HandshakeType {
+    fn read(encoded: &Encoded<'_, HandshakeType>) -> HandshakeType {
         match encoded.number() {
             0 => HandshakeType::HelloRequestReserved,
             1 => HandshakeType::ClientHello,
@@ -316,11 +316,11 @@ impl TagFirst for HandshakeType {
 
     ghost variants = { values handshake_type_has };
 
-    ghost told = { handshake_type_selected };
+    ghost first_tag = { handshake_type_selected };
 
     ghost is_tagged = { λ d bytes v spelled. spelled };
 
-    ghost is_told = { λ d bytes tag parts spelled. refl };
+    ghost is_first_tag = { λ d bytes tag parts spelled. refl };
 }
 
 impl ValidateKeyed for HandshakeType {

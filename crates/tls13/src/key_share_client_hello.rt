@@ -8,6 +8,7 @@ use std::alloc::Global;
 use tls_codec::{Deserialize, DeserializeBytes, Error, Serialize, Sink, Size, Source, TlsVecU16};
 use tls_codec_cases::append_as;
 use tls_codec_validate::{Rejected, Validate};
+use tls_codec_views::{Encoded, Parted};
 
 /// `KeyShareClientHello` (RFC 8446, appendix B.3.1).
 #[derive(PartialEq, Eq, Debug, Clone, Drop)]
@@ -73,6 +74,28 @@ impl Validate for KeyShareClientHello {
 
     fn tls_width() -> Option<usize> {
         <TlsVecU16<KeyShareEntry>>::tls_width()
+    }
+}
+
+impl Parted for KeyShareClientHello {
+    type Parts = Box<TlsVecU16<KeyShareEntry>>;
+
+    ghost as_parts = { λ bytes is. is };
+}
+
+/// The encoding of a [`KeyShareClientHello`], split into its fields.
+#[derive(Drop)]
+pub struct KeyShareClientHelloView<'a> {
+    /// `KeyShareEntry client_shares<0..2^16-1>;`
+    pub client_shares: Encoded<'a, TlsVecU16<KeyShareEntry>>,
+}
+
+impl<'a> From<Encoded<'a, KeyShareClientHello>> for KeyShareClientHelloView<'a> {
+    ghost from_gives = { λ whole view. whole ≡ view.client_shares };
+
+    fn from(whole: Encoded<'a, KeyShareClientHello>) -> KeyShareClientHelloView<'a> {
+        let client_shares = whole.parts().payload();
+        KeyShareClientHelloView { client_shares }
     }
 }
 

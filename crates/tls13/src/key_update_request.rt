@@ -14,7 +14,7 @@ use tls_codec::{
     Deserialize, DeserializeBytes, Error, Serialize, Sink, Size, Source, unknown_value,
 };
 use tls_codec_validate::{Rejected, Validate, split_u8};
-use tls_codec_views::{Encoded, Numbered, Told};
+use tls_codec_views::{Encoded, Numbered, ReadInPlace};
 
 /// `KeyUpdateRequest` (RFC 8446, appendix B.3.5).
 #[derive(PartialEq, Eq, PartialOrd, Ord, Hash, Debug, Clone, Copy)]
@@ -167,8 +167,8 @@ impl Numbered for KeyUpdateRequest {
     ghost as_values = { λ bytes is. is };
 }
 
-impl Told for KeyUpdateRequest {
-    fn told(encoded: &Encoded<'_, KeyUpdateRequest>) -> KeyUpdateRequest {
+impl ReadInPlace for KeyUpdateRequest {
+    fn read(encoded: &Encoded<'_, KeyUpdateRequest>) -> KeyUpdateRequest {
         match encoded.number() {
             0 => KeyUpdateRequest::UpdateNotRequested,
             1 => KeyUpdateRequest::UpdateRequested,

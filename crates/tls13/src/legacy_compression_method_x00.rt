@@ -14,7 +14,7 @@ use tls_codec::{
     Deserialize, DeserializeBytes, Error, Serialize, Sink, Size, Source, unknown_value,
 };
 use tls_codec_validate::{Rejected, Validate, split_u8};
-use tls_codec_views::{Encoded, Numbered, Told};
+use tls_codec_views::{Encoded, Numbered, ReadInPlace};
 
 /// `LegacyCompressionMethodX00`.
 #[derive(PartialEq, Eq, PartialOrd, Ord, Hash, Debug, Clone, Copy)]
@@ -161,8 +161,8 @@ impl Numbered for LegacyCompressionMethodX00 {
     ghost as_values = { λ bytes is. is };
 }
 
-impl Told for LegacyCompressionMethodX00 {
-    fn told(encoded: &Encoded<'_, LegacyCompressionMethodX00>) -> LegacyCompressionMethodX00 {
+impl ReadInPlace for LegacyCompressionMethodX00 {
+    fn read(encoded: &Encoded<'_, LegacyCompressionMethodX00>) -> LegacyCompressionMethodX00 {
         match encoded.number() {
             0 => LegacyCompressionMethodX00::X00,
             _ => unreachable!(),

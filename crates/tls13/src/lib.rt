@@ -1,4 +1,4 @@
-//! Messages, written by `tlsgen`.
+//! Messages of TLS 1.3 (RFC 8446, appendix B, but for B.4), as printed. Written by `tlsgen`.
 #![tactic(auto)]
 
 pub mod alert;
@@ -66,13 +66,13 @@ pub use content_type_application_data::ContentTypeApplicationData;
 pub use cookie::{Cookie, CookieView};
 pub use early_data_indication::EarlyDataIndication;
 pub use empty_type::EmptyType;
-pub use encrypted_extensions::EncryptedExtensions;
+pub use encrypted_extensions::{EncryptedExtensions, EncryptedExtensionsView};
 pub use end_of_early_data::EndOfEarlyData;
 pub use extension::{Extension, ExtensionView};
 pub use extension_type::ExtensionType;
 pub use handshake::{Handshake, HandshakeView};
 pub use handshake_type::HandshakeType;
-pub use key_share_client_hello::KeyShareClientHello;
+pub use key_share_client_hello::{KeyShareClientHello, KeyShareClientHelloView};
 pub use key_share_entry::{KeyShareEntry, KeyShareEntryView};
 pub use key_share_hello_retry_request::{KeyShareHelloRetryRequest, KeyShareHelloRetryRequestView};
 pub use key_share_server_hello::{KeyShareServerHello, KeyShareServerHelloView};
@@ -80,23 +80,23 @@ pub use key_update::{KeyUpdate, KeyUpdateView};
 pub use key_update_request::KeyUpdateRequest;
 pub use legacy_compression_method_x00::LegacyCompressionMethodX00;
 pub use named_group::NamedGroup;
-pub use named_group_list::NamedGroupList;
+pub use named_group_list::{NamedGroupList, NamedGroupListView};
 pub use names::{
     CipherSuite, DistinguishedName, ProtocolVersion, PskBinderEntry, Random, TLSInnerPlaintext,
 };
 pub use new_session_ticket::{NewSessionTicket, NewSessionTicketView};
 pub use offered_psks::{OfferedPsks, OfferedPsksView};
 pub use oid_filter::{OIDFilter, OIDFilterView};
-pub use oid_filter_extension::OIDFilterExtension;
+pub use oid_filter_extension::{OIDFilterExtension, OIDFilterExtensionView};
 pub use post_handshake_auth::PostHandshakeAuth;
 pub use pre_shared_key_extension::PreSharedKeyExtension;
 pub use protocol_version_x0303::ProtocolVersionX0303;
 pub use psk_identity::{PskIdentity, PskIdentityView};
 pub use psk_key_exchange_mode::PskKeyExchangeMode;
-pub use psk_key_exchange_modes::PskKeyExchangeModes;
+pub use psk_key_exchange_modes::{PskKeyExchangeModes, PskKeyExchangeModesView};
 pub use server_hello::{ServerHello, ServerHelloView};
 pub use signature_scheme::SignatureScheme;
-pub use signature_scheme_list::SignatureSchemeList;
+pub use signature_scheme_list::{SignatureSchemeList, SignatureSchemeListView};
 pub use supported_versions::SupportedVersions;
 pub use tls_ciphertext::{TLSCiphertext, TLSCiphertextView};
 pub use tls_plaintext::{TLSPlaintext, TLSPlaintextView};

@@ -9,7 +9,7 @@ use std::alloc::Global;
 use std::fmt;
 use tls_codec::{Deserialize, DeserializeBytes, Error, Serialize, Sink, Size, Source};
 use tls_codec_validate::{Rejected, Validate};
-use tls_codec_views::{Encoded, Parted, Told};
+use tls_codec_views::{Encoded, Parted, ReadInPlace};
 
 /// `NamedGroup` (RFC 8446, appendix B.3.1.4).
 #[derive(PartialEq, Eq, PartialOrd, Ord, Hash, Debug, Clone, Copy)]
@@ -164,8 +164,8 @@ impl Parted for NamedGroup {
     ghost as_parts = { λ bytes is. is };
 }
 
-impl Told for NamedGroup {
-    fn told(encoded: &Encoded<'_, NamedGroup>) -> NamedGroup {
+impl ReadInPlace for NamedGroup {
+    fn read(encoded: &Encoded<'_, NamedGroup>) -> NamedGroup {
         NamedGroup(encoded.parts().get())
     }
 }

@@ -10,6 +10,7 @@ use tls_codec::{
 };
 use tls_codec_cases::append_as;
 use tls_codec_validate::{Rejected, Validate};
+use tls_codec_views::{Encoded, Parted};
 
 /// `NamedGroupList` (RFC 8446, appendix B.3.1.4).
 #[derive(PartialEq, Eq, Debug, Clone, Drop)]
@@ -72,6 +73,28 @@ impl Validate for NamedGroupList {
 
     fn tls_width() -> Option<usize> {
         <Parts>::tls_width()
+    }
+}
+
+impl Parted for NamedGroupList {
+    type Parts = Box<Parts>;
+
+    ghost as_parts = { λ bytes is. is };
+}
+
+/// The encoding of a [`NamedGroupList`], split into its fields.
+#[derive(Drop)]
+pub struct NamedGroupListView<'a> {
+    /// `NamedGroup named_group_list<2..2^16-1>;`
+    pub named_group_list: Encoded<'a, TlsVec<Within<u16, 2, 65535>, NamedGroup>>,
+}
+
+impl<'a> From<Encoded<'a, NamedGroupList>> for NamedGroupListView<'a> {
+    ghost from_gives = { λ whole view. whole ≡ view.named_group_list };
+
+    fn from(whole: Encoded<'a, NamedGroupList>) -> NamedGroupListView<'a> {
+        let named_group_list = whole.parts().payload();
+        NamedGroupListView { named_group_list }
     }
 }
 

@@ -8,6 +8,7 @@ use std::alloc::Global;
 use tls_codec::{Deserialize, DeserializeBytes, Error, Serialize, Sink, Size, Source, TlsVecU16};
 use tls_codec_cases::append_as;
 use tls_codec_validate::{Rejected, Validate};
+use tls_codec_views::{Encoded, Parted};
 
 /// `OIDFilterExtension` (RFC 8446, appendix B.3.2).
 #[derive(PartialEq, Eq, Debug, Clone, Drop)]
@@ -68,6 +69,28 @@ impl Validate for OIDFilterExtension {
 
     fn tls_width() -> Option<usize> {
         <TlsVecU16<OIDFilter>>::tls_width()
+    }
+}
+
+impl Parted for OIDFilterExtension {
+    type Parts = Box<TlsVecU16<OIDFilter>>;
+
+    ghost as_parts = { λ bytes is. is };
+}
+
+/// The encoding of a [`OIDFilterExtension`], split into its fields.
+#[derive(Drop)]
+pub struct OIDFilterExtensionView<'a> {
+    /// `OIDFilter filters<0..2^16-1>;`
+    pub filters: Encoded<'a, TlsVecU16<OIDFilter>>,
+}
+
+impl<'a> From<Encoded<'a, OIDFilterExtension>> for OIDFilterExtensionView<'a> {
+    ghost from_gives = { λ whole view. whole ≡ view.filters };
+
+    fn from(whole: Encoded<'a, OIDFilterExtension>) -> OIDFilterExtensionView<'a> {
+        let filters = whole.parts().payload();
+        OIDFilterExtensionView { filters }
     }
 }
 

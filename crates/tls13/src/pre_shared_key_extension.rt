@@ -1,6 +1,6 @@
 //! [`PreSharedKeyExtension`].
 ghost use Rattle.std.specs.Prelude.{◌≡◌, IsTrue};
-ghost use Rattle.tls13.specs.PreSharedKeyExtension.{pre_shared_key_extension_format_for, pre_shared_key_extension_meets_for, pre_shared_key_extension_plain, pre_shared_key_extension_tag};
+ghost use Rattle.tls13.specs.PreSharedKeyExtension.{pre_shared_key_extension_format_for, pre_shared_key_extension_meets_for, pre_shared_key_extension_plain, pre_shared_key_extension_tag, pre_shared_key_extension_variants};
 ghost use Rattle.tls13.specs.declared.pre_shared_key_extension.PreSharedKeyExtension.{PreSharedKeyExtension};
 
 use crate::{HandshakeType, OfferedPsks};
@@ -10,6 +10,7 @@ use tls_codec::{
 };
 use tls_codec_cases::{Case, Chosen, Or, append_as_for, write_as_for};
 use tls_codec_validate::{Rejected, ValidateFor};
+use tls_codec_views::ChoiceFor;
 
 /// `select (msg_type)` of `PreSharedKeyExtension` (RFC 8446, appendix B.3.1): its bytes
 /// don't have the tag.
@@ -117,6 +118,12 @@ impl ValidateFor<HandshakeType> for PreSharedKeyExtension {
     fn tls_validate_prefix_for<'a>(key: &u64, whole: &'a [u8]) -> Result<&'a [u8], Rejected<'a>> {
         <Cases as ValidateFor<HandshakeType>>::tls_validate_prefix_for(key, whole)
     }
+}
+
+impl ChoiceFor<HandshakeType> for PreSharedKeyExtension {
+    ghost variants = { pre_shared_key_extension_variants };
+
+    ghost as_choice = { λ c bytes is. is };
 }
 
 /// The case `client_hello` with this content.

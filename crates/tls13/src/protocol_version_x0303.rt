@@ -14,7 +14,7 @@ use tls_codec::{
     Deserialize, DeserializeBytes, Error, Serialize, Sink, Size, Source, unknown_value,
 };
 use tls_codec_validate::{Rejected, Validate, split_u16};
-use tls_codec_views::{Encoded, Numbered, Told};
+use tls_codec_views::{Encoded, Numbered, ReadInPlace};
 
 /// `ProtocolVersionX0303`.
 #[derive(PartialEq, Eq, PartialOrd, Ord, Hash, Debug, Clone, Copy)]
@@ -161,8 +161,8 @@ impl Numbered for ProtocolVersionX0303 {
     ghost as_values = { λ bytes is. is };
 }
 
-impl Told for ProtocolVersionX0303 {
-    fn told(encoded: &Encoded<'_, ProtocolVersionX0303>) -> ProtocolVersionX0303 {
+impl ReadInPlace for ProtocolVersionX0303 {
+    fn read(encoded: &Encoded<'_, ProtocolVersionX0303>) -> ProtocolVersionX0303 {
         match encoded.number() {
             771 => ProtocolVersionX0303::X0303,
             _ => unreachable!(),

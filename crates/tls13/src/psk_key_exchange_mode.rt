@@ -9,7 +9,7 @@ use std::alloc::Global;
 use std::fmt;
 use tls_codec::{Deserialize, DeserializeBytes, Error, Serialize, Sink, Size, Source};
 use tls_codec_validate::{Rejected, Validate};
-use tls_codec_views::{Encoded, Parted, Told};
+use tls_codec_views::{Encoded, Parted, ReadInPlace};
 
 /// `PskKeyExchangeMode` (RFC 8446, appendix B.3.1).
 #[derive(PartialEq, Eq, PartialOrd, Ord, Hash, Debug, Clone, Copy)]
@@ -131,8 +131,8 @@ impl Parted for PskKeyExchangeMode {
     ghost as_parts = { λ bytes is. is };
 }
 
-impl Told for PskKeyExchangeMode {
-    fn told(encoded: &Encoded<'_, PskKeyExchangeMode>) -> PskKeyExchangeMode {
+impl ReadInPlace for PskKeyExchangeMode {
+    fn read(encoded: &Encoded<'_, PskKeyExchangeMode>) -> PskKeyExchangeMode {
         PskKeyExchangeMode(encoded.parts().get())
     }
 }

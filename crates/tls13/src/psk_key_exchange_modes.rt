@@ -10,6 +10,7 @@ use tls_codec::{
 };
 use tls_codec_cases::append_as;
 use tls_codec_validate::{Rejected, Validate};
+use tls_codec_views::{Encoded, Parted};
 
 /// `PskKeyExchangeModes` (RFC 8446, appendix B.3.1).
 #[derive(PartialEq, Eq, Debug, Clone, Drop)]
@@ -75,6 +76,28 @@ impl Validate for PskKeyExchangeModes {
 
     fn tls_width() -> Option<usize> {
         <Parts>::tls_width()
+    }
+}
+
+impl Parted for PskKeyExchangeModes {
+    type Parts = Box<Parts>;
+
+    ghost as_parts = { λ bytes is. is };
+}
+
+/// The encoding of a [`PskKeyExchangeModes`], split into its fields.
+#[derive(Drop)]
+pub struct PskKeyExchangeModesView<'a> {
+    /// `PskKeyExchangeMode ke_modes<1..2^8-1>;`
+    pub ke_modes: Encoded<'a, TlsVec<Within<u8, 1, 255>, PskKeyExchangeMode>>,
+}
+
+impl<'a> From<Encoded<'a, PskKeyExchangeModes>> for PskKeyExchangeModesView<'a> {
+    ghost from_gives = { λ whole view. whole ≡ view.ke_modes };
+
+    fn from(whole: Encoded<'a, PskKeyExchangeModes>) -> PskKeyExchangeModesView<'a> {
+        let ke_modes = whole.parts().payload();
+        PskKeyExchangeModesView { ke_modes }
     }
 }
 

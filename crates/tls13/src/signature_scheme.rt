@@ -9,7 +9,7 @@ use std::alloc::Global;
 use std::fmt;
 use tls_codec::{Deserialize, DeserializeBytes, Error, Serialize, Sink, Size, Source};
 use tls_codec_validate::{Rejected, Validate};
-use tls_codec_views::{Encoded, Parted, Told};
+use tls_codec_views::{Encoded, Parted, ReadInPlace};
 
 /// `SignatureScheme` (RFC 8446, appendix B.3.1.3).
 #[derive(PartialEq, Eq, PartialOrd, Ord, Hash, Debug, Clone, Copy)]
@@ -208,8 +208,8 @@ impl Parted for SignatureScheme {
     ghost as_parts = { λ bytes is. is };
 }
 
-impl Told for SignatureScheme {
-    fn told(encoded: &Encoded<'_, SignatureScheme>) -> SignatureScheme {
+impl ReadInPlace for SignatureScheme {
+    fn read(encoded: &Encoded<'_, SignatureScheme>) -> SignatureScheme {
         SignatureScheme(encoded.parts().get())
     }
 }

@@ -10,6 +10,7 @@ use tls_codec::{
 };
 use tls_codec_cases::append_as;
 use tls_codec_validate::{Rejected, Validate};
+use tls_codec_views::{Encoded, Parted};
 
 /// `SignatureSchemeList` (RFC 8446, appendix B.3.1.3).
 #[derive(PartialEq, Eq, Debug, Clone, Drop)]
@@ -82,6 +83,30 @@ impl Validate for SignatureSchemeList {
 
     fn tls_width() -> Option<usize> {
         <Parts>::tls_width()
+    }
+}
+
+impl Parted for SignatureSchemeList {
+    type Parts = Box<Parts>;
+
+    ghost as_parts = { λ bytes is. is };
+}
+
+/// The encoding of a [`SignatureSchemeList`], split into its fields.
+#[derive(Drop)]
+pub struct SignatureSchemeListView<'a> {
+    /// `SignatureScheme supported_signature_algorithms<2..65534>;`
+    pub supported_signature_algorithms: Encoded<'a, TlsVec<Within<u16, 2, 65534>, SignatureScheme>>,
+}
+
+impl<'a> From<Encoded<'a, SignatureSchemeList>> for SignatureSchemeListView<'a> {
+    ghost from_gives = { λ whole view. whole ≡ view.supported_signature_algorithms };
+
+    fn from(whole: Encoded<'a, SignatureSchemeList>) -> SignatureSchemeListView<'a> {
+        let supported_signature_algorithms = whole.parts().payload();
+        SignatureSchemeListView {
+            supported_signature_algorithms,
+        }
     }
 }
 

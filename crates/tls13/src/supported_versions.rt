@@ -1,6 +1,6 @@
 //! [`SupportedVersions`].
 ghost use Rattle.std.specs.Prelude.{◌≡◌, IsTrue};
-ghost use Rattle.tls13.specs.SupportedVersions.{supported_versions_format_for, supported_versions_meets_for, supported_versions_plain, supported_versions_tag};
+ghost use Rattle.tls13.specs.SupportedVersions.{supported_versions_format_for, supported_versions_meets_for, supported_versions_plain, supported_versions_tag, supported_versions_variants};
 ghost use Rattle.tls13.specs.declared.supported_versions.SupportedVersions.{SupportedVersions};
 
 use crate::{HandshakeType, ProtocolVersion};
@@ -11,6 +11,7 @@ use tls_codec::{
 };
 use tls_codec_cases::{Case, Chosen, Or, append_as_for, write_as_for};
 use tls_codec_validate::{Rejected, ValidateFor};
+use tls_codec_views::ChoiceFor;
 
 /// `select (msg_type)` of `SupportedVersions` (RFC 8446, appendix B.3.1.1): its bytes don't
 /// have the tag.
@@ -123,6 +124,12 @@ impl ValidateFor<HandshakeType> for SupportedVersions {
     fn tls_validate_prefix_for<'a>(key: &u64, whole: &'a [u8]) -> Result<&'a [u8], Rejected<'a>> {
         <Cases as ValidateFor<HandshakeType>>::tls_validate_prefix_for(key, whole)
     }
+}
+
+impl ChoiceFor<HandshakeType> for SupportedVersions {
+    ghost variants = { supported_versions_variants };
+
+    ghost as_choice = { λ c bytes is. is };
 }
 
 /// The case `client_hello` with this content.

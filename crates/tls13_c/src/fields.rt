@@ -49,11 +49,11 @@ pub extern "C" fn tls13_handshake_locate(bytes: &[u8], fields: &mut HandshakeFie
     ensures fields { result.status ≡ 0 → AreHandshakeFields bytes.now fields.new }
     ensures kept { result.status ≢ 0 → fields.new ≡ fields.old }
 {
-    let said = validate::<Handshake>(bytes);
-    if said.status == ACCEPTED {
-        *fields = HandshakeFields::of(bytes);
+    let outcome = validate::<Handshake>(bytes);
+    if outcome.status == ACCEPTED {
+        *fields = HandshakeFields::locate(bytes);
     }
-    said
+    outcome
 }
 
 /// `ClientHello` (RFC 8446, section 4.1.2), and where its fields are.
@@ -66,11 +66,11 @@ pub extern "C" fn tls13_client_hello_locate(bytes: &[u8], fields: &mut ClientHel
     ensures fields { result.status ≡ 0 → AreClientHelloFields bytes.now fields.new }
     ensures kept { result.status ≢ 0 → fields.new ≡ fields.old }
 {
-    let said = validate::<ClientHello>(bytes);
-    if said.status == ACCEPTED {
-        *fields = ClientHelloFields::of(bytes);
+    let outcome = validate::<ClientHello>(bytes);
+    if outcome.status == ACCEPTED {
+        *fields = ClientHelloFields::locate(bytes);
     }
-    said
+    outcome
 }
 
 /// `ServerHello` (RFC 8446, section 4.1.3), and where its fields are.
@@ -83,11 +83,11 @@ pub extern "C" fn tls13_server_hello_locate(bytes: &[u8], fields: &mut ServerHel
     ensures fields { result.status ≡ 0 → AreServerHelloFields bytes.now fields.new }
     ensures kept { result.status ≢ 0 → fields.new ≡ fields.old }
 {
-    let said = validate::<ServerHello>(bytes);
-    if said.status == ACCEPTED {
-        *fields = ServerHelloFields::of(bytes);
+    let outcome = validate::<ServerHello>(bytes);
+    if outcome.status == ACCEPTED {
+        *fields = ServerHelloFields::locate(bytes);
     }
-    said
+    outcome
 }
 
 /// `EncryptedExtensions` (RFC 8446, section 4.3.1), and where its fields are.
@@ -104,11 +104,11 @@ pub extern "C" fn tls13_encrypted_extensions_locate(
     ensures fields { result.status ≡ 0 → AreEncryptedExtensionsFields bytes.now fields.new }
     ensures kept { result.status ≢ 0 → fields.new ≡ fields.old }
 {
-    let said = validate::<EncryptedExtensions>(bytes);
-    if said.status == ACCEPTED {
-        *fields = EncryptedExtensionsFields::of(bytes);
+    let outcome = validate::<EncryptedExtensions>(bytes);
+    if outcome.status == ACCEPTED {
+        *fields = EncryptedExtensionsFields::locate(bytes);
     }
-    said
+    outcome
 }
 
 /// `CertificateRequest` (RFC 8446, section 4.3.2), and where its fields are.
@@ -125,11 +125,11 @@ pub extern "C" fn tls13_certificate_request_locate(
     ensures fields { result.status ≡ 0 → AreCertificateRequestFields bytes.now fields.new }
     ensures kept { result.status ≢ 0 → fields.new ≡ fields.old }
 {
-    let said = validate::<CertificateRequest>(bytes);
-    if said.status == ACCEPTED {
-        *fields = CertificateRequestFields::of(bytes);
+    let outcome = validate::<CertificateRequest>(bytes);
+    if outcome.status == ACCEPTED {
+        *fields = CertificateRequestFields::locate(bytes);
     }
-    said
+    outcome
 }
 
 /// `Certificate` (RFC 8446, section 4.4.2), and where its fields are.
@@ -142,11 +142,11 @@ pub extern "C" fn tls13_certificate_locate(bytes: &[u8], fields: &mut Certificat
     ensures fields { result.status ≡ 0 → AreCertificateFields bytes.now fields.new }
     ensures kept { result.status ≢ 0 → fields.new ≡ fields.old }
 {
-    let said = validate::<Certificate>(bytes);
-    if said.status == ACCEPTED {
-        *fields = CertificateFields::of(bytes);
+    let outcome = validate::<Certificate>(bytes);
+    if outcome.status == ACCEPTED {
+        *fields = CertificateFields::locate(bytes);
     }
-    said
+    outcome
 }
 
 /// `CertificateVerify` (RFC 8446, section 4.4.3), and where its fields are.
@@ -162,11 +162,11 @@ pub extern "C" fn tls13_certificate_verify_locate(
     ensures fields { result.status ≡ 0 → AreCertificateVerifyFields bytes.now fields.new }
     ensures kept { result.status ≢ 0 → fields.new ≡ fields.old }
 {
-    let said = validate::<CertificateVerify>(bytes);
-    if said.status == ACCEPTED {
-        *fields = CertificateVerifyFields::of(bytes);
+    let outcome = validate::<CertificateVerify>(bytes);
+    if outcome.status == ACCEPTED {
+        *fields = CertificateVerifyFields::locate(bytes);
     }
-    said
+    outcome
 }
 
 /// `NewSessionTicket` (RFC 8446, section 4.6.1), and where its fields are.
@@ -182,11 +182,11 @@ pub extern "C" fn tls13_new_session_ticket_locate(
     ensures fields { result.status ≡ 0 → AreNewSessionTicketFields bytes.now fields.new }
     ensures kept { result.status ≢ 0 → fields.new ≡ fields.old }
 {
-    let said = validate::<NewSessionTicket>(bytes);
-    if said.status == ACCEPTED {
-        *fields = NewSessionTicketFields::of(bytes);
+    let outcome = validate::<NewSessionTicket>(bytes);
+    if outcome.status == ACCEPTED {
+        *fields = NewSessionTicketFields::locate(bytes);
     }
-    said
+    outcome
 }
 
 /// `KeyUpdate` (RFC 8446, section 4.6.3), and where its fields are.
@@ -199,11 +199,11 @@ pub extern "C" fn tls13_key_update_locate(bytes: &[u8], fields: &mut KeyUpdateFi
     ensures fields { result.status ≡ 0 → AreKeyUpdateFields bytes.now fields.new }
     ensures kept { result.status ≢ 0 → fields.new ≡ fields.old }
 {
-    let said = validate::<KeyUpdate>(bytes);
-    if said.status == ACCEPTED {
-        *fields = KeyUpdateFields::of(bytes);
+    let outcome = validate::<KeyUpdate>(bytes);
+    if outcome.status == ACCEPTED {
+        *fields = KeyUpdateFields::locate(bytes);
     }
-    said
+    outcome
 }
 
 /// `TLSPlaintext` (RFC 8446, section 5.1), and where its fields are.
@@ -219,11 +219,11 @@ pub extern "C" fn tls13_tls_plaintext_locate(
     ensures fields { result.status ≡ 0 → AreTLSPlaintextFields bytes.now fields.new }
     ensures kept { result.status ≢ 0 → fields.new ≡ fields.old }
 {
-    let said = validate::<TLSPlaintext>(bytes);
-    if said.status == ACCEPTED {
-        *fields = TLSPlaintextFields::of(bytes);
+    let outcome = validate::<TLSPlaintext>(bytes);
+    if outcome.status == ACCEPTED {
+        *fields = TLSPlaintextFields::locate(bytes);
     }
-    said
+    outcome
 }
 
 /// `TLSCiphertext` (RFC 8446, section 5.2), and where its fields are.
@@ -239,11 +239,11 @@ pub extern "C" fn tls13_tls_ciphertext_locate(
     ensures fields { result.status ≡ 0 → AreTLSCiphertextFields bytes.now fields.new }
     ensures kept { result.status ≢ 0 → fields.new ≡ fields.old }
 {
-    let said = validate::<TLSCiphertext>(bytes);
-    if said.status == ACCEPTED {
-        *fields = TLSCiphertextFields::of(bytes);
+    let outcome = validate::<TLSCiphertext>(bytes);
+    if outcome.status == ACCEPTED {
+        *fields = TLSCiphertextFields::locate(bytes);
     }
-    said
+    outcome
 }
 
 /// `Alert` (RFC 8446, section 6), and where its fields are.
@@ -256,9 +256,9 @@ pub extern "C" fn tls13_alert_locate(bytes: &[u8], fields: &mut AlertFields) -> 
     ensures fields { result.status ≡ 0 → AreAlertFields bytes.now fields.new }
     ensures kept { result.status ≢ 0 → fields.new ≡ fields.old }
 {
-    let said = validate::<Alert>(bytes);
-    if said.status == ACCEPTED {
-        *fields = AlertFields::of(bytes);
+    let outcome = validate::<Alert>(bytes);
+    if outcome.status == ACCEPTED {
+        *fields = AlertFields::locate(bytes);
     }
-    said
+    outcome
 }

@@ -3,7 +3,7 @@ ghost use Rattle.tls13.specs.Alert.{alert_format};
 ghost use Rattle.tls_codec_outcome.specs.Fields.{Located};
 ghost use Rattle.tls13_fields.specs.AlertFields.{AreAlertFields};
 
-use tls_codec_outcome::{Locate, Span, Whole};
+use tls_codec_outcome::{Field, Locate, Span};
 use tls13::{AlertDescription, AlertLevel};
 
 /// Where the fields of an `Alert` are (RFC 8446, section 6).
@@ -16,12 +16,12 @@ pub struct AlertFields {
     pub description: Span,
 }
 
-type Parts = (Whole<AlertLevel>, Whole<AlertDescription>);
+type Parts = (Field<AlertLevel>, Field<AlertDescription>);
 
 impl AlertFields {
     /// The fields of the message that the bytes begin with. If they begin with none, the spans mean
     /// nothing.
-    pub fn of(bytes: &[u8]) -> AlertFields
+    pub fn locate(bytes: &[u8]) -> AlertFields
         ensures { Located alert_format AreAlertFields bytes.now result }
     {
         let ((level, description), _) = <Parts>::locate(bytes, 0);

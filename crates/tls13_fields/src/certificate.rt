@@ -4,7 +4,7 @@ ghost use Rattle.tls_codec_outcome.specs.Fields.{Located};
 ghost use Rattle.tls13_fields.specs.CertificateFields.{AreCertificateFields};
 
 use tls_codec::TlsVecU24;
-use tls_codec_outcome::{Content, Locate, Span, Whole};
+use tls_codec_outcome::{Content, Field, Locate, Span};
 use tls13::CertificateEntry;
 
 /// Where the fields of a `Certificate` are (RFC 8446, section 4.4.2). A span of `opaque` has the bytes
@@ -18,12 +18,12 @@ pub struct CertificateFields {
     pub certificate_list: Span,
 }
 
-type Parts = (Content<u8>, Whole<TlsVecU24<CertificateEntry>>);
+type Parts = (Content<u8>, Field<TlsVecU24<CertificateEntry>>);
 
 impl CertificateFields {
     /// The fields of the message that the bytes begin with. If they begin with none, the spans mean
     /// nothing.
-    pub fn of(bytes: &[u8]) -> CertificateFields
+    pub fn locate(bytes: &[u8]) -> CertificateFields
         ensures { Located certificate_format AreCertificateFields bytes.now result }
     {
         let ((certificate_request_context, certificate_list), _) = <Parts>::locate(bytes, 0);

@@ -4,7 +4,7 @@ ghost use Rattle.tls_codec_outcome.specs.Fields.{Located};
 ghost use Rattle.tls13_fields.specs.CertificateRequestFields.{AreCertificateRequestFields};
 
 use tls_codec::{TlsVec, Within};
-use tls_codec_outcome::{Content, Locate, Span, Whole};
+use tls_codec_outcome::{Content, Field, Locate, Span};
 use tls13::Extension;
 
 /// Where the fields of a `CertificateRequest` are (RFC 8446, section 4.3.2). A span of `opaque` has the bytes
@@ -18,12 +18,12 @@ pub struct CertificateRequestFields {
     pub extensions: Span,
 }
 
-type Parts = (Content<u8>, Whole<TlsVec<Within<u16, 2, 65535>, Extension>>);
+type Parts = (Content<u8>, Field<TlsVec<Within<u16, 2, 65535>, Extension>>);
 
 impl CertificateRequestFields {
     /// The fields of the message that the bytes begin with. If they begin with none, the spans mean
     /// nothing.
-    pub fn of(bytes: &[u8]) -> CertificateRequestFields
+    pub fn locate(bytes: &[u8]) -> CertificateRequestFields
         ensures { Located certificate_request_format AreCertificateRequestFields bytes.now result }
     {
         let ((certificate_request_context, extensions), _) = <Parts>::locate(bytes, 0);

@@ -4,7 +4,7 @@ ghost use Rattle.tls_codec_outcome.specs.Fields.{Located};
 ghost use Rattle.tls13_fields.specs.ClientHelloFields.{AreClientHelloFields};
 
 use tls_codec::{TlsVec, Within};
-use tls_codec_outcome::{Content, Locate, Span, Whole};
+use tls_codec_outcome::{Content, Field, Locate, Span};
 use tls13::{CipherSuite, Extension, ProtocolVersionX0303, Random};
 
 /// Where the fields of a `ClientHello` are (RFC 8446, section 4.1.2). A span of `opaque` has the bytes
@@ -28,21 +28,21 @@ pub struct ClientHelloFields {
 
 type Parts = (
     (
-        Whole<ProtocolVersionX0303>,
-        Whole<Random>,
+        Field<ProtocolVersionX0303>,
+        Field<Random>,
         Content<Within<u8, 0, 32>>,
     ),
     (
-        Whole<TlsVec<Within<u16, 2, 65534>, CipherSuite>>,
+        Field<TlsVec<Within<u16, 2, 65534>, CipherSuite>>,
         Content<Within<u8, 1, 255>>,
-        Whole<TlsVec<Within<u16, 8, 65535>, Extension>>,
+        Field<TlsVec<Within<u16, 8, 65535>, Extension>>,
     ),
 );
 
 impl ClientHelloFields {
     /// The fields of the message that the bytes begin with. If they begin with none, the spans mean
     /// nothing.
-    pub fn of(bytes: &[u8]) -> ClientHelloFields
+    pub fn locate(bytes: &[u8]) -> ClientHelloFields
         ensures { Located client_hello_format AreClientHelloFields bytes.now result }
     {
         let (

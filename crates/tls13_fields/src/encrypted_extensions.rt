@@ -4,7 +4,7 @@ ghost use Rattle.tls_codec_outcome.specs.Fields.{Located};
 ghost use Rattle.tls13_fields.specs.EncryptedExtensionsFields.{AreEncryptedExtensionsFields};
 
 use tls_codec::TlsVecU16;
-use tls_codec_outcome::{Locate, Span, Whole};
+use tls_codec_outcome::{Field, Locate, Span};
 use tls13::Extension;
 
 /// Where the fields of an `EncryptedExtensions` are (RFC 8446, section 4.3.1).
@@ -15,12 +15,12 @@ pub struct EncryptedExtensionsFields {
     pub extensions: Span,
 }
 
-type Parts = Whole<TlsVecU16<Extension>>;
+type Parts = Field<TlsVecU16<Extension>>;
 
 impl EncryptedExtensionsFields {
     /// The fields of the message that the bytes begin with. If they begin with none, the spans mean
     /// nothing.
-    pub fn of(bytes: &[u8]) -> EncryptedExtensionsFields
+    pub fn locate(bytes: &[u8]) -> EncryptedExtensionsFields
         ensures { Located encrypted_extensions_format AreEncryptedExtensionsFields
             bytes.now result }
     {

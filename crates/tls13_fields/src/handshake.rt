@@ -23,7 +23,7 @@ impl TaggedEnum for Cases {
 
     const TAG_LEN: usize = 1;
 
-    type Whole = Handshake;
+    type Enum = Handshake;
 
     ghost variants = { handshake_variants };
 
@@ -35,7 +35,7 @@ impl TaggedEnum for Cases {
 impl HandshakeFields {
     /// The fields of the message that the bytes begin with. If they begin with none, the spans mean
     /// nothing.
-    pub fn of(bytes: &[u8]) -> HandshakeFields
+    pub fn locate(bytes: &[u8]) -> HandshakeFields
         ensures { Located handshake_format AreHandshakeFields bytes.now result }
     {
         let ((msg_type, body), _) = <TagAndBody<Cases>>::locate(bytes, 0);

@@ -4,7 +4,7 @@ ghost use Rattle.tls_codec_outcome.specs.Fields.{Located};
 ghost use Rattle.tls13_fields.specs.NewSessionTicketFields.{AreNewSessionTicketFields};
 
 use tls_codec::{TlsVec, Within};
-use tls_codec_outcome::{Content, Locate, Span, Whole};
+use tls_codec_outcome::{Content, Field, Locate, Span};
 use tls13::Extension;
 
 /// Where the fields of a `NewSessionTicket` are (RFC 8446, section 4.6.1). A span of `opaque` has the bytes
@@ -25,17 +25,17 @@ pub struct NewSessionTicketFields {
 }
 
 type Parts = (
-    (Whole<u32>, Whole<u32>, Content<u8>),
+    (Field<u32>, Field<u32>, Content<u8>),
     (
         Content<Within<u16, 1, 65535>>,
-        Whole<TlsVec<Within<u16, 0, 65534>, Extension>>,
+        Field<TlsVec<Within<u16, 0, 65534>, Extension>>,
     ),
 );
 
 impl NewSessionTicketFields {
     /// The fields of the message that the bytes begin with. If they begin with none, the spans mean
     /// nothing.
-    pub fn of(bytes: &[u8]) -> NewSessionTicketFields
+    pub fn locate(bytes: &[u8]) -> NewSessionTicketFields
         ensures { Located new_session_ticket_format AreNewSessionTicketFields bytes.now result }
     {
         let (((ticket_lifetime, ticket_age_add, ticket_nonce), (ticket, extensions)), _) =

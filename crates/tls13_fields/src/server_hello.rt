@@ -4,7 +4,7 @@ ghost use Rattle.tls_codec_outcome.specs.Fields.{Located};
 ghost use Rattle.tls13_fields.specs.ServerHelloFields.{AreServerHelloFields};
 
 use tls_codec::{TlsVec, Within};
-use tls_codec_outcome::{Content, Locate, Span, Whole};
+use tls_codec_outcome::{Content, Field, Locate, Span};
 use tls13::{CipherSuite, Extension, LegacyCompressionMethodX00, ProtocolVersionX0303, Random};
 
 /// Where the fields of a `ServerHello` are (RFC 8446, section 4.1.3). A span of `opaque` has the bytes
@@ -28,21 +28,21 @@ pub struct ServerHelloFields {
 
 type Parts = (
     (
-        Whole<ProtocolVersionX0303>,
-        Whole<Random>,
+        Field<ProtocolVersionX0303>,
+        Field<Random>,
         Content<Within<u8, 0, 32>>,
     ),
     (
-        Whole<CipherSuite>,
-        Whole<LegacyCompressionMethodX00>,
-        Whole<TlsVec<Within<u16, 6, 65535>, Extension>>,
+        Field<CipherSuite>,
+        Field<LegacyCompressionMethodX00>,
+        Field<TlsVec<Within<u16, 6, 65535>, Extension>>,
     ),
 );
 
 impl ServerHelloFields {
     /// The fields of the message that the bytes begin with. If they begin with none, the spans mean
     /// nothing.
-    pub fn of(bytes: &[u8]) -> ServerHelloFields
+    pub fn locate(bytes: &[u8]) -> ServerHelloFields
         ensures { Located server_hello_format AreServerHelloFields bytes.now result }
     {
         let (

@@ -3,7 +3,7 @@ ghost use Rattle.tls13.specs.TLSCiphertext.{tls_ciphertext_format};
 ghost use Rattle.tls_codec_outcome.specs.Fields.{Located};
 ghost use Rattle.tls13_fields.specs.TLSCiphertextFields.{AreTLSCiphertextFields};
 
-use tls_codec_outcome::{Content, Locate, Span, Whole};
+use tls_codec_outcome::{Content, Field, Locate, Span};
 use tls13::{ContentTypeApplicationData, ProtocolVersionX0303};
 
 /// Where the fields of a `TLSCiphertext` are (RFC 8446, section 5.2). A span of `opaque` has the bytes
@@ -20,15 +20,15 @@ pub struct TLSCiphertextFields {
 }
 
 type Parts = (
-    Whole<ContentTypeApplicationData>,
-    Whole<ProtocolVersionX0303>,
+    Field<ContentTypeApplicationData>,
+    Field<ProtocolVersionX0303>,
     Content<u16>,
 );
 
 impl TLSCiphertextFields {
     /// The fields of the message that the bytes begin with. If they begin with none, the spans mean
     /// nothing.
-    pub fn of(bytes: &[u8]) -> TLSCiphertextFields
+    pub fn locate(bytes: &[u8]) -> TLSCiphertextFields
         ensures { Located tls_ciphertext_format AreTLSCiphertextFields bytes.now result }
     {
         let ((opaque_type, legacy_record_version, encrypted_record), _) = <Parts>::locate(bytes, 0);

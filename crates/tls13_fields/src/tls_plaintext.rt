@@ -3,7 +3,7 @@ ghost use Rattle.tls13.specs.TLSPlaintext.{tls_plaintext_format};
 ghost use Rattle.tls_codec_outcome.specs.Fields.{Located};
 ghost use Rattle.tls13_fields.specs.TLSPlaintextFields.{AreTLSPlaintextFields};
 
-use tls_codec_outcome::{Content, Locate, Span, Whole};
+use tls_codec_outcome::{Content, Field, Locate, Span};
 use tls13::{ContentType, ProtocolVersion};
 
 /// Where the fields of a `TLSPlaintext` are (RFC 8446, section 5.1). A span of `opaque` has the bytes
@@ -19,12 +19,12 @@ pub struct TLSPlaintextFields {
     pub fragment: Span,
 }
 
-type Parts = (Whole<ContentType>, Whole<ProtocolVersion>, Content<u16>);
+type Parts = (Field<ContentType>, Field<ProtocolVersion>, Content<u16>);
 
 impl TLSPlaintextFields {
     /// The fields of the message that the bytes begin with. If they begin with none, the spans mean
     /// nothing.
-    pub fn of(bytes: &[u8]) -> TLSPlaintextFields
+    pub fn locate(bytes: &[u8]) -> TLSPlaintextFields
         ensures { Located tls_plaintext_format AreTLSPlaintextFields bytes.now result }
     {
         let ((kind, legacy_record_version, fragment), _) = <Parts>::locate(bytes, 0);

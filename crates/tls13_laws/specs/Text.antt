@@ -5,7 +5,7 @@ use Rattle.tls13_laws.specs.TextBehind.{text_behind}
 
 abbrev pub text : List ℕ
 text = lines (
-    "// RFC 8446, appendix B, as it is printed, but for B.4 (tls13.notes has what the RFC says in prose). It was written down from memory." ∷
+    "// Messages of TLS 1.3 (RFC 8446, appendix B, but for B.4), as printed. tls13.notes has what the RFC says in prose. It was written down from memory." ∷
     "" ∷
     "// ---- appendix B.1, Record Layer" ∷
     "" ∷

@@ -3,5 +3,5 @@
 pub use Rattle.tls_codec_wire.specs.declared.device.Sink.{Ghosts as SinkGhosts}
 pub use Rattle.tls_codec_wire.specs.declared.device.Source.{Ghosts as SourceGhosts}
 pub use Rattle.tls_codec_wire.specs.declared.error.Error.{Error}
-pub use Rattle.tls_codec_grammar.specs.Decoding.{LeavesSource, Named, Reads, ReadsWhole, Splits}
+pub use Rattle.tls_codec_grammar.specs.Decoding.{Named, Reads, ReadsWhole, RefusesFromSource, Splits}
 pub use Rattle.tls_codec_grammar.specs.Encoding.{AppendsForm, Makes, Writes}

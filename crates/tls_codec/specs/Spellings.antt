@@ -3,4 +3,4 @@
 pub use Rattle.tls_codec_grammar.specs.Grammar.{Direction, Reading, Writing, Grammar, number, varint, array, option, nothing, fields, pair, triple, list, fixed_list, bytes, text}
 pub use Rattle.tls_codec_grammar.specs.Shortest.{HasNoSpelling, IsFull, IsHollow, IsShortest}
 pub use Rattle.tls_codec_grammar.specs.Lawful.{IsLawful}
-pub use Rattle.tls_codec_grammar.specs.Decoding.{Begins, ComesFirst, GaveSpelling, LeavesBytes, NoneBegins, NoneSpelled, Refuses, RefusesSource, RefusesWhole}
+pub use Rattle.tls_codec_grammar.specs.Decoding.{Begins, ComesFirst, GaveSpelling, LeavesBytes, NoneBegins, NoneSpelled, Refuses, RefusesSeen, RefusesWhole}

@@ -23,7 +23,7 @@
 //! - Parts that an earlier field or another struct decides: the traits [`SizeFor`], [`SerializeFor`],
 //!   [`DeserializeFor`] and [`DeserializeBytesFor`] of a type in a context; [`Then`], a first part and what it decides;
 //!   [`When`], a part that is there or not, by a [`Condition`]; and [`context`] for the rest.
-//! - [`unknown_value`]: the error for a tag that an enum of your own doesn't have. [`first_room`]:
+//! - [`unknown_value`]: the error for a tag that an enum of your own doesn't have. [`reserve_encoding`]:
 //!   room for a whole encoding at once.
 //! - [`laws`]: what holds of the encodings of every type with the traits. [`refusals`]: where two
 //!   errors come from.
@@ -37,8 +37,8 @@ pub use tls_codec_base::{
     Always, ByRef, ByRef2, ByRef3, ByRef4, ByRef5, ByRef6, ByRef7, ByRef8, ByRef9, ByRefIn,
     ByRefThen, ByRefThen2, ByRefWhen, Condition, Deserialize, DeserializeBytes,
     DeserializeBytesFor, DeserializeFor, LengthField, Serialize, SerializeBytes, SerializeFor,
-    Size, SizeFor, Then, When, Within, context, deserialize_to_end, first_room, laws, lists,
-    refusals, unknown_value,
+    Size, SizeFor, Then, When, Within, context, deserialize_to_end, laws, lists, refusals,
+    reserve_encoding, unknown_value,
 };
 pub use tls_codec_bytes::{TlsByteVec, TlsByteVecU8, TlsByteVecU16, TlsByteVecU24, TlsByteVecU32};
 pub use tls_codec_secret::{
@@ -54,6 +54,6 @@ pub use tls_codec_vl::{
     Zeroize,
 };
 pub use tls_codec_wire::{
-    Bounded, Error, Fault, Fill, MOST_INTERRUPTIONS, Outside, Sink, Source, TlsVarInt, U24,
+    Bounded, Error, Fault, Fill, MAX_INTERRUPTIONS, Outside, Sink, Source, TlsVarInt, U24,
     expect_end, read_bytes_bounded, read_exactly, vlen, write_all,
 };

@@ -6,7 +6,7 @@ use Rattle.tls_codec_wire.specs.declared.error.Error.{Error}
 use Rattle.tls_codec_grammar.specs.Tree.{Number, number_trees}
 use Rattle.tls_codec_grammar.specs.Grammar.{RawBytes, array, number}
 use Rattle.tls_codec_grammar.specs.Shortest.{IsShortest}
-use Rattle.tls_codec_grammar.specs.Decoding.{Begins, GaveSpelling, NoneBegins, Refuses, RefusesSource}
+use Rattle.tls_codec_grammar.specs.Decoding.{Begins, GaveSpelling, NoneBegins, Refuses, RefusesSeen}
 use Rattle.tls_codec_wire.specs.declared.device.Sink.{Ghosts}
 use Rattle.tls_codec_grammar.specs.Format.{array_format, number_format}
 use Rattle.tls_codec_grammar.specs.Encoding.{AppendsForm, Breaks, Sends}
@@ -47,7 +47,7 @@ module _ (k : ℕ) where
     memory = r.memory;
   }
 
-  pub array_refuses_source : (lean : Bool) {old new : Counts} {e : Error} (x : List ℕ) → RefusesSource (number k) lean x old new e → RefusesSource (array k) lean x old new e
+  pub array_refuses_source : (lean : Bool) {old new : Counts} {e : Error} (x : List ℕ) → RefusesSeen (number k) lean x old new e → RefusesSeen (array k) lean x old new e
   array_refuses_source lean {old} {new} {e} x r = record {
     cause = elim r.cause [
       | inl none ↦ inl (none_begins x none)

@@ -11,7 +11,7 @@ use Rattle.tls_codec_grammar.specs.Tree.{Tree}
 use Rattle.tls_codec_grammar.specs.Grammar.{Grammar, Reading}
 use Rattle.tls_codec_grammar.specs.Format.{Format}
 use Rattle.tls_codec_grammar.specs.Lawful.{IsLawful}
-use Rattle.tls_codec_grammar.specs.Decoding.{Begins, Refuses, RefusesSource, RefusesWhole}
+use Rattle.tls_codec_grammar.specs.Decoding.{Begins, Refuses, RefusesSeen, RefusesWhole}
 use Rattle.tls_codec_base.specs.Paths.{BothRead, FaultOrNoMemory, NoMemory}
 
 module _ (spells : Grammar) (x : List ℕ) where
@@ -21,7 +21,7 @@ module _ (spells : Grammar) (x : List ℕ) where
   told_first front v None took p = absurd took
 
   -- if a spelling begins x, a source that tells x is refused for another cause
-  pub source_alone : (lean : Bool) (v : Tree) (rest : List ℕ) (old new : Counts) (e : Error) → Begins spells x v rest → RefusesSource spells lean x old new e → FaultOrNoMemory lean old new e
+  pub source_alone : (lean : Bool) (v : Tree) (rest : List ℕ) (old new : Counts) (e : Error) → Begins spells x v rest → RefusesSeen spells lean x old new e → FaultOrNoMemory lean old new e
   source_alone lean v rest old new e b r = elim r.cause [
     | inl none ↦ absurd (none v rest b)
     | inr (inl fault) ↦ inl fault

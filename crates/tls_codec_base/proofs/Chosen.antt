@@ -8,12 +8,12 @@ use Rattle.tls_codec_wire.specs.declared.error.Error.{Error}
 use Rattle.tls_codec_wire.proofs.Refused.{refused_so}
 use Rattle.tls_codec_grammar.specs.Tree.{Tree, Number, Join}
 use Rattle.tls_codec_grammar.specs.Grammar.{Reading}
-use Rattle.tls_codec_grammar.specs.Tagged.{MeetVariantLaws, Variants}
-use Rattle.tls_codec_grammar.specs.Decoding.{Begins, GaveSpelling, LeavesSource, Named, NoneBegins, Refuses, RefusesSource}
+use Rattle.tls_codec_grammar.specs.Tagged.{MeetsVariantLaws, Variants}
+use Rattle.tls_codec_grammar.specs.Decoding.{Begins, GaveSpelling, Named, NoneBegins, Refuses, RefusesFromSource, RefusesSeen}
 use Rattle.tls_codec_grammar.specs.Encoding.{AppendsForm, Writes}
 use Rattle.tls_codec_grammar.specs.Contexts.{chosen, chosen_format}
 
-module _ {variants : Variants} (m : MeetVariantLaws variants) (n : ℕ) where
+module _ {variants : Variants} (m : MeetsVariantLaws variants) (n : ℕ) where
   none_chosen : (x : List ℕ) → NoneBegins (variants.parts n).spells x → NoneBegins (chosen n variants) x
   none_chosen x none (Join (Number i) vs) s b = none vs s (record { front = b.front; whole = b.whole; spelled = subst (λ (u : ℕ). (variants.parts u).spells Reading b.front vs) b.spelled.0 b.spelled.1 })
   none_chosen x none _ s b = absurd b.spelled
@@ -34,7 +34,7 @@ module _ {variants : Variants} (m : MeetVariantLaws variants) (n : ℕ) where
 
   -- ---- from a source
 
-  source_chosen : {before after : Counts} {e : Error} (x : List ℕ) → RefusesSource (variants.parts n).spells (variants.parts n).lean x before after e → RefusesSource (chosen n variants) variants.lean x before after e
+  source_chosen : {before after : Counts} {e : Error} (x : List ℕ) → RefusesSeen (variants.parts n).spells (variants.parts n).lean x before after e → RefusesSeen (chosen n variants) variants.lean x before after e
   source_chosen x r = record {
     cause = elim r.cause [
       | inl none ↦ inl (none_chosen x none)
@@ -50,7 +50,7 @@ module _ {variants : Variants} (m : MeetVariantLaws variants) (n : ℕ) where
   chosen_given p = record { front = p.front; held = p.held; spelled = (refl, p.spelled) }
 
   module _ {S : Type 0} {source : Ghosts S} where
-    pub chosen_leaves : {a b : S} {e : Error} → LeavesSource (variants.parts n) source a b e → LeavesSource (chosen_format n variants) source a b e
+    pub chosen_leaves : {a b : S} {e : Error} → RefusesFromSource (variants.parts n) source a b e → RefusesFromSource (chosen_format n variants) source a b e
     chosen_leaves p = record { refused = refused_so source_chosen p.refused }
 
     pub chosen_named : {a b : S} {e : Error} (names : Causes) → Named (variants.parts n) names source a b e → Named (chosen_format n variants) names source a b e

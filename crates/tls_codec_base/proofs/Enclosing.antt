@@ -17,7 +17,7 @@ use Rattle.tls_codec_grammar.specs.Grammar.{Grammar, Reading, counted, sized}
 use Rattle.tls_codec_grammar.specs.Field.{Field}
 use Rattle.tls_codec_grammar.specs.Format.{Format, sized_format, with_memory}
 use Rattle.tls_codec_grammar.specs.Lawful.{MeetsFieldLaws, MeetsLaws}
-use Rattle.tls_codec_grammar.specs.Decoding.{Begins, GaveSpelling, LeavesSource, Named, NoneBegins, NoneSpelled, Refuses, RefusesSource}
+use Rattle.tls_codec_grammar.specs.Decoding.{Begins, GaveSpelling, Named, NoneBegins, NoneSpelled, Refuses, RefusesFromSource, RefusesSeen}
 use Rattle.tls_codec_grammar.specs.laws.RowLaws.{split_at}
 use Rattle.tls_codec_grammar.proofs.ByteContents.{sized_short}
 use Rattle.tls_codec_grammar.proofs.CountedDecoding.{counted_begins, counted_none_at_inside}
@@ -86,7 +86,7 @@ module _ {f : Format} (l : MeetsLaws f) where
       let same = l.spelled.one front b.front rest left v w p b.spelled.1 b.whole in
       omega (arith, short, ap length same.0, b.spelled.0)
 
-  fill_refused : (n : ℕ) {e : Error} {old new : Counts} (x : List ℕ) → RefusesSource f.spells f.lean (take n x) old new e → RefusesSource (sized n f.spells) false x old new e
+  fill_refused : (n : ℕ) {e : Error} {old new : Counts} (x : List ℕ) → RefusesSeen f.spells f.lean (take n x) old new e → RefusesSeen (sized n f.spells) false x old new e
   fill_refused n x q = record {
     cause = elim q.cause [
       | inl none ↦ inl (none_filling f.spells n x none)
@@ -101,7 +101,7 @@ module _ {f : Format} (l : MeetsLaws f) where
 
   module _ {S : Type 0} {source : Ghosts S} {a b : Bounded S} where
     -- the value is refused
-    pub filling_refused : {e : Error} → LeavesSource f (within source) a b e → LeavesSource (with_memory (sized_format (limit_of a) f)) source (inner_of a) (inner_of b) e
+    pub filling_refused : {e : Error} → RefusesFromSource f (within source) a b e → RefusesFromSource (with_memory (sized_format (limit_of a) f)) source (inner_of a) (inner_of b) e
     filling_refused p = record { refused = refused_within (fill_refused (limit_of a)) p.refused }
 
     pub filling_named : {e : Error} (names : Causes) → Named f names (within source) a b e

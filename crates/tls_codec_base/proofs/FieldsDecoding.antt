@@ -11,8 +11,8 @@ use Rattle.tls_codec_grammar.specs.Tree.{Tree, Empty, Join}
 use Rattle.tls_codec_grammar.specs.Grammar.{Grammar, Reading, nothing, fields}
 use Rattle.tls_codec_grammar.specs.Lawful.{IsLawful, MeetsLaws}
 use Rattle.tls_codec_grammar.specs.Format.{Format, fields_format, nothing_format}
-use Rattle.tls_codec_grammar.specs.Decoding.{Begins, GaveSpelling, LeavesSource, Named, NoneBegins, Refuses, RefusesSource}
-use Rattle.tls_codec_base.specs.Refusals.{IsSpelling, NamedBehind, SliceNames, fields_source_names}
+use Rattle.tls_codec_grammar.specs.Decoding.{Begins, GaveSpelling, Named, NoneBegins, Refuses, RefusesFromSource, RefusesSeen}
+use Rattle.tls_codec_base.specs.Refusals.{IsSpelling, NamedAfter, SliceNames, fields_source_names}
 use Rattle.tls_codec_base.proofs.Coming.{named_after}
 use Rattle.tls_codec_wire.proofs.Later.{fault_later, rose_later}
 
@@ -89,7 +89,7 @@ fields_given {S} {given} {first} {others} {a} {b} {c} {v} {vs} order p q = recor
   spelled = record { front = p.front; rest = q.front; whole = refl; first = p.spelled; second = q.spelled };
 }
 
-pub fields_source_refuses_first : {first others : Grammar} {a : Bool} (b : Bool) {before after : Counts} {e : Error} (x : List ℕ) → RefusesSource first a x before after e → RefusesSource (fields first others) (a && b) x before after e
+pub fields_source_refuses_first : {first others : Grammar} {a : Bool} (b : Bool) {before after : Counts} {e : Error} (x : List ℕ) → RefusesSeen first a x before after e → RefusesSeen (fields first others) (a && b) x before after e
 fields_source_refuses_first {first} {others} {a} b {before} {after} {e} x r = record {
   cause = elim r.cause [
     | inl none ↦ inl (none_at_first first others x none)
@@ -102,7 +102,7 @@ fields_source_refuses_first {first} {others} {a} b {before} {after} {e} x r = re
 }
 
 pub fields_source_refuses_others : {first others : Grammar} {f : Tree → ℕ} {b : Bool} (a : Bool) {start before after : Counts} {e : Error} (front : List ℕ) {v : Tree} → IsLawful first f → NoneFell start before → first Reading front v
-    → (x : List ℕ) → RefusesSource others b x before after e → RefusesSource (fields first others) (a && b) (front ++ x) start after e
+    → (x : List ℕ) → RefusesSeen others b x before after e → RefusesSeen (fields first others) (a && b) (front ++ x) start after e
 fields_source_refuses_others {first} {others} {f} {b} a {start} {before} {after} {e} front {v} l fell spelled x r = record {
   cause = elim r.cause [
     | inl none ↦ inl (none_at_others first others f l (front ++ x) v x (record { front = front; whole = refl; spelled = spelled }) none)
@@ -118,11 +118,11 @@ fields_source_refuses_others {first} {others} {f} {b} a {start} {before} {after}
 -- ---- the same over formats: one citation a field
 
 module _ {S : Type 0} {source : Ghosts S} {first : Format} (others : Format) {e : Error} where
-  pub fields_leaves_first : {a b : S} → LeavesSource first source a b e → LeavesSource (fields_format first others) source a b e
+  pub fields_leaves_first : {a b : S} → RefusesFromSource first source a b e → RefusesFromSource (fields_format first others) source a b e
   fields_leaves_first p = record { refused = refused_so (fields_source_refuses_first others.lean) p.refused }
 
   pub fields_leaves_others : {a b c : S} {v : Tree} → GivesInOrder source.given → NoCountFalls source.given source.counts → MeetsLaws first
-      → GaveSpelling source.given first.spells a b v → LeavesSource others source b c e → LeavesSource (fields_format first others) source a c e
+      → GaveSpelling source.given first.spells a b v → RefusesFromSource others source b c e → RefusesFromSource (fields_format first others) source a c e
   fields_leaves_others {a} {b} order falls l p q = record { refused = refused_later p.front order p.held (fields_source_refuses_others first.lean p.front l.spelled (falls a p.front b p.held) p.spelled) q.refused }
 
   -- and what is named
@@ -142,5 +142,5 @@ last_named names p = record { refused = refused_so (λ x q. (fields_source_refus
 
 -- ---- what the others name after the first part of a slice: one citation a field
 
-pub others_named : {first : Grammar} {x : List ℕ} {v : Tree} {rest : List ℕ} {e : Error} (names : SliceNames) → Begins first x v rest → names rest e → NamedBehind (IsSpelling first) names x e
+pub others_named : {first : Grammar} {x : List ℕ} {v : Tree} {rest : List ℕ} {e : Error} (names : SliceNames) → Begins first x v rest → names rest e → NamedAfter (IsSpelling first) names x e
 others_named {first} {x} {v} {rest} names p named = record { front = p.front; rest = rest; whole = p.whole; is_front = (v, p.spelled); named = named }

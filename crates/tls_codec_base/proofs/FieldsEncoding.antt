@@ -1,7 +1,7 @@
 -- What is sent of a product, from what is sent of its first part and of the others.
 use Rattle.std.proofs.Common.{◌≡◌, inl, inr, ℕ, ◌+◌, List, [], ◌++◌, refl, sym, ap, ◌∙◌, append_assoc, length-append, arith}
 use Rattle.std.proofs.KnownBytes.{Appends-nil, Appends-trans}
-use Rattle.tls_codec_wire.specs.Counts.{fall_never, stay}
+use Rattle.tls_codec_wire.specs.Counts.{none_fell_refl, none_fell_trans}
 use Rattle.tls_codec_wire.specs.declared.device.Sink.{Ghosts}
 use Rattle.tls_codec_wire.specs.declared.error.Error.{Error}
 use Rattle.tls_codec_grammar.specs.Tree.{Tree, Empty, Join}
@@ -21,7 +21,7 @@ pub nothing_form : IsShortest nothing [] Empty
 nothing_form = record { spelled = refl; least = λ t q. inl q }
 
 pub nothing_sends : {S : Type 0} (sink : Ghosts S) (at : S) → Sends nothing_format Empty sink at at 0
-nothing_sends sink at = record { form = []; shortest = nothing_form; held = Appends-nil (sink.received at); count = refl; fell = stay (sink.counts at) }
+nothing_sends sink at = record { form = []; shortest = nothing_form; held = Appends-nil (sink.received at); count = refl; fell = none_fell_refl (sink.counts at) }
 
 module _ {first others : Format} {v vs : Tree} where
   -- the shortest form of a product is those of its first part and of the others
@@ -36,7 +36,7 @@ module _ {first others : Format} {v vs : Tree} where
       shortest = fields_least first.spells others.spells v vs p.form q.form p.shortest q.shortest;
       held = Appends-trans (sink.received a) (sink.received b) (sink.received c) p.form q.form p.held q.held;
       count = omega (arith, p.count, q.count, length-append p.form q.form);
-      fell = fall_never p.fell q.fell;
+      fell = none_fell_trans p.fell q.fell;
     }
 
     -- the first part is refused
@@ -48,7 +48,7 @@ module _ {first others : Format} {v vs : Tree} where
           let form = fields_form l m s q in
           let k = p.beginning form.0 form.3 in
           (k.0 ++ form.1, form.2 ∙ ap (λ (u : List ℕ). u ++ form.1) k.1 ∙ append_assoc p.sent k.0 form.1);
-      cause = cause_later (sink.counts a) (sink.counts a) (sink.counts b) e (stay (sink.counts a)) (λ named. inl named) p.cause;
+      cause = cause_later (sink.counts a) (sink.counts a) (sink.counts b) e (none_fell_refl (sink.counts a)) (λ named. inl named) p.cause;
       fell = p.fell;
     }
 
@@ -63,5 +63,5 @@ module _ {first others : Format} {v vs : Tree} where
           let same : form.0 ≡ p.form = least_one (λ u. first.spells Writing u v) form.0 p.form form.3 p.shortest in
           (k.0, form.2 ∙ ap (λ (u : List ℕ). u ++ form.1) same ∙ ap (λ (u : List ℕ). p.form ++ u) k.1 ∙ sym (append_assoc p.form q.sent k.0));
       cause = cause_later (sink.counts a) (sink.counts b) (sink.counts c) e p.fell (λ named. inr named) q.cause;
-      fell = fall_never p.fell q.fell;
+      fell = none_fell_trans p.fell q.fell;
     }

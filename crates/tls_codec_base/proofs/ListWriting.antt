@@ -3,7 +3,7 @@ use Rattle.std.proofs.Common.{◌≡◌, ℕ, suc, ◌+◌, ◌*◌, ◌<◌, �
 use Rattle.std.proofs.Math.Seq.{drop-cons}
 use Rattle.std.specs.Io.KnownBytes.{Appends}
 use Rattle.std.proofs.KnownBytes.{Appends-trans}
-use Rattle.tls_codec_wire.specs.Counts.{NoneFell, fall_never}
+use Rattle.tls_codec_wire.specs.Counts.{NoneFell, none_fell_trans}
 use Rattle.tls_codec_wire.specs.declared.device.Sink.{Ghosts}
 use Rattle.tls_codec_wire.specs.declared.error.Error.{Error}
 use Rattle.tls_codec_grammar.specs.Tree.{Tree, Empty, Join, trees}
@@ -179,7 +179,7 @@ module _ {S : Type 0} {sink : Ghosts S} {element : Format} (l : MeetsLaws elemen
     form = p.form ++ q.form;
     so_far = form_more l p.so_far e q.shortest;
     held = Appends-trans (sink.received a) (sink.received b) (sink.received c) p.form q.form p.held q.held;
-    fell = fall_never p.fell q.fell;
+    fell = none_fell_trans p.fell q.fell;
     count = omega (arith, h, p.count, q.count, length-append p.form q.form);
   }
 
@@ -195,7 +195,7 @@ module _ {S : Type 0} {sink : Ghosts S} {element : Format} (l : MeetsLaws elemen
         let behind : next.next ++ next.others ≡ q.sent ++ rest = ap (λ (u : List ℕ). u ++ next.others) k.1 ∙ append_assoc q.sent k.0 next.others in
         (rest, next.whole ∙ ap (λ (u : List ℕ). p.form ++ u) behind ∙ sym (append_assoc p.form q.sent rest));
     cause = cause_later (sink.counts a) (sink.counts b) (sink.counts c) e p.fell (named_next l p.so_far h) q.cause;
-    fell = fall_never p.fell q.fell;
+    fell = none_fell_trans p.fell q.fell;
   }
 
 module _ {S : Type 0} {sink : Ghosts S} {element : Format} (l : MeetsLaws element) {T : Type 0} (plain : T → Tree) where
@@ -205,7 +205,7 @@ module _ {S : Type 0} {sink : Ghosts S} {element : Format} (l : MeetsLaws elemen
     form = p.form ++ q.form;
     so_far = form_after p.so_far (subst (λ (u : Tree). FormSoFar element u (trees plain ys) q.form) (sym e) (form_first l plain xs ys q.form q.shortest));
     held = Appends-trans (sink.received a) (sink.received b) (sink.received c) p.form q.form p.held q.held;
-    fell = fall_never p.fell q.fell;
+    fell = none_fell_trans p.fell q.fell;
     count = omega (arith, h, p.count, q.count, length-append p.form q.form);
   }
 
@@ -222,5 +222,5 @@ module _ {S : Type 0} {sink : Ghosts S} {element : Format} (l : MeetsLaws elemen
         let same : f.front ++ f.others ≡ q.sent ++ rest = ap (λ (u : List ℕ). u ++ f.others) k.1 ∙ append_assoc q.sent k.0 f.others in
         (rest, behind.1 ∙ ap (λ (u : List ℕ). p.form ++ u) (f.whole ∙ same) ∙ sym (append_assoc p.form q.sent rest));
     cause = cause_later (sink.counts a) (sink.counts b) (sink.counts c) e p.fell (λ r. p.so_far.named e (subst (λ (u : Tree). content_refuses element.refuses u e) (sym h) (named_first l plain xs ys e r))) q.cause;
-    fell = fall_never p.fell q.fell;
+    fell = none_fell_trans p.fell q.fell;
   }

@@ -7,7 +7,7 @@ use Rattle.std.specs.Simd.{first_chunks}
 use Rattle.std.proofs.Math.Nat.{mod-lt}
 use Rattle.std.proofs.lemmas.Nat.{div-add-mod'}
 use Rattle.tls_codec_wire.specs.Bounded.{first_bytes, GaveWithin, inner_of, limit_of}
-use Rattle.tls_codec_wire.specs.Counts.{Counts, stay}
+use Rattle.tls_codec_wire.specs.Counts.{Counts, none_fell_refl}
 use Rattle.tls_codec_wire.specs.Device.{GivesFromFront, GivesInOrder, GivesNothing}
 use Rattle.tls_codec_wire.specs.Digits.{AreBytes, value}
 use Rattle.tls_codec_wire.specs.Refused.{RefusedFor, within}
@@ -112,7 +112,7 @@ named_parts k n digits p old new (DecodingError text) y rest some small fits ref
       between = old;
       whole = refl;
       is_front = record { elements = (Empty, refl); fills = omega arith; some = some };
-      fell = stay old;
+      fell = none_fell_refl old;
       named = inl (record { cause = inr (inl refused.1); memory = λ h. absurd cc }, refused);
     },
   ),
@@ -136,7 +136,7 @@ named_parts k n digits p old new EndOfStream y rest some small fits refused end 
           between = old;
           whole = ap (λ (u : List ℕ). u ++ rest) p.whole ∙ append_assoc p.front p.part rest;
           is_front = record { elements = (_, p.spelled); fills = omega (arith, sum, less); some = omega (arith, sum, less) };
-          fell = stay old;
+          fell = none_fell_refl old;
           named = inl (
             record {
               cause = inl (λ v r b. omega (arith, number_width k Reading b.front v b.spelled, ap length b.whole, length-append b.front r, short));

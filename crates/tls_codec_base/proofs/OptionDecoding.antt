@@ -8,7 +8,7 @@ use Rattle.tls_codec_wire.specs.Transfer.{ReadRefused}
 use Rattle.tls_codec_wire.proofs.Later.{fault_later, rose_later}
 use Rattle.tls_codec_grammar.specs.Tree.{Tree, Empty, Join}
 use Rattle.tls_codec_grammar.specs.Grammar.{Grammar, option}
-use Rattle.tls_codec_grammar.specs.Decoding.{Begins, NoneBegins, GaveSpelling, Refuses, RefusesSource}
+use Rattle.tls_codec_grammar.specs.Decoding.{Begins, NoneBegins, GaveSpelling, Refuses, RefusesSeen}
 use Rattle.tls_codec_base.specs.Refusals.{IsOtherByte}
 
 -- a buffer of one byte
@@ -62,13 +62,13 @@ module _ (payload : Grammar) where
   none_with_other_tag tag x zero one _ rest p = absurd p.spelled
 
   -- another tag is read
-  pub other_tag_refused : (lean : Bool) (buffer : List ℕ) → length buffer ≡ 1 → get_or buffer 0 0 ≢ 0 → get_or buffer 0 0 ≢ 1 → {before after : Counts} {text : _} (x : List ℕ) → RefusesSource (option payload) lean (buffer ++ x) before after (DecodingError text)
+  pub other_tag_refused : (lean : Bool) (buffer : List ℕ) → length buffer ≡ 1 → get_or buffer 0 0 ≢ 0 → get_or buffer 0 0 ≢ 1 → {before after : Counts} {text : _} (x : List ℕ) → RefusesSeen (option payload) lean (buffer ++ x) before after (DecodingError text)
   other_tag_refused lean (tag ∷ []) width zero one x = record { cause = inl (none_with_other_tag tag x zero one); memory = λ h. absurd cc }
   other_tag_refused lean [] width zero one x = absurd (omega (arith, width))
   other_tag_refused lean (tag ∷ t ∷ more) width zero one x = absurd (omega (arith, width))
 
   -- no tag is read
-  pub no_tag_refused : (lean : Bool) (x : List ℕ) (before after : Counts) (e : Error) → ReadRefused 1 x before after e → RefusesSource (option payload) lean x before after e
+  pub no_tag_refused : (lean : Bool) (x : List ℕ) (before after : Counts) (e : Error) → ReadRefused 1 x before after e → RefusesSeen (option payload) lean x before after e
   no_tag_refused lean x before after (DecodingError text) p = record { cause = inr (inl p.1); memory = λ h. absurd cc }
   no_tag_refused lean x before after OutOfMemory p = record { cause = inr (inr refl); memory = λ h. inr p }
   no_tag_refused lean [] before after EndOfStream p = record { cause = inl none_in_nothing; memory = λ h. absurd cc }
@@ -81,7 +81,7 @@ module _ (payload : Grammar) where
   no_tag_refused lean x before after _ p = absurd p
 
   -- the payload is refused
-  pub payload_refused : (lean : Bool) {start before after : Counts} {e : Error} (buffer : List ℕ) → length buffer ≡ 1 → get_or buffer 0 0 ≡ 1 → NoneFell start before → (x : List ℕ) → RefusesSource payload lean x before after e → RefusesSource (option payload) lean (buffer ++ x) start after e
+  pub payload_refused : (lean : Bool) {start before after : Counts} {e : Error} (buffer : List ℕ) → length buffer ≡ 1 → get_or buffer 0 0 ≡ 1 → NoneFell start before → (x : List ℕ) → RefusesSeen payload lean x before after e → RefusesSeen (option payload) lean (buffer ++ x) start after e
   payload_refused lean {start} {before} {after} {e} buffer width one fell x r = record {
     cause = elim r.cause [
       | inl none ↦ inl (none_after (buffer ++ x) x (ap (λ (u : List ℕ). u ++ x) (one_byte_buffer buffer 1 width one)) none)

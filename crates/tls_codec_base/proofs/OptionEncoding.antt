@@ -4,7 +4,7 @@ use Rattle.std.specs.Prelude.{IfErr, IfOk, Vec}
 use Rattle.std.specs.Global.{Global}
 use Rattle.std.specs.Io.KnownBytes.{Appends}
 use Rattle.std.proofs.KnownBytes.{Appends-trans}
-use Rattle.tls_codec_wire.specs.Counts.{NoneFell, fall_never}
+use Rattle.tls_codec_wire.specs.Counts.{NoneFell, none_fell_trans}
 use Rattle.tls_codec_wire.specs.Device.{Received}
 use Rattle.tls_codec_wire.specs.Transfer.{WriteRefused}
 use Rattle.tls_codec_wire.specs.declared.device.Sink.{Ghosts}
@@ -55,7 +55,7 @@ module _ {payload : Format} (l : MeetsLaws payload) {v : Tree} where
       shortest = option_some payload.spells v q.form q.shortest;
       held = Appends-trans (sink.received a) (sink.received b) (sink.received c) (1 ∷ []) q.form tag q.held;
       count = omega (arith, e, q.count);
-      fell = fall_never fell q.fell;
+      fell = none_fell_trans fell q.fell;
     }
 
     -- the tag is refused
@@ -83,7 +83,7 @@ module _ {payload : Format} (l : MeetsLaws payload) {v : Tree} where
           let k = q.beginning x.0 x.2 in
           (k.0, x.1 ∙ ap (λ (u : List ℕ). 1 ∷ u) k.1);
       cause = cause_later (sink.counts a) (sink.counts b) (sink.counts c) e fell (λ named. named) q.cause;
-      fell = fall_never fell q.fell;
+      fell = none_fell_trans fell q.fell;
     }
 
   -- the payload's vector is refused

@@ -1,7 +1,7 @@
 -- What is read and written of a payload that is there if the context says so.
 use Rattle.std.proofs.Common.{ℕ, List, [], true, false, inl, inr, refl, append-nil, sym}
 use Rattle.std.proofs.KnownBytes.{Appends-nil}
-use Rattle.tls_codec_wire.specs.Counts.{Counts, stay}
+use Rattle.tls_codec_wire.specs.Counts.{Counts, none_fell_refl}
 use Rattle.tls_codec_wire.specs.Device.{GivesNothing}
 use Rattle.tls_codec_wire.specs.Refused.{Causes}
 use Rattle.tls_codec_wire.specs.declared.device.Sink.{Ghosts as SinkGhosts}
@@ -10,7 +10,7 @@ use Rattle.tls_codec_wire.specs.declared.error.Error.{Error}
 use Rattle.tls_codec_wire.proofs.Refused.{refused_so}
 use Rattle.tls_codec_grammar.specs.Tree.{Tree, Empty, Join}
 use Rattle.tls_codec_grammar.specs.Format.{Format}
-use Rattle.tls_codec_grammar.specs.Decoding.{Begins, GaveSpelling, LeavesSource, Named, NoneBegins, Refuses, RefusesSource}
+use Rattle.tls_codec_grammar.specs.Decoding.{Begins, GaveSpelling, Named, NoneBegins, Refuses, RefusesFromSource, RefusesSeen}
 use Rattle.tls_codec_grammar.specs.Encoding.{Appended, AppendRefused, Breaks, Sends}
 use Rattle.tls_codec_grammar.specs.Contexts.{present, present_format}
 
@@ -38,7 +38,7 @@ module _ (payload : Format) where
 
   -- ---- from a source
 
-  source_present : {before after : Counts} {e : Error} (x : List ℕ) → RefusesSource payload.spells payload.lean x before after e → RefusesSource (present true payload.spells) payload.lean x before after e
+  source_present : {before after : Counts} {e : Error} (x : List ℕ) → RefusesSeen payload.spells payload.lean x before after e → RefusesSeen (present true payload.spells) payload.lean x before after e
   source_present x r = record {
     cause = elim r.cause [
       | inl none ↦ inl (none_present x none)
@@ -54,7 +54,7 @@ module _ (payload : Format) where
   absent_given gives a = record { front = []; held = gives a; spelled = refl }
 
   module _ {S : Type 0} {source : Ghosts S} where
-    pub present_leaves : {a b : S} {e : Error} → LeavesSource payload source a b e → LeavesSource (present_format true payload) source a b e
+    pub present_leaves : {a b : S} {e : Error} → RefusesFromSource payload source a b e → RefusesFromSource (present_format true payload) source a b e
     present_leaves p = record { refused = refused_so source_present p.refused }
 
     pub present_named : {a b : S} {e : Error} (names : Causes) → Named payload names source a b e → Named (present_format true payload) names source a b e
@@ -67,7 +67,7 @@ module _ (payload : Format) where
     present_sends p = record { form = p.form; shortest = record { spelled = p.shortest.spelled; least = p.shortest.least }; held = p.held; count = p.count; fell = p.fell }
 
     pub absent_sends : (a : S) → Sends (present_format false payload) Empty sink a a 0
-    absent_sends a = record { form = []; shortest = record { spelled = refl; least = λ t q. inl q }; held = Appends-nil (sink.received a); count = refl; fell = stay (sink.counts a) }
+    absent_sends a = record { form = []; shortest = record { spelled = refl; least = λ t q. inl q }; held = Appends-nil (sink.received a); count = refl; fell = none_fell_refl (sink.counts a) }
 
     pub present_breaks : {a b : S} {v : Tree} {e : Error} → Breaks payload v sink a b e → Breaks (present_format true payload) (Join v Empty) sink a b e
     present_breaks p = record { sent = p.sent; held = p.held; beginning = λ s q. p.beginning s (record { spelled = q.spelled; least = q.least }); cause = p.cause; fell = p.fell }
@@ -93,7 +93,7 @@ module _ (payload : Format) where
 -- ---- refusals of a format before anything is written
 
 pub refused_breaks : {f : Format} {v : Tree} {S : Type 0} {sink : SinkGhosts S} (a : S) {e : Error} → f.refuses v e → Breaks f v sink a a e
-refused_breaks {f} {v} {S} {sink} a named = record { sent = []; held = Appends-nil (sink.received a); beginning = λ s q. (s, refl); cause = inr named; fell = stay (sink.counts a) }
+refused_breaks {f} {v} {S} {sink} a named = record { sent = []; held = Appends-nil (sink.received a); beginning = λ s q. (s, refl); cause = inr named; fell = none_fell_refl (sink.counts a) }
 
 pub refused_append : {f : Format} {v : Tree} (a : List ℕ) {e : Error} → f.refuses v e → AppendRefused f v a a e
 refused_append a named = record { kept = refl; cause = inr (inl named) }

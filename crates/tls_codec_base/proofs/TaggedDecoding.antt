@@ -16,8 +16,8 @@ use Rattle.tls_codec_grammar.specs.Tree.{Tree, Number, Empty, Join}
 use Rattle.tls_codec_grammar.specs.Grammar.{Grammar, Reading, number, nothing, fields}
 use Rattle.tls_codec_grammar.specs.Format.{Format, fields_format, nothing_format, number_format}
 use Rattle.tls_codec_grammar.specs.Lawful.{MeetsLaws}
-use Rattle.tls_codec_grammar.specs.Decoding.{Begins, GaveSpelling, LeavesSource, Named, NoneBegins, Reads, Refuses, RefusesSource, Splits}
-use Rattle.tls_codec_grammar.specs.Tagged.{MeetVariantLaws, Variants, tagged, tagged_format}
+use Rattle.tls_codec_grammar.specs.Decoding.{Begins, GaveSpelling, Named, NoneBegins, Reads, Refuses, RefusesFromSource, RefusesSeen, Splits}
+use Rattle.tls_codec_grammar.specs.Tagged.{MeetsVariantLaws, Variants, tagged, tagged_format}
 use Rattle.tls_codec_wire.proofs.Later.{fault_later, rose_later}
 use Rattle.tls_codec_base.specs.Refusals.{SliceNames}
 use Rattle.tls_codec_base.proofs.Coming.{named_after}
@@ -52,7 +52,7 @@ part_refuses {part} {others} {lean} {x} {e} r = record {
   memory = r.memory;
 }
 
-module _ {k : ℕ} {variants : Variants} (l : MeetsLaws (number_format k)) (m : MeetVariantLaws variants) where
+module _ {k : ℕ} {variants : Variants} (l : MeetsLaws (number_format k)) (m : MeetsVariantLaws variants) where
   -- the tag is n, and after it come the parts of its variant
   pub tagged_begins : {x : List ℕ} {tag : ℕ} {r : List ℕ} {n : ℕ} {vs : Tree} {rest : List ℕ} → Begins (number k) x (Number tag) r → tag ≡ n → Begins (variants.parts n).spells r vs rest → Begins (tagged k variants) x (Join (Number n) vs) rest
   tagged_begins {x} {tag} {r} {n} {vs} {rest} p same q =
@@ -90,17 +90,17 @@ tagged_named {T} (Err y) {k} names {x} {tag} {r} {n} {e} h p same named =
 pub part_given : {S : Type 0} {given : S → List ℕ → S → Type 0} {part : Grammar} {a b : S} {v : Tree} → GivesInOrder given → GivesNothing given → GaveSpelling given part a b v → GaveSpelling given (fields part nothing) a b (Join v Empty)
 part_given {S} {given} {part} {a} {b} {v} order gives p = fields_given order p (nothing_given gives b)
 
-pub part_leaves : {S : Type 0} {source : Ghosts S} {part : Format} {a b : S} {e : Error} → LeavesSource part source a b e → LeavesSource (fields_format part nothing_format) source a b e
+pub part_leaves : {S : Type 0} {source : Ghosts S} {part : Format} {a b : S} {e : Error} → RefusesFromSource part source a b e → RefusesFromSource (fields_format part nothing_format) source a b e
 part_leaves p = fields_leaves_first nothing_format p
 
 -- and what it names
 pub part_named : {S : Type 0} {source : Ghosts S} {part : Format} (names : Causes) {a b : S} {e : Error} → Named part names source a b e → Named (fields_format part nothing_format) names source a b e
 part_named names p = last_named names p
 
-module _ {k : ℕ} {variants : Variants} (l : MeetsLaws (number_format k)) (m : MeetVariantLaws variants) where
+module _ {k : ℕ} {variants : Variants} (l : MeetsLaws (number_format k)) (m : MeetsVariantLaws variants) where
   -- the parts are refused
   parts_refused : {start before after : Counts} {e : Error} (front : List ℕ) (tag n : ℕ) → NoneFell start before → number k Reading front (Number tag) → tag ≡ n
-      → (x : List ℕ) → RefusesSource (variants.parts n).spells (variants.parts n).lean x before after e → RefusesSource (tagged k variants) variants.lean (front ++ x) start after e
+      → (x : List ℕ) → RefusesSeen (variants.parts n).spells (variants.parts n).lean x before after e → RefusesSeen (tagged k variants) variants.lean (front ++ x) start after e
   parts_refused {start} {before} {after} {e} front tag n fell spelled same x q = record {
     cause = elim q.cause [
       | inl none ↦ inl (none_at_parts k variants l (front ++ x) n x (record { front = front; whole = refl; spelled = subst (λ (u : ℕ). number k Reading front (Number u)) same spelled }) none)
@@ -122,7 +122,7 @@ module _ {k : ℕ} {variants : Variants} (l : MeetsLaws (number_format k)) (m : 
   })
   none_at_tag x none _ rest b = absurd b.spelled
 
-  tag_refused : {before after : Counts} {e : Error} (x : List ℕ) → RefusesSource (number k) true x before after e → RefusesSource (tagged k variants) variants.lean x before after e
+  tag_refused : {before after : Counts} {e : Error} (x : List ℕ) → RefusesSeen (number k) true x before after e → RefusesSeen (tagged k variants) variants.lean x before after e
   tag_refused x r = record {
     cause = elim r.cause [
       | inl none ↦ inl (none_at_tag x none)
@@ -134,16 +134,16 @@ module _ {k : ℕ} {variants : Variants} (l : MeetsLaws (number_format k)) (m : 
     ];
   }
 
-  pub tag_reads : {S T : Type 0} (plain : T → Tree) (source : Ghosts S) (a b : S) (result : Result T Error) {e : Error} → IsErrAnd result (λ y. y ≡ e) → LeavesSource (number_format k) source a b e → Reads (tagged_format k variants) plain source a b result
+  pub tag_reads : {S T : Type 0} (plain : T → Tree) (source : Ghosts S) (a b : S) (result : Result T Error) {e : Error} → IsErrAnd result (λ y. y ≡ e) → RefusesFromSource (number_format k) source a b e → Reads (tagged_format k variants) plain source a b result
   tag_reads plain source a b (Ok v) h p = absurd h
-  tag_reads plain source a b (Err y) h p = subst (λ (u : Error). LeavesSource (tagged_format k variants) source a b u) (sym h) (record { refused = refused_so tag_refused p.refused })
+  tag_reads plain source a b (Err y) h p = subst (λ (u : Error). RefusesFromSource (tagged_format k variants) source a b u) (sym h) (record { refused = refused_so tag_refused p.refused })
 
   pub tag_named_source : {S T : Type 0} (source : Ghosts S) (a b : S) (result : Result T Error) (names : ℕ → Causes) {e : Error} → IsErrAnd result (λ y. y ≡ e) → Named (number_format k) (ReadRefused k) source a b e → IfErr result (Named (tagged_format k variants) (tagged_source_names k names) source a b)
   tag_named_source source a b (Ok v) names h p = absurd h
   tag_named_source source a b (Err y) names h p = subst (λ (u : Error). Named (tagged_format k variants) (tagged_source_names k names) source a b u) (sym h) (record { refused = refused_so (λ x q. (tag_refused x q.0, inl q.1)) p.refused })
 
   -- no variant has the tag
-  unknown_refused : {before after : Counts} {tag n : ℕ} (front : List ℕ) → number k Reading front (Number tag) → variants.has tag ≡ false → (x : List ℕ) → RefusesSource (tagged k variants) variants.lean (front ++ x) before after (UnknownValue n)
+  unknown_refused : {before after : Counts} {tag n : ℕ} (front : List ℕ) → number k Reading front (Number tag) → variants.has tag ≡ false → (x : List ℕ) → RefusesSeen (tagged k variants) variants.lean (front ++ x) before after (UnknownValue n)
   unknown_refused {tag = tag} front spelled none x = record {
     cause = inl (none_at_parts k variants l (front ++ x) tag x (record { front = front; whole = refl; spelled = spelled }) (λ v rest b. m.unknown tag none Reading b.front v b.spelled));
     memory = λ h. absurd cc;
@@ -157,10 +157,10 @@ module _ {k : ℕ} {variants : Variants} (l : MeetsLaws (number_format k)) (m : 
 
     -- and that is handed on
     pub tagged_reads : {T : Type 0} (plain : T → Tree) (source : Ghosts S) (a c : S) (result : Result T Error) {b : S} {tag n : ℕ} {e : Error} → GivesInOrder source.given → NoCountFalls source.given source.counts
-        → IsErrAnd result (λ y. y ≡ e) → GaveSpelling source.given (number k) a b (Number tag) → tag ≡ n → LeavesSource (variants.parts n) source b c e → Reads (tagged_format k variants) plain source a c result
+        → IsErrAnd result (λ y. y ≡ e) → GaveSpelling source.given (number k) a b (Number tag) → tag ≡ n → RefusesFromSource (variants.parts n) source b c e → Reads (tagged_format k variants) plain source a c result
     tagged_reads {T} plain source a c (Ok v) order falls h p same q = absurd h
     tagged_reads {T} plain source a c (Err y) {b} {tag} {n} {e} order falls h p same q =
-        subst (λ (u : Error). LeavesSource (tagged_format k variants) source a c u) (sym h) (record { refused = refused_later p.front order p.held (parts_refused p.front tag n (falls a p.front b p.held) p.spelled same) q.refused })
+        subst (λ (u : Error). RefusesFromSource (tagged_format k variants) source a c u) (sym h) (record { refused = refused_later p.front order p.held (parts_refused p.front tag n (falls a p.front b p.held) p.spelled same) q.refused })
 
     -- with what is named
     pub tagged_named_source : {T : Type 0} (source : Ghosts S) (a c : S) (result : Result T Error) (names : ℕ → Causes) {b : S} {tag n : ℕ} {e : Error} → GivesInOrder source.given → NoCountFalls source.given source.counts
@@ -173,7 +173,7 @@ module _ {k : ℕ} {variants : Variants} (l : MeetsLaws (number_format k)) (m : 
         (record { refused = refused_later p.front order p.held (λ x r. (parts_refused p.front tag n fell p.spelled same x r.0, inr (n, named_after p.front fell digits x r.1))) q.refused })
 
     -- no variant has the tag
-    pub tagged_leaves_unknown : {source : Ghosts S} {a b : S} {tag n : ℕ} → GivesNothing source.given → GaveSpelling source.given (number k) a b (Number tag) → variants.has tag ≡ false → LeavesSource (tagged_format k variants) source a b (UnknownValue n)
+    pub tagged_leaves_unknown : {source : Ghosts S} {a b : S} {tag n : ℕ} → GivesNothing source.given → GaveSpelling source.given (number k) a b (Number tag) → variants.has tag ≡ false → RefusesFromSource (tagged_format k variants) source a b (UnknownValue n)
     tagged_leaves_unknown nothing p none = record { refused = refused_now p.front nothing p.held (unknown_refused p.front p.spelled none) }
 
     pub unknown_named_source : {source : Ghosts S} {a b : S} (names : ℕ → Causes) {tag n : ℕ} → GivesNothing source.given → NoCountFalls source.given source.counts → GaveSpelling source.given (number k) a b (Number tag) → variants.has tag ≡ false

@@ -7,7 +7,7 @@ use Rattle.tls_codec_grammar.specs.Tree.{Tree, Number, Empty, Join}
 use Rattle.tls_codec_grammar.specs.Format.{Format, fields_format, nothing_format, number_format}
 use Rattle.tls_codec_grammar.specs.Lawful.{MeetsLaws}
 use Rattle.tls_codec_grammar.specs.Encoding.{AppendsForm, Breaks, Makes, Sends, Writes}
-use Rattle.tls_codec_grammar.specs.Tagged.{MeetVariantLaws, Variants, tagged_format}
+use Rattle.tls_codec_grammar.specs.Tagged.{MeetsVariantLaws, Variants, tagged_format}
 use Rattle.tls_codec_grammar.specs.laws.FormatLaws.{nothing_meets}
 use Rattle.tls_codec_grammar.proofs.Sent.{sends_count}
 use Rattle.tls_codec_base.proofs.FieldsEncoding.{fields_breaks_first, fields_sends, nothing_sends}
@@ -25,7 +25,7 @@ either_cause (inr (inl (inl none))) = absurd none
 either_cause (inr (inl (inr b))) = inr (inl b)
 either_cause (inr (inr c)) = inr (inr c)
 
-module _ (k n : ℕ) {variants : Variants} (m : MeetVariantLaws variants) (vs : Tree) where
+module _ (k n : ℕ) {variants : Variants} (m : MeetsVariantLaws variants) (vs : Tree) where
   tagged_sends : {S : Type 0} {sink : Ghosts S} {a b : S} {j : ℕ} → Sends (fields_format (number_format k) (variants.parts n)) (Join (Number n) vs) sink a b j → Sends (tagged_format k variants) (Join (Number n) vs) sink a b j
   tagged_sends p = record {
     form = p.form;

@@ -7,7 +7,7 @@ use Rattle.tls_codec_wire.specs.declared.device.Source.{Ghosts}
 use Rattle.tls_codec_wire.specs.declared.error.Error.{Error}
 use Rattle.tls_codec_grammar.specs.Tree.{number_trees}
 use Rattle.tls_codec_grammar.specs.Grammar.{Reading, bytes, text}
-use Rattle.tls_codec_grammar.specs.Decoding.{Begins, GaveSpelling, Named, NoneBegins, Refuses, RefusesSource}
+use Rattle.tls_codec_grammar.specs.Decoding.{Begins, GaveSpelling, Named, NoneBegins, Refuses, RefusesSeen}
 use Rattle.tls_codec_grammar.specs.Errors.{Says}
 use Rattle.tls_codec_grammar.specs.Format.{text_format}
 use Rattle.tls_codec_wire.proofs.Refused.{refused_now}
@@ -51,7 +51,7 @@ invalid_refuses {x} {e} p = record { cause = inl (invalid_begins_none x p); memo
 pub text_given : {S : Type 0} {given : S → List ℕ → S → Type 0} {a b : S} {c : List ℕ} → IsUtf8 c → GaveSpelling given bytes a b (number_trees c) → GaveSpelling given text a b (number_trees c)
 text_given {S} {given} {a} {b} {c} valid p = record { front = p.front; held = p.held; spelled = text_from_bytes Reading c p.front valid p.spelled }
 
-pub text_source_refuses : {old new : Counts} {e : Error} (x : List ℕ) → RefusesSource bytes false x old new e → RefusesSource text false x old new e
+pub text_source_refuses : {old new : Counts} {e : Error} (x : List ℕ) → RefusesSeen bytes false x old new e → RefusesSeen text false x old new e
 text_source_refuses {old} {new} {e} x r = record {
   cause = elim r.cause [
     | inl none ↦ inl (no_text_begins x none)

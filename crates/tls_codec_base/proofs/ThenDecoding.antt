@@ -10,8 +10,8 @@ use Rattle.tls_codec_grammar.specs.Tree.{Tree, Join}
 use Rattle.tls_codec_grammar.specs.Grammar.{Grammar, Reading, fields}
 use Rattle.tls_codec_grammar.specs.Lawful.{MeetsLaws}
 use Rattle.tls_codec_grammar.specs.Format.{Format}
-use Rattle.tls_codec_grammar.specs.Decoding.{Begins, GaveSpelling, LeavesSource, Named, NoneBegins, Refuses, RefusesSource}
-use Rattle.tls_codec_base.specs.Refusals.{NamedBehind, SliceNames}
+use Rattle.tls_codec_grammar.specs.Decoding.{Begins, GaveSpelling, Named, NoneBegins, Refuses, RefusesFromSource, RefusesSeen}
+use Rattle.tls_codec_base.specs.Refusals.{NamedAfter, SliceNames}
 use Rattle.tls_codec_base.proofs.Coming.{named_after}
 use Rattle.tls_codec_base.proofs.FieldsDecoding.{fields_begins, fields_given, fields_refuses_others, fields_source_refuses_others}
 use Rattle.tls_codec_grammar.specs.Contexts.{then_format}
@@ -60,7 +60,7 @@ module _ (first : Format) (rest : Tree → Format) where
 
   -- ---- from a source
 
-  source_refuses_first : {before after : Counts} {e : Error} (x : List ℕ) → RefusesSource first.spells first.lean x before after e → RefusesSource (then_format first rest).spells false x before after e
+  source_refuses_first : {before after : Counts} {e : Error} (x : List ℕ) → RefusesSeen first.spells first.lean x before after e → RefusesSeen (then_format first rest).spells false x before after e
   source_refuses_first x r = record {
     cause = elim r.cause [
       | inl none ↦ inl (none_first x none)
@@ -70,7 +70,7 @@ module _ (first : Format) (rest : Tree → Format) where
   }
 
   source_refuses_rest : MeetsLaws first → {start before after : Counts} {e : Error} (front : List ℕ) {v : Tree} → NoneFell start before → first.spells Reading front v
-      → (x : List ℕ) → RefusesSource (rest v).spells (rest v).lean x before after e → RefusesSource (then_format first rest).spells false (front ++ x) start after e
+      → (x : List ℕ) → RefusesSeen (rest v).spells (rest v).lean x before after e → RefusesSeen (then_format first rest).spells false (front ++ x) start after e
   source_refuses_rest l front fell spelled x r = record {
     cause = elim (fields_source_refuses_others true front l.spelled fell spelled x r).cause [
       | inl none ↦ inl (none_at l (record { front = front; whole = refl; spelled = spelled }) none)
@@ -83,11 +83,11 @@ module _ (first : Format) (rest : Tree → Format) where
   then_given order p q = let both = fields_given order p q in record { front = both.front; held = both.held; spelled = both.spelled }
 
   module _ {S : Type 0} {source : Ghosts S} {e : Error} where
-    pub then_leaves_first : {a b : S} → LeavesSource first source a b e → LeavesSource (then_format first rest) source a b e
+    pub then_leaves_first : {a b : S} → RefusesFromSource first source a b e → RefusesFromSource (then_format first rest) source a b e
     then_leaves_first p = record { refused = refused_so source_refuses_first p.refused }
 
     pub then_leaves_rest : {a b c : S} {v : Tree} → GivesInOrder source.given → NoCountFalls source.given source.counts → MeetsLaws first
-        → GaveSpelling source.given first.spells a b v → LeavesSource (rest v) source b c e → LeavesSource (then_format first rest) source a c e
+        → GaveSpelling source.given first.spells a b v → RefusesFromSource (rest v) source b c e → RefusesFromSource (then_format first rest) source a c e
     then_leaves_rest {a} {b} order falls l p q = record { refused = refused_later p.front order p.held (source_refuses_rest l p.front (falls a p.front b p.held) p.spelled) q.refused }
 
     -- and what is named
@@ -103,5 +103,5 @@ module _ (first : Format) (rest : Tree → Format) where
 
 -- ---- what is named after the first part of a slice
 
-pub rest_named : {first : Grammar} {x : List ℕ} {v : Tree} {r : List ℕ} {e : Error} (names : SliceNames) → Begins first x v r → names r e → NamedBehind (λ s. first Reading s v) names x e
+pub rest_named : {first : Grammar} {x : List ℕ} {v : Tree} {r : List ℕ} {e : Error} (names : SliceNames) → Begins first x v r → names r e → NamedAfter (λ s. first Reading s v) names x e
 rest_named {first} {x} {v} {r} names p named = record { front = p.front; rest = r; whole = p.whole; is_front = p.spelled; named = named }

@@ -7,7 +7,7 @@ use Rattle.std.specs.Global.{Global}
 use Rattle.tls_codec_wire.specs.Bounded.{first_bytes, GaveWithin, inner_of, limit_of}
 use Rattle.tls_codec_wire.specs.Counts.{Counts, NoneFell}
 use Rattle.tls_codec_wire.specs.Device.{Gave, Gives, GivesInOrder, GivesNothing, NoCountFalls}
-use Rattle.tls_codec_wire.specs.Refused.{Causes, RefusedFor, told_or}
+use Rattle.tls_codec_wire.specs.Refused.{Causes, RefusedFor, reported_or}
 use Rattle.tls_codec_wire.specs.declared.bounded.Bounded.{Bounded}
 use Rattle.tls_codec_wire.specs.declared.device.Source.{Ghosts}
 use Rattle.tls_codec_wire.specs.declared.error.Error.{Error}
@@ -15,7 +15,7 @@ use Rattle.tls_codec_wire.specs.declared.error.Error.TheVariants.{EndOfStream, O
 use Rattle.tls_codec_grammar.specs.Tree.{Tree, trees}
 use Rattle.tls_codec_grammar.specs.Grammar.{Grammar, Reading, content, sized}
 use Rattle.tls_codec_grammar.specs.Lawful.{IsLawful}
-use Rattle.tls_codec_grammar.specs.Decoding.{AllGiven, AllRead, GaveSpelling, Refuses, RefusesSource}
+use Rattle.tls_codec_grammar.specs.Decoding.{AllGiven, AllRead, GaveSpelling, Refuses, RefusesSeen}
 use Rattle.tls_codec_grammar.specs.Format.{Format}
 use Rattle.tls_codec_wire.proofs.Later.{fault_later}
 use Rattle.tls_codec_wire.proofs.Refused.{refused_later, refused_now, seen_now}
@@ -67,7 +67,7 @@ module _ (element : Grammar) (f : Tree → ℕ) (l : IsLawful element f) where
       ]))
 
 -- why a source is refused
-pub why_refused : {element : Grammar} {lean : Bool} (x : List ℕ) {before after : Counts} {e : Error} → RefusesSource element lean x before after e → MemoryOrFault before after e ⊎ NoElementBegins element x
+pub why_refused : {element : Grammar} {lean : Bool} (x : List ℕ) {before after : Counts} {e : Error} → RefusesSeen element lean x before after e → MemoryOrFault before after e ⊎ NoElementBegins element x
 why_refused x r = elim r.cause [
   | inl none ↦ inr (none_of_none none)
   | inr (inl fault) ↦ inl (inr fault)
@@ -138,10 +138,10 @@ module _ {S : Type 0} {source : Ghosts S} (a b : Bounded S) (given : List ℕ) (
   refused_after {causes} {e} end cause = record {
     bytes = _;
     seen = seen_now given nothing gave.held;
-    cause = cause (told_or (source.coming (inner_of b)) []) (λ ends. none_told (source.coming (inner_of b)) (limit_of b) (end ends).0 (end ends).1);
+    cause = cause (reported_or (source.coming (inner_of b)) []) (λ ends. none_told (source.coming (inner_of b)) (limit_of b) (end ends).0 (end ends).1);
   }
     where
-      none_told : (coming : Option (List ℕ)) (n : ℕ) → 0 < n → IsAtEnd (option_map (take n) coming) → told_or coming [] ≡ []
+      none_told : (coming : Option (List ℕ)) (n : ℕ) → 0 < n → IsAtEnd (option_map (take n) coming) → reported_or coming [] ≡ []
       none_told None n some at_end = refl
       none_told (Some []) n some at_end = refl
       none_told (Some (x ∷ xs)) zero some at_end = absurd (omega (arith, some))

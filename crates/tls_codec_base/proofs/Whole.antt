@@ -8,7 +8,7 @@ use Rattle.tls_codec_wire.specs.declared.error.Error.TheVariants.{TrailingData}
 use Rattle.tls_codec_grammar.specs.Tree.{Tree}
 use Rattle.tls_codec_grammar.specs.Grammar.{Grammar, Reading}
 use Rattle.tls_codec_grammar.specs.Lawful.{IsLawful}
-use Rattle.tls_codec_grammar.specs.Decoding.{Begins, Refuses, RefusesSource, RefusesWhole}
+use Rattle.tls_codec_grammar.specs.Decoding.{Begins, Refuses, RefusesSeen, RefusesWhole}
 
 -- ---- what `is_empty` returns
 
@@ -46,7 +46,7 @@ module _ (spells : Grammar) where
   slice_begins x front rest v whole spelled = record { front = front; whole = whole; spelled = spelled }
 
   -- a slice as a source has no fault and no shortage
-  pub slice_refuses : (lean : Bool) (x : List ℕ) (e : Error) → RefusesSource spells lean x no_counts no_counts e → Refuses spells lean x e
+  pub slice_refuses : (lean : Bool) (x : List ℕ) (e : Error) → RefusesSeen spells lean x no_counts no_counts e → Refuses spells lean x e
   slice_refuses lean x e r = record {
     cause = elim r.cause [
       | inl none ↦ inl none

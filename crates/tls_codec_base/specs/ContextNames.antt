@@ -8,18 +8,18 @@ use Rattle.tls_codec_grammar.specs.Grammar.{Grammar, Reading}
 use Rattle.tls_codec_grammar.specs.Field.{Field}
 use Rattle.tls_codec_grammar.specs.Format.{Format}
 use Rattle.tls_codec_grammar.specs.Decoding.{Begins, part_source_names}
-use Rattle.tls_codec_base.specs.Refusals.{NamedBehind, SliceNames, SourceNamedBehind, part_names}
+use Rattle.tls_codec_base.specs.Refusals.{NamedAfter, SliceNames, SourceNamedAfter, part_names}
 
 -- ---- a first part, and the others that its value decides
 
 -- from a slice: the first part is refused, or after a spelling of it the others that its value decides are
 abbrev pub then_names : Format → SliceNames → (Tree → SliceNames) → SliceNames
-then_names first names others x e = part_names first names x e ⊎ ((v : Tree) × NamedBehind (λ s. first.spells Reading s v) (others v) x e)
+then_names first names others x e = part_names first names x e ⊎ ((v : Tree) × NamedAfter (λ s. first.spells Reading s v) (others v) x e)
 
 -- the same from a source
 abbrev pub then_source_names : Format → Causes → (Tree → Causes) → Causes
 then_source_names first names others x old new e =
-    part_source_names first names x old new e ⊎ ((v : Tree) × SourceNamedBehind (λ s. first.spells Reading s v) (others v) x old new e)
+    part_source_names first names x old new e ⊎ ((v : Tree) × SourceNamedAfter (λ s. first.spells Reading s v) (others v) x old new e)
 
 -- ---- a value inside a length
 
@@ -38,7 +38,7 @@ filling_names field f names n x e =
 -- the length is refused, or after a length the value is
 abbrev pub enclosed_names : Field → Format → SliceNames → SliceNames
 enclosed_names field f names x e =
-    field.refuses x e ⊎ ((n : ℕ) × NamedBehind (λ s. field.spells s n) (filling_names field f names n) x e)
+    field.refuses x e ⊎ ((n : ℕ) × NamedAfter (λ s. field.spells s n) (filling_names field f names n) x e)
 
 -- the same from a source
 abbrev pub filling_source_names : Format → Causes → ℕ → Causes
@@ -48,4 +48,4 @@ filling_source_names f names n x old new e =
 abbrev pub enclosed_source_names : Field → Format → Causes → Causes
 enclosed_source_names field f names x old new e =
     NumberNotRead field.refuses x old new e
-    ⊎ ((n : ℕ) × SourceNamedBehind (λ s. field.spells s n) (filling_source_names f names n) x old new e)
+    ⊎ ((n : ℕ) × SourceNamedAfter (λ s. field.spells s n) (filling_source_names f names n) x old new e)

@@ -6,7 +6,7 @@ use Rattle.tls_codec_grammar.specs.Format.{counted_bytes_format, counted_list_fo
 use Rattle.tls_codec_grammar.specs.laws.FormatLaws.{bounded_field_meets, counted_bytes_meets, counted_list_meets, fixed_field_meets, number_meets}
 pub use Rattle.tls_codec_grammar.specs.Tree.{Tree, Number, Empty, Join, trees, number_trees, option_plain}
 pub use Rattle.tls_codec_grammar.specs.Format.{Format, number_format, varint_format, array_format, with_memory, option_format, nothing_format, fields_format, pair_format, triple_format, list_format, fixed_list_format, bytes_format, text_format}
-pub use Rattle.tls_codec_grammar.specs.Tagged.{MeetVariantLaws, Variants, no_variant, variant, tagged_format}
+pub use Rattle.tls_codec_grammar.specs.Tagged.{MeetsVariantLaws, Variants, no_variant, variant, tagged_format}
 pub use Rattle.tls_codec_grammar.specs.Lawful.{MeetsLaws, MeetsLawsInside}
 pub use Rattle.tls_codec_grammar.specs.Contexts.{EachMeetsLaws, chosen_format, has_tag, is_number, present_format, then_format}
 pub use Rattle.tls_codec_grammar.specs.Inside.{ReadsInside, bytes_to_end_format, enclosed_format, zeros_format}

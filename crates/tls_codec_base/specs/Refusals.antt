@@ -28,7 +28,7 @@ part_names part names x e = Refuses part.spells part.lean x e × names x e
 -- ---- what is named after a prefix
 
 -- x has such a front, and the error is one that is named of the rest
-pub record NamedBehind (Front : List ℕ → Type 0) (names : SliceNames) (x : List ℕ) (e : Error) : Type 0 where
+pub record NamedAfter (Front : List ℕ → Type 0) (names : SliceNames) (x : List ℕ) (e : Error) : Type 0 where
   pub front : List ℕ
   pub rest : List ℕ
   pub whole : x ≡ front ++ rest
@@ -36,7 +36,7 @@ pub record NamedBehind (Front : List ℕ → Type 0) (names : SliceNames) (x : L
   pub named : names rest e
 
 -- the same from a source after x was seen of it, by the counts in between; no count had fallen
-pub record SourceNamedBehind (Front : List ℕ → Type 0) (names : Causes) (x : List ℕ) (old new : Counts) (e : Error) : Type 0 where
+pub record SourceNamedAfter (Front : List ℕ → Type 0) (names : Causes) (x : List ℕ) (old new : Counts) (e : Error) : Type 0 where
   pub front : List ℕ
   pub rest : List ℕ
   pub between : Counts
@@ -72,14 +72,14 @@ IsOtherTag = Says (codes "option tag is not 0 or 1")
 -- from a slice: there is no tag, it is another one, or after the tag 1 the payload is refused
 abbrev pub option_names : SliceNames → SliceNames
 option_names payload x e =
-    ((x ≡ []) × (e ≡ EndOfStream)) ⊎ (NamedBehind IsOtherByte (λ rest error. IsOtherTag error) x e ⊎ NamedBehind IsPayloadTag payload x e)
+    ((x ≡ []) × (e ≡ EndOfStream)) ⊎ (NamedAfter IsOtherByte (λ rest error. IsOtherTag error) x e ⊎ NamedAfter IsPayloadTag payload x e)
 
 -- from a source: the tag isn't read, it is another one, or after the tag 1 the payload is refused
 abbrev pub option_source_names : Causes → Causes
 option_source_names payload x old new e =
     ReadRefused 1 x old new e
-    ⊎ (SourceNamedBehind IsOtherByte (λ rest before after error. IsOtherTag error) x old new e
-    ⊎ SourceNamedBehind IsPayloadTag payload x old new e)
+    ⊎ (SourceNamedAfter IsOtherByte (λ rest before after error. IsOtherTag error) x old new e
+    ⊎ SourceNamedAfter IsPayloadTag payload x old new e)
 
 -- ---- products
 
@@ -89,12 +89,12 @@ IsSpelling spells s = (v : Tree) × spells Reading s v
 
 -- from a slice: the first part is refused, or after a spelling of it the others are
 abbrev pub fields_names : Format → (first others : SliceNames) → SliceNames
-fields_names part first others x e = part_names part first x e ⊎ NamedBehind (IsSpelling part.spells) others x e
+fields_names part first others x e = part_names part first x e ⊎ NamedAfter (IsSpelling part.spells) others x e
 
 -- the same from a source
 abbrev pub fields_source_names : Format → (first others : Causes) → Causes
 fields_source_names part first others x old new e =
-    part_source_names part first x old new e ⊎ SourceNamedBehind (IsSpelling part.spells) others x old new e
+    part_source_names part first x old new e ⊎ SourceNamedAfter (IsSpelling part.spells) others x old new e
 
 -- ---- the end of a source
 
@@ -107,7 +107,7 @@ pub record SawSpelling {S : Type 0} (source : Ghosts S) (spells : Grammar) (old 
 -- no value is read, or the source isn't at its end after one
 abbrev pub to_end_names : Format → Causes → Causes
 to_end_names f names x old new e =
-    part_source_names f names x old new e ⊎ SourceNamedBehind (IsSpelling f.spells) EndRefused x old new e
+    part_source_names f names x old new e ⊎ SourceNamedAfter (IsSpelling f.spells) EndRefused x old new e
 
 -- ---- lists
 
@@ -138,7 +138,7 @@ element_names element names left x e =
 
 -- from a slice: after some elements the next one isn't taken
 abbrev pub elements_names : Format → SliceNames → ℕ → SliceNames
-elements_names element names n x e = (left : ℕ) × NamedBehind (IsRun element.spells n left) (element_names element names left) x e
+elements_names element names n x e = (left : ℕ) × NamedAfter (IsRun element.spells n left) (element_names element names left) x e
 
 -- from a source: an element is refused that ends where the list does
 abbrev pub element_source_names : Format → Causes → ℕ → Causes
@@ -149,7 +149,7 @@ element_source_names element names left x old new e =
 abbrev pub elements_source_names : Format → Causes → ℕ → Causes
 elements_source_names element names n x old new e =
     (e ≡ OutOfMemory)
-    ⊎ ((left : ℕ) × SourceNamedBehind (IsRun element.spells n left) (element_source_names element names left) x old new e)
+    ⊎ ((left : ℕ) × SourceNamedAfter (IsRun element.spells n left) (element_source_names element names left) x old new e)
 
 -- the elements up to a source's limit are refused so
 abbrev pub NamedWithin : {S : Type 0} → Format → Causes → Ghosts S → Bounded S → Bounded S → Error → Type 0
@@ -159,13 +159,13 @@ NamedWithin element names source old new e =
 -- from a slice: the length is refused, or after a length the elements are refused
 abbrev pub counted_list_names : Field → Format → SliceNames → SliceNames
 counted_list_names field element names x e =
-    field.refuses x e ⊎ ((n : ℕ) × NamedBehind (λ s. field.spells s n) (elements_names element names n) x e)
+    field.refuses x e ⊎ ((n : ℕ) × NamedAfter (λ s. field.spells s n) (elements_names element names n) x e)
 
 -- from a source: the length isn't read, or after it the elements are refused
 abbrev pub counted_list_source_names : Field → Format → Causes → Causes
 counted_list_source_names field element names x old new e =
     NumberNotRead field.refuses x old new e
-    ⊎ ((n : ℕ) × SourceNamedBehind (λ s. field.spells s n) (elements_source_names element names n) x old new e)
+    ⊎ ((n : ℕ) × SourceNamedAfter (λ s. field.spells s n) (elements_source_names element names n) x old new e)
 
 -- the same of lists after a variable-length integer
 abbrev pub list_names : Format → SliceNames → SliceNames

@@ -4,7 +4,7 @@ use Rattle.tls_codec_wire.specs.Digits.{Digits}
 use Rattle.tls_codec_wire.specs.Refused.{Causes}
 use Rattle.tls_codec_wire.specs.Transfer.{ReadRefused}
 use Rattle.tls_codec_wire.specs.declared.error.Error.TheVariants.{EndOfStream, UnknownValue}
-use Rattle.tls_codec_base.specs.Refusals.{NamedBehind, SliceNames, SourceNamedBehind}
+use Rattle.tls_codec_base.specs.Refusals.{NamedAfter, SliceNames, SourceNamedAfter}
 
 abbrev pub either_names : Bool → SliceNames → SliceNames → SliceNames
 either_names true these those = these
@@ -37,9 +37,9 @@ variant_source_names own parts others tag = either_source_names (tag == own) par
 
 -- from a slice: there is no tag in k bytes, or the error is named after one
 abbrev pub tagged_names : ℕ → (ℕ → SliceNames) → SliceNames
-tagged_names k variants x e = ((e ≡ EndOfStream) × (length x < k)) ⊎ ((tag : ℕ) × NamedBehind (λ s. Digits k s tag) (variants tag) x e)
+tagged_names k variants x e = ((e ≡ EndOfStream) × (length x < k)) ⊎ ((tag : ℕ) × NamedAfter (λ s. Digits k s tag) (variants tag) x e)
 
 -- from a source: the tag isn't read, or the error is named after one
 abbrev pub tagged_source_names : ℕ → (ℕ → Causes) → Causes
 tagged_source_names k variants x old new e =
-    ReadRefused k x old new e ⊎ ((tag : ℕ) × SourceNamedBehind (λ s. Digits k s tag) (variants tag) x old new e)
+    ReadRefused k x old new e ⊎ ((tag : ℕ) × SourceNamedAfter (λ s. Digits k s tag) (variants tag) x old new e)

@@ -6,7 +6,7 @@ use Rattle.tls_codec_grammar.specs.Tree.{Tree}
 use Rattle.tls_codec_grammar.specs.Grammar.{Direction}
 use Rattle.tls_codec_grammar.specs.Format.{Format, nothing_format}
 use Rattle.tls_codec_grammar.specs.Lawful.{MeetsLaws}
-use Rattle.tls_codec_grammar.specs.Tagged.{MeetVariantLaws, Variants, either_format, no_format, tagged_format}
+use Rattle.tls_codec_grammar.specs.Tagged.{MeetsVariantLaws, Variants, either_format, no_format, tagged_format}
 use Rattle.tls_codec_grammar.specs.laws.FormatLaws.{nothing_meets}
 use Rattle.tls_codec_grammar.specs.laws.TaggedLaws.{no_variant_meets}
 use Rattle.tls_codec_base.specs.Refusals.{SliceNames}
@@ -40,7 +40,7 @@ takes_none : (b : Bool) → (either_format b nothing_format no_format).lean ≡ 
 takes_none true h = h
 takes_none false h = h
 
-pub values_meet : (has : ℕ → Bool) → MeetVariantLaws (values has)
+pub values_meet : (has : ℕ → Bool) → MeetsVariantLaws (values has)
 values_meet has = record {
   parts = λ tag. value_meets (has tag);
   unknown = λ tag h d s v p. none_spelled (has tag) h d s v p;

@@ -11,7 +11,7 @@
 //! - `Vec<T>`: elements in one context, after their length. Calls on elements: [`lists`](crate::lists).
 //! - [`split_enclosed`], [`read_enclosed`], [`write_enclosed`], [`append_enclosed`]: a value that fills what a length
 //!   counts.
-//! - [`present`]: what [`When`] does, for code of your own; [`misfit`], the error for a value that
+//! - [`present`]: what [`When`] does, for code of your own; [`does_not_fit`], the error for a value that
 //!   doesn't fit.
 
 mod always;
@@ -28,7 +28,7 @@ mod when;
 pub use always::{Always, ByRefIn};
 pub use by_ref_then::{ByRefThen, ByRefThen2};
 pub use enclosed::{append_enclosed, read_enclosed, split_enclosed, write_enclosed};
-pub use present::misfit;
+pub use present::does_not_fit;
 pub use then::Then;
 pub use traits::{DeserializeBytesFor, DeserializeFor, SerializeFor, SizeFor};
 pub use when::{ByRefWhen, Condition, When};

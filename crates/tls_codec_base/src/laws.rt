@@ -9,7 +9,7 @@
 ghost use Rattle.std.specs.Prelude.{◌≡◌, ◌↔◌, ℕ, ◌<◌, ◌^◌, List, [], ◌++◌, length, Vec};
 ghost use Rattle.std.specs.Global.{Global};
 ghost use Rattle.std.specs.Io.KnownBytes.{Appends};
-ghost use Rattle.tls_codec_wire.specs.Device.{IsBeginning};
+ghost use Rattle.tls_codec_wire.specs.Device.{IsPrefix};
 ghost use Rattle.tls_codec_wire.specs.Digits.{AreBytes};
 ghost use Rattle.tls_codec_grammar.specs.Tree.{Tree, Empty, Join, number_trees, trees};
 ghost use Rattle.tls_codec_grammar.specs.Decoding.{Begins, ComesFirst, GaveSpelling, NoneBegins};
@@ -55,7 +55,7 @@ pub fn spellings_are_prefix_free<T: Size>()
     ensures prefix { (s t : List ℕ) (v w : Tree)
         → T.format.spells Reading s v
         → T.format.spells Reading t w
-        → IsBeginning s t
+        → IsPrefix s t
         → s ≡ t }
     ensures value { (s : List ℕ) (v w : Tree)
         → T.format.spells Reading s v
@@ -87,7 +87,7 @@ pub fn forms_cut_short_have_no_spelling<T: Size>()
     ensures { (part form : List ℕ) (v : Tree)
         → IsShortest T.format.spells form v
         → IsFull T.format.spells v
-        → IsBeginning part form
+        → IsPrefix part form
         → length part < length form
         → NoneBegins T.format.spells part }
 {}

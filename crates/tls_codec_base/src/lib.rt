@@ -16,7 +16,7 @@
 //! - [`context`]: parts that something read earlier decides, with four traits of their own.
 //! - [`tags`]: [`unknown_value`], the error for a tag that an enum of your own doesn't have.
 //! - [`lists`]: the engines that every list goes through. [`vectors`]: `Vec<T>` and `&[T]`.
-//! - [`ends`]: [`deserialize_to_end`], a value and the end of its source. [`rooms`]: [`first_room`], room
+//! - [`ends`]: [`deserialize_to_end`], a value and the end of its source. [`rooms`]: [`reserve_encoding`], room
 //!   for a whole encoding.
 //! - [`texts`]: `String` and `&str`, by [`opaque`], bytes after their length.
 //! - [`laws`]: what is lawful if its parts are. [`refusals`]: where `TrailingData` and `InvalidVectorLength`
@@ -50,7 +50,7 @@ pub use context::{
     DeserializeFor, SerializeFor, SizeFor, Then, When,
 };
 pub use ends::deserialize_to_end;
-pub use rooms::first_room;
+pub use rooms::reserve_encoding;
 pub use tags::unknown_value;
 pub use tls_codec_grammar::{LengthField, Within, opaque};
 pub use traits::{Deserialize, DeserializeBytes, Serialize, SerializeBytes, Size};

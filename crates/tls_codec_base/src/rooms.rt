@@ -1,4 +1,4 @@
-//! [`first_room`], room for a whole encoding in a vector that has none yet.
+//! [`reserve_encoding`], room for a whole encoding in a vector that has none yet.
 ghost use Rattle.std.specs.Prelude.{◌≡◌, ◌≤◌, vec_capacity, max, OnOk};
 
 use crate::traits::Size;
@@ -11,11 +11,11 @@ use std::alloc::AllocError;
 ///
 /// ```rust
 /// let mut out = Vec::new(alloc);
-/// first_room(&(7u16, 8u32), &mut out)?;
+/// reserve_encoding(&(7u16, 8u32), &mut out)?;
 /// assert_eq!(rt; out.capacity(), 6);
 /// ```
 #[inline(always)]
-pub fn first_room<T: Size>(value: &T, out: &mut Vec<u8>) -> Result<(), AllocError>
+pub fn reserve_encoding<T: Size>(value: &T, out: &mut Vec<u8>) -> Result<(), AllocError>
     ensures same { out.new.items ≡ out.old.items }
     ensures room { vec_capacity out.old ≡ 0
         → OnOk result (T.format.announced (T.plain value.now) ≤ vec_capacity out.new) }

@@ -10,7 +10,7 @@ ghost use Rattle.tls_codec_grammar.specs.laws.FormatLaws.{varint_meets};
 
 use crate::traits::{Deserialize, DeserializeBytes, Serialize, SerializeBytes, Size};
 use std::alloc::Global;
-use tls_codec_wire::quic::{least_width, read_varint, split_varint, write_varint};
+use tls_codec_wire::quic::{read_varint, split_varint, varint_width, write_varint};
 use tls_codec_wire::{Error, Sink, Source, TlsVarInt};
 
 impl Size for TlsVarInt {
@@ -19,7 +19,7 @@ impl Size for TlsVarInt {
     ghost format = { varint_format };
 
     fn tls_serialized_len(&self) -> usize {
-        least_width(self.value())
+        varint_width(self.value())
     }
 
     ghost lawful = { varint_meets };

@@ -3,8 +3,8 @@ ghost use Rattle.std.specs.Prelude.{IfOk};
 ghost use Rattle.tls_codec_bench.specs.Calls.{IsEndOf};
 
 use mls::{KeyPackage, PrivateMessage, PrivateMessageView, UpdatePath, Welcome};
-use mls_leaf::KeyPackageView;
-use mls_proposals::{UpdatePathView, WelcomeView};
+use mls_group::{UpdatePathView, WelcomeView};
+use mls_tree::KeyPackageView;
 use tls_codec_base::LengthField;
 use tls_codec_bytes::TlsByteVec;
 use tls_codec_validate::{Rejected, Validate};

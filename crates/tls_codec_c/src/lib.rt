@@ -35,11 +35,11 @@ pub extern "C" fn tls_codec_opaque_v_locate(bytes: &[u8], content: &mut Span) ->
     ensures content { result.status ≡ 0 → IsContentFrom variable_field bytes.now 0 content.new }
     ensures kept { result.status ≢ 0 → content.new ≡ content.old }
 {
-    let said = validate::<VLBytes>(bytes);
-    if said.status == ACCEPTED {
+    let outcome = validate::<VLBytes>(bytes);
+    if outcome.status == ACCEPTED {
         *content = content_at::<TlsVarInt>(bytes, 0);
     }
-    said
+    outcome
 }
 
 /// `opaque content<0..2^8-1>` (RFC 8446, section 3.4), and where its content is.
@@ -53,11 +53,11 @@ pub extern "C" fn tls_codec_opaque_u8_locate(bytes: &[u8], content: &mut Span) -
     ensures content { result.status ≡ 0 → IsContentFrom (fixed_field 1) bytes.now 0 content.new }
     ensures kept { result.status ≢ 0 → content.new ≡ content.old }
 {
-    let said = validate::<TlsByteVecU8>(bytes);
-    if said.status == ACCEPTED {
+    let outcome = validate::<TlsByteVecU8>(bytes);
+    if outcome.status == ACCEPTED {
         *content = content_at::<u8>(bytes, 0);
     }
-    said
+    outcome
 }
 
 /// `opaque content<0..2^16-1>`, and where its content is.
@@ -71,11 +71,11 @@ pub extern "C" fn tls_codec_opaque_u16_locate(bytes: &[u8], content: &mut Span) 
     ensures content { result.status ≡ 0 → IsContentFrom (fixed_field 2) bytes.now 0 content.new }
     ensures kept { result.status ≢ 0 → content.new ≡ content.old }
 {
-    let said = validate::<TlsByteVecU16>(bytes);
-    if said.status == ACCEPTED {
+    let outcome = validate::<TlsByteVecU16>(bytes);
+    if outcome.status == ACCEPTED {
         *content = content_at::<u16>(bytes, 0);
     }
-    said
+    outcome
 }
 
 /// `opaque content<0..2^24-1>`, and where its content is.
@@ -89,9 +89,9 @@ pub extern "C" fn tls_codec_opaque_u24_locate(bytes: &[u8], content: &mut Span) 
     ensures content { result.status ≡ 0 → IsContentFrom (fixed_field 3) bytes.now 0 content.new }
     ensures kept { result.status ≢ 0 → content.new ≡ content.old }
 {
-    let said = validate::<TlsByteVecU24>(bytes);
-    if said.status == ACCEPTED {
+    let outcome = validate::<TlsByteVecU24>(bytes);
+    if outcome.status == ACCEPTED {
         *content = content_at::<U24>(bytes, 0);
     }
-    said
+    outcome
 }

@@ -9,7 +9,7 @@ use Rattle.tls_codec_wire.specs.Device.{GivesNothing}
 use Rattle.tls_codec_wire.specs.declared.device.Source.{Ghosts}
 use Rattle.tls_codec_wire.specs.declared.error.Error.TheVariants.{UnknownValue}
 use Rattle.tls_codec_wire.proofs.Refused.{refused_now}
-use Rattle.tls_codec_grammar.specs.Decoding.{LeavesSource, Named}
+use Rattle.tls_codec_grammar.specs.Decoding.{Named, RefusesFromSource}
 use Rattle.tls_codec_wire.specs.Refused.{Causes}
 use Rattle.tls_codec_base.specs.Refusals.{SliceNames}
 use Rattle.tls_codec_base.specs.TaggedNames.{either_names, either_source_names, no_variant_source_names}
@@ -43,7 +43,7 @@ source_names_past t most f g e = ap (λ (u : Bool). either_source_names u f g) (
 -- ---- a tag that no case has
 
 module _ {S : Type 0} {source : Ghosts S} {a : S} (n : ℕ) (nothing : GivesNothing source.given) where
-  pub unknown_leaves : LeavesSource no_format source a a (UnknownValue n)
+  pub unknown_leaves : RefusesFromSource no_format source a a (UnknownValue n)
   unknown_leaves = record { refused = refused_now [] nothing (nothing a) (λ rest. record { cause = inl (λ v r b. b.spelled); memory = λ h. absurd cc }) }
 
   pub unknown_named : Named no_format (no_variant_source_names n) source a a (UnknownValue n)

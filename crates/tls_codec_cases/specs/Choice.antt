@@ -8,8 +8,8 @@ use Rattle.tls_codec_wire.specs.declared.error.Error.TheVariants.{UnknownValue}
 use Rattle.tls_codec_grammar.specs.Tree.{Tree, Number, Join}
 use Rattle.tls_codec_grammar.specs.Format.{Format}
 use Rattle.tls_codec_grammar.specs.Lawful.{MeetsLaws}
-use Rattle.tls_codec_grammar.specs.Decoding.{Begins, GaveSpelling, LeavesSource, Refuses}
-use Rattle.tls_codec_grammar.specs.Tagged.{MeetVariantLaws, Variants, either_format, tagged_format}
+use Rattle.tls_codec_grammar.specs.Decoding.{Begins, GaveSpelling, Refuses, RefusesFromSource}
+use Rattle.tls_codec_grammar.specs.Tagged.{MeetsVariantLaws, Variants, either_format, tagged_format}
 use Rattle.tls_codec_grammar.specs.laws.TaggedLaws.{tagged_meets}
 use Rattle.tls_codec_base.specs.Refusals.{SliceNames}
 use Rattle.tls_codec_base.specs.TaggedNames.{either_names, either_source_names, tagged_names, tagged_source_names}
@@ -40,7 +40,7 @@ choice_source_names sound k names = either_source_names sound (tagged_source_nam
 
 abbrev pub ReadsParts : {C S : Type 0} → Variants → (C → ℕ) → (C → Tree) → ℕ → Ghosts S → S → S → Result C Error → Type 0
 ReadsParts variants tag_of parts tag source old new (Ok c) = (tag_of c ≡ tag) × GaveSpelling source.given (variants.parts tag).spells old new (parts c)
-ReadsParts variants tag_of parts tag source old new (Err e) = LeavesSource (variants.parts tag) source old new e
+ReadsParts variants tag_of parts tag source old new (Err e) = RefusesFromSource (variants.parts tag) source old new e
 
 abbrev pub SplitsParts : {C : Type 0} → Variants → (C → ℕ) → (C → Tree) → ℕ → List ℕ → Result (C × Bor (List ℕ)) Error → Type 0
 SplitsParts variants tag_of parts tag x (Ok found) = (tag_of found.0 ≡ tag) × Begins (variants.parts tag).spells x (parts found.0) found.1.now
@@ -61,7 +61,7 @@ refused_meets = record {
   outside = λ v h. absurd h;
 }
 
-pub choice_meets : (sound : Bool) (k : ℕ) {variants : Variants} → k < 2 ^ 64 → MeetVariantLaws variants → MeetsLaws (choice_format sound k variants)
+pub choice_meets : (sound : Bool) (k : ℕ) {variants : Variants} → k < 2 ^ 64 → MeetsVariantLaws variants → MeetsLaws (choice_format sound k variants)
 choice_meets true k small l = tagged_meets k small l
 choice_meets false k small l = refused_meets
 

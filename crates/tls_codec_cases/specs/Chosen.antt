@@ -5,7 +5,7 @@ use Rattle.tls_codec_wire.specs.declared.error.Error.TheVariants.{UnknownValue}
 use Rattle.tls_codec_grammar.specs.Tree.{Tree, Number}
 use Rattle.tls_codec_grammar.specs.Format.{Format}
 use Rattle.tls_codec_grammar.specs.Lawful.{MeetsLaws}
-use Rattle.tls_codec_grammar.specs.Tagged.{MeetVariantLaws, Variants, either_format}
+use Rattle.tls_codec_grammar.specs.Tagged.{MeetsVariantLaws, Variants, either_format}
 use Rattle.tls_codec_grammar.specs.Contexts.{chosen_format}
 use Rattle.tls_codec_grammar.specs.laws.ContextLaws.{chosen_meets}
 use Rattle.tls_codec_base.specs.Refusals.{SliceNames}
@@ -27,6 +27,6 @@ select_names sound names = either_names sound names (λ x e. e ≡ UnknownValue 
 abbrev pub select_source_names : Bool → Causes → Causes
 select_source_names sound names = either_source_names sound names (λ x old new e. e ≡ UnknownValue 0)
 
-pub select_meets : (sound : Bool) (n : ℕ) {variants : Variants} → MeetVariantLaws variants → MeetsLaws (select_format sound n variants)
+pub select_meets : (sound : Bool) (n : ℕ) {variants : Variants} → MeetsVariantLaws variants → MeetsLaws (select_format sound n variants)
 select_meets true n l = chosen_meets n l
 select_meets false n l = refused_meets

@@ -6,7 +6,7 @@ use Rattle.tls_codec_grammar.specs.Grammar.{Direction}
 use Rattle.tls_codec_grammar.specs.Tree.{Tree}
 use Rattle.tls_codec_grammar.specs.Format.{Format}
 use Rattle.tls_codec_grammar.specs.Lawful.{MeetsLaws}
-use Rattle.tls_codec_grammar.specs.Tagged.{MeetVariantLaws, Variants, either_format, no_format}
+use Rattle.tls_codec_grammar.specs.Tagged.{MeetsVariantLaws, Variants, either_format, no_format}
 use Rattle.tls_codec_grammar.specs.laws.TaggedLaws.{no_variant_meets}
 use Rattle.tls_codec_base.specs.Refusals.{SliceNames}
 use Rattle.tls_codec_base.specs.TaggedNames.{either_names, either_source_names, no_variant_names, no_variant_source_names}
@@ -39,7 +39,7 @@ takes_memory : (b : Bool) (parts : Format) → (either_format b parts no_format)
 takes_memory true parts h = h
 takes_memory false parts h = absurd cc
 
-pub others_meet : (most : ℕ) {parts : Format} → MeetsLaws parts → MeetVariantLaws (others most parts)
+pub others_meet : (most : ℕ) {parts : Format} → MeetsLaws parts → MeetsVariantLaws (others most parts)
 others_meet most {parts} l = record {
   parts = λ tag. there_or_none (nat_le tag most) l;
   unknown = λ tag h d s v p. none_spelled (nat_le tag most) parts h d s v p;

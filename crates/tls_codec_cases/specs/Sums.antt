@@ -5,7 +5,7 @@ use Rattle.tls_codec_grammar.specs.Tree.{Tree}
 use Rattle.tls_codec_grammar.specs.Grammar.{Direction}
 use Rattle.tls_codec_grammar.specs.Format.{Format}
 use Rattle.tls_codec_grammar.specs.Lawful.{MeetsLaws}
-use Rattle.tls_codec_grammar.specs.Tagged.{MeetVariantLaws, Variants, either_format}
+use Rattle.tls_codec_grammar.specs.Tagged.{MeetsVariantLaws, Variants, either_format}
 use Rattle.tls_codec_wire.specs.Refused.{Causes}
 use Rattle.tls_codec_base.specs.Refusals.{SliceNames}
 use Rattle.tls_codec_base.specs.TaggedNames.{either_names, either_source_names}
@@ -62,7 +62,7 @@ either_takes_memory : (b : Bool) (these those : Format) (x y : Bool) → (these.
 either_takes_memory true these those x y f g h = these_take_memory x y (f h)
 either_takes_memory false these those x y f g h = those_take_memory x y (g h)
 
-pub either_variants_meet : {these those : Variants} → MeetVariantLaws these → MeetVariantLaws those → MeetVariantLaws (either_variants these those)
+pub either_variants_meet : {these those : Variants} → MeetsVariantLaws these → MeetsVariantLaws those → MeetsVariantLaws (either_variants these those)
 either_variants_meet {these} {those} l m = record {
   parts = λ tag. either_meets (these.has tag) (these.parts tag) (those.parts tag) (l.parts tag) (m.parts tag);
   unknown = λ tag h d s v p. neither_spelled (these.has tag) (those.has tag) (these.parts tag) (those.parts tag) d s v (λ e. m.unknown tag e d s v) h p;

@@ -6,7 +6,7 @@ ghost use Rattle.tls_codec_grammar.specs.Tree.{Join, Number, Tree};
 ghost use Rattle.tls_codec_grammar.specs.Format.{fields_format, number_format};
 ghost use Rattle.tls_codec_grammar.specs.Encoding.{AppendsForm, Writes};
 ghost use Rattle.tls_codec_grammar.specs.Decoding.{Named};
-ghost use Rattle.tls_codec_grammar.specs.Tagged.{MeetVariantLaws, Variants};
+ghost use Rattle.tls_codec_grammar.specs.Tagged.{MeetsVariantLaws, Variants};
 ghost use Rattle.tls_codec_cases.specs.Choice.{ReadsParts, SplitsParts};
 
 use crate::tag::Tag;
@@ -67,7 +67,7 @@ pub trait Cases: Tags {
 
     ghost avoided: { (p : ℕ → Bool) (c : Self) → avoid p ≡ true → p (tag_of c) ≡ false };
 
-    ghost meet: { MeetVariantLaws Self.variants };
+    ghost meet: { MeetsVariantLaws Self.variants };
 }
 
 /// A sum that can be written.

@@ -6,7 +6,7 @@ ghost use Rattle.tls_codec_cases.specs.Chosen.{number_of, select_format, select_
 
 use crate::cases::{Cases, ReadCases, SplitCases, WriteCases};
 use std::alloc::Global;
-use tls_codec_base::context::misfit;
+use tls_codec_base::context::does_not_fit;
 use tls_codec_base::{
     DeserializeBytesFor, DeserializeFor, SerializeFor, Size, SizeFor, unknown_value,
 };
@@ -93,7 +93,7 @@ impl<K: Selector, C: WriteCases> SerializeFor<K> for Chosen<C> {
             return Err(unknown_value(0));
         }
         if self.0.tag() != context.selects() {
-            return Err(misfit());
+            return Err(does_not_fit());
         }
         self.0.write_parts(writer)
     }
@@ -104,7 +104,7 @@ impl<K: Selector, C: WriteCases> SerializeFor<K> for Chosen<C> {
             return Err(unknown_value(0));
         }
         if context.selects() != self.0.tag() {
-            return Err(misfit());
+            return Err(does_not_fit());
         }
         self.0.append_parts(out)
     }

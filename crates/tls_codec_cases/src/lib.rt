@@ -40,4 +40,4 @@ pub use other::Other;
 pub use padded::Padded;
 pub use tag::Tag;
 pub use tagged::Tagged;
-pub use written_as::{Raised, append_as, append_as_for, write_as, write_as_for};
+pub use written_as::{EncoderError, append_as, append_as_for, write_as, write_as_for};

@@ -10,7 +10,7 @@ use crate::cases::Tags;
 use crate::tag::Tag;
 use std::alloc::Global;
 use std::marker::PhantomData;
-use tls_codec_base::context::misfit;
+use tls_codec_base::context::does_not_fit;
 use tls_codec_base::{ByRef, Deserialize, DeserializeBytes, unknown_value};
 use tls_codec_wire::{Error, Source};
 
@@ -37,7 +37,7 @@ impl<C: Tags, U: Tag, T: Drop> Other<C, U, T> {
             (λ e. (C.variants.has (U.number tag) ≡ true) × DoesNotFit e) }
     {
         if C::has(tag.number()) {
-            return Err(misfit());
+            return Err(does_not_fit());
         }
         Ok(Other {
             tag,

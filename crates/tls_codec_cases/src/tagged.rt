@@ -19,7 +19,7 @@ pub struct Tagged<T, C>(pub C, pub PhantomData<T>);
 
 // The cases have tags of their own, which a `T` holds.
 #[inline(always)]
-fn are_told<T: Tag, C: Cases>() -> bool
+fn tags_are_valid<T: Tag, C: Cases>() -> bool
     ensures { result ≡ (C.distinct && C.within T.most) }
 {
     C::are_distinct() && C::are_within(T::greatest())
@@ -32,7 +32,7 @@ impl<T: Tag, C: Cases> Size for Tagged<T, C> {
 
     #[inline(always)]
     fn tls_serialized_len(&self) -> usize {
-        if !are_told::<T, C>() {
+        if !tags_are_valid::<T, C>() {
             return 0;
         }
         T::width().saturating_add(self.0.parts_len())
@@ -44,7 +44,7 @@ impl<T: Tag, C: Cases> Size for Tagged<T, C> {
 impl<T: Tag, C: WriteCases> Serialize for Tagged<T, C> {
     #[inline(always)]
     fn tls_serialize<W: Sink>(&self, writer: &mut W) -> Result<usize, Error> {
-        if !are_told::<T, C>() {
+        if !tags_are_valid::<T, C>() {
             return Err(unknown_value(0));
         }
         write_tagged::<T, C, W>(&self.0, writer)
@@ -52,7 +52,7 @@ impl<T: Tag, C: WriteCases> Serialize for Tagged<T, C> {
 
     #[inline(always)]
     fn tls_serialize_into(&self, out: &mut Vec<u8>) -> Result<usize, Error> {
-        if !are_told::<T, C>() {
+        if !tags_are_valid::<T, C>() {
             return Err(unknown_value(0));
         }
         append_tagged::<T, C>(&self.0, out)
@@ -64,7 +64,7 @@ impl<T: Tag, C: ReadCases> Deserialize for Tagged<T, C> {
 
     #[inline(always)]
     fn tls_deserialize<R: Source>(alloc: Global, src: &mut R) -> Result<Tagged<T, C>, Error> {
-        if !are_told::<T, C>() {
+        if !tags_are_valid::<T, C>() {
             return Err(unknown_value(0));
         }
         let tag = T::read_tag(alloc, src)?;
@@ -78,7 +78,7 @@ impl<T: Tag, C: SplitCases> DeserializeBytes for Tagged<T, C> {
 
     #[inline(always)]
     fn tls_deserialize_bytes(alloc: Global, whole: &[u8]) -> Result<(Tagged<T, C>, &[u8]), Error> {
-        if !are_told::<T, C>() {
+        if !tags_are_valid::<T, C>() {
             return Err(unknown_value(0));
         }
         let (tag, rest) = T::split_tag(alloc, whole)?;

@@ -11,7 +11,7 @@ use Rattle.tls_codec_grammar.specs.Tree.{Tree}
 use Rattle.tls_codec_grammar.specs.Grammar.{Grammar, counted, sized}
 use Rattle.tls_codec_grammar.specs.Field.{Field}
 use Rattle.tls_codec_grammar.specs.Lawful.{MeetsFieldLaws}
-use Rattle.tls_codec_grammar.specs.Decoding.{Begins, GaveSpelling, NoneBegins, Refuses, RefusesSource}
+use Rattle.tls_codec_grammar.specs.Decoding.{Begins, GaveSpelling, NoneBegins, Refuses, RefusesSeen}
 use Rattle.tls_codec_grammar.proofs.NumberRefusals.{number_refused, number_refuses}
 use Rattle.tls_codec_wire.proofs.Later.{fault_later, rose_later}
 use Rattle.tls_codec_wire.proofs.Refused.{refused_later}
@@ -59,7 +59,7 @@ module _ {field : Field} (m : MeetsFieldLaws field) (inside : Grammar) where
     spelled = record { count = p.front; inside = q.front; whole = refl; counts = subst (field.spells p.front) (sym q.spelled.0) p.spelled; is_inside = q.spelled.1 };
   }
 
-  pub counted_refused : {lean : Bool} {start before after : Counts} {e : Error} (front : List ℕ) (n : ℕ) → NoneFell start before → field.spells front n → (y : List ℕ) → RefusesSource (sized n inside) lean y before after e → RefusesSource (counted field.spells inside) lean (front ++ y) start after e
+  pub counted_refused : {lean : Bool} {start before after : Counts} {e : Error} (front : List ℕ) (n : ℕ) → NoneFell start before → field.spells front n → (y : List ℕ) → RefusesSeen (sized n inside) lean y before after e → RefusesSeen (counted field.spells inside) lean (front ++ y) start after e
   counted_refused {lean} {start} {before} {after} {e} front n fell p y r = record {
     cause = elim r.cause [
       | inl none ↦ inl (counted_none_at_inside (front ++ y) y n front refl p none)
@@ -73,7 +73,7 @@ module _ {field : Field} (m : MeetsFieldLaws field) (inside : Grammar) where
   }
 
   pub counted_leaves : {S : Type 0} {source : Ghosts S} {a b c : S} {n : ℕ} {lean : Bool} {e : Error} → GivesInOrder source.given → NoCountFalls source.given source.counts → GaveNumber source.given field.spells a b n
-      → RefusedFor source (RefusesSource (sized n inside) lean) b c e → RefusedFor source (RefusesSource (counted field.spells inside) lean) a c e
+      → RefusedFor source (RefusesSeen (sized n inside) lean) b c e → RefusedFor source (RefusesSeen (counted field.spells inside) lean) a c e
   counted_leaves {S} {source} {a} {b} {c} {n} order falls p r = refused_later p.front order p.held (counted_refused p.front n (falls a p.front b p.held) p.spelled) r
 
   -- ---- the field is refused
@@ -82,5 +82,5 @@ module _ {field : Field} (m : MeetsFieldLaws field) (inside : Grammar) where
   pub count_refuses : {lean : Bool} (x : List ℕ) (e : Error) → field.refuses x e → Refuses (counted field.spells inside) lean x e
   count_refuses = number_refuses (λ x e p. counted_none_at_count x (m.none x e p)) m.named
 
-  pub count_refused : {lean : Bool} (e : Error) (x : List ℕ) (old new : Counts) → NumberNotRead field.refuses x old new e → RefusesSource (counted field.spells inside) lean x old new e
+  pub count_refused : {lean : Bool} (e : Error) (x : List ℕ) (old new : Counts) → NumberNotRead field.refuses x old new e → RefusesSeen (counted field.spells inside) lean x old new e
   count_refused = number_refused (λ x e p. counted_none_at_count x (m.none x e p)) m.named

@@ -2,7 +2,7 @@
 use Rattle.std.proofs.Common.{◌≡◌, ℕ, ◌+◌, ◌<◌, List, [], ◌++◌, length, inl, inr, refl, sym, ap, subst, ◌∙◌, append_assoc, length-append, arith}
 use Rattle.std.specs.Io.KnownBytes.{Appends}
 use Rattle.std.proofs.KnownBytes.{Appends-nil, Appends-trans}
-use Rattle.tls_codec_wire.specs.Counts.{NoneFell, fall_never, stay}
+use Rattle.tls_codec_wire.specs.Counts.{NoneFell, none_fell_refl, none_fell_trans}
 use Rattle.tls_codec_wire.specs.declared.device.Sink.{Ghosts}
 use Rattle.tls_codec_wire.specs.Device.{Received}
 use Rattle.tls_codec_wire.specs.Numbers.{BeganNumber, SentNumber}
@@ -28,7 +28,7 @@ named_breaks {S} {f} {sink} {v} {old} {new} {e} l named same = record {
   held = subst (λ (s : S). Appends (sink.received old) (sink.received s) []) (sym same) (Appends-nil (sink.received old));
   beginning = λ form p. absurd (l.unspelled v e named form p.spelled);
   cause = inr named;
-  fell = subst (λ (s : S). NoneFell (sink.counts old) (sink.counts s)) (sym same) (stay (sink.counts old));
+  fell = subst (λ (s : S). NoneFell (sink.counts old) (sink.counts s)) (sym same) (none_fell_refl (sink.counts old));
 }
 
 -- a is the field for n bytes, whose number is announced
@@ -66,7 +66,7 @@ module _ {field : Field} (m : MeetsFieldLaws field) {inside : Format} (l : Meets
       shortest = counted_whole p q.shortest;
       held = Appends-trans (sink.received old) (sink.received mid) (sink.received new) a q.form held q.held;
       count = omega (arith, e, q.count, length-append a q.form);
-      fell = fall_never fell q.fell;
+      fell = none_fell_trans fell q.fell;
     }
 
     -- the field is refused
@@ -93,7 +93,7 @@ module _ {field : Field} (m : MeetsFieldLaws field) {inside : Format} (l : Meets
           let k = q.beginning form.0 form.2 in
           (k.0, form.1 ∙ ap (λ (u : List ℕ). a ++ u) k.1 ∙ sym (append_assoc a q.sent k.0));
       cause = cause_later (sink.counts old) (sink.counts mid) (sink.counts new) e fell (λ named. inr named) q.cause;
-      fell = fall_never fell q.fell;
+      fell = none_fell_trans fell q.fell;
     }
 
   -- ---- by what the calls on the field say

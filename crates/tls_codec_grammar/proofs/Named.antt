@@ -4,10 +4,10 @@ use Rattle.tls_codec_wire.specs.Refused.{Causes}
 use Rattle.tls_codec_wire.specs.declared.device.Source.{Ghosts}
 use Rattle.tls_codec_wire.specs.declared.error.Error.{Error}
 use Rattle.tls_codec_wire.proofs.Refused.{refused_so}
-use Rattle.tls_codec_grammar.specs.Decoding.{LeavesSource, Named}
+use Rattle.tls_codec_grammar.specs.Decoding.{Named, RefusesFromSource}
 use Rattle.tls_codec_grammar.specs.Format.{Format}
 
-pub named_leaves : {S : Type 0} {f : Format} {names : Causes} {source : Ghosts S} {old new : S} {e : Error} → Named f names source old new e → LeavesSource f source old new e
+pub named_leaves : {S : Type 0} {f : Format} {names : Causes} {source : Ghosts S} {old new : S} {e : Error} → Named f names source old new e → RefusesFromSource f source old new e
 named_leaves p = record { refused = refused_so (λ x q. q.0) p.refused }
 
 -- and by another name, if that says no more

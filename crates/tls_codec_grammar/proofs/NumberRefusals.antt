@@ -11,7 +11,7 @@ use Rattle.tls_codec_wire.specs.Transfer.{ReadRefused}
 use Rattle.tls_codec_grammar.specs.Tree.{Number}
 use Rattle.tls_codec_grammar.specs.Field.{RefusesDigits}
 use Rattle.tls_codec_grammar.specs.Grammar.{Grammar, number}
-use Rattle.tls_codec_grammar.specs.Decoding.{Named, NoneBegins, Refuses, RefusesSource}
+use Rattle.tls_codec_grammar.specs.Decoding.{Named, NoneBegins, Refuses, RefusesSeen}
 use Rattle.tls_codec_grammar.specs.Format.{number_format}
 
 module _ {spells : Grammar} {lean : Bool} {refuses : List ℕ → Error → Type 0}
@@ -19,7 +19,7 @@ module _ {spells : Grammar} {lean : Bool} {refuses : List ℕ → Error → Type
   pub number_refuses : (x : List ℕ) (e : Error) → refuses x e → Refuses spells lean x e
   number_refuses x e p = record { cause = inl (none x e p); memory = λ h. absurd ((named x e p).0 h) }
 
-  pub number_refused : (e : Error) (x : List ℕ) (old new : Counts) → NumberNotRead refuses x old new e → RefusesSource spells lean x old new e
+  pub number_refused : (e : Error) (x : List ℕ) (old new : Counts) → NumberNotRead refuses x old new e → RefusesSeen spells lean x old new e
   number_refused (DecodingError text) x old new (inl failed) = record { cause = inr (inl failed.1); memory = λ h. absurd cc }
   number_refused (DecodingError text) x old new (inr refused) = record { cause = inl (none x (DecodingError text) refused); memory = λ h. absurd cc }
   number_refused OutOfMemory x old new p = record { cause = inr (inr refl); memory = λ h. inr p }
@@ -32,7 +32,7 @@ none_in_fewer k x short (Number n) rest b = omega (arith, short, b.spelled.width
 none_in_fewer k x short _ rest b = absurd b.spelled
 
 -- if k bytes are not read, no number of as many is
-digits_not_read : (k : ℕ) (e : Error) (x : List ℕ) (old new : Counts) → ReadRefused k x old new e → RefusesSource (number k) true x old new e
+digits_not_read : (k : ℕ) (e : Error) (x : List ℕ) (old new : Counts) → ReadRefused k x old new e → RefusesSeen (number k) true x old new e
 digits_not_read k (DecodingError text) x old new p = record { cause = inr (inl p.1); memory = λ h. absurd cc }
 digits_not_read k EndOfStream x old new p = record { cause = inl (none_in_fewer k x p); memory = λ h. absurd cc }
 digits_not_read k OutOfMemory x old new p = record { cause = inr (inr refl); memory = λ h. inr p }

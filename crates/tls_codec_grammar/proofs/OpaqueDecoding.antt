@@ -15,7 +15,7 @@ use Rattle.tls_codec_grammar.specs.Field.{Field, IsCutOff}
 use Rattle.tls_codec_grammar.specs.Format.{counted_bytes_format}
 use Rattle.tls_codec_grammar.specs.Grammar.{Reading, content, number}
 use Rattle.tls_codec_grammar.specs.Lawful.{MeetsFieldLaws}
-use Rattle.tls_codec_grammar.specs.Decoding.{Begins, GaveSpelling, Named, NoneBegins, Refuses, RefusesSource}
+use Rattle.tls_codec_grammar.specs.Decoding.{Begins, GaveSpelling, Named, NoneBegins, Refuses, RefusesSeen}
 use Rattle.tls_codec_grammar.specs.Opaque.{OpaqueSourceRefused}
 use Rattle.tls_codec_grammar.proofs.ByteContents.{AreBytes-right, bytes_content, sized_short}
 use Rattle.tls_codec_grammar.proofs.CountedDecoding.{count_refused, counted_begins, counted_given, counted_none_at_count, counted_none_at_inside}
@@ -35,7 +35,7 @@ module _ {field : Field} (m : MeetsFieldLaws field) where
 
   -- what is cut off begins with no bytes after their length
   none_at_cut : (x : List ℕ) → IsCutOff field x → NoneBegins (counted_bytes_format field).spells x
-  none_at_cut x p = counted_none_at_inside m (content (number 1)) x p.behind p.declared p.begins.front p.begins.whole p.begins.spelled (sized_short p.declared (content (number 1)) p.behind p.short)
+  none_at_cut x p = counted_none_at_inside m (content (number 1)) x p.rest p.declared p.begins.front p.begins.whole p.begins.spelled (sized_short p.declared (content (number 1)) p.rest p.short)
 
   pub cut_off_refused : {lean : Bool} {x : List ℕ} {e : Error} → IsCutOff field x → field.cut_off e → Refuses (counted_bytes_format field).spells lean x e
   cut_off_refused {lean} {x} {e} p named = record { cause = inl (none_at_cut x p); memory = λ h. absurd ((m.cut e named).0 h) }
@@ -57,12 +57,12 @@ module _ {field : Field} (m : MeetsFieldLaws field) where
   pub content_not_read : (e : Error) (start before after : Counts) (front : List ℕ) (n : ℕ) → NoneFell start before → field.spells front n → (y : List ℕ) → BytesRefused n y before after e → OpaqueSourceRefused field (front ++ y) start after e
   content_not_read InvalidVectorLength start before after front n fell p y r = absurd (omega (arith, m.small n (m.held front n p), r))
   content_not_read (DecodingError text) start before after front n fell p y r = inl (r.0, fault_later start before after fell r.1)
-  content_not_read EndOfStream start before after front n fell p y r = inr (record { declared = n; behind = y; begins = record { front = front; whole = refl; spelled = p }; short = r })
+  content_not_read EndOfStream start before after front n fell p y r = inr (record { declared = n; rest = y; begins = record { front = front; whole = refl; spelled = p }; short = r })
   content_not_read OutOfMemory start before after front n fell p y r = inr (record { declared = n; rest = y; begins = record { front = front; whole = refl; spelled = p } })
   content_not_read _ start before after front n fell p y r = absurd r
 
   -- and that is a refusal of the source
-  pub bytes_not_read : (e : Error) (x : List ℕ) (old new : Counts) → OpaqueSourceRefused field x old new e → RefusesSource (counted_bytes_format field).spells false x old new e
+  pub bytes_not_read : (e : Error) (x : List ℕ) (old new : Counts) → OpaqueSourceRefused field x old new e → RefusesSeen (counted_bytes_format field).spells false x old new e
   bytes_not_read (DecodingError text) x old new p = count_refused m (content (number 1)) (DecodingError text) x old new p
   bytes_not_read OutOfMemory x old new p = record { cause = inr (inr refl); memory = λ h. inl refl }
   bytes_not_read EndOfStream x old new p = record { cause = inl (none_at_end p); memory = λ h. absurd cc }

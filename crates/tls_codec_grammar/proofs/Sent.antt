@@ -1,7 +1,7 @@
 -- A form that is sent in one piece.
 use Rattle.std.proofs.Common.{◌≡◌, ℕ, inl, List, subst, ◌∙◌}
 use Rattle.tls_codec_wire.specs.Counts.{NoneFell}
-use Rattle.tls_codec_wire.specs.Device.{IsBeginning, Received}
+use Rattle.tls_codec_wire.specs.Device.{IsPrefix, Received}
 use Rattle.tls_codec_wire.specs.Transfer.{WriteRefused}
 use Rattle.tls_codec_wire.specs.declared.device.Sink.{Ghosts}
 use Rattle.tls_codec_wire.specs.declared.error.Error.{Error}
@@ -21,7 +21,7 @@ module _ (f : Format) (v : Tree) (form : List ℕ) (p : IsShortest f.spells form
   breaks_whole e received refused fell = record {
     sent = received.front;
     held = received.held;
-    beginning = λ s q. subst (IsBeginning received.front) (least_one (λ t. f.spells Writing t v) form s p q) received.beginning;
+    beginning = λ s q. subst (IsPrefix received.front) (least_one (λ t. f.spells Writing t v) form s p q) received.beginning;
     cause = inl refused;
     fell = fell;
   }

@@ -12,7 +12,7 @@ use Rattle.tls_codec_wire.specs.declared.error.Error.{Error}
 use Rattle.tls_codec_grammar.specs.Tree.{Number}
 use Rattle.tls_codec_grammar.specs.Grammar.{varint}
 use Rattle.tls_codec_grammar.specs.Shortest.{IsShortest}
-use Rattle.tls_codec_grammar.specs.Decoding.{NoneBegins, RefusesSource, Splits}
+use Rattle.tls_codec_grammar.specs.Decoding.{NoneBegins, RefusesSeen, Splits}
 use Rattle.tls_codec_grammar.specs.Format.{varint_format}
 use Rattle.tls_codec_grammar.specs.Encoding.{Writes}
 use Rattle.tls_codec_grammar.specs.laws.AloneLaws.{alone_shortest}
@@ -33,7 +33,7 @@ varint_splits number x (Ok found) ok err = record { front = ok.front; whole = ok
 varint_splits number x (Err e) ok err = number_refuses (λ y u p. none_begins y (below_none (2 ^ 62) y u p)) (below_named (2 ^ 62)) x e err
 
 -- why a number is not read is why the value is refused
-pub varint_refused : (e : Error) (x : List ℕ) (old new : Counts) → NumberNotRead (RefusesBelow (2 ^ 62)) x old new e → RefusesSource varint true x old new e
+pub varint_refused : (e : Error) (x : List ℕ) (old new : Counts) → NumberNotRead (RefusesBelow (2 ^ 62)) x old new e → RefusesSeen varint true x old new e
 varint_refused = number_refused (λ y u q. none_begins y (below_none (2 ^ 62) y u q)) (below_named (2 ^ 62))
 
 -- ---- writing

@@ -76,19 +76,19 @@ ComesFirst spells (Some x) v (Some rest) = Begins spells x v rest
 
 -- why a source is refused, after x was seen of it: no prefix of x is a spelling, a fault of the
 -- source was counted, or there was no memory; a lean type returns that only if the source had none
-pub record RefusesSource (spells : Grammar) (lean : Bool) (x : List ℕ) (old new : Counts) (e : Error) : Type 0 where
+pub record RefusesSeen (spells : Grammar) (lean : Bool) (x : List ℕ) (old new : Counts) (e : Error) : Type 0 where
   pub cause : NoneBegins spells x ⊎ (FaultIsCounted old new ⊎ (e ≡ OutOfMemory))
   pub memory : e ≡ OutOfMemory → (lean ≡ false) ⊎ RoseBy 1 old.shortages new.shortages
 
 -- ---- the decoders, by what they return
 
 -- from a source
-pub record LeavesSource {S : Type 0} (f : Format) (source : Ghosts S) (old new : S) (e : Error) : Type 0 where
-  pub refused : RefusedFor source (RefusesSource f.spells f.lean) old new e
+pub record RefusesFromSource {S : Type 0} (f : Format) (source : Ghosts S) (old new : S) (e : Error) : Type 0 where
+  pub refused : RefusedFor source (RefusesSeen f.spells f.lean) old new e
 
 -- a format is refused so, with an error that is among these
 abbrev pub part_source_names : Format → Causes → Causes
-part_source_names part names x old new e = RefusesSource part.spells part.lean x old new e × names x old new e
+part_source_names part names x old new e = RefusesSeen part.spells part.lean x old new e × names x old new e
 
 pub record Named {S : Type 0} (f : Format) (names : Causes) (source : Ghosts S) (old new : S) (e : Error) : Type 0 where
   pub refused : RefusedFor source (part_source_names f names) old new e
@@ -96,7 +96,7 @@ pub record Named {S : Type 0} (f : Format) (names : Causes) (source : Ghosts S) 
 -- from a source; only a spelling is taken from it
 abbrev pub Reads : {T S : Type 0} → Format → (T → Tree) → Ghosts S → S → S → Result T Error → Type 0
 Reads f plain source old new (Ok v) = GaveSpelling source.given f.spells old new (plain v)
-Reads f plain source old new (Err e) = LeavesSource f source old new e
+Reads f plain source old new (Err e) = RefusesFromSource f source old new e
 
 -- from a slice, with the rest of it
 abbrev pub Splits : {T : Type 0} → Format → (T → Tree) → List ℕ → Result (T × Bor (List ℕ)) Error → Type 0
@@ -121,4 +121,4 @@ AllRead f plain x (Err e) = NoMemoryFor f.spells x e
 abbrev pub AllGiven : {T S : Type 0} → Format → (T → Tree) → Ghosts S → Bounded S → Bounded S → Result (Option (Vec T Global)) Error → Type 0
 AllGiven f plain source old new (Ok (Some elements)) = GaveSpelling source.given (sized (limit_of old) (content f.spells)) (inner_of old) (inner_of new) (trees plain elements.items)
 AllGiven f plain source old new (Ok None) = new ≡ old
-AllGiven f plain source old new (Err e) = LeavesSource (sized_format (limit_of old) (content_format f)) source (inner_of old) (inner_of new) e
+AllGiven f plain source old new (Err e) = RefusesFromSource (sized_format (limit_of old) (content_format f)) source (inner_of old) (inner_of new) e

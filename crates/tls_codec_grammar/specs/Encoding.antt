@@ -3,7 +3,7 @@ use Rattle.std.specs.Prelude.{◌≡◌, ◌≤◌, ◌+◌, ◌^◌, ◌⊎◌,
 use Rattle.std.specs.Global.{Global}
 use Rattle.std.specs.Io.KnownBytes.{Appends}
 use Rattle.tls_codec_wire.specs.Counts.{NoneFell}
-use Rattle.tls_codec_wire.specs.Device.{IsBeginning}
+use Rattle.tls_codec_wire.specs.Device.{IsPrefix}
 use Rattle.tls_codec_wire.specs.Transfer.{WriteRefused}
 use Rattle.tls_codec_wire.specs.declared.device.Sink.{Ghosts}
 use Rattle.tls_codec_wire.specs.declared.error.Error.{Error}
@@ -29,7 +29,7 @@ pub record Sends {S : Type 0} (f : Format) (v : Tree) (sink : Ghosts S) (old new
 pub record Breaks {S : Type 0} (f : Format) (v : Tree) (sink : Ghosts S) (old new : S) (e : Error) : Type 0 where
   pub sent : List ℕ
   pub held : Appends (sink.received old) (sink.received new) sent
-  pub beginning : (form : List ℕ) → IsShortest f.spells form v → IsBeginning sent form
+  pub beginning : (form : List ℕ) → IsShortest f.spells form v → IsPrefix sent form
   pub cause : WriteRefused (sink.counts old) (sink.counts new) e ⊎ f.refuses v e
   pub fell : NoneFell (sink.counts old) (sink.counts new)
 
@@ -70,14 +70,14 @@ pub record Appended (f : Format) (v : Tree) (old new : List ℕ) (n : ℕ) : Typ
   pub count : n ≡ length form
 
 -- each shortest form of v passes `isize::MAX` bytes after n others
-abbrev pub PassesVectorBehind : (n : ℕ) → Grammar → Tree → Type 0
-PassesVectorBehind n spells v = (form : List ℕ) → IsShortest spells form v → 2 ^ 63 ≤ n + length form
+abbrev pub OverflowsVectorAfter : (n : ℕ) → Grammar → Tree → Type 0
+OverflowsVectorAfter n spells v = (form : List ℕ) → IsShortest spells form v → 2 ^ 63 ≤ n + length form
 
 -- the bytes are the old ones: there was no memory, the format names the error for v, or its shortest form after them
 -- passes the greatest vector
 pub record AppendRefused (f : Format) (v : Tree) (old new : List ℕ) (e : Error) : Type 0 where
   pub kept : new ≡ old
-  pub cause : (e ≡ OutOfMemory) ⊎ (f.refuses v e ⊎ ((e ≡ InvalidVectorLength) × PassesVectorBehind (length old) f.spells v))
+  pub cause : (e ≡ OutOfMemory) ⊎ (f.refuses v e ⊎ ((e ≡ InvalidVectorLength) × OverflowsVectorAfter (length old) f.spells v))
 
 -- an encoder that is given a vector
 abbrev pub AppendsForm : Format → Tree → List ℕ → List ℕ → Result ℕ Error → Type 0

@@ -87,6 +87,6 @@ pub record BeginsLength (field : Field) (x : List ℕ) : Type 0 where
 -- x begins with a length, and fewer bytes come after it
 pub record IsCutOff (field : Field) (x : List ℕ) : Type 0 where
   pub declared : ℕ
-  pub behind : List ℕ
-  pub begins : BeginsNumber field.spells x declared behind
-  pub short : length behind < declared
+  pub rest : List ℕ
+  pub begins : BeginsNumber field.spells x declared rest
+  pub short : length rest < declared

@@ -61,7 +61,7 @@ tagged_format k variants = record {
 
 -- The laws of variants: what comes after each tag meets the laws; no bytes come after a tag that isn't there; and if
 -- decoders of one variant take memory, not all of them take none.
-pub record MeetVariantLaws (variants : Variants) : Type 0 where
+pub record MeetsVariantLaws (variants : Variants) : Type 0 where
   pub parts : (tag : ℕ) → MeetsLaws (variants.parts tag)
   pub unknown : (tag : ℕ) → variants.has tag ≡ false → (d : Direction) (s : List ℕ) (v : Tree) → (variants.parts tag).spells d s v → ⊥
   pub memory : (tag : ℕ) → (variants.parts tag).lean ≡ false → variants.lean ≡ false

@@ -1,7 +1,7 @@
 //! Digits: whole numbers in k bytes, the most significant first (RFC 8446, section 3.3).
 //!
 //! The calls here know only the width. Every number, length and array goes through them.
-ghost use Rattle.std.specs.Prelude.{◌≡◌, ◌<◌, length, IfErr, IfOk};
+ghost use Rattle.std.specs.Prelude.{◌≡◌, ◌<◌, length, IfErr, IfOk, OnOk};
 ghost use Rattle.tls_codec_wire.specs.Counts.{OnlyInterrupted};
 ghost use Rattle.tls_codec_wire.specs.Digits.{AreBytes, value};
 ghost use Rattle.tls_codec_wire.specs.Transfer.{ReadRefused};
@@ -44,7 +44,7 @@ pub fn read_digits<R: Source, const K: usize>(bytes: &mut R) -> Result<[u8; K], 
     ensures bytes { IfOk result AreBytes }
     ensures named { IfErr result
         (Named (number_format K) (ReadRefused K) R.Source bytes.old bytes.new) }
-    ensures retried { IfOk result (λ _. OnlyInterrupted (R.counts bytes.old) (R.counts bytes.new)) }
+    ensures retried { OnOk result (OnlyInterrupted (R.counts bytes.old) (R.counts bytes.new)) }
 {
     let mut digits = [0u8; K];
     read_exactly(bytes, &mut digits)?;

@@ -4,7 +4,7 @@
 //! [`TlsVarInt`] is one, up to 2^30 - 1, and so are `u8`, `u16`, `U24` and `u32`. [`Within`] is one over
 //! another, with bounds. What comes after a length goes through calls that are generic over the field:
 //! [`opaque`](crate::opaque) for bytes, and `counted` of `tls_codec_base` for elements.
-ghost use Rattle.std.specs.Prelude.{◌≡◌, ◌≤◌, drop, MatchOption, IfErr, IfOk};
+ghost use Rattle.std.specs.Prelude.{◌≡◌, ◌≤◌, drop, MatchOption, IfErr, IfOk, OnOk};
 ghost use Rattle.tls_codec_wire.specs.Counts.{OnlyInterrupted};
 ghost use Rattle.tls_codec_wire.specs.Device.{Gave};
 ghost use Rattle.tls_codec_wire.specs.Refused.{RefusedFor};
@@ -59,7 +59,7 @@ pub trait LengthField {
         ensures ok { IfOk result (λ n. GaveNumber R.given field.spells src.old src.new n) }
         ensures refused { IfErr result
             (RefusedFor R.Source (NumberNotRead field.refuses) src.old src.new) }
-        ensures retried { IfOk result (λ _. OnlyInterrupted (R.counts src.old) (R.counts src.new)) };
+        ensures retried { OnOk result (OnlyInterrupted (R.counts src.old) (R.counts src.new)) };
 
     /// The length that the bytes begin with, and the rest of them.
     ///

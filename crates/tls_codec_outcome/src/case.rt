@@ -17,14 +17,14 @@ pub trait TaggedEnum {
     const TAG_LEN: usize;
 
     /// The enum.
-    type Whole: Validate;
+    type Enum: Validate;
 
     // Its cases.
     ghost variants: { Variants };
 
-    ghost is_tagged: { IsTagged TAG_LEN variants Self.Whole.format };
+    ghost is_tagged: { IsTagged TAG_LEN variants Self.Enum.format };
 
-    ghost has_tagged: { HasTagged TAG_LEN variants Self.Whole.format };
+    ghost has_tagged: { HasTagged TAG_LEN variants Self.Enum.format };
 }
 
 /// The two parts of an enum: its tag, and what its case has.
@@ -35,7 +35,7 @@ pub struct TagAndBody<E> {
 impl<E: TaggedEnum> Locate for TagAndBody<E> {
     type Places = (Span, Span);
 
-    ghost format = { E.Whole.format };
+    ghost format = { E.Enum.format };
 
     ghost end = { λ places. span_end places.1 };
 
@@ -43,7 +43,7 @@ impl<E: TaggedEnum> Locate for TagAndBody<E> {
         places.0 places.1 };
 
     fn locate(bytes: &[u8], from: usize) -> ((Span, Span), usize) {
-        let whole = field_at::<E::Whole>(bytes, from);
+        let whole = field_at::<E::Enum>(bytes, from);
         let tag = Span {
             offset: from,
             size: E::TAG_LEN,
@@ -55,8 +55,8 @@ impl<E: TaggedEnum> Locate for TagAndBody<E> {
         ((tag, body), whole.end())
     }
 
-    ghost lawful = { E.Whole.lawful };
+    ghost lawful = { E.Enum.lawful };
 
-    ghost ends = { λ x from places are. case_ends E.TAG_LEN E.variants E.Whole.format
+    ghost ends = { λ x from places are. case_ends E.TAG_LEN E.variants E.Enum.format
         E.has_tagged x from places.0 places.1 are };
 }

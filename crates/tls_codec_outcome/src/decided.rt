@@ -8,17 +8,17 @@ ghost use Rattle.tls_codec_grammar.specs.laws.ThenLaws.{then_meets};
 ghost use Rattle.tls_codec_outcome.specs.Decided.{AreDecided, decided_ends};
 ghost use Rattle.tls_codec_outcome.specs.Fields.{BeginsAt, IsFieldFrom, span_end};
 
-use crate::fields::{Span, behind};
+use crate::fields::{Span, bytes_from};
 use crate::locate::Locate;
 use std::marker::PhantomData;
 use tls_codec_validate::{Keyed, ValidateFor, ValidateKeyed};
 
 /// A part, and two after it whose form its value decides (RFC 8446, section 3.8).
-pub struct Deciding<T, U, V> {
+pub struct DependentFields<T, U, V> {
     of: PhantomData<(T, U, V)>,
 }
 
-impl<T: ValidateKeyed, U: ValidateFor<T>, V: ValidateFor<T>> Locate for Deciding<T, U, V> {
+impl<T: ValidateKeyed, U: ValidateFor<T>, V: ValidateFor<T>> Locate for DependentFields<T, U, V> {
     type Places = (Span, Span, Span);
 
     ghost format = { then_format T.format (λ c. pair_format (U.format_for c) (V.format_for c)) };
@@ -29,15 +29,15 @@ impl<T: ValidateKeyed, U: ValidateFor<T>, V: ValidateFor<T>> Locate for Deciding
         places.0 places.1 places.2 };
 
     fn locate(bytes: &[u8], from: usize) -> ((Span, Span, Span), usize) {
-        match T::tls_validate_keyed(behind(bytes, from)) {
-            Ok((key, rest)) => {
-                let middle = bytes.len().saturating_sub(rest.len());
+        match T::tls_validate_keyed(bytes_from(bytes, from)) {
+            Ok(found) => {
+                let middle = bytes.len().saturating_sub(found.1.len());
                 let first = Span {
                     offset: from,
                     size: middle.saturating_sub(from),
                 };
-                let second = field_for::<T, U>(&key, bytes, middle);
-                let third = field_for::<T, V>(&key, bytes, second.end());
+                let second = field_for::<T, U>(&found.0, bytes, middle);
+                let third = field_for::<T, V>(&found.0, bytes, second.end());
                 ((first, second, third), third.end())
             }
             Err(_) => {
@@ -61,7 +61,7 @@ fn field_for<X: Keyed, T: ValidateFor<X>>(key: &X::Key, bytes: &[u8], from: usiz
     ensures { (c : Tree) → X.is_key key.now c → BeginsAt (T.format_for c) bytes.now from
         → IsFieldFrom (T.format_for c) bytes.now from result }
 {
-    let here = behind(bytes, from);
+    let here = bytes_from(bytes, from);
     let size = match T::tls_validate_prefix_for(key, here) {
         Ok(rest) => here.len().saturating_sub(rest.len()),
         Err(_) => 0,

@@ -5,7 +5,7 @@ ghost use Rattle.tls_codec_outcome.specs.Fields.{bytes_at};
 ghost use Rattle.tls_codec_outcome.specs.Outcomes.{Decides, IsRejection, IsTaken};
 
 use crate::calls::validate;
-use crate::fields::{Span, behind};
+use crate::fields::{Span, bytes_from};
 use crate::outcome::{ACCEPTED, Outcome};
 use tls_codec_validate::Validate;
 
@@ -22,24 +22,24 @@ pub fn next<T: Validate>(bytes: &[u8], left: &mut Span, element: &mut Span) -> O
     ensures kept { result.status ≢ 0 → (left.new ≡ left.old) × (element.new ≡ element.old) }
 {
     let Span { offset, size } = *left;
-    let said = validate::<T>(place(bytes, offset, size));
-    if said.status == ACCEPTED {
+    let outcome = validate::<T>(place(bytes, offset, size));
+    if outcome.status == ACCEPTED {
         *element = Span {
             offset,
-            size: said.taken,
+            size: outcome.taken,
         };
         *left = Span {
-            offset: offset.saturating_add(said.taken),
-            size: size.saturating_sub(said.taken),
+            offset: offset.saturating_add(outcome.taken),
+            size: size.saturating_sub(outcome.taken),
         };
     }
-    said
+    outcome
 }
 
 // `size` bytes from an offset on, or those that are there.
 fn place(bytes: &[u8], offset: usize, size: usize) -> &[u8]
     ensures { result.now ≡ bytes_at offset size bytes.now }
 {
-    let here = behind(bytes, offset);
+    let here = bytes_from(bytes, offset);
     here.get(..size).unwrap_or(here)
 }

@@ -29,7 +29,7 @@ impl Span {
 pub fn field_at<T: Validate>(bytes: &[u8], from: usize) -> Span
     ensures { BeginsAt T.format bytes.now from → IsFieldFrom T.format bytes.now from result }
 {
-    let here = behind(bytes, from);
+    let here = bytes_from(bytes, from);
     let size = match T::tls_validate_prefix(here) {
         Ok(rest) => here.len().saturating_sub(rest.len()),
         Err(_) => 0,
@@ -42,7 +42,7 @@ pub fn content_at<F: LengthField>(bytes: &[u8], from: usize) -> Span
     ensures { BeginsAt (counted_bytes_format F.field) bytes.now from
         → IsContentFrom F.field bytes.now from result }
 {
-    match opaque::split::<F>(behind(bytes, from)) {
+    match opaque::split::<F>(bytes_from(bytes, from)) {
         Ok((content, rest)) => Span {
             offset: bytes
                 .len()
@@ -61,14 +61,14 @@ pub fn content_at<F: LengthField>(bytes: &[u8], from: usize) -> Span
 pub fn tag_at(bytes: &[u8], from: usize) -> u16
     ensures { BeginsAt (number_format 2) bytes.now from → IsTagAt 2 bytes.now from result }
 {
-    match split_u16(behind(bytes, from)) {
+    match split_u16(bytes_from(bytes, from)) {
         Ok((tag, _)) => tag,
         Err(_) => 0,
     }
 }
 
 /// The bytes from a place on.
-pub(crate) fn behind(bytes: &[u8], from: usize) -> &[u8]
+pub(crate) fn bytes_from(bytes: &[u8], from: usize) -> &[u8]
     ensures { result.now ≡ drop from bytes.now }
 {
     bytes.get(from..).unwrap_or(&[])

@@ -5,8 +5,8 @@
 //! - [`Outcome`]: the result of a call.
 //! - [`validate`]: whether bytes begin with an encoding, without memory. [`check`]: the same by the decoder, which makes the
 //!   value.
-//! - [`Locate`]: where the parts of a message are, each a [`Span`]. [`Whole`], [`Content`],
-//!   [`TagAndBody`], [`Deciding`]: a part; a tuple of parts is one too. [`field_at`], [`content_at`], [`tag_at`]: one alone.
+//! - [`Locate`]: where the parts of a message are, each a [`Span`]. [`Field`], [`Content`],
+//!   [`TagAndBody`], [`DependentFields`]: a part; a tuple of parts is one too. [`field_at`], [`content_at`], [`tag_at`]: one alone.
 //! - [`next`]: the elements of a list, one after another.
 //! - [`status_of`], [`detail_of`]: the numbers of an error.
 #![tactic(auto)]
@@ -22,9 +22,9 @@ mod outcome;
 
 pub use calls::{check, validate};
 pub use case::{TagAndBody, TaggedEnum};
-pub use decided::Deciding;
+pub use decided::DependentFields;
 pub use elements::next;
 pub use fields::{Span, content_at, field_at, tag_at};
-pub use locate::{Content, Locate, Whole};
+pub use locate::{Content, Field, Locate};
 pub use numbers::{detail_of, status_of};
 pub use outcome::{ACCEPTED, Outcome};

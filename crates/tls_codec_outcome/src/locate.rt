@@ -38,7 +38,7 @@ pub trait Locate {
 }
 
 /// A field, with its length if it has one.
-pub struct Whole<T> {
+pub struct Field<T> {
     of: PhantomData<T>,
 }
 
@@ -47,7 +47,7 @@ pub struct Content<F> {
     of: PhantomData<F>,
 }
 
-impl<T: Validate> Locate for Whole<T> {
+impl<T: Validate> Locate for Field<T> {
     type Places = Span;
 
     ghost format = { T.format };

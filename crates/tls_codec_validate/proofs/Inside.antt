@@ -17,7 +17,7 @@ use Rattle.tls_codec_base.specs.Refusals.{IsSpelling, SliceNames}
 use Rattle.tls_codec_base.proofs.Enclosing.{enclosed_behind, left_inside}
 use Rattle.tls_codec_validate.specs.declared.rejected.Rejected.{Rejected}
 use Rattle.tls_codec_validate.specs.Validated.{BeginsLeaving, Rejects, RejectsWhole}
-use Rattle.tls_codec_validate.specs.Places.{IsBack, IsTrailing, PlacedNames, RejectedAt}
+use Rattle.tls_codec_validate.specs.Places.{IsSuffix, IsTrailing, PlacedNames, RejectedAt}
 use Rattle.tls_codec_validate.specs.EnclosedPlaces.{PlacedWithin, enclosed_places}
 use Rattle.tls_codec_validate.proofs.Placing.{back_behind}
 
@@ -47,7 +47,7 @@ module _ (field : Field) (f : Format) (names : SliceNames) (places : PlacedNames
   within {e} left front inner is parts named placed =
       let at = is ∙ left_and_behind rest front inner whole width parts in record {
         named = enclosed_behind field f names p named;
-        placed = inr (n, record { front = p.front; rest = behind; whole = p.whole; is_front = p.spelled; named = record { inside = inside; behind = rest; left = inner; whole = whole; fills = width; at_left = at; placed = placed } });
+        placed = inr (n, record { front = p.front; rest = behind; whole = p.whole; is_front = p.spelled; named = record { inside = inside; after = rest; left = inner; whole = whole; fills = width; at_left = at; placed = placed } });
         back = back_behind p.front p.whole (record {
           front = front;
           whole = whole ∙ ap (λ (u : List ℕ). u ++ rest) parts ∙ append_assoc front inner rest ∙ ap (λ (u : List ℕ). front ++ u) (sym at);

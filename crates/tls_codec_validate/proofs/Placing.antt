@@ -6,18 +6,18 @@ use Rattle.tls_codec_grammar.specs.Grammar.{Grammar}
 use Rattle.tls_codec_grammar.specs.Field.{Field}
 use Rattle.tls_codec_grammar.specs.Format.{Format}
 use Rattle.tls_codec_grammar.specs.Decoding.{Begins, LeavesBytes, Refuses}
-use Rattle.tls_codec_base.specs.Refusals.{IsOtherByte, IsOtherTag, IsRun, NamedBehind, SliceNames, counted_list_names, element_names, elements_names, fields_names, option_names, part_names}
+use Rattle.tls_codec_base.specs.Refusals.{IsOtherByte, IsOtherTag, IsRun, NamedAfter, SliceNames, counted_list_names, element_names, elements_names, fields_names, option_names, part_names}
 use Rattle.tls_codec_base.specs.ContextNames.{then_names}
 use Rattle.tls_codec_base.proofs.ListReading.{ReadSoFar}
 use Rattle.tls_codec_validate.specs.declared.rejected.Rejected.{Rejected}
 use Rattle.tls_codec_validate.specs.Keys.{then_places}
-use Rattle.tls_codec_validate.specs.Places.{IsBack, IsTrailing, PlacedNames, RejectedAt, counted_list_places, elements_places, here, no_names, option_places}
+use Rattle.tls_codec_validate.specs.Places.{IsSuffix, IsTrailing, PlacedNames, RejectedAt, counted_list_places, elements_places, here, no_names, option_places}
 
 -- all bytes are at the back, and what is at the back of the back is
-pub back_all : {rest x : List ℕ} → rest ≡ x → IsBack rest x
+pub back_all : {rest x : List ℕ} → rest ≡ x → IsSuffix rest x
 back_all is = record { front = []; whole = sym is }
 
-pub back_behind : (front : List ℕ) {x mid rest : List ℕ} → x ≡ front ++ mid → IsBack rest mid → IsBack rest x
+pub back_behind : (front : List ℕ) {x mid rest : List ℕ} → x ≡ front ++ mid → IsSuffix rest mid → IsSuffix rest x
 back_behind front {x} {mid} {rest} whole b = record {
   front = front ++ b.front;
   whole = whole ∙ ap (λ (u : List ℕ). front ++ u) b.whole ∙ sym (append_assoc front b.front rest);
@@ -56,7 +56,7 @@ pub rejected_end : {names : SliceNames} {places : PlacedNames} {x : List ℕ} {r
 rejected_end {x = x} is width end =
     let none = no_bytes x width in record { named = inl (none, end); placed = inl (is, inl (none, end)); back = back_all is }
 
-pub rejected_tag : {names : SliceNames} {places : PlacedNames} {x : List ℕ} {r : Rejected} → r.rest.now ≡ x → NamedBehind IsOtherByte (λ rest error. IsOtherTag error) x r.error
+pub rejected_tag : {names : SliceNames} {places : PlacedNames} {x : List ℕ} {r : Rejected} → r.rest.now ≡ x → NamedAfter IsOtherByte (λ rest error. IsOtherTag error) x r.error
     → RejectedAt (option_names names) (option_places places) x r
 rejected_tag is other = record { named = inr (inl other); placed = inl (is, inr (inl other)); back = back_all is }
 

@@ -10,7 +10,7 @@ use Rattle.tls_codec_grammar.specs.Grammar.{Grammar, fields, number}
 use Rattle.tls_codec_grammar.specs.Format.{number_format}
 use Rattle.tls_codec_grammar.specs.Lawful.{MeetsLaws}
 use Rattle.tls_codec_grammar.specs.Decoding.{Begins, NoneBegins, Splits}
-use Rattle.tls_codec_grammar.specs.Tagged.{MeetVariantLaws, Variants, tagged, tagged_format}
+use Rattle.tls_codec_grammar.specs.Tagged.{MeetsVariantLaws, Variants, tagged, tagged_format}
 use Rattle.tls_codec_base.specs.Meanings.{too_few}
 use Rattle.tls_codec_base.specs.Refusals.{SliceNames}
 use Rattle.tls_codec_base.specs.TaggedNames.{tagged_names}
@@ -32,7 +32,7 @@ part_rejects {part} {others} {x} r = record { none = none_at_first part others x
 same : (P : Rejected → Type 0) {r y : Rejected} → y ≡ r → P r → P y
 same P is p = subst P (sym is) p
 
-module _ {k : ℕ} {variants : Variants} (l : MeetsLaws (number_format k)) (laws : MeetVariantLaws variants) where
+module _ {k : ℕ} {variants : Variants} (l : MeetsLaws (number_format k)) (laws : MeetsVariantLaws variants) where
   -- no tag is there
   none_at_tag : (x : List ℕ) → NoneBegins (number k) x → NoneBegins (tagged k variants) x
   none_at_tag x none (Join (Number n) vs) rest b = none (Number n) (b.spelled.rest ++ rest) (record {

@@ -6,12 +6,12 @@ use Rattle.tls_codec_grammar.specs.Grammar.{Grammar}
 use Rattle.tls_codec_grammar.specs.Field.{Field}
 use Rattle.tls_codec_grammar.specs.Format.{Format}
 use Rattle.tls_codec_base.specs.Meanings.{SameNames}
-use Rattle.tls_codec_base.specs.Refusals.{IsPayloadTag, IsRun, NamedBehind, SliceNames, element_names, option_names, part_names}
+use Rattle.tls_codec_base.specs.Refusals.{IsPayloadTag, IsRun, NamedAfter, SliceNames, element_names, option_names, part_names}
 use Rattle.tls_codec_validate.specs.declared.rejected.Rejected.{Rejected}
 use Rattle.tls_codec_validate.specs.Validated.{BeginsLeaving}
 
 -- the bytes are at the back of x
-pub record IsBack (rest x : List ℕ) : Type 0 where
+pub record IsSuffix (rest x : List ℕ) : Type 0 where
   pub front : List ℕ
   pub whole : x ≡ front ++ rest
 
@@ -23,7 +23,7 @@ PlacedNames = List ℕ → SliceNames
 pub record RejectedAt (names : SliceNames) (places : PlacedNames) (x : List ℕ) (r : Rejected) : Type 0 where
   pub named : names x r.error
   pub placed : places r.rest.now x r.error
-  pub back : IsBack r.rest.now x
+  pub back : IsSuffix r.rest.now x
 
 -- x begins with a spelling, and what is left after it is rejected
 pub record IsTrailing (spells : Grammar) (x : List ℕ) (r : Rejected) : Type 0 where
@@ -41,7 +41,7 @@ here names rest x e = (rest ≡ x) × names x e
 
 -- it is the tag, or after the tag 1 it is in the payload
 abbrev pub option_places : PlacedNames → PlacedNames
-option_places payload rest x e = here (option_names no_names) rest x e ⊎ NamedBehind IsPayloadTag (payload rest) x e
+option_places payload rest x e = here (option_names no_names) rest x e ⊎ NamedAfter IsPayloadTag (payload rest) x e
 
 -- it is in the element that begins x, or is that element
 abbrev pub element_places : Format → PlacedNames → ℕ → PlacedNames
@@ -49,12 +49,12 @@ element_places element places left rest x e = part_names element (places rest) x
 
 -- after some elements it is in the next one, or is that one
 abbrev pub elements_places : Format → PlacedNames → ℕ → PlacedNames
-elements_places element places n rest x e = (left : ℕ) × NamedBehind (IsRun element.spells n left) (element_places element places left rest) x e
+elements_places element places n rest x e = (left : ℕ) × NamedAfter (IsRun element.spells n left) (element_places element places left rest) x e
 
 -- it is the list, whose length is refused, or after the length it is in the elements
 abbrev pub counted_list_places : Field → Format → PlacedNames → PlacedNames
 counted_list_places field element places rest x e =
-    here field.refuses rest x e ⊎ ((n : ℕ) × NamedBehind (λ s. field.spells s n) (elements_places element places n rest) x e)
+    here field.refuses rest x e ⊎ ((n : ℕ) × NamedAfter (λ s. field.spells s n) (elements_places element places n rest) x e)
 
 -- the same fields may be rejected, whatever the bytes
 abbrev pub SamePlaces : PlacedNames → PlacedNames → Type 0

@@ -5,7 +5,7 @@ use Rattle.tls_codec_wire.specs.declared.error.Error.{Error}
 use Rattle.tls_codec_wire.specs.declared.error.Error.TheVariants.{EndOfStream, UnknownValue}
 use Rattle.tls_codec_base.specs.Refusals.{SliceNames}
 use Rattle.tls_codec_validate.specs.declared.rejected.Rejected.{Rejected}
-use Rattle.tls_codec_validate.specs.Places.{IsBack, PlacedNames, SamePlaces, here}
+use Rattle.tls_codec_validate.specs.Places.{IsSuffix, PlacedNames, SamePlaces, here}
 
 -- the same after a tag, by the bytes from the tag on and by those after it
 abbrev pub VariantPlaces : Type 1
@@ -28,7 +28,7 @@ abbrev pub variant_places : ℕ → PlacedNames → VariantPlaces → VariantPla
 variant_places own parts others tag whole = either_places (tag == own) parts (others tag whole)
 
 -- a tag of k bytes begins x, and the rejected field is it or after it
-pub record PlacedBehindTag (k : ℕ) (variants : VariantPlaces) (rest x : List ℕ) (e : Error) : Type 0 where
+pub record PlacedAfterTag (k : ℕ) (variants : VariantPlaces) (rest x : List ℕ) (e : Error) : Type 0 where
   pub tag : ℕ
   pub front : List ℕ
   pub parts : List ℕ
@@ -38,7 +38,7 @@ pub record PlacedBehindTag (k : ℕ) (variants : VariantPlaces) (rest x : List �
 
 -- there is no tag in k bytes, which is the rejected field, or there is one
 abbrev pub tagged_places : ℕ → VariantPlaces → PlacedNames
-tagged_places k variants rest x e = here (λ y error. (error ≡ EndOfStream) × (length y < k)) rest x e ⊎ PlacedBehindTag k variants rest x e
+tagged_places k variants rest x e = here (λ y error. (error ≡ EndOfStream) × (length y < k)) rest x e ⊎ PlacedAfterTag k variants rest x e
 
 -- a number that is none of the values is the rejected field
 abbrev pub values_places : ℕ → (ℕ → Bool) → PlacedNames
@@ -62,7 +62,7 @@ choice_places sound k places = either_places sound (tagged_places k places) (her
 pub record PartsRejectedAt (names : SliceNames) (places : PlacedNames) (whole x : List ℕ) (r : Rejected) : Type 0 where
   pub named : names x r.error
   pub placed : places r.rest.now x r.error
-  pub back : IsBack r.rest.now x ⊎ (r.rest.now ≡ whole)
+  pub back : IsSuffix r.rest.now x ⊎ (r.rest.now ≡ whole)
 
 -- the parts of the case that a context names: a case that isn't there is rejected at the first byte of its parts
 abbrev pub select_places : Bool → ℕ → VariantPlaces → PlacedNames

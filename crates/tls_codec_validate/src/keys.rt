@@ -16,7 +16,7 @@ use tls_codec_cases::{Holds, Selector};
 /// A type whose values decide others, by a key that is found in their bytes.
 pub trait Keyed: Size {
     /// What decides others: the tag as a number, or those of a struct that holds several.
-    type Key: Drop;
+    type Key: Copy + Drop;
 
     // Which keys what a value stands for has.
     ghost is_key: { Self.Key → Tree → Type 0 };
@@ -120,21 +120,21 @@ pub trait TagFirst: Validate {
     ghost variants: { Variants };
 
     // The tag of a value, by what that stands for.
-    ghost told: { Tree → ℕ };
+    ghost first_tag: { Tree → ℕ };
 
     ghost is_tagged: { (d : Direction) (bytes : List ℕ) (v : Tree)
         → Self.format.spells d bytes v
         → tagged Self.Tag.wide variants d bytes v };
 
-    ghost is_told: { (d : Direction) (bytes : List ℕ) (tag : ℕ) (parts : Tree)
+    ghost is_first_tag: { (d : Direction) (bytes : List ℕ) (tag : ℕ) (parts : Tree)
         → Self.format.spells d bytes (Join (Number tag) parts)
-        → told (Join (Number tag) parts) ≡ tag };
+        → first_tag (Join (Number tag) parts) ≡ tag };
 }
 
 /// The tag of the value that the bytes begin with, and what is left after the value: what
 /// [`tls_validate_keyed`](ValidateKeyed::tls_validate_keyed) of an enum is.
 pub fn validate_tag_first<T: TagFirst>(bytes: &[u8]) -> Result<(u64, &[u8]), Rejected<'_>>
-    ensures validates { ValidatesKeyed T.format (λ n c. n ≡ T.told c) bytes.now result }
+    ensures validates { ValidatesKeyed T.format (λ n c. n ≡ T.first_tag c) bytes.now result }
     ensures rejected { IfErr result (RejectedAt T.names T.places bytes.now) }
 {
     let rest = T::tls_validate_prefix(bytes)?;

@@ -44,7 +44,7 @@ impl<T: FindTag, C: ValidateCases> Validate for Tagged<T, C> {
 
     #[inline(always)]
     fn tls_validate_prefix(whole: &[u8]) -> Result<&[u8], Rejected<'_>> {
-        if !are_told::<T, C>() {
+        if !tags_are_valid::<T, C>() {
             return Err(Rejected {
                 error: unknown_value(0),
                 rest: whole,
@@ -58,7 +58,7 @@ impl<T: FindTag, C: ValidateCases> Validate for Tagged<T, C> {
 
 // The cases have tags of their own, which a `T` holds.
 #[inline(always)]
-fn are_told<T: Tag, C: ValidateCases>() -> bool
+fn tags_are_valid<T: Tag, C: ValidateCases>() -> bool
     ensures { result ≡ (C.distinct && C.within T.most) }
 {
     C::are_distinct() && C::are_within(T::greatest())

@@ -2,7 +2,7 @@
 use Rattle.std.specs.Prelude.{◌≡◌, ℕ, ◌+◌, ◌<◌, ◌≤◌, List, Vec, min, Result, Err, refl}
 use Rattle.std.specs.declared.alloc.Global.{Global}
 use Rattle.std.proofs.Common.{arith, ◌∙◌}
-use Rattle.tls_codec.specs.Devices.{Counts, Fault, FaultRaises, Gives, GivesInOrder, GivesNothing, NoCountFalls, NoneFell, count_limit, fall_never, raised, stay}
+use Rattle.tls_codec.specs.Devices.{Counts, Fault, FaultRaises, Gives, GivesInOrder, GivesNothing, NoCountFalls, NoneFell, count_limit, none_fell_refl, none_fell_trans, raised}
 use Rattle.tls_codec_vectors.specs.declared.drip.Drip.{Drip}
 use Rattle.tls_codec_vectors.specs.declared.trickle.Trickle.{Trickle}
 use Rattle.tls_codec_vectors.specs.declared.failing.Failing.{Failing}
@@ -66,7 +66,7 @@ abbrev pub FailsAsPlanned : {D A : Type 0} → Result A Fault → Failing D → 
 FailsAsPlanned {D} {A} result old new = (result ≡ Err old.plan.fault) × FaultRaises old.plan.fault (own_counts old) (own_counts new)
 
 -- the device inside gave these bytes, and nothing else happened but calls and faults
-pub record GaveBehind {D : Type 0} (given : Gives D) (old : Failing D) (bytes : List ℕ) (new : Failing D) : Type 0 where
+pub record GaveAfter {D : Type 0} (given : Gives D) (old : Failing D) (bytes : List ℕ) (new : Failing D) : Type 0 where
   pub held : given old.inner bytes new.inner
   pub plan : new.plan ≡ old.plan
   pub on : old.calls ≤ new.calls
@@ -74,15 +74,15 @@ pub record GaveBehind {D : Type 0} (given : Gives D) (old : Failing D) (bytes : 
 
 -- ---- laws
 
-pub gives_nothing_behind : {D : Type 0} (given : Gives D) → GivesNothing given → GivesNothing (GaveBehind given)
-gives_nothing_behind {D} given nothing a = record { held = nothing a.inner; plan = refl; on = omega arith; none_fell = stay (own_counts a) }
+pub gives_nothing_after : {D : Type 0} (given : Gives D) → GivesNothing given → GivesNothing (GaveAfter given)
+gives_nothing_after {D} given nothing a = record { held = nothing a.inner; plan = refl; on = omega arith; none_fell = none_fell_refl (own_counts a) }
 
-pub gives_in_order_behind : {D : Type 0} (given : Gives D) → GivesInOrder given → GivesInOrder (GaveBehind given)
-gives_in_order_behind {D} given order a xs b ys c p q = record {
+pub gives_in_order_after : {D : Type 0} (given : Gives D) → GivesInOrder given → GivesInOrder (GaveAfter given)
+gives_in_order_after {D} given order a xs b ys c p q = record {
   held = order a.inner xs b.inner ys c.inner p.held q.held;
   plan = q.plan ∙ p.plan;
   on = omega (arith, p.on, q.on);
-  none_fell = fall_never p.none_fell q.none_fell;
+  none_fell = none_fell_trans p.none_fell q.none_fell;
 }
 
 -- counts that didn't fall, added to others that didn't fall
@@ -94,5 +94,5 @@ together_never_falls {D} counts a b p q = record {
   shortages = omega (arith, p.shortages, q.shortages);
 }
 
-pub no_count_falls_behind : {D : Type 0} (given : Gives D) (counts : D → Counts) → NoCountFalls given counts → NoCountFalls (GaveBehind given) (counts_with counts)
-no_count_falls_behind {D} given counts never a xs b p = together_never_falls counts a b p.none_fell (never a.inner xs b.inner p.held)
+pub no_count_falls_after : {D : Type 0} (given : Gives D) (counts : D → Counts) → NoCountFalls given counts → NoCountFalls (GaveAfter given) (counts_with counts)
+no_count_falls_after {D} given counts never a xs b p = together_never_falls counts a b p.none_fell (never a.inner xs b.inner p.held)

@@ -1,7 +1,7 @@
 -- What each message stands for, its format and its laws.
 use Rattle.std.proofs.Common.{arith}
 use Rattle.std.specs.Prelude.{◌≡◌, ℕ, string_bytes, ⊤}
-use Rattle.tls_codec.specs.OwnMessages.{Tree, Number, Empty, Join, trees, number_trees, option_plain, Format, number_format, option_format, nothing_format, fields_format, fixed_list_format, bytes_format, fixed_bytes_format, text_format, Variants, no_variant, variant, tagged_format, MeetsLaws, MeetVariantLaws, u16_meets, u32_meets, option_meets, nothing_meets, fields_meets, fixed_list_meets, bytes_meets, fixed_bytes_meets, text_meets, no_variant_meets, variant_meets, tagged_meets}
+use Rattle.tls_codec.specs.OwnMessages.{Tree, Number, Empty, Join, trees, number_trees, option_plain, Format, number_format, option_format, nothing_format, fields_format, fixed_list_format, bytes_format, fixed_bytes_format, text_format, Variants, no_variant, variant, tagged_format, MeetsLaws, MeetsVariantLaws, u16_meets, u32_meets, option_meets, nothing_meets, fields_meets, fixed_list_meets, bytes_meets, fixed_bytes_meets, text_meets, no_variant_meets, variant_meets, tagged_meets}
 use Rattle.tls_codec.specs.Contents.{bytes_of, fixed_bytes_of, elements_of}
 use Rattle.tls_codec_vectors.specs.declared.leaf.Leaf.{Leaf}
 use Rattle.tls_codec_vectors.specs.declared.log.Log.{Log}
@@ -33,7 +33,7 @@ step_variants =
     (variant 2 (fields_format (number_format 4) nothing_format)
     no_variant))
 
-pub step_variants_meet : MeetVariantLaws step_variants
+pub step_variants_meet : MeetsVariantLaws step_variants
 step_variants_meet =
     variant_meets 0 nothing_meets
     (variant_meets 1 (fields_meets text_meets nothing_meets)

@@ -3,7 +3,7 @@ ghost use Rattle.std.specs.Prelude.{◌≡◌, ◌<◌, ◌≤◌, [], ◌++◌,
 ghost use Rattle.std.specs.Io.KnownBytes.{IsAtEnd};
 ghost use Rattle.std.proofs.Common.{rules};
 ghost use Rattle.std.proofs.lemmas.Grind.{common_steps};
-ghost use Rattle.tls_codec.specs.Devices.{AppendedAtHand, Full, IsAtHand, IsShortOf, PullIsCounted, PulledOnto, TooFew, Unknown, bytes_moved, no_counts, stay};
+ghost use Rattle.tls_codec.specs.Devices.{AppendedAtHand, Full, IsAtHand, IsShortOf, PullIsCounted, PulledOnto, TooFew, Unknown, bytes_moved, no_counts, none_fell_refl};
 ghost use Rattle.tls_codec_vectors.specs.Devices.{bytes_left};
 
 use tls_codec::{Fault, Fill, Source};
@@ -91,5 +91,5 @@ impl Source for Drip<'_> {
 
     ghost gives_from_front = { λ a xs b p. p };
 
-    ghost no_count_falls = { λ a xs b p. stay no_counts };
+    ghost no_count_falls = { λ a xs b p. none_fell_refl no_counts };
 }

@@ -2,7 +2,7 @@
 ghost use Rattle.std.specs.Prelude.{◌≡◌, ◌<◌, ◌≤◌, ◌↔◌, [], false, IsTrue, length, IfOk, vec_capacity, vec_len};
 ghost use Rattle.std.specs.Io.KnownBytes.{Appends, IsAtEnd};
 ghost use Rattle.tls_codec.specs.Devices.{AppendedAtHand, Full, GiveIsCounted, IsAtHand, IsShortOf, PullIsCounted, PulledOnto, TooFew, Unknown, bytes_moved, no_counts};
-ghost use Rattle.tls_codec_vectors.specs.Devices.{Called, FailsAsPlanned, FailsNext, GaveBehind, IsPlanned, calls_of, counts_with, gives_in_order_behind, gives_nothing_behind, inner_of, no_count_falls_behind, own_counts, plan_of};
+ghost use Rattle.tls_codec_vectors.specs.Devices.{Called, FailsAsPlanned, FailsNext, GaveAfter, IsPlanned, calls_of, counts_with, gives_in_order_after, gives_nothing_after, inner_of, no_count_falls_after, own_counts, plan_of};
 
 use tls_codec::{Fault, Fill, Sink, Source};
 
@@ -111,11 +111,11 @@ impl<R: Source> Source for Failing<R> {
 
     ghost counts = { counts_with R.counts };
 
-    ghost given = { GaveBehind R.given };
+    ghost given = { GaveAfter R.given };
 
     fn pull(&mut self, into: &mut [u8]) -> Result<usize, Fault>
         ensures bound { IfOk result (λ n. n ≤ length into.new) }
-        ensures gave { GaveBehind R.given self.old (bytes_moved result into.new) self.new }
+        ensures gave { GaveAfter R.given self.old (bytes_moved result into.new) self.new }
         ensures end { result ≡ Ok 0 → 0 < length into.old → IsAtEnd (R.coming (inner_of self.new)) }
         ensures counted { PullIsCounted result (counts_with R.counts self.old)
             (counts_with R.counts self.new) }
@@ -139,7 +139,7 @@ impl<R: Source> Source for Failing<R> {
     }
 
     fn fill_at_hand(&mut self, _into: &mut [u8]) -> Fill
-        ensures filled { result ≡ Full → GaveBehind R.given self.old _into.new self.new }
+        ensures filled { result ≡ Full → GaveAfter R.given self.old _into.new self.new }
         ensures too_few { result ≡ TooFew
             → IsShortOf (length _into.old) (R.coming (inner_of self.old)) × (self.new ≡ self.old) }
         ensures unknown { result ≡ Unknown → self.new ≡ self.old }
@@ -150,7 +150,7 @@ impl<R: Source> Source for Failing<R> {
     }
 
     fn append_at_hand(&mut self, _out: &mut Vec<u8>, _n: usize) -> bool
-        ensures appended { AppendedAtHand (GaveBehind R.given) self.old self.new _n result _out.old
+        ensures appended { AppendedAtHand (GaveAfter R.given) self.old self.new _n result _out.old
             _out.new }
         ensures retried { counts_with R.counts self.new ≡ counts_with R.counts self.old }
         ensures never { result ≡ false }
@@ -160,7 +160,7 @@ impl<R: Source> Source for Failing<R> {
 
     fn pull_onto(&mut self, out: &mut Vec<u8>, most: usize) -> Result<usize, Fault>
         ensures bound { IfOk result (λ n. n ≤ most) }
-        ensures gave { PulledOnto (GaveBehind R.given) self.old self.new result out.old.items
+        ensures gave { PulledOnto (GaveAfter R.given) self.old self.new result out.old.items
             out.new.items }
         ensures end { result ≡ Ok 0
             → 0 < most
@@ -180,13 +180,13 @@ impl<R: Source> Source for Failing<R> {
         Ok(n)
     }
 
-    ghost gives_nothing = { gives_nothing_behind R.given R.gives_nothing };
+    ghost gives_nothing = { gives_nothing_after R.given R.gives_nothing };
 
-    ghost gives_in_order = { gives_in_order_behind R.given R.gives_in_order };
+    ghost gives_in_order = { gives_in_order_after R.given R.gives_in_order };
 
     ghost gives_from_front = { λ a xs b p. R.gives_from_front (inner_of a) xs (inner_of b) p.held };
 
-    ghost no_count_falls = { no_count_falls_behind R.given R.counts R.no_count_falls };
+    ghost no_count_falls = { no_count_falls_after R.given R.counts R.no_count_falls };
 }
 
 impl<W: Sink> Sink for Failing<W> {

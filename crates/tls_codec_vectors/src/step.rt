@@ -170,11 +170,11 @@ impl TagFirst for Step {
 
     ghost variants = { step_variants };
 
-    ghost told = { step_tag };
+    ghost first_tag = { step_tag };
 
     ghost is_tagged = { λ d bytes v s. s };
 
-    ghost is_told = { λ d bytes tag parts s. refl };
+    ghost is_first_tag = { λ d bytes tag parts s. refl };
 }
 
 impl ValidateKeyed for Step {

@@ -66,18 +66,18 @@ impl<'a, T: Validate> Encoded<'a, T> {
             Ok(rest) => rest,
             Err(rejected) => return Err(rejected),
         };
-        let (front, behind) = bytes.split_at(bytes.len().saturating_sub(rest.len()));
+        let (front, after) = bytes.split_at(bytes.len().saturating_sub(rest.len()));
         Ok((
             Encoded {
                 bytes: front,
                 of: PhantomData,
             },
-            behind,
+            after,
         ))
     }
 
     /// Bytes that are proved to be one encoding. They aren't validated again.
-    pub fn known(bytes: &'a [u8]) -> Encoded<'a, T>
+    pub fn from_proved(bytes: &'a [u8]) -> Encoded<'a, T>
         requires { IsSpelling T.format.spells bytes.now }
         ensures { result ≡ bytes.now }
     {
@@ -86,11 +86,11 @@ impl<'a, T: Validate> Encoded<'a, T> {
     }
 
     /// Bytes that are proved to be one part and nothing else.
-    pub fn alone(bytes: &'a [u8]) -> Encoded<'a, T>
+    pub fn from_only_part(bytes: &'a [u8]) -> Encoded<'a, T>
         requires { IsSpelling (fields T.format.spells nothing) bytes.now }
         ensures { result ≡ bytes.now }
     {
-        Encoded::known(bytes)
+        Encoded::from_proved(bytes)
     }
 
     /// The bytes.

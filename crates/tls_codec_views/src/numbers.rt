@@ -9,59 +9,59 @@ use tls_codec_wire::{TlsVarInt, U24};
 
 /// A type whose value is read from an [`Encoded`] without allocating and without failing: integers,
 /// arrays of bytes, and enums of numbers.
-pub trait Told: Validate {
+pub trait ReadInPlace: Validate {
     /// The value.
-    fn told(encoded: &Encoded<'_, Self>) -> Self
+    fn read(encoded: &Encoded<'_, Self>) -> Self
         ensures { Self.format.spells Reading encoded.now (Self.plain result) };
 }
 
-impl<'a, T: Told> Encoded<'a, T> {
+impl<'a, T: ReadInPlace> Encoded<'a, T> {
     /// The value.
     pub fn get(&self) -> T
         ensures { T.format.spells Reading self.now (T.plain result) }
     {
-        T::told(self)
+        T::read(self)
     }
 }
 
-impl Told for u8 {
-    fn told(encoded: &Encoded<'_, u8>) -> u8 {
+impl ReadInPlace for u8 {
+    fn read(encoded: &Encoded<'_, u8>) -> u8 {
         u8::from_be_bytes(array_of(encoded.bytes))
     }
 }
 
-impl Told for u16 {
-    fn told(encoded: &Encoded<'_, u16>) -> u16 {
+impl ReadInPlace for u16 {
+    fn read(encoded: &Encoded<'_, u16>) -> u16 {
         u16::from_be_bytes(array_of(encoded.bytes))
     }
 }
 
-impl Told for U24 {
-    fn told(encoded: &Encoded<'_, U24>) -> U24 {
+impl ReadInPlace for U24 {
+    fn read(encoded: &Encoded<'_, U24>) -> U24 {
         U24::from_be_bytes(array_of(encoded.bytes))
     }
 }
 
-impl Told for u32 {
-    fn told(encoded: &Encoded<'_, u32>) -> u32 {
+impl ReadInPlace for u32 {
+    fn read(encoded: &Encoded<'_, u32>) -> u32 {
         u32::from_be_bytes(array_of(encoded.bytes))
     }
 }
 
-impl Told for u64 {
-    fn told(encoded: &Encoded<'_, u64>) -> u64 {
+impl ReadInPlace for u64 {
+    fn read(encoded: &Encoded<'_, u64>) -> u64 {
         u64::from_be_bytes(array_of(encoded.bytes))
     }
 }
 
-impl<const LEN: usize> Told for [u8; LEN] {
-    fn told(encoded: &Encoded<'_, [u8; LEN]>) -> [u8; LEN] {
+impl<const LEN: usize> ReadInPlace for [u8; LEN] {
+    fn read(encoded: &Encoded<'_, [u8; LEN]>) -> [u8; LEN] {
         array_of(encoded.bytes)
     }
 }
 
-impl Told for TlsVarInt {
-    fn told(encoded: &Encoded<'_, TlsVarInt>) -> TlsVarInt {
+impl ReadInPlace for TlsVarInt {
+    fn read(encoded: &Encoded<'_, TlsVarInt>) -> TlsVarInt {
         match split_varint(encoded.bytes) {
             Ok((number, _)) => number,
             Err(_) => unreachable!(),

@@ -6,7 +6,7 @@ use Rattle.std.proofs.lemmas.List.{nil_from_length, take_all}
 use Rattle.std.specs.Io.KnownBytes.{Consumes, IsAtEnd}
 use Rattle.tls_codec_wire.specs.Counts.{Counts, OnlyInterrupted, RoseBy}
 use Rattle.tls_codec_wire.specs.Device.{FaultRaises, Gave, GivesFromFront, GivesInOrder, GivesNothing}
-use Rattle.tls_codec_wire.specs.Refused.{Causes, RefusedFor, Seen, told_or, within}
+use Rattle.tls_codec_wire.specs.Refused.{Causes, RefusedFor, Seen, reported_or, within}
 use Rattle.tls_codec_wire.specs.Bounded.{inner_of, limit_of}
 use Rattle.tls_codec_wire.specs.declared.bounded.Bounded.{Bounded}
 use Rattle.tls_codec_wire.specs.Transfer.{BytesRefused, EndRefused, ErrorOfFault, IsShortOf, ReadRefused}
@@ -18,7 +18,7 @@ use Rattle.tls_codec_wire.specs.declared.error.Error.TheVariants.{DecodingError,
 
 module _ {S : Type 0} {source : Ghosts S} where
   -- what the source gave, and what it tells now
-  pub seen_now : {old new : S} (front : List ℕ) → GivesNothing source.given → source.given old front new → Seen source old new (front ++ told_or (source.coming new) [])
+  pub seen_now : {old new : S} (front : List ℕ) → GivesNothing source.given → source.given old front new → Seen source old new (front ++ reported_or (source.coming new) [])
   seen_now {old} {new} front nothing held = record { front = front; at = new; rest = []; gave = held; goes_on = nothing new; whole = refl }
 
   -- what a later step has seen comes after what was given before
@@ -40,7 +40,7 @@ module _ {S : Type 0} {source : Ghosts S} where
   pub seen_told : {old new : S} {x told : List ℕ} → GivesFromFront source.given source.coming → source.coming old ≡ Some told → Seen source old new x → x ≡ told
   seen_told {old} {new} {x} {told} from_front tells p = p.whole ∙ told_so (source.coming p.at) (subst (λ (u : Option (List ℕ)). Consumes u (source.coming p.at) p.front) tells (from_front old p.front p.at p.gave))
     where
-      told_so : (now : Option (List ℕ)) → Consumes (Some told) now p.front → p.front ++ told_or now p.rest ≡ told
+      told_so : (now : Option (List ℕ)) → Consumes (Some told) now p.front → p.front ++ reported_or now p.rest ≡ told
       told_so None took = absurd took
       told_so (Some rest) took = sym took
 
@@ -49,10 +49,10 @@ module _ {S : Type 0} {source : Ghosts S} where
   seen_more {old} {new} {x} order from_front p = (
     p.front ++ p.rest,
     order old p.front p.at p.rest new p.gave p.goes_on,
-    omega (arith, ap length p.whole, length-append p.front p.rest, length-append p.front (told_or (source.coming p.at) p.rest), no_less (source.coming p.at) (source.coming new) (from_front p.at p.rest new p.goes_on)),
+    omega (arith, ap length p.whole, length-append p.front p.rest, length-append p.front (reported_or (source.coming p.at) p.rest), no_less (source.coming p.at) (source.coming new) (from_front p.at p.rest new p.goes_on)),
   )
     where
-      no_less : (told now : Option (List ℕ)) → Consumes told now p.rest → length p.rest ≤ length (told_or told p.rest)
+      no_less : (told now : Option (List ℕ)) → Consumes told now p.rest → length p.rest ≤ length (reported_or told p.rest)
       no_less None now took = omega arith
       no_less (Some y) None took = absurd took
       no_less (Some y) (Some z) took = omega (arith, ap length took, length-append p.rest z)
@@ -61,7 +61,7 @@ module _ {S : Type 0} {source : Ghosts S} where
   pub seen_nothing : {old new : S} → GivesInOrder source.given → GivesFromFront source.given source.coming → Seen source old new [] → source.given old [] new
   seen_nothing {old} {new} order from_front p = none p.front p.rest p.gave p.goes_on (source.coming p.at) (from_front p.at p.rest new p.goes_on) p.whole
     where
-      none : (front rest : List ℕ) → source.given old front p.at → source.given p.at rest new → (told : Option (List ℕ)) → Consumes told (source.coming new) rest → [] ≡ front ++ told_or told rest → source.given old [] new
+      none : (front rest : List ℕ) → source.given old front p.at → source.given p.at rest new → (told : Option (List ℕ)) → Consumes told (source.coming new) rest → [] ≡ front ++ reported_or told rest → source.given old [] new
       none [] [] gave on told took whole = order old [] p.at [] new gave on
       none [] (b ∷ bs) gave on None took whole = absurd (omega (arith, ap length whole))
       none [] (b ∷ bs) gave on (Some x) took whole = absurd (lost (source.coming new) took)
@@ -74,7 +74,7 @@ module _ {S : Type 0} {source : Ghosts S} where
   -- if the source never tells any, what it gave was seen
   pub seen_untold : {old new : S} {x : List ℕ} → GivesInOrder source.given → ((s : S) → source.coming s ≡ None) → Seen source old new x → source.given old x new
   seen_untold {old} {new} {x} order never p =
-      subst (λ (u : List ℕ). source.given old u new) (sym (p.whole ∙ ap (λ (u : Option (List ℕ)). p.front ++ told_or u p.rest) (never p.at))) (order old p.front p.at p.rest new p.gave p.goes_on)
+      subst (λ (u : List ℕ). source.given old u new) (sym (p.whole ∙ ap (λ (u : Option (List ℕ)). p.front ++ reported_or u p.rest) (never p.at))) (order old p.front p.at p.rest new p.gave p.goes_on)
 
   module _ {causes others : Causes} {e : Error} where
     -- one cause is another
@@ -87,7 +87,7 @@ module _ {S : Type 0} {source : Ghosts S} where
 
   -- refused for what was given, whatever comes after it
   pub refused_now : {causes : Causes} {e : Error} {old new : S} (front : List ℕ) → GivesNothing source.given → source.given old front new → ((rest : List ℕ) → causes (front ++ rest) (source.counts old) (source.counts new) e) → RefusedFor source causes old new e
-  refused_now {new = new} front nothing held f = record { bytes = _; seen = seen_now front nothing held; cause = f (told_or (source.coming new) []) }
+  refused_now {new = new} front nothing held f = record { bytes = _; seen = seen_now front nothing held; cause = f (reported_or (source.coming new) []) }
 
   -- at the end of the bytes what was given is all that was seen
   pub ended : {causes : Causes} {e : Error} {old new : S} (front : List ℕ) (mid : S) → GivesNothing source.given → GivesInOrder source.given → source.given old front mid → source.given mid [] new → IsAtEnd (source.coming new) → causes front (source.counts old) (source.counts new) e → RefusedFor source causes old new e
@@ -97,7 +97,7 @@ module _ {S : Type 0} {source : Ghosts S} where
     cause = subst (λ (u : List ℕ). causes u (source.counts old) (source.counts new) e) (sym (none_left (source.coming new) end)) cause;
   }
     where
-      none_left : (now : Option (List ℕ)) → IsAtEnd now → (front ++ []) ++ told_or now [] ≡ front
+      none_left : (now : Option (List ℕ)) → IsAtEnd now → (front ++ []) ++ reported_or now [] ≡ front
       none_left None end = append-nil (front ++ []) ∙ append-nil front
       none_left (Some rest) end = ap (λ (u : List ℕ). (front ++ []) ++ u) end ∙ append-nil (front ++ []) ∙ append-nil front
 
@@ -106,10 +106,10 @@ module _ {S : Type 0} {source : Ghosts S} where
   too_few {old} {new} n nothing some short same = record {
     bytes = _;
     seen = seen_now [] nothing (subst (source.given old []) (sym same) (nothing old));
-    cause = subst (λ (s : S). length (told_or (source.coming s) []) < n) (sym same) (fewer (source.coming old) short);
+    cause = subst (λ (s : S). length (reported_or (source.coming s) []) < n) (sym same) (fewer (source.coming old) short);
   }
     where
-      fewer : (coming : Option (List ℕ)) → IsShortOf n coming → length (told_or coming []) < n
+      fewer : (coming : Option (List ℕ)) → IsShortOf n coming → length (reported_or coming []) < n
       fewer None short = some
       fewer (Some x) short = short
 
@@ -137,13 +137,13 @@ pub record SeenWithin {S : Type 0} (source : Ghosts S) (a b : Bounded S) (y : Li
   pub seen : Seen source (inner_of a) (inner_of b) bytes
   pub first : y ≡ take (limit_of a) bytes
 
-told_within : (n : ℕ) (coming : Option (List ℕ)) (rest : List ℕ) → length rest ≤ n → told_or (option_map (take n) coming) rest ≡ take n (told_or coming rest)
+told_within : (n : ℕ) (coming : Option (List ℕ)) (rest : List ℕ) → length rest ≤ n → reported_or (option_map (take n) coming) rest ≡ take n (reported_or coming rest)
 told_within n None rest fits = sym (take_all n rest fits)
 told_within n (Some x) rest fits = refl
 
 pub seen_within : {S : Type 0} {source : Ghosts S} {a b : Bounded S} {y : List ℕ} → Seen (within source) a b y → SeenWithin source a b y
 seen_within {S} {source} {a} {b} {y} p =
-    let told = told_or (source.coming (inner_of p.at)) p.rest in
+    let told = reported_or (source.coming (inner_of p.at)) p.rest in
     record {
       bytes = p.front ++ told;
       seen = record { front = p.front; at = inner_of p.at; rest = p.rest; gave = p.gave.held; goes_on = p.goes_on.held; whole = refl };

@@ -7,7 +7,7 @@ use Rattle.std.specs.Int.{byte_at, bytes_high_first}
 use Rattle.tls_codec_wire.proofs.BigEndian.{length-high_first, AreBytes-high_first, value-high_first}
 use Rattle.tls_codec_wire.specs.Digits.{value}
 use Rattle.tls_codec_wire.specs.Varint.{LaidOut, SpelledBelow}
-use Rattle.tls_codec_wire.specs.VarintCalls.{IsLaidOut}
+use Rattle.tls_codec_wire.specs.VarintCalls.{HasLeastTopBits}
 
 -- the last j digits
 pub drop-high_first : (k j n : ℕ) → drop k (bytes_high_first (k + j) n) ≡ bytes_high_first j n
@@ -54,7 +54,7 @@ marked_digits t u n small width fits =
     regroup n c q r w e = grind arith
 
 -- so the last digits of the two, as many as the top bits say, are the spelling
-pub laid_out : (limit n mark width : ℕ) → IsLaidOut n mark width → n < limit → SpelledBelow limit (drop (8 - width) (bytes_high_first 8 (n + mark))) n
+pub laid_out : (limit n mark width : ℕ) → HasLeastTopBits n mark width → n < limit → SpelledBelow limit (drop (8 - width) (bytes_high_first 8 (n + mark))) n
 laid_out limit n mark width p below =
     let u : ℕ = 2 ^ p.top - 1 in
     let says : suc u ≡ 2 ^ p.top = omega (arith, pow_pos p.top) in

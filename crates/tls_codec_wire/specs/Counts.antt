@@ -47,11 +47,11 @@ only_shortages = record { failures = 0; interruptions = 0; shortages = count_lim
 
 -- ---- laws
 
-pub stay : (a : Counts) → NoneFell a a
-stay a = record { failures = omega arith; interruptions = omega arith; shortages = omega arith }
+pub none_fell_refl : (a : Counts) → NoneFell a a
+none_fell_refl a = record { failures = omega arith; interruptions = omega arith; shortages = omega arith }
 
-pub fall_never : {a b c : Counts} → NoneFell a b → NoneFell b c → NoneFell a c
-fall_never {a} {b} {c} p q = record {
+pub none_fell_trans : {a b c : Counts} → NoneFell a b → NoneFell b c → NoneFell a c
+none_fell_trans {a} {b} {c} p q = record {
   failures = omega (arith, p.failures, q.failures);
   interruptions = omega (arith, p.interruptions, q.interruptions);
   shortages = omega (arith, p.shortages, q.shortages);
@@ -67,8 +67,8 @@ only_interrupted_trans {a} {b} {c} p q = record {
   shortages = q.shortages ∙ p.shortages;
 }
 
-pub only_interrupted_grows : {a b : Counts} → OnlyInterrupted a b → NoneFell a b
-only_interrupted_grows {a} {b} p = record {
+pub only_interrupted_none_fell : {a b : Counts} → OnlyInterrupted a b → NoneFell a b
+only_interrupted_none_fell {a} {b} p = record {
   failures = omega (arith, p.failures);
   interruptions = p.interruptions;
   shortages = omega (arith, p.shortages);

@@ -92,13 +92,13 @@ AppendedAtHand given old new n true before after = PulledOnto given old new (Ok 
 AppendedAtHand given old new n false before after = (new ≡ old) × (after ≡ before)
 
 -- p is a prefix of s
-abbrev pub IsBeginning : List ℕ → List ℕ → Type 0
-IsBeginning p s = (rest : List ℕ) × (s ≡ p ++ rest)
+abbrev pub IsPrefix : List ℕ → List ℕ → Type 0
+IsPrefix p s = (rest : List ℕ) × (s ≡ p ++ rest)
 
 -- these bytes come first, if the source reports the bytes to come
 abbrev pub IsAtHand : List ℕ → Option (List ℕ) → Type 0
 IsAtHand bytes None = ⊤
-IsAtHand bytes (Some xs) = IsBeginning bytes xs
+IsAtHand bytes (Some xs) = IsPrefix bytes xs
 
 -- ---- what a sink has received
 
@@ -106,4 +106,4 @@ IsAtHand bytes (Some xs) = IsBeginning bytes xs
 pub record Received (old new : Option (List ℕ)) (bytes : List ℕ) : Type 0 where
   pub front : List ℕ
   pub held : Appends old new front
-  pub beginning : IsBeginning front bytes
+  pub beginning : IsPrefix front bytes

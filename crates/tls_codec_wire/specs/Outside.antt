@@ -4,7 +4,7 @@ use Rattle.std.proofs.KnownBytes.{Consumes-nil, Consumes-trans}
 use Rattle.std.specs.Io.KnownBytes.{Consumes}
 use Rattle.std.specs.declared.io.ErrorKind.{ErrorKind}
 use Rattle.std.specs.declared.io.ErrorKind.TheVariants as kinds
-use Rattle.tls_codec_wire.specs.Counts.{Counts, NoneFell, count_limit, fall_never, stay}
+use Rattle.tls_codec_wire.specs.Counts.{Counts, NoneFell, count_limit, none_fell_refl, none_fell_trans}
 use Rattle.tls_codec_wire.specs.Device.{GivesInOrder, GivesNothing}
 use Rattle.tls_codec_wire.specs.Digits.{AreBytes, bytes_in_order}
 use Rattle.tls_codec_wire.specs.declared.device.Fault.{Fault}
@@ -43,12 +43,12 @@ fault_of _ = Failed
 -- ---- laws
 
 pub gives_nothing_outside : {R : Type 0} (remaining : R → Option (List ℕ)) → GivesNothing (GaveOutside remaining)
-gives_nothing_outside remaining a = record { consumed = Consumes-nil _; fell = stay (counts_of a); moved = omega arith; are_bytes = tt }
+gives_nothing_outside remaining a = record { consumed = Consumes-nil _; fell = none_fell_refl (counts_of a); moved = omega arith; are_bytes = tt }
 
 pub gives_in_order_outside : {R : Type 0} (remaining : R → Option (List ℕ)) → GivesInOrder (GaveOutside remaining)
 gives_in_order_outside remaining a xs b ys c p q = record {
   consumed = Consumes-trans _ _ _ _ _ p.consumed q.consumed;
-  fell = fall_never p.fell q.fell;
+  fell = none_fell_trans p.fell q.fell;
   moved = omega (arith, p.moved, q.moved, length-append xs ys);
   are_bytes = bytes_in_order xs ys p.are_bytes q.are_bytes;
 }

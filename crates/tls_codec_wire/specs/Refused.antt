@@ -7,9 +7,9 @@ use Rattle.tls_codec_wire.specs.declared.device.Source.{Ghosts}
 use Rattle.tls_codec_wire.specs.declared.error.Error.{Error}
 
 -- the bytes to come, if the source reports them, else those that were given
-abbrev pub told_or : Option (List ℕ) → List ℕ → List ℕ
-told_or None gave = gave
-told_or (Some told) gave = told
+abbrev pub reported_or : Option (List ℕ) → List ℕ → List ℕ
+reported_or None gave = gave
+reported_or (Some told) gave = told
 
 -- x is what a call could see. For a slice these are all bytes to come; for a file, those given. A
 -- later step sees more: first what was given before it (`front`, up to the state `at`), then what
@@ -20,7 +20,7 @@ pub record Seen {S : Type 0} (source : Ghosts S) (old new : S) (x : List ℕ) : 
   pub rest : List ℕ
   pub gave : source.given old front at
   pub goes_on : source.given at rest new
-  pub whole : x ≡ front ++ told_or (source.coming at) rest
+  pub whole : x ≡ front ++ reported_or (source.coming at) rest
 
 -- causes of a refusal: by the bytes that were seen, the counts before and after, and the error
 abbrev pub Causes : Type 1

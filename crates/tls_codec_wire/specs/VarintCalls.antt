@@ -36,7 +36,7 @@ pub record SaysWidth (first more least : ℕ) : Type 0 where
 -- ---- writing
 
 -- the top bits t are the least for n: they say 2 ^ t bytes, which is this width, and stand for this mark there
-pub record IsLaidOut (n mark width : ℕ) : Type 0 where
+pub record HasLeastTopBits (n mark width : ℕ) : Type 0 where
   pub top : ℕ
   pub small : top < 4
   pub fits : n < 64 * 256 ^ (2 ^ top - 1)

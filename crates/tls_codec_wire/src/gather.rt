@@ -1,5 +1,5 @@
 //! Bytes of a source, gathered in a vector as they come.
-ghost use Rattle.std.specs.Prelude.{◌≡◌, ◌+◌, ◌<◌, ◌≤◌, ◌^◌, ◌↔◌, length, max, IsTrue, IfErr, IfOk, MatchOption};
+ghost use Rattle.std.specs.Prelude.{◌≡◌, ◌+◌, ◌<◌, ◌≤◌, ◌^◌, ◌↔◌, length, max, IsTrue, IfErr, IfOk, OnOk, MatchOption};
 ghost use Rattle.std.specs.Io.KnownBytes.{IsAtEnd};
 ghost use Rattle.tls_codec_wire.specs.Counts.{OnlyInterrupted};
 ghost use Rattle.tls_codec_wire.specs.Device.{Came, Gave};
@@ -39,7 +39,7 @@ pub fn read_bytes_bounded<R: Source>(
     ensures count { IfOk result (λ bytes. length bytes.items ≡ len) }
     ensures refused { IfErr result (RefusedFor R.Source (BytesRefused len) src.old src.new) }
     ensures too_long { 2 ^ 63 ≤ len → (result ≡ Err InvalidVectorLength) × (src.new ≡ src.old) }
-    ensures retried { IfOk result (λ _. OnlyInterrupted (R.counts src.old) (R.counts src.new)) }
+    ensures retried { OnOk result (OnlyInterrupted (R.counts src.old) (R.counts src.new)) }
     ensures ended { result ≡ Err EndOfStream
         → OnlyInterrupted (R.counts src.old) (R.counts src.new) }
     ensures tried { TriedWithin len (R.counts src.old) (R.counts src.new) result }
@@ -104,7 +104,7 @@ pub fn gather<R: Source>(src: &mut R, bytes: &mut Vec<u8>, len: usize) -> Result
     ensures count { IfOk result (λ _. length bytes.new.items ≡ length bytes.old.items + len) }
     ensures refused { IfErr result (RefusedFor R.Source (BytesRefused len) src.old src.new) }
     ensures ended { result ≡ Err EndOfStream → IsAtEnd (R.coming src.new) }
-    ensures retried { IfOk result (λ _. OnlyInterrupted (R.counts src.old) (R.counts src.new)) }
+    ensures retried { OnOk result (OnlyInterrupted (R.counts src.old) (R.counts src.new)) }
     ensures ended_retried { result ≡ Err EndOfStream
         → OnlyInterrupted (R.counts src.old) (R.counts src.new) }
     ensures tried { TriedWithin len (R.counts src.old) (R.counts src.new) result }

@@ -35,7 +35,7 @@ use crate::bounded::Bounded;
 use crate::device::{Fault, Fill, Sink, Source};
 use crate::error::Error;
 use crate::outside::Outside;
-use crate::transfer::MOST_INTERRUPTIONS;
+use crate::transfer::MAX_INTERRUPTIONS;
 use crate::uint24::U24;
 use crate::varint::TlsVarInt;
 use std::alloc::AllocError;
@@ -78,7 +78,7 @@ pub fn writers_outside_tell_what_was_received<W: Write>()
 
 /// 16 interruptions in a row are tried again.
 pub fn interruptions_are_tried_again()
-    ensures { MOST_INTERRUPTIONS ≡ 16 }
+    ensures { MAX_INTERRUPTIONS ≡ 16 }
 {}
 
 /// A slice reports its bytes, has given those that it lost, and never fails.

@@ -39,6 +39,6 @@ pub use device::{Fault, Fill, Sink, Source};
 pub use error::Error;
 pub use gather::read_bytes_bounded;
 pub use outside::Outside;
-pub use transfer::{MOST_INTERRUPTIONS, expect_end, read_exactly, write_all};
+pub use transfer::{MAX_INTERRUPTIONS, expect_end, read_exactly, write_all};
 pub use uint24::U24;
 pub use varint::TlsVarInt;

@@ -2,7 +2,7 @@
 ghost use Rattle.std.specs.Prelude.{◌≡◌, ◌<◌, ◌++◌, length, Some, refl};
 ghost use Rattle.std.proofs.Common.{rules};
 ghost use Rattle.std.proofs.lemmas.Grind.{common_steps};
-ghost use Rattle.tls_codec_wire.specs.Counts.{no_counts, only_shortages, stay};
+ghost use Rattle.tls_codec_wire.specs.Counts.{no_counts, only_shortages, none_fell_refl};
 ghost use Rattle.tls_codec_wire.specs.declared.device.Fill.TheVariants.{Full, TooFew, Unknown};
 
 use crate::device::{Fault, Fill, Sink, Source};
@@ -75,7 +75,7 @@ impl Source for &[u8] {
 
     ghost gives_from_front = { λ a xs b p. p };
 
-    ghost no_count_falls = { λ a xs b p. stay no_counts };
+    ghost no_count_falls = { λ a xs b p. none_fell_refl no_counts };
 }
 
 // Appends, and fails for memory alone. Its count of shortages is at the limit, so that nothing is

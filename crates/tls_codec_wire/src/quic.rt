@@ -2,7 +2,7 @@
 //! section 2.1.2).
 //!
 //! A number in more bytes than it needs is rejected: its encoding isn't canonical.
-ghost use Rattle.std.specs.Prelude.{◌≡◌, ◌^◌, IfErr, IfOk};
+ghost use Rattle.std.specs.Prelude.{◌≡◌, ◌^◌, IfErr, IfOk, OnOk};
 ghost use Rattle.tls_codec_wire.specs.Counts.{NoneFell, OnlyInterrupted};
 ghost use Rattle.tls_codec_wire.specs.Device.{Gave};
 ghost use Rattle.tls_codec_wire.specs.Refused.{RefusedFor};
@@ -36,7 +36,7 @@ pub fn read_varint<R: Source>(src: &mut R) -> Result<TlsVarInt, Error>
     ensures ok { IfOk result (λ n. GaveNumber R.given Varint src.old src.new (number_of n)) }
     ensures refused { IfErr result
         (RefusedFor R.Source (NumberNotRead (RefusesBelow (2 ^ 62))) src.old src.new) }
-    ensures retried { IfOk result (λ _. OnlyInterrupted (R.counts src.old) (R.counts src.new)) }
+    ensures retried { OnOk result (OnlyInterrupted (R.counts src.old) (R.counts src.new)) }
     ensures ended { result ≡ Err EndOfStream
         → OnlyInterrupted (R.counts src.old) (R.counts src.new) }
 {
@@ -67,14 +67,14 @@ pub fn write_varint<W: Sink>(sink: &mut W, n: TlsVarInt) -> Result<usize, Error>
         (number_of n) }
     ensures counts { NoneFell (W.counts sink.old) (W.counts sink.new) }
     ensures refused { IfErr result (WriteRefused (W.counts sink.old) (W.counts sink.new)) }
-    ensures retried { IfOk result (λ _. OnlyInterrupted (W.counts sink.old) (W.counts sink.new)) }
+    ensures retried { OnOk result (OnlyInterrupted (W.counts sink.old) (W.counts sink.new)) }
 {
     let width = write_below::<W, LIMIT>(sink, n.value())?;
     Ok(width)
 }
 
 /// How many bytes a number has. It is 0 above [`TlsVarInt::MAX`], since there is no encoding.
-pub fn least_width(n: u64) -> usize
+pub fn varint_width(n: u64) -> usize
     ensures { result ≡ width_below (2 ^ 62) n }
 {
     width_below::<LIMIT>(n)

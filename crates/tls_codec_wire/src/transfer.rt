@@ -13,12 +13,12 @@ use crate::device::{Fault, Fill, Sink, Source};
 use crate::error::Error;
 
 /// How many interruptions in a row are tried again. A call that is interrupted once more fails.
-pub const MOST_INTERRUPTIONS: u8 = 16;
+pub const MAX_INTERRUPTIONS: u8 = 16;
 
 /// Fills the buffer with the next bytes.
 ///
 /// If the source has them at hand, they are taken in one step. If it knows that there are fewer,
-/// none is taken. Else a call that is interrupted is tried again, up to [`MOST_INTERRUPTIONS`]
+/// none is taken. Else a call that is interrupted is tried again, up to [`MAX_INTERRUPTIONS`]
 /// times in a row; a call that moves a byte starts the row anew. `EndOfStream`: fewer bytes came
 /// than the buffer has room for. `DecodingError("read failed")`: the source failed, or was
 /// interrupted more often in a row. `OutOfMemory`: the source had none. After an error nothing is
@@ -108,7 +108,7 @@ pub fn expect_end<R: Source>(src: &mut R) -> Result<(), Error>
 
 /// Sends all of a piece.
 ///
-/// A call that is interrupted is tried again, up to [`MOST_INTERRUPTIONS`] times in a row; a call
+/// A call that is interrupted is tried again, up to [`MAX_INTERRUPTIONS`] times in a row; a call
 /// that moves a byte starts the row anew. `EncodingError("write failed")`: the sink failed, took no
 /// byte, or was interrupted more often in a row. `OutOfMemory`: the sink had none. After an error
 /// the sink has received a prefix of the piece. An empty piece makes no call.
@@ -150,7 +150,7 @@ pub(crate) fn after_fault(fault: Fault, row: u8, failed: Error) -> Result<u8, Er
     ensures err { IfErr result (ErrorOfFault fault row failed) }
 {
     match fault {
-        Fault::Interrupted if row < MOST_INTERRUPTIONS => Ok(row + 1),
+        Fault::Interrupted if row < MAX_INTERRUPTIONS => Ok(row + 1),
         Fault::NoMemory => Err(Error::OutOfMemory),
         _ => Err(failed),
     }

@@ -11,7 +11,7 @@ ghost use Rattle.tls_codec_wire.specs.Refused.{RefusedFor};
 ghost use Rattle.tls_codec_wire.specs.Transfer.{ReadRefused};
 ghost use Rattle.tls_codec_wire.specs.Numbers.{BeganNumber, BeginsNumber, GaveNumber, NumberNotRead, NumberNotSent, SentNumber};
 ghost use Rattle.tls_codec_wire.specs.Varint.{SpelledBelow, width_below};
-ghost use Rattle.tls_codec_wire.specs.VarintCalls.{IsLaidOut, RefusesBelow, SaysWidth};
+ghost use Rattle.tls_codec_wire.specs.VarintCalls.{HasLeastTopBits, RefusesBelow, SaysWidth};
 ghost use Rattle.tls_codec_wire.specs.declared.error.Error.TheVariants.{EndOfStream, InvalidVectorLength};
 
 use crate::device::{Sink, Source};
@@ -29,7 +29,7 @@ pub(crate) fn read_below<R: Source, const LIMIT: u64>(src: &mut R) -> Result<u64
     ensures ok { IfOk result (λ n. GaveNumber R.given (SpelledBelow LIMIT) src.old src.new n) }
     ensures refused { IfErr result
         (RefusedFor R.Source (NumberNotRead (RefusesBelow LIMIT)) src.old src.new) }
-    ensures retried { IfOk result (λ _. OnlyInterrupted (R.counts src.old) (R.counts src.new)) }
+    ensures retried { OnOk result (OnlyInterrupted (R.counts src.old) (R.counts src.new)) }
     ensures ended { result ≡ Err EndOfStream
         → OnlyInterrupted (R.counts src.old) (R.counts src.new) }
 {
@@ -174,7 +174,7 @@ pub(crate) fn write_below<W: Sink, const LIMIT: u64>(
     ensures counts { NoneFell (W.counts sink.old) (W.counts sink.new) }
     ensures refused { IfErr result
         (NumberNotSent LIMIT number (W.counts sink.old) (W.counts sink.new)) }
-    ensures retried { IfOk result (λ _. OnlyInterrupted (W.counts sink.old) (W.counts sink.new)) }
+    ensures retried { OnOk result (OnlyInterrupted (W.counts sink.old) (W.counts sink.new)) }
     ensures too_great { LIMIT ≤ number
         → (result ≡ Err InvalidVectorLength) × (sink.new ≡ sink.old) }
 {
@@ -218,7 +218,8 @@ pub(crate) fn width_below<const LIMIT: u64>(number: u64) -> usize
 fn top_bits<const LIMIT: u64>(n: u64) -> Option<(u64, usize)>
     requires least { 2 ^ 30 ≤ LIMIT }
     requires greatest { LIMIT ≤ 2 ^ 62 }
-    ensures { MatchOption result (LIMIT ≤ n) (λ found. (n < LIMIT) × IsLaidOut n found.0 found.1) }
+    ensures { MatchOption result (LIMIT ≤ n)
+        (λ found. (n < LIMIT) × HasLeastTopBits n found.0 found.1) }
 {
     if n < 0x40 {
         Some((0, 1))

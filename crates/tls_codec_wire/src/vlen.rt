@@ -2,7 +2,7 @@
 //!
 //! A length has at most 30 bits, so 1, 2 or 4 bytes: the greatest is 1,073,741,823. In more bytes than it
 //! needs it is rejected: that encoding isn't canonical.
-ghost use Rattle.std.specs.Prelude.{◌≡◌, ◌^◌, ◌-◌, ◌<◌, ◌≤◌, ◌+◌, ◌++◌, length, vec_len, take, drop, is_ok, if◌then◌else◌, IfErr, IfOk, MatchOption, OnErr};
+ghost use Rattle.std.specs.Prelude.{◌≡◌, ◌^◌, ◌-◌, ◌<◌, ◌≤◌, ◌+◌, ◌++◌, length, vec_len, take, drop, is_ok, if◌then◌else◌, IfErr, IfOk, OnOk, MatchOption, OnErr};
 ghost use Rattle.tls_codec_wire.specs.Counts.{NoneFell, OnlyInterrupted};
 ghost use Rattle.tls_codec_wire.specs.Device.{Gave};
 ghost use Rattle.tls_codec_wire.specs.Refused.{RefusedFor};
@@ -37,7 +37,7 @@ pub fn read_length<R: Source>(src: &mut R) -> Result<(usize, usize), Error>
     ensures width { IfOk result (λ found. found.1 ≡ width_below (2 ^ 30) found.0) }
     ensures refused { IfErr result
         (RefusedFor R.Source (NumberNotRead (RefusesBelow (2 ^ 30))) src.old src.new) }
-    ensures retried { IfOk result (λ _. OnlyInterrupted (R.counts src.old) (R.counts src.new)) }
+    ensures retried { OnOk result (OnlyInterrupted (R.counts src.old) (R.counts src.new)) }
     ensures ended { result ≡ Err EndOfStream
         → OnlyInterrupted (R.counts src.old) (R.counts src.new) }
 {
@@ -76,7 +76,7 @@ pub fn write_length<W: Sink>(sink: &mut W, content_length: usize) -> Result<usiz
     ensures counts { NoneFell (W.counts sink.old) (W.counts sink.new) }
     ensures refused { IfErr result
         (NumberNotSent (2 ^ 30) content_length (W.counts sink.old) (W.counts sink.new)) }
-    ensures retried { IfOk result (λ _. OnlyInterrupted (W.counts sink.old) (W.counts sink.new)) }
+    ensures retried { OnOk result (OnlyInterrupted (W.counts sink.old) (W.counts sink.new)) }
     ensures too_long { 2 ^ 30 ≤ content_length
         → (result ≡ Err InvalidVectorLength) × (sink.new ≡ sink.old) }
 {

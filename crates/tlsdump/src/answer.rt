@@ -2,8 +2,8 @@
 
 use crate::dump::Dump;
 use crate::expected::{push_expected, push_found};
-use crate::json::{push_tree, text};
-use crate::show::{Layout, begin, push_label, push_lines};
+use crate::json::{push_tree, put_text};
+use crate::show::{PrintOptions, begin_line, push_label, push_lines};
 use crate::walk::line::{Label, Line};
 use crate::walk::stop::{Stop, path};
 use serde_json::{Map, Value, put};
@@ -20,24 +20,24 @@ pub struct Answer {
 }
 
 /// The lines of messages in a row.
-pub fn tree(alloc: Global, layout: Layout, dump: &Dump<'_>) -> Result<Answer, AllocError> {
+pub fn tree(alloc: Global, options: PrintOptions, dump: &Dump<'_>) -> Result<Answer, AllocError> {
     let mut shown = String::new(alloc);
     let mut start = 0;
     for walked in &dump.messages {
-        start = push_lines(alloc, &mut shown, layout, start, walked.lines.as_slice())?;
+        start = push_lines(alloc, &mut shown, options, start, walked.lines.as_slice())?;
     }
     if let Some(refused) = &dump.refused {
         push_lines(
             alloc,
             &mut shown,
-            layout,
+            options,
             start,
             refused.walked.lines.as_slice(),
         )?;
         if let Some(stop) = &refused.walked.stop {
-            begin(
+            begin_line(
                 &mut shown,
-                layout,
+                options,
                 start.saturating_add(refused.at),
                 stop.depth,
             )?;
@@ -62,9 +62,9 @@ pub fn json(alloc: Global, of: &str, dump: &Dump<'_>) -> Result<Answer, AllocErr
         push_tree(alloc, &mut messages, start, refused.walked.lines.as_slice())?;
         let at = start.saturating_add(refused.at);
         put(&mut members, alloc, "refused_at", Value::from(at as u64))?;
-        text(&mut members, alloc, "refusal", refusal.as_str())?;
+        put_text(&mut members, alloc, "refusal", refusal.as_str())?;
     }
-    text(&mut members, alloc, "type", of)?;
+    put_text(&mut members, alloc, "type", of)?;
     put(&mut members, alloc, "messages", Value::Array(messages))?;
     let mut shown = Value::Object(members).to_string_pretty(alloc)?;
     shown.push_str("\n")?;

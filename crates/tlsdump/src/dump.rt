@@ -6,7 +6,7 @@ ghost use Rattle.tlsdump.specs.Kinds.{FirstNamed};
 ghost use Rattle.tlsdump.specs.Protocols.{kinds_of};
 
 use crate::kinds::Kind;
-use crate::walk::layouts::Layouts;
+use crate::walk::definitions::Definitions;
 use crate::walk::{Walked, lines_of};
 use std::alloc::{AllocError, Global};
 use tls_codec::Error;
@@ -43,7 +43,7 @@ enum Part<'a> {
 /// rejected field.
 pub fn dump_of<'a>(
     alloc: Global,
-    layouts: &'a Layouts,
+    definitions: &'a Definitions,
     kind: Kind<'a>,
     bytes: &'a [u8],
 ) -> Result<Dump<'a>, AllocError>
@@ -53,7 +53,7 @@ pub fn dump_of<'a>(
     let mut messages = Vec::new(alloc);
     let mut rest = bytes;
     'messages: loop {
-        match part_of(alloc, layouts, kind, rest)? {
+        match part_of(alloc, definitions, kind, rest)? {
             Part::NoMessage(refused) => {
                 return Ok(Dump {
                     messages,
@@ -87,7 +87,7 @@ fn is_end(rest: &[u8], behind: &[u8]) -> bool
 // validator of the type rejects.
 fn part_of<'a>(
     alloc: Global,
-    layouts: &'a Layouts,
+    definitions: &'a Definitions,
     kind: Kind<'a>,
     bytes: &'a [u8],
 ) -> Result<Part<'a>, AllocError>
@@ -97,15 +97,15 @@ fn part_of<'a>(
     match kind.protocol.check(kind.name, bytes) {
         Some(Ok(rest)) => {
             let message = before(bytes, rest);
-            let walked = lines_of(alloc, layouts, kind.name, message, None)?;
+            let walked = lines_of(alloc, definitions, kind.name, message, None)?;
             Ok(Part::Message(walked, rest))
         }
         Some(Err(rejected)) => {
-            let refused = none_of(alloc, layouts, kind, bytes, rejected)?;
+            let refused = none_of(alloc, definitions, kind, bytes, rejected)?;
             Ok(Part::NoMessage(refused))
         }
         None => {
-            let walked = lines_of(alloc, layouts, kind.name, bytes, None)?;
+            let walked = lines_of(alloc, definitions, kind.name, bytes, None)?;
             Ok(Part::Message(walked, &[]))
         }
     }
@@ -125,7 +125,7 @@ fn before<'a>(bytes: &'a [u8], rest: &[u8]) -> &'a [u8]
 // The lines up to a rejected field.
 fn none_of<'a>(
     alloc: Global,
-    layouts: &'a Layouts,
+    definitions: &'a Definitions,
     kind: Kind<'a>,
     bytes: &'a [u8],
     rejected: Rejected<'a>,
@@ -133,7 +133,7 @@ fn none_of<'a>(
     ensures { IfOk result (IsRefused bytes.now rejected.entry.error) }
 {
     let at = rejected.at(bytes);
-    let walked = lines_of(alloc, layouts, kind.name, bytes, Some(at))?;
+    let walked = lines_of(alloc, definitions, kind.name, bytes, Some(at))?;
     Ok(Refused {
         walked,
         at,

@@ -1,6 +1,6 @@
 //! What was expected at a rejected field, and what is there.
 
-use crate::walk::layouts::value_name;
+use crate::walk::definitions::value_name;
 use crate::walk::stop::{Expected, Found};
 use std::alloc::AllocError;
 use tlsgen_syntax::syntax::{Constant, Enum, Field, Label, Select, Vector};
@@ -16,7 +16,7 @@ pub fn push_found(out: &mut String, found: Found) -> Result<(), AllocError> {
         Found::Length(count) => write!(out, "its length is {count} bytes"),
         Found::Spelling => out.push_str("its length isn't in the fewest bytes, or is 2^30 or more"),
         Found::Number(number) => write!(out, "{number} (0x{number:x}) is there"),
-        Found::Refused => out.push_str("its bytes are others"),
+        Found::Refused => out.push_str("the validator rejects what begins here"),
     }
 }
 
@@ -46,26 +46,42 @@ fn push_field(out: &mut String, field: &Field) -> Result<(), AllocError> {
     push_vector(out, &field.vector)?;
     match &field.constant {
         Some(Constant::Named(name)) => write!(out, " = {}", name.text),
-        Some(Constant::Number(number)) => write!(out, " = 0x{:x}", number.value),
+        Some(Constant::Number(number)) => write!(out, " = 0x{:04x}", number.value),
         Some(Constant::Elements(_)) => out.push_str(" = {..}"),
         None => Ok(()),
     }
 }
 
+// How many of its type a field has.
 fn push_vector(out: &mut String, vector: &Vector) -> Result<(), AllocError> {
     match vector {
         Vector::One => Ok(()),
         Vector::Array(number) => write!(out, "[{}]", number.value),
         Vector::Counted(_) => out.push_str("[..]"),
         Vector::Variable => out.push_str("<V>"),
-        Vector::Bounded(least, most) => write!(out, "<{}..{}>", least.value, most.value),
+        Vector::Bounded(least, most) => {
+            write!(out, "<{}..", least.value)?;
+            push_bound(out, most.value)?;
+            out.push_str(">")
+        }
+    }
+}
+
+// The most bytes of a vector, as RFCs write them.
+fn push_bound(out: &mut String, most: u64) -> Result<(), AllocError> {
+    match most {
+        0xfffe => out.push_str("2^16-2"),
+        0xffff => out.push_str("2^16-1"),
+        0xff_ffff => out.push_str("2^24-1"),
+        0xffff_ffff => out.push_str("2^32-1"),
+        _ => write!(out, "{most}"),
     }
 }
 
 // The most values that are named.
 const FEW: usize = 8;
 
-// A value of an enum, by their names if they are few.
+// An enum, with its values if they are few.
 fn push_values(out: &mut String, one: &Enum) -> Result<(), AllocError> {
     write!(out, "{}", one.name.text)?;
     if one.values.len() > FEW {
@@ -85,7 +101,7 @@ fn push_values(out: &mut String, one: &Enum) -> Result<(), AllocError> {
     Ok(())
 }
 
-// A number that has a case.
+// The tags for which a select has a case.
 fn push_cases(out: &mut String, select: &Select) -> Result<(), AllocError> {
     let mut before = "one of ";
     for case in &select.cases {

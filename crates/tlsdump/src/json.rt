@@ -1,6 +1,6 @@
 //! Messages as JSON.
 
-use crate::told::{date_of, is_grease, text_of};
+use crate::annotations::{date_of, name_or_grease, printable_text};
 use crate::walk::line::{Label, Line, Shown};
 use serde_json::{Map, Value, put};
 use std::alloc::{AllocError, Global};
@@ -28,7 +28,7 @@ pub fn push_tree(
     let mut open: Vec<Node> = Vec::new(alloc);
     for line in lines {
         close(alloc, &mut open, messages, line.depth)?;
-        open.push(made(alloc, at, line)?)?;
+        open.push(node_of(alloc, at, line)?)?;
         at = at.saturating_add(line.bytes.len());
     }
     close(alloc, &mut open, messages, 0)?;
@@ -75,10 +75,11 @@ fn ended(alloc: Global, node: Node) -> Result<Value, AllocError> {
     Ok(Value::Object(members))
 }
 
-fn made(alloc: Global, at: usize, line: &Line<'_>) -> Result<Node, AllocError> {
+// A line's node, with nothing below it yet.
+fn node_of(alloc: Global, at: usize, line: &Line<'_>) -> Result<Node, AllocError> {
     let mut members = Map::new(alloc);
     match line.label {
-        Label::Field(name) => text(&mut members, alloc, "name", name)?,
+        Label::Field(name) => put_text(&mut members, alloc, "name", name)?,
         Label::Element(position) => put(
             &mut members,
             alloc,
@@ -89,12 +90,12 @@ fn made(alloc: Global, at: usize, line: &Line<'_>) -> Result<Node, AllocError> {
     put(&mut members, alloc, "offset", Value::from(at as u64))?;
     let are = match line.shown {
         Shown::Struct(of) | Shown::Present(of) | Shown::Opened(_, of) => {
-            text(&mut members, alloc, "type", of)?;
+            put_text(&mut members, alloc, "type", of)?;
             Some("fields")
         }
         Shown::List(_) | Shown::Cut(_) => Some("elements"),
         _ => {
-            add_value(&mut members, alloc, line)?;
+            put_shown(&mut members, alloc, line)?;
             None
         }
     };
@@ -107,54 +108,75 @@ fn made(alloc: Global, at: usize, line: &Line<'_>) -> Result<Node, AllocError> {
 }
 
 // What a line without others below it shows.
-fn add_value(
+fn put_shown(
     members: &mut Map<String, Value>,
     alloc: Global,
     line: &Line<'_>,
 ) -> Result<(), AllocError> {
     match line.shown {
-        Shown::Number => {
-            put(members, alloc, "number", Value::from(line.number()))?;
-            match date_of(alloc, line)? {
-                Some(date) => text(members, alloc, "date", date.as_str()),
-                None => Ok(()),
-            }
-        }
-        Shown::Code(name) => {
-            put(members, alloc, "number", Value::from(line.number()))?;
-            match name {
-                Some(name) => text(members, alloc, "value", name),
-                None if is_grease(line.bytes) => text(members, alloc, "value", "GREASE"),
-                None => Ok(()),
-            }
-        }
-        Shown::Bytes(_, why) => {
-            text(
-                members,
-                alloc,
-                "hex",
-                hex::encode(alloc, line.content())?.as_str(),
-            )?;
-            if let Some(of) = why {
-                text(members, alloc, "not", of)?;
-            }
-            match text_of(line) {
-                Some(found) => text(members, alloc, "text", found),
-                None => Ok(()),
-            }
-        }
-        Shown::Unread => text(
-            members,
-            alloc,
-            "hex",
-            hex::encode(alloc, line.bytes)?.as_str(),
-        ),
+        Shown::Number => put_number(members, alloc, line),
+        Shown::Code(name) => put_code(members, alloc, line, name),
+        Shown::Bytes(_, why) => put_bytes(members, alloc, line, why),
+        Shown::Unread => put_hex(members, alloc, line.bytes),
         _ => put(members, alloc, "value", Value::Null),
     }
 }
 
-/// Adds a text to an object.
-pub fn text(
+// A number, and the date that it stands for, if it does.
+fn put_number(
+    members: &mut Map<String, Value>,
+    alloc: Global,
+    line: &Line<'_>,
+) -> Result<(), AllocError> {
+    put(members, alloc, "number", Value::from(line.number()))?;
+    match date_of(alloc, line)? {
+        Some(date) => put_text(members, alloc, "date", date.as_str()),
+        None => Ok(()),
+    }
+}
+
+// A number, and what it is called, if it has a name.
+fn put_code(
+    members: &mut Map<String, Value>,
+    alloc: Global,
+    line: &Line<'_>,
+    name: Option<&str>,
+) -> Result<(), AllocError> {
+    put(members, alloc, "number", Value::from(line.number()))?;
+    match name_or_grease(name, line.bytes) {
+        Some(name) => put_text(members, alloc, "value", name),
+        None => Ok(()),
+    }
+}
+
+// Bytes, the type that they aren't of, and the text that they are.
+fn put_bytes(
+    members: &mut Map<String, Value>,
+    alloc: Global,
+    line: &Line<'_>,
+    why: Option<&str>,
+) -> Result<(), AllocError> {
+    put_hex(members, alloc, line.content())?;
+    if let Some(of) = why {
+        put_text(members, alloc, "not", of)?;
+    }
+    match printable_text(line) {
+        Some(text) => put_text(members, alloc, "text", text),
+        None => Ok(()),
+    }
+}
+
+// The hex of bytes.
+fn put_hex(
+    members: &mut Map<String, Value>,
+    alloc: Global,
+    bytes: &[u8],
+) -> Result<(), AllocError> {
+    put_text(members, alloc, "hex", hex::encode(alloc, bytes)?.as_str())
+}
+
+/// Puts a member with a text into an object.
+pub fn put_text(
     members: &mut Map<String, Value>,
     alloc: Global,
     key: &str,

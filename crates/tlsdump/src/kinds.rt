@@ -13,7 +13,7 @@ use tls_codec_validate::{Rejected, Validate};
 /// The bytes after a message, or why the bytes begin with no message.
 pub type Checked<'a> = Result<&'a [u8], Rejected<'a>>;
 
-/// The same of a type.
+/// What the validator of a type says of bytes.
 pub(crate) fn validated<T: Validate>(bytes: &[u8]) -> Option<Checked<'_>>
     ensures { Checks T.format bytes.now result }
 {

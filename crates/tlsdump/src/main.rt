@@ -14,18 +14,20 @@
 //! If the bytes are no message, it prints the lines up to the rejected field, and on standard error
 //! the position of this field, its path and what was expected.
 //!
-//! - [`program`]: [`program`](program::program), from its words to its status; [`words`]: the
-//!   command line.
+//! - [`program`]: [`program`](program::program), from its words to its status; [`command_line`]: the
+//!   words that it takes.
 //! - [`input`]: all that an input has; [`notation`]: the bytes that it encodes.
 //! - [`kinds`]: the types, with proved validators that accept their messages and reject other
 //!   bytes; [`texts`]: what they are made of.
 //! - [`walk`]: the lines of a message; [`dump`]: the messages that bytes are, one after another.
-//! - [`answer`]: what is printed of them; [`show`]: as a tree; [`json`]: as JSON; [`told`]: what
+//! - [`answer`]: what is printed of them; [`show`]: as a tree; [`json`]: as JSON; [`annotations`]: what
 //!   bytes mean to a reader; [`expected`]: what was expected at a rejected field, and what is
 //!   there.
 #![tactic(auto)]
 
+mod annotations;
 mod answer;
+mod command_line;
 mod dump;
 mod expected;
 mod input;
@@ -35,9 +37,7 @@ mod notation;
 mod program;
 mod show;
 mod texts;
-mod told;
 mod walk;
-mod words;
 
 use std::process::ExitCode;
 

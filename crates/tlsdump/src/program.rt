@@ -1,14 +1,14 @@
 //! The program, from its arguments to its exit status.
 
 use crate::answer::{Answer, json, tree};
+use crate::command_line::command;
 use crate::dump::dump_of;
 use crate::input::{LONGEST, LONGEST_TEXT, Unread, read};
 use crate::kinds::{Kind, Named, PROTOCOLS, Protocol, kind_of, recognised};
 use crate::notation::{NoBytes, Notation, bytes_of};
-use crate::show::Layout;
-use crate::texts::layouts;
-use crate::walk::layouts::name_of;
-use crate::words::command;
+use crate::show::PrintOptions;
+use crate::texts::definitions;
+use crate::walk::definitions::name_of;
 use clap::ArgMatches;
 use std::alloc::{AllocError, Global};
 use std::env::Env;
@@ -41,6 +41,7 @@ pub fn program<R: Env + Files + Print + Eprint + AllocGlobal, I: Read + Drop>(
     }
 }
 
+// Does what the arguments say. An error is want of memory, or of room for the output.
 fn run<R: Env + Files + Print + Eprint + AllocGlobal, I: Read + Drop>(
     rt: &R,
     input: I,
@@ -58,6 +59,16 @@ fn run<R: Env + Files + Print + Eprint + AllocGlobal, I: Read + Drop>(
         print!(rt; "{}", list(alloc)?)?;
         return Ok(ALL);
     }
+    print_input(rt, input, &matches)
+}
+
+// Prints the messages of the input: those of the type that an argument names, or that the first
+// bytes are taken for.
+fn print_input<R: Files + Print + Eprint + AllocGlobal, I: Read + Drop>(
+    rt: &R,
+    input: I,
+    matches: &ArgMatches<'_>,
+) -> anyhow::Result<u8> {
     let word = matches.get_str("TYPE").unwrap_or("auto");
     let kind = match kind_of(word) {
         Named::One(kind) => Some(kind),
@@ -67,7 +78,7 @@ fn run<R: Env + Files + Print + Eprint + AllocGlobal, I: Read + Drop>(
             return Ok(UNREAD);
         }
     };
-    let Some(bytes) = bytes_from(rt, input, &matches)? else {
+    let Some(bytes) = bytes_from(rt, input, matches)? else {
         return Ok(UNREAD);
     };
     let found = match kind {
@@ -81,7 +92,7 @@ fn run<R: Env + Files + Print + Eprint + AllocGlobal, I: Read + Drop>(
         )?;
         return Ok(UNREAD);
     };
-    print(rt, kind, &matches, bytes.as_slice())
+    print_messages(rt, kind, matches, bytes.as_slice())
 }
 
 // Prints why a word names no type.
@@ -121,13 +132,12 @@ fn bytes_from<R: Files + Eprint + AllocGlobal, I: Read + Drop>(
     matches: &ArgMatches<'_>,
 ) -> anyhow::Result<Option<Vec<u8>>> {
     let notation = notation_of(matches);
-    let Some(text) = text_of(rt, input, matches.get_str("FILE"), notation)? else {
+    let Some(text) = read_input(rt, input, matches.get_str("FILE"), notation)? else {
         return Ok(None);
     };
     match bytes_of(rt.alloc(), notation, text) {
         Ok(bytes) if bytes.len() <= LONGEST => return Ok(Some(bytes)),
         Ok(_) => eprintln!(rt; "tlsdump: the input has more than {LONGEST} bytes of messages")?,
-        Err(NoBytes::Memory) => return Err(AllocError.into()),
         Err(fault) => print_fault(rt, fault)?,
     }
     Ok(None)
@@ -144,26 +154,26 @@ fn notation_of(matches: &ArgMatches<'_>) -> Notation {
     }
 }
 
-// Prints the messages of a kind.
-fn print<R: Print + Eprint + AllocGlobal>(
+// Prints the messages of a type that bytes are, up to a rejected field.
+fn print_messages<R: Print + Eprint + AllocGlobal>(
     rt: &R,
     kind: Kind<'_>,
     matches: &ArgMatches<'_>,
     bytes: &[u8],
 ) -> anyhow::Result<u8> {
     let alloc = rt.alloc();
-    let Ok(layouts) = layouts(alloc, kind.protocol) else {
+    let Ok(definitions) = definitions(alloc, kind.protocol) else {
         return Err(AllocError.into());
     };
-    let layout = Layout {
+    let options = PrintOptions {
         has_offsets: matches.get_flag("offsets"),
         is_short: matches.get_flag("short"),
     };
-    let dump = dump_of(alloc, &layouts, kind, bytes)?;
+    let dump = dump_of(alloc, &definitions, kind, bytes)?;
     let Answer { shown, refusal } = if matches.get_flag("json") {
         json(alloc, kind.name, &dump)?
     } else {
-        tree(alloc, layout, &dump)?
+        tree(alloc, options, &dump)?
     };
     print!(rt; "{shown}")?;
     if dump.refused.is_none() {
@@ -174,7 +184,7 @@ fn print<R: Print + Eprint + AllocGlobal>(
 }
 
 // All that the input has, or prints why it isn't read.
-fn text_of<R: Files + Eprint + AllocGlobal, I: Read + Drop>(
+fn read_input<R: Files + Eprint + AllocGlobal, I: Read + Drop>(
     rt: &R,
     mut input: I,
     file: Option<&str>,
@@ -204,6 +214,7 @@ fn text_of<R: Files + Eprint + AllocGlobal, I: Read + Drop>(
     Ok(None)
 }
 
+// Prints why a text stands for no bytes. Refused memory is no fault of the text.
 fn print_fault<R: Eprint>(rt: &R, fault: NoBytes) -> anyhow::Result<()> {
     match fault {
         NoBytes::Digit { line, column, byte } => eprintln!(rt;
@@ -216,7 +227,7 @@ fn print_fault<R: Eprint>(rt: &R, fault: NoBytes) -> anyhow::Result<()> {
         NoBytes::Base64 => eprintln!(rt;
             "tlsdump: the input looks like base64, but isn't; --binary takes the bytes themselves"
         )?,
-        NoBytes::Memory => eprintln!(rt; "tlsdump: out of memory")?,
+        NoBytes::Memory => return Err(AllocError.into()),
     }
     Ok(())
 }
@@ -225,10 +236,10 @@ fn print_fault<R: Eprint>(rt: &R, fault: NoBytes) -> anyhow::Result<()> {
 fn list(alloc: Global) -> Result<String, AllocError> {
     let mut out = String::new(alloc);
     for protocol in PROTOCOLS {
-        let Ok(layouts) = layouts(alloc, protocol) else {
+        let Ok(definitions) = definitions(alloc, protocol) else {
             return Err(AllocError);
         };
-        for file in layouts.files() {
+        for file in definitions.files() {
             for item in &file.items {
                 push_type(&mut out, protocol, item)?;
             }

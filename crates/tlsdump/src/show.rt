@@ -1,12 +1,12 @@
 //! Lines as text.
 
-use crate::told::{date_of, is_grease, text_of};
+use crate::annotations::{date_of, name_or_grease, printable_text};
 use crate::walk::line::{Label, Line, Shown};
 use std::alloc::{AllocError, Global};
 
 /// How lines are printed.
 #[derive(Clone, Copy)]
-pub struct Layout {
+pub struct PrintOptions {
     /// Each line begins with the position of its first byte.
     pub has_offsets: bool,
     /// Of more than 32 bytes the first 16 are printed.
@@ -18,35 +18,41 @@ pub struct Layout {
 pub fn push_lines(
     alloc: Global,
     out: &mut String,
-    layout: Layout,
+    options: PrintOptions,
     start: usize,
     lines: &[Line<'_>],
 ) -> Result<usize, AllocError> {
     let mut at = start;
     for line in lines {
-        push_line(alloc, out, layout, at, line)?;
+        push_line(alloc, out, options, at, line)?;
         at = at.saturating_add(line.bytes.len());
     }
     Ok(at)
 }
 
+// Adds a line.
 fn push_line(
     alloc: Global,
     out: &mut String,
-    layout: Layout,
+    options: PrintOptions,
     at: usize,
     line: &Line<'_>,
 ) -> Result<(), AllocError> {
-    begin(out, layout, at, line.depth)?;
+    begin_line(out, options, at, line.depth)?;
     push_label(out, line.label)?;
     out.push_str(": ")?;
-    push_shown(alloc, out, layout, line)?;
+    push_shown(alloc, out, options, line)?;
     out.push_str("\n")
 }
 
 /// Begins a line of a field at this position and depth.
-pub fn begin(out: &mut String, layout: Layout, at: usize, depth: usize) -> Result<(), AllocError> {
-    if layout.has_offsets {
+pub fn begin_line(
+    out: &mut String,
+    options: PrintOptions,
+    at: usize,
+    depth: usize,
+) -> Result<(), AllocError> {
+    if options.has_offsets {
         write!(out, "{at:>8}  ")?;
     }
     for _ in 0..depth {
@@ -63,10 +69,11 @@ pub fn push_label(out: &mut String, label: Label<'_>) -> Result<(), AllocError> 
     }
 }
 
+// What a line shows after its label.
 fn push_shown(
     alloc: Global,
     out: &mut String,
-    layout: Layout,
+    options: PrintOptions,
     line: &Line<'_>,
 ) -> Result<(), AllocError> {
     match line.shown {
@@ -80,14 +87,14 @@ fn push_shown(
         Shown::Number => push_number(alloc, out, line),
         Shown::Code(name) => push_code(alloc, out, line, name),
         Shown::Bytes(_, why) => {
-            push_bytes(alloc, out, layout, line.content())?;
-            push_told(out, line)?;
+            push_bytes(alloc, out, options, line.content())?;
+            push_text(out, line)?;
             match why {
                 Some(of) => write!(out, " (no {of})"),
                 None => Ok(()),
             }
         }
-        Shown::Unread => push_bytes(alloc, out, layout, line.bytes),
+        Shown::Unread => push_bytes(alloc, out, options, line.bytes),
     }
 }
 
@@ -117,9 +124,8 @@ fn push_code(
     name: Option<&str>,
 ) -> Result<(), AllocError> {
     let digits = hex::encode(alloc, line.bytes)?;
-    match name {
+    match name_or_grease(name, line.bytes) {
         Some(name) => write!(out, "{name} (0x{digits})"),
-        None if is_grease(line.bytes) => write!(out, "GREASE (0x{digits})"),
         None => write!(out, "0x{digits}"),
     }
 }
@@ -128,7 +134,7 @@ fn push_code(
 fn push_bytes(
     alloc: Global,
     out: &mut String,
-    layout: Layout,
+    options: PrintOptions,
     bytes: &[u8],
 ) -> Result<(), AllocError> {
     push_count(out, bytes.len(), "byte")?;
@@ -137,7 +143,7 @@ fn push_bytes(
     }
     out.push_str(" ")?;
     match bytes.get(..16) {
-        Some(first) if layout.is_short && bytes.len() > 32 => {
+        Some(first) if options.is_short && bytes.len() > 32 => {
             out.push_str(hex::encode(alloc, first)?.as_str())?;
             out.push_str("..")
         }
@@ -145,9 +151,9 @@ fn push_bytes(
     }
 }
 
-// The text that bytes are, if they are one.
-fn push_told(out: &mut String, line: &Line<'_>) -> Result<(), AllocError> {
-    match text_of(line) {
+// The text that a line's bytes are, if they are one.
+fn push_text(out: &mut String, line: &Line<'_>) -> Result<(), AllocError> {
+    match printable_text(line) {
         Some(text) => write!(out, " \"{text}\""),
         None => Ok(()),
     }

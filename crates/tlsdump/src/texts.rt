@@ -2,12 +2,12 @@
 
 mod of_ct;
 mod of_mls;
-mod of_mls_leaf;
-mod of_mls_proposals;
+mod of_mls_group;
+mod of_mls_tree;
 mod of_tls13;
 
 use crate::kinds::Protocol;
-use crate::walk::layouts::Layouts;
+use crate::walk::definitions::Definitions;
 use std::alloc::Global;
 use tlsgen_syntax::refusal::Trouble;
 
@@ -21,22 +21,22 @@ static TLS: &str = "// RFC 8446\n// ---- section 5.1\n\
 
 static TLS_NOTES: &str = "HandshakeMessages.messages fills rest;\n";
 
-/// The types of a protocol's texts.
-pub fn layouts(alloc: Global, protocol: Protocol) -> Result<Layouts, Trouble> {
-    let mut layouts = Layouts::new(alloc);
+/// The definitions of a protocol's texts.
+pub fn definitions(alloc: Global, protocol: Protocol) -> Result<Definitions, Trouble> {
+    let mut definitions = Definitions::new(alloc);
     match protocol {
         Protocol::Mls => {
-            layouts.add(alloc, of_mls::TEXT, of_mls::NOTES)?;
-            layouts.add(alloc, of_mls_proposals::TEXT, of_mls_proposals::NOTES)?;
-            layouts.add(alloc, of_mls_leaf::TEXT, of_mls_leaf::NOTES)?;
-            layouts.add(alloc, MLS, "")?;
+            definitions.add(alloc, of_mls::TEXT, of_mls::NOTES)?;
+            definitions.add(alloc, of_mls_group::TEXT, of_mls_group::NOTES)?;
+            definitions.add(alloc, of_mls_tree::TEXT, of_mls_tree::NOTES)?;
+            definitions.add(alloc, MLS, "")?;
         }
         Protocol::Tls13 => {
-            layouts.add(alloc, of_tls13::TEXT, of_tls13::NOTES)?;
-            layouts.add(alloc, of_ct::TEXT, of_ct::NOTES)?;
-            layouts.add(alloc, TLS, TLS_NOTES)?;
+            definitions.add(alloc, of_tls13::TEXT, of_tls13::NOTES)?;
+            definitions.add(alloc, of_ct::TEXT, of_ct::NOTES)?;
+            definitions.add(alloc, TLS, TLS_NOTES)?;
         }
-        Protocol::Ct => layouts.add(alloc, of_ct::TEXT, of_ct::NOTES)?,
+        Protocol::Ct => definitions.add(alloc, of_ct::TEXT, of_ct::NOTES)?,
     }
-    Ok(layouts)
+    Ok(definitions)
 }

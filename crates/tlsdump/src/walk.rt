@@ -5,14 +5,14 @@
 //! shows: put in a row, those of all lines are what was walked over. A walk that can't go on says
 //! at which field, and what is expected there.
 //!
-//! - [`layouts`]: [`Layouts`](layouts::Layouts), the types of some texts by their names.
+//! - [`definitions`]: [`Definitions`](definitions::Definitions), those of some texts by their names.
 //! - [`line`]: [`Line`](line::Line), a field with its bytes.
 //! - [`stop`]: [`Stop`](stop::Stop), where a walk can't go on, and why.
 ghost use Rattle.std.specs.Prelude.{◌≡◌, ◌++◌, IfOk, IfSome};
 ghost use Rattle.tlsdump.specs.Rows.{ShowsInOrder, row};
 
+pub mod definitions;
 mod fields;
-pub mod layouts;
 pub mod line;
 mod opened;
 mod scope;
@@ -21,7 +21,7 @@ pub mod stop;
 mod tasks;
 mod vectors;
 
-use crate::walk::layouts::{Kind, Layouts};
+use crate::walk::definitions::{Definition, Definitions};
 use crate::walk::line::{Label, Line, Shown};
 use crate::walk::opened::role_of;
 use crate::walk::scope::{Known, Scope};
@@ -40,7 +40,7 @@ pub struct Walked<'a> {
 /// A walk that is under way.
 #[derive(Drop)]
 pub(crate) struct Walk<'a> {
-    pub layouts: &'a Layouts,
+    pub definitions: &'a Definitions,
     pub lines: Vec<Line<'a>>,
     /// What is left of the innermost length.
     pub rest: &'a [u8],
@@ -72,15 +72,15 @@ pub(crate) struct Opening<'a> {
 /// shows them.
 pub fn lines_of<'a>(
     alloc: Global,
-    layouts: &'a Layouts,
+    definitions: &'a Definitions,
     of: &'a str,
     bytes: &'a [u8],
     refused_at: Option<usize>,
 ) -> Result<Walked<'a>, AllocError>
     ensures { IfOk result (ShowsInOrder bytes.now refused_at) }
 {
-    let walked = walk_over(alloc, layouts, of, bytes, refused_at)?;
-    match behind(walked.lines.as_slice(), bytes) {
+    let walked = walk_over(alloc, definitions, of, bytes, refused_at)?;
+    match after_lines(walked.lines.as_slice(), bytes) {
         Some(rest) if rest.is_empty() || refused_at.is_some() => Ok(walked),
         _ => unread(alloc, bytes, walked.stop),
     }
@@ -105,7 +105,7 @@ fn unread<'a>(
 }
 
 // What comes after the bytes of the lines, if `bytes` begins with these in a row.
-fn behind<'a>(lines: &[Line<'_>], bytes: &'a [u8]) -> Option<&'a [u8]>
+fn after_lines<'a>(lines: &[Line<'_>], bytes: &'a [u8]) -> Option<&'a [u8]>
     ensures { IfSome result (λ rest. bytes.now ≡ row lines.now ++ rest.now) }
 {
     let mut rest = bytes;
@@ -130,13 +130,13 @@ fn after<'a>(front: &[u8], bytes: &'a [u8]) -> Option<&'a [u8]>
 
 fn walk_over<'a>(
     alloc: Global,
-    layouts: &'a Layouts,
+    definitions: &'a Definitions,
     of: &'a str,
     bytes: &'a [u8],
     refused_at: Option<usize>,
 ) -> Result<Walked<'a>, AllocError> {
     let mut walk = Walk {
-        layouts,
+        definitions,
         lines: Vec::new(alloc),
         rest: bytes,
         at: 0,
@@ -171,7 +171,7 @@ impl<'a> Walk<'a> {
                 break;
             };
             if let Err(halt) = self.step(task) {
-                self.back(halt)?;
+                self.fall_back(halt)?;
             }
         }
         Ok(())
@@ -188,7 +188,7 @@ impl<'a> Walk<'a> {
     }
 
     // Goes back to the innermost bytes that were opened, and shows them as bytes.
-    fn back(&mut self, halt: Halt<'a>) -> Result<(), Halt<'a>> {
+    fn fall_back(&mut self, halt: Halt<'a>) -> Result<(), Halt<'a>> {
         if let Halt::Memory = halt {
             return Err(halt);
         }
@@ -265,7 +265,7 @@ impl<'a> Walk<'a> {
     }
 
     /// Stops if a field at this position is the one that the decoder rejects, or is after it.
-    pub(crate) fn judge(
+    pub(crate) fn stop_if_rejected(
         &self,
         place: Place<'a>,
         at: usize,
@@ -279,8 +279,8 @@ impl<'a> Walk<'a> {
     }
 
     /// What a type's name stands for.
-    pub(crate) fn kind(&self, name: &str) -> Kind<'a> {
-        self.layouts.kind(name)
+    pub(crate) fn definition(&self, name: &str) -> Definition<'a> {
+        self.definitions.definition(name)
     }
 }
 

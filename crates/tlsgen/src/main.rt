@@ -57,7 +57,13 @@ fn main(rt: HostRuntime) -> anyhow::Result<ExitCode> {
     let Some(plan) = plan(&rt, &mut texts)? else {
         return Ok(ExitCode::from(REFUSED));
     };
-    let written = files_of(alloc, name, texts.crates.as_slice(), &plan)?;
+    let written = files_of(
+        alloc,
+        name,
+        texts.crates.as_slice(),
+        texts.heading.as_str(),
+        &plan,
+    )?;
     if let Some(folder) = matches.get_str("to") {
         return files::write_to(&rt, folder, written.as_slice());
     }

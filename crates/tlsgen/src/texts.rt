@@ -18,6 +18,8 @@ pub struct Texts {
     notes: Vec<String>,
     /// The other crates.
     pub crates: Vec<String>,
+    /// What the text that was added last says of itself.
+    pub heading: String,
 }
 
 impl Texts {
@@ -27,6 +29,7 @@ impl Texts {
             paths: Vec::new(alloc),
             notes: Vec::new(alloc),
             crates: Vec::new(alloc),
+            heading: String::new(alloc),
         }
     }
 
@@ -36,6 +39,7 @@ impl Texts {
         self.files.push(file)?;
         self.paths.push(String::from_str(alloc, path)?)?;
         self.notes.push(String::new(alloc))?;
+        self.heading = String::from_str(alloc, heading_of(text))?;
         Ok(())
     }
 
@@ -87,5 +91,15 @@ impl Texts {
             Some(path) => path.as_str(),
             None => "",
         }
+    }
+}
+
+// The first sentence of the comment that a text begins with, up to the end of the line; nothing if it begins otherwise.
+fn heading_of(text: &str) -> &str {
+    let line = text.lines().next().unwrap_or("");
+    let comment = line.strip_prefix("// ").unwrap_or("");
+    match comment.split_once(". ") {
+        Some((first, _)) => first,
+        None => comment.strip_suffix(".").unwrap_or(comment),
     }
 }

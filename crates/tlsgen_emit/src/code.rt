@@ -9,10 +9,7 @@ use std::alloc::{AllocError, Global};
 use std::collections::BTreeSet;
 use tlsgen_model::plan::{Alias, Plan};
 
-static ROOT: &str = "//! Messages, written by `tlsgen`.
-#![tactic(auto)]
-
-";
+static ROOT: &str = "//! Messages, written by `tlsgen`.\n";
 
 static ALIAS: &str = "
 $doc$pub type $name$ = $rust$;
@@ -22,10 +19,21 @@ static ENDING: &str = "
 $doc$pub type $name$ = InnerPlaintext<$rust$>;
 ";
 
-/// The root: its modules, what they have by name, and what the other crates have.
-pub fn root<'a>(alloc: Global, names: &Names<'a>, plan: &'a Plan) -> Result<String, AllocError> {
+/// The root: its modules, what they have by name, and what the other crates have, after what the text says of itself.
+pub fn root<'a>(
+    alloc: Global,
+    names: &Names<'a>,
+    heading: &str,
+    plan: &'a Plan,
+) -> Result<String, AllocError> {
     let uses = uses_by_path(alloc, names, plan)?;
-    let mut out = String::from_str(alloc, ROOT)?;
+    let mut out = String::new(alloc);
+    if heading.is_empty() {
+        out.push_str(ROOT)?;
+    } else {
+        writeln!(out, "//! {heading}. Written by `tlsgen`.")?;
+    }
+    out.push_str("#![tactic(auto)]\n\n")?;
     for (path, is_module, _) in &uses {
         if *is_module {
             writeln!(out, "pub mod {path};")?;

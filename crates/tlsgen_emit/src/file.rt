@@ -11,18 +11,20 @@ use tlsgen_model::emitted::Written;
 use tlsgen_model::plan::{Message, Plan};
 
 /// All files of the crate `own`, over these other crates: its root, its other names of types, a module and a file
-/// of definitions for each message, the answers of enums, and the lists of definitions and lemmas.
+/// of definitions for each message, the answers of enums, and the lists of definitions and lemmas. The heading is what
+/// its text says of itself, or nothing.
 pub fn files_of(
     alloc: Global,
     own: &str,
     crates: &[String],
+    heading: &str,
     plan: &Plan,
 ) -> Result<Vec<Written>, AllocError>
     ensures { IfOk result (λ files. paths_in files.items ≡ paths_of plan.now) }
 {
     let names = Names::of(alloc, own, crates, plan)?;
     let mut files = Vec::new(alloc);
-    push_first(alloc, &mut files, &names, plan)?;
+    push_first(alloc, &mut files, &names, heading, plan)?;
     push_messages(alloc, &mut files, &names, plan.messages.as_slice())?;
     files.push(Written::new(alloc, "specs/Lib.antt", specs::list(alloc, plan)?)?)?;
     files.push(Written::new(alloc, "proofs/Lib.antt", String::new(alloc))?)?;
@@ -34,12 +36,14 @@ fn push_first<'a>(
     alloc: Global,
     files: &mut Vec<Written>,
     names: &Names<'a>,
+    heading: &str,
     plan: &'a Plan,
 ) -> Result<(), AllocError>
     ensures { OnOk result (paths_in files.new.items
         ≡ paths_in files.old.items ++ first_paths plan.now) }
 {
-    files.push(Written::new(alloc, "src/lib.rt", code::root(alloc, names, plan)?)?)?;
+    let root = code::root(alloc, names, heading, plan)?;
+    files.push(Written::new(alloc, "src/lib.rt", root)?)?;
     push_aliases(alloc, files, names, plan)?;
     Ok(())
 }

@@ -214,11 +214,13 @@ impl<'a> Form<'a> {
         let row = Row::of(alloc, names, of, self.is_borrowed, members, uses)?;
         row.set(alloc, &mut self.holes)?;
         self.set_read(alloc, members.len())?;
-        views::set(alloc, &mut self.holes, &row)?;
+        views::set(alloc, &mut self.holes, &row, members)?;
         if !is_in_context {
             return add_names(&mut self.cases, &CASES_OF_ROW);
         }
         add_names(&mut self.cases, &CASES_OF_STRUCT)?;
+        self.holes
+            .set_each(alloc, views::parts_in_context(members))?;
         if members.len() <= 3 {
             return self.holes.set_each(alloc, &structs_in_context::FEW);
         }

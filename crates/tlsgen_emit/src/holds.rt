@@ -5,7 +5,7 @@ use crate::owners::Owner;
 use crate::tags::TagKind;
 use crate::template::Holes;
 use crate::templates::holds as templates;
-use crate::types::{Names, par};
+use crate::types::{Names, parenthesized};
 use crate::uses::Uses;
 use crate::{contexts, keys, tags, thens};
 use std::alloc::{AllocError, Global};
@@ -183,6 +183,6 @@ fn path_in(alloc: Global, fields: usize, at: usize, tree: String) -> Result<Stri
 
 // A definition of one argument, applied.
 fn applied(alloc: Global, name: &str, to: String) -> Result<String, AllocError> {
-    let to = par(alloc, to)?;
+    let to = parenthesized(alloc, to)?;
     format!(in alloc; "{name} {to}")
 }

@@ -1,6 +1,6 @@
 //! How texts become one.
 
-use crate::types::par;
+use crate::types::parenthesized;
 use std::alloc::{AllocError, Global};
 
 #[derive(Clone, Copy)]
@@ -74,7 +74,7 @@ impl Rows {
         let mut out = String::from_str(alloc, word)?;
         for part in parts {
             out.push_str(gap)?;
-            out.push_str(par(alloc, part.clone()?)?.as_str())?;
+            out.push_str(parenthesized(alloc, part.clone()?)?.as_str())?;
         }
         if let [_] = parts {
             out.push_str(" ")?;

@@ -7,7 +7,7 @@ use crate::nesting::Nesting;
 use crate::owners::Owner;
 use crate::template::Holes;
 use crate::templates::keys::{WITH_KEY, WITHOUT_KEY};
-use crate::types::{Names, par};
+use crate::types::{Names, parenthesized};
 use crate::uses::Uses;
 use crate::{contexts, present, views};
 use std::alloc::{AllocError, Global};
@@ -137,7 +137,7 @@ impl Row {
         for (word, template) in [("pattern", "$bound$"), ("types", "$part$")] {
             holes.set(word, self.nested(alloc, template, Join::Tuple, " ")?)?;
         }
-        holes.set("lets", self.lets(alloc, "parts")?)?;
+        holes.set("lets", self.let_statements(alloc, "parts")?)?;
         let types = holes.filled(alloc, "$types$")?;
         holes.set("path", path(alloc, types)?)?;
         let split = if self.has_late_array() {
@@ -164,7 +164,7 @@ impl Row {
     /// The lines that take the fields of a tuple. If some groups are tuples, they take one group
     /// after another: the borrow checker takes no array out of a nested tuple if another part of
     /// that is moved.
-    pub fn lets(&self, alloc: Global, tuple: &str) -> Result<String, AllocError> {
+    pub fn let_statements(&self, alloc: Global, tuple: &str) -> Result<String, AllocError> {
         let parts = self.parts(alloc, "$bound$", Join::Tuple)?;
         let counts = self.nesting.counts.as_slice();
         let groups = grouped(alloc, parts.as_slice(), counts, Join::Tuple)?;
@@ -216,7 +216,7 @@ impl Row {
         if self.owner.is_struct() {
             Ok(text)
         } else {
-            par(alloc, text)
+            parenthesized(alloc, text)
         }
     }
 

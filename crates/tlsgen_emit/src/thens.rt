@@ -7,7 +7,7 @@ use crate::template::Holes;
 use crate::templates::structs_on_tags::{
     BEFORE, BEHIND, BORROWED, FIRST, GIVER, LATER, OWNED, Part,
 };
-use crate::types::{Names, par};
+use crate::types::{Names, parenthesized};
 use crate::uses::Uses;
 use std::alloc::{AllocError, Global};
 use tlsgen_model::plan::{Before, Decided, Element, Member};
@@ -128,7 +128,10 @@ fn set_part(alloc: Global, holes: &mut Holes, row: &Row, part: &Part) -> Result<
     ];
     for (word, binds, template, rows) in definitions {
         let text = row.defined(alloc, template, rows, " ")?;
-        holes.set(word, par(alloc, format!(in alloc; "{binds}{text}")?)?)?;
+        holes.set(
+            word,
+            parenthesized(alloc, format!(in alloc; "{binds}{text}")?)?,
+        )?;
     }
-    holes.set(part.lets, row.lets(alloc, part.tuple)?)
+    holes.set(part.lets, row.let_statements(alloc, part.tuple)?)
 }

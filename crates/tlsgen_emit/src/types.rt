@@ -44,7 +44,7 @@ impl Kind {
         }
         for (word, template) in [("format", "$format$"), ("law", "$law$")] {
             let text = of.texts.filled(alloc, template)?;
-            holes.set(word, par(alloc, text)?)?;
+            holes.set(word, parenthesized(alloc, text)?)?;
         }
         Ok(Words {
             texts: self.texts(alloc, &holes)?,
@@ -131,7 +131,7 @@ impl<'a> Names<'a> {
     pub fn words(&self, alloc: Global, of: &'a Type) -> Result<Words<'a>, AllocError> {
         match of.shape {
             Shape::One => self.item(alloc, of),
-            Shape::Array(len) => self.alone(alloc, &ARRAY, of_len(alloc, len)?),
+            Shape::Array(len) => self.alone(alloc, &ARRAY, holes_of_len(alloc, len)?),
             Shape::Exact(count) => {
                 EXACT_LIST.words_of(alloc, of_count(alloc, count)?, self.item(alloc, of)?)
             }
@@ -330,7 +330,7 @@ fn renamed<'a>(alloc: Global, words: &Words<'a>, name: &'a str) -> Result<Words<
     })
 }
 
-fn of_len(alloc: Global, len: u64) -> Result<Holes, AllocError> {
+fn holes_of_len(alloc: Global, len: u64) -> Result<Holes, AllocError> {
     let mut holes = Holes::new(alloc);
     holes.set_number(alloc, "len", len)?;
     Ok(holes)
@@ -385,7 +385,7 @@ pub fn set_width(alloc: Global, holes: &mut Holes, width: usize) -> Result<(), A
 }
 
 /// The text, in brackets where it has a blank.
-pub fn par(alloc: Global, text: String) -> Result<String, AllocError>
+pub fn parenthesized(alloc: Global, text: String) -> Result<String, AllocError>
     ensures { IfOk result (λ s. string_bytes s ≡ bracketed (string_bytes text)) }
 {
     if text.as_bytes().contains(&b' ') {

@@ -6,11 +6,12 @@ use crate::nesting::Nesting;
 use crate::parts::Part;
 use crate::rows::Row;
 use crate::template::Holes;
-use crate::templates::views::{NONE, OF_CASES, OF_FIELDS, USES};
+use crate::templates::structs_in_context::{NOT_PARTED, PARTED};
+use crate::templates::views::{AS_READ, IN_BOX, NONE, OF_CASES, OF_FIELDS, OF_SELECT, USES};
 use crate::thens;
 use crate::types::Names;
 use std::alloc::{AllocError, Global};
-use tlsgen_model::plan::{Body, Element, Member, Message, Shape};
+use tlsgen_model::plan::{Body, Decided, Element, Member, Message, Shape};
 
 /// The name of a message's view, if it has one: it is a struct with fields or an enum with cases, nothing decides which it
 /// has, it isn't borrowed, and nothing else has the name.
@@ -29,26 +30,39 @@ pub fn name_of(
     Ok(Some(name))
 }
 
-// A list of messages that is alone isn't viewed: the prover fails at its `Parted`, by a fault of its own.
 fn is_viewed(message: &Message) -> bool {
     if message.context.is_some() {
         return false;
     }
     match &message.body {
         Body::Fields(members) if thens::giver_of(members).is_some() => false,
-        Body::Fields(members) => !members.is_empty() && !is_list(members),
+        Body::Fields(members) => !members.is_empty(),
         Body::Choice { .. } | Body::Sum { .. } => true,
         Body::Values { .. } => false,
     }
 }
 
-// Whether a list of messages, after a length, is alone.
+// Whether it is a select whose tag is elsewhere, and isn't only written.
+fn is_read_select(message: &Message) -> bool {
+    !message.is_borrowed && message.context.is_some() && matches!(message.body, Body::Sum { .. })
+}
+
+// Whether it is one list of messages, after a length. Its parts are in a `Box`, which has the same encoding: the prover fails at a `Parted`
+// whose parts are a `Vec` or a `TlsVecU16`, by a fault of its own.
 fn is_list(members: &[Member]) -> bool {
     let [only] = members else {
         return false;
     };
     let is_counted = matches!(only.of.shape, Shape::Variable | Shape::Bounded { .. });
     is_counted && !only.of.is_optional && matches!(only.of.element, Element::Message(_))
+}
+
+/// The parts of a struct in a context. One whose fields are all messages in that context has none: the prover fails at a `PartedFor` whose
+/// parts are a tuple of such, by a fault of its own. `EncodedFor` of that tuple has the same bytes.
+pub fn parts_in_context(members: &[Member]) -> &'static [(&'static str, &'static str)] {
+    let has_others = members.iter().any(|member| member.present_for.is_some()
+        || !matches!(member.decided, Decided::Outside));
+    if has_others { &PARTED } else { &NOT_PARTED }
 }
 
 /// Sets the hole `view_name` of a message, and those of what the clauses of its view take; or those of one without a view.
@@ -59,21 +73,37 @@ pub fn set_name(
     message: &Message,
 ) -> Result<(), AllocError> {
     let Some(name) = name_of(alloc, names, message)? else {
-        return holes.set_each(alloc, &NONE);
+        let taken = if is_read_select(message) {
+            &OF_SELECT
+        } else {
+            &NONE
+        };
+        return holes.set_each(alloc, taken);
     };
     holes.set("view_name", name)?;
     holes.set_each(alloc, &USES)
 }
 
 /// Sets the hole `view` of a struct with these fields, if it has a view.
-pub fn set(alloc: Global, holes: &mut Holes, row: &Row) -> Result<(), AllocError> {
+pub fn set(
+    alloc: Global,
+    holes: &mut Holes,
+    row: &Row,
+    members: &[Member],
+) -> Result<(), AllocError> {
     if !holes.has("view_name") {
         return Ok(());
     }
+    let (parts, whole) = if is_list(members) {
+        (&IN_BOX, "whole.parts().payload()")
+    } else {
+        (&AS_READ, "whole.parts()")
+    };
+    holes.set_each(alloc, parts)?;
     holes.set("viewed", row.listed(alloc, IN_STRUCT)?)?;
     let bytes = row.nested(alloc, "view.$name$", Join::Bytes, " ")?;
     holes.set("view_bytes", bytes)?;
-    holes.set("view_splits", row.splits(alloc, "whole.parts()")?)?;
+    holes.set("view_splits", row.splits(alloc, whole)?)?;
     holes.set_each(alloc, &OF_FIELDS)
 }
 
@@ -82,7 +112,7 @@ pub fn set_of_case(alloc: Global, holes: &mut Holes, row: &Row) -> Result<(), Al
     holes.set("viewed", row.listed(alloc, IN_VARIANT)?)?;
     let bytes = row.nested(alloc, "a$at$", Join::Bytes, " ")?;
     holes.set("view_bytes", bytes)?;
-    let whole = holes.filled(alloc, "Encoded::<$types$>::known(parts)")?;
+    let whole = holes.filled(alloc, "Encoded::<$types$>::from_proved(parts)")?;
     holes.set("view_splits", row.splits(alloc, whole.as_str())?)
 }
 

@@ -68,7 +68,7 @@ pub static WORDS: [&str; 60] = [
     "present_format",
     "MeetsLaws",
     "EachMeetsLaws",
-    "MeetVariantLaws",
+    "MeetsVariantLaws",
     "u8_meets",
     "u16_meets",
     "u24_meets",
@@ -229,7 +229,15 @@ pub static VALIDATION: [&str; 15] = [
 ];
 
 /// What code takes of views.
-pub static VIEWING: [&str; 5] = ["Choice", "Encoded", "Numbered", "Parted", "Told"];
+pub static VIEWING: [&str; 7] = [
+    "Choice",
+    "ChoiceFor",
+    "Encoded",
+    "Numbered",
+    "Parted",
+    "PartedFor",
+    "ReadInPlace",
+];
 
 /// The lemmas of validation that answers cite.
 pub static PLACING: [&str; 9] = [

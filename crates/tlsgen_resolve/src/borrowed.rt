@@ -1,4 +1,4 @@
-//! ByRef structs: which messages have references, and how many runs of fields they may have.
+//! Borrowed structs: which messages have references, and how many runs of fields they may have.
 use crate::refuse::refused;
 use crate::resolver::Resolver;
 use crate::sequence::Sequence;

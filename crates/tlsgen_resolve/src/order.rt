@@ -63,7 +63,7 @@ impl Rounds {
         };
         let round = self.round.get(at).copied().unwrap_or(0);
         for user in users {
-            self.raise(
+            self.put_off_to(
                 *user,
                 if *user < at {
                     round.saturating_add(1)
@@ -78,7 +78,7 @@ impl Rounds {
         Ok(())
     }
 
-    fn raise(&mut self, at: usize, least: usize) {
+    fn put_off_to(&mut self, at: usize, least: usize) {
         if let Some(round) = self.round.get_mut(at) {
             *round = (*round).max(least);
         }
@@ -189,41 +189,49 @@ fn item_needs(alloc: Global, files: Scope<'_>, item: &Item) -> Result<Vec<usize>
     let mut needs = Vec::new(alloc);
     match item {
         Item::Enum(_) => {}
-        Item::Alias(field) => need(files, &mut needs, field)?,
-        Item::Struct(one) => need_parts(files, &mut needs, one)?,
+        Item::Alias(field) => add_needs_of(files, &mut needs, field)?,
+        Item::Struct(one) => add_needs_of_parts(files, &mut needs, one)?,
     }
     Ok(needs)
 }
 
-fn need_parts(files: Scope<'_>, needs: &mut Vec<usize>, one: &Struct) -> Result<(), AllocError> {
+fn add_needs_of_parts(
+    files: Scope<'_>,
+    needs: &mut Vec<usize>,
+    one: &Struct,
+) -> Result<(), AllocError> {
     for part in &one.parts {
         match part {
-            Part::Field(field) => need(files, needs, field)?,
-            Part::Select(select) => need_cases(files, needs, select)?,
+            Part::Field(field) => add_needs_of(files, needs, field)?,
+            Part::Select(select) => add_needs_of_cases(files, needs, select)?,
         }
     }
     Ok(())
 }
 
-fn need_cases(files: Scope<'_>, needs: &mut Vec<usize>, select: &Select) -> Result<(), AllocError> {
+fn add_needs_of_cases(
+    files: Scope<'_>,
+    needs: &mut Vec<usize>,
+    select: &Select,
+) -> Result<(), AllocError> {
     for case in &select.cases {
-        need_fields(files, needs, &case.fields)?;
+        add_needs_of_fields(files, needs, &case.fields)?;
     }
     Ok(())
 }
 
-fn need_fields(
+fn add_needs_of_fields(
     files: Scope<'_>,
     needs: &mut Vec<usize>,
     fields: &[Field],
 ) -> Result<(), AllocError> {
     for field in fields {
-        need(files, needs, field)?;
+        add_needs_of(files, needs, field)?;
     }
     Ok(())
 }
 
-fn need(files: Scope<'_>, needs: &mut Vec<usize>, field: &Field) -> Result<(), AllocError> {
+fn add_needs_of(files: Scope<'_>, needs: &mut Vec<usize>, field: &Field) -> Result<(), AllocError> {
     if let Some(at) = files.position(field.of.text.as_str()) {
         needs.push(at)?;
     }

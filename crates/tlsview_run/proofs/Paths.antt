@@ -5,7 +5,7 @@ use Rattle.tls_codec.specs.OwnMessages.{Tree}
 use Rattle.tls_codec.specs.Calls.{Error}
 use Rattle.tls_codec.specs.Devices.{FaultIsCounted, no_counts}
 use Rattle.tls_codec.specs.Errors.{OutOfMemory, name_of}
-use Rattle.tls_codec.specs.Spellings.{Grammar, IsLawful, Begins, Refuses, RefusesSource}
+use Rattle.tls_codec.specs.Spellings.{Grammar, IsLawful, Begins, Refuses, RefusesSeen}
 use Rattle.hex.specs.Hex.{encode_lower}
 use Rattle.tlsview_run.proofs.Hex.{encode-append}
 use Rattle.tlsview_run.specs.View.{ok_line, refused_line, AppendsLeast, IsAcceptance, IsRefusal}
@@ -22,7 +22,7 @@ slice_has_no_memory {spells} {lean} {x} {r} {v} {e} p q =
     elim p.cause [ inl none ↦ absurd (none v r q) | inr memory ↦ memory ]
 
 pub reader_has_no_memory : {spells : Grammar} {lean : Bool} {x r : List ℕ} {v : Tree} {e : Error}
-    → RefusesSource spells lean x no_counts no_counts e → Begins spells x v r → e ≡ OutOfMemory
+    → RefusesSeen spells lean x no_counts no_counts e → Begins spells x v r → e ≡ OutOfMemory
 reader_has_no_memory {spells} {lean} {x} {r} {v} {e} p q =
     elim p.cause [ inl none ↦ absurd (none v r q) | inr (inl fault) ↦ absurd (no_fault fault) | inr (inr memory) ↦ memory ]
 

@@ -8,7 +8,7 @@ ghost use Rattle.view_input.specs.Input.{GaveAll, StandsFor, WhyNoBytes, WhyNoPi
 use crate::fault::InputFault;
 use hex::FromHexError;
 use std::alloc::{AllocError, Global};
-use tls_codec::{Fault, MOST_INTERRUPTIONS, Source};
+use tls_codec::{Fault, MAX_INTERRUPTIONS, Source};
 
 /// The greatest number of bytes that an input may have.
 const LONGEST: usize = 1_048_576;
@@ -45,7 +45,7 @@ fn next_piece<R: Source>(input: &mut R, into: &mut [u8]) -> Result<usize, InputF
     ensures end { result ≡ Ok 0 → 0 < length into.old → IsAtEnd (R.coming input.new) }
     ensures err { IfErr result (WhyNoPiece (R.counts input.old) (R.counts input.new)) }
 {
-    for _row in 0..=MOST_INTERRUPTIONS {
+    for _row in 0..=MAX_INTERRUPTIONS {
         match input.pull(into) {
             Ok(count) => return Ok(count),
             Err(Fault::Interrupted) => {}

@@ -6,7 +6,7 @@ ghost use Rattle.tls_codec.specs.OwnMessages.{Empty};
 use crate::tests::same;
 use std::alloc::Global;
 use std::test::Fail;
-use tls_codec::{Error, Serialize, SerializeBytes, Sink, Size, first_room, lists};
+use tls_codec::{Error, Serialize, SerializeBytes, Sink, Size, lists, reserve_encoding};
 
 // No bytes encode it, and more bytes are announced than there are.
 #[derive(Drop)]
@@ -131,9 +131,9 @@ fn engines_append(rt: HostRuntime) -> Result<(), Fail> {
 #[test]
 fn room_is_requested_at_once(rt: HostRuntime) -> Result<(), Fail> {
     let mut out = Vec::new(rt.alloc());
-    first_room(&(7u16, 8u32), &mut out)?;
+    reserve_encoding(&(7u16, 8u32), &mut out)?;
     same(&rt, out.capacity(), 6);
-    first_room(&[0u64; 9].to_vec(rt.alloc())?, &mut out)?;
+    reserve_encoding(&[0u64; 9].to_vec(rt.alloc())?, &mut out)?;
     same(&rt, out.capacity(), 6);
     Ok(())
 }

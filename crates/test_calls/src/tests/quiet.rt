@@ -3,7 +3,7 @@
 ghost use Rattle.std.specs.Prelude.{◌≡◌, ◌++◌, ℕ, List, None, false, true, IfErr, refl};
 ghost use Rattle.std.proofs.Common.{rules};
 ghost use Rattle.std.proofs.lemmas.Grind.{common_steps};
-ghost use Rattle.tls_codec.specs.Devices.{no_counts, stay};
+ghost use Rattle.tls_codec.specs.Devices.{no_counts, none_fell_refl};
 ghost use Rattle.tls_codec.specs.Spellings.{Refuses, bytes, list, number, pair};
 
 use crate::tests::{holds, same};
@@ -33,7 +33,7 @@ impl Source for Quiet<'_> {
 
     ghost gives_from_front = { λ a xs b p. tt };
 
-    ghost no_count_falls = { λ a xs b p. stay no_counts };
+    ghost no_count_falls = { λ a xs b p. none_fell_refl no_counts };
 }
 
 // If the decoder fails, no prefix of what the source gave is an encoding, or memory ran out. A lean

@@ -2,7 +2,7 @@
 use crate::tests::certificate;
 use ct::{LogEntry, PrecertChainEntry, X509ChainEntry};
 use std::test::Fail;
-use test_support::each_call::{is_refused, is_refused_by, is_spelled};
+use test_support::each_call::{is_encoded_as, is_refused, is_refused_by};
 use tls_codec::{Error, TlsVec};
 
 const NOT_FILLED: Error = Error::DecodingError("elements do not fill the declared length");
@@ -36,12 +36,12 @@ fn entries(rt: HostRuntime) -> Result<(), Fail> {
         leaf_certificate: certificate(alloc, &[7])?,
         certificate_chain: TlsVec::new(Vec::from_array(alloc, chain)?),
     });
-    is_spelled(alloc, "a certificate", &entry, &X509)?;
+    is_encoded_as(alloc, "a certificate", &entry, &X509)?;
     let entry = LogEntry::from(PrecertChainEntry {
         pre_certificate: certificate(alloc, &[7])?,
         precertificate_chain: TlsVec::new(Vec::new(alloc)),
     });
-    is_spelled(alloc, "a precertificate", &entry, &PRECERT)
+    is_encoded_as(alloc, "a precertificate", &entry, &PRECERT)
 }
 
 #[test]

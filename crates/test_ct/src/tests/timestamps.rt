@@ -6,7 +6,7 @@ use ct::{
 };
 use std::alloc::Global;
 use std::test::Fail;
-use test_support::each_call::{is_refused, is_spelled};
+use test_support::each_call::{is_encoded_as, is_refused};
 use test_support::rows::same_at;
 use tls_codec::{DeserializeBytes, Error, TlsByteVec, TlsByteVecU16, TlsVec};
 
@@ -55,9 +55,9 @@ fn lists(rt: HostRuntime) -> Result<(), Fail> {
     let list = SignedCertificateTimestampList {
         sct_list: TlsVec::new(Vec::from_array(alloc, [serialized])?),
     };
-    is_spelled(alloc, "a list", &list, &LIST)?;
+    is_encoded_as(alloc, "a list", &list, &LIST)?;
     let timestamp = timestamp(alloc)?;
-    is_spelled(alloc, "its timestamp", &timestamp, &LIST[TIMESTAMP..])
+    is_encoded_as(alloc, "its timestamp", &timestamp, &LIST[TIMESTAMP..])
 }
 
 // Each timestamp of a list is read by its own length, so that a list may have some of other versions.
@@ -132,7 +132,7 @@ fn algorithms(rt: HostRuntime) -> Result<(), Fail> {
         ("no names", HashAlgorithm(8), SignatureAlgorithm(7), [8, 7]),
     ] {
         let algorithm = SignatureAndHashAlgorithm { hash, signature };
-        is_spelled(alloc, row, &algorithm, &bytes)?;
+        is_encoded_as(alloc, row, &algorithm, &bytes)?;
     }
     Ok(())
 }

@@ -5,7 +5,7 @@ use ct::{
 };
 use std::alloc::Global;
 use std::test::Fail;
-use test_support::each_call::{is_refused, is_spelled};
+use test_support::each_call::{is_encoded_as, is_refused};
 use tls_codec::Error;
 
 fn leaf(
@@ -53,11 +53,11 @@ fn leaves(rt: HostRuntime) -> Result<(), Fail> {
     let alloc = rt.alloc();
     let cert = certificate(alloc, &[0x30, 1, 5])?;
     let of_cert = leaf(alloc, TimestampedEntryLogEntryTypeData::X509Entry(cert))?;
-    is_spelled(alloc, "a certificate", &of_cert, &OF_CERTIFICATE)?;
+    is_encoded_as(alloc, "a certificate", &of_cert, &OF_CERTIFICATE)?;
     let precert = precertificate(alloc)?;
     let entry = TimestampedEntryLogEntryTypeData::PrecertEntry(precert);
     let of_precert = leaf(alloc, entry)?;
-    is_spelled(alloc, "a precertificate", &of_precert, &OF_PRECERTIFICATE)
+    is_encoded_as(alloc, "a precertificate", &of_precert, &OF_PRECERTIFICATE)
 }
 
 #[test]

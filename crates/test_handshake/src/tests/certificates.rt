@@ -1,6 +1,6 @@
 //! Certificates and raw public keys, by the type that was agreed on (section 4.4.2).
 use crate::tests::captured::CERTIFICATE;
-use crate::tests::each_call::{is_misfit, is_refused_in, is_spelled, is_spelled_in};
+use crate::tests::each_call::{is_encoded_as, is_misfit, is_refused_in, is_spelled_in};
 use crate::tests::holds;
 use handshake_by_hand::{
     Certificate, CertificateData, CertificateEntry, CertificateType, Extension, Handshake,
@@ -21,8 +21,8 @@ const RAW: CertificateType = CertificateType::RawPublicKey;
 #[test]
 fn types(rt: HostRuntime) -> Result<(), Fail> {
     let alloc = rt.alloc();
-    is_spelled(&rt, alloc, &X509, &[0])?;
-    is_spelled(&rt, alloc, &RAW, &[2])
+    is_encoded_as(&rt, alloc, &X509, &[0])?;
+    is_encoded_as(&rt, alloc, &RAW, &[2])
 }
 
 fn captured(rt: &impl Abort, alloc: Global) -> Result<Vec<u8>, Fail> {
@@ -44,7 +44,7 @@ fn a_certificate_that_a_server_sent(rt: HostRuntime) -> Result<(), Fail> {
     assert!(rt; bytes.len() == 399);
     let body = &bytes[4..];
     let other = UnknownHandshake::new(11, TlsByteVecU24::from_slice(alloc, body)?)?;
-    is_spelled(&rt, alloc, &Handshake::Unknown(other), &bytes)?;
+    is_encoded_as(&rt, alloc, &Handshake::Unknown(other), &bytes)?;
     let entry = CertificateEntry {
         certificate: CertificateData::X509(TlsByteVec::from_slice(alloc, &bytes[11..397])?),
         extensions: TlsVecU16::from_slice(alloc, &[])?,

@@ -11,7 +11,7 @@ use tls_codec::{
 const MISFIT: Error = Error::EncodingError("value does not fit its context");
 
 // The value is written as these bytes by each encoder, and each decoder reads it from them.
-pub(super) fn is_spelled<T>(
+pub(super) fn is_encoded_as<T>(
     rt: &impl Abort,
     alloc: Global,
     value: &T,
@@ -25,6 +25,12 @@ where
     let mut sent = Vec::new(alloc);
     same(rt, value.tls_serialize(&mut sent)?, bytes.len());
     same(rt, sent.as_slice(), bytes);
+    same(rt, value.tls_serialize_into(&mut sent)?, bytes.len());
+    same(rt, sent.get(bytes.len()..), Some(bytes));
+    let mut source = bytes;
+    let first = T::tls_deserialize(alloc, &mut source)?;
+    holds(rt, first == *value);
+    same(rt, source.len(), 0);
     let read = T::tls_deserialize_exact(alloc, bytes)?;
     holds(rt, read == *value);
     let split = T::tls_deserialize_exact_bytes(alloc, bytes)?;
@@ -69,6 +75,13 @@ where
         bytes.len(),
     );
     same(rt, sent.as_slice(), bytes);
+    let count = value.tls_serialize_into_for(context, &mut sent)?;
+    same(rt, count, bytes.len());
+    same(rt, sent.get(bytes.len()..), Some(bytes));
+    let mut source = bytes;
+    let first = T::tls_deserialize_for(context, alloc, &mut source)?;
+    holds(rt, first == *value);
+    same(rt, source.len(), 0);
     let read = T::tls_deserialize_exact_for(context, alloc, bytes)?;
     holds(rt, read == *value);
     let split = T::tls_deserialize_exact_bytes_for(context, alloc, bytes)?;
@@ -96,6 +109,8 @@ pub(super) fn is_misfit<C: Size, T: SerializeFor<C>>(
         value.tls_serialize_for(context, &mut out).err(),
         Some(MISFIT),
     );
+    let detached = value.tls_serialize_detached_for(context, alloc).err();
+    same(rt, detached, Some(MISFIT));
     Ok(())
 }
 

@@ -1,6 +1,6 @@
 //! Messages, their bodies in their lengths (section 4).
 use crate::tests::captured::{CERTIFICATE_VERIFY, FINISHED};
-use crate::tests::each_call::{is_refused, is_spelled};
+use crate::tests::each_call::{is_encoded_as, is_refused};
 use handshake_by_hand::{CertificateVerify, Handshake, KeyUpdateRequest, UnknownHandshake};
 use std::test::Fail;
 use tls_codec::{Error, TlsByteVecU16, TlsByteVecU24};
@@ -8,7 +8,7 @@ use tls_codec::{Error, TlsByteVecU16, TlsByteVecU24};
 #[test]
 fn bodies_without_bytes(rt: HostRuntime) -> Result<(), Fail> {
     let alloc = rt.alloc();
-    is_spelled(&rt, alloc, &Handshake::EndOfEarlyData, &[5, 0, 0, 0])
+    is_encoded_as(&rt, alloc, &Handshake::EndOfEarlyData, &[5, 0, 0, 0])
 }
 
 #[test]
@@ -19,23 +19,23 @@ fn signatures(rt: HostRuntime) -> Result<(), Fail> {
         signature: TlsByteVecU16::from_slice(alloc, &CERTIFICATE_VERIFY[8..])?,
     };
     let message = Handshake::CertificateVerify(body);
-    is_spelled(&rt, alloc, &message, &CERTIFICATE_VERIFY)
+    is_encoded_as(&rt, alloc, &message, &CERTIFICATE_VERIFY)
 }
 
 #[test]
 fn the_last_message(rt: HostRuntime) -> Result<(), Fail> {
     let alloc = rt.alloc();
     let verify_data = TlsByteVecU24::from_slice(alloc, &FINISHED[4..])?;
-    is_spelled(&rt, alloc, &Handshake::Finished(verify_data), &FINISHED)
+    is_encoded_as(&rt, alloc, &Handshake::Finished(verify_data), &FINISHED)
 }
 
 #[test]
 fn updates_of_keys(rt: HostRuntime) -> Result<(), Fail> {
     let alloc = rt.alloc();
     let update = Handshake::KeyUpdate(KeyUpdateRequest::UpdateNotRequested);
-    is_spelled(&rt, alloc, &update, &[24, 0, 0, 1, 0])?;
+    is_encoded_as(&rt, alloc, &update, &[24, 0, 0, 1, 0])?;
     let update = Handshake::KeyUpdate(KeyUpdateRequest::UpdateRequested);
-    is_spelled(&rt, alloc, &update, &[24, 0, 0, 1, 1])?;
+    is_encoded_as(&rt, alloc, &update, &[24, 0, 0, 1, 1])?;
     is_refused::<Handshake>(&rt, alloc, &[24, 0, 0, 1, 2], Error::UnknownValue(2));
     Ok(())
 }
@@ -45,7 +45,7 @@ fn messages_of_other_types(rt: HostRuntime) -> Result<(), Fail> {
     let alloc = rt.alloc();
     let body = TlsByteVecU24::from_slice(alloc, &[0, 0])?;
     let message = Handshake::Unknown(UnknownHandshake::new(8, body)?);
-    is_spelled(&rt, alloc, &message, &[8, 0, 0, 2, 0, 0])
+    is_encoded_as(&rt, alloc, &message, &[8, 0, 0, 2, 0, 0])
 }
 
 #[test]

@@ -46,7 +46,7 @@ fn is_made<T: Serialize>(
     value: &T,
     bytes: &[u8],
 ) -> Result<(), Wrong> {
-    let form = told!(requests, count, value.tls_serialize_detached(alloc))?;
+    let form = counted!(requests, count, value.tls_serialize_detached(alloc))?;
     same(form.as_slice(), bytes)?;
     is_of_the_order(form.capacity(), form.len())
 }
@@ -61,7 +61,7 @@ fn is_appended<T: Serialize>(
 ) -> Result<(), Wrong> {
     let unchanged = [0xee].as_slice();
     let mut out = full(alloc, requests, unchanged)?;
-    let length = told!(
+    let length = counted!(
         requests,
         count,
         value.tls_serialize_into(&mut out),
@@ -81,7 +81,7 @@ fn is_split<T: DeserializeBytes + PartialEq>(
     bytes: &[u8],
     value: &T,
 ) -> Result<(), Wrong> {
-    let (found, rest) = told!(requests, count, T::tls_deserialize_bytes(alloc, bytes))?;
+    let (found, rest) = counted!(requests, count, T::tls_deserialize_bytes(alloc, bytes))?;
     same(found == *value, true)?;
     same(rest.is_empty(), true)?;
     Ok(())
@@ -96,7 +96,7 @@ fn is_read<T: Deserialize + PartialEq>(
     value: &T,
 ) -> Result<(), Wrong> {
     let mut source = bytes;
-    let found = told!(
+    let found = counted!(
         requests,
         count,
         T::tls_deserialize(alloc, &mut source),
@@ -110,56 +110,56 @@ fn is_read<T: Deserialize + PartialEq>(
 
 fn a_triple_is_made(alloc: Global, requests: &mut Requests) -> Result<(), Wrong> {
     requests.begin("a_triple_is_made");
-    let value = told!(requests, 2, mixed(alloc))?;
+    let value = counted!(requests, 2, mixed(alloc))?;
     is_made(alloc, requests, 2, &value, &MIXED)?;
     Ok(())
 }
 
 fn a_triple_is_appended(alloc: Global, requests: &mut Requests) -> Result<(), Wrong> {
     requests.begin("a_triple_is_appended");
-    let value = told!(requests, 2, mixed(alloc))?;
+    let value = counted!(requests, 2, mixed(alloc))?;
     is_appended(alloc, requests, 2, &value, &MIXED)?;
     Ok(())
 }
 
 fn a_triple_is_split(alloc: Global, requests: &mut Requests) -> Result<(), Wrong> {
     requests.begin("a_triple_is_split");
-    let value = told!(requests, 2, mixed(alloc))?;
+    let value = counted!(requests, 2, mixed(alloc))?;
     is_split(alloc, requests, 2, &MIXED, &value)?;
     Ok(())
 }
 
 fn a_triple_is_read(alloc: Global, requests: &mut Requests) -> Result<(), Wrong> {
     requests.begin("a_triple_is_read");
-    let value = told!(requests, 2, mixed(alloc))?;
+    let value = counted!(requests, 2, mixed(alloc))?;
     is_read(alloc, requests, 3, &MIXED, &value)?;
     Ok(())
 }
 
 fn a_message_is_made(alloc: Global, requests: &mut Requests) -> Result<(), Wrong> {
     requests.begin("a_message_is_made");
-    let value = told!(requests, 3, worked_log(alloc))?;
+    let value = counted!(requests, 3, worked_log(alloc))?;
     is_made(alloc, requests, 3, &value, &LOG)?;
     Ok(())
 }
 
 fn a_message_is_appended(alloc: Global, requests: &mut Requests) -> Result<(), Wrong> {
     requests.begin("a_message_is_appended");
-    let value = told!(requests, 3, worked_log(alloc))?;
+    let value = counted!(requests, 3, worked_log(alloc))?;
     is_appended(alloc, requests, 2, &value, &LOG)?;
     Ok(())
 }
 
 fn a_message_is_split(alloc: Global, requests: &mut Requests) -> Result<(), Wrong> {
     requests.begin("a_message_is_split");
-    let value = told!(requests, 3, worked_log(alloc))?;
+    let value = counted!(requests, 3, worked_log(alloc))?;
     is_split(alloc, requests, 3, &LOG, &value)?;
     Ok(())
 }
 
 fn a_message_is_read(alloc: Global, requests: &mut Requests) -> Result<(), Wrong> {
     requests.begin("a_message_is_read");
-    let value = told!(requests, 3, worked_log(alloc))?;
+    let value = counted!(requests, 3, worked_log(alloc))?;
     is_read(alloc, requests, 3, &LOG, &value)?;
     Ok(())
 }
@@ -167,7 +167,7 @@ fn a_message_is_read(alloc: Global, requests: &mut Requests) -> Result<(), Wrong
 // Byte vectors on both sides of where their length gets wider. Each is a prefix of the one before.
 fn bytes_are_written(alloc: Global, requests: &mut Requests) -> Result<(), Wrong> {
     requests.begin("bytes_are_written");
-    let mut content = told!(requests, 1, filled(alloc, 16_384))?;
+    let mut content = counted!(requests, 1, filled(alloc, 16_384))?;
     for (count, length) in [
         (16_384, [0x80, 0, 0x40, 0].as_slice()),
         (16_383, &[0x7f, 0xff]),
@@ -176,7 +176,7 @@ fn bytes_are_written(alloc: Global, requests: &mut Requests) -> Result<(), Wrong
     ] {
         content.truncate(count);
         let bytes = VLBytes::new(content);
-        let form = told!(requests, 1, bytes.tls_serialize_bytes(alloc))?;
+        let form = counted!(requests, 1, bytes.tls_serialize_bytes(alloc))?;
         same(form.strip_prefix(length), Some(bytes.as_slice()))?;
         content = Vec::from(bytes);
     }

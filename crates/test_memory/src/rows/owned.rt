@@ -30,11 +30,11 @@ pub fn all(alloc: Global, requests: &mut Requests) -> Result<(), Wrong> {
 macro_rules! owned_calls {
     ($alloc:ident, $requests:ident, $Owned:ty, $made:expr) => {
         let whole = [1, 2, 3].as_slice();
-        let made = told!($requests, 1, $made)?;
+        let made = counted!($requests, 1, $made)?;
         same(made.as_slice(), whole)?;
-        let copied = told!($requests, 1, <$Owned>::from_slice($alloc, whole))?;
+        let copied = counted!($requests, 1, <$Owned>::from_slice($alloc, whole))?;
         same(copied.as_slice(), whole)?;
-        let cloned = told!(
+        let cloned = counted!(
             $requests,
             1,
             copied.clone(),
@@ -44,7 +44,7 @@ macro_rules! owned_calls {
         same(cloned.as_slice(), whole)?;
         let two = [1, 2].as_slice();
         let mut owned = <$Owned>::new(full($alloc, $requests, two)?);
-        told!(
+        counted!(
             $requests,
             1,
             owned.push(3),

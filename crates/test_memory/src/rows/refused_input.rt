@@ -25,7 +25,7 @@ fn is_not_split<T: DeserializeBytes>(
     bytes: &[u8],
     error: Error,
 ) -> Result<(), Wrong> {
-    let outcome = told!(requests, count, T::tls_deserialize_bytes(alloc, bytes));
+    let outcome = counted!(requests, count, T::tls_deserialize_bytes(alloc, bytes));
     same(outcome.err(), Some(error))
 }
 
@@ -38,7 +38,7 @@ fn is_not_read<T: Deserialize>(
     error: Error,
 ) -> Result<(), Wrong> {
     let mut source = bytes;
-    let outcome = told!(
+    let outcome = counted!(
         requests,
         count,
         T::tls_deserialize(alloc, &mut source),

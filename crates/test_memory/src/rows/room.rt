@@ -26,7 +26,7 @@ const COUNTED: [u8; 16] = [0, 0, 0, 2, 1, 2, 3, 4, 5, 6, 7, 8, 9, 10, 11, 12];
 fn short_fields_before_many_bytes(alloc: Global, requests: &mut Requests) -> Result<(), Wrong> {
     requests.begin("short_fields_before_many_bytes");
     let mut source = MANY.as_slice();
-    let found = told!(
+    let found = counted!(
         requests,
         1,
         VLBytes::tls_deserialize(alloc, &mut source),
@@ -34,10 +34,10 @@ fn short_fields_before_many_bytes(alloc: Global, requests: &mut Requests) -> Res
         source = MANY.as_slice()
     )?;
     has_bytes(Vec::from(found), &[2, 2])?;
-    let (found, _) = told!(requests, 1, VLBytes::tls_deserialize_bytes(alloc, &MANY))?;
+    let (found, _) = counted!(requests, 1, VLBytes::tls_deserialize_bytes(alloc, &MANY))?;
     has_bytes(Vec::from(found), &[2, 2])?;
     let mut source = COUNTED.as_slice();
-    let found = told!(
+    let found = counted!(
         requests,
         1,
         TlsByteVecU32::tls_deserialize(alloc, &mut source),
@@ -52,13 +52,13 @@ fn short_fields_of_a_source_with_none_at_hand(
     requests: &mut Requests,
 ) -> Result<(), Wrong> {
     requests.begin("short_fields_of_a_source_with_none_at_hand");
-    let found = told!(
+    let found = counted!(
         requests,
         1,
         VLBytes::tls_deserialize(alloc, &mut Outside::new(MANY.as_slice()))
     )?;
     has_bytes(Vec::from(found), &[2, 2])?;
-    let found = told!(
+    let found = counted!(
         requests,
         1,
         TlsByteVecU32::tls_deserialize(alloc, &mut Outside::new(COUNTED.as_slice()))
@@ -69,7 +69,7 @@ fn short_fields_of_a_source_with_none_at_hand(
 fn short_lists_before_many_bytes(alloc: Global, requests: &mut Requests) -> Result<(), Wrong> {
     requests.begin("short_lists_before_many_bytes");
     let mut source = MANY.as_slice();
-    let found = told!(
+    let found = counted!(
         requests,
         2,
         Vec::<u16>::tls_deserialize(alloc, &mut source),
@@ -77,15 +77,15 @@ fn short_lists_before_many_bytes(alloc: Global, requests: &mut Requests) -> Resu
         source = MANY.as_slice()
     )?;
     has_numbers(found)?;
-    let (found, _) = told!(requests, 1, Vec::<u16>::tls_deserialize_bytes(alloc, &MANY))?;
+    let (found, _) = counted!(requests, 1, Vec::<u16>::tls_deserialize_bytes(alloc, &MANY))?;
     has_numbers(found)?;
-    let found = told!(
+    let found = counted!(
         requests,
         2,
         Vec::<u16>::tls_deserialize(alloc, &mut Outside::new(MANY.as_slice()))
     )?;
     has_numbers(found)?;
-    let (found, _) = told!(
+    let (found, _) = counted!(
         requests,
         1,
         TlsVecU8::<u16>::tls_deserialize_bytes(alloc, &MANY)
@@ -96,38 +96,38 @@ fn short_lists_before_many_bytes(alloc: Global, requests: &mut Requests) -> Resu
 fn copies(alloc: Global, requests: &mut Requests) -> Result<(), Wrong> {
     requests.begin("copies");
     let content = [1, 2, 3].as_slice();
-    let copy = told!(requests, 1, VLBytes::from_slice(alloc, content))?;
-    let again = told!(requests, 1, copy.clone())?;
+    let copy = counted!(requests, 1, VLBytes::from_slice(alloc, content))?;
+    let again = counted!(requests, 1, copy.clone())?;
     has_bytes(Vec::from(copy), content)?;
     has_bytes(Vec::from(again), content)?;
-    let copy = told!(requests, 1, VLByteVec::from_slice(alloc, content))?;
+    let copy = counted!(requests, 1, VLByteVec::from_slice(alloc, content))?;
     has_bytes(Vec::from(copy), content)?;
-    let copy = told!(requests, 1, TlsByteVecU8::from_slice(alloc, content))?;
+    let copy = counted!(requests, 1, TlsByteVecU8::from_slice(alloc, content))?;
     has_bytes(copy.into_vec(), content)?;
-    let collected = told!(requests, 1, TlsByteVecU8::try_from_iter(alloc, [1, 2, 3]))?;
+    let collected = counted!(requests, 1, TlsByteVecU8::try_from_iter(alloc, [1, 2, 3]))?;
     has_bytes(collected.into_vec(), content)
 }
 
 fn bytes_written_after_others(alloc: Global, requests: &mut Requests) -> Result<(), Wrong> {
     requests.begin("bytes_written_after_others");
-    let bytes = told!(requests, 1, VLBytes::from_slice(alloc, &[1, 2]))?;
+    let bytes = counted!(requests, 1, VLBytes::from_slice(alloc, &[1, 2]))?;
     let mut out = full(alloc, requests, &[0xee])?;
-    told!(requests, 1, bytes.tls_serialize_into(&mut out))?;
+    counted!(requests, 1, bytes.tls_serialize_into(&mut out))?;
     has_bytes(out, &[0xee, 2, 1, 2])
 }
 
 fn a_length_put_before_bytes(alloc: Global, requests: &mut Requests) -> Result<(), Wrong> {
     requests.begin("a_length_put_before_bytes");
     let mut out = full(alloc, requests, &[1, 2])?;
-    told!(requests, 1, vlen::insert_length(&mut out, 0))?;
+    counted!(requests, 1, vlen::insert_length(&mut out, 0))?;
     has_bytes(out, &[2, 1, 2])
 }
 
 // The room for the length of a list is guessed, and here it is two bytes short.
 fn a_length_wider_than_likely(alloc: Global, requests: &mut Requests) -> Result<(), Wrong> {
     requests.begin("a_length_wider_than_likely");
-    let list = told!(requests, 2, one_long(alloc))?;
-    let form = told!(requests, 3, list.tls_serialize_detached(alloc))?;
+    let list = counted!(requests, 2, one_long(alloc))?;
+    let form = counted!(requests, 3, list.tls_serialize_detached(alloc))?;
     same(form.len(), 20_008)?;
     is_of_the_order(form.capacity(), form.len())
 }

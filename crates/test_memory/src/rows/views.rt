@@ -20,7 +20,7 @@ fn a_text(alloc: Global, requests: &mut Requests) -> Result<(), Wrong> {
     requests.begin("a_text");
     let text = b"07\n".as_slice();
     let mut input = text;
-    let outcome = told!(
+    let outcome = counted!(
         requests,
         1,
         read_text(alloc, &mut input),
@@ -32,14 +32,14 @@ fn a_text(alloc: Global, requests: &mut Requests) -> Result<(), Wrong> {
     );
     let found = outcome?;
     same(found.as_slice(), text)?;
-    let outcome = told!(requests, 2, decode(alloc, &found), InputFault::Memory, ());
+    let outcome = counted!(requests, 2, decode(alloc, &found), InputFault::Memory, ());
     same(outcome?.as_slice(), [7].as_slice())?;
     Ok(())
 }
 
 fn a_view(alloc: Global, requests: &mut Requests) -> Result<(), Wrong> {
     requests.begin("a_view");
-    let outcome = told!(
+    let outcome = counted!(
         requests,
         6,
         view_of::<u8>(alloc, &[7]),
@@ -55,7 +55,7 @@ fn a_view(alloc: Global, requests: &mut Requests) -> Result<(), Wrong> {
 
 fn a_view_of_a_refusal(alloc: Global, requests: &mut Requests) -> Result<(), Wrong> {
     requests.begin("a_view_of_a_refusal");
-    let outcome = told!(
+    let outcome = counted!(
         requests,
         4,
         view_of::<u8>(alloc, &[]),
@@ -76,7 +76,7 @@ fn a_run(alloc: Global, requests: &mut Requests) -> Result<(), Wrong> {
     let lines = b"slice ok some 7 rest ee\nreader ok some 7 rest ee\nleast 010007\n".as_slice();
     let mut input = text;
     let mut out = [0; 64];
-    let outcome = told!(
+    let outcome = counted!(
         requests,
         11,
         run(

@@ -1,5 +1,5 @@
 //! Arrays of what isn't a byte, by their bytes (RFC 8446, section 3.4).
-use crate::tests::each_call::{is_refused, is_spelled};
+use crate::tests::each_call::{is_encoded_as, is_refused};
 use crate::tests::{holds, same};
 use messages_of_each_shape::{Line, Pixel, ThreeData};
 use std::alloc::Global;
@@ -27,7 +27,7 @@ fn is_not_written<T: Serialize>(rt: &impl Abort, alloc: Global, value: &T) {
 fn data_of_three_bytes(rt: HostRuntime) -> Result<(), Fail> {
     let alloc = rt.alloc();
     let three = three_data(alloc, &[[1, 2, 3], [4, 5, 6], [7, 8, 9]])?;
-    is_spelled(&rt, alloc, &three, &[1, 2, 3, 4, 5, 6, 7, 8, 9])?;
+    is_encoded_as(&rt, alloc, &three, &[1, 2, 3, 4, 5, 6, 7, 8, 9])?;
     for cut in [
         [].as_slice(),
         &[1],
@@ -58,7 +58,7 @@ fn structs(rt: HostRuntime) -> Result<(), Fail> {
         pixels: TlsVec::new(Vec::from_array(alloc, pixels)?),
         after: 6,
     };
-    is_spelled(&rt, alloc, &line, &[0, 0, 0, 1, 2, 0, 3, 4, 0, 5, 0, 6])?;
+    is_encoded_as(&rt, alloc, &line, &[0, 0, 0, 1, 2, 0, 3, 4, 0, 5, 0, 6])?;
     is_refused::<Line>(&rt, alloc, &[0, 0, 0, 1, 2, 0, 3, 4], Error::EndOfStream);
     Ok(())
 }

@@ -9,7 +9,7 @@ use tls_codec_validate::Validate;
 use tls_codec_vectors::Drip;
 
 // The round trip: the value is written as these bytes by each encoder, and each decoder reads it from them.
-pub(super) fn is_spelled<T>(
+pub(super) fn is_encoded_as<T>(
     rt: &impl Abort,
     alloc: Global,
     value: &T,

@@ -1,5 +1,5 @@
 //! Messages in a context: their tag is a number or a name of another struct.
-use crate::tests::in_context::{is_misfit, is_refused_in, is_spelled_in};
+use crate::tests::in_context::{is_misfit_in, is_refused_in, is_spelled_in};
 use messages_of_each_shape::{ByVersion, CertificateType, CertificateTypeData, Entries, Entry};
 use std::alloc::Global;
 use std::test::Fail;
@@ -34,7 +34,7 @@ fn by_a_number(rt: HostRuntime) -> Result<(), Fail> {
     ] {
         is_spelled_in(&rt, alloc, &version, &value, bytes)?;
         for other in others {
-            is_misfit(&rt, alloc, &other, &value)?;
+            is_misfit_in(&rt, alloc, &other, &value)?;
         }
     }
     Ok(())
@@ -101,7 +101,7 @@ fn by_a_name(rt: HostRuntime) -> Result<(), Fail> {
         (RAW, X509, raw(alloc, &[])?, &[0]),
     ] {
         is_spelled_in(&rt, alloc, &kind, &body, bytes)?;
-        is_misfit(&rt, alloc, &other, &body)?;
+        is_misfit_in(&rt, alloc, &other, &body)?;
     }
     Ok(())
 }
@@ -124,7 +124,7 @@ fn among_fields(rt: HostRuntime) -> Result<(), Fail> {
         ),
     ] {
         is_spelled_in(&rt, alloc, &kind, &entry, bytes)?;
-        is_misfit(&rt, alloc, &other, &entry)?;
+        is_misfit_in(&rt, alloc, &other, &entry)?;
     }
     Ok(())
 }
@@ -185,7 +185,7 @@ fn lists(rt: HostRuntime) -> Result<(), Fail> {
             entries: TlsVecU24::new(entries),
         };
         is_spelled_in(&rt, alloc, &kind, &entries, bytes)?;
-        is_misfit(&rt, alloc, &other, &entries)?;
+        is_misfit_in(&rt, alloc, &other, &entries)?;
     }
     Ok(())
 }
@@ -208,7 +208,7 @@ fn no_entry_and_entries_of_two_cases(rt: HostRuntime) -> Result<(), Fail> {
     };
     for kind in [X509, RAW] {
         is_spelled_in(&rt, alloc, &kind, &none, &[0, 0, 0, 0])?;
-        is_misfit(&rt, alloc, &kind, &both)?;
+        is_misfit_in(&rt, alloc, &kind, &both)?;
     }
     Ok(())
 }

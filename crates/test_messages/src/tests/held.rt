@@ -1,6 +1,6 @@
 //! Messages whose parts are on a tag in a field before them.
-use crate::tests::each_call::{is_refused, is_spelled};
-use crate::tests::same;
+use crate::tests::each_call::{is_encoded_as, is_refused};
+use crate::tests::{is_misfit, one_byte, same};
 use messages_of_each_shape::{
     Bearer, BodyKind, BodyKindData, ByVersion, Carrier, Header, KindBody, NameType, NameTypeData,
     Named, Versioned,
@@ -9,16 +9,6 @@ use std::alloc::Global;
 use std::process::Abort;
 use std::test::Fail;
 use tls_codec::{Error, Serialize, TlsVecU16, VLBytes};
-
-const MISFIT: Error = Error::EncodingError("value does not fit its context");
-
-fn bytes(alloc: Global, byte: u8) -> Result<VLBytes, Error> {
-    VLBytes::from_array(alloc, &[byte])
-}
-
-fn is_misfit<T: Serialize>(rt: &impl Abort, alloc: Global, value: &T) {
-    same(rt, value.tls_serialize_detached(alloc).err(), Some(MISFIT));
-}
 
 fn chat(first: u8, code: u16) -> KindBody {
     KindBody {
@@ -50,10 +40,10 @@ static CARRIER: [u8; 17] = [
 #[test]
 fn a_tag_before_what_it_decides(rt: HostRuntime) -> Result<(), Fail> {
     let alloc = rt.alloc();
-    is_spelled(&rt, alloc, &carrier(alloc, chat(9, 0x0102))?, &CARRIER)?;
+    is_encoded_as(&rt, alloc, &carrier(alloc, chat(9, 0x0102))?, &CARRIER)?;
     let file = KindBody {
         first: 9,
-        body: BodyKindData::File(bytes(alloc, 1)?),
+        body: BodyKindData::File(one_byte(alloc, 1)?),
     };
     is_misfit(&rt, alloc, &carrier(alloc, file)?);
     is_refused::<Carrier>(&rt, alloc, &[3, 9], Error::UnknownValue(3));
@@ -68,7 +58,7 @@ fn bearer(alloc: Global, number: u8, body: NameTypeData) -> Result<Bearer, Error
             name_type: NameType(number),
         },
         body,
-        last: bytes(alloc, 0xaa)?,
+        last: one_byte(alloc, 0xaa)?,
     })
 }
 
@@ -77,9 +67,9 @@ fn bearer(alloc: Global, number: u8, body: NameTypeData) -> Result<Bearer, Error
 fn a_struct_before_what_its_tag_decides(rt: HostRuntime) -> Result<(), Fail> {
     let alloc = rt.alloc();
     let host = bearer(alloc, 0, NameTypeData::HostName(8))?;
-    is_spelled(&rt, alloc, &host, &[5, 1, 0, 8, 1, 0xaa])?;
-    let other = bearer(alloc, 7, NameTypeData::Case7(bytes(alloc, 0xb1)?))?;
-    is_spelled(&rt, alloc, &other, &[5, 1, 7, 1, 0xb1, 1, 0xaa])?;
+    is_encoded_as(&rt, alloc, &host, &[5, 1, 0, 8, 1, 0xaa])?;
+    let other = bearer(alloc, 7, NameTypeData::Case7(one_byte(alloc, 0xb1)?))?;
+    is_encoded_as(&rt, alloc, &other, &[5, 1, 7, 1, 0xb1, 1, 0xaa])?;
     is_misfit(&rt, alloc, &bearer(alloc, 7, NameTypeData::HostName(8))?);
     is_refused::<Bearer>(&rt, alloc, &[5, 1, 9, 8, 1, 0xaa], Error::UnknownValue(9));
     Ok(())
@@ -96,11 +86,11 @@ fn a_number_before_what_it_decides(rt: HostRuntime) -> Result<(), Fail> {
         },
         parts_: ByVersion::Case2 {
             long: 1,
-            tail: bytes(alloc, 0xb1)?,
+            tail: one_byte(alloc, 0xb1)?,
             last: 6,
         },
     };
-    is_spelled(&rt, alloc, &value, &[0, 2, 0, 0, 0, 0, 1, 1, 0xb1, 6])?;
+    is_encoded_as(&rt, alloc, &value, &[0, 2, 0, 0, 0, 0, 1, 1, 0xb1, 6])?;
     is_refused::<Versioned>(&rt, alloc, &[0, 4, 0], Error::UnknownValue(4));
     Ok(())
 }

@@ -1,5 +1,5 @@
 //! What each call makes of a value or of bytes in a context.
-use crate::tests::{same, same_at};
+use crate::tests::{MISFIT, same, same_at};
 use std::alloc::Global;
 use std::fmt::Debug;
 use std::process::Abort;
@@ -7,8 +7,6 @@ use std::test::Fail;
 use tls_codec::{DeserializeBytesFor, DeserializeFor, Error, SerializeFor, Size};
 use tls_codec_validate::{Keyed, ValidateFor};
 use tls_codec_vectors::Drip;
-
-const MISFIT: Error = Error::EncodingError("value does not fit its context");
 
 // The round trip: the value is written as these bytes by each encoder, and each decoder reads it from them.
 pub(super) fn is_spelled_in<C: Keyed, T>(
@@ -65,7 +63,7 @@ fn is_written_in<C: Size, T: SerializeFor<C>>(
 }
 
 // No encoder writes the value in a context that asks for another one, and a vector has the bytes from before.
-pub(super) fn is_misfit<C: Size, T: SerializeFor<C>>(
+pub(super) fn is_misfit_in<C: Size, T: SerializeFor<C>>(
     rt: &impl Abort,
     alloc: Global,
     context: &C,

@@ -1,5 +1,5 @@
 //! Messages of MLS (RFC 9420), encoded field by field.
-use crate::tests::each_call::is_spelled;
+use crate::tests::each_call::is_encoded_as;
 use crate::tests::{holds, same, same_at};
 use mls::{CipherSuite, Credential, LeafNodeOrigin, Lifetime, MLSMessage, Sender, WireFormatData};
 use std::alloc::Global;
@@ -201,7 +201,7 @@ static COMMIT_TAGS: [usize; 10] = [1, 3, 14, 21, 23, 25, 30, 34, 42, 68];
 // Read by each decoder, and written again to the same bytes.
 fn is_message(rt: &impl Abort, alloc: Global, bytes: &[u8]) -> Result<MLSMessage, Fail> {
     let message = MLSMessage::tls_deserialize_exact_bytes(alloc, bytes)?;
-    is_spelled(rt, alloc, &message, bytes)?;
+    is_encoded_as(rt, alloc, &message, bytes)?;
     Ok(message)
 }
 
@@ -312,7 +312,7 @@ fn replaced(
 
 // With others in place of the byte at a position, the exact forms reject the bytes with these
 // errors.
-fn is_told(
+fn is_reported(
     rt: &impl Abort,
     alloc: Global,
     spelled: &[u8],
@@ -325,7 +325,7 @@ fn is_told(
     Ok(())
 }
 
-fn lengths_are_told(
+fn wrong_lengths_are_reported(
     rt: &impl Abort,
     alloc: Global,
     spelled: &[u8],
@@ -339,15 +339,15 @@ fn lengths_are_told(
             panic!(rt; "no byte at {at}");
         };
         let one_more = [length.wrapping_add(1)];
-        is_told(rt, alloc, spelled, at, &one_more, [*greater, *greater_read])?;
+        is_reported(rt, alloc, spelled, at, &one_more, [*greater, *greater_read])?;
         let one_less = [length.wrapping_sub(1)];
-        is_told(rt, alloc, spelled, at, &one_less, [*less, *less_read])?;
-        is_told(rt, alloc, spelled, at, &[0x40, length], [LENGTH, LENGTH])?;
+        is_reported(rt, alloc, spelled, at, &one_less, [*less, *less_read])?;
+        is_reported(rt, alloc, spelled, at, &[0x40, length], [LENGTH, LENGTH])?;
     }
     Ok(())
 }
 
-fn tags_are_told(
+fn unknown_tags_are_reported(
     rt: &impl Abort,
     alloc: Global,
     spelled: &[u8],
@@ -360,19 +360,19 @@ fn tags_are_told(
         } else {
             Error::UnknownValue(0x77)
         };
-        is_told(rt, alloc, spelled, at, &[0x77], [error, error])?;
+        is_reported(rt, alloc, spelled, at, &[0x77], [error, error])?;
     }
     Ok(())
 }
 
 #[test]
 fn wrong_lengths(rt: HostRuntime) -> Result<(), Fail> {
-    lengths_are_told(&rt, rt.alloc(), &KEY_PACKAGE, &KEY_PACKAGE_LENGTHS)?;
-    lengths_are_told(&rt, rt.alloc(), &COMMIT, &COMMIT_LENGTHS)
+    wrong_lengths_are_reported(&rt, rt.alloc(), &KEY_PACKAGE, &KEY_PACKAGE_LENGTHS)?;
+    wrong_lengths_are_reported(&rt, rt.alloc(), &COMMIT, &COMMIT_LENGTHS)
 }
 
 #[test]
 fn unknown_tags(rt: HostRuntime) -> Result<(), Fail> {
-    tags_are_told(&rt, rt.alloc(), &KEY_PACKAGE, &KEY_PACKAGE_TAGS, None)?;
-    tags_are_told(&rt, rt.alloc(), &COMMIT, &COMMIT_TAGS, Some(34))
+    unknown_tags_are_reported(&rt, rt.alloc(), &KEY_PACKAGE, &KEY_PACKAGE_TAGS, None)?;
+    unknown_tags_are_reported(&rt, rt.alloc(), &COMMIT, &COMMIT_TAGS, Some(34))
 }

@@ -1,5 +1,6 @@
 //! Parts of messages of MLS (RFC 9420), each alone, encoded field by field.
-use crate::tests::each_call::{is_refused, is_spelled, is_written};
+use crate::tests::each_call::{is_encoded_as, is_refused, is_written};
+use crate::tests::one_byte;
 use mls::{
     Certificate, CipherSuite, Commit, Credential, GroupContext, InterimTranscriptHashInput,
     LeafNodeOrigin, LeafNodeTBSOrigin, Lifetime, PSKOrigin, PreSharedKeyID, ProtocolVersionMls10,
@@ -9,12 +10,8 @@ use std::alloc::Global;
 use std::test::Fail;
 use tls_codec::{Error, VLBytes};
 
-fn bytes(alloc: Global, byte: u8) -> Result<VLBytes, Error> {
-    VLBytes::from_array(alloc, &[byte])
-}
-
 fn certificate(alloc: Global, byte: u8) -> Result<Certificate, Error> {
-    let cert_data = bytes(alloc, byte)?;
+    let cert_data = one_byte(alloc, byte)?;
     Ok(Certificate { cert_data })
 }
 
@@ -30,15 +27,15 @@ fn lifetime() -> Lifetime {
 fn cipher_suites(rt: HostRuntime) -> Result<(), Fail> {
     let alloc = rt.alloc();
     let suite = CipherSuite::MLS_128_DHKEMX25519_CHACHA20POLY1305_SHA256_ED25519;
-    is_spelled(&rt, alloc, &suite, &[0, 3])?;
-    is_spelled(&rt, alloc, &CipherSuite(0x0a0a), &[0x0a, 0x0a])
+    is_encoded_as(&rt, alloc, &suite, &[0, 3])?;
+    is_encoded_as(&rt, alloc, &CipherSuite(0x0a0a), &[0x0a, 0x0a])
 }
 
 // Section 8.1: a group's context has the one version.
 #[test]
 fn versions(rt: HostRuntime) -> Result<(), Fail> {
     let alloc = rt.alloc();
-    is_spelled(&rt, alloc, &ProtocolVersionMls10::Mls10, &[0, 1])?;
+    is_encoded_as(&rt, alloc, &ProtocolVersionMls10::Mls10, &[0, 1])?;
     is_refused::<ProtocolVersionMls10>(&rt, alloc, &[1, 0], Error::UnknownValue(256));
     is_refused::<GroupContext>(&rt, alloc, &[0, 3, 0, 1], Error::UnknownValue(3));
     Ok(())
@@ -48,11 +45,11 @@ fn versions(rt: HostRuntime) -> Result<(), Fail> {
 #[test]
 fn credentials(rt: HostRuntime) -> Result<(), Fail> {
     let alloc = rt.alloc();
-    let basic = Credential::Basic(bytes(alloc, 9)?);
-    is_spelled(&rt, alloc, &basic, &[0, 1, 1, 9])?;
+    let basic = Credential::Basic(one_byte(alloc, 9)?);
+    is_encoded_as(&rt, alloc, &basic, &[0, 1, 1, 9])?;
     let both = [certificate(alloc, 5)?, certificate(alloc, 6)?];
     let x509 = Credential::X509(Vec::from_array(alloc, both)?);
-    is_spelled(&rt, alloc, &x509, &[0, 2, 4, 1, 5, 1, 6])?;
+    is_encoded_as(&rt, alloc, &x509, &[0, 2, 4, 1, 5, 1, 6])?;
     is_refused::<Credential>(&rt, alloc, &[0, 0], Error::UnknownValue(0));
     is_refused::<Credential>(&rt, alloc, &[0, 6, 1, 9], Error::UnknownValue(6));
     is_refused::<Credential>(&rt, alloc, &[0, 1, 0x40, 1, 9], Error::InvalidVectorLength);
@@ -63,12 +60,12 @@ fn credentials(rt: HostRuntime) -> Result<(), Fail> {
 #[test]
 fn sources_of_leaf_nodes(rt: HostRuntime) -> Result<(), Fail> {
     let alloc = rt.alloc();
-    is_spelled(&rt, alloc, &LeafNodeOrigin::Update, &[2])?;
-    let commit = LeafNodeOrigin::Commit(bytes(alloc, 9)?);
-    is_spelled(&rt, alloc, &commit, &[3, 1, 9])?;
+    is_encoded_as(&rt, alloc, &LeafNodeOrigin::Update, &[2])?;
+    let commit = LeafNodeOrigin::Commit(one_byte(alloc, 9)?);
+    is_encoded_as(&rt, alloc, &commit, &[3, 1, 9])?;
     let package = LeafNodeOrigin::KeyPackage(lifetime());
     let spelled = [1, 0, 0, 0, 0, 0, 0, 0, 1, 0, 0, 0, 0, 0, 0, 0, 2];
-    is_spelled(&rt, alloc, &package, &spelled)?;
+    is_encoded_as(&rt, alloc, &package, &spelled)?;
     is_refused::<LeafNodeOrigin>(&rt, alloc, &[4], Error::UnknownValue(4));
     Ok(())
 }
@@ -78,7 +75,7 @@ fn sources_of_leaf_nodes(rt: HostRuntime) -> Result<(), Fail> {
 fn what_is_signed_of_leaf_nodes(rt: HostRuntime) -> Result<(), Fail> {
     let alloc = rt.alloc();
     let extensions = Vec::new(alloc);
-    let group_id = bytes(alloc, 0xfa)?;
+    let group_id = one_byte(alloc, 0xfa)?;
     let lifetime = lifetime();
     let package = LeafNodeTBSOrigin::KeyPackage {
         lifetime: &lifetime,
@@ -100,14 +97,14 @@ fn structs(rt: HostRuntime) -> Result<(), Fail> {
     let alloc = rt.alloc();
     let psktype = PSKOrigin::Resumption {
         usage: ResumptionPSKUsage::Reinit,
-        psk_group_id: bytes(alloc, 0xaa)?,
+        psk_group_id: one_byte(alloc, 0xaa)?,
         psk_epoch: 7,
     };
     let id = PreSharedKeyID {
         psktype,
-        psk_nonce: bytes(alloc, 0xbb)?,
+        psk_nonce: one_byte(alloc, 0xbb)?,
     };
-    is_spelled(
+    is_encoded_as(
         &rt,
         alloc,
         &id,
@@ -117,14 +114,14 @@ fn structs(rt: HostRuntime) -> Result<(), Fail> {
         proposals: Vec::new(alloc),
         path: None,
     };
-    is_spelled(&rt, alloc, &commit, &[0, 0])?;
+    is_encoded_as(&rt, alloc, &commit, &[0, 0])?;
     let sender = SenderData {
         leaf_index: 1,
         generation: 2,
         reuse_guard: [3, 4, 5, 6],
     };
-    is_spelled(&rt, alloc, &sender, &[0, 0, 0, 1, 0, 0, 0, 2, 3, 4, 5, 6])?;
-    let confirmation_tag = bytes(alloc, 0xe2)?;
+    is_encoded_as(&rt, alloc, &sender, &[0, 0, 0, 1, 0, 0, 0, 2, 3, 4, 5, 6])?;
+    let confirmation_tag = one_byte(alloc, 0xe2)?;
     let hashed = InterimTranscriptHashInput {
         confirmation_tag: &confirmation_tag,
     };

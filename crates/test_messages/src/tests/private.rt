@@ -1,15 +1,16 @@
 //! What a private message encrypts, in the context of its content type (RFC 9420, section 6.3.1).
 use crate::tests::mls_messages::COMMIT;
-use crate::tests::same;
 use crate::tests::signed::part;
-use mls::{Commit, ContentType, PrivateContent, PrivateMessageContent};
+use crate::tests::{MISFIT, same};
+use mls::{
+    Commit, ContentType, ContentTypeData, FramedContent, PrivateContent, PrivateMessage,
+    PrivateMessageContent, Sender, SenderData,
+};
 use std::alloc::Global;
 use std::process::Abort;
 use std::test::Fail;
-use tls_codec::{DeserializeBytes, Error};
+use tls_codec::{DeserializeBytes, Error, Serialize, VLBytes};
 use tls_codec_cases::Padded;
-
-const MISFIT: Error = Error::EncodingError("value does not fit its context");
 
 type Content = Padded<PrivateMessageContent>;
 
@@ -21,6 +22,26 @@ static APPLICATION: [u8; 7] = [
 
 fn read(alloc: Global, content_type: ContentType, bytes: &[u8]) -> Result<Content, Error> {
     Content::tls_deserialize_exact_bytes_for(&content_type, alloc, bytes)
+}
+
+// What the signature of a private message is over: the content of a public message with the same fields (section 6.1).
+fn framed_content(
+    message: PrivateMessage,
+    sender_data: &SenderData,
+    content: PrivateContent,
+) -> FramedContent {
+    let content_type = match content {
+        PrivateContent::Application(data) => ContentTypeData::Application(data),
+        PrivateContent::Proposal(proposal) => ContentTypeData::Proposal(proposal),
+        PrivateContent::Commit(commit) => ContentTypeData::Commit(commit),
+    };
+    FramedContent {
+        group_id: message.group_id,
+        epoch: message.epoch,
+        sender: Sender::Member(sender_data.leaf_index),
+        authenticated_data: message.authenticated_data,
+        content_type,
+    }
 }
 
 // Read, and written again to the same bytes after others; no other content type has it.
@@ -85,5 +106,33 @@ fn other_contents_are_refused(rt: HostRuntime) -> Result<(), Fail> {
     // No commit ends before its confirmation tag.
     let other = read(alloc, ContentType::Commit, &[0, 0, 1, 0xe1]).err();
     same(&rt, other, Some(Error::EndOfStream));
+    Ok(())
+}
+
+// The group, its epoch, a member, authenticated data, and an application message.
+static FRAMED: [u8; 21] = [
+    1, 0xfa, 0, 0, 0, 0, 0, 0, 0, 7, 1, 0, 0, 0, 2, 1, 0xfb, 1, 2, 0xd1, 0xd2,
+];
+
+#[test]
+fn what_is_signed(rt: HostRuntime) -> Result<(), Fail> {
+    let alloc = rt.alloc();
+    let message = PrivateMessage {
+        group_id: VLBytes::from_slice(alloc, &[0xfa])?,
+        epoch: 7,
+        content_type: ContentType::Application,
+        authenticated_data: VLBytes::from_slice(alloc, &[0xfb])?,
+        encrypted_sender_data: VLBytes::from_slice(alloc, &[0xfc])?,
+        ciphertext: VLBytes::from_slice(alloc, &[0xfd])?,
+    };
+    let sender_data = SenderData {
+        leaf_index: 2,
+        generation: 3,
+        reuse_guard: [4, 5, 6, 7],
+    };
+    let content = PrivateContent::Application(VLBytes::from_slice(alloc, &[0xd1, 0xd2])?);
+    let framed = framed_content(message, &sender_data, content);
+    let bytes = framed.tls_serialize_detached(alloc)?;
+    same(&rt, bytes.as_slice(), FRAMED.as_slice());
     Ok(())
 }

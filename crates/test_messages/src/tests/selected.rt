@@ -1,5 +1,6 @@
 //! Messages with a select in its length, or with one case alone; and names that a type or a field can't have.
-use crate::tests::each_call::{is_refused, is_refused_by, is_spelled};
+use crate::tests::each_call::{is_encoded_as, is_refused, is_refused_by};
+use crate::tests::one_byte;
 use messages_of_each_shape::{
     CertificateType, EmptyType, FormX04, Header, MagicX0102, NameTypeHostName, Point, ServerName,
     SessionTicket, SizedType, Trees, VersionData, VersionXfefd,
@@ -16,19 +17,15 @@ const NOT_THERE: Error = Error::DecodingError("declared content is not there");
 
 const NOT_FILLED: Error = Error::DecodingError("elements do not fill the declared length");
 
-fn bytes(alloc: Global, byte: u8) -> Result<VLBytes, Error> {
-    VLBytes::from_array(alloc, &[byte])
-}
-
 // `before`, the tag, the length of the case's fields, these, and `after`.
 #[test]
 fn cases_in_their_lengths(rt: HostRuntime) -> Result<(), Fail> {
     let alloc = rt.alloc();
     let two = VersionData::Case7 {
         short: 5,
-        long: bytes(alloc, 6)?,
+        long: one_byte(alloc, 6)?,
     };
-    let one = VersionData::Case11(bytes(alloc, 6)?);
+    let one = VersionData::Case11(one_byte(alloc, 6)?);
     for (contents, spelled) in [
         (two, [1, 0, 7, 0, 3, 5, 1, 6, 9].as_slice()),
         (VersionData::Case9, &[1, 0, 9, 0, 0, 9]),
@@ -39,7 +36,7 @@ fn cases_in_their_lengths(rt: HostRuntime) -> Result<(), Fail> {
             contents,
             after: 9,
         };
-        is_spelled(&rt, alloc, &sized, spelled)?;
+        is_encoded_as(&rt, alloc, &sized, spelled)?;
     }
     Ok(())
 }
@@ -84,7 +81,7 @@ fn one_case_of_one_field(rt: HostRuntime) -> Result<(), Fail> {
         name_type: NameTypeHostName::HostName,
         name: TlsByteVec::from_slice(alloc, b"hi")?,
     };
-    is_spelled(&rt, alloc, &name, &[0, 0, 2, 0x68, 0x69])?;
+    is_encoded_as(&rt, alloc, &name, &[0, 0, 2, 0x68, 0x69])?;
     for (bytes, error) in [
         ([1, 0, 2, 0x68, 0x69].as_slice(), Error::UnknownValue(1)),
         (&[0, 0, 0], Error::InvalidVectorLength),
@@ -101,10 +98,10 @@ fn one_case_of_two_fields(rt: HostRuntime) -> Result<(), Fail> {
     let alloc = rt.alloc();
     let point = Point {
         form: FormX04::X04,
-        x: bytes(alloc, 7)?,
-        y: bytes(alloc, 8)?,
+        x: one_byte(alloc, 7)?,
+        y: one_byte(alloc, 8)?,
     };
-    is_spelled(&rt, alloc, &point, &[4, 1, 7, 1, 8])?;
+    is_encoded_as(&rt, alloc, &point, &[4, 1, 7, 1, 8])?;
     for (bytes, of_slice, of_source) in [
         (
             [3, 1, 7, 1, 8].as_slice(),
@@ -126,13 +123,13 @@ fn one_case_of_two_fields(rt: HostRuntime) -> Result<(), Fail> {
 fn names_and_constants(rt: HostRuntime) -> Result<(), Fail> {
     let alloc = rt.alloc();
     let ticket = SessionTicket {
-        a_1: bytes(alloc, 7)?,
+        a_1: one_byte(alloc, 7)?,
         kind: EmptyType(3),
         version: VersionXfefd::Xfefd,
         magic: MagicX0102::X0102,
         wide: 0x0809,
     };
-    is_spelled(&rt, alloc, &ticket, &[1, 7, 3, 254, 253, 1, 2, 8, 9])?;
+    is_encoded_as(&rt, alloc, &ticket, &[1, 7, 3, 254, 253, 1, 2, 8, 9])?;
     // Other constants; then a length one less and one more, after which other bytes are there for the constants.
     for (bytes, value) in [
         ([1, 7, 3, 253, 254, 1, 2, 8, 9].as_slice(), 0xfdfe),
@@ -152,7 +149,7 @@ fn lists_of_options_of_lists(rt: HostRuntime) -> Result<(), Fail> {
     let trees = Trees {
         tree: Vec::from_array(alloc, [Some(row), None])?,
     };
-    is_spelled(&rt, alloc, &trees, &[5, 1, 2, 0, 5, 0])?;
+    is_encoded_as(&rt, alloc, &trees, &[5, 1, 2, 0, 5, 0])?;
     let option = Error::DecodingError("option tag is not 0 or 1");
     for (bytes, of_slice, of_source) in [
         ([4, 1, 2, 0, 5, 0].as_slice(), TRAILING, TRAILING),
@@ -172,13 +169,13 @@ fn headers_and_types(rt: HostRuntime) -> Result<(), Fail> {
     let alloc = rt.alloc();
     let header = Header {
         version: 0x0102,
-        rest_: bytes(alloc, 7)?,
+        rest_: one_byte(alloc, 7)?,
     };
-    is_spelled(&rt, alloc, &header, &[1, 2, 1, 7])?;
+    is_encoded_as(&rt, alloc, &header, &[1, 2, 1, 7])?;
     is_refused_by::<Header>(&rt, alloc, &[1, 2, 2, 7], NOT_THERE, END);
     is_refused::<Header>(&rt, alloc, &[1, 2, 0, 7], TRAILING);
-    is_spelled(&rt, alloc, &CertificateType::X509, &[0])?;
-    is_spelled(&rt, alloc, &CertificateType::RawPublicKey, &[2])?;
+    is_encoded_as(&rt, alloc, &CertificateType::X509, &[0])?;
+    is_encoded_as(&rt, alloc, &CertificateType::RawPublicKey, &[2])?;
     is_refused::<CertificateType>(&rt, alloc, &[1], Error::UnknownValue(1));
     Ok(())
 }

@@ -1,5 +1,6 @@
 //! Messages of shapes that those of TLS 1.3 and of MLS lack.
-use crate::tests::each_call::{is_refused, is_spelled, is_written};
+use crate::tests::each_call::{is_encoded_as, is_refused, is_written};
+use crate::tests::one_byte;
 use messages_of_each_shape::{
     Bounded, ContentTypeData, Framed, Identity, Level, Lists, NameType, NodeTBS, NodeTBSOrigin,
     Wide,
@@ -11,19 +12,15 @@ use tls_codec::{
     TlsVecU16, TlsVecU24, TlsVecU32, U24, VLBytes,
 };
 
-fn bytes(alloc: Global, byte: u8) -> Result<VLBytes, Error> {
-    VLBytes::from_array(alloc, &[byte])
-}
-
 #[test]
 fn values(rt: HostRuntime) -> Result<(), Fail> {
     let alloc = rt.alloc();
-    is_spelled(&rt, alloc, &Level::Low, &[0, 1])?;
-    is_spelled(&rt, alloc, &Level::Middle, &[1, 0])?;
-    is_spelled(&rt, alloc, &Level::High, &[0xff, 0xff])?;
+    is_encoded_as(&rt, alloc, &Level::Low, &[0, 1])?;
+    is_encoded_as(&rt, alloc, &Level::Middle, &[1, 0])?;
+    is_encoded_as(&rt, alloc, &Level::High, &[0xff, 0xff])?;
     is_refused::<Level>(&rt, alloc, &[0, 2], Error::UnknownValue(2));
-    is_spelled(&rt, alloc, &NameType::HOST_NAME, &[0])?;
-    is_spelled(&rt, alloc, &NameType(6), &[6])?;
+    is_encoded_as(&rt, alloc, &NameType::HOST_NAME, &[0])?;
+    is_encoded_as(&rt, alloc, &NameType(6), &[6])?;
     Ok(())
 }
 
@@ -33,17 +30,17 @@ fn tags(rt: HostRuntime) -> Result<(), Fail> {
     let full = Identity::Full {
         name_type: NameType(2),
         level: Level::Middle,
-        key: bytes(alloc, 0xaa)?,
+        key: one_byte(alloc, 0xaa)?,
         since: 9,
-        last: Some(bytes(alloc, 0xbb)?),
+        last: Some(one_byte(alloc, 0xbb)?),
     };
-    is_spelled(
+    is_encoded_as(
         &rt,
         alloc,
         &full,
         &[0, 4, 2, 1, 0, 1, 0xaa, 0, 0, 0, 9, 1, 1, 0xbb],
     )?;
-    is_spelled(&rt, alloc, &Identity::Anonymous, &[0, 5])?;
+    is_encoded_as(&rt, alloc, &Identity::Anonymous, &[0, 5])?;
     is_refused::<Identity>(&rt, alloc, &[0, 0], Error::UnknownValue(0));
     is_refused::<Identity>(&rt, alloc, &[0, 6, 1, 9], Error::UnknownValue(6));
     Ok(())
@@ -55,12 +52,12 @@ fn selects(rt: HostRuntime) -> Result<(), Fail> {
     let framed = Framed {
         epoch: 1,
         content_type: ContentTypeData::Application {
-            authenticated_data: bytes(alloc, 0xa)?,
-            application_data: bytes(alloc, 0xb)?,
+            authenticated_data: one_byte(alloc, 0xa)?,
+            application_data: one_byte(alloc, 0xb)?,
         },
-        signature: bytes(alloc, 0xc)?,
+        signature: one_byte(alloc, 0xc)?,
     };
-    is_spelled(
+    is_encoded_as(
         &rt,
         alloc,
         &framed,
@@ -69,13 +66,13 @@ fn selects(rt: HostRuntime) -> Result<(), Fail> {
     let framed = Framed {
         epoch: 1,
         content_type: ContentTypeData::Proposal {
-            authenticated_data: bytes(alloc, 0xa)?,
-            proposal: bytes(alloc, 0xd)?,
+            authenticated_data: one_byte(alloc, 0xa)?,
+            proposal: one_byte(alloc, 0xd)?,
             level: 3,
         },
-        signature: bytes(alloc, 0xc)?,
+        signature: one_byte(alloc, 0xc)?,
     };
-    is_spelled(
+    is_encoded_as(
         &rt,
         alloc,
         &framed,
@@ -97,7 +94,7 @@ fn twelve_fields(rt: HostRuntime) -> Result<(), Fail> {
         g: TlsByteVecU16::from_slice(alloc, &[9])?,
         h: TlsByteVecU24::from_slice(alloc, &[10])?,
         i: TlsByteVecU32::from_slice(alloc, &[11])?,
-        j: TlsVecU16::new(Vec::from_array(alloc, [bytes(alloc, 12)?])?),
+        j: TlsVecU16::new(Vec::from_array(alloc, [one_byte(alloc, 12)?])?),
         k: String::from_str(alloc, "hi")?,
         l: Some(13),
     };
@@ -105,7 +102,7 @@ fn twelve_fields(rt: HostRuntime) -> Result<(), Fail> {
         1, 2, 3, 4, 0, 0, 0, 5, 0, 0, 0, 0, 0, 0, 0, 6, 7, 7, 7, 7, 7, 7, 7, 7, 7, 7, 7, 7, 7, 7,
         7, 7, 1, 8, 0, 1, 9, 0, 0, 1, 10, 0, 0, 0, 1, 11, 0, 2, 1, 12, 2, 0x68, 0x69, 1, 0, 13,
     ];
-    is_spelled(&rt, alloc, &wide, &spelled)
+    is_encoded_as(&rt, alloc, &wide, &spelled)
 }
 
 #[test]
@@ -114,7 +111,7 @@ fn lists(rt: HostRuntime) -> Result<(), Fail> {
     let lists = Lists {
         octets: TlsVecU8::new(Vec::from_array(alloc, [1, 2])?),
         levels: TlsVecU16::new(Vec::from_array(alloc, [Level::Low, Level::Middle])?),
-        keys: TlsVecU24::new(Vec::from_array(alloc, [bytes(alloc, 3)?])?),
+        keys: TlsVecU24::new(Vec::from_array(alloc, [one_byte(alloc, 3)?])?),
         identities: TlsVecU32::new(Vec::from_array(alloc, [Identity::Anonymous])?),
         rows: Vec::from_array(alloc, [Vec::from_array(alloc, [4])?, Vec::new(alloc)])?,
         kind: 5,
@@ -125,7 +122,7 @@ fn lists(rt: HostRuntime) -> Result<(), Fail> {
         4, 0, 1, 0, 2, 0, 4, 0, 1, 1, 0, 0, 0, 2, 1, 3, 0, 0, 0, 2, 0, 5, 4, 2, 0, 4, 0, 0, 5, 2,
         6, 0, 2, 0, 7,
     ];
-    is_spelled(&rt, alloc, &lists, &spelled)
+    is_encoded_as(&rt, alloc, &lists, &spelled)
 }
 
 #[test]
@@ -135,7 +132,7 @@ fn bounds(rt: HostRuntime) -> Result<(), Fail> {
         session: TlsByteVec::from_slice(alloc, &[9])?,
         suites: TlsVec::new(Vec::from_array(alloc, [3])?),
     };
-    is_spelled(&rt, alloc, &bounded, &[1, 9, 0, 2, 0, 3])?;
+    is_encoded_as(&rt, alloc, &bounded, &[1, 9, 0, 2, 0, 3])?;
     for refused in [[33].as_slice(), &[0, 0, 0], &[0, 0, 1, 3], &[0, 0xff, 0xff]] {
         is_refused::<Bounded>(&rt, alloc, refused, Error::InvalidVectorLength);
     }
@@ -145,8 +142,8 @@ fn bounds(rt: HostRuntime) -> Result<(), Fail> {
 #[test]
 fn borrowed_structs(rt: HostRuntime) -> Result<(), Fail> {
     let alloc = rt.alloc();
-    let key = bytes(alloc, 7)?;
-    let parent_hash = bytes(alloc, 9)?;
+    let key = one_byte(alloc, 7)?;
+    let parent_hash = one_byte(alloc, 9)?;
     for (node_source, expected) in [
         (NodeTBSOrigin::Update, [1, 7, 2, 0].as_slice()),
         (

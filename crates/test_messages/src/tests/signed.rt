@@ -1,7 +1,7 @@
 //! What is signed or authenticated, borrowed from messages that were read (RFC 9420).
 use crate::tests::each_call::is_written;
 use crate::tests::mls_messages::{COMMIT, GROUP_INFO, KEY_PACKAGE, PRIVATE_MESSAGE};
-use crate::tests::same;
+use crate::tests::{MISFIT, is_misfit, same};
 use mls::{
     AuthenticatedContent, AuthenticatedContentTBM, Commit, ConfirmedTranscriptHashInput,
     FramedContentTBS, GroupContext, GroupInfo, GroupInfoTBS, KeyPackage, KeyPackageTBS, LeafNode,
@@ -13,8 +13,6 @@ use std::alloc::Global;
 use std::process::Abort;
 use std::test::Fail;
 use tls_codec::{DeserializeBytes, Error, Serialize, VLBytes};
-
-const MISFIT: Error = Error::EncodingError("value does not fit its context");
 
 fn read(alloc: Global, bytes: &[u8]) -> Result<WireFormatData, Error> {
     let message = MLSMessage::tls_deserialize_exact_bytes(alloc, bytes)?;
@@ -116,7 +114,8 @@ fn public_message(rt: &impl Abort, alloc: Global) -> Result<PublicMessage, Fail>
     Ok(message)
 }
 
-// What a signature is over (section 6.1), in a public message that was read. The context is the group's, if the sender is in it.
+// What a signature is over (section 6.1), in a public message that was read. The context is the group's if the sender is a
+// member or a new member that commits.
 fn signed_content<'a>(
     message: &'a PublicMessage,
     context: &'a Option<GroupContext>,
@@ -231,14 +230,6 @@ fn misfits(rt: HostRuntime) -> Result<(), Fail> {
     is_misfit(&rt, alloc, &commit);
     is_misfit(&rt, alloc, &proposal);
     Ok(())
-}
-
-fn is_misfit(rt: &impl Abort, alloc: Global, message: &PublicMessage) {
-    same(
-        rt,
-        message.tls_serialize_detached(alloc).err(),
-        Some(MISFIT),
-    );
 }
 
 // What the transcript's hash is over (section 8.2): the message up to its signature, without the

@@ -1,14 +1,19 @@
 //! Messages of MLS by their fields and cases, where they lie.
 
-use crate::tests::mls_messages::KEY_PACKAGE;
+use crate::tests::mls_messages::{COMMIT, KEY_PACKAGE};
 use crate::tests::same;
-use mls::{Sender, SenderType, SenderView};
-use mls_leaf::{
+use mls::{ContentType, FramedContentAuthData, PrivateContent, Sender, SenderType, SenderView};
+use mls_group::{
+    GroupContextExtensions, GroupContextExtensionsView, MAC, PSKOrigin, PSKOriginView,
+    ResumptionPSKUsage,
+};
+use mls_tree::{
     CipherSuite, CredentialView, KeyPackage, KeyPackageView, LeafNode, LeafNodeOriginView,
     LeafNodeView, LifetimeView, ProtocolVersion,
 };
-use mls_proposals::{PSKOrigin, PSKOriginView, ResumptionPSKUsage};
-use tls_codec_views::Encoded;
+use tls_codec::{Always, VLBytes, When};
+use tls_codec_cases::Is;
+use tls_codec_views::{Encoded, EncodedFor};
 
 #[test]
 fn a_key_package_by_its_fields(rt: HostRuntime) {
@@ -92,4 +97,72 @@ fn a_case_of_three_fields(rt: HostRuntime) {
     same(&rt, usage.get(), ResumptionPSKUsage::Branch);
     same(&rt, psk_group_id.content(), [0xc1u8, 0xc2].as_slice());
     same(&rt, psk_epoch.get(), 7);
+}
+
+type AuthData = (Always<VLBytes>, When<Is<3>, MAC>);
+
+fn signature_of<'a>(part: &EncodedFor<'a, ContentType, Always<VLBytes>>) -> &'a [u8] {
+    part.always().content()
+}
+
+fn confirmation_of<'a>(part: &EncodedFor<'a, ContentType, When<Is<3>, MAC>>) -> Option<&'a [u8]> {
+    match part.payload() {
+        Some(tag) => Some(tag.content()),
+        None => None,
+    }
+}
+
+// The signature, and of a commit the confirmation tag (section 6.1).
+fn tags_of<'a>(parts: &EncodedFor<'a, ContentType, AuthData>) -> (&'a [u8], Option<&'a [u8]>) {
+    let (signature, confirmation) = parts.split();
+    (signature_of(&signature), confirmation_of(&confirmation))
+}
+
+#[test]
+fn what_a_content_type_decides(rt: HostRuntime) {
+    let commit = ContentType::Commit;
+    let Ok(auth) = EncodedFor::<ContentType, FramedContentAuthData>::new(&commit, &COMMIT[88..92])
+    else {
+        panic!(rt; "no auth data");
+    };
+    let (signature, confirmation) = tags_of(&auth.parts());
+    same(&rt, signature, [0xe1u8].as_slice());
+    same(&rt, confirmation, Some([0xe2u8].as_slice()));
+}
+
+// What a private message encrypts, in the context of its content type (section 6.3.1).
+#[test]
+fn a_private_content_by_its_case(rt: HostRuntime) {
+    let application = ContentType::Application;
+    let Ok(content) = EncodedFor::<ContentType, PrivateContent>::new(&application, &[2, 0x61, 0x62])
+    else {
+        panic!(rt; "no content");
+    };
+    same(&rt, content.case(), (1, [2u8, 0x61, 0x62].as_slice()));
+}
+
+#[test]
+fn a_commit_that_is_cut_off(rt: HostRuntime) {
+    let Err(rejected) = EncodedFor::<ContentType, PrivateContent>::new(&ContentType::Commit, &[2])
+    else {
+        panic!(rt; "a commit");
+    };
+    same(&rt, rejected.at(&[2]), 1);
+}
+
+// A struct that is one list (section 12.1.7).
+#[test]
+fn a_list_of_extensions_alone(rt: HostRuntime) {
+    let Ok(found) = Encoded::<GroupContextExtensions>::new(&[5, 0, 10, 2, 0x21, 0x22]) else {
+        panic!(rt; "no extensions");
+    };
+    let mut extensions = GroupContextExtensionsView::from(found)
+        .extensions
+        .elements();
+    same(
+        &rt,
+        extensions.next().map(|first| first.as_bytes()),
+        Some([0u8, 10, 2, 0x21, 0x22].as_slice()),
+    );
+    same(&rt, extensions.next().is_none(), true);
 }

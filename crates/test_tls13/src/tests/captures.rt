@@ -4,7 +4,7 @@ use crate::tests::extensions::{Found, Place, is_retry, open_all};
 use std::alloc::Global;
 use std::process::Abort;
 use std::test::Fail;
-use test_support::each_call::{is_refused, is_spelled, opens};
+use test_support::each_call::{is_encoded_as, is_refused, round_trips};
 use test_support::rows::{done_at, same, same_at};
 use tls_codec::DeserializeBytes;
 use tls13::{Alert, AlertDescription, AlertLevel, Handshake, HandshakeType};
@@ -31,7 +31,7 @@ fn opens_run(
 
 fn opens_with_extensions(rt: &impl Abort, alloc: Global, row: &Row) -> Result<Found, Fail> {
     let bytes = bytes(rt, alloc, row.digits)?;
-    opens::<Handshake>(alloc, row.name, &bytes)?;
+    round_trips::<Handshake>(alloc, row.name, &bytes)?;
     let message = done_at(
         row.name,
         Handshake::tls_deserialize_exact_bytes(alloc, &bytes),
@@ -105,7 +105,7 @@ fn alerts(rt: HostRuntime) -> Result<(), Fail> {
         description: AlertDescription::CLOSE_NOTIFY,
     };
     for (row, bytes) in ALERTS {
-        is_spelled(alloc, row, &alert, bytes)?;
+        is_encoded_as(alloc, row, &alert, bytes)?;
     }
     Ok(())
 }

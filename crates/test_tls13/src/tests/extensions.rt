@@ -2,8 +2,8 @@
 use std::alloc::Global;
 use std::process::Abort;
 use std::test::Fail;
-use test_support::each_call::opens;
-use test_support::in_context::{is_misfit, is_refused_in, opens_in};
+use test_support::each_call::round_trips;
+use test_support::in_context::{is_misfit, is_refused_in, round_trips_in};
 use test_support::rows::same_at;
 use tls_codec::{Error, TlsByteVecU16};
 use tls13::{
@@ -101,28 +101,28 @@ fn opens_as_its_type(
     let row = place.row;
     let bytes = extension.extension_data.as_slice();
     match extension.extension_type {
-        ExtensionType::SUPPORTED_GROUPS => opens::<NamedGroupList>(alloc, row, bytes)?,
+        ExtensionType::SUPPORTED_GROUPS => round_trips::<NamedGroupList>(alloc, row, bytes)?,
         ExtensionType::SIGNATURE_ALGORITHMS | ExtensionType::SIGNATURE_ALGORITHMS_CERT => {
-            opens::<SignatureSchemeList>(alloc, row, bytes)?
+            round_trips::<SignatureSchemeList>(alloc, row, bytes)?
         }
         ExtensionType::PRE_SHARED_KEY => {
-            opens_in::<_, PreSharedKeyExtension>(alloc, row, &place.kind, bytes)?
+            round_trips_in::<_, PreSharedKeyExtension>(alloc, row, &place.kind, bytes)?
         }
         ExtensionType::EARLY_DATA => {
-            opens_in::<_, EarlyDataIndication>(alloc, row, &place.kind, bytes)?
+            round_trips_in::<_, EarlyDataIndication>(alloc, row, &place.kind, bytes)?
         }
         ExtensionType::SUPPORTED_VERSIONS => {
-            opens_in::<_, SupportedVersions>(alloc, row, &place.kind, bytes)?
+            round_trips_in::<_, SupportedVersions>(alloc, row, &place.kind, bytes)?
         }
-        ExtensionType::COOKIE => opens::<Cookie>(alloc, row, bytes)?,
+        ExtensionType::COOKIE => round_trips::<Cookie>(alloc, row, bytes)?,
         ExtensionType::PSK_KEY_EXCHANGE_MODES => {
-            opens::<PskKeyExchangeModes>(alloc, row, bytes)?
+            round_trips::<PskKeyExchangeModes>(alloc, row, bytes)?
         }
         ExtensionType::CERTIFICATE_AUTHORITIES => {
-            opens::<CertificateAuthoritiesExtension>(alloc, row, bytes)?
+            round_trips::<CertificateAuthoritiesExtension>(alloc, row, bytes)?
         }
-        ExtensionType::OID_FILTERS => opens::<OIDFilterExtension>(alloc, row, bytes)?,
-        ExtensionType::POST_HANDSHAKE_AUTH => opens::<PostHandshakeAuth>(alloc, row, bytes)?,
+        ExtensionType::OID_FILTERS => round_trips::<OIDFilterExtension>(alloc, row, bytes)?,
+        ExtensionType::POST_HANDSHAKE_AUTH => round_trips::<PostHandshakeAuth>(alloc, row, bytes)?,
         ExtensionType::KEY_SHARE => opens_key_share(rt, alloc, place, bytes)?,
         _ => return Ok(false),
     }
@@ -138,11 +138,11 @@ fn opens_key_share(
 ) -> Result<(), Fail> {
     let row = place.row;
     if place.retries {
-        opens::<KeyShareHelloRetryRequest>(alloc, row, bytes)
+        round_trips::<KeyShareHelloRetryRequest>(alloc, row, bytes)
     } else if place.kind == HandshakeType::ServerHello {
-        opens::<KeyShareServerHello>(alloc, row, bytes)
+        round_trips::<KeyShareServerHello>(alloc, row, bytes)
     } else {
-        opens::<KeyShareClientHello>(alloc, row, bytes)
+        round_trips::<KeyShareClientHello>(alloc, row, bytes)
     }
 }
 

@@ -3,7 +3,7 @@ use crate::tests::captured::{Row, bytes, mtls};
 use std::alloc::Global;
 use std::process::Abort;
 use std::test::Fail;
-use test_support::each_call::{is_refused_by, is_spelled};
+use test_support::each_call::{is_encoded_as, is_refused_by};
 use test_support::rows::same_at;
 use tls_codec::{Deserialize, DeserializeBytes, Error, Serialize, TlsByteVecU24, U24};
 use tls13::{EndOfEarlyData, Handshake, KeyUpdate, KeyUpdateRequest};
@@ -42,7 +42,7 @@ fn small_messages(rt: HostRuntime) -> Result<(), Fail> {
             &[20, 0, 0, 2, 8, 9],
         ),
     ] {
-        is_spelled(alloc, row, &message, bytes)?;
+        is_encoded_as(alloc, row, &message, bytes)?;
     }
     Ok(())
 }

@@ -244,7 +244,7 @@ fn names_of_crates(rt: HostRuntime) -> Result<(), Fail> {
     for name in ["", "1a", "_a", "Hello", "he-llo", "he llo", "h\u{e9}llo"] {
         same_at(&rt, name, is_crate_name(name), false);
     }
-    for name in ["hello", "tls13", "mls_leaf", "a_"] {
+    for name in ["hello", "tls13", "mls_tree", "a_"] {
         same_at(&rt, name, is_crate_name(name), true);
     }
     Ok(())

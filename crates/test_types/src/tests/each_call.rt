@@ -157,7 +157,7 @@ pub(super) fn is_read_whole<T: Deserialize + DeserializeBytes + PartialEq>(
 }
 
 // The round trip: the value is written as these bytes, and each decoder reads it from them.
-pub(super) fn is_spelled<T: Serialize + Deserialize + DeserializeBytes + PartialEq>(
+pub(super) fn is_encoded_as<T: Serialize + Deserialize + DeserializeBytes + PartialEq>(
     rt: &impl Abort,
     alloc: Global,
     value: &T,

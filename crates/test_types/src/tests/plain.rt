@@ -1,5 +1,5 @@
 //! Numbers written in a row, values borrowed in a row, and the one value of `PhantomData`.
-use super::each_call::{is_spelled, is_written, is_written_alone};
+use super::each_call::{is_encoded_as, is_written, is_written_alone};
 use crate::tests::same;
 use std::marker::PhantomData;
 use std::test::Fail;
@@ -54,5 +54,5 @@ fn values_borrowed_in_a_row(rt: HostRuntime) -> Result<(), Fail> {
         (four, payload, [12u8, 13]),
         (last, (), 16u8),
     );
-    is_spelled(&rt, alloc, &read, &bytes)
+    is_encoded_as(&rt, alloc, &read, &bytes)
 }

@@ -1,6 +1,6 @@
 // The first bytes of a source, bytes gathered in a vector, and lengths.
 ghost use Rattle.std.specs.Prelude.{None, ⊤};
-ghost use Rattle.tls_codec_wire.specs.Counts.{no_counts, stay};
+ghost use Rattle.tls_codec_wire.specs.Counts.{no_counts, none_fell_refl};
 
 use super::devices::{ENDED, Fives, Plan};
 use super::{same, same_at};
@@ -48,7 +48,7 @@ impl Source for RoomWatcher {
 
     ghost gives_from_front = { λ a xs b p. tt };
 
-    ghost no_count_falls = { λ a xs b p. stay no_counts };
+    ghost no_count_falls = { λ a xs b p. none_fell_refl no_counts };
 }
 
 // Has no byte, fills buffers alone, and notes the length of the first.
@@ -75,7 +75,7 @@ impl Source for BufferWatcher {
 
     ghost gives_from_front = { λ a xs b p. tt };
 
-    ghost no_count_falls = { λ a xs b p. stay no_counts };
+    ghost no_count_falls = { λ a xs b p. none_fell_refl no_counts };
 }
 
 // Two bytes are read within a limit of two, and none after them.

@@ -1,7 +1,7 @@
 // A source and a sink that follow a plan. They don't report which bytes are to come, and count
 // their calls.
 ghost use Rattle.std.specs.Prelude.{◌≡◌, None};
-ghost use Rattle.tls_codec_wire.specs.Counts.{Counts, fall_never, NoneFell, stay};
+ghost use Rattle.tls_codec_wire.specs.Counts.{Counts, none_fell_trans, NoneFell, none_fell_refl};
 ghost use Rattle.tls_codec_wire.specs.Device.{FaultRaises, PullIsCounted};
 
 use std::io;
@@ -131,9 +131,9 @@ impl Source for Fives {
         Ok(1)
     }
 
-    ghost gives_nothing = { λ s. stay _ };
+    ghost gives_nothing = { λ s. none_fell_refl _ };
 
-    ghost gives_in_order = { λ a xs b ys c p q. fall_never p q };
+    ghost gives_in_order = { λ a xs b ys c p q. none_fell_trans p q };
 
     ghost gives_from_front = { λ a xs b p. tt };
 

@@ -2,7 +2,7 @@
 use super::{same, same_at};
 use std::test::Fail;
 use tls_codec_wire::error::Error;
-use tls_codec_wire::quic::{least_width, read_varint, split_varint, write_varint};
+use tls_codec_wire::quic::{read_varint, split_varint, varint_width, write_varint};
 use tls_codec_wire::uint24::U24;
 use tls_codec_wire::varint::TlsVarInt;
 use tls_codec_wire::vlen::{insert_bytes, insert_length};
@@ -56,7 +56,7 @@ fn a_variable_length_integer_has_its_least_bytes(rt: HostRuntime) -> Result<(), 
         let mut out = Vec::new(rt.alloc());
         same_at(&rt, number, write_varint(&mut out, n), Ok(bytes.len()));
         same_at(&rt, number, out.as_slice(), bytes);
-        same_at(&rt, number, least_width(number), bytes.len());
+        same_at(&rt, number, varint_width(number), bytes.len());
         let mut src = bytes;
         same_at(&rt, number, read_varint(&mut src), Ok(n));
         same_at(&rt, number, src.is_empty(), true);
@@ -67,8 +67,8 @@ fn a_variable_length_integer_has_its_least_bytes(rt: HostRuntime) -> Result<(), 
 
 #[test]
 fn no_width_holds_a_greater_number(rt: HostRuntime) {
-    same(&rt, least_width(TlsVarInt::MAX), 8);
-    same(&rt, least_width(TlsVarInt::MAX + 1), 0);
+    same(&rt, varint_width(TlsVarInt::MAX), 8);
+    same(&rt, varint_width(TlsVarInt::MAX + 1), 0);
 }
 
 // All bytes that the first one asks for are read before a width is rejected.

@@ -11,14 +11,14 @@ use std::alloc::Global;
 use tls_codec_wire::{Error, Sink, Source};
 
 /// The error for a value that isn't the one that its context asks for: it has no encoding there.
-pub fn misfit() -> Error
+pub fn does_not_fit() -> Error
     ensures { DoesNotFit result }
 {
     Error::EncodingError("value does not fit its context")
 }
 
 /// Whether a payload is there exactly if `there` says so. Another has no encoding.
-pub fn is_as_told<T: Size>(there: bool, value: &Option<T>) -> bool
+pub fn fits_condition<T: Size>(there: bool, value: &Option<T>) -> bool
     ensures fits { result ≡ (if there then is_some value.now else is_none value.now) }
     ensures unfit { result ≡ false
         → (d : Direction)
@@ -68,13 +68,13 @@ pub fn write_present<T: Serialize, W: Sink>(
     match value {
         None => {
             if there {
-                return Err(misfit());
+                return Err(does_not_fit());
             }
             Ok(0)
         }
         Some(payload) => {
             if !there {
-                return Err(misfit());
+                return Err(does_not_fit());
             }
             payload.tls_serialize(writer)
         }
@@ -96,13 +96,13 @@ pub fn append_present<T: Serialize>(
     match value {
         None => {
             if there {
-                return Err(misfit());
+                return Err(does_not_fit());
             }
             Ok(0)
         }
         Some(payload) => {
             if !there {
-                return Err(misfit());
+                return Err(does_not_fit());
             }
             payload.tls_serialize_into(out)
         }

@@ -7,7 +7,7 @@ ghost use Rattle.tls_codec_grammar.specs.Contexts.{present, present_format};
 ghost use Rattle.tls_codec_grammar.specs.laws.ContextLaws.{present_meets};
 
 use crate::context::present::{
-    append_present, is_as_told, present_len, read_present, split_present, write_present,
+    append_present, fits_condition, present_len, read_present, split_present, write_present,
 };
 use crate::context::traits::{DeserializeBytesFor, DeserializeFor, SerializeFor, SizeFor};
 use crate::traits::{Deserialize, DeserializeBytes, Serialize, Size};
@@ -52,7 +52,7 @@ impl<K, T: Size> When<K, T> {
             (option_plain T.plain self.now.value)
             → ⊥ }
     {
-        is_as_told(K::test(context), &self.value)
+        fits_condition(K::test(context), &self.value)
     }
 }
 
@@ -132,7 +132,7 @@ impl<'a, K, T: Size> ByRefWhen<'a, K, T> {
             (option_plain T.plain self.now.value.now)
             → ⊥ }
     {
-        is_as_told(K::test(context), self.value)
+        fits_condition(K::test(context), self.value)
     }
 }
 

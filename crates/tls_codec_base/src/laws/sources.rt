@@ -1,7 +1,7 @@
 //! What an error says of the bytes of a source, whether it reports those to come or not.
 ghost use Rattle.std.specs.Prelude.{◌≡◌, ℕ, List, None, Some};
 ghost use Rattle.tls_codec_wire.specs.declared.error.Error.{Error};
-ghost use Rattle.tls_codec_grammar.specs.Decoding.{LeavesSource, Named, RefusesSource};
+ghost use Rattle.tls_codec_grammar.specs.Decoding.{Named, RefusesFromSource, RefusesSeen};
 ghost use Rattle.tls_codec_grammar.specs.Tree.{Tree};
 ghost use Rattle.tls_codec_grammar.specs.Grammar.{Reading};
 ghost use Rattle.tls_codec_base.specs.Refusals.{SawSpelling};
@@ -16,15 +16,15 @@ use tls_codec_wire::Source;
 /// What is read to the end of a source is all that was to come, or all that was given.
 pub fn sources_are_refused_for_what_they_show<T: Deserialize, R: Source>()
     ensures told { (x : List ℕ) (old new : R) (e : Error) → R.coming old ≡ Some x
-        → LeavesSource T.format R.Source old new e
-        → RefusesSource T.format.spells T.format.lean x (R.counts old) (R.counts new) e }
+        → RefusesFromSource T.format R.Source old new e
+        → RefusesSeen T.format.spells T.format.lean x (R.counts old) (R.counts new) e }
     ensures told_names { (x : List ℕ) (old new : R) (e : Error) → R.coming old ≡ Some x
         → Named T.format T.names R.Source old new e
         → T.names x (R.counts old) (R.counts new) e }
     ensures untold { (old new : R) (e : Error) → ((s : R) → R.coming s ≡ None)
-        → LeavesSource T.format R.Source old new e
+        → RefusesFromSource T.format R.Source old new e
         → (x : List ℕ) × R.given old x new
-        × RefusesSource T.format.spells T.format.lean x (R.counts old) (R.counts new) e }
+        × RefusesSeen T.format.spells T.format.lean x (R.counts old) (R.counts new) e }
     ensures untold_names { (old new : R) (e : Error) → ((s : R) → R.coming s ≡ None)
         → Named T.format T.names R.Source old new e
         → (x : List ℕ) × R.given old x new × T.names x (R.counts old) (R.counts new) e }

@@ -8,7 +8,7 @@ use Rattle.tls_codec_grammar.specs.Shortest.{HasNoSpelling}
 use Rattle.tls_codec_grammar.specs.Announced.{capped}
 use Rattle.tls_codec_grammar.specs.Format.{Format}
 use Rattle.tls_codec_grammar.specs.Lawful.{MeetsLaws}
-use Rattle.tls_codec_grammar.specs.Tagged.{MeetVariantLaws, Variants}
+use Rattle.tls_codec_grammar.specs.Tagged.{MeetsVariantLaws, Variants}
 use Rattle.tls_codec_grammar.specs.Contexts.{DoesNotFit, chosen, chosen_format, chosen_length, chosen_refuses, present, present_format, present_length, present_refuses}
 
 -- ---- a payload that is there or not
@@ -74,7 +74,7 @@ present_meets there {payload} l = present_all payload l there
 
 -- ---- a select whose tag is elsewhere
 
-module _ (n : ℕ) (variants : Variants) (l : MeetVariantLaws variants) where
+module _ (n : ℕ) (variants : Variants) (l : MeetsVariantLaws variants) where
   chosen_one : (s t x y : List ℕ) (v w : Tree) → chosen n variants Reading s v → chosen n variants Reading t w
       → s ++ x ≡ t ++ y → (s ≡ t) × (v ≡ w)
   chosen_one s t x y (Join (Number i) vs) (Join (Number j) ws) p q e =
@@ -113,5 +113,5 @@ module _ (n : ℕ) (variants : Variants) (l : MeetVariantLaws variants) where
     outside = λ v p. absurd p;
   }
 
-pub chosen_meets : (n : ℕ) {variants : Variants} → MeetVariantLaws variants → MeetsLaws (chosen_format n variants)
+pub chosen_meets : (n : ℕ) {variants : Variants} → MeetsVariantLaws variants → MeetsLaws (chosen_format n variants)
 chosen_meets n {variants} l = chosen_all n variants l

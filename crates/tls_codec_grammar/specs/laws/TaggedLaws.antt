@@ -9,14 +9,14 @@ use Rattle.tls_codec_grammar.specs.Shortest.{HasNoSpelling}
 use Rattle.tls_codec_grammar.specs.Announced.{capped, fields_length}
 use Rattle.tls_codec_grammar.specs.Format.{Format}
 use Rattle.tls_codec_grammar.specs.Lawful.{IsLawful, MeetsLaws}
-use Rattle.tls_codec_grammar.specs.Tagged.{MeetVariantLaws, Variants, no_variant, either_format, variant, tagged, tagged_format, tagged_length, tagged_refuses}
+use Rattle.tls_codec_grammar.specs.Tagged.{MeetsVariantLaws, Variants, no_variant, either_format, variant, tagged, tagged_format, tagged_length, tagged_refuses}
 use Rattle.tls_codec_grammar.specs.laws.NumberLaws.{number_lawful}
 use Rattle.tls_codec_grammar.specs.laws.FieldsLaws.{fields_lawful}
 use Rattle.tls_codec_grammar.specs.laws.FormatLaws.{atom_meets}
 
 -- ---- variants
 
-pub no_variant_meets : MeetVariantLaws no_variant
+pub no_variant_meets : MeetsVariantLaws no_variant
 no_variant_meets = record {
   parts = λ tag. atom_meets (record {
     one = λ s t x y v w p q e. absurd p;
@@ -48,7 +48,7 @@ either_takes_memory true these those lean f h = these_take_memory these.lean lea
 either_takes_memory false these those lean f h = those_take_memory these.lean lean (f h)
 
 -- one citation for each variant
-pub variant_meets : (own : ℕ) {parts : Format} {others : Variants} → MeetsLaws parts → MeetVariantLaws others → MeetVariantLaws (variant own parts others)
+pub variant_meets : (own : ℕ) {parts : Format} {others : Variants} → MeetsLaws parts → MeetsVariantLaws others → MeetsVariantLaws (variant own parts others)
 variant_meets own {parts} {others} l m = record {
   parts = λ tag. either_meets (tag == own) parts (others.parts tag) l (m.parts tag);
   unknown = λ tag h d s v p. neither_spelled (tag == own) (others.has tag) parts (others.parts tag) d s v (λ e. m.unknown tag e d s v) h p;
@@ -57,7 +57,7 @@ variant_meets own {parts} {others} l m = record {
 
 -- ---- a tag and its parts
 
-module _ (k : ℕ) (small : k < 2 ^ 64) (variants : Variants) (l : MeetVariantLaws variants) where
+module _ (k : ℕ) (small : k < 2 ^ 64) (variants : Variants) (l : MeetsVariantLaws variants) where
   -- at one tag they are a product
   at_tag : (tag : ℕ) → IsLawful (fields (number k) (variants.parts tag).spells) (fields_length (λ v. k) (variants.parts tag).announced)
   at_tag tag = fields_lawful _ _ _ _ (number_lawful k small) (l.parts tag).spelled
@@ -100,5 +100,5 @@ module _ (k : ℕ) (small : k < 2 ^ 64) (variants : Variants) (l : MeetVariantLa
   }
 
 -- a choice meets the laws, if what comes after each tag does
-pub tagged_meets : (k : ℕ) {variants : Variants} → k < 2 ^ 64 → MeetVariantLaws variants → MeetsLaws (tagged_format k variants)
+pub tagged_meets : (k : ℕ) {variants : Variants} → k < 2 ^ 64 → MeetsVariantLaws variants → MeetsLaws (tagged_format k variants)
 tagged_meets k {variants} small l = tagged_all k small variants l

@@ -1,5 +1,5 @@
 //! Lengths of one to four bytes: `u8`, `u16`, `U24` and `u32` (RFC 8446, section 3.4).
-ghost use Rattle.std.specs.Prelude.{◌≡◌, ◌+◌, ◌<◌, ◌≤◌, ◌^◌, drop, length, MatchOption, IfErr, IfOk};
+ghost use Rattle.std.specs.Prelude.{◌≡◌, ◌+◌, ◌<◌, ◌≤◌, ◌^◌, drop, length, MatchOption, IfErr, IfOk, OnOk};
 ghost use Rattle.std.proofs.Common.{arith};
 ghost use Rattle.tls_codec_wire.specs.Counts.{OnlyInterrupted};
 ghost use Rattle.tls_codec_wire.specs.Device.{Gave};
@@ -162,7 +162,7 @@ fn read_field<R: Source, const K: usize>(src: &mut R) -> Result<[u8; K], Error>
     ensures bytes { IfOk result AreBytes }
     ensures refused { IfErr result
         (RefusedFor R.Source (NumberNotRead (RefusesDigits K)) src.old src.new) }
-    ensures retried { IfOk result (λ _. OnlyInterrupted (R.counts src.old) (R.counts src.new)) }
+    ensures retried { OnOk result (OnlyInterrupted (R.counts src.old) (R.counts src.new)) }
 {
     match read_digits(src) {
         Ok(digits) => Ok(digits),

@@ -29,7 +29,7 @@ pub fn write_length<F: LengthField, W: Sink>(
     ensures counts { NoneFell (W.counts sink.old) (W.counts sink.new) }
     ensures refused { IfErr result
         (LengthNotSent F.field content_length (W.counts sink.old) (W.counts sink.new)) }
-    ensures retried { IfOk result (λ _. OnlyInterrupted (W.counts sink.old) (W.counts sink.new)) }
+    ensures retried { OnOk result (OnlyInterrupted (W.counts sink.old) (W.counts sink.new)) }
     ensures out_of_bounds { (¬ F.field.holds content_length)
         → (result ≡ Err InvalidVectorLength) × (sink.new ≡ sink.old) }
 {

@@ -8,15 +8,15 @@ use mls::{
     AuthenticatedContent, FramedContent, MLSMessage, PrivateMessage, PublicMessage, Sender,
     SenderData,
 };
-use mls_leaf::{
-    Capabilities, Certificate, Credential, Extension, KeyPackage, LeafNode, LeafNodeHashInput,
-    Lifetime, Node, ParentNode, ParentNodeHashInput, RatchetTree, TreeHashInput,
-};
-use mls_proposals::{
+use mls_group::{
     Add, Commit, EncryptedGroupSecrets, ExternalInit, ExternalPub, ExternalSender, ExternalSenders,
     GroupContext, GroupContextExtensions, GroupInfo, GroupSecrets, HPKECiphertext, PathSecret,
     PreSharedKey, PreSharedKeyID, Proposal, ProposalOrRef, ReInit, Remove, RequiredCapabilities,
     Update, UpdatePath, UpdatePathNode, Welcome,
+};
+use mls_tree::{
+    Capabilities, Certificate, Credential, Extension, KeyPackage, LeafNode, LeafNodeHashInput,
+    Lifetime, Node, ParentNode, ParentNodeHashInput, RatchetTree, TreeHashInput,
 };
 
 /// The bytes after the message of this type that `bytes` begins with, or why there is none. `None`:

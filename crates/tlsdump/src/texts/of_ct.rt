@@ -1,7 +1,7 @@
-//! `ct.tls` and `ct.notes`, as tools/texts.py copies them.
+//! `ct.tls` and `ct.notes`, as tools/check_texts.py copies them.
 
 pub static TEXT: &str =
-    "// RFC 6962, sections 3.1 to 3.5, as it is printed, behind what it takes from RFC 5246 (ct.notes has what the RFCs say in prose). It was written down from memory.
+    "// Messages of Certificate Transparency (RFC 6962, sections 3.1 to 3.5), as printed. What they take from RFC 5246 comes first; ct.notes has what the RFCs say in prose. It was written down from memory.
 // ---- RFC 5246, section 4.7, Cryptographic Attributes
 struct {
 SignatureAndHashAlgorithm algorithm;

@@ -1,4 +1,4 @@
-//! `mls.tls` and `mls.notes`, as tools/texts.py copies them.
+//! `mls.tls` and `mls.notes`, as tools/check_texts.py copies them.
 
 pub static TEXT: &str =
     "// Messages of MLS (RFC 9420): framing. Definitions are in the order of the RFC's sections, under its names.

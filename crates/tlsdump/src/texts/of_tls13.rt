@@ -1,7 +1,7 @@
-//! `tls13.tls` and `tls13.notes`, as tools/texts.py copies them.
+//! `tls13.tls` and `tls13.notes`, as tools/check_texts.py copies them.
 
 pub static TEXT: &str =
-    "// RFC 8446, appendix B, as it is printed, but for B.4 (tls13.notes has what the RFC says in prose). It was written down from memory.
+    "// Messages of TLS 1.3 (RFC 8446, appendix B, but for B.4), as printed. tls13.notes has what the RFC says in prose. It was written down from memory.
 // ---- appendix B.1, Record Layer
 enum {
 invalid(0),

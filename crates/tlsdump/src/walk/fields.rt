@@ -1,6 +1,6 @@
 //! Fields of one value, and structs.
 
-use crate::walk::layouts::{Kind, value_name, width_of};
+use crate::walk::definitions::{Definition, value_name, width_of};
 use crate::walk::line::{Label, Shown, number_of};
 use crate::walk::opened::code_name;
 use crate::walk::scope::Known;
@@ -27,7 +27,7 @@ impl<'a> Walk<'a> {
             return Err(stop_at(place, at, expected, Found::Left(0)));
         };
         let number = number_of(tag);
-        self.judge(place, at, expected, Found::Number(number))?;
+        self.stop_if_rejected(place, at, expected, Found::Number(number))?;
         if number == 0 {
             return self.add(place, tag, Shown::Absent);
         }
@@ -40,8 +40,8 @@ impl<'a> Walk<'a> {
             label: Label::Field("value"),
             ..place
         };
-        match self.kind(of) {
-            Kind::Struct(one) => self.parts(one, within.depth),
+        match self.definition(of) {
+            Definition::Struct(one) => self.parts(one, within.depth),
             _ => self.typed(within, of, field.name.text.as_str(), Expected::Field(field)),
         }
     }
@@ -54,16 +54,22 @@ impl<'a> Walk<'a> {
         name: &'a str,
         expected: Expected<'a>,
     ) -> Result<(), Halt<'a>> {
-        match self.kind(of) {
-            Kind::Opaque => self.number(place, (of, name), 1, expected, Shown::Number),
-            Kind::Number(width) => self.number(place, (of, name), width, expected, Shown::Number),
-            Kind::Enum(one) => self.code(place, name, one),
-            Kind::Struct(one) => {
+        match self.definition(of) {
+            Definition::Opaque => self.number(place, (of, name), 1, expected, Shown::Number),
+            Definition::Number(width) => self.number(
+                place,
+                (of, name),
+                width,
+                expected,
+                Shown::Number,
+            ),
+            Definition::Enum(one) => self.code(place, name, one),
+            Definition::Struct(one) => {
                 self.add(place, &[], Shown::Struct(of))?;
                 self.parts(one, place.depth.saturating_add(1))
             }
-            Kind::Alias(field) => self.alias(place, of, name, field),
-            Kind::Nothing => Err(stop_at(place, self.at, expected, Found::Refused)),
+            Definition::Alias(field) => self.alias(place, (of, name), field, expected),
+            Definition::Unknown => Err(stop_at(place, self.at, expected, Found::Refused)),
         }
     }
 
@@ -71,19 +77,19 @@ impl<'a> Walk<'a> {
     fn alias(
         &mut self,
         place: Place<'a>,
-        of: &'a str,
-        name: &'a str,
-        field: &'a Field,
+        (of, name): (&'a str, &'a str),
+        alias: &'a Field,
+        expected: Expected<'a>,
     ) -> Result<(), Halt<'a>> {
-        if let (Vector::One, Kind::Number(width)) = (
-            &field.vector,
-            self.kind(field.of.text.as_str()),
+        if let (Vector::One, Definition::Number(width)) = (
+            &alias.vector,
+            self.definition(alias.of.text.as_str()),
         ) {
-            let expected = Expected::Type(of);
+            let expected = code_expected(of, expected);
             return self.number(place, (of, name), width, expected, Shown::Code(None));
         }
         let within = Place { owner: of, ..place };
-        self.tasks.push(Task::Field(within, field))?;
+        self.tasks.push(Task::Field(within, alias))?;
         Ok(())
     }
 
@@ -103,7 +109,7 @@ impl<'a> Walk<'a> {
         };
         let number = number_of(bytes);
         self.enclose(place, name, at, number, expected)?;
-        self.judge(place, at, expected, Found::Number(number))?;
+        self.stop_if_rejected(place, at, expected, Found::Number(number))?;
         self.scope.set(Known {
             owner: place.owner,
             field: name,
@@ -130,7 +136,7 @@ impl<'a> Walk<'a> {
         let Some(Task::Select(..)) = self.tasks.last() else {
             return Ok(());
         };
-        let Some(Said::Counts) = self.layouts.said(place.owner, name) else {
+        let Some(Said::Counts) = self.definitions.said(place.owner, name) else {
             return Ok(());
         };
         let count = number as usize;
@@ -161,7 +167,7 @@ impl<'a> Walk<'a> {
         };
         let number = number_of(bytes);
         let found = value_name(one, number);
-        self.judge(place, at, expected, Found::Number(number))?;
+        self.stop_if_rejected(place, at, expected, Found::Number(number))?;
         if found.is_none() && !one.is_open {
             return Err(stop_at(place, at, expected, Found::Number(number)));
         }
@@ -205,5 +211,13 @@ impl<'a> Walk<'a> {
         };
         self.tasks.push(task)?;
         Ok(())
+    }
+}
+
+// What is expected of a number with a type of its own: this type, or what its field always is.
+fn code_expected<'a>(of: &'a str, expected: Expected<'a>) -> Expected<'a> {
+    match expected {
+        Expected::Field(field) if field.constant.is_some() => expected,
+        _ => Expected::Type(of),
     }
 }

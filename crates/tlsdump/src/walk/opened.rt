@@ -72,7 +72,7 @@ pub(crate) fn role_of(of: &str) -> Option<(&'static str, u64)> {
         "ServerHello" => Some(("server_hello", 2)),
         "NewSessionTicket" => Some(("new_session_ticket", 4)),
         "EncryptedExtensions" => Some(("encrypted_extensions", 8)),
-        "CertificateEntry" => Some(("certificate", 11)),
+        "Certificate" | "CertificateEntry" => Some(("certificate", 11)),
         "CertificateRequest" => Some(("certificate_request", 13)),
         _ => None,
     }

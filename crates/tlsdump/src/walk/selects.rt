@@ -39,7 +39,7 @@ impl<'a> Walk<'a> {
         if let Some(known) = self.scope.last(field) {
             return Some(known);
         }
-        match self.layouts.said(owner, field) {
+        match self.definitions.said(owner, field) {
             Some(Said::Named(name)) => Some(Known {
                 owner: "",
                 field,

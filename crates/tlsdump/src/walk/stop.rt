@@ -49,7 +49,7 @@ pub enum Found {
     Spelling,
     /// A number.
     Number(u64),
-    /// Bytes that the decoder rejects, and the walk doesn't.
+    /// What the decoder rejects, and the walk doesn't: a field, or all that begins with it.
     Refused,
 }
 

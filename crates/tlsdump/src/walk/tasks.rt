@@ -13,6 +13,7 @@ pub(crate) struct Place<'a> {
     pub depth: usize,
 }
 
+/// A step that is still to come.
 #[derive(Clone, Copy)]
 pub(crate) enum Task<'a> {
     /// A field, as it is declared.

@@ -1,6 +1,6 @@
 //! Vectors, and what they hold.
 
-use crate::walk::layouts::{Kind, bytes_for};
+use crate::walk::definitions::{Definition, bytes_for};
 use crate::walk::line::{Label, Line, Shown, number_of};
 use crate::walk::opened::{code_name, content_of};
 use crate::walk::stop::{Expected, Found, Halt};
@@ -47,7 +47,7 @@ impl<'a> Walk<'a> {
 
     // A content with as many bytes as an earlier field says, or as are left.
     fn counted(&self, place: Place<'a>, field: &'a Field, path: &'a [Name]) -> Length<'a> {
-        let said = self.layouts.said(place.owner, field.name.text.as_str());
+        let said = self.definitions.said(place.owner, field.name.text.as_str());
         if let Some(Said::Fills | Said::Pads) = said {
             return self.no_length(self.rest.len());
         }
@@ -132,11 +132,11 @@ impl<'a> Walk<'a> {
             return Err(stop_at(place, length.at, expected, found));
         };
         if length.width > 0 || length.count > 0 {
-            self.judge(place, length.at, expected, Found::Refused)?;
+            self.stop_if_rejected(place, length.at, expected, Found::Refused)?;
         }
         let are_bytes = matches!(
-            self.kind(field.of.text.as_str()),
-            Kind::Opaque | Kind::Number(1)
+            self.definition(field.of.text.as_str()),
+            Definition::Opaque | Definition::Number(1)
         );
         if are_bytes && !field.is_optional {
             return self.bytes(place, field, length, content, after);
@@ -182,6 +182,20 @@ impl<'a> Walk<'a> {
             };
             return self.add(place, whole, shown);
         };
+        self.push_opening(place, of, length, whole, after)?;
+        self.rest = content;
+        self.inside(place, of)
+    }
+
+    // Opens bytes of this type: a walk that stops in them goes on after them.
+    fn push_opening(
+        &mut self,
+        place: Place<'a>,
+        of: &'a str,
+        length: Length<'a>,
+        whole: &'a [u8],
+        after: &'a [u8],
+    ) -> Result<(), Halt<'a>> {
         self.openings.push(Opening {
             line: self.lines.len(),
             closed: Line {
@@ -201,19 +215,18 @@ impl<'a> Walk<'a> {
             is_opened: true,
         };
         self.tasks.push(Task::Leave(place, leave))?;
-        self.rest = content;
-        self.opened(place, of)
+        Ok(())
     }
 
-    // What was opened: a struct's fields, or one value.
-    fn opened(&mut self, place: Place<'a>, of: &'a str) -> Result<(), Halt<'a>> {
+    // What is in opened bytes: a struct's fields, or one value.
+    fn inside(&mut self, place: Place<'a>, of: &'a str) -> Result<(), Halt<'a>> {
         let within = Place {
             owner: of,
             label: Label::Field("value"),
             depth: place.depth.saturating_add(1),
         };
-        match self.kind(of) {
-            Kind::Struct(one) => self.parts(one, within.depth),
+        match self.definition(of) {
+            Definition::Struct(one) => self.parts(one, within.depth),
             _ => self.typed(within, of, "", Expected::Type(of)),
         }
     }

@@ -353,7 +353,7 @@ abbrev pub $module$_variants : Variants
 $module$_variants =
 $formats$$closing$
 
-pub $module$_variants_meet : MeetVariantLaws $module$_variants
+pub $module$_variants_meet : MeetsVariantLaws $module$_variants
 $module$_variants_meet =
 $laws$$closing$
 ";

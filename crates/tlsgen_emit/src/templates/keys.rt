@@ -47,11 +47,11 @@ impl TagFirst for $name$ {
 
     ghost variants = { $module$_variants };
 
-    ghost told = { λ c. ⟦<$key$ as Selector>⟧.selected ($held$ c) };
+    ghost first_tag = { λ c. ⟦<$key$ as Selector>⟧.selected ($held$ c) };
 
     ghost is_tagged = { λ d bytes v spelled. spelled };
 
-    ghost is_told = { λ d bytes tag parts spelled. refl };
+    ghost is_first_tag = { λ d bytes tag parts spelled. refl };
 }
 
 impl ValidateKeyed for $name$ {

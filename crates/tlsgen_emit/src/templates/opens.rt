@@ -172,8 +172,8 @@ impl Parted for $name$ {
     ghost as_parts = { λ bytes is. is };
 }
 
-impl Told for $name$ {
-    fn told(encoded: &Encoded<'_, $name$>) -> $name$ {
+impl ReadInPlace for $name$ {
+    fn read(encoded: &Encoded<'_, $name$>) -> $name$ {
         $name$(encoded.parts().get())
     }
 }

@@ -49,11 +49,11 @@ impl TagFirst for $name$ {
 
     ghost variants = { values $module$_has };
 
-    ghost told = { $module$_selected };
+    ghost first_tag = { $module$_selected };
 
     ghost is_tagged = { λ d bytes v spelled. spelled };
 
-    ghost is_told = { λ d bytes tag parts spelled. refl };
+    ghost is_first_tag = { λ d bytes tag parts spelled. refl };
 }
 
 impl ValidateKeyed for $name$ {

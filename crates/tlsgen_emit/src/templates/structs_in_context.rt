@@ -28,6 +28,20 @@ pub static MANY: [(&str, &str); 2] = [
     ("adds", "append_as_for(self, &$borrowed$, $by$, out)"),
 ];
 
+/// The parts of one.
+pub static PARTED: [(&str, &str); 1] = [("parted", PARTS)];
+
+/// One that has none.
+pub static NOT_PARTED: [(&str, &str); 1] = [("parted", "")];
+
+const PARTS: &str = "
+impl PartedFor<$key$> for $name$ {
+    type Parts = $read$;
+
+    ghost as_parts = { λ c bytes is. is };
+}
+";
+
 const GHOST_USES: &str =
     "ghost use Rattle.$crate$.specs.$name$.{$module$_format_for, $module$_meets_for, $module$_plain};
 ghost use Rattle.$crate$.specs.declared.$module$.$name$.{$name$};
@@ -89,7 +103,7 @@ impl ValidateFor<$key$> for $name$ {
         <$read$ as ValidateFor<$key$>>::tls_validate_prefix_for(key, whole)
     }
 }
-";
+$parted$";
 
 const SPECS: &str = "abbrev pub $module$_plain : $name$ → Tree
 $module$_plain v =$gap$$plain$

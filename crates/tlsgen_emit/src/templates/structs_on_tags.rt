@@ -198,6 +198,12 @@ impl Validate for $name$ {
         <Parts>::tls_validate_prefix(whole)
     }
 }
+
+impl Parted for $name$ {
+    type Parts = Parts;
+
+    ghost as_parts = { λ bytes is. is };
+}
 ";
 
 const SPECS: &str = "abbrev pub $module$_plain : $name$ → Tree

@@ -225,7 +225,7 @@ impl Validate for $name$ {
 $view$";
 
 const CHOSEN_GHOST_USES: &str =
-    "ghost use Rattle.$crate$.specs.$name$.{$module$_format_for, $module$_meets_for, $module$_plain, $module$_tag};
+    "ghost use Rattle.$crate$.specs.$name$.{$module$_format_for, $module$_meets_for, $module$_plain, $module$_tag$variants_taken$};
 ghost use Rattle.$crate$.specs.declared.$module$.$name$.{$name$};
 ";
 
@@ -283,6 +283,12 @@ impl ValidateFor<$key$> for $name$ {
     fn tls_validate_prefix_for<'a>(key: &u64, whole: &'a [u8]) -> Result<&'a [u8], Rejected<'a>> {
         <Cases as ValidateFor<$key$>>::tls_validate_prefix_for(key, whole)
     }
+}
+
+impl ChoiceFor<$key$> for $name$ {
+    ghost variants = { $module$_variants };
+
+    ghost as_choice = { λ c bytes is. is };
 }
 ";
 

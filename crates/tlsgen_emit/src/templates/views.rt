@@ -13,14 +13,26 @@ ghost use Rattle.$crate$.specs.declared.$module$.$view_name$.{$view_name$};
     ),
 ];
 
+/// A select whose tag is elsewhere: what its clauses take.
+pub static OF_SELECT: [(&str, &str); 3] = [
+    ("variants_taken", ", $module$_variants"),
+    ("view_use", ""),
+    ("view", ""),
+];
+
 /// One without a view.
 pub static NONE: [(&str, &str); 3] = [("variants_taken", ""), ("view_use", ""), ("view", "")];
+
+/// The parts of a struct: what it is read as, or that in a `Box`.
+pub static AS_READ: [(&str, &str); 1] = [("parted", "$read$")];
+
+pub static IN_BOX: [(&str, &str); 1] = [("parted", "Box<$read$>")];
 
 pub static OF_FIELDS: [(&str, &str); 1] = [("view", FIELDS)];
 
 const FIELDS: &str = "
 impl Parted for $name$ {
-    type Parts = $read$;
+    type Parts = $parted$;
 
     ghost as_parts = { λ bytes is. is };
 }
@@ -101,7 +113,9 @@ $view_splits$                $view_name$::$variant$ { $fields$ }
             }
 ",
         bare: Some("            $number$ => $view_name$::$variant$,\n"),
-        one: Some("            $number$ => $view_name$::$variant$(Encoded::alone(parts)),\n"),
+        one: Some(
+            "            $number$ => $view_name$::$variant$(Encoded::from_only_part(parts)),\n",
+        ),
         behind: "",
         alone: None,
     },
@@ -132,7 +146,7 @@ pub static AFTER_TAG: [Lines; 3] = [
     Lines {
         hole: "view_arms",
         before: "",
-        each: "            $number$ => $view_name$::$variant$(Encoded::known(parts)),\n",
+        each: "            $number$ => $view_name$::$variant$(Encoded::from_proved(parts)),\n",
         bare: None,
         one: None,
         behind: "",
@@ -152,8 +166,8 @@ impl Numbered for $name$ {
     ghost as_values = { λ bytes is. is };
 }
 
-impl Told for $name$ {
-    fn told(encoded: &Encoded<'_, $name$>) -> $name$ {
+impl ReadInPlace for $name$ {
+    fn read(encoded: &Encoded<'_, $name$>) -> $name$ {
         match encoded.number() {
 ",
     each: "            $number$ => $name$::$variant$,\n",

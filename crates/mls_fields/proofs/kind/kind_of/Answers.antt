@@ -3,7 +3,7 @@ use Rattle.tls_codec.specs.OwnMessages.{fields_format, nothing_format, number_fo
 use Rattle.tls_codec_outcome.specs.Fields.{BeginsAt, IsTagAt}
 use Rattle.tls_codec_outcome.proofs.FieldPlaces.{first_begins}
 use Rattle.tls_codec_outcome.proofs.Tags.{tag_of_second}
-use Rattle.mls_proposals.specs.ProtocolVersionMls10.{protocol_version_mls10_format, protocol_version_mls10_meets}
+use Rattle.mls_group.specs.ProtocolVersionMls10.{protocol_version_mls10_format, protocol_version_mls10_meets}
 use Rattle.mls.specs.WireFormatData.{wire_format_data_format, wire_format_data_variants}
 use Rattle.mls_fields.proofs.kind.kind_of.Goals as goal
 

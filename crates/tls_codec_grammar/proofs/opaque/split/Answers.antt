@@ -11,7 +11,7 @@ returns-in_err-length-clause-splits g c =
 
 pub returns-then-rest-length-clause-splits : goal.returns-then-rest-length-clause-splits
 returns-then-rest-length-clause-splits g c =
-    cut_off_refused g.met.F.LengthField.lawful (record { declared = _; behind = _; begins = c.in_ok-length.ensures.ok; short = c.if-rest-length.true }) c.cut_off.ensures
+    cut_off_refused g.met.F.LengthField.lawful (record { declared = _; rest = _; begins = c.in_ok-length.ensures.ok; short = c.if-rest-length.true }) c.cut_off.ensures
 
 pub returns-clause-splits : goal.returns-clause-splits
 returns-clause-splits g c =

@@ -3,7 +3,7 @@ use Rattle.std.proofs.lemmas.Result.{err_from_is_err_and}
 use Rattle.tls_codec_wire.proofs.Given.{gave_then}
 use Rattle.tls_codec_wire.proofs.Refused.{refused_later, refused_now, refused_so}
 use Rattle.tls_codec_wire.proofs.VarintReads.{digits_read, no_first_byte, not_admitted, one_byte, spells_below, too_few_digits}
-use Rattle.tls_codec_wire.specs.Counts.{only_interrupted_grows, only_interrupted_trans}
+use Rattle.tls_codec_wire.specs.Counts.{only_interrupted_none_fell, only_interrupted_trans}
 use Rattle.tls_codec_wire.proofs.varint_bits.read_below.Goals as goal
 
 pub returns-in_err-read_few-clause-gave : goal.returns-in_err-read_few-clause-gave
@@ -56,7 +56,7 @@ returns-in_err-read_few-clause-refused g c =
     let p = err_from_is_err_and c.from_residual-in_err-read_few.result c.from_residual-in_err-read_few.ensures.1 in
     let first = c.read_exactly.new.into in
     let one : length first ≡ 1 = search rules in
-    let fell = only_interrupted_grows c.in_ok-read_exactly.ensures.retried in
+    let fell = only_interrupted_none_fell c.in_ok-read_exactly.ensures.retried in
     let held = subst (λ (u : List ℕ). g.R.Source.given c.args.src.now u c.read_exactly.new.src) (one_byte first one) c.in_ok-read_exactly.ensures.filled in
     rw (p.1, p.2) (refused_later (get_or first 0 0 ∷ []) source.gives_in_order held (too_few_digits _ c.said_by-more.ensures (length-take-le c.said_by-more.result.0 (0 ∷ 0 ∷ 0 ∷ 0 ∷ 0 ∷ 0 ∷ 0 ∷ []) (omega (arith, c.said_by-more.ensures.few))) _ _ _ _ fell) c.in_err-read_few.ensures.refused)
 

@@ -2,7 +2,7 @@ use Rattle.std.proofs.Common.{◌≡◌, ◌∙◌, ℕ, List, ◌++◌, None, R
 use Rattle.std.specs.Prelude.{IfErr}
 use Rattle.tls_codec.specs.Calls.{Error, Reads, SourceGhosts}
 use Rattle.tls_codec.specs.Devices.{Counts, GivesInOrder, no_counts}
-use Rattle.tls_codec.specs.Spellings.{Refuses, RefusesSource}
+use Rattle.tls_codec.specs.Spellings.{Refuses, RefusesSeen}
 use Rattle.tls_codec_grammar.specs.Format.{Format}
 use Rattle.tls_codec_grammar.specs.Tree.{Tree}
 use Rattle.tls_codec.proofs.Refused.{seen_untold}
@@ -15,8 +15,8 @@ module _ {T S : Type 0} (f : Format) (plain : T → Tree) (source : SourceGhosts
   as_slice (Ok v) p = tt
   as_slice (Err e) p =
       let x = p.refused.bytes in
-      let before = subst (λ (u : Counts). RefusesSource f.spells f.lean x u (source.counts new) e) (none old) p.refused.cause in
-      (x, seen_untold order never p.refused.seen, slice_refuses f.spells f.lean x e (subst (λ (u : Counts). RefusesSource f.spells f.lean x no_counts u e) (none new) before))
+      let before = subst (λ (u : Counts). RefusesSeen f.spells f.lean x u (source.counts new) e) (none old) p.refused.cause in
+      (x, seen_untold order never p.refused.seen, slice_refuses f.spells f.lean x e (subst (λ (u : Counts). RefusesSeen f.spells f.lean x no_counts u e) (none new) before))
 
 pub returns : goal.returns
 returns g c = as_slice g.T.Size.format g.T.Size.plain _ _ _ (λ a xs b ys c p q. p ∙ ap (λ (u : List ℕ). xs ++ u) q ∙ sym (append_assoc xs ys c.left.now)) (λ s. refl) (λ s. refl) c.tls_deserialize.result c.tls_deserialize.ensures.reads

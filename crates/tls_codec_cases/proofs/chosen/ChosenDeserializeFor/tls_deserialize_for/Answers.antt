@@ -2,7 +2,7 @@ use Rattle.std.proofs.Common.{rules, ◌≡◌, true, false}
 use Rattle.std.proofs.lemmas.Bool.{not-false, not-true}
 use Rattle.std.proofs.lemmas.Result.{err_from_is_err_and}
 use Rattle.tls_codec_base.proofs.Chosen.{chosen_leaves, chosen_named}
-use Rattle.tls_codec_cases.proofs.Told.{refused_leaves, refused_named}
+use Rattle.tls_codec_cases.proofs.Ambiguous.{refused_leaves, refused_named}
 use Rattle.tls_codec_cases.proofs.chosen.ChosenDeserializeFor.tls_deserialize_for.Goals as goal
 
 pub returns-then-not-are_distinct-clause-reads : goal.returns-then-not-are_distinct-clause-reads

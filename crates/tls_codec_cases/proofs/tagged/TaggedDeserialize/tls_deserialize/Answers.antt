@@ -2,17 +2,17 @@ use Rattle.std.proofs.Common.{rules, ◌≡◌, ◌&&◌, true, false, refl}
 use Rattle.std.proofs.lemmas.Bool.{not-false, not-true}
 use Rattle.tls_codec_grammar.specs.laws.FormatLaws.{number_meets}
 use Rattle.tls_codec_base.proofs.TaggedDecoding.{tag_named_source, tag_reads, tagged_given, tagged_named_source, tagged_reads}
-use Rattle.tls_codec_cases.proofs.Told.{refused_leaves, refused_named}
+use Rattle.tls_codec_cases.proofs.Ambiguous.{refused_leaves, refused_named}
 use Rattle.tls_codec_cases.proofs.tagged.TaggedDeserialize.tls_deserialize.Goals as goal
 
-pub returns-then-not-are_told-clause-reads : goal.returns-then-not-are_told-clause-reads
-returns-then-not-are_told-clause-reads g c =
+pub returns-then-not-tags_are_valid-clause-reads : goal.returns-then-not-tags_are_valid-clause-reads
+returns-then-not-tags_are_valid-clause-reads g c =
     let told : (g.C.Cases.distinct && g.C.Cases.within g.T.Tag.most) ≡ false = search (rules, not-true) in
     let is = c.unknown_value.ensures in
     rw told (rw is (refused_leaves g.met.R.Source.gives_nothing))
 
-pub returns-then-not-are_told-clause-named : goal.returns-then-not-are_told-clause-named
-returns-then-not-are_told-clause-named g c =
+pub returns-then-not-tags_are_valid-clause-named : goal.returns-then-not-tags_are_valid-clause-named
+returns-then-not-tags_are_valid-clause-named g c =
     let told : (g.C.Cases.distinct && g.C.Cases.within g.T.Tag.most) ≡ false = search (rules, not-true) in
     let is = c.unknown_value.ensures in
     rw told (rw is (refused_named g.met.R.Source.gives_nothing))

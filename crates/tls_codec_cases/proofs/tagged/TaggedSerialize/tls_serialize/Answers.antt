@@ -1,11 +1,11 @@
 use Rattle.std.proofs.Common.{rules, ◌≡◌, ◌&&◌, true, false}
 use Rattle.std.proofs.lemmas.Bool.{not-false, not-true}
 use Rattle.tls_codec_base.proofs.TaggedEncoding.{tagged_writes}
-use Rattle.tls_codec_cases.proofs.Told.{refused_breaks}
+use Rattle.tls_codec_cases.proofs.Ambiguous.{refused_breaks}
 use Rattle.tls_codec_cases.proofs.tagged.TaggedSerialize.tls_serialize.Goals as goal
 
-pub returns-then-not-are_told-clause-writes : goal.returns-then-not-are_told-clause-writes
-returns-then-not-are_told-clause-writes g c =
+pub returns-then-not-tags_are_valid-clause-writes : goal.returns-then-not-tags_are_valid-clause-writes
+returns-then-not-tags_are_valid-clause-writes g c =
     let told : (g.C.Cases.distinct && g.C.Cases.within g.T.Tag.most) ≡ false = search (rules, not-true) in
     let is = c.unknown_value.ensures in
     rw told (rw is (refused_breaks _ _ _))

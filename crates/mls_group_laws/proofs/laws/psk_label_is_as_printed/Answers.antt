@@ -1,0 +1,10 @@
+use Rattle.tls_presentation.specs.Meaning.{same_bytes}
+use Rattle.mls_group.specs.PSKLabel.{psk_label_format}
+use Rattle.mls_group_laws.proofs.Sayings.{psk_label_saying}
+use Rattle.mls_group_laws.proofs.laws.psk_label_is_as_printed.Goals as goal
+
+pub returns-clause-bytes : goal.returns-clause-bytes
+returns-clause-bytes c = λ u. same_bytes psk_label_format
+
+pub returns-clause-values : goal.returns-clause-values
+returns-clause-values c = psk_label_saying

@@ -1,9 +1,0 @@
-use Rattle.tls_codec.specs.OwnMessages.{u16_meets}
-use Rattle.tls_codec.proofs.OwnMessages.{value_writes}
-use Rattle.mls_proposals.specs.ProtocolVersionMls10.{protocol_version_mls10_has, protocol_version_mls10_known}
-use Rattle.mls_proposals.proofs.protocol_version_mls10.ProtocolVersionMls10Serialize.tls_serialize.Goals as goal
-
-pub returns-clause-writes : goal.returns-clause-writes
-returns-clause-writes g c =
-    value_writes protocol_version_mls10_has u16_meets (protocol_version_mls10_known c.args.self.now) c.code.ensures _ _ _ _
-    c.tls_serialize.ensures.writes

@@ -1,0 +1,56 @@
+//! Messages of MLS (RFC 9420): credentials, leaf nodes, key packages and the tree. Written by `tlsgen`.
+#![tactic(auto)]
+
+pub mod capabilities;
+pub mod certificate;
+pub mod cipher_suite;
+pub mod credential;
+pub mod credential_type;
+pub mod encrypt_context;
+pub mod extension;
+pub mod extension_type;
+pub mod key_package;
+pub mod key_package_tbs;
+pub mod leaf_node;
+pub mod leaf_node_hash_input;
+pub mod leaf_node_origin;
+pub mod leaf_node_tbs;
+pub mod leaf_node_tbs_origin;
+pub mod lifetime;
+pub mod names;
+pub mod node;
+pub mod parent_hash_input;
+pub mod parent_node;
+pub mod parent_node_hash_input;
+pub mod proposal_type;
+pub mod protocol_version;
+pub mod ratchet_tree;
+pub mod sign_content;
+pub mod tree_hash_input;
+
+pub use capabilities::{Capabilities, CapabilitiesView};
+pub use certificate::{Certificate, CertificateView};
+pub use cipher_suite::CipherSuite;
+pub use credential::{Credential, CredentialView};
+pub use credential_type::CredentialType;
+pub use encrypt_context::EncryptContext;
+pub use extension::{Extension, ExtensionView};
+pub use extension_type::ExtensionType;
+pub use key_package::{KeyPackage, KeyPackageView};
+pub use key_package_tbs::KeyPackageTBS;
+pub use leaf_node::{LeafNode, LeafNodeView};
+pub use leaf_node_hash_input::{LeafNodeHashInput, LeafNodeHashInputView};
+pub use leaf_node_origin::{LeafNodeOrigin, LeafNodeOriginView};
+pub use leaf_node_tbs::LeafNodeTBS;
+pub use leaf_node_tbs_origin::LeafNodeTBSOrigin;
+pub use lifetime::{Lifetime, LifetimeView};
+pub use names::{HPKEPublicKey, SignaturePublicKey};
+pub use node::{Node, NodeView};
+pub use parent_hash_input::ParentHashInput;
+pub use parent_node::{ParentNode, ParentNodeView};
+pub use parent_node_hash_input::{ParentNodeHashInput, ParentNodeHashInputView};
+pub use proposal_type::ProposalType;
+pub use protocol_version::ProtocolVersion;
+pub use ratchet_tree::{RatchetTree, RatchetTreeView};
+pub use sign_content::SignContent;
+pub use tree_hash_input::{TreeHashInput, TreeHashInputView};

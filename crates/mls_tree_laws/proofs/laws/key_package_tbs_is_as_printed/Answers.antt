@@ -1,0 +1,10 @@
+use Rattle.tls_presentation.specs.Meaning.{same_bytes}
+use Rattle.mls_tree.specs.KeyPackageTBS.{key_package_tbs_format}
+use Rattle.mls_tree_laws.proofs.Sayings.{key_package_tbs_saying}
+use Rattle.mls_tree_laws.proofs.laws.key_package_tbs_is_as_printed.Goals as goal
+
+pub returns-clause-bytes : goal.returns-clause-bytes
+returns-clause-bytes c = λ u. same_bytes key_package_tbs_format
+
+pub returns-clause-values : goal.returns-clause-values
+returns-clause-values c = key_package_tbs_saying
