@@ -2,6 +2,7 @@
 """signed.py OBJECT FILE: what is written to be signed, for each row of c/tests/signed.tsv, by the module tls_codec. The status is 1 if a row differs."""
 import sys
 
+sys.dont_write_bytecode = True
 from tls_codec import STATUSES, Codec, Rejected
 
 

@@ -6,7 +6,8 @@ The decoders need libmls_check_c.a, libtls13_check_c.a and libtls_codec_heap.a i
 
     codec = Codec("./libtls_codec.so")
     message, rest = codec.split("mls_key_package", data)
-    fields = codec.fields("mls_welcome", ["cipher_suite", "secrets", "encrypted_group_info"], data)
+    extensions = codec.fields("mls_key_package", message)["extensions"]
+    content = codec.fields("tls_codec_opaque_v", extensions)["content"]
     for extension in codec.elements("mls_extension", content): ...
 
 docs/CALLERS.md says what is proved and what is trusted.
@@ -16,10 +17,7 @@ from __future__ import annotations
 import ctypes
 from collections.abc import Iterator
 
-STATUSES = [
-    "Accepted", "EncodingError", "InvalidVectorLength", "InvalidWriteLength", "InvalidInput", "DecodingError", "EndOfStream",
-    "TrailingData", "UnknownValue", "LibraryError", "OutOfMemory",
-]
+from tls_codec_exports import FIELDS, STATUSES
 
 
 class Outcome(ctypes.Structure):
@@ -70,9 +68,10 @@ class Codec:
         outcome = self.accepted(f"{message}_validate", data)
         return data[: outcome.taken], data[outcome.taken :]
 
-    def fields(self, message: str, names: list[str], data: bytes) -> dict[str, bytes]:
-        """The first fields of the message that the bytes begin with, by the names that its struct has in the headers, in that order."""
-        spans = (Span * 16)()  # room for any struct
+    def fields(self, message: str, data: bytes) -> dict[str, bytes]:
+        """The fields of the message that the bytes begin with, by the names that its struct has in the headers, in that order."""
+        names = FIELDS[message]
+        spans = (Span * len(names))()
         self.accepted(f"{message}_locate", data, spans)
         return {name: span.of(data) for name, span in zip(names, spans)}
 

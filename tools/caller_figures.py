@@ -1,7 +1,7 @@
 #!/usr/bin/env python3
 """caller_figures.py [ARCHIVES [BENCH]]: the figures of docs/CALLERS.md, of the archives in a folder, c/out if none is given.
 
-The size of each archive; how much stack calls touch at most, over the rows that tools/callers has; and by `valgrind --tool=callgrind` the
+The size of each archive; how much stack calls touch at most, over the rows that tools/test_callers has; and by `valgrind --tool=callgrind` the
 instructions of `NAME_validate` from C on the key package and the private message of tls_codec_bench. With BENCH, the built program of that
 crate, those of `tls_validate_prefix` in Rattle too, which takes a minute.
 """
@@ -16,9 +16,8 @@ import tempfile
 sys.dont_write_bytecode = True
 import exports
 import instructions
-from libraries import CRATES, TOP
+from libraries import CRATES, ROWS, TOP
 
-ROWS = [CRATES / "test_outcome" / "stdout", TOP / "c" / "tests" / "tls13.tsv"]
 TIMED = {"mls_key_package": ("KEY_PACKAGE", "KeyPackage"), "mls_private_message": ("PRIVATE_MESSAGE", "PrivateMessage")}
 
 

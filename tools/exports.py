@@ -1,24 +1,28 @@
 #!/usr/bin/env python3
-"""exports.py [--write]: compares what callers in C and Rust declare with what the static libraries export, or writes it.
+"""exports.py [--write]: compares what callers in C, Rust and Python declare with what the static libraries export, or writes it.
 
-Each static library of crates.txt is read, each function that it exports, and of `tls_codec_outcome` the struct and the numbers of
-the errors. By these are written: c/include/tls_codec/*.h, c/tests/exports.inc and rust/src/exports.rs. The last line is
-'N passed, N failed', a file each, and the status is 1 if one failed.
+Each static library of crates.txt is read, each function that it exports, of `tls_codec_outcome` the struct and the numbers of the errors, and
+of `tls_codec_wire` what its errors mean. By these are written: c/include/tls_codec/*.h, c/tests/exports.inc, rust/src/exports.rs and
+python/tls_codec_exports.py. The last line is 'N passed, N failed', a file each, and the status is 1 if one failed.
 """
 from __future__ import annotations
 
 import functools
+import json
 import pathlib
 import re
 import sys
 from dataclasses import dataclass
 
-TOP = pathlib.Path(__file__).resolve().parent.parent
+sys.dont_write_bytecode = True
+from libraries import TOP, Libraries
+
 WRITTEN = "Written by tools/exports.py"
 EXPORT = re.compile(r'((?:^///.*\n)+)#\[unsafe\(no_mangle\)\]\npub extern "C" fn (\w+)\(([^)]*)\) -> (\w+)', re.M)
 STRUCT = re.compile(r"((?:^///.*\n)+)#\[repr\(C\)\]\n(?:#.*\n)*pub struct (\w+) \{\n((?:    .*\n)*)\}", re.M)
 FIELD = re.compile(r"((?:^    ///.*\n)+)    pub (\w+): (\w+),", re.M)
 NUMBER = re.compile(r"^        Error::(\w+)(\(_\))? => (\d+),$", re.M)
+VARIANT = re.compile(r"((?:^    ///.*\n)+)    (\w+)(?:\(.*\))?,$", re.M)
 C = {"u16": "uint16_t", "u32": "uint32_t", "u64": "uint64_t", "usize": "size_t"}
 # The libraries whose structs cross, and what their names begin with in C.
 STRUCTS = {"tls_codec_outcome": "tls_codec", "mls_fields": "mls", "tls13_fields": "tls13"}
@@ -27,6 +31,13 @@ SAFE = "the pointer and the length are of one slice, nothing changes it during t
 # What a call does, in C, by the end of its name; and what is put before its text in the source, or in place of the words there.
 ASKED = {"_validate": ": whether the bytes begin with one.", "_check": ": whether the bytes begin with one, by the decoder."}
 FOUND = re.compile(r"(its fields are|its content is)\.")
+NEXT = (
+    " Before the first call `left` is the place of all elements in `bytes`: offset 0 and size `length`, if `bytes` are the list without its length."
+    " The element's place is put into `element`, and `at` counts from the first byte of `left`. If the element is rejected, neither `left` nor"
+    " `element` changes."
+)
+# How many bytes an encoder writes beside its parts: of a FramedContentTBS the version and the wire format.
+BESIDE = {"mls_framed_content_tbs_encode": 4}
 
 
 class Unread(Exception):
@@ -44,7 +55,10 @@ class Export:
 
     def in_c(self) -> str:
         """What the call does, as a header says it."""
-        asked = ASKED.get("_" + self.name.rpartition("_")[2])
+        call = "_" + self.name.rpartition("_")[2]
+        if call == "_next":
+            return self.text + NEXT
+        asked = ASKED.get(call)
         return self.text.removesuffix(".") + asked if asked else FOUND.sub(r"\1, if the bytes begin with one.", self.text)
 
     def message(self) -> str:
@@ -130,9 +144,10 @@ def words_of(text: str) -> str:
     return " ".join(it.strip().removeprefix("///").strip() for it in text.strip().splitlines())
 
 
+@functools.cache
 def libraries() -> list[str]:
     """The static libraries of crates.txt."""
-    return re.findall(r"^(\w+) staticlib:", (TOP / "crates.txt").read_text(encoding="utf-8"), re.M)
+    return Libraries().static
 
 
 def decoders() -> list[str]:
@@ -169,6 +184,16 @@ def numbers() -> list[tuple[str, bool, int]]:
     return found
 
 
+@functools.cache
+def meanings() -> dict[str, str]:
+    """What the library says of each of its errors, and what the status of no error means."""
+    found = {name: words_of(text) for text, name in VARIANT.findall(source_of("tls_codec_wire", "error.rt"))}
+    lacking = [name for name, _, _ in numbers() if name not in found]
+    if lacking:
+        raise Unread(f"error.rt of tls_codec_wire: no comment of {lacking}")
+    return {"Accepted": "The bytes begin with an encoding.", **found}
+
+
 def spaced(name: str) -> str:
     """`EndOfStream` as `END_OF_STREAM`."""
     return re.sub(r"(?<=[a-z])(?=[A-Z])", "_", name).upper()
@@ -198,8 +223,9 @@ def outcome_header() -> str:
     names = [("Accepted", False, 0), *numbers()]
     body = ["#include <stddef.h>", "#include <stdint.h>", ""]
     body += ["/* A call's status. The numbers don't change. */", "enum tls_codec_status {"]
-    body += [f"  TLS_CODEC_{spaced(name)} = {number}," for name, _, number in names[:-1]]
-    body += [f"  TLS_CODEC_{spaced(names[-1][0])} = {names[-1][2]}", "};", ""]
+    for name, _, number in names:
+        body += [*comment(meanings()[name], "  "), f"  TLS_CODEC_{spaced(name)} = {number}{'' if name == names[-1][0] else ','}"]
+    body += ["};", ""]
     for it in structs():
         body += [*struct_in_c(it), ""] if structs()[it].crate == "tls_codec_outcome" else []
     body += ["/* The status if all of the bytes are to be used: TLS_CODEC_TRAILING_DATA if one is left. */"]
@@ -265,7 +291,7 @@ def kind_in_rust(export: Export, name: str) -> list[str]:
 
 def elements_in_rust(export: Export, name: str) -> list[str]:
     """The iterator over the elements of a list."""
-    lines = ["", f"    /// {export.message()}: an iterator over a list's elements. `content` is the list without its length."]
+    lines = ["", f"    /// {export.message()}: an iterator over a list's elements. `content` is the list without its length; an error's `at` counts from its first byte."]
     return [*lines, f"    pub fn {name}_elements(content: &[u8]) -> Elements<'_> {{", f"        Elements::of(content, foreign::{export.name})", "    }"]
 
 
@@ -296,8 +322,10 @@ def encoder_in_rust(export: Export, name: str) -> list[str]:
     lines = ["", f"    /// {export.text} Returns the written bytes, if they are accepted.", f"    pub fn {name}<'a>({parameters}) -> Result<&'a [u8], Rejected> {{"]
     lines += ["        // SAFETY: each pointer and its length are of one slice, nothing else changes or reads it during the call, and the call keeps no pointer."]
     lines += [f"        let outcome = unsafe {{ foreign::{export.name}({', '.join(passed)}) }};"]
-    sizes = [f"{it}.len()" for it in taken if kinds[it] == "&[u8]"]
-    return [*lines, f"        written_as(out, 4 + {' + '.join(sizes)}, outcome)", "    }"]
+    if export.name not in BESIDE:
+        raise Unread(f"{export.name}: how many bytes it writes beside its parts")
+    sizes = [str(BESIDE[export.name]), *[f"{it}.len()" for it in taken if kinds[it] == "&[u8]"]]
+    return [*lines, f"        written_as(out, {' + '.join(sizes)}, outcome)", "    }"]
 
 
 def decoders_in_rust(crate: str) -> list[str]:
@@ -356,11 +384,10 @@ def exports_rust() -> str:
     """The module of rust/ that declares the validators."""
     body = [f"//! {WRITTEN}. Don't edit.", "#![allow(missing_docs)]", ""]
     body += struct_in_rust("Outcome")
-    body = body[:-1]
-    body += ["}", "", "/// Why bytes are rejected.", "#[derive(Clone, Copy, PartialEq, Eq, Debug)]", "#[non_exhaustive]", "pub enum Error {"]
+    body += ["", "/// Why bytes are rejected.", "#[derive(Clone, Copy, PartialEq, Eq, Debug)]", "#[non_exhaustive]", "pub enum Error {"]
     values = [name for name, value, _ in numbers() if name == "UnknownValue"]
     for name, _, number in numbers():
-        body += [f"    /// Status {number}.", f"    {name}(u64)," if name in values else f"    {name},"]
+        body += [f"    /// {meanings()[name]} Status {number}.", f"    {name}(u64)," if name in values else f"    {name},"]
     body += ["    /// A status that these declarations don't have.", "    Other(u32),", "}", ""]
     body += ["impl Error {", "    pub(crate) fn of(outcome: &Outcome) -> Error {", "        match outcome.status {"]
     for name, _, number in numbers():
@@ -372,11 +399,31 @@ def exports_rust() -> str:
     return "\n".join([*body, ""])
 
 
+def located_fields() -> dict[str, list[str]]:
+    """What each `NAME_locate` fills, by NAME: the names of its struct's fields in their order, or of the one place."""
+    found = {}
+    for export in [it for crate in libraries() for it in exports_of(crate) if it.name.endswith("_locate")]:
+        kind = taken_by(export)
+        names = [export.parameters[1][0]] if kind == "Span" else [field for _, field, _ in structs()[kind].fields]
+        found[export.name.removesuffix("_locate")] = names
+    return found
+
+
+def exports_python() -> str:
+    """The names that the module of python/ has from here."""
+    lines = [f'"""{WRITTEN}. Don\'t edit."""', "", "# The names of the statuses, by their numbers.", "STATUSES = ["]
+    lines += [f'    "{name}",' for name in ("Accepted", *[name for name, _, _ in numbers()])]
+    lines += ["]", "", "# What `NAME_locate` fills, in this order, by NAME.", "FIELDS = {"]
+    lines += [f'    "{message}": {json.dumps(names)},' for message, names in located_fields().items()]
+    return "\n".join([*lines, "}", ""])
+
+
 def files() -> dict[pathlib.Path, str]:
     include = TOP / "c" / "include" / "tls_codec"
     headers = {include / f"{it.removesuffix('_c')}.h": header(it) for it in libraries()}
     others = {include / "outcome.h": outcome_header(), TOP / "c" / "tests" / "exports.inc": table()}
-    return {**headers, **others, TOP / "rust" / "src" / "exports.rs": exports_rust()}
+    modules = {TOP / "rust" / "src" / "exports.rs": exports_rust(), TOP / "python" / "tls_codec_exports.py": exports_python()}
+    return {**headers, **others, **modules}
 
 
 def main() -> int:

@@ -1,4 +1,4 @@
-"""The crates of crates.txt, and the words by which rattle finds what `rt ci` built of them."""
+"""The crates of crates.txt, the words that let rattle find what `rt ci` built of them, and the rows that callers try."""
 from __future__ import annotations
 
 import pathlib
@@ -6,6 +6,8 @@ import shutil
 
 TOP = pathlib.Path(__file__).resolve().parent.parent
 CRATES = TOP / "crates"
+# The rows of messages that validators and decoders of callers are tried with.
+ROWS = [CRATES / "test_outcome" / "stdout", TOP / "c" / "tests" / "tls13.tsv"]
 
 
 class Libraries:

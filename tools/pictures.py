@@ -7,6 +7,10 @@ pictures with attributes alone, for a look at them by a program that knows no st
 import html
 import pathlib
 import sys
+import textwrap
+
+sys.dont_write_bytecode = True
+import check_trees as trees
 
 TOP = pathlib.Path(__file__).resolve().parent.parent
 WIDTH = 720
@@ -229,15 +233,12 @@ def tlsdump(dark):
     folder = TOP / "crates" / "tlsdump" / "runs"
     shown = (folder / "private_message.stdout").read_text().splitlines()
     refused = (folder / "refused_identity.stdout").read_text().splitlines()
-    # the row of crates/tlsdump/src/tests.rt for these bytes
-    told = [
-        "tlsdump: refused at byte 15, in leaf_node.credential.identity: DecodingError(\"declared content",
-        "is not there\"): expected opaque identity<V>, its length announces 63 bytes, 5 are left",
-    ]
+    # the line on standard error, in the width of the picture
+    error = textwrap.wrap(f"tlsdump: {trees.REFUSALS['refused_identity']}", 95)
     digits = (folder / "refused_identity").read_text().strip()
     lines = [("ink", "$ tlsdump --binary auto private_message"), *[("soft", line) for line in shown], ("ink", "")]
     lines += [("ink", f"$ echo {digits} | tlsdump KeyPackage"), *[("soft", line) for line in refused[:-1]]]
-    lines += [("end", refused[-1]), *[("end", line) for line in told]]
+    lines += [("end", refused[-1]), *[("end", line) for line in error]]
     p = Picture(56 + 17 * len(lines), "A message as tlsdump shows it, and one that it rejects", dark)
     p.box(12, 12, WIDTH - 24, 32 + 17 * len(lines), "plain", 6)
     for at, (role, line) in enumerate(lines):

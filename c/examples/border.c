@@ -14,7 +14,7 @@ int main(void) {
   tls_codec_outcome outcome = mls_message_validate(bytes, length);
   uint32_t status = tls_codec_exactly(outcome, length);
   if (status != TLS_CODEC_ACCEPTED) {
-    size_t at = status == TLS_CODEC_TRAILING_DATA ? outcome.taken : outcome.at;
+    size_t at = outcome.status == TLS_CODEC_ACCEPTED ? outcome.taken : outcome.at;
     fprintf(stderr, "%s at byte %zu of %zu\n", tls_codec_status_name(status), at, length);
     return 1;
   }

@@ -2,14 +2,7 @@
  * no block is left. With none refused no block is left either. A validator makes no request.
  *
  * Linked with --wrap of malloc, realloc and free. */
-#include <inttypes.h>
-#include <stdio.h>
-#include <stdlib.h>
-#include <string.h>
-#include <tls_codec/mls.h>
-#include <tls_codec/mls_check.h>
-#include <tls_codec/tls13.h>
-#include <tls_codec/tls13_check.h>
+#include "rows.h"
 
 void *__real_malloc(size_t size);
 void *__real_realloc(void *block, size_t size);
@@ -37,23 +30,6 @@ void *__wrap_realloc(void *old, size_t size) {
 void __wrap_free(void *block) {
   if (is_watched && block) blocks--;
   __real_free(block);
-}
-
-struct message {
-  const char *name;
-  tls_codec_outcome (*validate)(const uint8_t *, size_t), (*check)(const uint8_t *, size_t);
-};
-
-static const struct message messages[] = {
-#define MESSAGE(name) {#name, name##_validate, name##_check},
-#include "exports.inc"
-#undef MESSAGE
-};
-
-static const struct message *find(const char *name) {
-  for (size_t i = 0; i < sizeof messages / sizeof *messages; i++)
-    if (strcmp(messages[i].name, name) == 0) return &messages[i];
-  return NULL;
 }
 
 /* The status, with one request refused, or none if it is 0; 99 if a block is left. */
@@ -84,23 +60,23 @@ static int asks_nothing(const struct message *it, const uint8_t *bytes, size_t l
 
 int main(int count, char **words) {
   static char line[1 << 17];
-  static uint8_t bytes[1 << 16];
   FILE *file = count > 1 ? fopen(words[1], "r") : NULL;
   if (!file) return 2;
   int rows = 0, all = 0, failed = 0;
   while (fgets(line, sizeof line, file)) {
     char *name = strtok(line, "\t"), *digits = strtok(NULL, "\t\n");
-    const struct message *it = digits ? find(name) : NULL;
+    const struct message *it = digits ? message_of(name) : NULL;
     if (!it) {
       printf("no such row: %s\n", line);
       return 2;
     }
-    size_t length = strcmp(digits, "-") == 0 ? 0 : strlen(digits) / 2;
-    for (size_t i = 0; i < length; i++) sscanf(digits + 2 * i, "%2" SCNx8, &bytes[i]);
-    int found = refuse_each(it, bytes, length);
+    size_t length;
+    uint8_t *bytes = bytes_of(digits, &length);
+    int found = refuse_each(it, bytes, length), is_well = found >= 0 && asks_nothing(it, bytes, length);
+    free(bytes);
     rows++;
     all += found > 0 ? found : 0;
-    if (found >= 0 && asks_nothing(it, bytes, length)) continue;
+    if (is_well) continue;
     failed++;
     printf("%s %s: refused memory isn't reported, a block is left, or the validator asks for memory\n", name, digits);
   }

@@ -1,15 +1,8 @@
 /* places FILE: what is filled for each row of test_places: places of fields and of elements, and kinds.
  *
  * A row has a function's name, hex or `-`, what the last call is to say, as `STATUS TAKEN AT DETAIL`, and what it is to fill, or `-`. The
- * bytes of `NAME_next` are those of a list after its length; each of their bits is turned in its turn. The bytes lie in a block of their own
- * size, so that a tool that watches memory sees a read past them. */
-#include <inttypes.h>
-#include <stdio.h>
-#include <stdlib.h>
-#include <string.h>
-#include <tls_codec/mls.h>
-#include <tls_codec/tls13.h>
-#include <tls_codec/tls_codec.h>
+ * bytes of `NAME_next` are those of a list after its length; each of their bits is turned in its turn. */
+#include "rows.h"
 
 typedef tls_codec_outcome next(const uint8_t *bytes, size_t length, tls_codec_span *left, tls_codec_span *element);
 
@@ -108,17 +101,13 @@ static int are_bounds_kept(void) {
   return is_well;
 }
 
-static int is_as_expected(const char *name, char *digits, const char *wanted, const char *filled) {
+static int is_as_expected(const char *name, const char *digits, const char *wanted, const char *filled) {
   struct answer answer = {{0, 0, 0, 0}, ""};
-  char text[128];
-  size_t length = strcmp(digits, "-") == 0 ? 0 : strlen(digits) / 2;
-  uint8_t *bytes = malloc(length ? length : 1);
-  if (!bytes) return 0;
-  for (size_t i = 0; i < length; i++) sscanf(digits + 2 * i, "%2" SCNx8, &bytes[i]);
+  size_t length;
+  uint8_t *bytes = bytes_of(digits, &length);
   int is_sound = call(name, bytes, length, &answer);
   free(bytes);
-  snprintf(text, sizeof text, "%" PRIu32 " %zu %zu %" PRIu64, answer.outcome.status, answer.outcome.taken, answer.outcome.at, answer.outcome.detail);
-  const char *found = *answer.filled ? answer.filled : "-";
+  const char *text = text_of(answer.outcome), *found = *answer.filled ? answer.filled : "-";
   if (is_sound && strcmp(text, wanted) == 0 && strcmp(found, filled) == 0) return 1;
   printf("%s %s: %s, %s, and not %s, %s%s\n", name, digits, text, found, wanted, filled, is_sound ? "" : "; its calls aren't sound");
   return 0;

@@ -2,43 +2,22 @@
  * in its turn, and the two are compared.
  *
  * A row has a message's name, hex or `-`, what the validator is to say, as `STATUS TAKEN AT DETAIL`; of test_outcome what the decoder is to
- * say, and of some accepted messages where their fields are. The bytes lie in a block of their own size, so that a tool that watches memory
- * sees a read past them. */
-#include <inttypes.h>
-#include <stdio.h>
-#include <stdlib.h>
-#include <string.h>
-#include <tls_codec/mls.h>
-#include <tls_codec/mls_check.h>
-#include <tls_codec/tls13.h>
-#include <tls_codec/tls13_check.h>
-#include <tls_codec/tls_codec.h>
+ * say, and of some accepted messages where their fields are. */
+#include "rows.h"
 
-typedef tls_codec_outcome call(const uint8_t *bytes, size_t length);
-
-struct message {
-  const char *name;
-  call *validate, *check;
-};
-
-static const struct message messages[] = {
-#define MESSAGE(name) {#name, name##_validate, name##_check},
+/* The fields of any message: it has the size of the largest struct. */
+union fields {
+#define LOCATED(message, fields) fields message;
 #include "exports.inc"
-#undef MESSAGE
+#undef LOCATED
 };
 
 /* What a `locate` says, and what it leaves in its struct. */
 struct located {
   tls_codec_outcome outcome;
   size_t count;
-  tls_codec_span spans[8];
+  tls_codec_span spans[sizeof(union fields) / sizeof(tls_codec_span)];
 };
-
-static const struct message *find(const char *name) {
-  for (size_t i = 0; i < sizeof messages / sizeof *messages; i++)
-    if (strcmp(messages[i].name, name) == 0) return &messages[i];
-  return NULL;
-}
 
 /* Calls the message's `locate`, over a struct of which each byte is 0xa5. No spans: it has none. */
 static struct located locate(const char *name, const uint8_t *bytes, size_t length) {
@@ -121,19 +100,10 @@ static int are_placed(const struct message *it, const uint8_t *bytes, size_t len
 }
 
 static int is_as_expected(const char *name, const char *call, tls_codec_outcome outcome, const char *wanted) {
-  char text[128];
-  snprintf(text, sizeof text, "%" PRIu32 " %zu %zu %" PRIu64, outcome.status, outcome.taken, outcome.at, outcome.detail);
+  const char *text = text_of(outcome);
   if (strcmp(text, wanted) == 0) return 1;
   printf("%s: the %s says %s (%s), and not %s\n", name, call, text, tls_codec_status_name(outcome.status), wanted);
   return 0;
-}
-
-/* The bytes of a row, or NULL. */
-static uint8_t *bytes_of(const char *digits, size_t *length) {
-  *length = strcmp(digits, "-") == 0 ? 0 : strlen(digits) / 2;
-  uint8_t *bytes = malloc(*length ? *length : 1);
-  for (size_t i = 0; bytes && i < *length; i++) sscanf(digits + 2 * i, "%2" SCNx8, &bytes[i]);
-  return bytes;
 }
 
 int main(int count, char **words) {
@@ -144,13 +114,13 @@ int main(int count, char **words) {
   while (fgets(line, sizeof line, file)) {
     char *name = strtok(line, "\t"), *digits = strtok(NULL, "\t"), *validated = strtok(NULL, "\t\n");
     const char *decoded = strtok(NULL, "\t\n"), *fields = decoded ? strtok(NULL, "\n") : NULL;
-    const struct message *it = validated ? find(name) : NULL;
-    size_t length;
-    uint8_t *bytes = it ? bytes_of(digits, &length) : NULL;
-    if (!bytes) {
+    const struct message *it = validated ? message_of(name) : NULL;
+    if (!it) {
       printf("no such row: %s\n", line);
       return 2;
     }
+    size_t length;
+    uint8_t *bytes = bytes_of(digits, &length);
     rows++;
     int is_well = is_as_expected(name, "validator", it->validate(bytes, length), validated);
     is_well &= !decoded || is_as_expected(name, "decoder", it->check(bytes, length), decoded);

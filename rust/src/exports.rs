@@ -15,25 +15,25 @@ pub struct Outcome {
 #[derive(Clone, Copy, PartialEq, Eq, Debug)]
 #[non_exhaustive]
 pub enum Error {
-    /// Status 1.
+    /// A value could not be written, also if the sink failed. Status 1.
     EncodingError,
-    /// Status 2.
+    /// A length or a variable-length integer has more bytes than it needs, or is above the greatest of its field. Or a list's content passes its length field, or a vector would pass `isize::MAX` bytes. Status 2.
     InvalidVectorLength,
-    /// Status 3.
+    /// No call in Rattle returns it. Callers in other languages get it if their buffer is too small. Status 3.
     InvalidWriteLength,
-    /// Status 4.
+    /// A slice has another length than the array it was to become. Status 4.
     InvalidInput,
-    /// Status 5.
+    /// Bytes encode no value, or the source failed. Status 5.
     DecodingError,
-    /// Status 6.
+    /// Fewer bytes came than the value asks for. Status 6.
     EndOfStream,
-    /// Status 7.
+    /// All bytes were to be used, and a byte is left. Status 7.
     TrailingData,
-    /// Status 8.
+    /// No case of an enum has this tag. Status 8.
     UnknownValue(u64),
-    /// Status 9.
+    /// A number is too large for the type it was to become. Status 9.
     LibraryError,
-    /// Status 10.
+    /// An allocation failed. Status 10.
     OutOfMemory,
     /// A status that these declarations don't have.
     Other(u32),
@@ -627,17 +627,17 @@ pub mod tls13 {
         Ok((fields, rest))
     }
 
-    /// `Extension` (RFC 8446, section 4.2): an iterator over a list's elements. `content` is the list without its length.
+    /// `Extension` (RFC 8446, section 4.2): an iterator over a list's elements. `content` is the list without its length; an error's `at` counts from its first byte.
     pub fn extension_elements(content: &[u8]) -> Elements<'_> {
         Elements::of(content, foreign::tls13_extension_next)
     }
 
-    /// `KeyShareEntry` (RFC 8446, section 4.2.8): an iterator over a list's elements. `content` is the list without its length.
+    /// `KeyShareEntry` (RFC 8446, section 4.2.8): an iterator over a list's elements. `content` is the list without its length; an error's `at` counts from its first byte.
     pub fn key_share_entry_elements(content: &[u8]) -> Elements<'_> {
         Elements::of(content, foreign::tls13_key_share_entry_next)
     }
 
-    /// `CertificateEntry` of a `Certificate` (RFC 8446, section 4.4.2): an iterator over a list's elements. `content` is the list without its length.
+    /// `CertificateEntry` of a `Certificate` (RFC 8446, section 4.4.2): an iterator over a list's elements. `content` is the list without its length; an error's `at` counts from its first byte.
     pub fn certificate_entry_elements(content: &[u8]) -> Elements<'_> {
         Elements::of(content, foreign::tls13_certificate_entry_next)
     }
@@ -1367,29 +1367,29 @@ pub mod mls {
         Ok((found, rest))
     }
 
-    /// `FramedContentTBS` (RFC 9420, section 6.1): writes the bytes that are signed of a message into a buffer: the version, the wire format (1 or 2), the encoding of a `FramedContent`, and that of a `GroupContext` if the sender is a member or a new member that commits; else the context is empty. The result is that of validation for the bytes that are written, and `at` counts from the first of them. If the buffer has less than `4 + content_length + context_length` bytes, nothing is written, and the status is that of `InvalidWriteLength`. Returns the written bytes, if they are accepted.
+    /// `FramedContentTBS` (RFC 9420, section 6.1): writes into a buffer what `SignWithLabel` (section 5.1.2) signs of a message, under the label `FramedContentTBS`: the version, the wire format, the encoding of a `FramedContent`, and that of a `GroupContext` if the sender is a member or a new member that commits; else the context is empty. Any wire format is written; a public message has 1, a private message 2. The buffer overlaps neither part. The result is that of validation for the bytes that are written, and `at` counts from the first of them. Use them only if it accepts all of them: a context that isn't signed would be left over. They are written even if they are rejected. If the buffer has too little room, nothing is written, and the status is that of `InvalidWriteLength`. Returns the written bytes, if they are accepted.
     pub fn framed_content_tbs<'a>(wire_format: u16, content: &[u8], context: &[u8], out: &'a mut [u8]) -> Result<&'a [u8], Rejected> {
         // SAFETY: each pointer and its length are of one slice, nothing else changes or reads it during the call, and the call keeps no pointer.
         let outcome = unsafe { foreign::mls_framed_content_tbs_encode(wire_format, content.as_ptr(), content.len(), context.as_ptr(), context.len(), out.as_mut_ptr(), out.len()) };
         written_as(out, 4 + content.len() + context.len(), outcome)
     }
 
-    /// `Extension` (RFC 9420, section 7.2): an iterator over a list's elements. `content` is the list without its length.
+    /// `Extension` (RFC 9420, section 7.2): an iterator over a list's elements. `content` is the list without its length; an error's `at` counts from its first byte.
     pub fn extension_elements(content: &[u8]) -> Elements<'_> {
         Elements::of(content, foreign::mls_extension_next)
     }
 
-    /// `optional<Node>` of a `RatchetTree` (RFC 9420, section 12.4.3.3): an iterator over a list's elements. `content` is the list without its length.
+    /// `optional<Node>` of a `RatchetTree` (RFC 9420, section 12.4.3.3): an iterator over a list's elements. `content` is the list without its length; an error's `at` counts from its first byte.
     pub fn optional_node_elements(content: &[u8]) -> Elements<'_> {
         Elements::of(content, foreign::mls_optional_node_next)
     }
 
-    /// `ProposalOrRef` of a `Commit` (RFC 9420, section 12.4): an iterator over a list's elements. `content` is the list without its length.
+    /// `ProposalOrRef` of a `Commit` (RFC 9420, section 12.4): an iterator over a list's elements. `content` is the list without its length; an error's `at` counts from its first byte.
     pub fn proposal_or_ref_elements(content: &[u8]) -> Elements<'_> {
         Elements::of(content, foreign::mls_proposal_or_ref_next)
     }
 
-    /// `EncryptedGroupSecrets` of a `Welcome` (RFC 9420, section 12.4.3.1): an iterator over a list's elements. `content` is the list without its length.
+    /// `EncryptedGroupSecrets` of a `Welcome` (RFC 9420, section 12.4.3.1): an iterator over a list's elements. `content` is the list without its length; an error's `at` counts from its first byte.
     pub fn encrypted_group_secrets_elements(content: &[u8]) -> Elements<'_> {
         Elements::of(content, foreign::mls_encrypted_group_secrets_next)
     }

@@ -1,6 +1,9 @@
 //! The rows of `test_places`: the elements of lists, the kind of a message, and the fields of messages of TLS 1.3.
+mod common;
+
+use common::{bytes_of, error_of};
 use std::fs;
-use tls_codec_border::{Elements, Error, Rejected, mls, tls13};
+use tls_codec_border::{Elements, Rejected, mls, tls13};
 
 type Fields<'a> = Result<Vec<&'a [u8]>, Rejected>;
 
@@ -57,11 +60,9 @@ struct Row {
 impl Row {
     fn of(line: &str) -> Row {
         let columns: Vec<&str> = line.split('\t').collect();
-        let digits = if columns[1] == "-" { "" } else { columns[1] };
-        let byte = |at| u8::from_str_radix(&digits[at..at + 2], 16).expect("hex");
         Row {
             name: columns[0].to_string(),
-            bytes: (0..digits.len()).step_by(2).map(byte).collect(),
+            bytes: bytes_of(columns[1]),
             numbers: columns[2].split(' ').map(|it| it.parse().expect("a number")).collect(),
             filled: columns[3].to_string(),
         }
@@ -69,14 +70,7 @@ impl Row {
 
     /// The error of a call that rejects what is left from this place on.
     fn rejected(&self, from: usize) -> Rejected {
-        let error = match self.numbers[0] {
-            2 => Error::InvalidVectorLength,
-            5 => Error::DecodingError,
-            6 => Error::EndOfStream,
-            7 => Error::TrailingData,
-            8 => Error::UnknownValue(self.numbers[3]),
-            other => panic!("no row has status {other}"),
-        };
+        let error = error_of(self.numbers[0], self.numbers[3]);
         Rejected { error, at: from + self.numbers[2] as usize }
     }
 
@@ -90,7 +84,7 @@ impl Row {
         self.filled.split(' ').filter(|it| *it != "-").map(place).collect()
     }
 
-    fn elements_are_told(&self, elements: Elements<'_>) {
+    fn elements_are_in_their_places(&self, elements: Elements<'_>) {
         let all: Vec<_> = elements.collect();
         let found: Vec<&[u8]> = all.iter().filter_map(|it| it.ok()).collect();
         assert_eq!(found, self.places(), "{}", self.name);
@@ -103,13 +97,13 @@ impl Row {
 }
 
 #[test]
-fn each_row_is_told() {
+fn each_row_has_its_outcome() {
     let file = concat!(env!("CARGO_MANIFEST_DIR"), "/../crates/test_places/stdout");
     let text = fs::read_to_string(file).expect("the rows are there");
     for row in text.lines().map(Row::of) {
         let is_accepted = row.numbers[0] == 0;
         if let Some(elements) = elements(&row.name, &row.bytes) {
-            row.elements_are_told(elements);
+            row.elements_are_in_their_places(elements);
         } else if let Some(found) = fields(&row.name, &row.bytes) {
             let wanted = if is_accepted { Ok(row.places()) } else { Err(row.rejected(0)) };
             assert_eq!(found, wanted, "{}", row.name);

@@ -41,16 +41,16 @@ fn split<'a>(name: &str, bytes: &'a [u8]) -> Split<'a> {
 }
 
 #[test]
-fn each_row_of_mls_is_told() {
-    are_told(concat!(env!("CARGO_MANIFEST_DIR"), "/../crates/test_outcome/stdout"));
+fn each_row_of_mls_has_its_outcome() {
+    rows_have_their_outcomes(concat!(env!("CARGO_MANIFEST_DIR"), "/../crates/test_outcome/stdout"));
 }
 
 #[test]
-fn each_row_of_tls13_is_told() {
-    are_told(concat!(env!("CARGO_MANIFEST_DIR"), "/../c/tests/tls13.tsv"));
+fn each_row_of_tls13_has_its_outcome() {
+    rows_have_their_outcomes(concat!(env!("CARGO_MANIFEST_DIR"), "/../c/tests/tls13.tsv"));
 }
 
-fn are_told(file: &str) {
+fn rows_have_their_outcomes(file: &str) {
     let text = fs::read_to_string(file).expect("the rows are there");
     for row in text.lines() {
         let columns: Vec<&str> = row.split('\t').collect();

@@ -184,18 +184,28 @@ typedef struct mls_welcome_fields {
   tls_codec_span encrypted_group_info;
 } mls_welcome_fields;
 
-/* Extension (RFC 9420, section 7.2): the next one of a list. left is moved past it. */
+/* Extension (RFC 9420, section 7.2): the next one of a list. left is moved past it. Before the
+   first call left is the place of all elements in bytes: offset 0 and size length, if bytes are the
+   list without its length. The element's place is put into element, and at counts from the first
+   byte of left. If the element is rejected, neither left nor element changes. */
 tls_codec_outcome mls_extension_next(const uint8_t *bytes, size_t length, tls_codec_span *left, tls_codec_span *element);
 
 /* optional<Node> of a RatchetTree (RFC 9420, section 12.4.3.3): the next one. left is moved past
-   it. */
+   it. Before the first call left is the place of all elements in bytes: offset 0 and size length,
+   if bytes are the list without its length. The element's place is put into element, and at counts
+   from the first byte of left. If the element is rejected, neither left nor element changes. */
 tls_codec_outcome mls_optional_node_next(const uint8_t *bytes, size_t length, tls_codec_span *left, tls_codec_span *element);
 
-/* ProposalOrRef of a Commit (RFC 9420, section 12.4): the next one. left is moved past it. */
+/* ProposalOrRef of a Commit (RFC 9420, section 12.4): the next one. left is moved past it. Before
+   the first call left is the place of all elements in bytes: offset 0 and size length, if bytes are
+   the list without its length. The element's place is put into element, and at counts from the
+   first byte of left. If the element is rejected, neither left nor element changes. */
 tls_codec_outcome mls_proposal_or_ref_next(const uint8_t *bytes, size_t length, tls_codec_span *left, tls_codec_span *element);
 
 /* EncryptedGroupSecrets of a Welcome (RFC 9420, section 12.4.3.1): the next one. left is moved past
-   it. */
+   it. Before the first call left is the place of all elements in bytes: offset 0 and size length,
+   if bytes are the list without its length. The element's place is put into element, and at counts
+   from the first byte of left. If the element is rejected, neither left nor element changes. */
 tls_codec_outcome mls_encrypted_group_secrets_next(const uint8_t *bytes, size_t length, tls_codec_span *left, tls_codec_span *element);
 
 /* MLSMessage (RFC 9420, section 6), and where its fields are, if the bytes begin with one. */
@@ -284,12 +294,14 @@ tls_codec_outcome mls_leaf_node_validate(const uint8_t *bytes, size_t length);
 /* RatchetTree (RFC 9420, section 12.4.3.3): whether the bytes begin with one. */
 tls_codec_outcome mls_ratchet_tree_validate(const uint8_t *bytes, size_t length);
 
-/* FramedContentTBS (RFC 9420, section 6.1): writes the bytes that are signed of a message into a
-   buffer: the version, the wire format (1 or 2), the encoding of a FramedContent, and that of a
-   GroupContext if the sender is a member or a new member that commits; else the context is empty.
-   The result is that of validation for the bytes that are written, and at counts from the first of
-   them. If the buffer has less than 4 + content_length + context_length bytes, nothing is written,
-   and the status is that of InvalidWriteLength. */
+/* FramedContentTBS (RFC 9420, section 6.1): writes into a buffer what SignWithLabel (section 5.1.2)
+   signs of a message, under the label FramedContentTBS: the version, the wire format, the encoding
+   of a FramedContent, and that of a GroupContext if the sender is a member or a new member that
+   commits; else the context is empty. Any wire format is written; a public message has 1, a private
+   message 2. The buffer overlaps neither part. The result is that of validation for the bytes that
+   are written, and at counts from the first of them. Use them only if it accepts all of them: a
+   context that isn't signed would be left over. They are written even if they are rejected. If the
+   buffer has too little room, nothing is written, and the status is that of InvalidWriteLength. */
 tls_codec_outcome mls_framed_content_tbs_encode(uint16_t wire_format, const uint8_t *content, size_t content_length, const uint8_t *context, size_t context_length, uint8_t *out, size_t out_length);
 
 #ifdef __cplusplus

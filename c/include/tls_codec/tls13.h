@@ -136,13 +136,22 @@ typedef struct tls13_tls_plaintext_fields {
   tls_codec_span fragment;
 } tls13_tls_plaintext_fields;
 
-/* Extension (RFC 8446, section 4.2): the next one of a list. left is moved past it. */
+/* Extension (RFC 8446, section 4.2): the next one of a list. left is moved past it. Before the
+   first call left is the place of all elements in bytes: offset 0 and size length, if bytes are the
+   list without its length. The element's place is put into element, and at counts from the first
+   byte of left. If the element is rejected, neither left nor element changes. */
 tls_codec_outcome tls13_extension_next(const uint8_t *bytes, size_t length, tls_codec_span *left, tls_codec_span *element);
 
-/* KeyShareEntry (RFC 8446, section 4.2.8): the next one of a list. left is moved past it. */
+/* KeyShareEntry (RFC 8446, section 4.2.8): the next one of a list. left is moved past it. Before
+   the first call left is the place of all elements in bytes: offset 0 and size length, if bytes are
+   the list without its length. The element's place is put into element, and at counts from the
+   first byte of left. If the element is rejected, neither left nor element changes. */
 tls_codec_outcome tls13_key_share_entry_next(const uint8_t *bytes, size_t length, tls_codec_span *left, tls_codec_span *element);
 
-/* CertificateEntry of a Certificate (RFC 8446, section 4.4.2): the next one. left is moved past it. */
+/* CertificateEntry of a Certificate (RFC 8446, section 4.4.2): the next one. left is moved past it.
+   Before the first call left is the place of all elements in bytes: offset 0 and size length, if
+   bytes are the list without its length. The element's place is put into element, and at counts
+   from the first byte of left. If the element is rejected, neither left nor element changes. */
 tls_codec_outcome tls13_certificate_entry_next(const uint8_t *bytes, size_t length, tls_codec_span *left, tls_codec_span *element);
 
 /* Handshake (RFC 8446, section 4), and where its fields are, if the bytes begin with one. */

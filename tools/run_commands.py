@@ -5,11 +5,12 @@ Each page has a fresh copy of the files that a clone would have, or an empty fol
 last from block to block. A block after a line <!-- file: PATH --> is written to that file when its turn comes. A command must end with
 status 0, and print the lines below it, if there are any (on standard output). tools/commands.txt says what is done otherwise, with reasons:
 
-    in an empty folder | PAGE | WORD                    WORD is replaced by the path of the clone
+    in an empty folder | PAGE | PATH                    PATH is replaced by that of the clone
     in place of | PAGE | TEXT | TEXT | REASON           a text of its commands is replaced
     not run | PAGE | COMMAND | REASON                   a command that begins so is left out
 
-A line that fits nothing fails. Last 'N passed, N failed', a command each; the exit status is 1 if one failed.
+A line that fits nothing fails: no command, no page with commands, or none of these three kinds. Last 'N passed, N failed', a command
+each; the exit status is 1 if one failed.
 """
 from __future__ import annotations
 
@@ -25,15 +26,27 @@ import tempfile
 TOP = pathlib.Path(__file__).resolve().parent.parent
 SECONDS = 3600
 PART = re.compile(r"(?:<!-- file: (\S+) -->\n)?^```(\w*)\n(.*?)^```$", re.M | re.S)
+# The kinds of lines in tools/commands.txt, and how many cells a line of each has.
+KINDS = {"in an empty folder": 3, "in place of": 5, "not run": 4}
+
+
+def lines_of_rules() -> list[list[str]]:
+    """The lines of tools/commands.txt, cell by cell."""
+    lines = (TOP / "tools" / "commands.txt").read_text().splitlines()
+    return [[cell.strip() for cell in line.split(" | ")] for line in lines if line and line[0] != "#"]
+
+
+def wrong_rules(pages: list[str]) -> list[str]:
+    """The lines that have no kind, or whose page isn't one of these."""
+    wrong = [row for row in lines_of_rules() if KINDS.get(row[0]) != len(row) or row[1] not in pages]
+    return [f"tools/commands.txt: no such kind, or no commands on that page: {' | '.join(row)}" for row in wrong]
 
 
 class Rules:
     """The lines of tools/commands.txt for a page."""
 
     def __init__(self, page: str) -> None:
-        lines = (TOP / "tools" / "commands.txt").read_text().splitlines()
-        rows = [[cell.strip() for cell in line.split(" | ")] for line in lines if line and line[0] != "#"]
-        self.rows = [row for row in rows if row[1] == page]
+        self.rows = [row for row in lines_of_rules() if row[1:2] == [page]]
         self.used: set[int] = set()
 
     def of(self, kind: str):
@@ -46,16 +59,18 @@ class Rules:
         self.used.update(found)
         return bool(found)
 
-    def in_place(self, command: str) -> str:
-        for at, row in self.of("in place of"):
-            if row[0] in command:
+    def in_place(self, command: str, clone: str) -> str:
+        """The command as it is run, where the clone has this path."""
+        texts = [(at, row[0], row[1]) for at, row in self.of("in place of")]
+        texts += [(at, row[0], clone) for at, row in self.of("in an empty folder")]
+        for at, old, new in texts:
+            if old in command:
                 self.used.add(at)
-                command = command.replace(row[0], row[1])
+                command = command.replace(old, new)
         return command
 
     def unused(self) -> list[str]:
-        kinds = {"in place of", "not run"}
-        return [" | ".join(row) for at, row in enumerate(self.rows) if row[0] in kinds and at not in self.used]
+        return [" | ".join(row) for at, row in enumerate(self.rows) if at not in self.used]
 
 
 def steps(page: str):
@@ -69,6 +84,10 @@ def steps(page: str):
                 more = next((n for n, line in enumerate(lines) if n and not line.startswith("> ")), len(lines))
                 command = [re.sub(r"\s{2,}# .*", "", lines[0])] + [line[2:] for line in lines[1:more]]
                 yield "run", "\n".join(command), lines[more:]
+
+
+def has_commands(page: str) -> bool:
+    return any(kind == "run" for kind, _, _ in steps(page))
 
 
 def copy_of_clone(folder: pathlib.Path) -> pathlib.Path:
@@ -85,16 +104,14 @@ def copy_of_clone(folder: pathlib.Path) -> pathlib.Path:
 def script_of(page: str, rules: Rules, clone: pathlib.Path, answers: pathlib.Path) -> tuple[str, list[tuple[str, list[str]]]]:
     """A shell script with the page's steps, and its commands with what each has to print."""
     words = [f"cd {shlex.quote(str(clone))}"]
-    for _, row in rules.of("in an empty folder"):
-        words = [f"cd {shlex.quote(str(answers))} && mkdir empty && cd empty", f"{row[0]}={shlex.quote(str(clone))}"]
+    for _ in rules.of("in an empty folder"):
+        words = [f"cd {shlex.quote(str(answers))} && mkdir empty && cd empty"]
     wanted = []
     for kind, what, lines in steps(page):
         if kind == "file":
             words.append(written(what, lines))
         elif not rules.is_left_out(what):
-            command, at = rules.in_place(what), len(wanted)
-            for _, row in rules.of("in an empty folder"):
-                command = re.sub(rf"\b{row[0]}\b", f"${row[0]}", command)
+            command, at = rules.in_place(what, shlex.quote(str(clone))), len(wanted)
             words.append(f"{{ {command}\n}} >{answers}/{at}.out 2>{answers}/{at}.err\necho $? >{answers}/{at}.status")
             wanted.append((what, lines))
     return "\n".join(words) + "\n", wanted
@@ -134,11 +151,12 @@ def results(page: str) -> tuple[int, list[str]]:
 
 
 def main() -> int:
-    pages = [it.relative_to(TOP).as_posix() for it in [*sorted(TOP.glob("*.md")), *sorted((TOP / "docs").glob("*.md"))]]
-    pages = [it for it in sys.argv[1:] or pages if any(kind == "run" for kind, _, _ in steps(it))]
+    files = [it.relative_to(TOP).as_posix() for it in [*sorted(TOP.glob("*.md")), *sorted((TOP / "docs").glob("*.md"))]]
+    pages = [it for it in sys.argv[1:] or files if has_commands(it)]
     with concurrent.futures.ThreadPoolExecutor(4) as pool:
         ended = list(pool.map(results, pages))
     passed, failed = sum(count for count, _ in ended), [line for _, lines in ended for line in lines]
+    failed += wrong_rules([it for it in files if has_commands(it)])
     print("".join(f"{line}\n" for line in failed), end="")
     print(f"the commands of {len(pages)} pages were run")
     print(f"{passed} passed, {len(failed)} failed")

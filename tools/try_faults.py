@@ -1,5 +1,5 @@
 #!/usr/bin/env python3
-"""faults.py: crates that say other than their text, in code, specs and answers at once. Their laws must be refused.
+"""try_faults.py: crates that say other than their text, in code, specs and answers at once. Their laws must be refused.
 
 crates/NAME_laws/faults/*.fault changes the text from which the crate NAME was written, as a wrong reader of it would:
 
@@ -25,9 +25,9 @@ import sys
 import tempfile
 
 sys.dont_write_bytecode = True
-import laws
+import check_laws as laws
 import verdicts
-import written
+import check_generated as written
 from libraries import CRATES, TOP, Libraries
 
 DATA = CRATES / "tlsgen" / "data"

@@ -7,7 +7,7 @@ import pathlib
 import sys
 
 CRATES = pathlib.Path(__file__).resolve().parent.parent / "crates"
-NAMES = ["tls13", "ct", "mls_leaf", "mls_proposals", "mls"]
+NAMES = ["tls13", "ct", "mls_tree", "mls_group", "mls"]
 
 
 def literal(path):
@@ -18,7 +18,7 @@ def literal(path):
 
 def module(name):
     data = CRATES / "tlsgen" / "data"
-    return f"""//! `{name}.tls` and `{name}.notes`, as tools/texts.py copies them.
+    return f"""//! `{name}.tls` and `{name}.notes`, as tools/check_texts.py copies them.
 
 pub static TEXT: &str = "{literal(data / f'{name}.tls')}";
 

@@ -11,15 +11,10 @@ import sys
 CRATES = pathlib.Path(__file__).resolve().parent.parent / "crates"
 DATA = CRATES / "tlsgen" / "data"
 
-# The written crates, and the text of each.
-TEXTS = {
-    "tls13": "tls13",
-    "ct": "ct",
-    "mls_leaf": "mls_leaf",
-    "mls_proposals": "mls_proposals",
-    "mls": "mls",
-    "messages_of_each_shape": "each_shape",
-}
+# The crates with laws that tlsgen wrote, and the text of each, which has the crate's name but in one place.
+OTHER_NAMES = {"messages_of_each_shape": "each_shape"}
+WRITTEN = re.findall(r"^(\w+)_laws:", (CRATES.parent / "crates.txt").read_text(), re.M)
+TEXTS = {crate: OTHER_NAMES.get(crate, crate) for crate in WRITTEN}
 
 
 def plain(name):

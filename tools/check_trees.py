@@ -11,8 +11,11 @@ import pathlib
 import re
 import sys
 
+sys.dont_write_bytecode = True
+from presentation import Parser, name_of, plain
+
 CRATES = pathlib.Path(__file__).resolve().parent.parent / "crates"
-PROTOCOLS = {"mls": ["mls", "mls_proposals", "mls_leaf"], "tls": ["tls13", "ct"], "ct": ["ct"]}
+PROTOCOLS = {"mls": ["mls", "mls_group", "mls_tree"], "tls": ["tls13", "ct"], "ct": ["ct"]}
 WIDTHS = {"opaque": 1, "uint8": 1, "uint16": 2, "uint24": 3, "uint32": 4, "uint64": 8}
 # What no text names: versions and suites of TLS (RFC 8446, sections 4.1.2 and 4.2.1, and appendix B.4).
 TLS_NAMES = {
@@ -65,150 +68,55 @@ class Text:
         self.define(OWN)
 
     def define(self, text):
-        text = re.sub(r"/\*.*?\*/|//[^\n]*", " ", text, flags=re.S)
-        self.words = re.findall(r"[A-Za-z_][\w.]*(?:-signed)?|0x[0-9a-fA-F]+|\d+|\.\.|\S", text)
-        while self.words:
-            self.definition()
-
-    def next(self, wanted=None):
-        word = self.words.pop(0)
-        assert wanted in (None, word), (wanted, word, self.words[:9])
-        return word
-
-    def number(self):
-        number = int(self.next(), 0)
-        if self.words[0] == "^":
-            self.next()
-            number **= int(self.next())
-            if self.words[0] == "-":
-                self.next()
-                number -= int(self.next())
-        return number
-
-    def definition(self):
-        if self.words[0] == "digitally-signed":
-            self.next()
-        if self.words[0] == "enum":
-            values, most = self.values()
-            self.enums.setdefault(self.next(), (values, (most.bit_length() + 7) // 8))
-            self.next(";")
-        elif self.words[0] == "struct":
-            parts = self.struct()
-            self.structs.setdefault(self.next(), parts)
-            self.next(";")
-        else:
-            field = self.field()
-            self.others.setdefault(field["name"], field)
-
-    def values(self):
-        self.next("enum")
-        self.next("{")
-        values, most = [], 0
-        while self.words[0] != "}":
-            name = None if self.words[0] == "(" else self.next()
-            self.next("(")
-            first = last = self.number()
-            if self.words[0] == "..":
-                self.next()
-                last = self.number()
-            self.next(")")
-            most = max(most, last)
-            if name:
-                values.append((first, last, name))
-            if self.words[0] == ",":
-                self.next()
-        self.next("}")
-        return values, most
-
-    def struct(self):
-        self.next("struct")
-        self.next("{")
-        parts = []
-        while self.words[0] != "}":
-            if self.words[0] == "select":
-                parts.append(self.select())
-            elif self.words[0] == "digitally-signed":
-                self.next()
-                self.struct()
-                self.next(";")
-                parts.append({"of": "DigitallySigned", "name": "signature", "vector": None, "optional": False})
+        for one in Parser(text).all():
+            if one[0] == "enum":
+                self.enums.setdefault(name_of(one), codes_of(one[2]))
+            elif one[0] == "alias":
+                self.others.setdefault(name_of(one), one[1])
             else:
-                parts.append(self.field())
-        self.next("}")
-        return parts
-
-    def select(self):
-        self.next("select")
-        self.next("(")
-        path = self.next()
-        self.next(")")
-        self.next("{")
-        cases, labels, fields = [], [], []
-        while self.words[0] != "}":
-            if self.words[0] == "case":
-                self.next()
-                if fields:
-                    labels, fields = [], []
-                labels.append(self.next())
-                self.next(":")
-                if self.words[0] != "case":
-                    cases.append((labels, fields))
-            elif self.words[0] == "struct":
-                self.struct()
-                self.next(";")
-                labels, fields = [], []
-            else:
-                fields.append(self.field())
-        self.next("}")
-        name = None
-        if self.words[0] not in (";", "}"):
-            name = self.next()
-        if self.words[0] == ";":
-            self.next()
-        return {"path": path.split("."), "cases": cases, "name": name}
-
-    def field(self):
-        of, optional = self.next(), False
-        if of == "optional":
-            self.next("<")
-            of, optional = self.next(), True
-            self.next(">")
-        name = None if self.words[0] == ";" else self.next()
-        vector = None
-        if self.words[0] == "[":
-            self.next()
-            vector = ("array", int(self.words[0], 0) if self.words[0].isdigit() else self.words[0].split("."))
-            self.next()
-            self.next("]")
-        elif self.words[0] == "<":
-            self.next()
-            if self.words[0] == "V":
-                self.next()
-                vector = ("V",)
-            else:
-                least = self.number()
-                self.next("..")
-                vector = ("bounds", least, self.number())
-            self.next(">")
-        while self.words[0] != ";":
-            self.next()
-        self.next(";")
-        return {"of": of, "name": name, "vector": vector, "optional": optional}
+                self.structs.setdefault(name_of(one), [part_of(part) for part in one[-2]])
 
     def note(self, text):
-        for of, name, value in re.findall(r"^(\w+)\.(\w+) = (\w+);", text, re.M):
-            if value.isdigit():
-                self.enums.setdefault(of, ([], WIDTHS[self.others[of]["of"]]))[0].append((int(value), int(value), name))
-            else:
-                self.fixed[of, name] = value
+        for kind, path, *words in Parser(text).notes():
+            if kind == "Equals":
+                of, name = path.split(".")
+                if isinstance(words[0], int):
+                    self.enums.setdefault(of, ([], WIDTHS[self.others[of]["of"]]))[0].append((words[0], words[0], name))
+                else:
+                    self.fixed[of, name] = words[0]
+
+
+def codes_of(values):
+    """The named values of an enum, as first, last and name, and how many bytes one has."""
+    most = max(value[-1] for value in values)
+    return [(value[1], value[-1], value[0]) for value in values if value[0]], (most.bit_length() + 7) // 8
+
+
+def part_of(part):
+    """A field or a select of a struct. What is signed there is a field with the signature."""
+    return plain("DigitallySigned", part[2] or "signature") if part[0] == "signed" else part[1]
+
+
+def end_of(path):
+    """The field that a path ends with."""
+    return path.split(".")[-1]
 
 
 class Reader:
     """A message, line by line."""
 
     def __init__(self, text, bytes, protocol, message):
-        self.text, self.bytes, self.protocol, self.message = text, bytes, protocol, message
+        self.text, self.bytes, self.protocol = text, bytes, protocol
         self.at, self.end, self.lines, self.known = 0, len(bytes), [], {}
+        if kind := self.handshake_type("Certificate" if message == "CertificateEntry" else message):
+            self.known["msg_type"] = kind
+
+    def handshake_type(self, body):
+        """What a Handshake says of such a body before it. A body alone is read as if that were there."""
+        for part in self.text.structs.get("Handshake", []):
+            for labels, fields in part.get("cases", []):
+                if [field["of"] for field in fields] == [body]:
+                    return labels[0]
 
     def left(self):
         return self.end - self.at
@@ -239,22 +147,22 @@ class Reader:
     def has_case(self, of, name, depth):
         """A tag that no case of a select in its struct has is refused where it is."""
         for part in self.text.structs[of]:
-            if "cases" in part and part["path"] in ([name], [of, name]):
+            if "cases" in part and part["path"] in (name, f"{of}.{name}"):
                 if not any(self.known[name] in labels for labels, _ in part["cases"]):
                     self.lines.pop()
                     raise Refused(name, depth)
 
     def select(self, of, select, depth):
-        tag = self.text.fixed.get((of, select["path"][-1])) or self.known[select["path"][-1]]
+        tag = self.text.fixed.get((of, end_of(select["path"]))) or self.known.get(end_of(select["path"]))
         chosen = [fields for labels, fields in select["cases"] if tag in labels]
         if not chosen:
             raise Refused("", depth)
+        called = select["ending"][1] if select["ending"][0] == "called" else ""
         for field in chosen[0]:
-            name = select["name"] if select["name"] and select["name"][0].islower() else tag
-            self.field(of, field, field["name"] or name, depth)
+            self.field(of, field, field["name"] or (called if called[:1].islower() else tag), depth)
 
     def field(self, of, field, label, depth):
-        if field["vector"] is None:
+        if field["vector"] == ("one",):
             return self.value(of, field, label, depth)
         at = self.at
         count, width = self.length(of, field, label, depth)
@@ -267,23 +175,39 @@ class Reader:
         elements = 0
         try:
             while self.left():
+                begun = self.at, len(self.lines), dict(self.known)
                 self.value(of, field, f"[{elements}]", depth + 1)
                 elements += 1
         except Refused:
             line["shown"] = f"{counted(elements, 'element')}, and one that is refused"
+            self.passes_end(of, field, f"[{elements}]", depth + 1, begun, end)
             raise
         line["shown"] = counted(elements, "element")
         self.end = end
 
+    def passes_end(self, of, field, label, depth, begun, end):
+        """An element that ends after its list does is refused as a whole, so at the first of its fields."""
+        at, lines, known = begun
+        left, read, inner = self.at, self.lines[lines:], self.end
+        del self.lines[lines:]
+        self.at, self.end, self.known = at, end, known
+        try:
+            self.value(of, field, label, depth)
+        except Refused:
+            self.lines[lines:], self.at, self.end = read, left, inner
+            return
+        first = next(line for line in self.lines[lines:] if line.get("below") != "fields")
+        del self.lines[self.lines.index(first) :]
+        raise Refused(first["label"], first["depth"])
+
     def length(self, of, field, label, depth):
-        kind = field["vector"][0]
+        kind, *bounds = field["vector"]
         if kind == "array":
-            count = field["vector"][1]
-            if isinstance(count, list):
-                count = self.left() if of in ("Finished", "HandshakeMessages") else self.known[count[-1]]
-            return count, 0
-        if kind == "bounds":
-            _, least, most = field["vector"]
+            return bounds[0], 0
+        if kind == "counted":
+            return self.left() if of in ("Finished", "HandshakeMessages") else self.known[end_of(bounds[0])], 0
+        if kind == "bounded":
+            least, most = bounds
             width = (most.bit_length() + 7) // 8
             count = int.from_bytes(self.take(width, label, depth))
             if not least <= count <= most:
@@ -315,7 +239,7 @@ class Reader:
                 del self.lines[lines:]
                 self.at, self.end, self.known = start, end, known
         bytes = self.take(count, label, depth)
-        self.line(at, depth, label, "", bytes=bytes, told=told(label, bytes), refused=opened)
+        self.line(at, depth, label, "", bytes=bytes, text=text_of(label, bytes), refused=opened)
 
     # what the bytes of a field are, if that is known
     def opened(self, of, label, count):
@@ -369,11 +293,14 @@ class Reader:
                 if number > self.left():
                     raise Refused(label, depth)
                 self.end = self.at + number
-            return self.line(at, depth, label, number_told(label, number), number=number, date=date(label, number))
+            return self.line(at, depth, label, number_text(label, number), number=number, date=date(label, number))
         other = self.text.others[of]
-        if other["vector"] is None and other["of"] in WIDTHS:
+        if other["vector"] == ("one",) and other["of"] in WIDTHS:
             bytes = self.take(WIDTHS[other["of"]], label, depth)
-            return self.code(at, label, depth, bytes, TLS_NAMES.get(of, {}) if self.protocol == "tls" else {})
+            names = TLS_NAMES.get(of, {}) if self.protocol == "tls" else {}
+            if (owner, of) in CONSTANTS and CONSTANTS[owner, of] != names.get(int.from_bytes(bytes)):
+                raise Refused(label, depth)
+            return self.code(at, label, depth, bytes, names)
         self.field(of, other, label, depth)
 
     # the RFCs close these (a number without a name is refused), by a select or by their prose
@@ -390,15 +317,19 @@ class Reader:
         self.line(at, depth, label, f"{name} ({digits})" if name else digits, number=int.from_bytes(bytes), code=name)
 
 
-# fields that have one value (RFC 9420, sections 6 and 8.1)
-CONSTANTS = {("MLSMessage", "ProtocolVersion"): "mls10", ("GroupContext", "ProtocolVersion"): "mls10"}
+# fields that have one value (RFC 9420, sections 6 and 8.1; RFC 8446, section 4.1.2)
+CONSTANTS = {
+    ("MLSMessage", "ProtocolVersion"): "mls10",
+    ("GroupContext", "ProtocolVersion"): "mls10",
+    ("ClientHello", "ProtocolVersion"): "TLS 1.2",
+}
 
 
 def counted(count, of):
     return f"{count} {of}{'' if count == 1 else 's'}"
 
 
-def told(label, bytes):
+def text_of(label, bytes):
     if label not in ("identity", "application_id", "label") or not bytes:
         return None
     try:
@@ -418,7 +349,7 @@ def date(label, number):
     return f"{moment.isoformat()}{part}Z"
 
 
-def number_told(label, number):
+def number_text(label, number):
     return f"{number} ({date(label, number)})" if date(label, number) else str(number)
 
 
@@ -428,7 +359,7 @@ def show(line, options):
         bytes = line["bytes"]
         digits = bytes[:16].hex() + ".." if "--short" in options and len(bytes) > 32 else bytes.hex()
         shown = f"{counted(len(bytes), 'byte')} {digits}".rstrip()
-        shown += f' "{line["told"]}"' if line["told"] else ""
+        shown += f' "{line["text"]}"' if line["text"] else ""
         shown += f" (no {line['refused']})" if line["refused"] else ""
     front = f"{line['at']:>8}  " if "--offsets" in options else ""
     return f"{front}{'  ' * line['depth']}{line['label']}: {shown}\n"
@@ -448,7 +379,7 @@ def tree_of(lines):
             value[line["below"]] = tree_of(lines[at + 1 : behind[0]]) if behind[0] > at + 1 else []
         if "bytes" in line:
             value["hex"] = line["bytes"].hex()
-            value.update({"text": line["told"]} if line["told"] else {})
+            value.update({"text": line["text"]} if line["text"] else {})
             value.update({"not": line["refused"]} if line["refused"] else {})
         if "number" in line:
             value["number"] = line["number"]
@@ -565,6 +496,11 @@ def main():
 UNREAD = ("several_types", "unknown_type", "wrong_digit", "odd_digits", "no_file")
 # outputs that are no tree
 BY_HAND = ("help", "version")
+# RFC 9420, section 2.1.2: a length of 63, and fewer bytes
+IDENTITY_CUT_OFF = (
+    'refused at byte 15, in leaf_node.credential.identity: DecodingError("declared content is not there"): expected '
+    'opaque identity<V>, its length announces 63 bytes, 5 are left'
+)
 # What is printed of the stored runs that are rejected, by hand: the byte, the path, the error, and what was expected there.
 REFUSALS = {
     "json_refused": (
@@ -582,10 +518,9 @@ REFUSALS = {
         'refused at byte 13, in leaf_node.credential.credential_type: UnknownValue(9): expected CredentialType: basic '
         '(1), x509 (2), 9 (0x9) is there'
     ),
-    "json_identity_cut_off": (
-        'refused at byte 15, in leaf_node.credential.identity: DecodingError("declared content is not there"): expected '
-        'opaque identity<V>, its length announces 63 bytes, 5 are left'
-    ),
+    "json_identity_cut_off": IDENTITY_CUT_OFF,
+    # the same bytes, which docs/tlsdump.svg shows
+    "refused_identity": IDENTITY_CUT_OFF,
     # section 2.1.2: a length has the fewest bytes
     "json_identity_wide_length": (
         'refused at byte 15, in leaf_node.credential.identity: InvalidVectorLength: expected opaque identity<V>, its '
@@ -610,6 +545,20 @@ REFUSALS = {
     "json_session_id": (
         'refused at byte 34, in legacy_session_id: InvalidVectorLength: expected opaque legacy_session_id<0..32>, its '
         'length is 33 bytes'
+    ),
+    # the version is that of TLS 1.2
+    "json_legacy_version": (
+        'refused at byte 0, in legacy_version: UnknownValue(770): expected ProtocolVersion legacy_version = 0x0303, 770 '
+        '(0x302) is there'
+    ),
+    # section 4.6.1: two numbers of four bytes, a nonce, and a ticket of at least one byte
+    "json_empty_ticket": (
+        'refused at byte 9, in ticket: InvalidVectorLength: expected opaque ticket<1..2^16-1>, its length is 0 bytes'
+    ),
+    # RFC 9420, section 7.6: the list has three bytes, and its first element eight
+    "json_element_past_list": (
+        'refused at byte 3, in encrypted_path_secret[0].kem_output: DecodingError("elements do not fill the declared '
+        'length"): expected opaque kem_output<V>, the validator rejects what begins here'
     ),
 }
 

@@ -4,7 +4,7 @@
 A program is built once, without proof (`rt try`). A run is a file with the input; NAME.args has its words, and
 NAME.stdout what it must print. rt ci runs a program on one input alone, and proves it again for another one.
 Then tlsdump runs with a request for memory refused: it prints nothing and ends with status 3. The program that `rt ci` left in out/
-runs with an output that is full, which is status 3 too, and on rejected inputs: standard error has the line that trees.py has for each.
+runs with an output that is full, which is status 3 too, and on rejected inputs: standard error has the line that check_trees.py has for each.
 """
 import pathlib
 import re
@@ -14,7 +14,7 @@ import sys
 import tempfile
 
 sys.dont_write_bytecode = True
-import trees
+import check_trees as trees
 
 CRATES = pathlib.Path(__file__).resolve().parent.parent / "crates"
 
@@ -27,10 +27,15 @@ STATUS = {
         "as_dump": 0,
         "as_json": 0,
         "certificate": 0,
+        "certificate_body": 0,
+        "certificate_entry": 0,
         "certificate_request": 0,
+        "certificate_request_body": 0,
         "certificate_verify": 0,
         "client_hello": 0,
+        "client_hello_body": 0,
         "encrypted_extensions": 0,
+        "encrypted_extensions_body": 0,
         "end_of_early_data": 0,
         "extension_that_is_none": 0,
         "file": 0,
@@ -40,11 +45,14 @@ STATUS = {
         "help": 0,
         "json_capabilities": 1,
         "json_credential_type": 1,
+        "json_element_past_list": 1,
+        "json_empty_ticket": 1,
         "json_handshake_length": 1,
         "json_handshake_type": 1,
         "json_identity_cut_off": 1,
         "json_identity_wide_length": 1,
         "json_leaf_index": 1,
+        "json_legacy_version": 1,
         "json_option_tag": 1,
         "json_refused": 1,
         "json_session_id": 1,
@@ -54,6 +62,7 @@ STATUS = {
         "lifetime": 0,
         "list": 0,
         "new_session_ticket": 0,
+        "new_session_ticket_body": 0,
         "no_file": 2,
         "no_message": 1,
         "odd_digits": 2,
@@ -65,6 +74,7 @@ STATUS = {
         "refused_list": 1,
         "refused_session_id": 1,
         "server_hello": 0,
+        "server_hello_body": 0,
         "several_types": 2,
         "short": 0,
         "timestamps": 0,
@@ -151,7 +161,7 @@ def main():
             shutil.copytree(folder / "runs", cases)
             if program == "tlsdump":
                 make(cases)
-            assert all((cases / f"{name}.stdout").is_file() for name in runs), program
+            assert {path.stem for path in cases.glob("*.stdout")} == set(runs), f"{program}: STATUS has not just the runs"
             words = [word for path in sorted(folder.glob("data/*")) for word in ("--data", f"{path.name}=data/{path.name}")]
             ran = subprocess.run(["rt", "try", "--cases", cases, *words], cwd=folder, capture_output=True, text=True)
         output = ran.stdout + ran.stderr

@@ -7,7 +7,7 @@ stands under the generic type that it names. Types that a context decides stand 
 too: such a type has no format but one for each context, so its line is one of `SameFormat` and not of `Means`. Each that has a decoder
 from a slice, and each of `tls_codec_cases`, is validated by an impl in `tls_codec_validate`, without a context or in one.
 Each has a row in docs/API.md, with its crate and its traits, and so have the types of std that `tls_codec_base` gives them to.
-Prints what is missing; the last line is 'N passed, N failed', a type each.
+Each variant of `Error` is among the words for contracts. Prints what is missing; the last line is 'N passed, N failed', a type each.
 """
 import pathlib
 import re
@@ -104,6 +104,22 @@ def not_in_page(crate, name, traits, page):
         yield f"docs/API.md: {name} has {''.join(sorted(letters))}"
 
 
+def errors_lacking():
+    """The variants of Error that the words for contracts lack."""
+    body = (CRATES / "tls_codec_wire/src/error.rt").read_text().split("pub enum Error")[1].split("\n}")[0]
+    words = (CRATES / "tls_codec/specs/Errors.antt").read_text()
+    for name in re.findall(r"^    ([A-Z]\w+)", body, re.M):
+        if not re.search(rf"\b{name}\b", words):
+            yield f"specs/Errors.antt of tls_codec: no {name}"
+
+
+def report(lacks):
+    """Prints what a type lacks. Returns whether it lacks nothing."""
+    lines = list(lacks)
+    print("".join(f"{line}\n" for line in lines), end="")
+    return not lines
+
+
 def main():
     types, contexts, equality = ((TABLE / page).read_text() for page in ("types.rt", "contexts.rt", "equality.rt"))
     types += contexts
@@ -111,7 +127,7 @@ def main():
     by_crate = {crate: traits_of(crate) for crate in {crate for crate, _ in names}}
     validated = traits_of("tls_codec_validate")
     page, decided = list(rows()), PAGE.read_text().split("\n## In a context\n")[1].split("\n## ")[0]
-    passed, failed = 0, 0
+    results = []
     for crate, name in names:
         # (an impl for a type of wire stands in base)
         traits = by_crate[crate].get(name, set()) | by_crate["tls_codec_base"].get(name, set())
@@ -121,20 +137,17 @@ def main():
                 lacks += not_in_page(crate, name, traits, page)
             elif not re.search(rf"\b{name}\b", decided):
                 lacks.append(f"docs/API.md: no row for {name} in a context")
-            print("".join(f"{line}\n" for line in lacks), end="")
-            passed, failed = passed + (not lacks), failed + bool(lacks)
+            results.append(report(lacks))
     for name, traits in sorted(by_crate["tls_codec_base"].items()):
         if "Size" in traits and name not in {name for _, name in names}:
-            lacks = list(not_in_page("tls_codec_base", name, traits, page))
-            print("".join(f"{line}\n" for line in lacks), end="")
-            passed, failed = passed + (not lacks), failed + bool(lacks)
+            results.append(report(not_in_page("tls_codec_base", name, traits, page)))
     for name, traits in sorted(traits_of("tls_codec_cases").items()):
         if traits & VALIDATED.keys():
-            lacks = list(not_validated(name, traits, validated))
-            print("".join(f"{line}\n" for line in lacks), end="")
-            passed, failed = passed + (not lacks), failed + bool(lacks)
-    print(f"{passed} passed, {failed} failed")
-    return 1 if failed or not passed else 0
+            results.append(report(not_validated(name, traits, validated)))
+    results.append(report(errors_lacking()))
+    passed = sum(results)
+    print(f"{passed} passed, {len(results) - passed} failed")
+    return 0 if passed == len(results) else 1
 
 
 if __name__ == "__main__":

@@ -1,0 +1,57 @@
+/* What the tests in C share: a row's bytes, the text of an outcome, and the messages with their calls. */
+#ifndef ROWS_H
+#define ROWS_H
+
+#include <inttypes.h>
+#include <stdio.h>
+#include <stdlib.h>
+#include <string.h>
+#include <tls_codec/mls.h>
+#include <tls_codec/mls_check.h>
+#include <tls_codec/tls13.h>
+#include <tls_codec/tls13_check.h>
+#include <tls_codec/tls_codec.h>
+
+typedef tls_codec_outcome message_call(const uint8_t *bytes, size_t length);
+
+struct message {
+  const char *name;
+  message_call *validate, *check;
+};
+
+static const struct message messages[] = {
+#define MESSAGE(name) {#name, name##_validate, name##_check},
+#include "exports.inc"
+#undef MESSAGE
+};
+
+/* The message of this name, or NULL. */
+static inline const struct message *message_of(const char *name) {
+  for (size_t i = 0; i < sizeof messages / sizeof *messages; i++)
+    if (strcmp(messages[i].name, name) == 0) return &messages[i];
+  return NULL;
+}
+
+/* The bytes of hex digits, or none of `-`. They are in a block of their own size, so that a tool that watches memory sees a read past them.
+ * The program ends if the digits are no hex, or there is no memory. */
+static inline uint8_t *bytes_of(const char *digits, size_t *length) {
+  size_t count = strcmp(digits, "-") == 0 ? 0 : strlen(digits);
+  uint8_t *bytes = malloc(count / 2 + !count);
+  int is_hex = count % 2 == 0 && strspn(digits, "0123456789abcdef") >= count;
+  for (size_t i = 0; bytes && is_hex && i < count / 2; i++) is_hex = sscanf(digits + 2 * i, "%2" SCNx8, &bytes[i]) == 1;
+  if (!bytes || !is_hex) {
+    printf("no memory, or no hex: %s\n", digits);
+    exit(2);
+  }
+  *length = count / 2;
+  return bytes;
+}
+
+/* An outcome as a row has it, `STATUS TAKEN AT DETAIL`. The next call overwrites the text. */
+static inline const char *text_of(tls_codec_outcome it) {
+  static char text[100];
+  snprintf(text, sizeof text, "%" PRIu32 " %zu %zu %" PRIu64, it.status, it.taken, it.at, it.detail);
+  return text;
+}
+
+#endif
