@@ -8,7 +8,7 @@ use Rattle.tls_codec_grammar.specs.Grammar.{Grammar, Reading}
 use Rattle.tls_codec_grammar.specs.Field.{Field}
 use Rattle.tls_codec_grammar.specs.Format.{Format}
 use Rattle.tls_codec_grammar.specs.Decoding.{Begins, part_source_names}
-use Rattle.tls_codec_base.specs.Refusals.{NamedAfter, SliceNames, SourceNamedAfter, part_names}
+use Rattle.tls_codec_base.specs.Refusals.{NamedAfter, NamedAfterLength, SliceNames, SourceNamedAfter, SourceNamedAfterLength, part_names}
 
 -- ---- a first part, and the others that its value decides
 
@@ -38,7 +38,7 @@ filling_names field f names n x e =
 -- the length is refused, or after a length the value is
 abbrev pub enclosed_names : Field → Format → SliceNames → SliceNames
 enclosed_names field f names x e =
-    field.refuses x e ⊎ ((n : ℕ) × NamedAfter (λ s. field.spells s n) (filling_names field f names n) x e)
+    field.refuses x e ⊎ NamedAfterLength field (filling_names field f names) x e
 
 -- the same from a source
 abbrev pub filling_source_names : Format → Causes → ℕ → Causes
@@ -48,4 +48,4 @@ filling_source_names f names n x old new e =
 abbrev pub enclosed_source_names : Field → Format → Causes → Causes
 enclosed_source_names field f names x old new e =
     NumberNotRead field.refuses x old new e
-    ⊎ ((n : ℕ) × SourceNamedAfter (λ s. field.spells s n) (filling_source_names f names n) x old new e)
+    ⊎ SourceNamedAfterLength field (filling_source_names f names) x old new e

@@ -45,6 +45,14 @@ pub record SourceNamedAfter (Front : List ℕ → Type 0) (names : Causes) (x : 
   pub fell : NoneFell old between
   pub named : names rest between new e
 
+-- x begins with a length n of this field, and the error is one that n names of the rest
+abbrev pub NamedAfterLength : Field → (ℕ → SliceNames) → SliceNames
+NamedAfterLength field names x e = (n : ℕ) × NamedAfter (λ s. field.spells s n) (names n) x e
+
+-- the same from a source
+abbrev pub SourceNamedAfterLength : Field → (ℕ → Causes) → Causes
+SourceNamedAfterLength field names x old new e = (n : ℕ) × SourceNamedAfter (λ s. field.spells s n) (names n) x old new e
+
 -- ---- boxes
 
 -- from a slice: the content is there, and there was no memory for the box; or the content is refused
@@ -159,13 +167,13 @@ NamedWithin element names source old new e =
 -- from a slice: the length is refused, or after a length the elements are refused
 abbrev pub counted_list_names : Field → Format → SliceNames → SliceNames
 counted_list_names field element names x e =
-    field.refuses x e ⊎ ((n : ℕ) × NamedAfter (λ s. field.spells s n) (elements_names element names n) x e)
+    field.refuses x e ⊎ NamedAfterLength field (elements_names element names) x e
 
 -- from a source: the length isn't read, or after it the elements are refused
 abbrev pub counted_list_source_names : Field → Format → Causes → Causes
 counted_list_source_names field element names x old new e =
     NumberNotRead field.refuses x old new e
-    ⊎ ((n : ℕ) × SourceNamedAfter (λ s. field.spells s n) (elements_source_names element names n) x old new e)
+    ⊎ SourceNamedAfterLength field (elements_source_names element names) x old new e
 
 -- the same of lists after a variable-length integer
 abbrev pub list_names : Format → SliceNames → SliceNames

@@ -4,13 +4,13 @@ use Rattle.tls_codec_wire.specs.declared.error.Error.{Error}
 use Rattle.tls_codec_wire.specs.declared.error.Error.TheVariants.{TrailingData}
 use Rattle.tls_codec_grammar.specs.Field.{Field}
 use Rattle.tls_codec_grammar.specs.Format.{Format}
-use Rattle.tls_codec_base.specs.Refusals.{NamedAfter, SliceNames}
+use Rattle.tls_codec_base.specs.Refusals.{NamedAfterLength, SliceNames}
 use Rattle.tls_codec_validate.specs.Validated.{BeginsLeaving}
 use Rattle.tls_codec_validate.specs.Places.{PlacedNames, here}
 
 -- the length is refused, or fewer bytes come than it says
 abbrev pub length_names : Field → SliceNames
-length_names field x e = field.refuses x e ⊎ ((n : ℕ) × NamedAfter (λ s. field.spells s n) (λ y error. (length y < n) × field.cut_off error) x e)
+length_names field x e = field.refuses x e ⊎ NamedAfterLength field (λ n y error. (length y < n) × field.cut_off error) x e
 
 -- the rejected field is in the first n bytes of x, or is what is left of them after a value
 pub record PlacedWithin (f : Format) (places : PlacedNames) (n : ℕ) (rest x : List ℕ) (e : Error) : Type 0 where
@@ -25,4 +25,4 @@ pub record PlacedWithin (f : Format) (places : PlacedNames) (n : ℕ) (rest x : 
 -- it is the length, or after the length it is within what that counts
 abbrev pub enclosed_places : Field → Format → PlacedNames → PlacedNames
 enclosed_places field f places rest x e =
-    here (length_names field) rest x e ⊎ ((n : ℕ) × NamedAfter (λ s. field.spells s n) (PlacedWithin f places n rest) x e)
+    here (length_names field) rest x e ⊎ NamedAfterLength field (λ n. PlacedWithin f places n rest) x e

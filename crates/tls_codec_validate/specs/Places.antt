@@ -6,7 +6,7 @@ use Rattle.tls_codec_grammar.specs.Grammar.{Grammar}
 use Rattle.tls_codec_grammar.specs.Field.{Field}
 use Rattle.tls_codec_grammar.specs.Format.{Format}
 use Rattle.tls_codec_base.specs.Meanings.{SameNames}
-use Rattle.tls_codec_base.specs.Refusals.{IsPayloadTag, IsRun, NamedAfter, SliceNames, element_names, option_names, part_names}
+use Rattle.tls_codec_base.specs.Refusals.{IsPayloadTag, IsRun, NamedAfter, NamedAfterLength, SliceNames, element_names, option_names, part_names}
 use Rattle.tls_codec_validate.specs.declared.rejected.Rejected.{Rejected}
 use Rattle.tls_codec_validate.specs.Validated.{BeginsLeaving}
 
@@ -54,7 +54,7 @@ elements_places element places n rest x e = (left : ℕ) × NamedAfter (IsRun el
 -- it is the list, whose length is refused, or after the length it is in the elements
 abbrev pub counted_list_places : Field → Format → PlacedNames → PlacedNames
 counted_list_places field element places rest x e =
-    here field.refuses rest x e ⊎ ((n : ℕ) × NamedAfter (λ s. field.spells s n) (elements_places element places n rest) x e)
+    here field.refuses rest x e ⊎ NamedAfterLength field (λ n. elements_places element places n rest) x e
 
 -- the same fields may be rejected, whatever the bytes
 abbrev pub SamePlaces : PlacedNames → PlacedNames → Type 0

@@ -19,17 +19,33 @@ abbrev pub AppendsUnless : {X : Type 0} → (is_there : Bool) → (old new : Lis
 AppendsUnless true old new x left = (left ≡ Some x) × (new ≡ old)
 AppendsUnless false old new x left = (left ≡ None) × (new ≡ old ++ x ∷ [])
 
--- one of these fields has the name of this one
-abbrev pub has_name_of : List Member → Member → Bool
-has_name_of members member = list_any (λ other. string_eq member.name other.name) members
+-- one of these fields has this name
+abbrev pub has_member_named : (name : String Global) → List Member → Bool
+has_member_named name members = list_any (λ member. string_eq name member.name) members
 
--- one of these messages has the module of this one
-abbrev pub has_module_of : List Message → Message → Bool
-has_module_of messages message = list_any (λ other. string_eq message.module other.module) messages
+-- one of these values has this name
+abbrev pub has_value_named : (name : String Global) → List Value → Bool
+has_value_named name values = list_any (λ value. string_eq name value.name) values
+
+-- one of these values has this number
+abbrev pub has_value_numbered : (number : ℕ) → List Value → Bool
+has_value_numbered number values = list_any (λ value. nat_eq number value.number) values
+
+-- one of these cases has this name
+abbrev pub has_variant_named : (name : String Global) → List Variant → Bool
+has_variant_named name variants = list_any (λ variant. string_eq name variant.name) variants
+
+-- one of these cases has this tag
+abbrev pub has_variant_tagged : (tag : ℕ) → List Variant → Bool
+has_variant_tagged tag variants = list_any (λ variant. nat_eq tag variant.tag) variants
+
+-- one of these messages has this module
+abbrev pub has_message_in : (name : String Global) → List Message → Bool
+has_message_in name messages = list_any (λ message. string_eq name message.module) messages
 
 -- a module that isn't in a set is that of no message
 abbrev pub Covers : BTreeSet (String Global) → List Message → Type 0
-Covers modules messages = (name : String Global) → contains string_cmp modules name ≡ false → list_any (λ other. string_eq name other.module) messages ≡ false
+Covers modules messages = (name : String Global) → contains string_cmp modules name ≡ false → has_message_in name messages ≡ false
 
 -- there is one proof of it at most
 pub Covers-prop : (modules : BTreeSet (String Global)) (messages : List Message) → IsProp (Covers modules messages)
@@ -47,13 +63,21 @@ Takes Refuses old new x (Some why) = Refuses why × (new ≡ old)
 -- why a value can't be added to these, whose numbers have `width` bytes
 abbrev pub RefusesValue : (width : ℕ) → List Value → Value → Unfit → Type 0
 RefusesValue width values value TooGreat = value.number < 256 ^ width → ⊥
-RefusesValue width values value SameNumber = IsTrue (list_any (λ other. nat_eq value.number other.number) values)
-RefusesValue width values value SameName = IsTrue (list_any (λ other. string_eq value.name other.name) values)
+RefusesValue width values value SameNumber = IsTrue (has_value_numbered value.number values)
+RefusesValue width values value SameName = IsTrue (has_value_named value.name values)
 RefusesValue width values value ManyFields = ⊥
+
+-- a value is appended, or refused
+abbrev pub TakesValue : (width : ℕ) → (old new : List Value) → Value → Option Unfit → Type 0
+TakesValue width old new value left = Takes (RefusesValue width old value) old new value left
 
 -- why a case can't be added to these, whose tags have `width` bytes
 abbrev pub RefusesCase : (width : ℕ) → List Variant → Variant → Unfit → Type 0
 RefusesCase width variants variant TooGreat = variant.tag < 256 ^ width → ⊥
-RefusesCase width variants variant SameNumber = IsTrue (list_any (λ other. nat_eq variant.tag other.tag) variants)
-RefusesCase width variants variant SameName = IsTrue (list_any (λ other. string_eq variant.name other.name) variants)
+RefusesCase width variants variant SameNumber = IsTrue (has_variant_tagged variant.tag variants)
+RefusesCase width variants variant SameName = IsTrue (has_variant_named variant.name variants)
 RefusesCase width variants variant ManyFields = length variant.fields.items ≤ 18 → ⊥
+
+-- a case is appended, or refused
+abbrev pub TakesCase : (width : ℕ) → (old new : List Variant) → Variant → Option Unfit → Type 0
+TakesCase width old new variant left = Takes (RefusesCase width old variant) old new variant left

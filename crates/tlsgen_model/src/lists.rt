@@ -1,9 +1,8 @@
 //! Lists in which each name and each number comes once.
-ghost use Rattle.std.specs.Prelude.{◌≡◌, [], ◌≤◌, ◌<◌, ◌^◌, nat_eq, ◌↔◌, IfOk, IfSome, IsSome, IsTrue, length};
-ghost use Rattle.std.specs.List.{All, list_any};
-ghost use Rattle.std.specs.String.{string_eq};
+ghost use Rattle.std.specs.Prelude.{◌≡◌, [], ◌≤◌, ◌<◌, ◌^◌, ◌↔◌, IfOk, IfSome, IsSome, IsTrue, length};
+ghost use Rattle.std.specs.List.{All};
 ghost use Rattle.std.proofs.Props.{props};
-ghost use Rattle.tlsgen_model.specs.Taking.{AppendsUnless, RefusesCase, RefusesValue, Takes, has_name_of};
+ghost use Rattle.tlsgen_model.specs.Taking.{AppendsUnless, TakesCase, TakesValue, has_member_named, has_value_named, has_value_numbered, has_variant_named, has_variant_tagged};
 ghost use Rattle.tlsgen_model.specs.Types.{IsType};
 ghost use Rattle.tlsgen_model.specs.Width.{is_length};
 ghost use Rattle.tlsgen_model.specs.Writable.{HaveNames, HaveNumbers, HaveTags, HaveTypes, HaveValueNames, HaveVariantNames, IsCase, IsWritable};
@@ -61,7 +60,7 @@ impl FieldList {
 
     /// Whether a field has this name.
     pub fn has_name(&self, name: &String) -> bool
-        ensures { result ≡ list_any (λ member. string_eq name.now member.name) self.now.members.items }
+        ensures { result ≡ has_member_named name.now self.now.members.items }
     {
         self.members.iter().any(|member| *name == member.name)
     }
@@ -70,7 +69,7 @@ impl FieldList {
     #[tactic(auto, using(crate::proofs::Keys::names_push, crate::proofs::Fits::types_push))]
     pub fn push(&mut self, member: Member) -> Result<Option<Member>, AllocError>
         requires { IsType member.of }
-        ensures { IfOk result (AppendsUnless (has_name_of self.old.members.items member)
+        ensures { IfOk result (AppendsUnless (has_member_named member.name self.old.members.items)
             self.old.members.items self.new.members.items member) }
     {
         if self.has_name(&member.name) {
@@ -133,14 +132,14 @@ impl ValueList {
 
     /// Whether a value has this name.
     pub fn has_name(&self, name: &String) -> bool
-        ensures { result ≡ list_any (λ value. string_eq name.now value.name) self.now.values.items }
+        ensures { result ≡ has_value_named name.now self.now.values.items }
     {
         self.values.iter().any(|value| *name == value.name)
     }
 
     /// Whether a value has this number.
     pub fn has_number(&self, number: u64) -> bool
-        ensures { result ≡ list_any (λ value. nat_eq number value.number) self.now.values.items }
+        ensures { result ≡ has_value_numbered number self.now.values.items }
     {
         self.values.iter().any(|value| number == value.number)
     }
@@ -148,8 +147,8 @@ impl ValueList {
     /// Appends a value, or says why it isn't.
     #[tactic(auto, using(crate::proofs::Keys::numbers_push, crate::proofs::Keys::value_names_push, crate::proofs::Fits::values_fit_push))]
     pub fn push(&mut self, value: Value) -> Result<Option<Unfit>, AllocError>
-        ensures taken { IfOk result (Takes (RefusesValue self.old.width.bytes self.old.values.items value)
-            self.old.values.items self.new.values.items value) }
+        ensures taken { IfOk result
+            (TakesValue self.old.width.bytes self.old.values.items self.new.values.items value) }
         ensures width { self.new.width ≡ self.old.width }
     {
         if self.has_name(&value.name) {
@@ -201,14 +200,14 @@ impl CaseList {
 
     /// Whether a case has this name.
     pub fn has_name(&self, name: &String) -> bool
-        ensures { result ≡ list_any (λ variant. string_eq name.now variant.name) self.now.variants.items }
+        ensures { result ≡ has_variant_named name.now self.now.variants.items }
     {
         self.variants.iter().any(|variant| *name == variant.name)
     }
 
     /// Whether a case has this number.
     pub fn has_tag(&self, tag: u64) -> bool
-        ensures { result ≡ list_any (λ variant. nat_eq tag variant.tag) self.now.variants.items }
+        ensures { result ≡ has_variant_tagged tag self.now.variants.items }
     {
         self.variants.iter().any(|variant| tag == variant.tag)
     }
@@ -218,8 +217,8 @@ impl CaseList {
     pub fn push(&mut self, variant: Variant) -> Result<Option<Unfit>, AllocError>
         requires names { HaveNames variant.fields.items }
         requires types { HaveTypes variant.fields.items }
-        ensures taken { IfOk result (Takes (RefusesCase self.old.width.bytes self.old.variants.items variant)
-            self.old.variants.items self.new.variants.items variant) }
+        ensures taken { IfOk result
+            (TakesCase self.old.width.bytes self.old.variants.items self.new.variants.items variant) }
         ensures width { self.new.width ≡ self.old.width }
     {
         if variant.fields.len() > MOST_OF_CASE {

@@ -1,9 +1,8 @@
 //! Messages that can all be written.
 ghost use Rattle.std.specs.Prelude.{◌≡◌, [], IfOk};
-ghost use Rattle.std.specs.List.{filter, list_any};
-ghost use Rattle.std.specs.String.{string_eq};
+ghost use Rattle.std.specs.List.{filter};
 ghost use Rattle.std.proofs.Props.{props};
-ghost use Rattle.tlsgen_model.specs.Taking.{AppendsUnless, Covers, Covers-prop, has_module_of, stays};
+ghost use Rattle.tlsgen_model.specs.Taking.{AppendsUnless, Covers, Covers-prop, has_message_in, stays};
 ghost use Rattle.tlsgen_model.specs.Writable.{AreWritable, AreWritable-prop, HaveModules, IsWritable};
 
 use crate::plan::Message;
@@ -40,7 +39,7 @@ impl Messages {
 
     /// Whether a message has this module.
     pub fn has_module(&self, name: &String) -> bool
-        ensures { result ≡ list_any (λ other. string_eq name.now other.module) self.now.messages.items }
+        ensures { result ≡ has_message_in name.now self.now.messages.items }
     {
         self.modules.contains(name) && self.messages.iter().any(|other| *name == other.module)
     }
@@ -49,7 +48,7 @@ impl Messages {
     #[tactic(auto, using(crate::proofs::Fits::writable_push, crate::proofs::Keys::modules_push))]
     pub fn push(&mut self, message: Message) -> Result<Option<Message>, AllocError>
         requires { IsWritable message.body }
-        ensures { IfOk result (AppendsUnless (has_module_of self.old.messages.items message)
+        ensures { IfOk result (AppendsUnless (has_message_in message.module self.old.messages.items)
             self.old.messages.items self.new.messages.items message) }
     {
         if self.has_module(&message.module) {
