@@ -26,6 +26,7 @@ DATED = re.compile(r"\n\*20\d\d-\d\d-\d\d, `[0-9a-f]{8}`\*\n")
 SHORT = {"wire": "tls_codec_wire", "grammar": "tls_codec_grammar", "base": "tls_codec_base"}
 ITEM = re.compile(r"^\d\. \*\*(\w+)\*\*, (\d+) lines: (.*?)(?=^\d\. |^$)", re.M | re.S)
 FILE = re.compile(r"`(wire|grammar|base)/([\w/]+\.(?:antt|rt))`(?:\s+to\s+`([^`]+)`)?")
+LISTS = ["Formats", "Calls"]
 SKIP = re.compile(r"^Skip (.*?)$\n\n", re.M | re.S)
 TAKEN = re.compile(r"^(?:ghost )?use Rattle\.tls_codec_\w+\.specs\.(?:declared\.)?(\w+)[\w.]*\.\{([^}]*)\}", re.M)
 
@@ -82,13 +83,25 @@ def findings():
     return [line for found, _ in parts for line in found], sum(checked for _, checked in parts)
 
 
+def ill_formed(items: list[tuple[str, str, str]]) -> list[str]:
+    """What hides a list, or a file of one, from this script."""
+    names = [name for name, _, _ in items]
+    found = [] if names == LISTS else [f"docs/MAP.md: the lists that can be read are {names}, and should be {LISTS}"]
+    for name, _, text in items:
+        named, read = len(re.findall(r"\.(?:antt|rt)\b", text)), len(FILE.findall(text))
+        if read != named:
+            found.append(f"docs/MAP.md: {name} names {named} files, of which {read} can be read")
+    return found
+
+
 def list_findings():
     """What isn't as MAP says, and how many words and lengths were checked."""
     page = (TOP / "docs/MAP.md").read_text()
     section = page[page.index("## What to read") :]
     skipped = set(re.findall(r"`(\w+)`", SKIP.search(section)[1]))
-    found, checked, read = [], 0, ""
-    for name, stated, text in ITEM.findall(section):
+    items, read = ITEM.findall(section), ""
+    found, checked = ill_formed(items), 1
+    for name, stated, text in items:
         parts = {(crate, path): part(crate, path, end) for crate, path, end in FILE.findall(text)}
         length = sum(map(len, parts.values()))
         checked += 1
