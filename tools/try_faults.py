@@ -115,8 +115,8 @@ def checked(libraries: Libraries, crate: str, room: pathlib.Path, modules: list[
     return subprocess.run(words, cwd=room / "crates" / crate, text=True, errors="replace", **how).stdout
 
 
-def clauses_refused(output: str, crate: str, room: pathlib.Path) -> dict[str, set[str]]:
-    """Of each type the clauses of its law for which an answer is no proof; '?' if the law isn't proved for another reason."""
+def laws_tried(output: str, crate: str, room: pathlib.Path) -> dict[str, set[str]]:
+    """Of each type whose law was tried the clauses for which an answer is no proof: none if it is proved, '?' for another reason."""
     found: dict[str, set[str]] = {}
     errors = [it.groups() for it in re.finditer(r"^\./proofs/(\S+):\d+:\d+: error: `([^`]+)`: (.*)", output, re.M)]
     open_goals = [(file, name) for file, name, text in errors if verdicts.NO_PROOF.match(text)]
@@ -128,9 +128,14 @@ def clauses_refused(output: str, crate: str, room: pathlib.Path) -> dict[str, se
         answers = f"{law[1].replace('::', '/')}/Answers.antt"
         clauses = {name.removeprefix("returns-clause-") for file, name in open_goals if file == answers}
         clauses |= {{"saying": "values", "naming": "names"}[name.removeprefix(f"{word[1]}_")] for _, name in open_goals if name in (f"{word[1]}_saying", f"{word[1]}_naming")}
-        if law[2] != "proved" or clauses:
-            found[page.stem] = clauses or {"?"}
+        found[page.stem] = clauses or (set() if law[2] == "proved" else {"?"})
     return found
+
+
+def laws_in(crate: str, room: pathlib.Path, modules: list[str]) -> int:
+    """How many laws these modules of the copy have."""
+    pages = [room / "crates" / crate / "src" / f"{it}.rt" for it in modules]
+    return sum(len(re.findall(r"^pub fn \w+_is_as_printed\(", it.read_text(), re.M)) for it in pages)
 
 
 def prepared(crate: str, faults: list[Fault], room: pathlib.Path) -> list[str]:
@@ -155,16 +160,19 @@ def main() -> int:
         faults = [read(it) for it in sorted(folder.glob("*.fault"))]
         with tempfile.TemporaryDirectory(prefix="faults-") as it:
             room = pathlib.Path(it)
-            output = checked(libraries, crate, room, prepared(crate, faults, room))
-            refused = clauses_refused(output, crate, room)
-        proved = len(re.findall(rf"^fn {crate}::\w+::\w+_is_as_printed: proved$", output, re.M))
+            modules = prepared(crate, faults, room)
+            output = checked(libraries, crate, room, modules)
+            tried, written_laws = laws_tried(output, crate, room), laws_in(crate, room, modules)
+        refused = {name: clauses for name, clauses in tried.items() if clauses}
+        proved = len(tried) - len(refused)
         for fault in faults:
             is_so = all([refused.pop(name, set()) == clauses for name, clauses in fault.refused.items()])
             clauses_of_laws = ", ".join(f"{name} by {' and '.join(sorted(clauses))}" for name, clauses in fault.refused.items())
             print(f"{crate}: {fault.name}: {'refused' if is_so else 'NOT REFUSED AS IT SAYS'}: {clauses_of_laws}")
             passed, failed = passed + is_so, failed + (not is_so)
-        is_rest_proved = not refused and proved > 0
-        print(f"{crate}: {proved} other laws are proved" if is_rest_proved else f"{crate}: refused too: {refused or output[-2000:]}")
+        is_rest_proved = not refused and proved > 0 and len(tried) == written_laws
+        not_so = f"{len(tried)} of {written_laws} laws were tried, refused too: {refused or output[-2000:]}"
+        print(f"{crate}: {f'{proved} other laws are proved' if is_rest_proved else not_so}")
         passed, failed = passed + is_rest_proved, failed + (not is_rest_proved)
     print(f"{passed} passed, {failed} failed")
     return 1 if failed or not passed else 0
