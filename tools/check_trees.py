@@ -501,12 +501,25 @@ IDENTITY_CUT_OFF = (
     'refused at byte 15, in leaf_node.credential.identity: DecodingError("declared content is not there"): expected '
     'opaque identity<V>, its length announces 63 bytes, 5 are left'
 )
+# RFC 9420, section 7.2: three bytes hold one version of two, and half of another
+HALF_A_VERSION = (
+    'refused at byte 28, in key_package.leaf_node.capabilities.versions[1]: DecodingError("elements do not fill the '
+    'declared length"): expected ProtocolVersion: mls10 (1), 1 byte is left'
+)
 # What is printed of the stored runs that are rejected, by hand: the byte, the path, the error, and what was expected there.
 REFUSALS = {
-    "json_refused": (
-        'refused at byte 28, in key_package.leaf_node.capabilities.versions[1]: DecodingError("elements do not fill the '
-        'declared length"): expected ProtocolVersion: mls10 (1), 1 byte is left'
+    "json_refused": HALF_A_VERSION,
+    # the same bytes
+    "refused_list": HALF_A_VERSION,
+    # a length of 63, and 59 bytes
+    "refused_length": (
+        'refused at byte 19, in key_package.leaf_node.credential.identity: DecodingError("declared content is not '
+        'there"): expected opaque identity<V>, its length announces 63 bytes, 59 are left'
     ),
+    # section 6.3: an epoch has eight bytes
+    "no_message": "refused at byte 5, in private_message.epoch: EndOfStream: expected uint64 epoch, 1 byte is left",
+    # a message of 21 bytes, and one more byte
+    "trailing_byte": "refused at byte 21, in version: EndOfStream: expected ProtocolVersion: mls10 (1), 1 byte is left",
     # RFC 9420, section 6: the version is mls10, and there are five wire formats
     "json_version": 'refused at byte 0, in version: UnknownValue(2): expected ProtocolVersion: mls10 (1), 2 (0x2) is there',
     "json_wire_format": (
@@ -545,6 +558,11 @@ REFUSALS = {
     "json_session_id": (
         'refused at byte 34, in legacy_session_id: InvalidVectorLength: expected opaque legacy_session_id<0..32>, its '
         'length is 33 bytes'
+    ),
+    # the same in a Handshake
+    "refused_session_id": (
+        'refused at byte 38, in client_hello.legacy_session_id: InvalidVectorLength: expected opaque '
+        'legacy_session_id<0..32>, its length is 33 bytes'
     ),
     # the version is that of TLS 1.2
     "json_legacy_version": (

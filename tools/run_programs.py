@@ -4,8 +4,12 @@
 A program is built once, without proof (`rt try`). A run is a file with the input; NAME.args has its words, and
 NAME.stdout what it must print. rt ci runs a program on one input alone, and proves it again for another one.
 Then tlsdump runs with a request for memory refused: it prints nothing and ends with status 3. The program that `rt ci` left in out/
-runs with an output that is full, which is status 3 too, and on rejected inputs: standard error has the line that check_trees.py has for each.
+runs with an output that is full, which is status 3 too, and on each input that is rejected or can't be read: standard error has one line, that of
+check_trees.py or of UNREAD.
 """
+from __future__ import annotations
+
+import collections.abc
 import pathlib
 import re
 import shutil
@@ -98,6 +102,16 @@ SHOWN = {
 }
 
 
+# What standard error has of each input that can't be read, after the program's name. After a blank at the end come the system's words.
+UNREAD = {
+    "no_file": "nowhere: ",
+    "odd_digits": "an odd number of hex digits (5); --binary takes the bytes themselves",
+    "over_limit": f"the input has more than {MOST} bytes",
+    "several_types": "Certificate names several types: write mls.Certificate or tls.Certificate",
+    "unknown_type": "there is no type Nothing: --list prints them",
+    "wrong_digit": "line 2, column 8: 0x67 is no hex digit; --binary takes the bytes themselves, --base64 base64",
+}
+
 # The request for memory of the run `key_package` of tlsdump that is refused, and the status where memory or the output fails.
 REFUSED = 1000
 NO_ROOM = 3
@@ -127,22 +141,35 @@ def is_refused():
     return False
 
 
-def built(words, name, output):
-    """tlsdump as rt ci built it, on a stored input: its status, and the lines on standard error."""
-    folder = CRATES / "tlsdump"
-    with (folder / "runs" / name).open("rb") as input, open(output, "wb") as out:
-        ran = subprocess.run([folder / "out" / "tlsdump", *words], stdin=input, stdout=out, stderr=subprocess.PIPE)
+def built(words: list[str], path: pathlib.Path, output: str) -> tuple[int, str]:
+    """The status of tlsdump as rt ci built it, on an input, and what it prints on standard error."""
+    with path.open("rb") as given, open(output, "wb") as out:
+        ran = subprocess.run([CRATES / "tlsdump" / "out" / "tlsdump", *words], stdin=given, stdout=out, stderr=subprocess.PIPE)
     return ran.returncode, ran.stderr.decode()
 
 
-def streams():
-    """What standard error and the status say of an output without room, and of each input that is rejected."""
-    status, printed = built([], "key_package", "/dev/full")
-    yield "full", (status, printed.startswith("tlsdump: ")) == (NO_ROOM, True), printed
-    for name, line in trees.REFUSALS.items():
-        words = (CRATES / "tlsdump" / "runs" / f"{name}.args").read_text().split()
-        status, printed = built([word for word in words if word != "--json"], name, "/dev/null")
-        yield name, (status, printed) == (1, f"tlsdump: {line}\n"), printed
+def is_line(printed: str, wanted: str) -> bool:
+    """Whether just this line of the program is printed, or one that begins so, if more comes after a blank."""
+    line, end, more = printed.partition("\n")
+    is_so = line.startswith(f"tlsdump: {wanted}") if wanted.endswith(" ") else line == f"tlsdump: {wanted}"
+    return is_so and (end, more) == ("\n", "")
+
+
+def streams() -> collections.abc.Iterator[tuple[str, bool, str]]:
+    """What standard error and the status say of an output without room, and of each input that is rejected or can't be read."""
+    with tempfile.TemporaryDirectory() as room:
+        cases = pathlib.Path(room, "runs")
+        shutil.copytree(CRATES / "tlsdump" / "runs", cases)
+        make(cases)
+        status, printed = built([], cases / "key_package", "/dev/full")
+        yield "full", (status, printed.startswith("tlsdump: ")) == (NO_ROOM, True), printed
+        for wanted, lines in ((1, trees.REFUSALS), (2, UNREAD)):
+            assert set(lines) == {name for name, status in STATUS["tlsdump"].items() if status == wanted}, f"no line for each run with status {wanted}"
+            for name, line in lines.items():
+                words = cases / f"{name}.args"
+                given = words.read_text().split() if words.exists() else []
+                status, printed = built([word for word in given if word != "--json"], cases / name, "/dev/null")
+                yield name, status == wanted and is_line(printed, line), printed
 
 
 def main():
