@@ -441,11 +441,39 @@ def printed(input, words, refusal):
     return out
 
 
+# The structs of the texts that tlsdump doesn't show, by the reason.
+NOT_SHOWN = {
+    "hashed, signed or derived from, and not sent: its crate encodes it, and doesn't decode it": {
+        *("AuthenticatedContentTBM", "ConfirmedTranscriptHashInput", "EncryptContext", "FramedContentTBS", "GroupInfoTBS", "InterimTranscriptHashInput"),
+        *("KDFLabel", "KeyPackageTBS", "LeafNodeTBS", "PSKLabel", "ParentHashInput", "PrivateContentAAD", "RefHashInput", "SenderDataAAD", "SignContent"),
+    },
+    "a field of another message decides what it is": {
+        *("EarlyDataIndication", "FramedContentAuthData", "PreSharedKeyExtension", "PrivateMessageContent", "SupportedVersions"),
+    },
+    "it has no bytes": {"Empty", "EndOfEarlyData", "PostHandshakeAuth"},
+    "its length is elsewhere: that of a record, a hash or a curve": {"Finished", "TLSInnerPlaintext", "UncompressedPointRepresentation"},
+}
+
+
+def structs_of(protocol: str) -> set[str]:
+    """The structs of a protocol's texts, and what some of them sign."""
+    names = set()
+    for text in PROTOCOLS[protocol] if protocol != "tls" else ["tls13"]:
+        for one in Parser((CRATES / "tlsgen" / "data" / f"{text}.tls").read_text()).all():
+            if one[0] not in ("enum", "alias"):
+                names.add(name_of(one))
+                names |= {f"{name_of(one)}TBS" for part in one[-2] if part[0] == "signed"}
+    return names
+
+
 def listed():
-    """What --list prints: the types of crates/tlsdump/src/kinds, with the sections that the texts' comments name."""
-    out = ""
-    for protocol, file in (("mls", "mls"), ("tls", "tls13"), ("ct", "ct")):
-        names = set(re.findall(r'^ +"(\w+)" =>', (CRATES / "tlsdump" / "src" / "kinds" / f"of_{file}.rt").read_text(), re.M))
+    """What --list prints: the structs of the texts, but those of NOT_SHOWN, with the sections that the texts' comments name."""
+    out, left_out = "", set().union(*NOT_SHOWN.values())
+    structs = {protocol: structs_of(protocol) for protocol in ("mls", "tls", "ct")}
+    unknown = left_out.difference(*structs.values())
+    assert not unknown, f"NOT_SHOWN has what no text has: {unknown}"
+    for protocol, all_names in structs.items():
+        names = all_names - left_out
         for text in PROTOCOLS[protocol] if protocol != "tls" else ["tls13"]:
             rfc = section = ""
             for line in (CRATES / "tlsgen" / "data" / f"{text}.tls").read_text().splitlines():
