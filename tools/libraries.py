@@ -3,6 +3,7 @@ from __future__ import annotations
 
 import pathlib
 import shutil
+import sys
 
 TOP = pathlib.Path(__file__).resolve().parent.parent
 CRATES = TOP / "crates"
@@ -16,8 +17,12 @@ class Libraries:
         named = [it.partition(":") for it in lines if ":" in it and not it.startswith("#")]
         self.uses = {name.split()[0]: uses.split() for name, _, uses in named}
         self.static = [name.split()[0] for name, _, _ in named if "staticlib" in name.split()]
+
+    @property
+    def kit(self) -> pathlib.Path:
+        """The folder of the kit that `rt` is of."""
         found = shutil.which("rt")
-        self.kit = pathlib.Path(found).resolve().parent.parent if found else pathlib.Path()
+        return pathlib.Path(found).resolve().parent.parent if found else sys.exit("rt isn't on the path")
 
     def below(self, crate: str) -> list[str]:
         """The repository's libraries that a crate uses, directly or not."""
