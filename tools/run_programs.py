@@ -5,7 +5,8 @@ A program is built once, without proof (`rt try`). A run is a file with the inpu
 NAME.stdout what it must print. rt ci runs a program on one input alone, and proves it again for another one.
 Then tlsdump runs with a request for memory refused: it prints nothing and ends with status 3. The program that `rt ci` left in out/
 runs with an output that is full, which is status 3 too, and on each input that is rejected or can't be read: standard error has one line, that of
-check_trees.py or of UNREAD.
+check_trees.py or of UNREAD. tlsgen, from out/ too, has runs that print nothing but what TLSGEN has for standard error: {} among their words
+names a copy of the input.
 """
 from __future__ import annotations
 
@@ -18,6 +19,7 @@ import sys
 import tempfile
 
 sys.dont_write_bytecode = True
+import check_generated as generated
 import check_trees as trees
 
 CRATES = pathlib.Path(__file__).resolve().parent.parent / "crates"
@@ -112,6 +114,30 @@ UNREAD = {
     "wrong_digit": "line 2, column 8: 0x67 is no hex digit; --binary takes the bytes themselves, --base64 base64",
 }
 
+# The status of each run of tlsgen, and what standard error has, or how it begins before the system's words or clap's.
+NO_NAME = "expected a crate's name, of small letters, digits and _, and no word of Rust\n"
+TLSGEN = {
+    # the line that docs/MESSAGES.md quotes
+    "opaque_alone": (
+        2,
+        'opaque_alone: line 6, column 20: found "opaque", expected bytes in a vector, as `opaque NAME<V>` or `opaque NAME[16]`\n',
+    ),
+    "in_two_crates": (
+        2,
+        'in_two_crates: line 1, column 10: found "Hello", expected a name that one of the crates given by --with has alone\n'
+        "of other crates, this name is in: one, other\n",
+    ),
+    "no_crate_name": (2, f"--crate 9: {NO_NAME}"),
+    "no_text": (2, "nowhere.tls: "),
+    "to_folder": (0, ""),
+    "to_no_folder": (2, "hello.tls/src/lib.rt: "),
+    "with_no_crate_name": (2, f"--with Tls: {NO_NAME}"),
+    "with_no_name": (2, "--with tls13.tls: expected NAME=FILE or NAME=FILE,NOTES\n"),
+    "wrong_flag": (2, "error: unexpected argument '--into' found\n\n"),
+}
+# The run whose files are those of the output of `rt ci`.
+WRITES = "to_folder"
+
 # The request for memory of the run `key_package` of tlsdump that is refused, and the status where memory or the output fails.
 REFUSED = 1000
 NO_ROOM = 3
@@ -148,11 +174,10 @@ def built(words: list[str], path: pathlib.Path, output: str) -> tuple[int, str]:
     return ran.returncode, ran.stderr.decode()
 
 
-def is_line(printed: str, wanted: str) -> bool:
-    """Whether just this line of the program is printed, or one that begins so, if more comes after a blank."""
-    line, end, more = printed.partition("\n")
-    is_so = line.startswith(f"tlsdump: {wanted}") if wanted.endswith(" ") else line == f"tlsdump: {wanted}"
-    return is_so and (end, more) == ("\n", "")
+def is_as(printed: str, wanted: str) -> bool:
+    """Whether just this is printed, or more lines that begin so, if it ends with a blank or an empty line."""
+    has_more = wanted.endswith((" ", "\n\n")) and printed.startswith(wanted) and printed[len(wanted) :].endswith("\n")
+    return has_more or printed == wanted
 
 
 def streams() -> collections.abc.Iterator[tuple[str, bool, str]]:
@@ -162,25 +187,43 @@ def streams() -> collections.abc.Iterator[tuple[str, bool, str]]:
         shutil.copytree(CRATES / "tlsdump" / "runs", cases)
         make(cases)
         status, printed = built([], cases / "key_package", "/dev/full")
-        yield "full", (status, printed.startswith("tlsdump: ")) == (NO_ROOM, True), printed
+        yield "tlsdump, full", (status, printed.startswith("tlsdump: ")) == (NO_ROOM, True), printed
         for wanted, lines in ((1, trees.REFUSALS), (2, UNREAD)):
             assert set(lines) == {name for name, status in STATUS["tlsdump"].items() if status == wanted}, f"no line for each run with status {wanted}"
             for name, line in lines.items():
                 words = cases / f"{name}.args"
                 given = words.read_text().split() if words.exists() else []
                 status, printed = built([word for word in given if word != "--json"], cases / name, "/dev/null")
-                yield name, status == wanted and is_line(printed, line), printed
+                line = f"tlsdump: {line}" if line.endswith(" ") else f"tlsdump: {line}\n"
+                yield f"tlsdump, {name}", status == wanted and is_as(printed, line), printed
+
+
+def generated_runs() -> collections.abc.Iterator[tuple[str, bool, str]]:
+    """What standard error and the status say of each run of tlsgen as rt ci built it, which writes what it must, and prints nothing else."""
+    folder = CRATES / "tlsgen"
+    assert {path.stem for path in folder.glob("runs/*")} == set(TLSGEN), "TLSGEN has not just the runs"
+    for name, (status, wanted) in TLSGEN.items():
+        with tempfile.TemporaryDirectory() as room:
+            for path in [*folder.glob("data/*"), *folder.glob(f"runs/{name}")]:
+                shutil.copy(path, room)
+            words = [name if word == "{}" else word for word in (folder / "runs" / f"{name}.args").read_text().splitlines()]
+            ran = subprocess.run([folder / "out" / "tlsgen", *words], cwd=room, stdin=subprocess.DEVNULL, capture_output=True, text=True)
+            made = pathlib.Path(room, "made")
+            files = {path.relative_to(made).as_posix(): path.read_text() for path in made.rglob("*") if path.is_file()}
+        is_so = (ran.returncode, ran.stdout) == (status, "") and is_as(ran.stderr, wanted)
+        yield f"tlsgen, {name}", is_so and files == (generated.stored_files() if name == WRITES else {}), ran.stderr
 
 
 def main():
-    if not (CRATES / "tlsdump" / "out" / "tlsdump").is_file():
-        sys.exit("crates/tlsdump/out/tlsdump is not there: rt ci or rt run builds it\n0 passed, 1 failed")
+    for name in ("tlsdump", "tlsgen"):
+        if not (CRATES / name / "out" / name).is_file():
+            sys.exit(f"crates/{name}/out/{name} is not there: rt ci or rt run builds it\n0 passed, 1 failed")
     passed = int(is_refused())
     asked = 1
-    for name, is_so, printed in streams():
+    for name, is_so, printed in [*streams(), *generated_runs()]:
         asked, passed = asked + 1, passed + is_so
         if not is_so:
-            print(f"tlsdump, {name}: standard error has {printed!r}")
+            print(f"{name}: standard error has {printed!r}")
     for program, runs in STATUS.items():
         folder = CRATES / program
         with tempfile.TemporaryDirectory() as room:
