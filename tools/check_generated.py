@@ -14,7 +14,7 @@ import sys
 import tempfile
 
 sys.dont_write_bytecode = True
-from check_laws import CRATES, TEXTS
+from libraries import CRATES, TEXTS
 
 STORED = "hello"
 

@@ -4,17 +4,13 @@ has its laws, under its own name in the text, and each name that is called is th
 
 For each crate a line says so, or what isn't so.
 """
-import pathlib
 import re
 import sys
 
-CRATES = pathlib.Path(__file__).resolve().parent.parent / "crates"
-DATA = CRATES / "tlsgen" / "data"
+sys.dont_write_bytecode = True
+from libraries import CRATES, TEXTS
 
-# The crates with laws that tlsgen wrote, and the text of each, which has the crate's name but in one place.
-OTHER_NAMES = {"messages_of_each_shape": "each_shape"}
-WRITTEN = re.findall(r"^(\w+)_laws:", (CRATES.parent / "crates.txt").read_text(), re.M)
-TEXTS = {crate: OTHER_NAMES.get(crate, crate) for crate in WRITTEN}
+DATA = CRATES / "tlsgen" / "data"
 
 
 def plain(name):

@@ -1,7 +1,8 @@
-"""The crates of crates.txt, the words that let rattle find what `rt ci` built of them, and the rows that callers try."""
+"""The crates of crates.txt, their texts, the words that let rattle find what `rt ci` built of them, and the rows that callers try."""
 from __future__ import annotations
 
 import pathlib
+import re
 import shutil
 import sys
 
@@ -9,6 +10,9 @@ TOP = pathlib.Path(__file__).resolve().parent.parent
 CRATES = TOP / "crates"
 # The rows of messages that validators and decoders of callers are tried with.
 ROWS = [CRATES / "test_outcome" / "stdout", TOP / "c" / "tests" / "tls13.tsv"]
+# The crates with laws that tlsgen wrote, and the text of each, which has the crate's name but in one place.
+OTHER_NAMES = {"messages_of_each_shape": "each_shape"}
+TEXTS = {it: OTHER_NAMES.get(it, it) for it in re.findall(r"^(\w+)_laws:", (TOP / "crates.txt").read_text(), re.M)}
 
 
 class Libraries:

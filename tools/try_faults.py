@@ -25,10 +25,9 @@ import sys
 import tempfile
 
 sys.dont_write_bytecode = True
-import check_laws as laws
-import verdicts
 import check_generated as written
-from libraries import CRATES, TOP, Libraries
+import verdicts
+from libraries import CRATES, TEXTS, TOP, Libraries
 
 DATA = CRATES / "tlsgen" / "data"
 # Pages of the laws that are the text's, and stay.
@@ -139,7 +138,7 @@ def laws_in(crate: str, room: pathlib.Path, modules: list[str]) -> int:
 
 
 def prepared(crate: str, faults: list[Fault], room: pathlib.Path) -> list[str]:
-    text = laws.TEXTS[crate]
+    text = TEXTS[crate]
     data = room / "crates" / "tlsgen" / "data"
     shutil.copytree(DATA, data)
     (data / f"{text}.tls").write_text(with_faults((data / f"{text}.tls").read_text(), faults))
