@@ -1,7 +1,7 @@
 """The presentation language of RFC 8446, section 3, and RFC 9420, section 2.1, and the notes beside it, as crates/tlsgen/data has them.
 
-Definitions, their parts and notes are tuples that begin with their kind; fields and selects are dictionaries. write_laws.py and check_trees.py
-read the texts by it. `tlsgen` has a reader of its own.
+Definitions, their parts and notes are tuples that begin with their kind; fields and selects are dictionaries. write_laws.py, check_trees.py
+and message_reader.py read the texts by it. `tlsgen` has a reader of its own.
 """
 import re
 
