@@ -79,6 +79,10 @@ CHANGES = [
         "enum { warning(1), fatal(3), (255) } AlertLevel;\n enum { warning(1), fatal(2), (255) } AlertLevel;",
         'AlertLevel: same; elsewhere RFC has "fatal(3)," (line {there}), the text has "fatal(2)," (line {here} of tls13.tls)',
     ),
+    Change(
+        "9420", "mls_group", "struct {\n    ExternalSender external_senders<V>;\n} ExternalSenders;", "ExternalSender external_senders<V>;",
+        'ExternalSenders: same, as "ExternalSender external_senders<V>;" (line {there}) alone',
+    ),
     Change("9420", "mls_group", "} PSKOrigin;", "};", 'PreSharedKeyID: same without "PSKOrigin" (line {here} of mls_group.tls)'),
 ]
 
