@@ -26,6 +26,8 @@ VARIANT = re.compile(r"((?:^    ///.*\n)+)    (\w+)(?:\(.*\))?,$", re.M)
 C = {"u16": "uint16_t", "u32": "uint32_t", "u64": "uint64_t", "usize": "size_t"}
 # The libraries whose structs cross, and what their names begin with in C.
 STRUCTS = {"tls_codec_outcome": "tls_codec", "mls_fields": "mls", "tls13_fields": "tls13"}
+# Modules of the Rust crate that have another name than their library: a caller may use the crate `tls_codec` of crates.io too.
+MODULES = {"tls_codec": "lengths"}
 LONGEST = 100
 SAFE = "the pointer and the length are of one slice, nothing changes it during the call, and the call keeps no pointer."
 # What a call does, in C, by the end of its name; and what is put before its text in the source, or in place of the words there.
@@ -357,7 +359,7 @@ def module_in_rust(crate: str) -> list[str]:
         used.insert(0, "Elements")
     if encoders:
         used.append("written_as")
-    body = ["", f"/// {about(crate)}", f"pub mod {name} {{", f"    use crate::{{{', '.join(used)}}};", "", "    mod foreign {"]
+    body = ["", f"/// {about(crate)}", f"pub mod {MODULES.get(name, name)} {{", f"    use crate::{{{', '.join(used)}}};", "", "    mod foreign {"]
     body += [f"        use crate::{{Outcome{', Span' if located else ''}}};" if located else "        use crate::Outcome;", ""]
     for it in taken:
         body += [f"        {line}" for line in struct_in_rust(it)] + [""]

@@ -66,7 +66,7 @@ pub struct Span {
 }
 
 /// Checks without allocation whether bytes begin with a variable-length integer, or with bytes after a length.
-pub mod tls_codec {
+pub mod lengths {
     use crate::{Rejected, Span, split, split_as};
 
     mod foreign {

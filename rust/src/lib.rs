@@ -26,7 +26,7 @@ mod exports;
 
 use core::fmt;
 use exports::{Outcome, Span};
-pub use exports::{Error, mls, tls_codec, tls13};
+pub use exports::{Error, lengths, mls, tls13};
 #[cfg(feature = "check")]
 pub use exports::{mls_check, tls13_check};
 
