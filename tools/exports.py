@@ -38,6 +38,24 @@ NEXT = (
     " The element's place is put into `element`, and `at` counts from the first byte of `left`. If the element is rejected, neither `left` nor"
     " `element` changes."
 )
+# What is written in C of an outcome, beside the declarations.
+WHOLE = """\
+/* The outcome if all of the bytes are to be used: if the encoding is accepted and bytes come after
+   it, the status is TLS_CODEC_TRAILING_DATA, taken is 0, and at is where they begin. */
+static inline tls_codec_outcome tls_codec_whole(tls_codec_outcome outcome, size_t length) {
+  if (outcome.status == TLS_CODEC_ACCEPTED && outcome.taken != length) {
+    outcome.status = TLS_CODEC_TRAILING_DATA;
+    outcome.at = outcome.taken;
+    outcome.taken = 0;
+  }
+  return outcome;
+}
+
+/* The status of that outcome. */
+static inline uint32_t tls_codec_exactly(tls_codec_outcome outcome, size_t length) {
+  return tls_codec_whole(outcome, length).status;
+}
+""".split("\n")
 # How many bytes an encoder writes beside its parts: of a FramedContentTBS the version and the wire format.
 BESIDE = {"mls_framed_content_tbs_encode": 4}
 
@@ -230,10 +248,7 @@ def outcome_header() -> str:
     body += ["};", ""]
     for it in structs():
         body += [*struct_in_c(it), ""] if structs()[it].crate == "tls_codec_outcome" else []
-    body += ["/* The status if all of the bytes are to be used: TLS_CODEC_TRAILING_DATA if one is left. */"]
-    body += ["static inline uint32_t tls_codec_exactly(tls_codec_outcome outcome, size_t length) {"]
-    body += ["  int is_left = outcome.status == TLS_CODEC_ACCEPTED && outcome.taken != length;"]
-    body += ["  return is_left ? (uint32_t)TLS_CODEC_TRAILING_DATA : outcome.status;", "}", ""]
+    body += WHOLE
     body += ["/* The name of a status, as \"EndOfStream\"; \"?\" of another number. */"]
     body += ["static inline const char *tls_codec_status_name(uint32_t status) {", "  switch (status) {"]
     body += [f'  case TLS_CODEC_{spaced(name)}: return "{name}";' for name, _, _ in names]

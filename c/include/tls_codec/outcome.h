@@ -53,10 +53,20 @@ typedef struct tls_codec_outcome {
   uint64_t detail;
 } tls_codec_outcome;
 
-/* The status if all of the bytes are to be used: TLS_CODEC_TRAILING_DATA if one is left. */
+/* The outcome if all of the bytes are to be used: if the encoding is accepted and bytes come after
+   it, the status is TLS_CODEC_TRAILING_DATA, taken is 0, and at is where they begin. */
+static inline tls_codec_outcome tls_codec_whole(tls_codec_outcome outcome, size_t length) {
+  if (outcome.status == TLS_CODEC_ACCEPTED && outcome.taken != length) {
+    outcome.status = TLS_CODEC_TRAILING_DATA;
+    outcome.at = outcome.taken;
+    outcome.taken = 0;
+  }
+  return outcome;
+}
+
+/* The status of that outcome. */
 static inline uint32_t tls_codec_exactly(tls_codec_outcome outcome, size_t length) {
-  int is_left = outcome.status == TLS_CODEC_ACCEPTED && outcome.taken != length;
-  return is_left ? (uint32_t)TLS_CODEC_TRAILING_DATA : outcome.status;
+  return tls_codec_whole(outcome, length).status;
 }
 
 /* The name of a status, as "EndOfStream"; "?" of another number. */
