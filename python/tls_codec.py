@@ -18,8 +18,9 @@ import ctypes
 from collections.abc import Iterator
 from typing import Union
 
-from tls_codec_exports import FIELDS, STATUSES
+from tls_codec_exports import FIELDS, STATUSES, VERSION
 
+__version__ = VERSION
 Buffer = Union[bytes, bytearray, memoryview]
 
 

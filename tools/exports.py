@@ -3,7 +3,7 @@
 
 Each static library of crates.txt is read, each function that it exports, of `tls_codec_outcome` the struct and the numbers of the errors, and
 of `tls_codec_wire` what its errors mean. By these are written: c/include/tls_codec/*.h, c/tests/exports.inc, rust/src/exports.rs and
-python/tls_codec_exports.py. The last line is 'N passed, N failed', a file each, and the status is 1 if one failed.
+python/tls_codec_exports.py; and by CHANGELOG.md the version in these and in the files of VERSIONED. The last line is 'N passed, N failed', a file each, and the status is 1 if one failed.
 """
 from __future__ import annotations
 
@@ -38,6 +38,9 @@ NEXT = (
     " The element's place is put into `element`, and `at` counts from the first byte of `left`. If the element is rejected, neither `left` nor"
     " `element` changes."
 )
+# The files written by hand that have the version too, and the line where it is.
+VERSIONED = ["rust/Cargo.toml", "c/tls_codec.pc.in", "c/tls_codec_check.pc.in"]
+VERSION_LINE = re.compile(r'^(version = "|Version: )[\d.]+', re.M)
 # What is written in C of an outcome, beside the declarations.
 WHOLE = """\
 /* The outcome if all of the bytes are to be used: if the encoding is accepted and bytes come after
@@ -239,9 +242,25 @@ def guarded(name: str, crates: str, body: list[str]) -> str:
     return "\n".join([*head, *body, "", "#endif", ""])
 
 
+@functools.cache
+def version() -> str:
+    """The last version of CHANGELOG.md."""
+    found = re.search(r"^## (\d+\.\d+\.\d+)$", (TOP / "CHANGELOG.md").read_text(encoding="utf-8"), re.M)
+    if not found:
+        raise Unread("CHANGELOG.md has no version")
+    return found[1]
+
+
+def versioned() -> dict[pathlib.Path, str]:
+    """The files of VERSIONED, with that version."""
+    texts = {TOP / it: (TOP / it).read_text(encoding="utf-8") for it in VERSIONED}
+    return {path: VERSION_LINE.sub(rf"\g<1>{version()}", text, count=1) for path, text in texts.items()}
+
+
 def outcome_header() -> str:
     names = [("Accepted", False, 0), *numbers()]
-    body = ["#include <stddef.h>", "#include <stdint.h>", ""]
+    body = ["#include <stddef.h>", "#include <stdint.h>", "", "/* The version of this header, by CHANGELOG.md. */"]
+    body += [f'#define TLS_CODEC_VERSION "{version()}"', ""]
     body += ["/* A call's status. The numbers don't change. */", "enum tls_codec_status {"]
     for name, _, number in names:
         body += [*comment(meanings()[name], "  "), f"  TLS_CODEC_{spaced(name)} = {number}{'' if name == names[-1][0] else ','}"]
@@ -428,7 +447,8 @@ def located_fields() -> dict[str, list[str]]:
 
 def exports_python() -> str:
     """The names that the module of python/ has from here."""
-    lines = [f'"""{WRITTEN}. Don\'t edit."""', "", "# The names of the statuses, by their numbers.", "STATUSES = ["]
+    lines = [f'"""{WRITTEN}. Don\'t edit."""', "", "# The version, by CHANGELOG.md.", f'VERSION = "{version()}"', ""]
+    lines += ["# The names of the statuses, by their numbers.", "STATUSES = ["]
     lines += [f'    "{name}",' for name in ("Accepted", *[name for name, _, _ in numbers()])]
     lines += ["]", "", "# What `NAME_locate` fills, in this order, by NAME.", "FIELDS = {"]
     lines += [f'    "{message}": {json.dumps(names)},' for message, names in located_fields().items()]
@@ -440,7 +460,7 @@ def files() -> dict[pathlib.Path, str]:
     headers = {include / f"{it.removesuffix('_c')}.h": header(it) for it in libraries()}
     others = {include / "outcome.h": outcome_header(), TOP / "c" / "tests" / "exports.inc": table()}
     modules = {TOP / "rust" / "src" / "exports.rs": exports_rust(), TOP / "python" / "tls_codec_exports.py": exports_python()}
-    return {**headers, **others, **modules}
+    return {**headers, **others, **modules, **versioned()}
 
 
 def main() -> int:

@@ -30,6 +30,9 @@ pub use exports::{Error, lengths, mls, tls13};
 #[cfg(feature = "check")]
 pub use exports::{mls_check, tls13_check};
 
+/// The version of these declarations, by `CHANGELOG.md` of the repository.
+pub const VERSION: &str = env!("CARGO_PKG_VERSION");
+
 /// Why bytes are rejected, and where.
 #[derive(Clone, Copy, PartialEq, Eq, Debug)]
 pub struct Rejected {

@@ -5,6 +5,9 @@
 #include <stddef.h>
 #include <stdint.h>
 
+/* The version of this header, by CHANGELOG.md. */
+#define TLS_CODEC_VERSION "0.2.0"
+
 /* A call's status. The numbers don't change. */
 enum tls_codec_status {
   /* The bytes begin with an encoding. */
