@@ -2,7 +2,7 @@
 """exports.py [--write]: compares what callers in C, Rust and Python declare with what the static libraries export, or writes it.
 
 Each static library of crates.txt is read, each function that it exports, of `tls_codec_outcome` the struct and the numbers of the errors, and
-of `tls_codec_wire` what its errors mean. By these are written: c/include/tls_codec/*.h, c/tests/exports.inc, rust/src/exports.rs and
+of the texts in crates/tlsgen/data a few enums. By these are written: c/include/tls_codec/*.h, c/tests/exports.inc, rust/src/exports.rs and
 python/tls_codec_exports.py; and by CHANGELOG.md the version in these and in the files of VERSIONED. The last line is 'N passed, N failed', a file each, and the status is 1 if one failed.
 """
 from __future__ import annotations
@@ -16,13 +16,13 @@ from dataclasses import dataclass
 
 sys.dont_write_bytecode = True
 from libraries import TOP, Libraries
+from registries import enums_in_c
 
 WRITTEN = "Written by tools/exports.py"
 EXPORT = re.compile(r'((?:^///.*\n)+)#\[unsafe\(no_mangle\)\]\npub extern "C" fn (\w+)\(([^)]*)\) -> (\w+)', re.M)
 STRUCT = re.compile(r"((?:^///.*\n)+)#\[repr\(C\)\]\n(?:#.*\n)*pub struct (\w+) \{\n((?:    .*\n)*)\}", re.M)
 FIELD = re.compile(r"((?:^    ///.*\n)+)    pub (\w+): (\w+),", re.M)
 NUMBER = re.compile(r"^        Error::(\w+)(\(_\))? => (\d+),$", re.M)
-VARIANT = re.compile(r"((?:^    ///.*\n)+)    (\w+)(?:\(.*\))?,$", re.M)
 C = {"u16": "uint16_t", "u32": "uint32_t", "u64": "uint64_t", "usize": "size_t"}
 # The libraries whose structs cross, and what their names begin with in C.
 STRUCTS = {"tls_codec_outcome": "tls_codec", "mls_fields": "mls", "tls13_fields": "tls13"}
@@ -41,6 +41,21 @@ NEXT = (
 # The files written by hand that have the version too, and the line where it is.
 VERSIONED = ["rust/Cargo.toml", "c/tls_codec.pc.in", "c/tls_codec_check.pc.in"]
 VERSION_LINE = re.compile(r'^(version = "|Version: )[\d.]+', re.M)
+# What a status means to a caller. The comments of `Error` in Rattle also speak of sinks, sources and values.
+MEANINGS = {
+    "Accepted": "The bytes begin with an encoding.",
+    "EncodingError": "No call returns it.",
+    "InvalidVectorLength": "A length or a variable-length integer has more bytes than it needs, or is outside the bounds of its field.",
+    "InvalidWriteLength": "The buffer to write into is too small.",
+    "InvalidInput": "No call returns it.",
+    "DecodingError": "A content after a variable-length length isn't all there, an element passes the end of its list, or the byte before"
+    " an optional field is neither 0 nor 1.",
+    "EndOfStream": "The bytes, or the body of a Handshake, end before a field does.",
+    "TrailingData": "Bytes are left, after the message or, in a Handshake, after its body.",
+    "UnknownValue": "No case has this number, or a constant has another value.",
+    "LibraryError": "No call returns it.",
+    "OutOfMemory": "An allocation failed, in a decoder: nothing is said of the bytes.",
+}
 # What is written in C of an outcome, beside the declarations.
 WHOLE = """\
 /* The outcome if all of the bytes are to be used: if the encoding is accepted and bytes come after
@@ -202,19 +217,9 @@ def about(crate: str) -> str:
 def numbers() -> list[tuple[str, bool, int]]:
     """The errors' names, whether they have a value, and their numbers."""
     found = [(name, bool(value), int(number)) for name, value, number in NUMBER.findall(source_of("tls_codec_outcome", "numbers.rt"))]
-    if [number for _, _, number in found] != list(range(1, 11)):
+    if [number for _, _, number in found] != list(range(1, 11)) or {name for name, _, _ in found} - set(MEANINGS):
         raise Unread(f"the numbers of the errors are {found}")
     return found
-
-
-@functools.cache
-def meanings() -> dict[str, str]:
-    """What the library says of each of its errors, and what the status of no error means."""
-    found = {name: words_of(text) for text, name in VARIANT.findall(source_of("tls_codec_wire", "error.rt"))}
-    lacking = [name for name, _, _ in numbers() if name not in found]
-    if lacking:
-        raise Unread(f"error.rt of tls_codec_wire: no comment of {lacking}")
-    return {"Accepted": "The bytes begin with an encoding.", **found}
 
 
 def spaced(name: str) -> str:
@@ -263,7 +268,7 @@ def outcome_header() -> str:
     body += [f'#define TLS_CODEC_VERSION "{version()}"', ""]
     body += ["/* A call's status. The numbers don't change. */", "enum tls_codec_status {"]
     for name, _, number in names:
-        body += [*comment(meanings()[name], "  "), f"  TLS_CODEC_{spaced(name)} = {number}{'' if name == names[-1][0] else ','}"]
+        body += [*comment(MEANINGS[name], "  "), f"  TLS_CODEC_{spaced(name)} = {number}{'' if name == names[-1][0] else ','}"]
     body += ["};", ""]
     for it in structs():
         body += [*struct_in_c(it), ""] if structs()[it].crate == "tls_codec_outcome" else []
@@ -277,7 +282,7 @@ def outcome_header() -> str:
 
 def header(crate: str) -> str:
     name = crate.removesuffix("_c")
-    body = [*comment(about(crate)), "", '#include "outcome.h"', "", "#ifdef __cplusplus", 'extern "C" {', "#endif"]
+    body = [*comment(about(crate)), "", '#include "outcome.h"', "", "#ifdef __cplusplus", 'extern "C" {', "#endif", *enums_in_c(name)]
     taken = {kind.removeprefix("&mut ") for it in exports_of(crate) for _, kind in it.parameters}
     for it in structs():
         body += ["", *struct_in_c(it)] if it in taken and structs()[it].crate != "tls_codec_outcome" else []
@@ -423,7 +428,7 @@ def exports_rust() -> str:
     body += ["", "/// Why bytes are rejected.", "#[derive(Clone, Copy, PartialEq, Eq, Debug)]", "#[non_exhaustive]", "pub enum Error {"]
     values = [name for name, value, _ in numbers() if name == "UnknownValue"]
     for name, _, number in numbers():
-        body += [f"    /// {meanings()[name]} Status {number}.", f"    {name}(u64)," if name in values else f"    {name},"]
+        body += [f"    /// {MEANINGS[name]} Status {number}.", f"    {name}(u64)," if name in values else f"    {name},"]
     body += ["    /// A status that these declarations don't have.", "    Other(u32),", "}", ""]
     body += ["impl Error {", "    pub(crate) fn of(outcome: &Outcome) -> Error {", "        match outcome.status {"]
     for name, _, number in numbers():

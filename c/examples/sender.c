@@ -7,8 +7,18 @@
 #include <tls_codec/mls.h>
 #include <tls_codec/tls_codec.h>
 
-static const char *const kinds[] = {"", "public message", "private message", "welcome", "group info", "key package"};
-static const char *const contents[] = {"", "application data", "proposal", "commit"};
+static const char *const kinds[] = {
+    [MLS_WIRE_FORMAT_PUBLIC_MESSAGE] = "public message",
+    [MLS_WIRE_FORMAT_PRIVATE_MESSAGE] = "private message",
+    [MLS_WIRE_FORMAT_WELCOME] = "welcome",
+    [MLS_WIRE_FORMAT_GROUP_INFO] = "group info",
+    [MLS_WIRE_FORMAT_KEY_PACKAGE] = "key package",
+};
+static const char *const contents[] = {
+    [MLS_CONTENT_TYPE_APPLICATION] = "application data",
+    [MLS_CONTENT_TYPE_PROPOSAL] = "proposal",
+    [MLS_CONTENT_TYPE_COMMIT] = "commit",
+};
 
 /* Says why a part is rejected. */
 static int rejected(const char *part, tls_codec_outcome outcome) {
@@ -16,13 +26,18 @@ static int rejected(const char *part, tls_codec_outcome outcome) {
   return 1;
 }
 
+static uint32_t number(const uint8_t *bytes) {
+  return (uint32_t)bytes[0] << 24 | (uint32_t)bytes[1] << 16 | (uint32_t)bytes[2] << 8 | bytes[3];
+}
+
+/* A sender has its type, and after it, if it is a member or external, an index. */
 static void print_sender(const uint8_t *sender) {
-  if (sender[0] > 2) {
-    puts(sender[0] == 3 ? "new member, by a proposal" : "new member, by a commit");
-    return;
+  switch (sender[0]) {
+  case MLS_SENDER_TYPE_MEMBER: printf("member %" PRIu32 "\n", number(sender + 1)); break;
+  case MLS_SENDER_TYPE_EXTERNAL: printf("external sender %" PRIu32 "\n", number(sender + 1)); break;
+  case MLS_SENDER_TYPE_NEW_MEMBER_PROPOSAL: puts("new member, by a proposal"); break;
+  case MLS_SENDER_TYPE_NEW_MEMBER_COMMIT: puts("new member, by a commit"); break;
   }
-  uint32_t index = (uint32_t)sender[1] << 24 | (uint32_t)sender[2] << 16 | (uint32_t)sender[3] << 8 | sender[4];
-  printf("%s %" PRIu32 "\n", sender[0] == 1 ? "member" : "external sender", index);
 }
 
 static int print_public_message(const uint8_t *message, size_t length) {
@@ -45,11 +60,14 @@ static int print_public_message(const uint8_t *message, size_t length) {
 int main(void) {
   static uint8_t bytes[1 << 20];
   size_t length = fread(bytes, 1, sizeof bytes, stdin);
-  if (length == sizeof bytes || ferror(stdin)) return 1;
+  if (length == sizeof bytes || ferror(stdin)) {
+    fprintf(stderr, "%zu bytes or more, or the read failed\n", sizeof bytes);
+    return 1;
+  }
   mls_message_fields fields;
   tls_codec_outcome outcome = tls_codec_whole(mls_message_locate(bytes, length, &fields), length);
   if (outcome.status != TLS_CODEC_ACCEPTED) return rejected("message", outcome);
   uint8_t kind = bytes[fields.wire_format.offset + 1];
   puts(kinds[kind]);
-  return kind == 1 ? print_public_message(bytes + fields.message.offset, fields.message.size) : 0;
+  return kind == MLS_WIRE_FORMAT_PUBLIC_MESSAGE ? print_public_message(bytes + fields.message.offset, fields.message.size) : 0;
 }
