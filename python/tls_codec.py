@@ -16,8 +16,17 @@ from __future__ import annotations
 
 import ctypes
 from collections.abc import Iterator
+from typing import Union
 
-from tls_codec_exports import FIELDS, STATUSES
+from tls_codec_exports import FIELDS, STATUSES, VERSION
+
+__version__ = VERSION
+Buffer = Union[bytes, bytearray, memoryview]
+
+
+def plain(data: Buffer) -> bytes:
+    """The bytes themselves, or a copy of those in a buffer, such as `recv_into` fills."""
+    return data if isinstance(data, bytes) else bytes(memoryview(data))
 
 
 class Outcome(ctypes.Structure):
@@ -41,7 +50,8 @@ class Rejected(ValueError):
     def __init__(self, status: int, at: int, detail: int = 0) -> None:
         self.status, self.at, self.detail = status, at, detail
         self.error = STATUSES[status] if status < len(STATUSES) else str(status)
-        super().__init__(f"{self.error} at byte {at}")
+        number = f" ({detail})" if self.error == "UnknownValue" else ""
+        super().__init__(f"{self.error}{number} at byte {at}")
 
 
 class Codec:
@@ -50,33 +60,35 @@ class Codec:
     def __init__(self, path: str) -> None:
         self.library = ctypes.CDLL(path)
 
-    def outcome(self, name: str, data: bytes, *filled: object) -> Outcome:
+    def outcome(self, name: str, data: Buffer, *filled: object) -> Outcome:
         """What a function says of the bytes, which is named as in the headers. It is given what it is to fill."""
-        call = self.library[name]
+        call, data = self.library[name], plain(data)
         call.restype, call.argtypes = Outcome, [ctypes.c_char_p, ctypes.c_size_t, *[ctypes.c_void_p] * len(filled)]
         return call(data, len(data), *map(ctypes.byref, filled))
 
-    def accepted(self, name: str, data: bytes, *filled: object) -> Outcome:
+    def accepted(self, name: str, data: Buffer, *filled: object) -> Outcome:
         """The same of bytes that are accepted."""
         outcome = self.outcome(name, data, *filled)
         if outcome.status:
             raise Rejected(outcome.status, outcome.at, outcome.detail)
         return outcome
 
-    def split(self, message: str, data: bytes) -> tuple[bytes, bytes]:
+    def split(self, message: str, data: Buffer) -> tuple[bytes, bytes]:
         """The message that the bytes begin with, and the rest of them. The message is named as in the headers, without `_validate`."""
+        data = plain(data)
         outcome = self.accepted(f"{message}_validate", data)
         return data[: outcome.taken], data[outcome.taken :]
 
-    def fields(self, message: str, data: bytes) -> dict[str, bytes]:
+    def fields(self, message: str, data: Buffer) -> dict[str, bytes]:
         """The fields of the message that the bytes begin with, by the names that its struct has in the headers, in that order."""
-        names = FIELDS[message]
+        names, data = FIELDS[message], plain(data)
         spans = (Span * len(names))()
         self.accepted(f"{message}_locate", data, spans)
         return {name: span.of(data) for name, span in zip(names, spans)}
 
-    def elements(self, element: str, content: bytes) -> Iterator[bytes]:
+    def elements(self, element: str, content: Buffer) -> Iterator[bytes]:
         """The elements of a list, of which these are the bytes after its length: named as in the headers, without `_next`."""
+        content = plain(content)
         left, found = Span(0, len(content)), Span()
         while left.size:
             outcome, at = self.outcome(f"{element}_next", content, left, found), left.offset
@@ -84,14 +96,15 @@ class Codec:
                 raise Rejected(outcome.status, at + outcome.at, outcome.detail)
             yield found.of(content)
 
-    def message_kind(self, data: bytes) -> int:
+    def message_kind(self, data: Buffer) -> int:
         """The kind of the MLSMessage that the bytes begin with: 1 is a public message, 5 a key package."""
         kind = ctypes.c_uint16()
         self.accepted("mls_message_kind", data, kind)
         return kind.value
 
-    def framed_content_tbs(self, wire_format: int, content: bytes, context: bytes = b"") -> bytes:
+    def framed_content_tbs(self, wire_format: int, content: Buffer, context: Buffer = b"") -> bytes:
         """What is signed of a message of MLS, by the encodings of its FramedContent and, if it is signed too, of its GroupContext."""
+        content, context = plain(content), plain(context)
         call, out = self.library["mls_framed_content_tbs_encode"], ctypes.create_string_buffer(4 + len(content) + len(context))
         call.restype, pair = Outcome, [ctypes.c_char_p, ctypes.c_size_t]
         call.argtypes = [ctypes.c_uint16, *pair, *pair, ctypes.c_void_p, ctypes.c_size_t]
@@ -102,8 +115,9 @@ class Codec:
             raise Rejected(STATUSES.index("TrailingData"), outcome.taken)
         return out.raw
 
-    def exactly(self, message: str, data: bytes) -> None:
-        """Returns if all of the bytes are one message."""
+    def exactly(self, message: str, data: Buffer) -> bytes:
+        """The message, if nothing comes after it."""
         found, rest = self.split(message, data)
         if rest:
             raise Rejected(STATUSES.index("TrailingData"), len(found))
+        return found

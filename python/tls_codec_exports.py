@@ -1,5 +1,8 @@
 """Written by tools/exports.py. Don't edit."""
 
+# The version, by CHANGELOG.md.
+VERSION = "0.2.0"
+
 # The names of the statuses, by their numbers.
 STATUSES = [
     "Accepted",

@@ -1,8 +1,8 @@
 #!/usr/bin/env python3
 """archives.py [FOLDER [TARGET]]: proves the static libraries and puts their archives into a folder, c/out if none is given.
 
-They are built over the libraries that `rt ci` left in crates/*/out/rlib. Where some aren't there, `rt lib` proves and builds all that
-is wanted, which takes longer. Beside them lies libtls_codec_heap.a, which decoders need: malloc and free by the names by which Rattle calls
+They are built over the libraries that `rt ci` left in crates/*/out/rlib. Where some aren't there, `rt lib` first proves and builds all those
+below an archive, which takes longer. Beside them lies libtls_codec_heap.a, which decoders need: malloc and free by the names by which Rattle calls
 them. TARGET is x86_64-unknown-linux-gnu if none is given. For aarch64-unknown-linux-gnu the kit has no such heap.
 """
 from __future__ import annotations
@@ -54,15 +54,23 @@ def toolchain(kit: pathlib.Path, folder: pathlib.Path) -> pathlib.Path:
     return folder
 
 
+def build_below(libraries: Libraries, crate: str) -> None:
+    """Proves and builds all that a static library stands on, by `rt lib`: it keeps what it built, and builds anew what another command did."""
+    for it in libraries.uses[crate]:
+        if it in libraries.uses:
+            ran(["rt", "lib"], it)
+    if libraries.lacking(crate):
+        raise NotBuilt(f"{crate}: rt lib left no {libraries.lacking(crate)}")
+
+
 def build(libraries: Libraries, crate: str, folder: pathlib.Path, target: str = TARGET) -> None:
     """Proves a static library, and puts its archive into the folder."""
     archive = folder / f"lib{crate}.a"
-    if is_left_by_ci(libraries, crate):
-        with tempfile.TemporaryDirectory(prefix="toolchain-") as made:
-            compiled = ["--toolchain", str(toolchain(libraries.kit, pathlib.Path(made))), "-o", str(archive.resolve())]
-            return ran([f"{libraries.kit}/bin/rattle", "build", *libraries.words(crate), "--target", target, *compiled], crate)
-    ran(["rt", "lib", "--target", target], crate)
-    shutil.copyfile(CRATES / crate / "out" / archive.name, archive)
+    if not is_left_by_ci(libraries, crate):
+        build_below(libraries, crate)
+    with tempfile.TemporaryDirectory(prefix="toolchain-") as made:
+        compiled = ["--toolchain", str(toolchain(libraries.kit, pathlib.Path(made))), "-o", str(archive.resolve())]
+        ran([f"{libraries.kit}/bin/rattle", "build", *libraries.words(crate), "--target", target, *compiled], crate)
 
 
 def put_heap(libraries: Libraries, folder: pathlib.Path) -> None:

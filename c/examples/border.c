@@ -1,6 +1,7 @@
 /* border: lets standard input through, if it is one MLSMessage, and says else why it isn't.
  *
  * Put such a check before the parser that is there: what comes through is the canonical encoding of a message. */
+#include <inttypes.h>
 #include <stdio.h>
 #include <tls_codec/mls.h>
 
@@ -11,11 +12,11 @@ int main(void) {
     fprintf(stderr, "%zu bytes or more, or the read failed\n", sizeof bytes);
     return 1;
   }
-  tls_codec_outcome outcome = mls_message_validate(bytes, length);
-  uint32_t status = tls_codec_exactly(outcome, length);
-  if (status != TLS_CODEC_ACCEPTED) {
-    size_t at = outcome.status == TLS_CODEC_ACCEPTED ? outcome.taken : outcome.at;
-    fprintf(stderr, "%s at byte %zu of %zu\n", tls_codec_status_name(status), at, length);
+  tls_codec_outcome outcome = tls_codec_whole(mls_message_validate(bytes, length), length);
+  if (outcome.status != TLS_CODEC_ACCEPTED) {
+    fputs(tls_codec_status_name(outcome.status), stderr);
+    if (outcome.status == TLS_CODEC_UNKNOWN_VALUE) fprintf(stderr, " (%" PRIu64 ")", outcome.detail);
+    fprintf(stderr, " at byte %zu of %zu\n", outcome.at, length);
     return 1;
   }
   return fwrite(bytes, 1, length, stdout) != length;

@@ -15,25 +15,25 @@ pub struct Outcome {
 #[derive(Clone, Copy, PartialEq, Eq, Debug)]
 #[non_exhaustive]
 pub enum Error {
-    /// A value could not be written, also if the sink failed. Status 1.
+    /// No call returns it. Status 1.
     EncodingError,
-    /// A length or a variable-length integer has more bytes than it needs, or is above the greatest of its field. Or a list's content passes its length field, or a vector would pass `isize::MAX` bytes. Status 2.
+    /// A length or a variable-length integer has more bytes than it needs, or is outside the bounds of its field. Status 2.
     InvalidVectorLength,
-    /// No call in Rattle returns it. Callers in other languages get it if their buffer is too small. Status 3.
+    /// The buffer to write into is too small. Status 3.
     InvalidWriteLength,
-    /// A slice has another length than the array it was to become. Status 4.
+    /// No call returns it. Status 4.
     InvalidInput,
-    /// Bytes encode no value, or the source failed. Status 5.
+    /// A content after a variable-length length isn't all there, an element passes the end of its list, or the byte before an optional field is neither 0 nor 1. Status 5.
     DecodingError,
-    /// Fewer bytes came than the value asks for. Status 6.
+    /// The bytes, or the body of a Handshake, end before a field does. Status 6.
     EndOfStream,
-    /// All bytes were to be used, and a byte is left. Status 7.
+    /// Bytes are left, after the message or, in a Handshake, after its body. Status 7.
     TrailingData,
-    /// No case of an enum has this tag. Status 8.
+    /// No case has this number, or a constant has another value. Status 8.
     UnknownValue(u64),
-    /// A number is too large for the type it was to become. Status 9.
+    /// No call returns it. Status 9.
     LibraryError,
-    /// An allocation failed. Status 10.
+    /// An allocation failed, in a decoder: nothing is said of the bytes. Status 10.
     OutOfMemory,
     /// A status that these declarations don't have.
     Other(u32),
@@ -66,7 +66,7 @@ pub struct Span {
 }
 
 /// Checks without allocation whether bytes begin with a variable-length integer, or with bytes after a length.
-pub mod tls_codec {
+pub mod lengths {
     use crate::{Rejected, Span, split, split_as};
 
     mod foreign {

@@ -26,9 +26,12 @@ mod exports;
 
 use core::fmt;
 use exports::{Outcome, Span};
-pub use exports::{Error, mls, tls_codec, tls13};
+pub use exports::{Error, lengths, mls, tls13};
 #[cfg(feature = "check")]
 pub use exports::{mls_check, tls13_check};
+
+/// The version of these declarations, by `CHANGELOG.md` of the repository.
+pub const VERSION: &str = env!("CARGO_PKG_VERSION");
 
 /// Why bytes are rejected, and where.
 #[derive(Clone, Copy, PartialEq, Eq, Debug)]

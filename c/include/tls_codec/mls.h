@@ -10,6 +10,30 @@
 extern "C" {
 #endif
 
+/* The numbers of WireFormat that have names. */
+enum mls_wire_format {
+  MLS_WIRE_FORMAT_PUBLIC_MESSAGE = 1,
+  MLS_WIRE_FORMAT_PRIVATE_MESSAGE = 2,
+  MLS_WIRE_FORMAT_WELCOME = 3,
+  MLS_WIRE_FORMAT_GROUP_INFO = 4,
+  MLS_WIRE_FORMAT_KEY_PACKAGE = 5
+};
+
+/* The numbers of SenderType that have names. */
+enum mls_sender_type {
+  MLS_SENDER_TYPE_MEMBER = 1,
+  MLS_SENDER_TYPE_EXTERNAL = 2,
+  MLS_SENDER_TYPE_NEW_MEMBER_PROPOSAL = 3,
+  MLS_SENDER_TYPE_NEW_MEMBER_COMMIT = 4
+};
+
+/* The numbers of ContentType that have names. */
+enum mls_content_type {
+  MLS_CONTENT_TYPE_APPLICATION = 1,
+  MLS_CONTENT_TYPE_PROPOSAL = 2,
+  MLS_CONTENT_TYPE_COMMIT = 3
+};
+
 /* Where the fields of a Commit are (RFC 9420, section 12.4). */
 typedef struct mls_commit_fields {
   /* ProposalOrRef proposals<V>; with its length */

@@ -5,31 +5,34 @@
 #include <stddef.h>
 #include <stdint.h>
 
+/* The version of this header, by CHANGELOG.md. */
+#define TLS_CODEC_VERSION "0.2.0"
+
 /* A call's status. The numbers don't change. */
 enum tls_codec_status {
   /* The bytes begin with an encoding. */
   TLS_CODEC_ACCEPTED = 0,
-  /* A value could not be written, also if the sink failed. */
+  /* No call returns it. */
   TLS_CODEC_ENCODING_ERROR = 1,
-  /* A length or a variable-length integer has more bytes than it needs, or is above the greatest of
-     its field. Or a list's content passes its length field, or a vector would pass isize::MAX
-     bytes. */
+  /* A length or a variable-length integer has more bytes than it needs, or is outside the bounds of
+     its field. */
   TLS_CODEC_INVALID_VECTOR_LENGTH = 2,
-  /* No call in Rattle returns it. Callers in other languages get it if their buffer is too small. */
+  /* The buffer to write into is too small. */
   TLS_CODEC_INVALID_WRITE_LENGTH = 3,
-  /* A slice has another length than the array it was to become. */
+  /* No call returns it. */
   TLS_CODEC_INVALID_INPUT = 4,
-  /* Bytes encode no value, or the source failed. */
+  /* A content after a variable-length length isn't all there, an element passes the end of its
+     list, or the byte before an optional field is neither 0 nor 1. */
   TLS_CODEC_DECODING_ERROR = 5,
-  /* Fewer bytes came than the value asks for. */
+  /* The bytes, or the body of a Handshake, end before a field does. */
   TLS_CODEC_END_OF_STREAM = 6,
-  /* All bytes were to be used, and a byte is left. */
+  /* Bytes are left, after the message or, in a Handshake, after its body. */
   TLS_CODEC_TRAILING_DATA = 7,
-  /* No case of an enum has this tag. */
+  /* No case has this number, or a constant has another value. */
   TLS_CODEC_UNKNOWN_VALUE = 8,
-  /* A number is too large for the type it was to become. */
+  /* No call returns it. */
   TLS_CODEC_LIBRARY_ERROR = 9,
-  /* An allocation failed. */
+  /* An allocation failed, in a decoder: nothing is said of the bytes. */
   TLS_CODEC_OUT_OF_MEMORY = 10
 };
 
@@ -53,10 +56,20 @@ typedef struct tls_codec_outcome {
   uint64_t detail;
 } tls_codec_outcome;
 
-/* The status if all of the bytes are to be used: TLS_CODEC_TRAILING_DATA if one is left. */
+/* The outcome if all of the bytes are to be used: if the encoding is accepted and bytes come after
+   it, the status is TLS_CODEC_TRAILING_DATA, taken is 0, and at is where they begin. */
+static inline tls_codec_outcome tls_codec_whole(tls_codec_outcome outcome, size_t length) {
+  if (outcome.status == TLS_CODEC_ACCEPTED && outcome.taken != length) {
+    outcome.status = TLS_CODEC_TRAILING_DATA;
+    outcome.at = outcome.taken;
+    outcome.taken = 0;
+  }
+  return outcome;
+}
+
+/* The status of that outcome. */
 static inline uint32_t tls_codec_exactly(tls_codec_outcome outcome, size_t length) {
-  int is_left = outcome.status == TLS_CODEC_ACCEPTED && outcome.taken != length;
-  return is_left ? (uint32_t)TLS_CODEC_TRAILING_DATA : outcome.status;
+  return tls_codec_whole(outcome, length).status;
 }
 
 /* The name of a status, as "EndOfStream"; "?" of another number. */

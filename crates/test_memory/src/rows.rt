@@ -64,7 +64,7 @@ fn same<T: PartialEq + Drop>(found: T, expected: T) -> Result<(), Wrong> {
 
 // A vector that has `len` elements asked for room of that order: for up to twice as many, and for
 // 64 if they are few.
-fn is_of_the_order(room: usize, len: usize) -> Result<(), Wrong> {
+fn expect_of_the_order(room: usize, len: usize) -> Result<(), Wrong> {
     if room <= len.saturating_mul(2).max(64) {
         Ok(())
     } else {

@@ -10,6 +10,7 @@ mod of_cases;
 mod parts;
 mod private;
 mod selected;
+mod senders;
 mod shapes;
 mod signed;
 mod signed_parts;
@@ -43,7 +44,7 @@ fn holds(rt: &impl Abort, condition: bool) {
 }
 
 // No encoder writes the value: a part is for another tag than the one before it.
-fn is_misfit<T: Serialize>(rt: &impl Abort, alloc: Global, value: &T) {
+fn expect_misfit<T: Serialize>(rt: &impl Abort, alloc: Global, value: &T) {
     same(rt, value.tls_serialize_detached(alloc).err(), Some(MISFIT));
 }
 

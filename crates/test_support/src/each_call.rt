@@ -18,11 +18,11 @@ where
     same_at(row, T::tls_validate(bytes), Ok(()))?;
     let dripped = deserialize_to_end::<T, _>(alloc, &mut Drip::new(bytes));
     same_at(row, &done_at(row, dripped)?, &value)?;
-    is_written(alloc, row, &value, bytes)
+    expect_written(alloc, row, &value, bytes)
 }
 
 // Each encoder writes the value as these bytes, and its clone equals it.
-fn is_written<T: Serialize + Eq + Debug + Clone>(
+fn expect_written<T: Serialize + Eq + Debug + Clone>(
     alloc: Global,
     row: &str,
     value: &T,
@@ -43,14 +43,14 @@ fn is_written<T: Serialize + Eq + Debug + Clone>(
 }
 
 /// The round trip: the bytes are this value's, with others after them too, and no prefix is.
-pub fn is_encoded_as<T>(alloc: Global, row: &str, value: &T, bytes: &[u8]) -> Result<(), Fail>
+pub fn expect_encoded_as<T>(alloc: Global, row: &str, value: &T, bytes: &[u8]) -> Result<(), Fail>
 where
     T: Serialize + Deserialize + Validate + Eq + Debug + Clone,
 {
     round_trips::<T>(alloc, row, bytes)?;
     let read = done_at(row, T::tls_deserialize_exact_bytes(alloc, bytes))?;
     same_at(row, &read, value)?;
-    is_written(alloc, row, value, bytes)?;
+    expect_written(alloc, row, value, bytes)?;
     let mut longer = bytes.to_vec(alloc)?;
     longer.push(0xee)?;
     let (found, rest) = T::tls_deserialize_bytes(alloc, &longer)?;
@@ -58,24 +58,24 @@ where
     same_at(row, rest, [0xee].as_slice())?;
     rejects_another_byte::<T>(alloc, row, bytes)?;
     for length in 0..bytes.len() {
-        is_refused::<T>(alloc, row, &bytes[..length], Error::EndOfStream)?;
+        expect_refused::<T>(alloc, row, &bytes[..length], Error::EndOfStream)?;
     }
     Ok(())
 }
 
 /// Each decoder rejects the bytes with this error.
-pub fn is_refused<T: Deserialize + Validate>(
+pub fn expect_refused<T: Deserialize + Validate>(
     alloc: Global,
     row: &str,
     bytes: &[u8],
     error: Error,
 ) -> Result<(), Fail> {
-    is_refused_by::<T>(alloc, row, bytes, error, error)
+    expect_refused_by::<T>(alloc, row, bytes, error, error)
 }
 
 /// A slice's decoder rejects the bytes with one error, as does validation, and a source's with
 /// another.
-pub fn is_refused_by<T: Deserialize + Validate>(
+pub fn expect_refused_by<T: Deserialize + Validate>(
     alloc: Global,
     row: &str,
     bytes: &[u8],

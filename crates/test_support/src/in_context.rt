@@ -26,10 +26,10 @@ where
     let dripped = T::tls_deserialize_for(context, alloc, &mut source);
     same_at(row, &done_at(row, dripped)?, &value)?;
     done_at(row, expect_end(&mut source))?;
-    is_written_in(alloc, row, context, &value, bytes)
+    expect_written_in(alloc, row, context, &value, bytes)
 }
 
-fn is_written_in<C: Size, T: SerializeFor<C>>(
+fn expect_written_in<C: Size, T: SerializeFor<C>>(
     alloc: Global,
     row: &str,
     context: &C,
@@ -50,7 +50,7 @@ fn is_written_in<C: Size, T: SerializeFor<C>>(
 }
 
 /// No encoder writes the value in a context that asks for another one.
-pub fn is_misfit<C: Size, T: SerializeFor<C>>(
+pub fn expect_misfit<C: Size, T: SerializeFor<C>>(
     alloc: Global,
     row: &str,
     context: &C,
@@ -68,7 +68,7 @@ pub fn is_misfit<C: Size, T: SerializeFor<C>>(
 }
 
 /// Each decoder rejects the bytes in a context with this error.
-pub fn is_refused_in<C: Keyed, T: DeserializeFor<C> + ValidateFor<C>>(
+pub fn expect_refused_in<C: Keyed, T: DeserializeFor<C> + ValidateFor<C>>(
     alloc: Global,
     row: &str,
     context: &C,

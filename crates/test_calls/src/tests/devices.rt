@@ -21,7 +21,7 @@ const FAULTS: [(Fault, Error, Error); 2] = [
 ];
 
 // A byte comes by each call before the one that fails.
-fn is_not_read<T: Deserialize>(rt: &impl Abort, alloc: Global, bytes: &[u8]) {
+fn expect_not_read<T: Deserialize>(rt: &impl Abort, alloc: Global, bytes: &[u8]) {
     for (fault, error, _) in FAULTS {
         for at in 1..=bytes.len() {
             let mut source = Failing::new(Drip::new(bytes), at as u64, 1, fault);
@@ -32,7 +32,7 @@ fn is_not_read<T: Deserialize>(rt: &impl Abort, alloc: Global, bytes: &[u8]) {
 }
 
 // A byte goes by each call before the one that fails.
-fn is_not_written<T: Serialize>(
+fn expect_not_written<T: Serialize>(
     rt: &impl Abort,
     alloc: Global,
     value: &T,
@@ -56,9 +56,9 @@ fn fails<T: Deserialize + DeserializeBytes + Serialize>(
     alloc: Global,
     bytes: &[u8],
 ) -> Result<(), Fail> {
-    is_not_read::<T>(rt, alloc, bytes);
+    expect_not_read::<T>(rt, alloc, bytes);
     let value = T::tls_deserialize_exact_bytes(alloc, bytes)?;
-    is_not_written(rt, alloc, &value, bytes)
+    expect_not_written(rt, alloc, &value, bytes)
 }
 
 #[test]
@@ -98,11 +98,11 @@ fn lists_and_bytes(rt: HostRuntime) -> Result<(), Fail> {
 #[test]
 fn what_is_borrowed(rt: HostRuntime) -> Result<(), Fail> {
     let alloc = rt.alloc();
-    is_not_written(&rt, alloc, &&7u16, &[0, 7])?;
-    is_not_written(&rt, alloc, &&Some(7u8), &[1, 7])?;
-    is_not_written(&rt, alloc, &[1u16, 2].as_slice(), &[4, 0, 1, 0, 2])?;
-    is_not_written(&rt, alloc, &"é", &[2, 0xc3, 0xa9])?;
-    is_not_written(&rt, alloc, &VLByteSlice(&[7, 8]), &[2, 7, 8])?;
-    is_not_written(&rt, alloc, &TlsSliceU8(&[7u8]), &[1, 7])?;
-    is_not_written(&rt, alloc, &TlsByteSliceU24(&[7]), &[0, 0, 1, 7])
+    expect_not_written(&rt, alloc, &&7u16, &[0, 7])?;
+    expect_not_written(&rt, alloc, &&Some(7u8), &[1, 7])?;
+    expect_not_written(&rt, alloc, &[1u16, 2].as_slice(), &[4, 0, 1, 0, 2])?;
+    expect_not_written(&rt, alloc, &"é", &[2, 0xc3, 0xa9])?;
+    expect_not_written(&rt, alloc, &VLByteSlice(&[7, 8]), &[2, 7, 8])?;
+    expect_not_written(&rt, alloc, &TlsSliceU8(&[7u8]), &[1, 7])?;
+    expect_not_written(&rt, alloc, &TlsByteSliceU24(&[7]), &[0, 0, 1, 7])
 }

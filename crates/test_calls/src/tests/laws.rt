@@ -10,7 +10,7 @@ use tls_codec::{
 };
 
 // Both paths read equal values of these bytes.
-fn is_equal_however_read<T: Deserialize + DeserializeBytes + PartialEq>(
+fn expect_equal_however_read<T: Deserialize + DeserializeBytes + PartialEq>(
     rt: &impl Abort,
     alloc: Global,
     bytes: &[u8],
@@ -36,13 +36,17 @@ fn values_that_stand_for_one_tree_are_equal(rt: HostRuntime) -> Result<(), Fail>
     tls_codec_secret::laws::secret_vectors_are_compared_by_their_elements::<u8, u16>();
     tls_codec_secret::laws::secret_vectors_are_hashed_by_their_elements::<u8, u16>();
     let alloc = rt.alloc();
-    is_equal_however_read::<(u8, U24, String)>(&rt, alloc, &[7, 1, 0, 0x49, 2, 0xc3, 0xa9])?;
-    is_equal_however_read::<Option<[u8; 3]>>(&rt, alloc, &[1, 7, 8, 9])?;
-    is_equal_however_read::<Vec<TlsVarInt>>(&rt, alloc, &[3, 0x40, 0x40, 0x25])?;
-    is_equal_however_read::<(VLBytes, VLByteVec)>(&rt, alloc, &[1, 7, 1, 8])?;
-    is_equal_however_read::<(SecretVLBytes, SecretVLByteVec)>(&rt, alloc, &[1, 7, 1, 8])?;
-    is_equal_however_read::<(TlsVecU8<u16>, SecretTlsVecU8<u16>)>(&rt, alloc, &[2, 0, 7, 2, 0, 8])?;
-    is_equal_however_read::<TlsByteVecU16>(&rt, alloc, &[0, 1, 7])
+    expect_equal_however_read::<(u8, U24, String)>(&rt, alloc, &[7, 1, 0, 0x49, 2, 0xc3, 0xa9])?;
+    expect_equal_however_read::<Option<[u8; 3]>>(&rt, alloc, &[1, 7, 8, 9])?;
+    expect_equal_however_read::<Vec<TlsVarInt>>(&rt, alloc, &[3, 0x40, 0x40, 0x25])?;
+    expect_equal_however_read::<(VLBytes, VLByteVec)>(&rt, alloc, &[1, 7, 1, 8])?;
+    expect_equal_however_read::<(SecretVLBytes, SecretVLByteVec)>(&rt, alloc, &[1, 7, 1, 8])?;
+    expect_equal_however_read::<(TlsVecU8<u16>, SecretTlsVecU8<u16>)>(
+        &rt,
+        alloc,
+        &[2, 0, 7, 2, 0, 8],
+    )?;
+    expect_equal_however_read::<TlsByteVecU16>(&rt, alloc, &[0, 1, 7])
 }
 
 #[test]

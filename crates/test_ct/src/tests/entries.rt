@@ -2,7 +2,7 @@
 use crate::tests::certificate;
 use ct::{LogEntry, PrecertChainEntry, X509ChainEntry};
 use std::test::Fail;
-use test_support::each_call::{is_encoded_as, is_refused, is_refused_by};
+use test_support::each_call::{expect_encoded_as, expect_refused, expect_refused_by};
 use tls_codec::{Error, TlsVec};
 
 const NOT_FILLED: Error = Error::DecodingError("elements do not fill the declared length");
@@ -36,12 +36,12 @@ fn entries(rt: HostRuntime) -> Result<(), Fail> {
         leaf_certificate: certificate(alloc, &[7])?,
         certificate_chain: TlsVec::new(Vec::from_array(alloc, chain)?),
     });
-    is_encoded_as(alloc, "a certificate", &entry, &X509)?;
+    expect_encoded_as(alloc, "a certificate", &entry, &X509)?;
     let entry = LogEntry::from(PrecertChainEntry {
         pre_certificate: certificate(alloc, &[7])?,
         precertificate_chain: TlsVec::new(Vec::new(alloc)),
     });
-    is_encoded_as(alloc, "a precertificate", &entry, &PRECERT)
+    expect_encoded_as(alloc, "a precertificate", &entry, &PRECERT)
 }
 
 #[test]
@@ -58,7 +58,7 @@ fn refused_entries(rt: HostRuntime) -> Result<(), Fail> {
     ] {
         let mut bytes = X509.to_vec(alloc)?;
         bytes[at] = byte;
-        is_refused::<LogEntry>(alloc, row, &bytes, error)?;
+        expect_refused::<LogEntry>(alloc, row, &bytes, error)?;
     }
     Ok(())
 }
@@ -71,6 +71,6 @@ fn an_end_within_a_certificate(rt: HostRuntime) -> Result<(), Fail> {
     let mut bytes = X509.to_vec(alloc)?;
     bytes[8] = 8;
     let row = "a chain of 8 bytes";
-    is_refused_by::<LogEntry>(alloc, row, &bytes, NOT_FILLED, Error::EndOfStream)?;
+    expect_refused_by::<LogEntry>(alloc, row, &bytes, NOT_FILLED, Error::EndOfStream)?;
     Ok(())
 }

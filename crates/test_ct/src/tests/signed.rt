@@ -6,7 +6,7 @@ use ct::{
 };
 use std::alloc::Global;
 use std::test::Fail;
-use test_support::each_call::{is_encoded_as, is_refused};
+use test_support::each_call::{expect_encoded_as, expect_refused};
 use tls_codec::Error;
 
 fn to_be_signed(
@@ -52,10 +52,10 @@ fn timestamps(rt: HostRuntime) -> Result<(), Fail> {
     let alloc = rt.alloc();
     let entry = LogEntryTypeData::X509Entry(certificate(alloc, &[0x30, 1, 5])?);
     let signed = to_be_signed(alloc, entry)?;
-    is_encoded_as(alloc, "a certificate", &signed, &OF_CERTIFICATE)?;
+    expect_encoded_as(alloc, "a certificate", &signed, &OF_CERTIFICATE)?;
     let entry = LogEntryTypeData::PrecertEntry(precertificate(alloc)?);
     let signed = to_be_signed(alloc, entry)?;
-    is_encoded_as(alloc, "a precertificate", &signed, &OF_PRECERTIFICATE)
+    expect_encoded_as(alloc, "a precertificate", &signed, &OF_PRECERTIFICATE)
 }
 
 #[test]
@@ -75,7 +75,7 @@ fn refused_timestamps(rt: HostRuntime) -> Result<(), Fail> {
     ] {
         let mut bytes = OF_CERTIFICATE.to_vec(alloc)?;
         bytes[at] = byte;
-        is_refused::<SignedCertificateTimestampTBS>(alloc, row, &bytes, error)?;
+        expect_refused::<SignedCertificateTimestampTBS>(alloc, row, &bytes, error)?;
     }
     Ok(())
 }
@@ -100,12 +100,12 @@ fn trees(rt: HostRuntime) -> Result<(), Fail> {
         tree_size: 65538,
         sha256_root_hash: [7; 32],
     };
-    is_encoded_as(alloc, "a tree", &head, &OF_TREE)?;
+    expect_encoded_as(alloc, "a tree", &head, &OF_TREE)?;
     for (row, bytes, error) in [
         ("version 1", [1, 1], Error::UnknownValue(1)),
         ("certificate_timestamp", [0, 0], Error::UnknownValue(0)),
     ] {
-        is_refused::<TreeHeadSignature>(alloc, row, &bytes, error)?;
+        expect_refused::<TreeHeadSignature>(alloc, row, &bytes, error)?;
     }
     Ok(())
 }

@@ -6,7 +6,7 @@ use ct::{
 };
 use std::alloc::Global;
 use std::test::Fail;
-use test_support::each_call::{is_encoded_as, is_refused};
+use test_support::each_call::{expect_encoded_as, expect_refused};
 use test_support::rows::same_at;
 use tls_codec::{DeserializeBytes, Error, TlsByteVec, TlsByteVecU16, TlsVec};
 
@@ -55,9 +55,9 @@ fn lists(rt: HostRuntime) -> Result<(), Fail> {
     let list = SignedCertificateTimestampList {
         sct_list: TlsVec::new(Vec::from_array(alloc, [serialized])?),
     };
-    is_encoded_as(alloc, "a list", &list, &LIST)?;
+    expect_encoded_as(alloc, "a list", &list, &LIST)?;
     let timestamp = timestamp(alloc)?;
-    is_encoded_as(alloc, "its timestamp", &timestamp, &LIST[TIMESTAMP..])
+    expect_encoded_as(alloc, "its timestamp", &timestamp, &LIST[TIMESTAMP..])
 }
 
 // Each timestamp of a list is read by its own length, so that a list may have some of other versions.
@@ -94,7 +94,7 @@ fn refused_lists(rt: HostRuntime) -> Result<(), Fail> {
             Error::EndOfStream,
         ),
     ] {
-        is_refused::<SignedCertificateTimestampList>(alloc, row, bytes, error)?;
+        expect_refused::<SignedCertificateTimestampList>(alloc, row, bytes, error)?;
     }
     Ok(())
 }
@@ -104,7 +104,7 @@ fn refused_timestamps(rt: HostRuntime) -> Result<(), Fail> {
     let alloc = rt.alloc();
     let row = "version 1";
     let error = Error::UnknownValue(1);
-    is_refused::<SignedCertificateTimestamp>(alloc, row, &[1], error)?;
+    expect_refused::<SignedCertificateTimestamp>(alloc, row, &[1], error)?;
     // one byte more of extensions, of the signature, and one less of the signature's length
     for (row, at, byte) in [
         ("extensions", 46, 13),
@@ -113,7 +113,7 @@ fn refused_timestamps(rt: HostRuntime) -> Result<(), Fail> {
     ] {
         let mut bytes = LIST[TIMESTAMP..].to_vec(alloc)?;
         bytes[at - TIMESTAMP] = byte;
-        is_refused::<SignedCertificateTimestamp>(alloc, row, &bytes, Error::EndOfStream)?;
+        expect_refused::<SignedCertificateTimestamp>(alloc, row, &bytes, Error::EndOfStream)?;
     }
     Ok(())
 }
@@ -132,7 +132,7 @@ fn algorithms(rt: HostRuntime) -> Result<(), Fail> {
         ("no names", HashAlgorithm(8), SignatureAlgorithm(7), [8, 7]),
     ] {
         let algorithm = SignatureAndHashAlgorithm { hash, signature };
-        is_encoded_as(alloc, row, &algorithm, &bytes)?;
+        expect_encoded_as(alloc, row, &algorithm, &bytes)?;
     }
     Ok(())
 }

@@ -5,7 +5,7 @@ use ct::{
 };
 use std::alloc::Global;
 use std::test::Fail;
-use test_support::each_call::{is_encoded_as, is_refused};
+use test_support::each_call::{expect_encoded_as, expect_refused};
 use tls_codec::Error;
 
 fn leaf(
@@ -53,11 +53,11 @@ fn leaves(rt: HostRuntime) -> Result<(), Fail> {
     let alloc = rt.alloc();
     let cert = certificate(alloc, &[0x30, 1, 5])?;
     let of_cert = leaf(alloc, TimestampedEntryLogEntryTypeData::X509Entry(cert))?;
-    is_encoded_as(alloc, "a certificate", &of_cert, &OF_CERTIFICATE)?;
+    expect_encoded_as(alloc, "a certificate", &of_cert, &OF_CERTIFICATE)?;
     let precert = precertificate(alloc)?;
     let entry = TimestampedEntryLogEntryTypeData::PrecertEntry(precert);
     let of_precert = leaf(alloc, entry)?;
-    is_encoded_as(alloc, "a precertificate", &of_precert, &OF_PRECERTIFICATE)
+    expect_encoded_as(alloc, "a precertificate", &of_precert, &OF_PRECERTIFICATE)
 }
 
 #[test]
@@ -77,7 +77,7 @@ fn refused_leaves(rt: HostRuntime) -> Result<(), Fail> {
     ] {
         let mut bytes = OF_CERTIFICATE.to_vec(alloc)?;
         bytes[at] = byte;
-        is_refused::<MerkleTreeLeaf>(alloc, row, &bytes, error)?;
+        expect_refused::<MerkleTreeLeaf>(alloc, row, &bytes, error)?;
     }
     Ok(())
 }

@@ -1,6 +1,8 @@
 //! Certificates and raw public keys, by the type that was agreed on (section 4.4.2).
 use crate::tests::captured::CERTIFICATE;
-use crate::tests::each_call::{is_encoded_as, is_misfit, is_refused_in, is_spelled_in};
+use crate::tests::each_call::{
+    expect_encoded_as, expect_misfit, expect_refused_in, expect_spelled_in,
+};
 use crate::tests::holds;
 use handshake_by_hand::{
     Certificate, CertificateData, CertificateEntry, CertificateType, Extension, Handshake,
@@ -21,8 +23,8 @@ const RAW: CertificateType = CertificateType::RawPublicKey;
 #[test]
 fn types(rt: HostRuntime) -> Result<(), Fail> {
     let alloc = rt.alloc();
-    is_encoded_as(&rt, alloc, &X509, &[0])?;
-    is_encoded_as(&rt, alloc, &RAW, &[2])
+    expect_encoded_as(&rt, alloc, &X509, &[0])?;
+    expect_encoded_as(&rt, alloc, &RAW, &[2])
 }
 
 fn captured(rt: &impl Abort, alloc: Global) -> Result<Vec<u8>, Fail> {
@@ -44,7 +46,7 @@ fn a_certificate_that_a_server_sent(rt: HostRuntime) -> Result<(), Fail> {
     assert!(rt; bytes.len() == 399);
     let body = &bytes[4..];
     let other = UnknownHandshake::new(11, TlsByteVecU24::from_slice(alloc, body)?)?;
-    is_encoded_as(&rt, alloc, &Handshake::Unknown(other), &bytes)?;
+    expect_encoded_as(&rt, alloc, &Handshake::Unknown(other), &bytes)?;
     let entry = CertificateEntry {
         certificate: CertificateData::X509(TlsByteVec::from_slice(alloc, &bytes[11..397])?),
         extensions: TlsVecU16::from_slice(alloc, &[])?,
@@ -53,13 +55,13 @@ fn a_certificate_that_a_server_sent(rt: HostRuntime) -> Result<(), Fail> {
         certificate_request_context: TlsByteVecU8::from_slice(alloc, &[])?,
         certificate_list: TlsVecU24::new(Vec::from_array(alloc, [entry])?),
     };
-    is_spelled_in(&rt, alloc, &X509, &certificate, body)?;
+    expect_spelled_in(&rt, alloc, &X509, &certificate, body)?;
     // The same bytes are another value where raw public keys were agreed on.
     let read = Certificate::tls_deserialize_exact_bytes_for(&RAW, alloc, body)?;
     holds(&rt, read != certificate);
-    is_spelled_in(&rt, alloc, &RAW, &read, body)?;
-    is_misfit(&rt, alloc, &RAW, &certificate)?;
-    is_misfit(&rt, alloc, &X509, &read)
+    expect_spelled_in(&rt, alloc, &RAW, &read, body)?;
+    expect_misfit(&rt, alloc, &RAW, &certificate)?;
+    expect_misfit(&rt, alloc, &X509, &read)
 }
 
 // An Ed25519 key (RFC 8410), and an answer to `status_request`.
@@ -83,8 +85,8 @@ fn a_raw_public_key(rt: HostRuntime) -> Result<(), Fail> {
     let mut spelled = [1u8, 8, 0, 0, 58, 0, 0, 44].to_vec(alloc)?;
     spelled.extend_from_slice(&key)?;
     spelled.extend_from_slice(&[0, 9, 0, 5, 0, 5, 1, 0, 0, 1, 9])?;
-    is_spelled_in(&rt, alloc, &RAW, &certificate, &spelled)?;
-    is_misfit(&rt, alloc, &X509, &certificate)
+    expect_spelled_in(&rt, alloc, &RAW, &certificate, &spelled)?;
+    expect_misfit(&rt, alloc, &X509, &certificate)
 }
 
 fn entry(alloc: Global, byte: u8) -> Result<CertificateEntry, Error> {
@@ -104,8 +106,8 @@ fn each_entry_is_of_the_same_type(rt: HostRuntime) -> Result<(), Fail> {
         certificate_list: TlsVecU24::new(Vec::from_array(alloc, entries)?),
     };
     let spelled = [0, 0, 0, 12, 0, 0, 1, 6, 0, 0, 0, 0, 1, 7, 0, 0];
-    is_spelled_in(&rt, alloc, &X509, &certificate, &spelled)?;
-    is_misfit(&rt, alloc, &RAW, &certificate)?;
+    expect_spelled_in(&rt, alloc, &X509, &certificate, &spelled)?;
+    expect_misfit(&rt, alloc, &RAW, &certificate)?;
     let key = CertificateData::RawPublicKey(TlsByteVec::from_slice(alloc, &[7])?);
     let entries = [
         entry(alloc, 6)?,
@@ -118,8 +120,8 @@ fn each_entry_is_of_the_same_type(rt: HostRuntime) -> Result<(), Fail> {
         certificate_request_context: TlsByteVecU8::from_slice(alloc, &[])?,
         certificate_list: TlsVecU24::new(Vec::from_array(alloc, entries)?),
     };
-    is_misfit(&rt, alloc, &X509, &mixed)?;
-    is_misfit(&rt, alloc, &RAW, &mixed)
+    expect_misfit(&rt, alloc, &X509, &mixed)?;
+    expect_misfit(&rt, alloc, &RAW, &mixed)
 }
 
 // A list that ends within an entry, and a certificate of no bytes.
@@ -127,8 +129,8 @@ fn each_entry_is_of_the_same_type(rt: HostRuntime) -> Result<(), Fail> {
 fn rejected_lists(rt: HostRuntime) -> Result<(), Fail> {
     let alloc = rt.alloc();
     let cut = [0, 0, 0, 5, 0, 0, 1, 6, 0];
-    is_refused_in::<_, Certificate>(&rt, alloc, &X509, &cut, Error::EndOfStream);
+    expect_refused_in::<_, Certificate>(&rt, alloc, &X509, &cut, Error::EndOfStream);
     let none = [0, 0, 0, 5, 0, 0, 0, 0, 0];
-    is_refused_in::<_, Certificate>(&rt, alloc, &X509, &none, Error::InvalidVectorLength);
+    expect_refused_in::<_, Certificate>(&rt, alloc, &X509, &none, Error::InvalidVectorLength);
     Ok(())
 }

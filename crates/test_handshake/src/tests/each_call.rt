@@ -11,7 +11,7 @@ use tls_codec::{
 const MISFIT: Error = Error::EncodingError("value does not fit its context");
 
 // The value is written as these bytes by each encoder, and each decoder reads it from them.
-pub(super) fn is_encoded_as<T>(
+pub(super) fn expect_encoded_as<T>(
     rt: &impl Abort,
     alloc: Global,
     value: &T,
@@ -39,7 +39,7 @@ where
 }
 
 // Each decoder rejects the bytes with this error.
-pub(super) fn is_refused<T: Deserialize + DeserializeBytes>(
+pub(super) fn expect_refused<T: Deserialize + DeserializeBytes>(
     rt: &impl Abort,
     alloc: Global,
     bytes: &[u8],
@@ -52,7 +52,7 @@ pub(super) fn is_refused<T: Deserialize + DeserializeBytes>(
 }
 
 // The same in a context.
-pub(super) fn is_spelled_in<C: Size, T>(
+pub(super) fn expect_spelled_in<C: Size, T>(
     rt: &impl Abort,
     alloc: Global,
     context: &C,
@@ -90,7 +90,7 @@ where
 }
 
 // No encoder writes the value in a context that asks for another one, and a vector has the bytes from before.
-pub(super) fn is_misfit<C: Size, T: SerializeFor<C>>(
+pub(super) fn expect_misfit<C: Size, T: SerializeFor<C>>(
     rt: &impl Abort,
     alloc: Global,
     context: &C,
@@ -115,7 +115,7 @@ pub(super) fn is_misfit<C: Size, T: SerializeFor<C>>(
 }
 
 // Each decoder rejects the bytes in a context with this error.
-pub(super) fn is_refused_in<C: Size, T: DeserializeFor<C> + DeserializeBytesFor<C>>(
+pub(super) fn expect_refused_in<C: Size, T: DeserializeFor<C> + DeserializeBytesFor<C>>(
     rt: &impl Abort,
     alloc: Global,
     context: &C,

@@ -1,5 +1,5 @@
 //! Values of several parts, and byte vectors, by both paths and each encoder.
-use super::{Requests, Wrong, full, is_of_the_order, same};
+use super::{Requests, Wrong, expect_of_the_order, full, same};
 use std::alloc::Global;
 use tls_codec::{
     Deserialize, DeserializeBytes, Error, Serialize, SerializeBytes, TlsByteVecU8, TlsVecU16,
@@ -39,7 +39,7 @@ fn worked_log(alloc: Global) -> Result<Log, Error> {
 }
 
 // The value is written as these bytes to a vector of its own.
-fn is_made<T: Serialize>(
+fn expect_made<T: Serialize>(
     alloc: Global,
     requests: &mut Requests,
     count: u64,
@@ -48,11 +48,11 @@ fn is_made<T: Serialize>(
 ) -> Result<(), Wrong> {
     let form = counted!(requests, count, value.tls_serialize_detached(alloc))?;
     same(form.as_slice(), bytes)?;
-    is_of_the_order(form.capacity(), form.len())
+    expect_of_the_order(form.capacity(), form.len())
 }
 
 // It is written as these bytes after what a full vector has.
-fn is_appended<T: Serialize>(
+fn expect_appended<T: Serialize>(
     alloc: Global,
     requests: &mut Requests,
     count: u64,
@@ -70,11 +70,11 @@ fn is_appended<T: Serialize>(
     )?;
     same(length, bytes.len())?;
     same(out.get(1..), Some(bytes))?;
-    is_of_the_order(out.capacity(), out.len())
+    expect_of_the_order(out.capacity(), out.len())
 }
 
 // The slice path reads the value from these bytes, and leaves none.
-fn is_split<T: DeserializeBytes + PartialEq>(
+fn expect_split<T: DeserializeBytes + PartialEq>(
     alloc: Global,
     requests: &mut Requests,
     count: u64,
@@ -88,7 +88,7 @@ fn is_split<T: DeserializeBytes + PartialEq>(
 }
 
 // The reader path does. After a refusal the bytes come once more.
-fn is_read<T: Deserialize + PartialEq>(
+fn expect_read<T: Deserialize + PartialEq>(
     alloc: Global,
     requests: &mut Requests,
     count: u64,
@@ -111,56 +111,56 @@ fn is_read<T: Deserialize + PartialEq>(
 fn a_triple_is_made(alloc: Global, requests: &mut Requests) -> Result<(), Wrong> {
     requests.begin("a_triple_is_made");
     let value = counted!(requests, 2, mixed(alloc))?;
-    is_made(alloc, requests, 2, &value, &MIXED)?;
+    expect_made(alloc, requests, 2, &value, &MIXED)?;
     Ok(())
 }
 
 fn a_triple_is_appended(alloc: Global, requests: &mut Requests) -> Result<(), Wrong> {
     requests.begin("a_triple_is_appended");
     let value = counted!(requests, 2, mixed(alloc))?;
-    is_appended(alloc, requests, 2, &value, &MIXED)?;
+    expect_appended(alloc, requests, 2, &value, &MIXED)?;
     Ok(())
 }
 
 fn a_triple_is_split(alloc: Global, requests: &mut Requests) -> Result<(), Wrong> {
     requests.begin("a_triple_is_split");
     let value = counted!(requests, 2, mixed(alloc))?;
-    is_split(alloc, requests, 2, &MIXED, &value)?;
+    expect_split(alloc, requests, 2, &MIXED, &value)?;
     Ok(())
 }
 
 fn a_triple_is_read(alloc: Global, requests: &mut Requests) -> Result<(), Wrong> {
     requests.begin("a_triple_is_read");
     let value = counted!(requests, 2, mixed(alloc))?;
-    is_read(alloc, requests, 3, &MIXED, &value)?;
+    expect_read(alloc, requests, 3, &MIXED, &value)?;
     Ok(())
 }
 
 fn a_message_is_made(alloc: Global, requests: &mut Requests) -> Result<(), Wrong> {
     requests.begin("a_message_is_made");
     let value = counted!(requests, 3, worked_log(alloc))?;
-    is_made(alloc, requests, 3, &value, &LOG)?;
+    expect_made(alloc, requests, 3, &value, &LOG)?;
     Ok(())
 }
 
 fn a_message_is_appended(alloc: Global, requests: &mut Requests) -> Result<(), Wrong> {
     requests.begin("a_message_is_appended");
     let value = counted!(requests, 3, worked_log(alloc))?;
-    is_appended(alloc, requests, 2, &value, &LOG)?;
+    expect_appended(alloc, requests, 2, &value, &LOG)?;
     Ok(())
 }
 
 fn a_message_is_split(alloc: Global, requests: &mut Requests) -> Result<(), Wrong> {
     requests.begin("a_message_is_split");
     let value = counted!(requests, 3, worked_log(alloc))?;
-    is_split(alloc, requests, 3, &LOG, &value)?;
+    expect_split(alloc, requests, 3, &LOG, &value)?;
     Ok(())
 }
 
 fn a_message_is_read(alloc: Global, requests: &mut Requests) -> Result<(), Wrong> {
     requests.begin("a_message_is_read");
     let value = counted!(requests, 3, worked_log(alloc))?;
-    is_read(alloc, requests, 3, &LOG, &value)?;
+    expect_read(alloc, requests, 3, &LOG, &value)?;
     Ok(())
 }
 

@@ -18,7 +18,7 @@ const LONG_BYTES: [u8; 7] = [0xff, 0xff, 0xff, 0xff, 1, 2, 3];
 const CUT_OFF: Error = Error::DecodingError("declared content is not there");
 
 // The slice path rejects these bytes after `count` requests.
-fn is_not_split<T: DeserializeBytes>(
+fn expect_not_split<T: DeserializeBytes>(
     alloc: Global,
     requests: &mut Requests,
     count: u64,
@@ -30,7 +30,7 @@ fn is_not_split<T: DeserializeBytes>(
 }
 
 // The reader path does.
-fn is_not_read<T: Deserialize>(
+fn expect_not_read<T: Deserialize>(
     alloc: Global,
     requests: &mut Requests,
     count: u64,
@@ -50,39 +50,39 @@ fn is_not_read<T: Deserialize>(
 
 fn slices(alloc: Global, requests: &mut Requests) -> Result<(), Wrong> {
     requests.begin("slices");
-    is_not_split::<Vec<Box<()>>>(alloc, requests, 1, &[1], EMPTY_ELEMENT)?;
-    is_not_split::<VLBytes>(alloc, requests, 0, &[0xbf, 0xff, 0xff, 0xff, 1], CUT_OFF)?;
-    is_not_split::<String>(alloc, requests, 0, &[5, 1, 2], CUT_OFF)?;
-    is_not_split::<TlsByteVecU32>(alloc, requests, 0, &LONG_BYTES, Error::EndOfStream)?;
-    is_not_split::<Vec<u16>>(
+    expect_not_split::<Vec<Box<()>>>(alloc, requests, 1, &[1], EMPTY_ELEMENT)?;
+    expect_not_split::<VLBytes>(alloc, requests, 0, &[0xbf, 0xff, 0xff, 0xff, 1], CUT_OFF)?;
+    expect_not_split::<String>(alloc, requests, 0, &[5, 1, 2], CUT_OFF)?;
+    expect_not_split::<TlsByteVecU32>(alloc, requests, 0, &LONG_BYTES, Error::EndOfStream)?;
+    expect_not_split::<Vec<u16>>(
         alloc,
         requests,
         0,
         &[0xbf, 0xff, 0xff, 0xff, 0],
         Error::EndOfStream,
     )?;
-    is_not_split::<Vec<u16>>(alloc, requests, 1, &[3, 0, 1, 0], Error::EndOfStream)?;
+    expect_not_split::<Vec<u16>>(alloc, requests, 1, &[3, 0, 1, 0], Error::EndOfStream)?;
     Ok(())
 }
 
 fn sources(alloc: Global, requests: &mut Requests) -> Result<(), Wrong> {
     requests.begin("sources");
-    is_not_read::<Vec<Box<()>>>(alloc, requests, 1, &[1], EMPTY_ELEMENT)?;
-    is_not_read::<Vec<u16>>(
+    expect_not_read::<Vec<Box<()>>>(alloc, requests, 1, &[1], EMPTY_ELEMENT)?;
+    expect_not_read::<Vec<u16>>(
         alloc,
         requests,
         0,
         &[0xbf, 0xff, 0xff, 0xff, 0],
         Error::EndOfStream,
     )?;
-    is_not_read::<Vec<u16>>(alloc, requests, 1, &[3, 0, 1, 0], Error::EndOfStream)?;
-    is_not_read::<VLBytes>(
+    expect_not_read::<Vec<u16>>(alloc, requests, 1, &[3, 0, 1, 0], Error::EndOfStream)?;
+    expect_not_read::<VLBytes>(
         alloc,
         requests,
         1,
         &[0xbf, 0xff, 0xff, 0xff, 1],
         Error::EndOfStream,
     )?;
-    is_not_read::<TlsByteVecU32>(alloc, requests, 1, &LONG_BYTES, Error::EndOfStream)?;
+    expect_not_read::<TlsByteVecU32>(alloc, requests, 1, &LONG_BYTES, Error::EndOfStream)?;
     Ok(())
 }

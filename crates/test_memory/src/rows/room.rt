@@ -1,6 +1,6 @@
 //! How much room a call asks for. The capacity of what it returns shows it: it is of the order of
 //! the bytes or elements there, whatever follows them.
-use super::{Requests, Wrong, full, is_of_the_order, same};
+use super::{Requests, Wrong, expect_of_the_order, full, same};
 use std::alloc::Global;
 use tls_codec::{
     Deserialize, DeserializeBytes, Error, Outside, Serialize, TlsByteVecU8, TlsByteVecU32,
@@ -33,9 +33,9 @@ fn short_fields_before_many_bytes(alloc: Global, requests: &mut Requests) -> Res
         Error::OutOfMemory,
         source = MANY.as_slice()
     )?;
-    has_bytes(Vec::from(found), &[2, 2])?;
+    expect_bytes(Vec::from(found), &[2, 2])?;
     let (found, _) = counted!(requests, 1, VLBytes::tls_deserialize_bytes(alloc, &MANY))?;
-    has_bytes(Vec::from(found), &[2, 2])?;
+    expect_bytes(Vec::from(found), &[2, 2])?;
     let mut source = COUNTED.as_slice();
     let found = counted!(
         requests,
@@ -44,7 +44,7 @@ fn short_fields_before_many_bytes(alloc: Global, requests: &mut Requests) -> Res
         Error::OutOfMemory,
         source = COUNTED.as_slice()
     )?;
-    has_bytes(found.into_vec(), &[1, 2])
+    expect_bytes(found.into_vec(), &[1, 2])
 }
 
 fn short_fields_of_a_source_with_none_at_hand(
@@ -57,13 +57,13 @@ fn short_fields_of_a_source_with_none_at_hand(
         1,
         VLBytes::tls_deserialize(alloc, &mut Outside::new(MANY.as_slice()))
     )?;
-    has_bytes(Vec::from(found), &[2, 2])?;
+    expect_bytes(Vec::from(found), &[2, 2])?;
     let found = counted!(
         requests,
         1,
         TlsByteVecU32::tls_deserialize(alloc, &mut Outside::new(COUNTED.as_slice()))
     )?;
-    has_bytes(found.into_vec(), &[1, 2])
+    expect_bytes(found.into_vec(), &[1, 2])
 }
 
 fn short_lists_before_many_bytes(alloc: Global, requests: &mut Requests) -> Result<(), Wrong> {
@@ -76,21 +76,21 @@ fn short_lists_before_many_bytes(alloc: Global, requests: &mut Requests) -> Resu
         Error::OutOfMemory,
         source = MANY.as_slice()
     )?;
-    has_numbers(found)?;
+    expect_numbers(found)?;
     let (found, _) = counted!(requests, 1, Vec::<u16>::tls_deserialize_bytes(alloc, &MANY))?;
-    has_numbers(found)?;
+    expect_numbers(found)?;
     let found = counted!(
         requests,
         2,
         Vec::<u16>::tls_deserialize(alloc, &mut Outside::new(MANY.as_slice()))
     )?;
-    has_numbers(found)?;
+    expect_numbers(found)?;
     let (found, _) = counted!(
         requests,
         1,
         TlsVecU8::<u16>::tls_deserialize_bytes(alloc, &MANY)
     )?;
-    has_numbers(found.into_vec())
+    expect_numbers(found.into_vec())
 }
 
 fn copies(alloc: Global, requests: &mut Requests) -> Result<(), Wrong> {
@@ -98,14 +98,14 @@ fn copies(alloc: Global, requests: &mut Requests) -> Result<(), Wrong> {
     let content = [1, 2, 3].as_slice();
     let copy = counted!(requests, 1, VLBytes::from_slice(alloc, content))?;
     let again = counted!(requests, 1, copy.clone())?;
-    has_bytes(Vec::from(copy), content)?;
-    has_bytes(Vec::from(again), content)?;
+    expect_bytes(Vec::from(copy), content)?;
+    expect_bytes(Vec::from(again), content)?;
     let copy = counted!(requests, 1, VLByteVec::from_slice(alloc, content))?;
-    has_bytes(Vec::from(copy), content)?;
+    expect_bytes(Vec::from(copy), content)?;
     let copy = counted!(requests, 1, TlsByteVecU8::from_slice(alloc, content))?;
-    has_bytes(copy.into_vec(), content)?;
+    expect_bytes(copy.into_vec(), content)?;
     let collected = counted!(requests, 1, TlsByteVecU8::try_from_iter(alloc, [1, 2, 3]))?;
-    has_bytes(collected.into_vec(), content)
+    expect_bytes(collected.into_vec(), content)
 }
 
 fn bytes_written_after_others(alloc: Global, requests: &mut Requests) -> Result<(), Wrong> {
@@ -113,14 +113,14 @@ fn bytes_written_after_others(alloc: Global, requests: &mut Requests) -> Result<
     let bytes = counted!(requests, 1, VLBytes::from_slice(alloc, &[1, 2]))?;
     let mut out = full(alloc, requests, &[0xee])?;
     counted!(requests, 1, bytes.tls_serialize_into(&mut out))?;
-    has_bytes(out, &[0xee, 2, 1, 2])
+    expect_bytes(out, &[0xee, 2, 1, 2])
 }
 
 fn a_length_put_before_bytes(alloc: Global, requests: &mut Requests) -> Result<(), Wrong> {
     requests.begin("a_length_put_before_bytes");
     let mut out = full(alloc, requests, &[1, 2])?;
     counted!(requests, 1, vlen::insert_length(&mut out, 0))?;
-    has_bytes(out, &[2, 1, 2])
+    expect_bytes(out, &[2, 1, 2])
 }
 
 // The room for the length of a list is guessed, and here it is two bytes short.
@@ -129,7 +129,7 @@ fn a_length_wider_than_likely(alloc: Global, requests: &mut Requests) -> Result<
     let list = counted!(requests, 2, one_long(alloc))?;
     let form = counted!(requests, 3, list.tls_serialize_detached(alloc))?;
     same(form.len(), 20_008)?;
-    is_of_the_order(form.capacity(), form.len())
+    expect_of_the_order(form.capacity(), form.len())
 }
 
 fn one_long(alloc: Global) -> Result<Vec<VLBytes>, Error> {
@@ -137,12 +137,12 @@ fn one_long(alloc: Global) -> Result<Vec<VLBytes>, Error> {
     Ok(TlsVecU8::<VLBytes>::try_from_iter(alloc, [bytes])?.into_vec())
 }
 
-fn has_bytes(found: Vec<u8>, bytes: &[u8]) -> Result<(), Wrong> {
+fn expect_bytes(found: Vec<u8>, bytes: &[u8]) -> Result<(), Wrong> {
     same(found.as_slice(), bytes)?;
-    is_of_the_order(found.capacity(), found.len())
+    expect_of_the_order(found.capacity(), found.len())
 }
 
-fn has_numbers(found: Vec<u16>) -> Result<(), Wrong> {
+fn expect_numbers(found: Vec<u16>) -> Result<(), Wrong> {
     same(found.as_slice(), [0x0202].as_slice())?;
-    is_of_the_order(found.capacity(), found.len())
+    expect_of_the_order(found.capacity(), found.len())
 }

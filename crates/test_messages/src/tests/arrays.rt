@@ -1,5 +1,5 @@
 //! Arrays of what isn't a byte, by their bytes (RFC 8446, section 3.4).
-use crate::tests::each_call::{is_encoded_as, is_refused};
+use crate::tests::each_call::{expect_encoded_as, expect_refused};
 use crate::tests::{holds, same};
 use messages_of_each_shape::{Line, Pixel, ThreeData};
 use std::alloc::Global;
@@ -13,7 +13,7 @@ fn three_data(alloc: Global, data: &[[u8; 3]]) -> Result<ThreeData, Error> {
 }
 
 // Each encoder rejects the value, and nothing of it is sent.
-fn is_not_written<T: Serialize>(rt: &impl Abort, alloc: Global, value: &T) {
+fn expect_not_written<T: Serialize>(rt: &impl Abort, alloc: Global, value: &T) {
     let refused = Some(Error::InvalidVectorLength);
     same(rt, value.tls_serialize_detached(alloc).err(), refused);
     let mut received = Vec::new(alloc);
@@ -27,14 +27,14 @@ fn is_not_written<T: Serialize>(rt: &impl Abort, alloc: Global, value: &T) {
 fn data_of_three_bytes(rt: HostRuntime) -> Result<(), Fail> {
     let alloc = rt.alloc();
     let three = three_data(alloc, &[[1, 2, 3], [4, 5, 6], [7, 8, 9]])?;
-    is_encoded_as(&rt, alloc, &three, &[1, 2, 3, 4, 5, 6, 7, 8, 9])?;
+    expect_encoded_as(&rt, alloc, &three, &[1, 2, 3, 4, 5, 6, 7, 8, 9])?;
     for cut in [
         [].as_slice(),
         &[1],
         &[1, 2, 3, 4, 5, 6],
         &[1, 2, 3, 4, 5, 6, 7, 8],
     ] {
-        is_refused::<ThreeData>(&rt, alloc, cut, Error::EndOfStream);
+        expect_refused::<ThreeData>(&rt, alloc, cut, Error::EndOfStream);
     }
     Ok(())
 }
@@ -43,7 +43,7 @@ fn data_of_three_bytes(rt: HostRuntime) -> Result<(), Fail> {
 fn another_number_of_bytes(rt: HostRuntime) -> Result<(), Fail> {
     let alloc = rt.alloc();
     for data in [[].as_slice(), &[[1, 2, 3], [4, 5, 6]], &[[0; 3]; 4]] {
-        is_not_written(&rt, alloc, &three_data(alloc, data)?);
+        expect_not_written(&rt, alloc, &three_data(alloc, data)?);
     }
     Ok(())
 }
@@ -58,7 +58,7 @@ fn structs(rt: HostRuntime) -> Result<(), Fail> {
         pixels: TlsVec::new(Vec::from_array(alloc, pixels)?),
         after: 6,
     };
-    is_encoded_as(&rt, alloc, &line, &[0, 0, 0, 1, 2, 0, 3, 4, 0, 5, 0, 6])?;
-    is_refused::<Line>(&rt, alloc, &[0, 0, 0, 1, 2, 0, 3, 4], Error::EndOfStream);
+    expect_encoded_as(&rt, alloc, &line, &[0, 0, 0, 1, 2, 0, 3, 4, 0, 5, 0, 6])?;
+    expect_refused::<Line>(&rt, alloc, &[0, 0, 0, 1, 2, 0, 3, 4], Error::EndOfStream);
     Ok(())
 }

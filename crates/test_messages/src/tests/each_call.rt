@@ -9,7 +9,7 @@ use tls_codec_validate::Validate;
 use tls_codec_vectors::Drip;
 
 // The round trip: the value is written as these bytes by each encoder, and each decoder reads it from them.
-pub(super) fn is_encoded_as<T>(
+pub(super) fn expect_encoded_as<T>(
     rt: &impl Abort,
     alloc: Global,
     value: &T,
@@ -18,7 +18,7 @@ pub(super) fn is_encoded_as<T>(
 where
     T: Serialize + Deserialize + Validate + Eq + Debug + Clone,
 {
-    is_written(rt, alloc, value, bytes)?;
+    expect_written(rt, alloc, value, bytes)?;
     same(rt, T::tls_validate(bytes), Ok(()));
     same(rt, &T::tls_deserialize_exact_bytes(alloc, bytes)?, value);
     same(rt, &T::tls_deserialize_exact(alloc, bytes)?, value);
@@ -36,12 +36,12 @@ where
     let mut source = longer.as_slice();
     same(rt, &T::tls_deserialize(alloc, &mut source)?, value);
     same(rt, source, [0xee].as_slice());
-    is_cut_off::<T>(rt, alloc, bytes);
+    expect_cut_off::<T>(rt, alloc, bytes);
     Ok(())
 }
 
 // Each encoder writes the value as these bytes, and its clone equals it.
-pub(super) fn is_written<T: Serialize + Eq + Debug + Clone>(
+pub(super) fn expect_written<T: Serialize + Eq + Debug + Clone>(
     rt: &impl Abort,
     alloc: Global,
     value: &T,
@@ -63,7 +63,7 @@ pub(super) fn is_written<T: Serialize + Eq + Debug + Clone>(
 
 // Each decoder rejects each proper prefix of the bytes, and validation rejects it with the error of
 // the slice's.
-fn is_cut_off<T: Deserialize + Validate>(rt: &impl Abort, alloc: Global, bytes: &[u8]) {
+fn expect_cut_off<T: Deserialize + Validate>(rt: &impl Abort, alloc: Global, bytes: &[u8]) {
     for length in 0..bytes.len() {
         let prefix = &bytes[..length];
         let split = T::tls_deserialize_bytes(alloc, prefix).err();
@@ -81,18 +81,18 @@ fn is_cut_off<T: Deserialize + Validate>(rt: &impl Abort, alloc: Global, bytes: 
 }
 
 // Each decoder rejects the bytes with this error.
-pub(super) fn is_refused<T: Deserialize + Validate>(
+pub(super) fn expect_refused<T: Deserialize + Validate>(
     rt: &impl Abort,
     alloc: Global,
     bytes: &[u8],
     error: Error,
 ) {
-    is_refused_by::<T>(rt, alloc, bytes, error, error);
+    expect_refused_by::<T>(rt, alloc, bytes, error, error);
 }
 
 // To the end of the bytes, a slice's decoder rejects them with one error, as does validation, and a
 // source's with another.
-pub(super) fn is_refused_by<T: Deserialize + Validate>(
+pub(super) fn expect_refused_by<T: Deserialize + Validate>(
     rt: &impl Abort,
     alloc: Global,
     bytes: &[u8],

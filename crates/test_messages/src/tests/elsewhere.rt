@@ -1,5 +1,5 @@
 //! Messages in a context: their tag is a number or a name of another struct.
-use crate::tests::in_context::{is_misfit_in, is_refused_in, is_spelled_in};
+use crate::tests::in_context::{expect_misfit_in, expect_refused_in, expect_spelled_in};
 use messages_of_each_shape::{ByVersion, CertificateType, CertificateTypeData, Entries, Entry};
 use std::alloc::Global;
 use std::test::Fail;
@@ -32,9 +32,9 @@ fn by_a_number(rt: HostRuntime) -> Result<(), Fail> {
         (2, long, &[0, 0, 0, 1, 1, 7, 8], [1, 3, 0x0102]),
         (3, ByVersion::Case3, &[], [1, 2, 0]),
     ] {
-        is_spelled_in(&rt, alloc, &version, &value, bytes)?;
+        expect_spelled_in(&rt, alloc, &version, &value, bytes)?;
         for other in others {
-            is_misfit_in(&rt, alloc, &other, &value)?;
+            expect_misfit_in(&rt, alloc, &other, &value)?;
         }
     }
     Ok(())
@@ -65,7 +65,7 @@ fn refused_by_a_number(rt: HostRuntime) -> Result<(), Fail> {
         (2, &[0, 0, 0, 1, 0, 7, 8], TRAILING, TRAILING),
         (2, &[0, 0, 0, 1, 3, 7, 8], NOT_THERE, END),
     ] {
-        is_refused_in::<_, ByVersion>(&rt, alloc, &version, bytes, of_slice, of_source);
+        expect_refused_in::<_, ByVersion>(&rt, alloc, &version, bytes, of_slice, of_source);
     }
     Ok(())
 }
@@ -100,8 +100,8 @@ fn by_a_name(rt: HostRuntime) -> Result<(), Fail> {
         (RAW, X509, raw(alloc, &[10, 11])?, &[2, 10, 11]),
         (RAW, X509, raw(alloc, &[])?, &[0]),
     ] {
-        is_spelled_in(&rt, alloc, &kind, &body, bytes)?;
-        is_misfit_in(&rt, alloc, &other, &body)?;
+        expect_spelled_in(&rt, alloc, &kind, &body, bytes)?;
+        expect_misfit_in(&rt, alloc, &other, &body)?;
     }
     Ok(())
 }
@@ -123,8 +123,8 @@ fn among_fields(rt: HostRuntime) -> Result<(), Fail> {
             &[1, 2, 10, 11, 0, 3, 1, 4],
         ),
     ] {
-        is_spelled_in(&rt, alloc, &kind, &entry, bytes)?;
-        is_misfit_in(&rt, alloc, &other, &entry)?;
+        expect_spelled_in(&rt, alloc, &kind, &entry, bytes)?;
+        expect_misfit_in(&rt, alloc, &other, &entry)?;
     }
     Ok(())
 }
@@ -150,7 +150,7 @@ fn refused_among_fields(rt: HostRuntime) -> Result<(), Fail> {
             TRAILING,
         ),
     ] {
-        is_refused_in::<_, Entry>(&rt, alloc, &kind, bytes, of_slice, of_source);
+        expect_refused_in::<_, Entry>(&rt, alloc, &kind, bytes, of_slice, of_source);
     }
     Ok(())
 }
@@ -184,8 +184,8 @@ fn lists(rt: HostRuntime) -> Result<(), Fail> {
             count: 2,
             entries: TlsVecU24::new(entries),
         };
-        is_spelled_in(&rt, alloc, &kind, &entries, bytes)?;
-        is_misfit_in(&rt, alloc, &other, &entries)?;
+        expect_spelled_in(&rt, alloc, &kind, &entries, bytes)?;
+        expect_misfit_in(&rt, alloc, &other, &entries)?;
     }
     Ok(())
 }
@@ -207,8 +207,8 @@ fn no_entry_and_entries_of_two_cases(rt: HostRuntime) -> Result<(), Fail> {
         entries: TlsVecU24::new(Vec::from_array(alloc, both)?),
     };
     for kind in [X509, RAW] {
-        is_spelled_in(&rt, alloc, &kind, &none, &[0, 0, 0, 0])?;
-        is_misfit_in(&rt, alloc, &kind, &both)?;
+        expect_spelled_in(&rt, alloc, &kind, &none, &[0, 0, 0, 0])?;
+        expect_misfit_in(&rt, alloc, &kind, &both)?;
     }
     Ok(())
 }
@@ -236,7 +236,7 @@ fn refused_lists(rt: HostRuntime) -> Result<(), Fail> {
         (RAW, &[1, 0, 0, 7, 1, 1, 10, 0, 3, 0], END, END),
         (X509, &[1, 0, 0, 6, 1, 1, 10, 0, 3, 0], END, END),
     ] {
-        is_refused_in::<_, Entries>(&rt, alloc, &kind, bytes, of_slice, of_source);
+        expect_refused_in::<_, Entries>(&rt, alloc, &kind, bytes, of_slice, of_source);
     }
     Ok(())
 }

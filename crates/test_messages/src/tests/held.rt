@@ -1,6 +1,6 @@
 //! Messages whose parts are on a tag in a field before them.
-use crate::tests::each_call::{is_encoded_as, is_refused};
-use crate::tests::{is_misfit, one_byte, same};
+use crate::tests::each_call::{expect_encoded_as, expect_refused};
+use crate::tests::{expect_misfit, one_byte, same};
 use messages_of_each_shape::{
     Bearer, BodyKind, BodyKindData, ByVersion, Carrier, Header, KindBody, NameType, NameTypeData,
     Named, Versioned,
@@ -40,13 +40,13 @@ static CARRIER: [u8; 17] = [
 #[test]
 fn a_tag_before_what_it_decides(rt: HostRuntime) -> Result<(), Fail> {
     let alloc = rt.alloc();
-    is_encoded_as(&rt, alloc, &carrier(alloc, chat(9, 0x0102))?, &CARRIER)?;
+    expect_encoded_as(&rt, alloc, &carrier(alloc, chat(9, 0x0102))?, &CARRIER)?;
     let file = KindBody {
         first: 9,
         body: BodyKindData::File(one_byte(alloc, 1)?),
     };
-    is_misfit(&rt, alloc, &carrier(alloc, file)?);
-    is_refused::<Carrier>(&rt, alloc, &[3, 9], Error::UnknownValue(3));
+    expect_misfit(&rt, alloc, &carrier(alloc, file)?);
+    expect_refused::<Carrier>(&rt, alloc, &[3, 9], Error::UnknownValue(3));
     Ok(())
 }
 
@@ -67,11 +67,11 @@ fn bearer(alloc: Global, number: u8, body: NameTypeData) -> Result<Bearer, Error
 fn a_struct_before_what_its_tag_decides(rt: HostRuntime) -> Result<(), Fail> {
     let alloc = rt.alloc();
     let host = bearer(alloc, 0, NameTypeData::HostName(8))?;
-    is_encoded_as(&rt, alloc, &host, &[5, 1, 0, 8, 1, 0xaa])?;
+    expect_encoded_as(&rt, alloc, &host, &[5, 1, 0, 8, 1, 0xaa])?;
     let other = bearer(alloc, 7, NameTypeData::Case7(one_byte(alloc, 0xb1)?))?;
-    is_encoded_as(&rt, alloc, &other, &[5, 1, 7, 1, 0xb1, 1, 0xaa])?;
-    is_misfit(&rt, alloc, &bearer(alloc, 7, NameTypeData::HostName(8))?);
-    is_refused::<Bearer>(&rt, alloc, &[5, 1, 9, 8, 1, 0xaa], Error::UnknownValue(9));
+    expect_encoded_as(&rt, alloc, &other, &[5, 1, 7, 1, 0xb1, 1, 0xaa])?;
+    expect_misfit(&rt, alloc, &bearer(alloc, 7, NameTypeData::HostName(8))?);
+    expect_refused::<Bearer>(&rt, alloc, &[5, 1, 9, 8, 1, 0xaa], Error::UnknownValue(9));
     Ok(())
 }
 
@@ -90,7 +90,7 @@ fn a_number_before_what_it_decides(rt: HostRuntime) -> Result<(), Fail> {
             last: 6,
         },
     };
-    is_encoded_as(&rt, alloc, &value, &[0, 2, 0, 0, 0, 0, 1, 1, 0xb1, 6])?;
-    is_refused::<Versioned>(&rt, alloc, &[0, 4, 0], Error::UnknownValue(4));
+    expect_encoded_as(&rt, alloc, &value, &[0, 2, 0, 0, 0, 0, 1, 1, 0xb1, 6])?;
+    expect_refused::<Versioned>(&rt, alloc, &[0, 4, 0], Error::UnknownValue(4));
     Ok(())
 }

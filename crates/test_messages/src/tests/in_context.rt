@@ -9,7 +9,7 @@ use tls_codec_validate::{Keyed, ValidateFor};
 use tls_codec_vectors::Drip;
 
 // The round trip: the value is written as these bytes by each encoder, and each decoder reads it from them.
-pub(super) fn is_spelled_in<C: Keyed, T>(
+pub(super) fn expect_spelled_in<C: Keyed, T>(
     rt: &impl Abort,
     alloc: Global,
     context: &C,
@@ -20,7 +20,7 @@ where
     T: SerializeFor<C> + DeserializeFor<C> + ValidateFor<C> + Eq + Debug + Clone,
 {
     let key = context.key();
-    is_written_in(rt, alloc, context, value, bytes)?;
+    expect_written_in(rt, alloc, context, value, bytes)?;
     same(rt, T::tls_validate_for(&key, bytes), Ok(()));
     same(rt, &value.clone()?, value);
     let split = T::tls_deserialize_exact_bytes_for(context, alloc, bytes)?;
@@ -42,7 +42,7 @@ where
     Ok(())
 }
 
-fn is_written_in<C: Size, T: SerializeFor<C>>(
+fn expect_written_in<C: Size, T: SerializeFor<C>>(
     rt: &impl Abort,
     alloc: Global,
     context: &C,
@@ -63,7 +63,7 @@ fn is_written_in<C: Size, T: SerializeFor<C>>(
 }
 
 // No encoder writes the value in a context that asks for another one, and a vector has the bytes from before.
-pub(super) fn is_misfit_in<C: Size, T: SerializeFor<C>>(
+pub(super) fn expect_misfit_in<C: Size, T: SerializeFor<C>>(
     rt: &impl Abort,
     alloc: Global,
     context: &C,
@@ -82,7 +82,7 @@ pub(super) fn is_misfit_in<C: Size, T: SerializeFor<C>>(
 
 // To the end of the bytes, a slice's decoder rejects them with one error, as does validation, and a
 // source's with another.
-pub(super) fn is_refused_in<C: Keyed, T: DeserializeFor<C> + ValidateFor<C>>(
+pub(super) fn expect_refused_in<C: Keyed, T: DeserializeFor<C> + ValidateFor<C>>(
     rt: &impl Abort,
     alloc: Global,
     context: &C,

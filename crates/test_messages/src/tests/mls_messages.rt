@@ -1,5 +1,5 @@
 //! Messages of MLS (RFC 9420), encoded field by field.
-use crate::tests::each_call::is_encoded_as;
+use crate::tests::each_call::expect_encoded_as;
 use crate::tests::{holds, same, same_at};
 use mls::{CipherSuite, Credential, LeafNodeOrigin, Lifetime, MLSMessage, Sender, WireFormatData};
 use std::alloc::Global;
@@ -201,7 +201,7 @@ static COMMIT_TAGS: [usize; 10] = [1, 3, 14, 21, 23, 25, 30, 34, 42, 68];
 // Read by each decoder, and written again to the same bytes.
 fn is_message(rt: &impl Abort, alloc: Global, bytes: &[u8]) -> Result<MLSMessage, Fail> {
     let message = MLSMessage::tls_deserialize_exact_bytes(alloc, bytes)?;
-    is_encoded_as(rt, alloc, &message, bytes)?;
+    expect_encoded_as(rt, alloc, &message, bytes)?;
     Ok(message)
 }
 

@@ -1,5 +1,5 @@
 //! Parts of messages of MLS (RFC 9420), each alone, encoded field by field.
-use crate::tests::each_call::{is_encoded_as, is_refused, is_written};
+use crate::tests::each_call::{expect_encoded_as, expect_refused, expect_written};
 use crate::tests::one_byte;
 use mls::{
     Certificate, CipherSuite, Commit, Credential, GroupContext, InterimTranscriptHashInput,
@@ -27,17 +27,17 @@ fn lifetime() -> Lifetime {
 fn cipher_suites(rt: HostRuntime) -> Result<(), Fail> {
     let alloc = rt.alloc();
     let suite = CipherSuite::MLS_128_DHKEMX25519_CHACHA20POLY1305_SHA256_ED25519;
-    is_encoded_as(&rt, alloc, &suite, &[0, 3])?;
-    is_encoded_as(&rt, alloc, &CipherSuite(0x0a0a), &[0x0a, 0x0a])
+    expect_encoded_as(&rt, alloc, &suite, &[0, 3])?;
+    expect_encoded_as(&rt, alloc, &CipherSuite(0x0a0a), &[0x0a, 0x0a])
 }
 
 // Section 8.1: a group's context has the one version.
 #[test]
 fn versions(rt: HostRuntime) -> Result<(), Fail> {
     let alloc = rt.alloc();
-    is_encoded_as(&rt, alloc, &ProtocolVersionMls10::Mls10, &[0, 1])?;
-    is_refused::<ProtocolVersionMls10>(&rt, alloc, &[1, 0], Error::UnknownValue(256));
-    is_refused::<GroupContext>(&rt, alloc, &[0, 3, 0, 1], Error::UnknownValue(3));
+    expect_encoded_as(&rt, alloc, &ProtocolVersionMls10::Mls10, &[0, 1])?;
+    expect_refused::<ProtocolVersionMls10>(&rt, alloc, &[1, 0], Error::UnknownValue(256));
+    expect_refused::<GroupContext>(&rt, alloc, &[0, 3, 0, 1], Error::UnknownValue(3));
     Ok(())
 }
 
@@ -46,13 +46,13 @@ fn versions(rt: HostRuntime) -> Result<(), Fail> {
 fn credentials(rt: HostRuntime) -> Result<(), Fail> {
     let alloc = rt.alloc();
     let basic = Credential::Basic(one_byte(alloc, 9)?);
-    is_encoded_as(&rt, alloc, &basic, &[0, 1, 1, 9])?;
+    expect_encoded_as(&rt, alloc, &basic, &[0, 1, 1, 9])?;
     let both = [certificate(alloc, 5)?, certificate(alloc, 6)?];
     let x509 = Credential::X509(Vec::from_array(alloc, both)?);
-    is_encoded_as(&rt, alloc, &x509, &[0, 2, 4, 1, 5, 1, 6])?;
-    is_refused::<Credential>(&rt, alloc, &[0, 0], Error::UnknownValue(0));
-    is_refused::<Credential>(&rt, alloc, &[0, 6, 1, 9], Error::UnknownValue(6));
-    is_refused::<Credential>(&rt, alloc, &[0, 1, 0x40, 1, 9], Error::InvalidVectorLength);
+    expect_encoded_as(&rt, alloc, &x509, &[0, 2, 4, 1, 5, 1, 6])?;
+    expect_refused::<Credential>(&rt, alloc, &[0, 0], Error::UnknownValue(0));
+    expect_refused::<Credential>(&rt, alloc, &[0, 6, 1, 9], Error::UnknownValue(6));
+    expect_refused::<Credential>(&rt, alloc, &[0, 1, 0x40, 1, 9], Error::InvalidVectorLength);
     Ok(())
 }
 
@@ -60,13 +60,13 @@ fn credentials(rt: HostRuntime) -> Result<(), Fail> {
 #[test]
 fn sources_of_leaf_nodes(rt: HostRuntime) -> Result<(), Fail> {
     let alloc = rt.alloc();
-    is_encoded_as(&rt, alloc, &LeafNodeOrigin::Update, &[2])?;
+    expect_encoded_as(&rt, alloc, &LeafNodeOrigin::Update, &[2])?;
     let commit = LeafNodeOrigin::Commit(one_byte(alloc, 9)?);
-    is_encoded_as(&rt, alloc, &commit, &[3, 1, 9])?;
+    expect_encoded_as(&rt, alloc, &commit, &[3, 1, 9])?;
     let package = LeafNodeOrigin::KeyPackage(lifetime());
     let spelled = [1, 0, 0, 0, 0, 0, 0, 0, 1, 0, 0, 0, 0, 0, 0, 0, 2];
-    is_encoded_as(&rt, alloc, &package, &spelled)?;
-    is_refused::<LeafNodeOrigin>(&rt, alloc, &[4], Error::UnknownValue(4));
+    expect_encoded_as(&rt, alloc, &package, &spelled)?;
+    expect_refused::<LeafNodeOrigin>(&rt, alloc, &[4], Error::UnknownValue(4));
     Ok(())
 }
 
@@ -82,13 +82,13 @@ fn what_is_signed_of_leaf_nodes(rt: HostRuntime) -> Result<(), Fail> {
         extensions: &extensions,
     };
     let spelled = [1, 0, 0, 0, 0, 0, 0, 0, 1, 0, 0, 0, 0, 0, 0, 0, 2, 0];
-    is_written(&rt, alloc, &package, &spelled)?;
+    expect_written(&rt, alloc, &package, &spelled)?;
     let update = LeafNodeTBSOrigin::Update {
         extensions: &extensions,
         group_id: &group_id,
         leaf_index: &5,
     };
-    is_written(&rt, alloc, &update, &[2, 0, 1, 0xfa, 0, 0, 0, 5])
+    expect_written(&rt, alloc, &update, &[2, 0, 1, 0xfa, 0, 0, 0, 5])
 }
 
 // Sections 8.4, 12.4, 6.3.2 and 8.2.
@@ -104,7 +104,7 @@ fn structs(rt: HostRuntime) -> Result<(), Fail> {
         psktype,
         psk_nonce: one_byte(alloc, 0xbb)?,
     };
-    is_encoded_as(
+    expect_encoded_as(
         &rt,
         alloc,
         &id,
@@ -114,16 +114,16 @@ fn structs(rt: HostRuntime) -> Result<(), Fail> {
         proposals: Vec::new(alloc),
         path: None,
     };
-    is_encoded_as(&rt, alloc, &commit, &[0, 0])?;
+    expect_encoded_as(&rt, alloc, &commit, &[0, 0])?;
     let sender = SenderData {
         leaf_index: 1,
         generation: 2,
         reuse_guard: [3, 4, 5, 6],
     };
-    is_encoded_as(&rt, alloc, &sender, &[0, 0, 0, 1, 0, 0, 0, 2, 3, 4, 5, 6])?;
+    expect_encoded_as(&rt, alloc, &sender, &[0, 0, 0, 1, 0, 0, 0, 2, 3, 4, 5, 6])?;
     let confirmation_tag = one_byte(alloc, 0xe2)?;
     let hashed = InterimTranscriptHashInput {
         confirmation_tag: &confirmation_tag,
     };
-    is_written(&rt, alloc, &hashed, &[1, 0xe2])
+    expect_written(&rt, alloc, &hashed, &[1, 0xe2])
 }

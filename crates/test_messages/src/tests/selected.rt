@@ -1,5 +1,5 @@
 //! Messages with a select in its length, or with one case alone; and names that a type or a field can't have.
-use crate::tests::each_call::{is_encoded_as, is_refused, is_refused_by};
+use crate::tests::each_call::{expect_encoded_as, expect_refused, expect_refused_by};
 use crate::tests::one_byte;
 use messages_of_each_shape::{
     CertificateType, EmptyType, FormX04, Header, MagicX0102, NameTypeHostName, Point, ServerName,
@@ -36,7 +36,7 @@ fn cases_in_their_lengths(rt: HostRuntime) -> Result<(), Fail> {
             contents,
             after: 9,
         };
-        is_encoded_as(&rt, alloc, &sized, spelled)?;
+        expect_encoded_as(&rt, alloc, &sized, spelled)?;
     }
     Ok(())
 }
@@ -69,7 +69,7 @@ static SIZED: [(&[u8], Error, Error); 11] = [
 fn cases_in_other_lengths(rt: HostRuntime) {
     let alloc = rt.alloc();
     for (bytes, of_slice, of_source) in SIZED {
-        is_refused_by::<SizedType>(&rt, alloc, bytes, of_slice, of_source);
+        expect_refused_by::<SizedType>(&rt, alloc, bytes, of_slice, of_source);
     }
 }
 
@@ -81,14 +81,14 @@ fn one_case_of_one_field(rt: HostRuntime) -> Result<(), Fail> {
         name_type: NameTypeHostName::HostName,
         name: TlsByteVec::from_slice(alloc, b"hi")?,
     };
-    is_encoded_as(&rt, alloc, &name, &[0, 0, 2, 0x68, 0x69])?;
+    expect_encoded_as(&rt, alloc, &name, &[0, 0, 2, 0x68, 0x69])?;
     for (bytes, error) in [
         ([1, 0, 2, 0x68, 0x69].as_slice(), Error::UnknownValue(1)),
         (&[0, 0, 0], Error::InvalidVectorLength),
         (&[0, 0, 3, 0x68, 0x69], END),
         (&[0, 0, 1, 0x68, 0x69], TRAILING),
     ] {
-        is_refused::<ServerName>(&rt, alloc, bytes, error);
+        expect_refused::<ServerName>(&rt, alloc, bytes, error);
     }
     Ok(())
 }
@@ -101,7 +101,7 @@ fn one_case_of_two_fields(rt: HostRuntime) -> Result<(), Fail> {
         x: one_byte(alloc, 7)?,
         y: one_byte(alloc, 8)?,
     };
-    is_encoded_as(&rt, alloc, &point, &[4, 1, 7, 1, 8])?;
+    expect_encoded_as(&rt, alloc, &point, &[4, 1, 7, 1, 8])?;
     for (bytes, of_slice, of_source) in [
         (
             [3, 1, 7, 1, 8].as_slice(),
@@ -113,7 +113,7 @@ fn one_case_of_two_fields(rt: HostRuntime) -> Result<(), Fail> {
         (&[4, 1, 7, 2, 8], NOT_THERE, END),
         (&[4, 1, 7, 0, 8], TRAILING, TRAILING),
     ] {
-        is_refused_by::<Point>(&rt, alloc, bytes, of_slice, of_source);
+        expect_refused_by::<Point>(&rt, alloc, bytes, of_slice, of_source);
     }
     Ok(())
 }
@@ -129,7 +129,7 @@ fn names_and_constants(rt: HostRuntime) -> Result<(), Fail> {
         magic: MagicX0102::X0102,
         wide: 0x0809,
     };
-    is_encoded_as(&rt, alloc, &ticket, &[1, 7, 3, 254, 253, 1, 2, 8, 9])?;
+    expect_encoded_as(&rt, alloc, &ticket, &[1, 7, 3, 254, 253, 1, 2, 8, 9])?;
     // Other constants; then a length one less and one more, after which other bytes are there for the constants.
     for (bytes, value) in [
         ([1, 7, 3, 253, 254, 1, 2, 8, 9].as_slice(), 0xfdfe),
@@ -137,7 +137,7 @@ fn names_and_constants(rt: HostRuntime) -> Result<(), Fail> {
         (&[0, 7, 3, 254, 253, 1, 2, 8, 9], 0x03fe),
         (&[2, 7, 3, 254, 253, 1, 2, 8, 9], 0xfd01),
     ] {
-        is_refused::<SessionTicket>(&rt, alloc, bytes, Error::UnknownValue(value));
+        expect_refused::<SessionTicket>(&rt, alloc, bytes, Error::UnknownValue(value));
     }
     Ok(())
 }
@@ -149,7 +149,7 @@ fn lists_of_options_of_lists(rt: HostRuntime) -> Result<(), Fail> {
     let trees = Trees {
         tree: Vec::from_array(alloc, [Some(row), None])?,
     };
-    is_encoded_as(&rt, alloc, &trees, &[5, 1, 2, 0, 5, 0])?;
+    expect_encoded_as(&rt, alloc, &trees, &[5, 1, 2, 0, 5, 0])?;
     let option = Error::DecodingError("option tag is not 0 or 1");
     for (bytes, of_slice, of_source) in [
         ([4, 1, 2, 0, 5, 0].as_slice(), TRAILING, TRAILING),
@@ -158,7 +158,7 @@ fn lists_of_options_of_lists(rt: HostRuntime) -> Result<(), Fail> {
         (&[5, 1, 3, 0, 5, 0], END, END),
         (&[5, 2, 2, 0, 5, 0], option, option),
     ] {
-        is_refused_by::<Trees>(&rt, alloc, bytes, of_slice, of_source);
+        expect_refused_by::<Trees>(&rt, alloc, bytes, of_slice, of_source);
     }
     Ok(())
 }
@@ -171,11 +171,11 @@ fn headers_and_types(rt: HostRuntime) -> Result<(), Fail> {
         version: 0x0102,
         rest_: one_byte(alloc, 7)?,
     };
-    is_encoded_as(&rt, alloc, &header, &[1, 2, 1, 7])?;
-    is_refused_by::<Header>(&rt, alloc, &[1, 2, 2, 7], NOT_THERE, END);
-    is_refused::<Header>(&rt, alloc, &[1, 2, 0, 7], TRAILING);
-    is_encoded_as(&rt, alloc, &CertificateType::X509, &[0])?;
-    is_encoded_as(&rt, alloc, &CertificateType::RawPublicKey, &[2])?;
-    is_refused::<CertificateType>(&rt, alloc, &[1], Error::UnknownValue(1));
+    expect_encoded_as(&rt, alloc, &header, &[1, 2, 1, 7])?;
+    expect_refused_by::<Header>(&rt, alloc, &[1, 2, 2, 7], NOT_THERE, END);
+    expect_refused::<Header>(&rt, alloc, &[1, 2, 0, 7], TRAILING);
+    expect_encoded_as(&rt, alloc, &CertificateType::X509, &[0])?;
+    expect_encoded_as(&rt, alloc, &CertificateType::RawPublicKey, &[2])?;
+    expect_refused::<CertificateType>(&rt, alloc, &[1], Error::UnknownValue(1));
     Ok(())
 }

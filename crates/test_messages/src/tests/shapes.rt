@@ -1,5 +1,5 @@
 //! Messages of shapes that those of TLS 1.3 and of MLS lack.
-use crate::tests::each_call::{is_encoded_as, is_refused, is_written};
+use crate::tests::each_call::{expect_encoded_as, expect_refused, expect_written};
 use crate::tests::one_byte;
 use messages_of_each_shape::{
     Bounded, ContentTypeData, Framed, Identity, Level, Lists, NameType, NodeTBS, NodeTBSOrigin,
@@ -15,12 +15,12 @@ use tls_codec::{
 #[test]
 fn values(rt: HostRuntime) -> Result<(), Fail> {
     let alloc = rt.alloc();
-    is_encoded_as(&rt, alloc, &Level::Low, &[0, 1])?;
-    is_encoded_as(&rt, alloc, &Level::Middle, &[1, 0])?;
-    is_encoded_as(&rt, alloc, &Level::High, &[0xff, 0xff])?;
-    is_refused::<Level>(&rt, alloc, &[0, 2], Error::UnknownValue(2));
-    is_encoded_as(&rt, alloc, &NameType::HOST_NAME, &[0])?;
-    is_encoded_as(&rt, alloc, &NameType(6), &[6])?;
+    expect_encoded_as(&rt, alloc, &Level::Low, &[0, 1])?;
+    expect_encoded_as(&rt, alloc, &Level::Middle, &[1, 0])?;
+    expect_encoded_as(&rt, alloc, &Level::High, &[0xff, 0xff])?;
+    expect_refused::<Level>(&rt, alloc, &[0, 2], Error::UnknownValue(2));
+    expect_encoded_as(&rt, alloc, &NameType::HOST_NAME, &[0])?;
+    expect_encoded_as(&rt, alloc, &NameType(6), &[6])?;
     Ok(())
 }
 
@@ -34,15 +34,15 @@ fn tags(rt: HostRuntime) -> Result<(), Fail> {
         since: 9,
         last: Some(one_byte(alloc, 0xbb)?),
     };
-    is_encoded_as(
+    expect_encoded_as(
         &rt,
         alloc,
         &full,
         &[0, 4, 2, 1, 0, 1, 0xaa, 0, 0, 0, 9, 1, 1, 0xbb],
     )?;
-    is_encoded_as(&rt, alloc, &Identity::Anonymous, &[0, 5])?;
-    is_refused::<Identity>(&rt, alloc, &[0, 0], Error::UnknownValue(0));
-    is_refused::<Identity>(&rt, alloc, &[0, 6, 1, 9], Error::UnknownValue(6));
+    expect_encoded_as(&rt, alloc, &Identity::Anonymous, &[0, 5])?;
+    expect_refused::<Identity>(&rt, alloc, &[0, 0], Error::UnknownValue(0));
+    expect_refused::<Identity>(&rt, alloc, &[0, 6, 1, 9], Error::UnknownValue(6));
     Ok(())
 }
 
@@ -57,7 +57,7 @@ fn selects(rt: HostRuntime) -> Result<(), Fail> {
         },
         signature: one_byte(alloc, 0xc)?,
     };
-    is_encoded_as(
+    expect_encoded_as(
         &rt,
         alloc,
         &framed,
@@ -72,7 +72,7 @@ fn selects(rt: HostRuntime) -> Result<(), Fail> {
         },
         signature: one_byte(alloc, 0xc)?,
     };
-    is_encoded_as(
+    expect_encoded_as(
         &rt,
         alloc,
         &framed,
@@ -102,7 +102,7 @@ fn twelve_fields(rt: HostRuntime) -> Result<(), Fail> {
         1, 2, 3, 4, 0, 0, 0, 5, 0, 0, 0, 0, 0, 0, 0, 6, 7, 7, 7, 7, 7, 7, 7, 7, 7, 7, 7, 7, 7, 7,
         7, 7, 1, 8, 0, 1, 9, 0, 0, 1, 10, 0, 0, 0, 1, 11, 0, 2, 1, 12, 2, 0x68, 0x69, 1, 0, 13,
     ];
-    is_encoded_as(&rt, alloc, &wide, &spelled)
+    expect_encoded_as(&rt, alloc, &wide, &spelled)
 }
 
 #[test]
@@ -122,7 +122,7 @@ fn lists(rt: HostRuntime) -> Result<(), Fail> {
         4, 0, 1, 0, 2, 0, 4, 0, 1, 1, 0, 0, 0, 2, 1, 3, 0, 0, 0, 2, 0, 5, 4, 2, 0, 4, 0, 0, 5, 2,
         6, 0, 2, 0, 7,
     ];
-    is_encoded_as(&rt, alloc, &lists, &spelled)
+    expect_encoded_as(&rt, alloc, &lists, &spelled)
 }
 
 #[test]
@@ -132,9 +132,9 @@ fn bounds(rt: HostRuntime) -> Result<(), Fail> {
         session: TlsByteVec::from_slice(alloc, &[9])?,
         suites: TlsVec::new(Vec::from_array(alloc, [3])?),
     };
-    is_encoded_as(&rt, alloc, &bounded, &[1, 9, 0, 2, 0, 3])?;
+    expect_encoded_as(&rt, alloc, &bounded, &[1, 9, 0, 2, 0, 3])?;
     for refused in [[33].as_slice(), &[0, 0, 0], &[0, 0, 1, 3], &[0, 0xff, 0xff]] {
-        is_refused::<Bounded>(&rt, alloc, refused, Error::InvalidVectorLength);
+        expect_refused::<Bounded>(&rt, alloc, refused, Error::InvalidVectorLength);
     }
     Ok(())
 }
@@ -160,7 +160,7 @@ fn borrowed_structs(rt: HostRuntime) -> Result<(), Fail> {
             node_source,
             last: &None,
         };
-        is_written(&rt, alloc, &node, expected)?;
+        expect_written(&rt, alloc, &node, expected)?;
     }
     Ok(())
 }

@@ -1,7 +1,7 @@
 //! What is signed or authenticated, borrowed from messages that were read (RFC 9420).
-use crate::tests::each_call::is_written;
+use crate::tests::each_call::expect_written;
 use crate::tests::mls_messages::{COMMIT, GROUP_INFO, KEY_PACKAGE, PRIVATE_MESSAGE};
-use crate::tests::{MISFIT, is_misfit, same};
+use crate::tests::{MISFIT, expect_misfit, same};
 use mls::{
     AuthenticatedContent, AuthenticatedContentTBM, Commit, ConfirmedTranscriptHashInput,
     FramedContentTBS, GroupContext, GroupInfo, GroupInfoTBS, KeyPackage, KeyPackageTBS, LeafNode,
@@ -76,11 +76,11 @@ fn the_information_of_a_group(rt: HostRuntime) -> Result<(), Fail> {
     let info = group_info(&rt, alloc)?;
     let signed = GroupInfoTBS::from(&info);
     let expected = part(&rt, alloc, &GROUP_INFO, 4, 34, &[])?;
-    is_written(&rt, alloc, &signed, &expected)
+    expect_written(&rt, alloc, &signed, &expected)
 }
 
 // Section 7.2, for a leaf node of a commit.
-fn is_leaf_written(
+fn expect_leaf_written(
     rt: &impl Abort,
     alloc: Global,
     leaf: &LeafNode,
@@ -104,7 +104,7 @@ fn is_leaf_written(
         leaf_node_source: origin,
     };
     let expected = part(rt, alloc, &COMMIT, 35, 77, &[1, 0xfa, 0, 0, 0, 2])?;
-    is_written(rt, alloc, &signed, &expected)
+    expect_written(rt, alloc, &signed, &expected)
 }
 
 fn public_message(rt: &impl Abort, alloc: Global) -> Result<PublicMessage, Fail> {
@@ -163,9 +163,9 @@ fn a_commit(rt: HostRuntime) -> Result<(), Fail> {
     // The message up to its signature, and the group's context; then what authenticates it.
     let bytes = part(&rt, alloc, &GROUP_INFO, 4, 23, &[])?;
     let signed = part(&rt, alloc, &COMMIT, 0, 88, &bytes)?;
-    is_written(&rt, alloc, &signed_content(&message, &context), &signed)?;
+    expect_written(&rt, alloc, &signed_content(&message, &context), &signed)?;
     let tagged = part(&rt, alloc, &signed, 0, signed.len(), &COMMIT[88..92])?;
-    is_written(
+    expect_written(
         &rt,
         alloc,
         &authenticated_content(&message, &context),
@@ -196,13 +196,13 @@ fn a_proposal(rt: HostRuntime) -> Result<(), Fail> {
         panic!(rt; "no public message");
     };
     same(&rt, &message.membership_tag, &None);
-    is_written(
+    expect_written(
         &rt,
         alloc,
         &signed_content(&message, &None),
         &PROPOSAL[..28],
     )?;
-    is_written(
+    expect_written(
         &rt,
         alloc,
         &authenticated_content(&message, &None),
@@ -223,12 +223,12 @@ fn misfits(rt: HostRuntime) -> Result<(), Fail> {
         panic!(rt; "no public message");
     };
     proposal.membership_tag = commit.membership_tag.take();
-    is_misfit(&rt, alloc, &commit);
-    is_misfit(&rt, alloc, &proposal);
+    expect_misfit(&rt, alloc, &commit);
+    expect_misfit(&rt, alloc, &proposal);
     commit.membership_tag = proposal.membership_tag.take();
     proposal.auth.confirmation_tag = commit.auth.confirmation_tag.take();
-    is_misfit(&rt, alloc, &commit);
-    is_misfit(&rt, alloc, &proposal);
+    expect_misfit(&rt, alloc, &commit);
+    expect_misfit(&rt, alloc, &proposal);
     Ok(())
 }
 
@@ -244,7 +244,7 @@ fn the_transcript_of_a_commit(rt: HostRuntime) -> Result<(), Fail> {
         signature: &message.auth.signature,
     };
     let expected = part(&rt, alloc, &COMMIT, 2, 90, &[])?;
-    is_written(&rt, alloc, &hashed, &expected)
+    expect_written(&rt, alloc, &hashed, &expected)
 }
 
 // The label, and the length of what follows the version up to the membership tag.
@@ -266,7 +266,7 @@ fn the_leaf_node_of_a_commit(rt: HostRuntime) -> Result<(), Fail> {
     let commit = Commit::tls_deserialize_exact_bytes(alloc, &bytes)?;
     let group_id = VLBytes::from_slice(alloc, &[0xfa])?;
     match &commit.path {
-        Some(path) => is_leaf_written(&rt, alloc, &path.leaf_node, &group_id, &2),
+        Some(path) => expect_leaf_written(&rt, alloc, &path.leaf_node, &group_id, &2),
         None => panic!(rt; "no path"),
     }
 }
@@ -285,12 +285,12 @@ fn additional_data(rt: HostRuntime) -> Result<(), Fail> {
         authenticated_data: &private.authenticated_data,
     };
     let expected = part(&rt, alloc, &PRIVATE_MESSAGE, 4, 16, &[])?;
-    is_written(&rt, alloc, &content, &expected)?;
+    expect_written(&rt, alloc, &content, &expected)?;
     let sender = SenderDataAAD {
         group_id: &private.group_id,
         epoch: &private.epoch,
         content_type: &private.content_type,
     };
     let expected = part(&rt, alloc, &PRIVATE_MESSAGE, 4, 15, &[])?;
-    is_written(&rt, alloc, &sender, &expected)
+    expect_written(&rt, alloc, &sender, &expected)
 }

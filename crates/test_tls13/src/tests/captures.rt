@@ -4,7 +4,7 @@ use crate::tests::extensions::{Found, Place, is_retry, open_all};
 use std::alloc::Global;
 use std::process::Abort;
 use std::test::Fail;
-use test_support::each_call::{is_encoded_as, is_refused, round_trips};
+use test_support::each_call::{expect_encoded_as, expect_refused, round_trips};
 use test_support::rows::{done_at, same, same_at};
 use tls_codec::DeserializeBytes;
 use tls13::{Alert, AlertDescription, AlertLevel, Handshake, HandshakeType};
@@ -92,7 +92,7 @@ fn other_messages(rt: HostRuntime) -> Result<(), Fail> {
     let alloc = rt.alloc();
     for row in &tls12::REFUSED {
         let bytes = bytes(&rt, alloc, row.digits)?;
-        is_refused::<Handshake>(alloc, row.name, &bytes, row.error)?;
+        expect_refused::<Handshake>(alloc, row.name, &bytes, row.error)?;
     }
     Ok(())
 }
@@ -105,7 +105,7 @@ fn alerts(rt: HostRuntime) -> Result<(), Fail> {
         description: AlertDescription::CLOSE_NOTIFY,
     };
     for (row, bytes) in ALERTS {
-        is_encoded_as(alloc, row, &alert, bytes)?;
+        expect_encoded_as(alloc, row, &alert, bytes)?;
     }
     Ok(())
 }

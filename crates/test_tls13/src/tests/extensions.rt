@@ -3,7 +3,7 @@ use std::alloc::Global;
 use std::process::Abort;
 use std::test::Fail;
 use test_support::each_call::round_trips;
-use test_support::in_context::{is_misfit, is_refused_in, round_trips_in};
+use test_support::in_context::{expect_misfit, expect_refused_in, round_trips_in};
 use test_support::rows::same_at;
 use tls_codec::{Error, TlsByteVecU16};
 use tls13::{
@@ -211,13 +211,13 @@ fn values_of_other_messages(rt: HostRuntime) -> Result<(), Fail> {
     let identity = PreSharedKeyExtension::ServerHello(0);
     let early = EarlyDataIndication::ClientHello(EmptyType {});
     let client = HandshakeType::ClientHello;
-    is_misfit(alloc, "a version", &client, &version)?;
-    is_misfit(alloc, "an identity", &client, &identity)?;
+    expect_misfit(alloc, "a version", &client, &version)?;
+    expect_misfit(alloc, "an identity", &client, &identity)?;
     for (row, kind) in [
         ("a server's", HandshakeType::EncryptedExtensions),
         ("a ticket's", HandshakeType::NewSessionTicket),
     ] {
-        is_misfit(alloc, row, &kind, &early)?;
+        expect_misfit(alloc, row, &kind, &early)?;
     }
     Ok(())
 }
@@ -229,9 +229,9 @@ fn messages_without_the_extension(rt: HostRuntime) -> Result<(), Fail> {
     let server = HandshakeType::ServerHello;
     let finished = HandshakeType::Finished;
     let two = Error::UnknownValue(2);
-    is_refused_in::<_, EarlyDataIndication>(alloc, "early data", &server, &[], two)?;
+    expect_refused_in::<_, EarlyDataIndication>(alloc, "early data", &server, &[], two)?;
     let twenty = Error::UnknownValue(20);
-    is_refused_in::<_, SupportedVersions>(alloc, "versions", &finished, &[3, 4], twenty)?;
-    is_refused_in::<_, PreSharedKeyExtension>(alloc, "keys", &finished, &[0, 0], twenty)?;
+    expect_refused_in::<_, SupportedVersions>(alloc, "versions", &finished, &[3, 4], twenty)?;
+    expect_refused_in::<_, PreSharedKeyExtension>(alloc, "keys", &finished, &[0, 0], twenty)?;
     Ok(())
 }

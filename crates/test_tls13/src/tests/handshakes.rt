@@ -3,7 +3,7 @@ use crate::tests::captured::{Row, bytes, mtls};
 use std::alloc::Global;
 use std::process::Abort;
 use std::test::Fail;
-use test_support::each_call::{is_encoded_as, is_refused_by};
+use test_support::each_call::{expect_encoded_as, expect_refused_by};
 use test_support::rows::same_at;
 use tls_codec::{Deserialize, DeserializeBytes, Error, Serialize, TlsByteVecU24, U24};
 use tls13::{EndOfEarlyData, Handshake, KeyUpdate, KeyUpdateRequest};
@@ -42,7 +42,7 @@ fn small_messages(rt: HostRuntime) -> Result<(), Fail> {
             &[20, 0, 0, 2, 8, 9],
         ),
     ] {
-        is_encoded_as(alloc, row, &message, bytes)?;
+        expect_encoded_as(alloc, row, &message, bytes)?;
     }
     Ok(())
 }
@@ -103,7 +103,7 @@ static REFUSED: [(&str, &[u8], Error, Error); 15] = [
 fn refused_lengths(rt: HostRuntime) -> Result<(), Fail> {
     let alloc = rt.alloc();
     for (row, bytes, of_slice, of_source) in REFUSED {
-        is_refused_by::<Handshake>(alloc, row, bytes, of_slice, of_source)?;
+        expect_refused_by::<Handshake>(alloc, row, bytes, of_slice, of_source)?;
     }
     Ok(())
 }
@@ -130,7 +130,7 @@ fn refused_types(rt: HostRuntime) -> Result<(), Fail> {
     ] {
         let row = format!(in alloc; "type {kind}")?;
         let error = Error::UnknownValue(u64::from(kind));
-        is_refused_by::<Handshake>(alloc, &row, &[kind, 0, 0, 0], error, error)?;
+        expect_refused_by::<Handshake>(alloc, &row, &[kind, 0, 0, 0], error, error)?;
     }
     Ok(())
 }
@@ -173,7 +173,7 @@ fn refuses_lengths(rt: &impl Abort, alloc: Global, row: &Row) -> Result<(), Fail
     ] {
         let name = format!(in alloc; "{}, {altered}", row.name)?;
         let bytes = spelled(alloc, *kind, length, body)?;
-        is_refused_by::<Handshake>(alloc, &name, &bytes, of_slice, of_source)?;
+        expect_refused_by::<Handshake>(alloc, &name, &bytes, of_slice, of_source)?;
     }
     Ok(())
 }

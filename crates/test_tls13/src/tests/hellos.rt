@@ -1,6 +1,6 @@
 //! Hellos, alerts and lists of numbers of TLS 1.3 (RFC 8446).
 use std::test::Fail;
-use test_support::each_call::{is_encoded_as, is_refused};
+use test_support::each_call::{expect_encoded_as, expect_refused};
 use tls_codec::{Error, TlsByteVec, TlsByteVecU16, TlsVec};
 use tls13::{
     Alert, AlertDescription, AlertLevel, ClientHello, Extension, ExtensionType, NamedGroup,
@@ -16,7 +16,7 @@ fn alerts(rt: HostRuntime) -> Result<(), Fail> {
         ("fatal", AlertLevel::FATAL, 2),
         ("no level", AlertLevel(3), 3),
     ] {
-        is_encoded_as(alloc, row, &level, &[byte])?;
+        expect_encoded_as(alloc, row, &level, &[byte])?;
     }
     let alert = |level, description| Alert { level, description };
     for (row, alert, bytes) in [
@@ -36,7 +36,7 @@ fn alerts(rt: HostRuntime) -> Result<(), Fail> {
             [2, 1],
         ),
     ] {
-        is_encoded_as(alloc, row, &alert, &bytes)?;
+        expect_encoded_as(alloc, row, &alert, &bytes)?;
     }
     Ok(())
 }
@@ -66,7 +66,7 @@ fn client_hellos(rt: HostRuntime) -> Result<(), Fail> {
     let after = spelled.len();
     spelled.extend_from_slice(&[0, 0, 4, 0x13, 1, 0x13, 2, 1, 0])?;
     spelled.extend_from_slice(&[0, 11, 0, 43, 0, 3, 2, 3, 4, 0x0a, 0x0a, 0, 0])?;
-    is_encoded_as(alloc, "two extensions", &hello, &spelled)?;
+    expect_encoded_as(alloc, "two extensions", &hello, &spelled)?;
     for (row, refused) in [
         ("a session of 33 bytes", [33].as_slice()),
         ("no cipher suite", &[0, 0, 0]),
@@ -75,7 +75,7 @@ fn client_hellos(rt: HostRuntime) -> Result<(), Fail> {
     ] {
         spelled.truncate(after);
         spelled.extend_from_slice(refused)?;
-        is_refused::<ClientHello>(alloc, row, &spelled, Error::InvalidVectorLength)?;
+        expect_refused::<ClientHello>(alloc, row, &spelled, Error::InvalidVectorLength)?;
     }
     Ok(())
 }
@@ -85,7 +85,7 @@ fn client_hellos(rt: HostRuntime) -> Result<(), Fail> {
 fn versions_of_hellos(rt: HostRuntime) -> Result<(), Fail> {
     let alloc = rt.alloc();
     let row = "TLS 1.0";
-    is_refused::<ClientHello>(alloc, row, &[3, 1], Error::UnknownValue(769))?;
+    expect_refused::<ClientHello>(alloc, row, &[3, 1], Error::UnknownValue(769))?;
     Ok(())
 }
 
@@ -97,11 +97,11 @@ fn groups_and_schemes(rt: HostRuntime) -> Result<(), Fail> {
     let groups = NamedGroupList {
         named_group_list: TlsVec::new(Vec::from_array(alloc, groups)?),
     };
-    is_encoded_as(alloc, "groups", &groups, &[0, 4, 0, 0x1d, 0x0a, 0x0a])?;
+    expect_encoded_as(alloc, "groups", &groups, &[0, 4, 0, 0x1d, 0x0a, 0x0a])?;
     let schemes = [SignatureScheme::ED25519, SignatureScheme(0xfe00)];
     let schemes = SignatureSchemeList {
         supported_signature_algorithms: TlsVec::new(Vec::from_array(alloc, schemes)?),
     };
-    is_encoded_as(alloc, "schemes", &schemes, &[0, 4, 8, 7, 0xfe, 0])?;
+    expect_encoded_as(alloc, "schemes", &schemes, &[0, 4, 8, 7, 0xfe, 0])?;
     Ok(())
 }

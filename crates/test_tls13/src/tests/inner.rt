@@ -31,13 +31,13 @@ fn read_and_written(rt: HostRuntime) -> Result<(), Fail> {
         };
         let found = TLSInnerPlaintext::tls_deserialize_exact_bytes(alloc, bytes);
         same_at(row, &done_at(row, found)?, &expected)?;
-        is_written(alloc, row, &expected, bytes)?;
+        expect_written(alloc, row, &expected, bytes)?;
     }
     Ok(())
 }
 
 // After other bytes, and as many as are announced.
-fn is_written(
+fn expect_written(
     alloc: Global,
     row: &str,
     value: &TLSInnerPlaintext,

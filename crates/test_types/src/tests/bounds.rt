@@ -1,7 +1,7 @@
 //! Lengths with bounds (RFC 8446, section 3.4), beside their rows.
 mod messages;
 
-use super::each_call::{is_left, is_too_long_alone};
+use super::each_call::{expect_left, expect_too_long_alone};
 use std::alloc::Global;
 use std::process::Abort;
 use std::test::Fail;
@@ -23,7 +23,7 @@ type Digest = TlsByteVec<Within<u8, 32, 32>>;
 const OUTSIDE: Error = Error::InvalidVectorLength;
 
 // Each decoder rejects the bytes. A source has given only the length.
-fn is_refused_after<T: Deserialize>(
+fn expect_refused_after<T: Deserialize>(
     rt: &impl Abort,
     alloc: Global,
     bytes: &[u8],
@@ -34,18 +34,18 @@ fn is_refused_after<T: Deserialize>(
     assert_eq!(rt; source, rest);
     let mut drip = Drip::new(bytes);
     assert_eq!(rt; T::tls_deserialize(alloc, &mut drip).err(), Some(OUTSIDE));
-    is_left(rt, alloc, &mut drip, rest)
+    expect_left(rt, alloc, &mut drip, rest)
 }
 
 #[test]
 fn a_source_has_given_the_length_alone(rt: HostRuntime) -> Result<(), Fail> {
     let alloc = rt.alloc();
-    is_refused_after::<Suites>(&rt, alloc, &[0, 0, 0x13], &[0x13])?;
-    is_refused_after::<FewBytes>(&rt, alloc, &[0, 1, 7], &[7])?;
-    is_refused_after::<FewBytes>(&rt, alloc, &[0xff, 0xff, 7], &[7])?;
-    is_refused_after::<Methods>(&rt, alloc, &[0, 7], &[7])?;
+    expect_refused_after::<Suites>(&rt, alloc, &[0, 0, 0x13], &[0x13])?;
+    expect_refused_after::<FewBytes>(&rt, alloc, &[0, 1, 7], &[7])?;
+    expect_refused_after::<FewBytes>(&rt, alloc, &[0xff, 0xff, 7], &[7])?;
+    expect_refused_after::<Methods>(&rt, alloc, &[0, 7], &[7])?;
     for count in [31, 33] {
-        is_refused_after::<Digest>(&rt, alloc, &[count, 7], &[7])?;
+        expect_refused_after::<Digest>(&rt, alloc, &[count, 7], &[7])?;
     }
     Ok(())
 }
@@ -57,7 +57,7 @@ fn a_list_of_bytes_out_of_bounds(rt: HostRuntime) -> Result<(), Fail> {
     let mut list = Vec::new(alloc);
     list.push(Methods::from_slice(alloc, &[7])?)?;
     list.push(Methods::default(alloc))?;
-    is_too_long_alone(&rt, alloc, &list, 4, &[3, 1, 7])
+    expect_too_long_alone(&rt, alloc, &list, 4, &[3, 1, 7])
 }
 
 #[test]

@@ -1,7 +1,7 @@
 //! Parts that an earlier part or a context decides, and values inside a length.
 ghost use Rattle.tls_codec.specs.OwnMessages.{is_number};
 
-use super::each_call::is_written;
+use super::each_call::expect_written;
 use crate::tests::same;
 use std::alloc::Global;
 use std::marker::PhantomData;
@@ -39,7 +39,7 @@ fn borrowed(value: &Option<u16>) -> ByRefWhen<'_, IsOne, u16> {
 }
 
 // By both decoders these bytes are this context and this payload.
-fn is_read(
+fn expect_read(
     rt: &impl Abort,
     alloc: Global,
     bytes: &[u8],
@@ -56,9 +56,9 @@ fn is_read(
 #[test]
 fn a_first_part_decides_the_rest(rt: HostRuntime) -> Result<(), Fail> {
     let alloc = rt.alloc();
-    is_read(&rt, alloc, &[1, 0, 7], 1, Some(7))?;
-    is_read(&rt, alloc, &[2], 2, None)?;
-    is_written(
+    expect_read(&rt, alloc, &[1, 0, 7], 1, Some(7))?;
+    expect_read(&rt, alloc, &[2], 2, None)?;
+    expect_written(
         &rt,
         alloc,
         &ByRefThen {
@@ -67,7 +67,7 @@ fn a_first_part_decides_the_rest(rt: HostRuntime) -> Result<(), Fail> {
         },
         &[1, 0, 7],
     )?;
-    is_written(
+    expect_written(
         &rt,
         alloc,
         &ByRefThen {
@@ -249,7 +249,7 @@ fn elements_are_read_in_a_context(rt: HostRuntime) -> Result<(), Fail> {
 type ByRefShort<'a> = ByRefWhen<'a, IsOne, u16>;
 
 // In the context 1 the elements are written as these bytes, and in another they are rejected.
-fn are_written(
+fn expect_all_written(
     rt: &impl Abort,
     alloc: Global,
     elements: &[ByRefShort<'_>],
@@ -278,7 +278,7 @@ fn are_written(
 #[test]
 fn elements_are_written_in_a_context(rt: HostRuntime) -> Result<(), Fail> {
     let (seven, six) = (Some(7), Some(6));
-    are_written(
+    expect_all_written(
         &rt,
         rt.alloc(),
         &[borrowed(&seven), borrowed(&six)],
@@ -306,7 +306,7 @@ fn lists_are_read_in_a_context(rt: HostRuntime) -> Result<(), Fail> {
 }
 
 // In the context 1 the list is written as these bytes.
-fn is_written_as_a_list(
+fn expect_written_as_a_list(
     rt: &impl Abort,
     alloc: Global,
     elements: &Vec<ByRefShort<'_>>,
@@ -336,7 +336,7 @@ fn lists_are_written_in_a_context(rt: HostRuntime) -> Result<(), Fail> {
     let seven = Some(7);
     let mut elements = Vec::new(alloc);
     elements.push(borrowed(&seven))?;
-    is_written_as_a_list(&rt, alloc, &elements, &[2, 0, 7])
+    expect_written_as_a_list(&rt, alloc, &elements, &[2, 0, 7])
 }
 
 // What the laws say of types they say of a context and a value in it.
@@ -345,5 +345,5 @@ fn the_laws_hold_in_contexts(rt: HostRuntime) -> Result<(), Fail> {
     laws::contexts_are_lawful::<u8, Short, u16>();
     laws::spellings_are_prefix_free::<Then<u8, Short>>();
     laws::both_paths_agree::<Then<u8, Short>, &[u8]>();
-    is_read(&rt, rt.alloc(), &[1, 1, 2], 1, Some(0x0102))
+    expect_read(&rt, rt.alloc(), &[1, 1, 2], 1, Some(0x0102))
 }

@@ -1,5 +1,5 @@
 //! What each call makes of a value or of bytes.
-use super::outside::{is_read_outside, is_refused_outside};
+use super::outside::{expect_read_outside, expect_refused_outside};
 use crate::tests::{holds, same};
 use std::alloc::{AllocError, Global};
 use std::process::Abort;
@@ -15,7 +15,7 @@ pub(super) fn filled(alloc: Global, count: usize, byte: u8) -> Result<Vec<u8>, A
 }
 
 // The value is announced and written as these bytes, also after what a vector has.
-pub(super) fn is_written<T: Serialize>(
+pub(super) fn expect_written<T: Serialize>(
     rt: &impl Abort,
     alloc: Global,
     value: &T,
@@ -40,13 +40,13 @@ pub(super) fn is_written<T: Serialize>(
 }
 
 // The value is written as these bytes, also to a vector of its own.
-pub(super) fn is_written_alone<T: Serialize + SerializeBytes>(
+pub(super) fn expect_written_alone<T: Serialize + SerializeBytes>(
     rt: &impl Abort,
     alloc: Global,
     value: &T,
     bytes: &[u8],
 ) -> Result<(), Fail> {
-    is_written(rt, alloc, value, bytes)?;
+    expect_written(rt, alloc, value, bytes)?;
     let alone = value.tls_serialize_bytes(alloc)?;
     same(rt, alone.as_slice(), bytes);
     Ok(())
@@ -54,7 +54,7 @@ pub(super) fn is_written_alone<T: Serialize + SerializeBytes>(
 
 // Each encoder rejects the value as too long, and `announced` is its announced length. A sink
 // receives these bytes. A vector that is appended to is unchanged.
-pub(super) fn is_too_long<T: Serialize>(
+pub(super) fn expect_too_long<T: Serialize>(
     rt: &impl Abort,
     alloc: Global,
     value: &T,
@@ -74,21 +74,21 @@ pub(super) fn is_too_long<T: Serialize>(
 }
 
 // The same, also to a vector of its own.
-pub(super) fn is_too_long_alone<T: Serialize + SerializeBytes>(
+pub(super) fn expect_too_long_alone<T: Serialize + SerializeBytes>(
     rt: &impl Abort,
     alloc: Global,
     value: &T,
     announced: usize,
     sent: &[u8],
 ) -> Result<(), Fail> {
-    is_too_long(rt, alloc, value, announced, sent)?;
+    expect_too_long(rt, alloc, value, announced, sent)?;
     let alone = value.tls_serialize_bytes(alloc).err();
     same(rt, alone, Some(Error::InvalidVectorLength));
     Ok(())
 }
 
 // Just these bytes are still to come.
-pub(super) fn is_left<R: Source>(
+pub(super) fn expect_left<R: Source>(
     rt: &impl Abort,
     alloc: Global,
     source: &mut R,
@@ -101,7 +101,7 @@ pub(super) fn is_left<R: Source>(
 }
 
 // Both paths read the value of a prefix of the bytes, which are in memory, and leave the rest.
-pub(super) fn is_read_at_once<T: Deserialize + DeserializeBytes + PartialEq>(
+pub(super) fn expect_read_at_once<T: Deserialize + DeserializeBytes + PartialEq>(
     rt: &impl Abort,
     alloc: Global,
     bytes: &[u8],
@@ -119,35 +119,35 @@ pub(super) fn is_read_at_once<T: Deserialize + DeserializeBytes + PartialEq>(
 }
 
 // The same, also if a source gives one byte a pull, or doesn't report which bytes are to come.
-pub(super) fn is_read<T: Deserialize + DeserializeBytes + PartialEq>(
+pub(super) fn expect_read<T: Deserialize + DeserializeBytes + PartialEq>(
     rt: &impl Abort,
     alloc: Global,
     bytes: &[u8],
     value: &T,
     rest: &[u8],
 ) -> Result<(), Fail> {
-    is_read_at_once(rt, alloc, bytes, value, rest)?;
+    expect_read_at_once(rt, alloc, bytes, value, rest)?;
     let mut drip = Drip::new(bytes);
     let found = T::tls_deserialize(alloc, &mut drip)?;
     holds(rt, found == *value);
-    is_left(rt, alloc, &mut drip, rest)?;
-    is_read_outside(rt, alloc, bytes, value, rest)
+    expect_left(rt, alloc, &mut drip, rest)?;
+    expect_read_outside(rt, alloc, bytes, value, rest)
 }
 
 // Each decoder reads the value from these bytes, and leaves none. The exact forms reject a byte
 // after them.
-pub(super) fn is_read_whole<T: Deserialize + DeserializeBytes + PartialEq>(
+pub(super) fn expect_read_whole<T: Deserialize + DeserializeBytes + PartialEq>(
     rt: &impl Abort,
     alloc: Global,
     bytes: &[u8],
     value: &T,
 ) -> Result<(), Fail> {
-    is_read(rt, alloc, bytes, value, &[])?;
+    expect_read(rt, alloc, bytes, value, &[])?;
     holds(rt, T::tls_deserialize_exact_bytes(alloc, bytes)? == *value);
     holds(rt, T::tls_deserialize_exact(alloc, bytes)? == *value);
     let mut longer = bytes.to_vec(alloc)?;
     longer.push(0xee)?;
-    is_read(rt, alloc, &longer, value, &[0xee])?;
+    expect_read(rt, alloc, &longer, value, &[0xee])?;
     let trailing = Some(Error::TrailingData);
     let refused = T::tls_deserialize_exact_bytes(alloc, &longer).err();
     same(rt, refused, trailing);
@@ -157,18 +157,18 @@ pub(super) fn is_read_whole<T: Deserialize + DeserializeBytes + PartialEq>(
 }
 
 // The round trip: the value is written as these bytes, and each decoder reads it from them.
-pub(super) fn is_encoded_as<T: Serialize + Deserialize + DeserializeBytes + PartialEq>(
+pub(super) fn expect_encoded_as<T: Serialize + Deserialize + DeserializeBytes + PartialEq>(
     rt: &impl Abort,
     alloc: Global,
     value: &T,
     bytes: &[u8],
 ) -> Result<(), Fail> {
-    is_written(rt, alloc, value, bytes)?;
-    is_read_whole(rt, alloc, bytes, value)
+    expect_written(rt, alloc, value, bytes)?;
+    expect_read_whole(rt, alloc, bytes, value)
 }
 
 // Each decoder rejects the bytes with this error.
-pub(super) fn is_refused<T: Deserialize + DeserializeBytes>(
+pub(super) fn expect_refused<T: Deserialize + DeserializeBytes>(
     rt: &impl Abort,
     alloc: Global,
     bytes: &[u8],
@@ -185,5 +185,5 @@ pub(super) fn is_refused<T: Deserialize + DeserializeBytes>(
     same(rt, refused, Some(error));
     let refused = T::tls_deserialize(alloc, &mut Drip::new(bytes)).err();
     same(rt, refused, Some(error));
-    is_refused_outside::<T>(rt, alloc, bytes, error);
+    expect_refused_outside::<T>(rt, alloc, bytes, error);
 }

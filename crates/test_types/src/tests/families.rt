@@ -1,5 +1,5 @@
 //! Vectors, byte vectors, wrappers of slices and secrets after a length of one to four bytes, beside their rows.
-use super::each_call::{filled, is_too_long, is_too_long_alone, is_written};
+use super::each_call::{expect_too_long, expect_too_long_alone, expect_written, filled};
 use crate::tests::{holds, same};
 use std::alloc::Global;
 use std::process::Abort;
@@ -28,7 +28,7 @@ fn lengths_of_lengths(rt: HostRuntime) {
 }
 
 // A number, four bytes after a length of two, and three after one of three, in one vector.
-fn are_written_in_a_row(
+fn expect_all_written_in_a_row(
     rt: &impl Abort,
     alloc: Global,
     four: &impl Serialize,
@@ -52,26 +52,26 @@ fn are_written_in_a_row(
 fn several_contents_in_one_vector(rt: HostRuntime) -> Result<(), Fail> {
     let alloc = rt.alloc();
     let (four, three) = ([77u8, 88, 1, 99], [255u8, 42, 73]);
-    are_written_in_a_row(
+    expect_all_written_in_a_row(
         &rt,
         alloc,
         &TlsVecU16::from_slice(alloc, &four)?,
         &TlsVecU24::from_slice(alloc, &three)?,
     )?;
-    are_written_in_a_row(
+    expect_all_written_in_a_row(
         &rt,
         alloc,
         &TlsByteVecU16::from_slice(alloc, &four)?,
         &TlsByteVecU24::from_slice(alloc, &three)?,
     )?;
-    are_written_in_a_row(
+    expect_all_written_in_a_row(
         &rt,
         alloc,
         &SecretTlsVecU16::from_slice(alloc, &four)?,
         &SecretTlsVecU24::from_slice(alloc, &three)?,
     )?;
-    are_written_in_a_row(&rt, alloc, &TlsSliceU16(&four), &TlsByteSliceU24(&three))?;
-    are_written_in_a_row(&rt, alloc, &TlsByteSliceU16(&four), &TlsSliceU24(&three))
+    expect_all_written_in_a_row(&rt, alloc, &TlsSliceU16(&four), &TlsByteSliceU24(&three))?;
+    expect_all_written_in_a_row(&rt, alloc, &TlsByteSliceU16(&four), &TlsSliceU24(&three))
 }
 
 #[test]
@@ -79,7 +79,7 @@ fn a_cleared_list_is_written_as_none(rt: HostRuntime) -> Result<(), Fail> {
     let alloc = rt.alloc();
     let mut list = SecretTlsVecU8::from_slice(alloc, &[1u16, 2])?;
     list.zeroize();
-    is_written(&rt, alloc, &list, &[0])
+    expect_written(&rt, alloc, &list, &[0])
 }
 
 // Contents whose length doesn't fit in three bytes. A row of that many bytes would take long.
@@ -87,19 +87,19 @@ fn a_cleared_list_is_written_as_none(rt: HostRuntime) -> Result<(), Fail> {
 fn contents_past_three_bytes_of_length(rt: HostRuntime) -> Result<(), Fail> {
     let alloc = rt.alloc();
     let content = filled(alloc, 16_777_216, 7)?;
-    is_too_long(
+    expect_too_long(
         &rt,
         alloc,
         &TlsSliceU24(content.as_slice()),
         16_777_219,
         &[],
     )?;
-    is_too_long(&rt, alloc, &TlsByteSliceU24(&content), 16_777_219, &[])?;
-    is_too_long_alone(&rt, alloc, &TlsByteVecU24::new(content), 16_777_219, &[])?;
+    expect_too_long(&rt, alloc, &TlsByteSliceU24(&content), 16_777_219, &[])?;
+    expect_too_long_alone(&rt, alloc, &TlsByteVecU24::new(content), 16_777_219, &[])?;
     let list = TlsVecU24::new(filled(alloc, 16_777_216, 0)?);
-    is_too_long(&rt, alloc, &list, 16_777_219, &[])?;
+    expect_too_long(&rt, alloc, &list, 16_777_219, &[])?;
     let list = SecretTlsVecU24::new(filled(alloc, 16_777_216, 0)?);
-    is_too_long(&rt, alloc, &list, 16_777_219, &[])
+    expect_too_long(&rt, alloc, &list, 16_777_219, &[])
 }
 
 // Elements that aren't `Copy`, and wrappers within a wrapper.
@@ -109,13 +109,13 @@ fn lists_within_a_list(rt: HostRuntime) -> Result<(), Fail> {
     let lists = [vec![in alloc; 1u16; 2]?, Vec::new(alloc)];
     let wrapper = TlsSliceU8(&lists);
     let copy = wrapper;
-    is_written(&rt, alloc, &wrapper, &[6, 4, 0, 1, 0, 1, 0])?;
-    is_written(&rt, alloc, &copy.clone()?, &[6, 4, 0, 1, 0, 1, 0])?;
+    expect_written(&rt, alloc, &wrapper, &[6, 4, 0, 1, 0, 1, 0])?;
+    expect_written(&rt, alloc, &copy.clone()?, &[6, 4, 0, 1, 0, 1, 0])?;
     let names = [TlsByteSliceU8(b"h2"), TlsByteSliceU8(b"h3")];
     let form = [0, 6, 2, b'h', b'2', 2, b'h', b'3'];
-    is_written(&rt, alloc, &TlsSliceU16(&names), &form)?;
+    expect_written(&rt, alloc, &TlsSliceU16(&names), &form)?;
     let borrowed = [&names[0], &names[1]];
-    is_written(&rt, alloc, &TlsSliceU16(&borrowed), &form)?;
+    expect_written(&rt, alloc, &TlsSliceU16(&borrowed), &form)?;
     Ok(())
 }
 

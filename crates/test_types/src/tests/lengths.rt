@@ -6,7 +6,7 @@ use std::test::Fail;
 use tls_codec::{Error, LengthField, TlsVarInt, U24};
 
 // These bytes encode the length. Both paths read them, and reject them if a byte is missing.
-fn is_encoded_as<F: LengthField>(
+fn expect_encoded_as<F: LengthField>(
     rt: &impl Abort,
     alloc: Global,
     length: usize,
@@ -35,18 +35,18 @@ fn is_encoded_as<F: LengthField>(
 #[test]
 fn lengths_are_spelled(rt: HostRuntime) -> Result<(), Fail> {
     let alloc = rt.alloc();
-    is_encoded_as::<u8>(&rt, alloc, 0, &[0])?;
-    is_encoded_as::<u8>(&rt, alloc, 255, &[0xff])?;
-    is_encoded_as::<u16>(&rt, alloc, 258, &[1, 2])?;
-    is_encoded_as::<u16>(&rt, alloc, 65_535, &[0xff, 0xff])?;
-    is_encoded_as::<U24>(&rt, alloc, 65_609, &[1, 0, 0x49])?;
-    is_encoded_as::<U24>(&rt, alloc, 16_777_215, &[0xff, 0xff, 0xff])?;
-    is_encoded_as::<u32>(&rt, alloc, 16_777_216, &[1, 0, 0, 0])?;
-    is_encoded_as::<u32>(&rt, alloc, 4_294_967_295, &[0xff, 0xff, 0xff, 0xff])?;
-    is_encoded_as::<TlsVarInt>(&rt, alloc, 37, &[0x25])?;
-    is_encoded_as::<TlsVarInt>(&rt, alloc, 15_293, &[0x7b, 0xbd])?;
-    is_encoded_as::<TlsVarInt>(&rt, alloc, 494_878_333, &[0x9d, 0x7f, 0x3e, 0x7d])?;
-    is_encoded_as::<TlsVarInt>(&rt, alloc, 1_073_741_823, &[0xbf, 0xff, 0xff, 0xff])?;
+    expect_encoded_as::<u8>(&rt, alloc, 0, &[0])?;
+    expect_encoded_as::<u8>(&rt, alloc, 255, &[0xff])?;
+    expect_encoded_as::<u16>(&rt, alloc, 258, &[1, 2])?;
+    expect_encoded_as::<u16>(&rt, alloc, 65_535, &[0xff, 0xff])?;
+    expect_encoded_as::<U24>(&rt, alloc, 65_609, &[1, 0, 0x49])?;
+    expect_encoded_as::<U24>(&rt, alloc, 16_777_215, &[0xff, 0xff, 0xff])?;
+    expect_encoded_as::<u32>(&rt, alloc, 16_777_216, &[1, 0, 0, 0])?;
+    expect_encoded_as::<u32>(&rt, alloc, 4_294_967_295, &[0xff, 0xff, 0xff, 0xff])?;
+    expect_encoded_as::<TlsVarInt>(&rt, alloc, 37, &[0x25])?;
+    expect_encoded_as::<TlsVarInt>(&rt, alloc, 15_293, &[0x7b, 0xbd])?;
+    expect_encoded_as::<TlsVarInt>(&rt, alloc, 494_878_333, &[0x9d, 0x7f, 0x3e, 0x7d])?;
+    expect_encoded_as::<TlsVarInt>(&rt, alloc, 1_073_741_823, &[0xbf, 0xff, 0xff, 0xff])?;
     Ok(())
 }
 

@@ -1,6 +1,6 @@
 //! Any reader of std as a source. It doesn't report which bytes are to come, and gives its bytes in
 //! pieces.
-use super::each_call::is_left;
+use super::each_call::expect_left;
 use crate::tests::{same, same_at};
 use std::alloc::Global;
 use std::io;
@@ -32,7 +32,7 @@ pub(super) fn in_pieces(bytes: &[u8], most: usize) -> Outside<Pieces<'_>> {
 }
 
 // The value of a prefix of the bytes is read, and the rest is to come.
-pub(super) fn is_read_outside<T: Deserialize + PartialEq>(
+pub(super) fn expect_read_outside<T: Deserialize + PartialEq>(
     rt: &impl Abort,
     alloc: Global,
     bytes: &[u8],
@@ -43,13 +43,13 @@ pub(super) fn is_read_outside<T: Deserialize + PartialEq>(
         let mut source = in_pieces(bytes, most);
         let found = T::tls_deserialize(alloc, &mut source)?;
         same_at(rt, most, found == *value, true);
-        is_left(rt, alloc, &mut source, rest)?;
+        expect_left(rt, alloc, &mut source, rest)?;
     }
     Ok(())
 }
 
 // The bytes are rejected with this error.
-pub(super) fn is_refused_outside<T: Deserialize>(
+pub(super) fn expect_refused_outside<T: Deserialize>(
     rt: &impl Abort,
     alloc: Global,
     bytes: &[u8],

@@ -1,5 +1,5 @@
 //! Numbers written in a row, values borrowed in a row, and the one value of `PhantomData`.
-use super::each_call::{is_encoded_as, is_written, is_written_alone};
+use super::each_call::{expect_encoded_as, expect_written, expect_written_alone};
 use crate::tests::same;
 use std::marker::PhantomData;
 use std::test::Fail;
@@ -20,7 +20,7 @@ fn numbers_in_a_row(rt: HostRuntime) -> Result<(), Fail> {
 #[test]
 fn phantoms(rt: HostRuntime) -> Result<(), Fail> {
     let alloc = rt.alloc();
-    is_written_alone::<PhantomData<u8>>(&rt, alloc, &PhantomData, &[])?;
+    expect_written_alone::<PhantomData<u8>>(&rt, alloc, &PhantomData, &[])?;
     let (_, rest) = PhantomData::<u8>::tls_deserialize_bytes(alloc, &[0x07])?;
     same(&rt, rest, [0x07].as_slice());
     let mut source = [0x07u8].as_slice();
@@ -33,7 +33,7 @@ fn phantoms(rt: HostRuntime) -> Result<(), Fail> {
 fn values_borrowed_in_a_row(rt: HostRuntime) -> Result<(), Fail> {
     let alloc = rt.alloc();
     let pair = ByRef2(&0x05u8, &Some(0x0102u16));
-    is_written(&rt, alloc, &pair, &[0x05, 0x01, 0x01, 0x02])?;
+    expect_written(&rt, alloc, &pair, &[0x05, 0x01, 0x01, 0x02])?;
     let bytes = [1, 2, 3, 4, 5, 6, 7, 8, 9, 10, 1, 11, 12, 13, 14, 15, 16];
     let three = U24::try_from(0x04_0506)?;
     let (four, payload, last) = (0x0708_090au32, Some(11u8), (14u8, 15u8));
@@ -48,11 +48,11 @@ fn values_borrowed_in_a_row(rt: HostRuntime) -> Result<(), Fail> {
         &(),
         &16u8,
     );
-    is_written(&rt, alloc, &nine, &bytes)?;
+    expect_written(&rt, alloc, &nine, &bytes)?;
     let read = (
         (1u8, 0x0203u16, three),
         (four, payload, [12u8, 13]),
         (last, (), 16u8),
     );
-    is_encoded_as(&rt, alloc, &read, &bytes)
+    expect_encoded_as(&rt, alloc, &read, &bytes)
 }

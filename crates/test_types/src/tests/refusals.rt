@@ -1,5 +1,5 @@
 //! What the list engines reject, and how often they try an element then.
-use super::each_call::is_refused;
+use super::each_call::expect_refused;
 use super::outside::{PIECES, in_pieces};
 use crate::tests::{same, same_at};
 use std::alloc::Global;
@@ -8,7 +8,7 @@ use tls_codec::lists::{self, Turns};
 use tls_codec::{Deserialize, DeserializeBytes, Error};
 
 // The engines reject the bytes after this number of turns.
-fn is_refused_after<T: Deserialize + DeserializeBytes>(
+fn expect_refused_after<T: Deserialize + DeserializeBytes>(
     rt: &impl Abort,
     alloc: Global,
     bytes: &[u8],
@@ -39,6 +39,6 @@ fn is_refused_after<T: Deserialize + DeserializeBytes>(
 fn room_by_declared_length(rt: HostRuntime) {
     let alloc = rt.alloc();
     let end = Error::EndOfStream;
-    is_refused::<Vec<u16>>(&rt, alloc, &[0xbf, 0xff, 0xff, 0xff, 0, 1], end);
-    is_refused_after::<u16>(&rt, alloc, &[0], isize::MAX as usize, (end, end), 1);
+    expect_refused::<Vec<u16>>(&rt, alloc, &[0xbf, 0xff, 0xff, 0xff, 0, 1], end);
+    expect_refused_after::<u16>(&rt, alloc, &[0], isize::MAX as usize, (end, end), 1);
 }

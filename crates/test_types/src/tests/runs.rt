@@ -1,5 +1,5 @@
 //! Lists of numbers by the engines. They go at once if their bytes are at hand, and one by one if not.
-use super::each_call::is_left;
+use super::each_call::expect_left;
 use crate::tests::{holds, same};
 use std::alloc::Global;
 use std::process::Abort;
@@ -10,7 +10,7 @@ use tls_codec_vectors::Drip;
 
 // The engines write the elements as these bytes, and read them from a prefix of more bytes. Each
 // element takes a turn.
-fn is_a_run<T: Serialize + SerializeBytes + Deserialize + DeserializeBytes + PartialEq>(
+fn expect_a_run<T: Serialize + SerializeBytes + Deserialize + DeserializeBytes + PartialEq>(
     rt: &impl Abort,
     alloc: Global,
     elements: &[T],
@@ -42,7 +42,7 @@ fn is_a_run<T: Serialize + SerializeBytes + Deserialize + DeserializeBytes + Par
     let mut drip = Drip::new(&sent);
     let found = lists::from_reader::<T, Drip>(alloc, &mut drip, bytes.len(), &mut turns)?;
     holds(rt, found.as_slice() == elements);
-    is_left(rt, alloc, &mut drip, &[0xee])?;
+    expect_left(rt, alloc, &mut drip, &[0xee])?;
     same(rt, turns.count(), (elements.len() as u64).saturating_mul(3));
     Ok(())
 }
@@ -53,21 +53,21 @@ fn runs_of_numbers(rt: HostRuntime) -> Result<(), Fail> {
     let digits = [
         0, 1, 2, 3, 4, 5, 6, 7, 0xff, 0xfe, 0xfd, 0xfc, 0xfb, 0xfa, 0xf9, 0xf8,
     ];
-    is_a_run::<u8>(&rt, alloc, &[], &[])?;
-    is_a_run::<u8>(&rt, alloc, &digits, &digits)?;
-    is_a_run::<u16>(
+    expect_a_run::<u8>(&rt, alloc, &[], &[])?;
+    expect_a_run::<u8>(&rt, alloc, &digits, &digits)?;
+    expect_a_run::<u16>(
         &rt,
         alloc,
         &[1, 0x0203, 0x0405, 0x0607, 0xfffe],
         &digits[..10],
     )?;
-    is_a_run::<u32>(
+    expect_a_run::<u32>(
         &rt,
         alloc,
         &[0x0001_0203, 0x0405_0607, 0xfffe_fdfc],
         &digits[..12],
     )?;
-    is_a_run::<u64>(
+    expect_a_run::<u64>(
         &rt,
         alloc,
         &[0x0001_0203_0405_0607, 0xfffe_fdfc_fbfa_f9f8],
@@ -78,7 +78,7 @@ fn runs_of_numbers(rt: HostRuntime) -> Result<(), Fail> {
         U24::try_from(0x03_0405usize)?,
         U24::try_from(0x06_07ffusize)?,
     ];
-    is_a_run::<U24>(&rt, alloc, &numbers, &digits[..9])
+    expect_a_run::<U24>(&rt, alloc, &numbers, &digits[..9])
 }
 
 // Longer than the groups in which numbers are written.
@@ -103,9 +103,9 @@ fn long_runs_of_numbers(rt: HostRuntime) -> Result<(), Fail> {
             three_digits.extend_from_slice(&three.to_be_bytes())?;
             long_digits.extend_from_slice(&long.to_be_bytes())?;
         }
-        is_a_run::<u16>(&rt, alloc, &shorts, &short_digits)?;
-        is_a_run::<U24>(&rt, alloc, &threes, &three_digits)?;
-        is_a_run::<u64>(&rt, alloc, &longs, &long_digits)?;
+        expect_a_run::<u16>(&rt, alloc, &shorts, &short_digits)?;
+        expect_a_run::<U24>(&rt, alloc, &threes, &three_digits)?;
+        expect_a_run::<u64>(&rt, alloc, &longs, &long_digits)?;
     }
     Ok(())
 }

@@ -2,7 +2,9 @@
 //! bytes.
 mod families;
 
-use super::each_call::{filled, is_read, is_read_at_once, is_written, is_written_alone};
+use super::each_call::{
+    expect_read, expect_read_at_once, expect_written, expect_written_alone, filled,
+};
 use crate::tests::{holds, same};
 use std::alloc::{AllocError, Global};
 use std::process::Abort;
@@ -43,16 +45,16 @@ fn spelled(alloc: Global, content: &[u8]) -> Result<Vec<u8>, AllocError> {
 
 // Each decoder reads the value from these bytes. Few bytes are also read one byte a pull, which
 // takes long.
-fn is_read_back<T: Deserialize + DeserializeBytes + PartialEq>(
+fn expect_read_back<T: Deserialize + DeserializeBytes + PartialEq>(
     rt: &impl Abort,
     alloc: Global,
     value: &T,
     bytes: &[u8],
 ) -> Result<(), Fail> {
     if bytes.len() < 300 {
-        is_read(rt, alloc, bytes, value, &[])?;
+        expect_read(rt, alloc, bytes, value, &[])?;
     } else {
-        is_read_at_once(rt, alloc, bytes, value, &[])?;
+        expect_read_at_once(rt, alloc, bytes, value, &[])?;
     }
     holds(rt, T::tls_deserialize_exact_bytes(alloc, bytes)? == *value);
     holds(rt, T::tls_deserialize_exact(alloc, bytes)? == *value);
@@ -73,25 +75,25 @@ use is_copied_and_grows;
 
 // What a byte vector does at each size.
 macro_rules! byte_vector {
-    ($rt:ident, $alloc:ident, $Owned:ty, $is_written:ident) => {
+    ($rt:ident, $alloc:ident, $Owned:ty, $expect_written:ident) => {
         for size in sizes_to($alloc, GREATEST)? {
             let content = filled($alloc, size, 0x61)?;
             let form = spelled($alloc, &content)?;
             let mut owned = <$Owned>::from_slice($alloc, &content)?;
-            $is_written($rt, $alloc, &owned, &form)?;
-            is_read_back($rt, $alloc, &owned, &form)?;
+            $expect_written($rt, $alloc, &owned, &form)?;
+            expect_read_back($rt, $alloc, &owned, &form)?;
             is_copied_and_grows!($rt, owned, content);
         }
     };
 }
 
 fn byte_vectors<N>(rt: &impl Abort, alloc: Global) -> Result<(), Fail> {
-    byte_vector!(rt, alloc, VarBytes<N>, is_written_alone);
+    byte_vector!(rt, alloc, VarBytes<N>, expect_written_alone);
     Ok(())
 }
 
 fn secrets<N>(rt: &impl Abort, alloc: Global) -> Result<(), Fail> {
-    byte_vector!(rt, alloc, SecretVarBytes<N>, is_written);
+    byte_vector!(rt, alloc, SecretVarBytes<N>, expect_written);
     Ok(())
 }
 
@@ -122,8 +124,8 @@ fn sizes_of_vectors(rt: HostRuntime) -> Result<(), Fail> {
         let content = filled(alloc, size, 0x61)?;
         let form = spelled(alloc, &content)?;
         let mut list = content.as_slice().to_vec(alloc)?;
-        is_written_alone(&rt, alloc, &list, &form)?;
-        is_read_back(&rt, alloc, &list, &form)?;
+        expect_written_alone(&rt, alloc, &list, &form)?;
+        expect_read_back(&rt, alloc, &list, &form)?;
         is_copied_and_grows!(&rt, list, content);
     }
     Ok(())
@@ -144,8 +146,8 @@ fn sizes_of_texts(rt: HostRuntime) -> Result<(), Fail> {
     for size in sizes_to(alloc, GREATEST)? {
         let text = text_of(alloc, size)?;
         let form = spelled(alloc, &filled(alloc, size, b'a')?)?;
-        is_written_alone(&rt, alloc, &text, &form)?;
-        is_read_back(&rt, alloc, &text, &form)?;
+        expect_written_alone(&rt, alloc, &text, &form)?;
+        expect_read_back(&rt, alloc, &text, &form)?;
     }
     Ok(())
 }
@@ -166,7 +168,7 @@ fn empty_vectors_are_written(rt: HostRuntime) -> Result<(), Fail> {
     for size in sizes_to(alloc, 65_536)? {
         let made = empty_vectors(alloc, size)?;
         let (list, form) = made;
-        is_written_alone(&rt, alloc, &list, &form)?;
+        expect_written_alone(&rt, alloc, &list, &form)?;
     }
     Ok(())
 }
@@ -177,7 +179,7 @@ fn empty_vectors_are_read(rt: HostRuntime) -> Result<(), Fail> {
     for size in sizes_to(alloc, 65_536)? {
         let made = empty_vectors(alloc, size)?;
         let (list, form) = made;
-        is_read_back(&rt, alloc, &list, &form)?;
+        expect_read_back(&rt, alloc, &list, &form)?;
     }
     Ok(())
 }

@@ -6,7 +6,7 @@ use std::test::Fail;
 use tls_codec::{TlsByteVec, TlsByteVecU8, U24};
 
 // Calls that change the bytes.
-fn are_changed<F>(rt: &impl Abort, alloc: Global) -> Result<(), Fail> {
+fn expect_all_changed<F>(rt: &impl Abort, alloc: Global) -> Result<(), Fail> {
     let mut bytes = TlsByteVec::<F>::default(alloc);
     same(rt, bytes.pop(), None);
     bytes.push(1)?;
@@ -27,7 +27,7 @@ fn are_changed<F>(rt: &impl Abort, alloc: Global) -> Result<(), Fail> {
 }
 
 // Calls that only look.
-fn are_seen<F>(rt: &impl Abort, alloc: Global) -> Result<(), Fail> {
+fn expect_all_seen<F>(rt: &impl Abort, alloc: Global) -> Result<(), Fail> {
     let bytes = TlsByteVec::<F>::from_slice(alloc, &[5, 6])?;
     same(rt, bytes.len(), 2);
     holds(rt, !bytes.is_empty());
@@ -55,14 +55,14 @@ fn are_seen<F>(rt: &impl Abort, alloc: Global) -> Result<(), Fail> {
 #[test]
 fn calls_on_each_width(rt: HostRuntime) -> Result<(), Fail> {
     let alloc = rt.alloc();
-    are_changed::<u8>(&rt, alloc)?;
-    are_seen::<u8>(&rt, alloc)?;
-    are_changed::<u16>(&rt, alloc)?;
-    are_seen::<u16>(&rt, alloc)?;
-    are_changed::<U24>(&rt, alloc)?;
-    are_seen::<U24>(&rt, alloc)?;
-    are_changed::<u32>(&rt, alloc)?;
-    are_seen::<u32>(&rt, alloc)?;
+    expect_all_changed::<u8>(&rt, alloc)?;
+    expect_all_seen::<u8>(&rt, alloc)?;
+    expect_all_changed::<u16>(&rt, alloc)?;
+    expect_all_seen::<u16>(&rt, alloc)?;
+    expect_all_changed::<U24>(&rt, alloc)?;
+    expect_all_seen::<U24>(&rt, alloc)?;
+    expect_all_changed::<u32>(&rt, alloc)?;
+    expect_all_seen::<u32>(&rt, alloc)?;
     Ok(())
 }
 

@@ -6,15 +6,15 @@ use tls_codec_vl::names::{
     SecretVLByteVecName, SecretVLBytesName, TypeName, VLByteVecName, VLBytesName,
 };
 
-fn is_named<N: TypeName>(rt: &impl Abort, name: &str) {
+fn expect_named<N: TypeName>(rt: &impl Abort, name: &str) {
     same(rt, N::name(), name);
 }
 
 #[test]
 fn names_of_byte_vectors(rt: HostRuntime) -> Result<(), Fail> {
-    is_named::<VLBytesName>(&rt, "VLBytes");
-    is_named::<VLByteVecName>(&rt, "VLByteVec");
-    is_named::<SecretVLBytesName>(&rt, "SecretVLBytes");
-    is_named::<SecretVLByteVecName>(&rt, "SecretVLByteVec");
+    expect_named::<VLBytesName>(&rt, "VLBytes");
+    expect_named::<VLByteVecName>(&rt, "VLByteVec");
+    expect_named::<SecretVLBytesName>(&rt, "SecretVLBytes");
+    expect_named::<SecretVLByteVecName>(&rt, "SecretVLByteVec");
     Ok(())
 }

@@ -46,7 +46,7 @@ fn calls_of_secret_vl_byte_vec(rt: HostRuntime) -> Result<(), Fail> {
 }
 
 // Secrets are compared by their bytes. The first two differ, the last is the first.
-fn are_compared<S: Ord + Hash + Zeroize + Serialize>(
+fn expect_all_compared<S: Ord + Hash + Zeroize + Serialize>(
     rt: &impl Abort,
     alloc: Global,
     low: &S,
@@ -69,7 +69,7 @@ fn secret_vl_bytes_are_compared(rt: HostRuntime) -> Result<(), Fail> {
     let low = SecretVLBytes::from_slice(alloc, &[0x00, 0xff])?;
     let high = SecretVLBytes::from_array(alloc, &[0x01])?;
     let equal = SecretVLBytes::from([0x00u8, 0xff].to_vec(alloc)?);
-    are_compared(&rt, alloc, &low, &high, equal)
+    expect_all_compared(&rt, alloc, &low, &high, equal)
 }
 
 #[test]
@@ -78,5 +78,5 @@ fn secret_vl_byte_vecs_are_compared(rt: HostRuntime) -> Result<(), Fail> {
     let low = SecretVLByteVec::from_slice(alloc, &[0x00, 0xff])?;
     let high = SecretVLByteVec::from_array(alloc, &[0x01])?;
     let equal = SecretVLByteVec::from([0x00u8, 0xff].to_vec(alloc)?);
-    are_compared(&rt, alloc, &low, &high, equal)
+    expect_all_compared(&rt, alloc, &low, &high, equal)
 }

@@ -7,7 +7,7 @@ use tls_codec_base::{LengthField, counted, opaque};
 use tls_codec_wire::{Error, TlsVarInt, U24};
 
 // The elements 1 and 2 as `u16` after their length, and the bytes 9, 8 after theirs, are these.
-fn stand_behind<F: LengthField>(
+fn expect_behind<F: LengthField>(
     rt: &impl Abort,
     alloc: Global,
     list: &[u8],
@@ -79,10 +79,10 @@ fn stand_behind<F: LengthField>(
 fn contents_behind_each_length(rt: HostRuntime) -> Result<(), Fail> {
     let alloc = rt.alloc();
     let ends = Error::EndOfStream;
-    stand_behind::<u8>(&rt, alloc, &[4, 0, 1, 0, 2], &[2, 9, 8], ends)?;
-    stand_behind::<u16>(&rt, alloc, &[0, 4, 0, 1, 0, 2], &[0, 2, 9, 8], ends)?;
-    stand_behind::<U24>(&rt, alloc, &[0, 0, 4, 0, 1, 0, 2], &[0, 0, 2, 9, 8], ends)?;
-    stand_behind::<u32>(
+    expect_behind::<u8>(&rt, alloc, &[4, 0, 1, 0, 2], &[2, 9, 8], ends)?;
+    expect_behind::<u16>(&rt, alloc, &[0, 4, 0, 1, 0, 2], &[0, 2, 9, 8], ends)?;
+    expect_behind::<U24>(&rt, alloc, &[0, 0, 4, 0, 1, 0, 2], &[0, 0, 2, 9, 8], ends)?;
+    expect_behind::<u32>(
         &rt,
         alloc,
         &[0, 0, 0, 4, 0, 1, 0, 2],
@@ -90,7 +90,7 @@ fn contents_behind_each_length(rt: HostRuntime) -> Result<(), Fail> {
         ends,
     )?;
     let not_there = Error::DecodingError("declared content is not there");
-    stand_behind::<TlsVarInt>(&rt, alloc, &[4, 0, 1, 0, 2], &[2, 9, 8], not_there)?;
+    expect_behind::<TlsVarInt>(&rt, alloc, &[4, 0, 1, 0, 2], &[2, 9, 8], not_there)?;
     Ok(())
 }
 

@@ -34,7 +34,7 @@ fn digits_by_each_call(rt: HostRuntime) -> Result<(), Fail> {
 }
 
 // The bytes 9, 8 after their length, which is put into a gap of two bytes, and sent by itself.
-fn is_put<F: LengthField>(rt: &impl Abort, alloc: Global, form: &[u8]) -> Result<(), Fail> {
+fn expect_put<F: LengthField>(rt: &impl Abort, alloc: Global, form: &[u8]) -> Result<(), Fail> {
     let mut out = [0xaa].to_vec(alloc)?;
     open_gap(&mut out, 2, 2)?;
     out.extend_from_slice(&[9, 8])?;
@@ -50,10 +50,10 @@ fn is_put<F: LengthField>(rt: &impl Abort, alloc: Global, form: &[u8]) -> Result
 #[test]
 fn lengths_are_put_into_their_gap(rt: HostRuntime) -> Result<(), Fail> {
     let alloc = rt.alloc();
-    is_put::<u8>(&rt, alloc, &[2])?;
-    is_put::<u16>(&rt, alloc, &[0, 2])?;
-    is_put::<U24>(&rt, alloc, &[0, 0, 2])?;
-    is_put::<u32>(&rt, alloc, &[0, 0, 0, 2])?;
-    is_put::<TlsVarInt>(&rt, alloc, &[2])?;
+    expect_put::<u8>(&rt, alloc, &[2])?;
+    expect_put::<u16>(&rt, alloc, &[0, 2])?;
+    expect_put::<U24>(&rt, alloc, &[0, 0, 2])?;
+    expect_put::<u32>(&rt, alloc, &[0, 0, 0, 2])?;
+    expect_put::<TlsVarInt>(&rt, alloc, &[2])?;
     Ok(())
 }

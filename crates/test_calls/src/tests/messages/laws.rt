@@ -153,7 +153,7 @@ fn equal_bytes_are_written_alike(rt: HostRuntime) -> Result<(), Fail> {
     Ok(())
 }
 
-fn are_alike<T: Eq + Hash>(rt: &impl Abort, one: &T, other: &T) {
+fn expect_all_alike<T: Eq + Hash>(rt: &impl Abort, one: &T, other: &T) {
     holds(rt, one == other);
     same(rt, hash_of(one), hash_of(other));
 }
@@ -167,16 +167,16 @@ fn equal_vectors_are_hashed_alike(rt: HostRuntime) -> Result<(), Fail> {
     let alloc = rt.alloc();
     let mut list = TlsVecU8::from_slice(alloc, &[1u16])?;
     list.push(2)?;
-    are_alike(&rt, &list, &TlsVecU8::from_slice(alloc, &[1, 2])?);
+    expect_all_alike(&rt, &list, &TlsVecU8::from_slice(alloc, &[1, 2])?);
     let mut secret = SecretTlsVecU8::from_slice(alloc, &[1u16])?;
     secret.push(2)?;
-    are_alike(&rt, &secret, &SecretTlsVecU8::from_slice(alloc, &[1, 2])?);
+    expect_all_alike(&rt, &secret, &SecretTlsVecU8::from_slice(alloc, &[1, 2])?);
     let mut bytes = VLBytes::from_slice(alloc, &[1])?;
     bytes.push(2)?;
-    are_alike(&rt, &bytes, &VLBytes::from_slice(alloc, &[1, 2])?);
+    expect_all_alike(&rt, &bytes, &VLBytes::from_slice(alloc, &[1, 2])?);
     let mut secret = SecretVLBytes::from_slice(alloc, &[1])?;
     secret.push(2)?;
-    are_alike(&rt, &secret, &SecretVLBytes::from_slice(alloc, &[1, 2])?);
+    expect_all_alike(&rt, &secret, &SecretVLBytes::from_slice(alloc, &[1, 2])?);
     Ok(())
 }
 

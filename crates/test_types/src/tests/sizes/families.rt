@@ -1,6 +1,6 @@
 //! Those after a length of one to four bytes.
-use super::{GREATEST, is_copied_and_grows, is_read_back, sizes_to};
-use crate::tests::each_call::{filled, is_written, is_written_alone};
+use super::{GREATEST, expect_read_back, is_copied_and_grows, sizes_to};
+use crate::tests::each_call::{expect_written, expect_written_alone, filled};
 use crate::tests::{holds, same};
 use std::alloc::{AllocError, Global};
 use std::process::Abort;
@@ -17,13 +17,13 @@ fn spelled(alloc: Global, width: usize, content: &[u8]) -> Result<Vec<u8>, Alloc
 
 // What a list of bytes does at each size, after a length of `width` bytes.
 macro_rules! list_of_bytes {
-    ($rt:ident, $alloc:ident, $Owned:ty, $is_written:ident, $width:ident, $most:ident) => {
+    ($rt:ident, $alloc:ident, $Owned:ty, $expect_written:ident, $width:ident, $most:ident) => {
         for size in sizes_to($alloc, $most)? {
             let content = filled($alloc, size, 0x61)?;
             let form = spelled($alloc, $width, &content)?;
             let mut owned = <$Owned>::from_slice($alloc, &content)?;
-            $is_written($rt, $alloc, &owned, &form)?;
-            is_read_back($rt, $alloc, &owned, &form)?;
+            $expect_written($rt, $alloc, &owned, &form)?;
+            expect_read_back($rt, $alloc, &owned, &form)?;
             let given = <$Owned>::try_from_iter($alloc, content.iter().copied())?;
             holds($rt, given == owned);
             is_copied_and_grows!($rt, owned, content);
@@ -37,7 +37,7 @@ fn byte_vectors<F: LengthField>(
     width: usize,
     most: usize,
 ) -> Result<(), Fail> {
-    list_of_bytes!(rt, alloc, TlsByteVec<F>, is_written_alone, width, most);
+    list_of_bytes!(rt, alloc, TlsByteVec<F>, expect_written_alone, width, most);
     Ok(())
 }
 
@@ -47,7 +47,7 @@ fn lists<F: LengthField>(
     width: usize,
     most: usize,
 ) -> Result<(), Fail> {
-    list_of_bytes!(rt, alloc, TlsVec<F, u8>, is_written, width, most);
+    list_of_bytes!(rt, alloc, TlsVec<F, u8>, expect_written, width, most);
     Ok(())
 }
 
@@ -57,7 +57,7 @@ fn secrets<F: LengthField>(
     width: usize,
     most: usize,
 ) -> Result<(), Fail> {
-    list_of_bytes!(rt, alloc, SecretTlsVec<F, u8>, is_written, width, most);
+    list_of_bytes!(rt, alloc, SecretTlsVec<F, u8>, expect_written, width, most);
     Ok(())
 }
 

@@ -1,9 +1,11 @@
 #!/usr/bin/env python3
 """signed.py OBJECT FILE: what is written to be signed, for each row of c/tests/signed.tsv, by the module tls_codec. The status is 1 if a row differs."""
+import pathlib
 import sys
 
 sys.dont_write_bytecode = True
-from tls_codec import STATUSES, Codec, Rejected
+sys.path.insert(0, str(pathlib.Path(__file__).resolve().parent.parent))
+from tls_codec import Codec, Rejected
 
 
 def answer(codec: Codec, columns: list[str]) -> str:
@@ -16,9 +18,9 @@ def answer(codec: Codec, columns: list[str]) -> str:
 
 
 def wanted(columns: list[str]) -> str:
-    status, taken, at, _ = map(int, columns[3].split())
+    status, taken, at, detail = map(int, columns[3].split())
     if status:
-        return f"{STATUSES[status]} at byte {at}"
+        return str(Rejected(status, at, detail))
     return columns[4] if taken == len(columns[4]) // 2 else f"TrailingData at byte {taken}"
 
 

@@ -1,7 +1,9 @@
 """places.py LIBRARY ROWS: what the module finds for each row of `test_places`."""
+import pathlib
 import sys
 
 sys.dont_write_bytecode = True
+sys.path.insert(0, str(pathlib.Path(__file__).resolve().parent.parent))
 from tls_codec import Codec, Rejected
 
 

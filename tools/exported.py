@@ -1,0 +1,181 @@
+"""What the static libraries of crates.txt export: their functions, the structs that cross, and the numbers of the errors."""
+from __future__ import annotations
+
+import functools
+import re
+from dataclasses import dataclass
+
+from libraries import TOP, Libraries
+
+WRITTEN = "Written by tools/exports.py"
+EXPORT = re.compile(r'((?:^///.*\n)+)#\[unsafe\(no_mangle\)\]\npub extern "C" fn (\w+)\(([^)]*)\) -> (\w+)', re.M)
+STRUCT = re.compile(r"((?:^///.*\n)+)#\[repr\(C\)\]\n(?:#.*\n)*pub struct (\w+) \{\n((?:    .*\n)*)\}", re.M)
+FIELD = re.compile(r"((?:^    ///.*\n)+)    pub (\w+): (\w+),", re.M)
+NUMBER = re.compile(r"^        Error::(\w+)(\(_\))? => (\d+),$", re.M)
+C = {"u16": "uint16_t", "u32": "uint32_t", "u64": "uint64_t", "usize": "size_t"}
+# The libraries whose structs cross, and what their names begin with in C.
+STRUCTS = {"tls_codec_outcome": "tls_codec", "mls_fields": "mls", "tls13_fields": "tls13"}
+# What a call does, in C, by the end of its name; and what is put before its text in the source, or in place of the words there.
+ASKED = {"_validate": ": whether the bytes begin with one.", "_check": ": whether the bytes begin with one, by the decoder."}
+FOUND = re.compile(r"(its fields are|its content is)\.")
+NEXT = (
+    " Before the first call `left` is the place of all elements in `bytes`: offset 0 and size `length`, if `bytes` are the list without its length."
+    " The element's place is put into `element`, and `at` counts from the first byte of `left`. If the element is rejected, neither `left` nor"
+    " `element` changes."
+)
+# What a status means to a caller. The comments of `Error` in Rattle also speak of sinks, sources and values.
+MEANINGS = {
+    "Accepted": "The bytes begin with an encoding.",
+    "EncodingError": "No call returns it.",
+    "InvalidVectorLength": "A length or a variable-length integer has more bytes than it needs, or is outside the bounds of its field.",
+    "InvalidWriteLength": "The buffer to write into is too small.",
+    "InvalidInput": "No call returns it.",
+    "DecodingError": "A content after a variable-length length isn't all there, an element passes the end of its list, or the byte before"
+    " an optional field is neither 0 nor 1.",
+    "EndOfStream": "The bytes, or the body of a Handshake, end before a field does.",
+    "TrailingData": "Bytes are left, after the message or, in a Handshake, after its body.",
+    "UnknownValue": "No case has this number, or a constant has another value.",
+    "LibraryError": "No call returns it.",
+    "OutOfMemory": "An allocation failed, in a decoder: nothing is said of the bytes.",
+}
+
+
+class Unread(Exception):
+    """The sources have something that isn't read here."""
+
+
+@dataclass
+class Export:
+    """A function that a static library exports."""
+
+    name: str
+    text: str
+    parameters: list[tuple[str, str]]
+    result: str
+
+    def in_c(self) -> str:
+        """What the call does, as a header says it."""
+        call = "_" + self.name.rpartition("_")[2]
+        if call == "_next":
+            return self.text + NEXT
+        asked = ASKED.get(call)
+        return self.text.removesuffix(".") + asked if asked else FOUND.sub(r"\1, if the bytes begin with one.", self.text)
+
+    def message(self) -> str:
+        """The message, or what else is found, with the section of its RFC."""
+        return re.split(r", and where |: the next one", self.text.removesuffix("."))[0]
+
+    def prototype(self) -> str:
+        words = [word for name, kind in self.parameters for word in in_c(name, kind)]
+        return f"{type_in_c(self.result)} {self.name}({', '.join(words)});"
+
+    def declaration(self) -> str:
+        words = [word for name, kind in self.parameters for word in in_rust(name, kind)]
+        return f"pub fn {self.name}({', '.join(words)}) -> {self.result};"
+
+
+def length_of(name: str) -> str:
+    """The parameter that has the length of this one."""
+    return "length" if name == "bytes" else f"{name}_length"
+
+
+def in_c(name: str, kind: str) -> list[str]:
+    """A parameter of a prototype: a slice is a pointer and a length, and `Global` has no bytes."""
+    if kind == "Global":
+        return []
+    if kind in ("&[u8]", "&mut [u8]"):
+        return [f"{'const ' if kind == '&[u8]' else ''}uint8_t *{name}", f"size_t {length_of(name)}"]
+    if kind in C:
+        return [f"{C[kind]} {name}"]
+    if kind.removeprefix("&mut ") in (*C, *structs()):
+        return [f"{type_in_c(kind.removeprefix('&mut '))} *{name}"]
+    raise Unread(f"{name}: {kind}")
+
+
+def in_rust(name: str, kind: str) -> list[str]:
+    if kind == "Global":
+        return []
+    if kind in ("&[u8]", "&mut [u8]"):
+        return [f"{name}: *{'const' if kind == '&[u8]' else 'mut'} u8", f"{length_of(name)}: usize"]
+    if kind.removeprefix("&mut ") in (*C, *structs()):
+        return [f"{name}: {kind}"]
+    raise Unread(f"{name}: {kind}")
+
+
+@dataclass
+class Struct:
+    """A struct that crosses, in a library of STRUCTS."""
+
+    text: str
+    crate: str
+    fields: list[tuple[str, str, str]]
+
+
+@functools.cache
+def structs() -> dict[str, Struct]:
+    found = {}
+    for crate in STRUCTS:
+        for path in sorted((TOP / "crates" / crate / "src").glob("*.rt")):
+            for text, name, inside in STRUCT.findall(path.read_text(encoding="utf-8")):
+                fields = [(words_of(it), field, kind) for it, field, kind in FIELD.findall(inside)]
+                found[name] = Struct(words_of(text), crate, fields)
+    return found
+
+
+def type_in_c(kind: str) -> str:
+    """`KeyPackageFields` of MLS as `mls_key_package_fields`."""
+    if kind in C:
+        return C[kind]
+    name = re.sub(r"(?<=[a-z])(?=[A-Z])|(?<=[A-Z])(?=[A-Z][a-z])", "_", kind).lower()
+    prefix = STRUCTS[structs()[kind].crate]
+    return name if name.startswith(prefix) else f"{prefix}_{name}"
+
+
+def words_of(text: str) -> str:
+    """What the lines of a doc comment say."""
+    return " ".join(it.strip().removeprefix("///").strip() for it in text.strip().splitlines())
+
+
+@functools.cache
+def libraries() -> list[str]:
+    """The static libraries of crates.txt."""
+    return Libraries().static
+
+
+def decoders() -> list[str]:
+    """Those that need a heap."""
+    return [it for it in libraries() if it.endswith("_check_c")]
+
+
+def source_of(crate: str, file: str = "lib.rt") -> str:
+    return (TOP / "crates" / crate / "src" / file).read_text(encoding="utf-8")
+
+
+def exports_of(crate: str) -> list[Export]:
+    text = "\n".join(it.read_text(encoding="utf-8") for it in sorted((TOP / "crates" / crate / "src").glob("*.rt")))
+    found = []
+    for comment, name, inside, result in EXPORT.findall(text):
+        pairs = [tuple(it.strip().split(": ", 1)) for it in inside.split(",") if it.strip()]
+        found.append(Export(name, words_of(comment), pairs, result))
+    if len(found) != text.count("no_mangle"):
+        raise Unread(f"{crate}: {text.count('no_mangle')} exports, of which {len(found)} are read")
+    return found
+
+
+def about(crate: str) -> str:
+    """What the first lines of a static library say of it."""
+    lines = [it[3:].strip() for it in source_of(crate).splitlines() if it.startswith("//!")]
+    return " ".join(it for it in lines if it)
+
+
+def numbers() -> list[tuple[str, bool, int]]:
+    """The errors' names, whether they have a value, and their numbers."""
+    found = [(name, bool(value), int(number)) for name, value, number in NUMBER.findall(source_of("tls_codec_outcome", "numbers.rt"))]
+    if [number for _, _, number in found] != list(range(1, 11)) or {name for name, _, _ in found} - set(MEANINGS):
+        raise Unread(f"the numbers of the errors are {found}")
+    return found
+
+
+def taken_by(export: Export) -> str:
+    """The struct that a function fills."""
+    return export.parameters[1][1].removeprefix("&mut ")

@@ -1,0 +1,143 @@
+"""rust/src/exports.rs: what the Rust crate declares of the static libraries, and the functions over it. exports.py writes it."""
+from __future__ import annotations
+
+from exported import MEANINGS, WRITTEN, Export, Unread, about, decoders, exports_of, libraries, numbers, structs, taken_by
+
+# Modules of the Rust crate that have another name than their library: a caller may use the crate `tls_codec` of crates.io too.
+MODULES = {"tls_codec": "lengths"}
+SAFE = "the pointer and the length are of one slice, nothing changes it during the call, and the call keeps no pointer."
+# How many bytes an encoder writes beside its parts: of a FramedContentTBS the version and the wire format.
+BESIDE = {"mls_framed_content_tbs_encode": 4}
+
+
+def struct_in_rust(kind: str) -> list[str]:
+    lines = [f"/// {structs()[kind].text}", "#[repr(C)]", "#[derive(Clone, Copy, Default)]", f"pub struct {kind} {{"]
+    return [*lines, *[f"    pub {name}: {field}," for _, name, field in structs()[kind].fields], "}"]
+
+
+def found_in_rust(export: Export, name: str, text: str, kinds: tuple[str, str, str]) -> list[str]:
+    """The function that finds one thing: its type, what is passed to be filled, and what is returned of that."""
+    returned, filled, found = kinds
+    lines = ["", f"    /// {export.text} Returns {text}, and the rest of the bytes.", f"    pub fn {name}(bytes: &[u8]) -> Result<({returned}, &[u8]), Rejected> {{"]
+    lines += [f"        let mut found = {filled};", f"        // SAFETY: {SAFE}"]
+    lines += [f"        let outcome = unsafe {{ foreign::{export.name}(bytes.as_ptr(), bytes.len(), &mut found) }};"]
+    return [*lines, "        let (_, rest) = split_as(bytes, outcome)?;", f"        Ok(({found}, rest))", "    }"]
+
+
+def content_in_rust(export: Export, name: str) -> list[str]:
+    return found_in_rust(export, name, "that content", ("&[u8]", "Span::default()", "found.of(bytes)"))
+
+
+def kind_in_rust(export: Export, name: str) -> list[str]:
+    kind = taken_by(export)
+    return found_in_rust(export, name, "that number", (kind, f"0{kind}", "found"))
+
+
+def elements_in_rust(export: Export, name: str) -> list[str]:
+    """The iterator over the elements of a list."""
+    lines = ["", f"    /// {export.message()}: an iterator over a list's elements. `content` is the list without its length; an error's `at` counts from its first byte."]
+    return [*lines, f"    pub fn {name}_elements(content: &[u8]) -> Elements<'_> {{", f"        Elements::of(content, foreign::{export.name})", "    }"]
+
+
+def located_in_rust(module: str, export: Export) -> list[str]:
+    """A struct of slices, and the function that finds them."""
+    kind, name = taken_by(export), export.name.removeprefix(f"{module}_")
+    if kind == "Span":
+        return content_in_rust(export, name)
+    it = structs()[kind]
+    lines = ["", f"    /// {it.text}", "    #[derive(Clone, Copy, PartialEq, Eq, Debug)]", f"    pub struct {kind}<'a> {{"]
+    for text, field, _ in it.fields:
+        lines += [f"        /// {text}", f"        pub {field}: &'a [u8],"]
+    lines += ["    }", "", f"    /// {export.message()}: returns the fields of the one that `bytes` begin with, and the rest.", f"    pub fn {name}(bytes: &[u8]) -> Result<({kind}<'_>, &[u8]), Rejected> {{"]
+    lines += [f"        let mut found = foreign::{kind}::default();"]
+    lines += [f"        // SAFETY: {SAFE}"]
+    lines += [f"        let outcome = unsafe {{ foreign::{export.name}(bytes.as_ptr(), bytes.len(), &mut found) }};"]
+    lines += ["        let (_, rest) = split_as(bytes, outcome)?;", f"        let fields = {kind} {{"]
+    lines += [f"            {field}: found.{field}.of(bytes)," for _, field, _ in it.fields]
+    return [*lines, "        };", "        Ok((fields, rest))", "    }"]
+
+
+def encoder_in_rust(export: Export, name: str) -> list[str]:
+    """The function that writes into a buffer, and returns what it wrote if all of it is accepted."""
+    taken = [it if kind != "Global" else None for it, kind in export.parameters]
+    kinds = dict(export.parameters)
+    passed = [f"{it}.as{'_mut' if kinds[it] == '&mut [u8]' else ''}_ptr(), {it}.len()" if kinds[it].endswith("[u8]") else it for it in taken]
+    parameters = ", ".join(f"{it}: {kind}" for it, kind in export.parameters).replace("&mut [u8]", "&'a mut [u8]")
+    lines = ["", f"    /// {export.text} Returns the written bytes, if they are accepted.", f"    pub fn {name}<'a>({parameters}) -> Result<&'a [u8], Rejected> {{"]
+    lines += ["        // SAFETY: each pointer and its length are of one slice, nothing else changes or reads it during the call, and the call keeps no pointer."]
+    lines += [f"        let outcome = unsafe {{ foreign::{export.name}({', '.join(passed)}) }};"]
+    if export.name not in BESIDE:
+        raise Unread(f"{export.name}: how many bytes it writes beside its parts")
+    sizes = [str(BESIDE[export.name]), *[f"{it}.len()" for it in taken if kinds[it] == "&[u8]"]]
+    return [*lines, f"        written_as(out, {' + '.join(sizes)}, outcome)", "    }"]
+
+
+def decoders_in_rust(crate: str) -> list[str]:
+    """The functions of a static library of decoders, as those of a module that a feature adds."""
+    name, exports = crate.removesuffix("_c"), exports_of(crate)
+    body = ["", f"/// {about(crate)}", '#[cfg(feature = "check")]', f"pub mod {name} {{", "    use crate::{Error, decode};", ""]
+    body += ["    mod foreign {", "        use crate::Outcome;", "", f'        #[link(name = "{crate}", kind = "static")]']
+    body += ['        unsafe extern "C" {', *[f"            {it.declaration()}" for it in exports], "        }", "    }"]
+    for it in exports:
+        short = it.name.removesuffix("_check").removeprefix(f"{name.removesuffix('_check')}_")
+        body += ["", f"    /// {it.message()}: returns the bytes of the one that `bytes` begin with, and the rest, by the decoder."]
+        body += [f"    pub fn {short}(bytes: &[u8]) -> Result<(&[u8], &[u8]), Error> {{", f"        decode(bytes, foreign::{it.name})", "    }"]
+    return [*body, "}"]
+
+
+def module_in_rust(crate: str) -> list[str]:
+    """A static library's functions, as those of a module."""
+    name, exports = crate.removesuffix("_c"), exports_of(crate)
+    whole = [it for it in exports if it.name.endswith("_validate")]
+    located = [it for it in exports if it.name.endswith("_locate")]
+    taken = dict.fromkeys(taken_by(it) for it in located if taken_by(it) != "Span")
+    kinds = [it for it in exports if it.name.endswith("_kind")]
+    lists = [it for it in exports if it.name.endswith("_next")]
+    encoders = [it for it in exports if it.name.endswith("_encode")]
+    used = ["Rejected", "split", *(["split_as"] if located else [])]
+    if len(taken) < len(located) and not taken:
+        used.insert(1, "Span")
+    if lists:
+        used.insert(0, "Elements")
+    if encoders:
+        used.append("written_as")
+    body = ["", f"/// {about(crate)}", f"pub mod {MODULES.get(name, name)} {{", f"    use crate::{{{', '.join(used)}}};", "", "    mod foreign {"]
+    body += [f"        use crate::{{Outcome{', Span' if located else ''}}};" if located else "        use crate::Outcome;", ""]
+    for it in taken:
+        body += [f"        {line}" for line in struct_in_rust(it)] + [""]
+    body += [f'        #[link(name = "{crate}", kind = "static")]', '        unsafe extern "C" {']
+    body += [f"            {it.declaration()}" for it in exports]
+    body += ["        }", "    }"]
+    for it in whole:
+        short = it.name.removesuffix("_validate").removeprefix(f"{name}_")
+        body += ["", f"    /// {it.message()}: returns the bytes of the one that `bytes` begin with, and the rest."]
+        body += [f"    pub fn {short}(bytes: &[u8]) -> Result<(&[u8], &[u8]), Rejected> {{"]
+        body += [f"        split(bytes, foreign::{it.name})", "    }"]
+    for it in located:
+        body += located_in_rust(name, it)
+    for it in kinds:
+        body += kind_in_rust(it, it.name.removeprefix(f"{name}_"))
+    for it in encoders:
+        body += encoder_in_rust(it, it.name.removesuffix("_encode").removeprefix(f"{name}_"))
+    for it in lists:
+        body += elements_in_rust(it, it.name.removesuffix("_next").removeprefix(f"{name}_"))
+    return [*body, "}"]
+
+
+def exports_rust() -> str:
+    """The module of rust/ that declares the validators."""
+    body = [f"//! {WRITTEN}. Don't edit.", "#![allow(missing_docs)]", ""]
+    body += struct_in_rust("Outcome")
+    body += ["", "/// Why bytes are rejected.", "#[derive(Clone, Copy, PartialEq, Eq, Debug)]", "#[non_exhaustive]", "pub enum Error {"]
+    values = [name for name, value, _ in numbers() if name == "UnknownValue"]
+    for name, _, number in numbers():
+        body += [f"    /// {MEANINGS[name]} Status {number}.", f"    {name}(u64)," if name in values else f"    {name},"]
+    body += ["    /// A status that these declarations don't have.", "    Other(u32),", "}", ""]
+    body += ["impl Error {", "    pub(crate) fn of(outcome: &Outcome) -> Error {", "        match outcome.status {"]
+    for name, _, number in numbers():
+        body += [f"            {number} => Error::{name}(outcome.detail)," if name in values else f"            {number} => Error::{name},"]
+    body += ["            other => Error::Other(other),", "        }", "    }", "}"]
+    body += ["", *struct_in_rust("Span")]
+    for crate in libraries():
+        body += decoders_in_rust(crate) if crate in decoders() else module_in_rust(crate)
+    return "\n".join([*body, ""])
