@@ -39,7 +39,6 @@ WITHOUT = {
         "tls_codec_vl::show::debug",
     ],
     "it puts its own fields into another struct": ["tls_codec_views::parts_for::EncodedFor::parts"],
-    "none yet": ["tls_codec_base::context::present::present_len", "tls_codec_base::lists::Turns::new", "tls_codec_grammar::opaque::append"],
 }
 
 
