@@ -22,7 +22,7 @@ fn elements<'a>(name: &str, content: &'a [u8]) -> Option<Elements<'a>> {
     })
 }
 
-/// Writes `fields`, by which the function of a name finds its message's fields: each line has a function, and the struct's fields in order.
+/// Writes `fields`: the function of a name finds its message's fields. Each line has a function, and the fields of its struct in order.
 macro_rules! fields {
     ($($module:ident { $($call:ident: $($field:ident)*;)* })*) => {
         fn fields<'a>(name: &str, bytes: &'a [u8]) -> Option<Found<'a>> {
