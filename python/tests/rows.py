@@ -83,12 +83,18 @@ def are_buffers_taken(codec: Codec) -> bool:
     return False
 
 
+def are_fields_named(codec: Codec) -> bool:
+    """Whether fields have the names that the headers give them."""
+    alert, opaque = codec.fields("tls13_alert", b"\1\0"), codec.fields("tls_codec_opaque_v", b"\2\7\x08\x09")
+    return (alert, opaque) == ({"level": b"\1", "description": b"\0"}, {"content": b"\7\x08"})
+
+
 def main() -> int:
     codec = Codec(sys.argv[1])
     with open(sys.argv[2], encoding="utf-8") as file:
         rows = [line.rstrip("\n").split("\t") for line in file]
     failed = [is_as_expected(codec, it) for it in rows].count(False)
-    failed += [are_rejections_worded(codec), are_buffers_taken(codec)].count(False)
+    failed += [are_rejections_worded(codec), are_buffers_taken(codec), are_fields_named(codec)].count(False)
     print(f"{len(rows)} rows, {failed} failed")
     return 1 if failed or len(rows) < 100 else 0
 
