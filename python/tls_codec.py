@@ -104,6 +104,8 @@ class Codec:
 
     def framed_content_tbs(self, wire_format: int, content: Buffer, context: Buffer = b"") -> bytes:
         """What is signed of a message of MLS, by the encodings of its FramedContent and, if it is signed too, of its GroupContext."""
+        if not 0 <= wire_format < 1 << 16:
+            raise ValueError(f"a wire format is a number of 16 bits, which {wire_format} isn't")
         content, context = plain(content), plain(context)
         call, out = self.library["mls_framed_content_tbs_encode"], ctypes.create_string_buffer(4 + len(content) + len(context))
         call.restype, pair = Outcome, [ctypes.c_char_p, ctypes.c_size_t]

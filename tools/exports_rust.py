@@ -126,7 +126,7 @@ def module_in_rust(crate: str) -> list[str]:
 
 def exports_rust() -> str:
     """The module of rust/ that declares the validators."""
-    body = [f"//! {WRITTEN}. Don't edit.", "#![allow(missing_docs)]", ""]
+    body = [f"//! {WRITTEN}. Don't edit.", ""]
     body += struct_in_rust("Outcome")
     body += ["", "/// Why bytes are rejected.", "#[derive(Clone, Copy, PartialEq, Eq, Debug)]", "#[non_exhaustive]", "pub enum Error {"]
     values = [name for name, value, _ in numbers() if name == "UnknownValue"]

@@ -1,8 +1,10 @@
-/* places FILE: what is filled for each row of test_places: places of fields and of elements, and kinds.
+/* places FILE: what is filled for each row of test_places or lengths.tsv: places of fields, of elements and of contents, and kinds.
  *
  * A row has a function's name, hex or `-`, what the last call is to say, as `STATUS TAKEN AT DETAIL`, and what it is to fill, or `-`. The
- * bytes of `NAME_next` are those of a list after its length; each of their bits is turned in its turn. */
+ * bytes of `NAME_next` are those of a list after its length; each of their bits is turned in its turn. What is rejected fills nothing. */
 #include "rows.h"
+
+enum { MARK = 0xa5 };
 
 typedef tls_codec_outcome next(const uint8_t *bytes, size_t length, tls_codec_span *left, tls_codec_span *element);
 
@@ -31,6 +33,13 @@ static const struct list *find(const char *name) {
 static void add(struct answer *it, tls_codec_span place) {
   size_t used = strlen(it->filled);
   snprintf(it->filled + used, sizeof it->filled - used, "%s%zu+%zu", used ? " " : "", place.offset, place.size);
+}
+
+static int are_marks(const tls_codec_span *places, size_t size) {
+  const unsigned char *byte = (const unsigned char *)places;
+  for (size_t i = 0; i < size; i++)
+    if (byte[i] != MARK) return 0;
+  return 1;
 }
 
 static int is_place(tls_codec_span it, size_t offset, size_t size) { return it.offset == offset && it.size == size; }
@@ -72,15 +81,20 @@ static int call(const char *name, uint8_t *bytes, size_t length, struct answer *
     sprintf(answer->filled, "%d", kind);
     return 1;
   }
-#define LOCATED(message, fields)                                                                      \
-  if (strcmp(name, #message "_locate") == 0) {                                                        \
-    fields it;                                                                                        \
-    tls_codec_span places[sizeof it / sizeof(tls_codec_span)];                                        \
-    answer->outcome = message##_locate(bytes, length, &it);                                                \
-    if (answer->outcome.status != TLS_CODEC_ACCEPTED) return 1;                                            \
-    memcpy(places, &it, sizeof it);                                                                   \
-    for (size_t i = 0; i < sizeof places / sizeof *places; i++) add(answer, places[i]);                 \
-    return 1;                                                                                         \
+  if (strcmp(name, "tls_codec_varint_validate") == 0) {
+    answer->outcome = tls_codec_varint_validate(bytes, length);
+    return 1;
+  }
+#define LOCATED(message, fields)                                                                \
+  if (strcmp(name, #message "_locate") == 0) {                                                  \
+    fields it;                                                                                  \
+    tls_codec_span places[sizeof it / sizeof(tls_codec_span)];                                  \
+    memset(&it, MARK, sizeof it);                                                               \
+    answer->outcome = message##_locate(bytes, length, &it);                                     \
+    memcpy(places, &it, sizeof it);                                                             \
+    if (answer->outcome.status != TLS_CODEC_ACCEPTED) return are_marks(places, sizeof places);  \
+    for (size_t i = 0; i < sizeof places / sizeof *places; i++) add(answer, places[i]);         \
+    return 1;                                                                                   \
   }
 #include "exports.inc"
 #undef LOCATED

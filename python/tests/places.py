@@ -1,4 +1,6 @@
-"""places.py LIBRARY ROWS: what the module finds for each row of `test_places`."""
+"""places.py LIBRARY ROWS: what the module finds for each row of `test_places`, or of c/tests/lengths.tsv."""
+from __future__ import annotations
+
 import pathlib
 import sys
 
@@ -16,6 +18,8 @@ def found(codec: Codec, name: str, data: bytes) -> tuple[list[bytes] | int, tupl
             return codec.message_kind(data), (0, 0, 0)
         if kind == "locate":
             return list(codec.fields(call, data).values()), (0, 0, 0)
+        if kind == "validate":
+            return [codec.split(call, data)[0]], (0, 0, 0)
         for element in codec.elements(call, data):
             parts.append(element)
         return parts, (0, 0, 0)
@@ -24,10 +28,12 @@ def found(codec: Codec, name: str, data: bytes) -> tuple[list[bytes] | int, tupl
 
 
 def wanted(name: str, data: bytes, expected: str, filled: str) -> tuple[list[bytes] | int, tuple[int, int, int]]:
-    """The same as the row has it: of an element that is rejected its place is behind those before it."""
-    status, _, at, detail = map(int, expected.split())
+    """The same as the row has it: of an element that is rejected its place is behind those before it. A validator finds what it takes."""
+    status, taken, at, detail = map(int, expected.split())
     if name == "mls_message_kind" and not status:
         return int(filled), (0, 0, 0)
+    if name.endswith("_validate") and not status:
+        return [data[:taken]], (0, 0, 0)
     places = [tuple(map(int, it.split("+"))) for it in filled.split() if it != "-"]
     if name.endswith("_next"):
         at += sum(size for _, size in places)

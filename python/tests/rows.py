@@ -1,10 +1,62 @@
-"""rows.py LIBRARY ROWS: what the module says of each row of `test_outcome`, or of c/tests/tls13.tsv."""
+"""rows.py LIBRARY ROWS: what the module says of each row of `test_outcome`, or of c/tests/tls13.tsv, and of the first the fields."""
+from __future__ import annotations
+
 import pathlib
 import sys
 
 sys.dont_write_bytecode = True
 sys.path.insert(0, str(pathlib.Path(__file__).resolve().parent.parent))
 from tls_codec import Codec, Rejected
+from tls_codec_exports import FIELDS
+
+Numbers = tuple[int, int, int, int]
+
+
+def numbers(rejected: Rejected) -> Numbers:
+    """What is rejected, as a row has it."""
+    return rejected.status, 0, rejected.at, rejected.detail
+
+
+def validated(codec: Codec, name: str, data: bytes) -> Numbers:
+    """What the validator says."""
+    try:
+        return 0, len(codec.split(name, data)[0]), 0, 0
+    except Rejected as rejected:
+        return numbers(rejected)
+
+
+def decoded(codec: Codec, name: str, data: bytes) -> Numbers:
+    """What the decoder says."""
+    outcome = codec.outcome(f"{name}_check", data)
+    return outcome.status, outcome.taken, outcome.at, outcome.detail
+
+
+def fields(codec: Codec, name: str, data: bytes) -> list[bytes] | Numbers:
+    """The fields of a message in their order, or what is rejected."""
+    try:
+        return list(codec.fields(name, data).values())
+    except Rejected as rejected:
+        return numbers(rejected)
+
+
+def are_placed(codec: Codec, name: str, data: bytes, columns: list[str]) -> bool:
+    """Whether the fields are where a row of `test_outcome` has them, or are rejected as the message is."""
+    expected: Numbers = tuple(map(int, columns[2].split()))
+    if name not in FIELDS or len(columns) == 3:
+        return len(columns) < 5
+    places = [tuple(map(int, it.split("+"))) for it in " ".join(columns[4:]).split()]
+    return fields(codec, name, data) == (expected if expected[0] else [data[offset : offset + size] for offset, size in places])
+
+
+def is_as_expected(codec: Codec, columns: list[str]) -> bool:
+    """Whether the calls answer a row. The decoder says the same as the validator, but for the place."""
+    name, data = columns[0], b"" if columns[1] == "-" else bytes.fromhex(columns[1])
+    status, taken, at, detail = map(int, columns[2].split())
+    found, by_decoder = validated(codec, name, data), decoded(codec, name, data)
+    if found == (status, taken, at, detail) and by_decoder == (status, taken, 0, detail) and are_placed(codec, name, data, columns):
+        return True
+    print(f"{name} {columns[1]}: {found}, by the decoder {by_decoder}, and not {columns[2:]}, or its fields are elsewhere")
+    return False
 
 
 def rejection(codec: Codec, name: str, data: bytes) -> str:
@@ -31,23 +83,18 @@ def are_buffers_taken(codec: Codec) -> bool:
     return False
 
 
+def are_fields_named(codec: Codec) -> bool:
+    """Whether fields have the names that the headers give them."""
+    alert, opaque = codec.fields("tls13_alert", b"\1\0"), codec.fields("tls_codec_opaque_v", b"\2\7\x08\x09")
+    return (alert, opaque) == ({"level": b"\1", "description": b"\0"}, {"content": b"\7\x08"})
+
+
 def main() -> int:
-    codec, failed = Codec(sys.argv[1]), 0
+    codec = Codec(sys.argv[1])
     with open(sys.argv[2], encoding="utf-8") as file:
         rows = [line.rstrip("\n").split("\t") for line in file]
-    for name, digits, validated, *_ in rows:
-        data = b"" if digits == "-" else bytes.fromhex(digits)
-        status, taken, at, detail = map(int, validated.split())
-        try:
-            outcome = (0, len(codec.split(name, data)[0]), 0, 0)
-        except Rejected as rejected:
-            outcome = (rejected.status, 0, rejected.at, rejected.detail)
-        decoded = codec.outcome(f"{name}_check", data)
-        is_alike = (decoded.status, decoded.taken, decoded.at, decoded.detail) == (status, taken, 0, detail)
-        if outcome != (status, taken, at, detail) or not is_alike:
-            failed += 1
-            print(f"{name} {digits}: {outcome}, and not {validated}, or the decoder says otherwise")
-    failed += [are_rejections_worded(codec), are_buffers_taken(codec)].count(False)
+    failed = [is_as_expected(codec, it) for it in rows].count(False)
+    failed += [are_rejections_worded(codec), are_buffers_taken(codec), are_fields_named(codec)].count(False)
     print(f"{len(rows)} rows, {failed} failed")
     return 1 if failed or len(rows) < 100 else 0
 

@@ -1,5 +1,10 @@
 #!/usr/bin/env python3
-"""signed.py OBJECT FILE: what is written to be signed, for each row of c/tests/signed.tsv, by the module tls_codec. The status is 1 if a row differs."""
+"""signed.py OBJECT FILE: what is written to be signed, for each row of c/tests/signed.tsv, by the module tls_codec. The status is 1 if a row differs.
+
+A wire format that has more than 16 bits is refused.
+"""
+from __future__ import annotations
+
 import pathlib
 import sys
 
@@ -24,8 +29,18 @@ def wanted(columns: list[str]) -> str:
     return columns[4] if taken == len(columns[4]) // 2 else f"TrailingData at byte {taken}"
 
 
+def is_refused(codec: Codec, wire_format: int) -> bool:
+    """Whether the module refuses a wire format, and so calls nothing."""
+    try:
+        codec.framed_content_tbs(wire_format, b"")
+    except ValueError as error:
+        return not isinstance(error, Rejected)
+    return False
+
+
 codec = Codec(sys.argv[1])
 rows = [line.rstrip("\n").split("\t") for line in open(sys.argv[2], encoding="utf-8")]
 failed = [it for it in rows if answer(codec, it) != wanted(it)]
+failed += [[f"wire format {it}"] for it in (-1, 1 << 16, 0x10002) if not is_refused(codec, it)]
 print(f"{len(rows)} rows, {len(failed)} failed", *failed, sep="\n")
 sys.exit(bool(failed or not rows))

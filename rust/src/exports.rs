@@ -1,5 +1,4 @@
 //! Written by tools/exports.py. Don't edit.
-#![allow(missing_docs)]
 
 /// The result of a call.
 #[repr(C)]

@@ -20,7 +20,7 @@
 //! assert_eq!(tls13::alert(&[2]), Err(cut));
 //! ```
 #![no_std]
-#![warn(missing_docs)]
+#![deny(missing_docs)]
 
 mod exports;
 

@@ -1,11 +1,13 @@
-//! The rows of `test_places`: the elements of lists, the kind of a message, and the fields of messages of TLS 1.3.
+//! The rows of `test_places` and `c/tests/lengths.tsv`, and the fields in those of `test_outcome`: the elements of lists, the kind of a message,
+//! the fields of each message that has some, and lengths.
 mod common;
 
 use common::{bytes_of, error_of};
 use std::fs;
-use tls_codec_border::{Elements, Rejected, mls, tls13};
+use tls_codec_border::{Elements, Rejected, lengths, mls, tls13};
 
-type Fields<'a> = Result<Vec<&'a [u8]>, Rejected>;
+/// What is found, in order, and the rest of the bytes.
+type Found<'a> = Result<(Vec<&'a [u8]>, &'a [u8]), Rejected>;
 
 fn elements<'a>(name: &str, content: &'a [u8]) -> Option<Elements<'a>> {
     Some(match name {
@@ -20,36 +22,64 @@ fn elements<'a>(name: &str, content: &'a [u8]) -> Option<Elements<'a>> {
     })
 }
 
-fn fields<'a>(name: &str, bytes: &'a [u8]) -> Option<Fields<'a>> {
-    Some(match name {
-        "tls13_client_hello_locate" => tls13::client_hello_locate(bytes).map(|(it, _)| {
-            vec![it.legacy_version, it.random, it.legacy_session_id, it.cipher_suites, it.legacy_compression_methods, it.extensions]
-        }),
-        "tls13_server_hello_locate" => tls13::server_hello_locate(bytes).map(|(it, _)| {
-            vec![it.legacy_version, it.random, it.legacy_session_id_echo, it.cipher_suite, it.legacy_compression_method, it.extensions]
-        }),
-        "tls13_certificate_locate" => tls13::certificate_locate(bytes).map(|(it, _)| vec![it.certificate_request_context, it.certificate_list]),
-        "tls13_certificate_verify_locate" => tls13::certificate_verify_locate(bytes).map(|(it, _)| vec![it.algorithm, it.signature]),
-        "tls13_new_session_ticket_locate" => tls13::new_session_ticket_locate(bytes)
-            .map(|(it, _)| vec![it.ticket_lifetime, it.ticket_age_add, it.ticket_nonce, it.ticket, it.extensions]),
-        "tls13_handshake_locate" => tls13::handshake_locate(bytes).map(|(it, _)| vec![it.msg_type, it.body]),
-        "tls13_encrypted_extensions_locate" => tls13::encrypted_extensions_locate(bytes).map(|(it, _)| vec![it.extensions]),
-        "tls13_certificate_request_locate" => {
-            tls13::certificate_request_locate(bytes).map(|(it, _)| vec![it.certificate_request_context, it.extensions])
+/// Writes `fields`: the function of a name finds its message's fields. Each line has a function, and the fields of its struct in order.
+macro_rules! fields {
+    ($($module:ident { $($call:ident: $($field:ident)*;)* })*) => {
+        fn fields<'a>(name: &str, bytes: &'a [u8]) -> Option<Found<'a>> {
+            $($(if name == concat!(stringify!($module), "_", stringify!($call)) {
+                return Some($module::$call(bytes).map(|(it, rest)| (vec![$(it.$field),*], rest)));
+            })*)*
+            None
         }
-        "tls13_key_update_locate" => tls13::key_update_locate(bytes).map(|(it, _)| vec![it.request_update]),
-        "tls13_tls_ciphertext_locate" => {
-            tls13::tls_ciphertext_locate(bytes).map(|(it, _)| vec![it.opaque_type, it.legacy_record_version, it.encrypted_record])
-        }
-        "tls13_alert_locate" => tls13::alert_locate(bytes).map(|(it, _)| vec![it.level, it.description]),
-        "tls13_tls_plaintext_locate" => {
-            tls13::tls_plaintext_locate(bytes).map(|(it, _)| vec![it.kind, it.legacy_record_version, it.fragment])
-        }
-        _ => return None,
-    })
+    };
 }
 
-/// A row of the file.
+fields! {
+    tls13 {
+        handshake_locate: msg_type body;
+        client_hello_locate: legacy_version random legacy_session_id cipher_suites legacy_compression_methods extensions;
+        server_hello_locate: legacy_version random legacy_session_id_echo cipher_suite legacy_compression_method extensions;
+        encrypted_extensions_locate: extensions;
+        certificate_request_locate: certificate_request_context extensions;
+        certificate_locate: certificate_request_context certificate_list;
+        certificate_verify_locate: algorithm signature;
+        new_session_ticket_locate: ticket_lifetime ticket_age_add ticket_nonce ticket extensions;
+        key_update_locate: request_update;
+        tls_plaintext_locate: kind legacy_record_version fragment;
+        tls_ciphertext_locate: opaque_type legacy_record_version encrypted_record;
+        alert_locate: level description;
+    }
+    mls {
+        message_locate: version wire_format message;
+        public_message_locate: content auth membership_tag;
+        private_message_locate: group_id epoch content_type authenticated_data encrypted_sender_data ciphertext;
+        framed_content_locate: group_id epoch sender authenticated_data content_type content;
+        sender_data_locate: leaf_index generation reuse_guard;
+        key_package_locate: version cipher_suite init_key leaf_node extensions signature;
+        leaf_node_locate: encryption_key signature_key credential capabilities leaf_node_source origin extensions signature;
+        welcome_locate: cipher_suite secrets encrypted_group_info;
+        group_secrets_locate: joiner_secret path_secret psks;
+        group_info_locate: group_context extensions confirmation_tag signer signature;
+        group_context_locate: version cipher_suite group_id epoch tree_hash confirmed_transcript_hash extensions;
+        commit_locate: proposals path;
+        proposal_locate: proposal_type body;
+    }
+}
+
+/// The content after a length; nothing is filled of a variable-length integer.
+fn content<'a>(name: &str, bytes: &'a [u8]) -> Option<Found<'a>> {
+    let locate = match name {
+        "tls_codec_varint_validate" => return Some(lengths::varint(bytes).map(|(_, rest)| (Vec::new(), rest))),
+        "tls_codec_opaque_v_locate" => lengths::opaque_v_locate,
+        "tls_codec_opaque_u8_locate" => lengths::opaque_u8_locate,
+        "tls_codec_opaque_u16_locate" => lengths::opaque_u16_locate,
+        "tls_codec_opaque_u24_locate" => lengths::opaque_u24_locate,
+        _ => return None,
+    };
+    Some(locate(bytes).map(|(content, rest)| (vec![content], rest)))
+}
+
+/// A row of a file.
 struct Row {
     name: String,
     bytes: Vec<u8>,
@@ -68,6 +98,18 @@ impl Row {
         }
     }
 
+    /// A row of `test_outcome` as one of the call that finds the fields; a `RatchetTree` has none.
+    fn of_message(line: &str) -> Option<Row> {
+        let columns: Vec<&str> = line.split('\t').collect();
+        let name = format!("{}_locate", columns[0]);
+        let filled = columns.get(4).unwrap_or(&"-");
+        (columns[0] != "mls_ratchet_tree").then(|| Row::of(&[&name, columns[1], columns[2], filled].join("\t")))
+    }
+
+    fn is_accepted(&self) -> bool {
+        self.numbers[0] == 0
+    }
+
     /// The error of a call that rejects what is left from this place on.
     fn rejected(&self, from: usize) -> Rejected {
         let error = error_of(self.numbers[0], self.numbers[3]);
@@ -84,6 +126,11 @@ impl Row {
         self.filled.split(' ').filter(|it| *it != "-").map(place).collect()
     }
 
+    /// What comes after the bytes that are taken.
+    fn rest(&self) -> &[u8] {
+        &self.bytes[self.numbers[1] as usize..]
+    }
+
     fn elements_are_in_their_places(&self, elements: Elements<'_>) {
         let all: Vec<_> = elements.collect();
         let found: Vec<&[u8]> = all.iter().filter_map(|it| it.ok()).collect();
@@ -94,25 +141,44 @@ impl Row {
         assert_eq!(error, wanted, "{}", self.name);
         assert_eq!(all.len(), found.len() + usize::from(wanted.is_some()));
     }
+
+    fn has_its_outcome(&self) {
+        if let Some(elements) = elements(&self.name, &self.bytes) {
+            self.elements_are_in_their_places(elements);
+        } else if let Some(found) = fields(&self.name, &self.bytes).or_else(|| content(&self.name, &self.bytes)) {
+            let wanted = if self.is_accepted() { Ok((self.places(), self.rest())) } else { Err(self.rejected(0)) };
+            assert_eq!(found, wanted, "{} {:02x?}", self.name, self.bytes);
+        } else {
+            assert_eq!(self.name, "mls_message_kind");
+            let kind = || self.filled.parse().expect("a number");
+            let wanted = if self.is_accepted() { Ok((kind(), self.rest())) } else { Err(self.rejected(0)) };
+            assert_eq!(mls::message_kind(&self.bytes), wanted);
+        }
+    }
+}
+
+fn lines_of(file: &str) -> Vec<String> {
+    let path = format!("{}/../{file}", env!("CARGO_MANIFEST_DIR"));
+    fs::read_to_string(path).expect("the rows are there").lines().map(String::from).collect()
 }
 
 #[test]
-fn each_row_has_its_outcome() {
-    let file = concat!(env!("CARGO_MANIFEST_DIR"), "/../crates/test_places/stdout");
-    let text = fs::read_to_string(file).expect("the rows are there");
-    for row in text.lines().map(Row::of) {
-        let is_accepted = row.numbers[0] == 0;
-        if let Some(elements) = elements(&row.name, &row.bytes) {
-            row.elements_are_in_their_places(elements);
-        } else if let Some(found) = fields(&row.name, &row.bytes) {
-            let wanted = if is_accepted { Ok(row.places()) } else { Err(row.rejected(0)) };
-            assert_eq!(found, wanted, "{}", row.name);
-        } else {
-            assert_eq!(row.name, "mls_message_kind");
-            let rest = &row.bytes[row.numbers[1] as usize..];
-            let wanted = if is_accepted { Ok((row.filled.parse().expect("a number"), rest)) } else { Err(row.rejected(0)) };
-            assert_eq!(mls::message_kind(&row.bytes), wanted);
-        }
-    }
-    assert!(text.lines().count() > 100);
+fn each_place_is_found() {
+    let lines = lines_of("crates/test_places/stdout");
+    lines.iter().for_each(|it| Row::of(it).has_its_outcome());
+    assert!(lines.len() > 100);
+}
+
+#[test]
+fn each_field_of_mls_is_found() {
+    let rows: Vec<Row> = lines_of("crates/test_outcome/stdout").iter().filter_map(|it| Row::of_message(it)).collect();
+    rows.iter().for_each(Row::has_its_outcome);
+    assert!(rows.iter().filter(|it| it.is_accepted()).count() > 40);
+}
+
+#[test]
+fn each_length_is_found() {
+    let lines = lines_of("c/tests/lengths.tsv");
+    lines.iter().for_each(|it| Row::of(it).has_its_outcome());
+    assert!(lines.len() > 50);
 }

@@ -3,7 +3,7 @@ mod common;
 
 use common::{bytes_of, error_of};
 use std::fs;
-use tls_codec_border::{Error, Rejected, exactly, lengths, mls, tls13};
+use tls_codec_border::{Error, Rejected, exactly, mls, tls13};
 
 type Split<'a> = Result<(&'a [u8], &'a [u8]), Rejected>;
 
@@ -78,17 +78,6 @@ fn fields_are_slices() {
     assert_eq!(rest, [0xee]);
     let cut = mls::private_message_locate(&message[..16]);
     assert_eq!(cut.map(|_| ()), Err(Rejected { error: Error::DecodingError, at: 14 }));
-}
-
-#[test]
-fn contents_are_slices() {
-    assert_eq!(lengths::opaque_v_locate(&[2, 7, 8, 9]), Ok((&[7, 8][..], &[9][..])));
-    assert_eq!(lengths::opaque_u8_locate(&[1, 7]), Ok((&[7][..], &[][..])));
-    assert_eq!(lengths::opaque_u16_locate(&[0, 1, 7]), Ok((&[7][..], &[][..])));
-    assert_eq!(lengths::opaque_u24_locate(&[0, 0, 0, 7]), Ok((&[][..], &[7][..])));
-    let wide = Rejected { error: Error::InvalidVectorLength, at: 0 };
-    assert_eq!(lengths::varint(&[0x40, 1]), Err(wide));
-    assert_eq!(lengths::varint(&[0x40, 64, 9]), Ok((&[0x40, 64][..], &[9][..])));
 }
 
 #[test]

@@ -1,0 +1,66 @@
+"""What test_callers tries beside the rows: a test vector of them, and the C of docs/CALLERS.md; and the calls that rows answer."""
+from __future__ import annotations
+
+import pathlib
+
+from check_pages import NOT_QUOTED, blocks
+from libraries import ROWS, TOP
+
+# A test vector's names, by python/vectors.py, and the row of each: its message, and what its hex begins with. Of a proposal this is left out.
+VECTOR = {
+    "public_message_commit": ("mls_message", "00010001"),
+    "private_message": ("mls_message", "00010002"),
+    "mls_welcome": ("mls_message", "00010003"),
+    "mls_group_info": ("mls_message", "00010004"),
+    "mls_key_package": ("mls_message", "00010005"),
+    "ratchet_tree": ("mls_ratchet_tree", ""),
+    "group_secrets": ("mls_group_secrets", ""),
+    "commit": ("mls_commit", ""),
+    "add_proposal": ("mls_proposal", "0001"),
+    "remove_proposal": ("mls_proposal", "0003"),
+    "pre_shared_key_proposal": ("mls_proposal", "0004"),
+}
+# What the blocks of C in docs/CALLERS.md use.
+USED = """\
+#include <tls_codec/mls.h>
+#include <tls_codec/tls_codec.h>
+extern const uint8_t *bytes, *key, *content, *context;
+extern size_t length, content_length, context_length;
+extern mls_key_package_fields fields;
+void use(const uint8_t *bytes, size_t length);
+void sign_with_label(const uint8_t *key, const char *label, const uint8_t *bytes, size_t length);
+"""
+
+
+def rows_of(path: pathlib.Path) -> list[list[str]]:
+    return [line.split("\t") for line in path.read_text(encoding="utf-8").splitlines()]
+
+
+def answered(places: list[pathlib.Path], signed: pathlib.Path) -> set[str]:
+    """The calls by which a row's bytes are accepted. A message's row is of its validator and decoder, and with fields also of what finds them."""
+    found = {"mls_framed_content_tbs_encode" for it in rows_of(signed) if it[3].startswith("0 ")}
+    found |= {it[0] for path in places for it in rows_of(path) if it[2].startswith("0 ")}
+    for columns in (it for path in ROWS for it in rows_of(path) if it[2].startswith("0 ")):
+        found |= {f"{columns[0]}_{call}" for call in ("validate", "check", *["locate"] * (len(columns) > 4))}
+    return found
+
+
+def vector() -> dict[str, str]:
+    """A test vector: for each name the first row that is accepted as a whole."""
+    whole = [(message, digits) for message, digits, outcome, *_ in rows_of(ROWS[0]) if outcome == f"0 {len(digits) // 2} 0 0"]
+    found = {}
+    for name, (message, begin) in VECTOR.items():
+        digits = next(it for other, it in whole if other == message and it.startswith(begin))
+        found[name] = digits[len(begin) :] if message == "mls_proposal" else digits
+    return found
+
+
+def written_in_c() -> list[str]:
+    """The blocks of C in docs/CALLERS.md that are no quotes, each as a function's definition."""
+    lines = (TOP / "docs" / "CALLERS.md").read_text(encoding="utf-8").split("\n")
+    found = []
+    for words, kind, block in blocks(lines):
+        if kind == "c" and NOT_QUOTED.fullmatch(next(it for it in reversed(words) if it)):
+            body = "\n".join(f"    {line}" for _, line in block)
+            found.append(f"int block_{len(found)}(void);\nint block_{len(found)}(void) {{\n  {{\n{body}\n  }}\n  return 1;\n}}\n")
+    return found
