@@ -26,11 +26,13 @@ VECTOR = {
 USED = """\
 #include <tls_codec/mls.h>
 #include <tls_codec/tls_codec.h>
-extern const uint8_t *bytes, *key, *content, *context;
+extern const uint8_t *bytes, *key, *message, *content, *context;
 extern size_t length, content_length, context_length;
 extern mls_key_package_fields fields;
 void use(const uint8_t *bytes, size_t length);
+void use_extension(unsigned type, const uint8_t *data, size_t size);
 void sign_with_label(const uint8_t *key, const char *label, const uint8_t *bytes, size_t length);
+int verify_with_label(const uint8_t *key, const char *label, const uint8_t *bytes, size_t length, const uint8_t *signature, size_t signature_length);
 """
 
 
