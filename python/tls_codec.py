@@ -18,7 +18,7 @@ import ctypes
 from collections.abc import Iterator
 from typing import Union
 
-from tls_codec_exports import FIELDS, STATUSES, VERSION
+from tls_codec_exports import FIELDS, STATUSES, VERSION, MlsWireFormat
 
 __version__ = VERSION
 Buffer = Union[bytes, bytearray, memoryview]
@@ -96,11 +96,11 @@ class Codec:
                 raise Rejected(outcome.status, at + outcome.at, outcome.detail)
             yield found.of(content)
 
-    def message_kind(self, data: Buffer) -> int:
-        """The kind of the MLSMessage that the bytes begin with: 1 is a public message, 5 a key package."""
+    def message_kind(self, data: Buffer) -> MlsWireFormat:
+        """The kind of the MLSMessage that the bytes begin with. Other numbers have names in tls_codec_exports, as MlsContentType."""
         kind = ctypes.c_uint16()
         self.accepted("mls_message_kind", data, kind)
-        return kind.value
+        return MlsWireFormat(kind.value)
 
     def framed_content_tbs(self, wire_format: int, content: Buffer, context: Buffer = b"") -> bytes:
         """What is signed of a message of MLS, by the encodings of its FramedContent and, if it is signed too, of its GroupContext."""

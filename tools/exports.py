@@ -18,7 +18,7 @@ sys.dont_write_bytecode = True
 from exported import MEANINGS, WRITTEN, Unread, about, exports_of, libraries, numbers, structs, taken_by, type_in_c
 from exports_rust import exports_rust
 from libraries import TOP
-from registries import enums_in_c
+from registries import enums_in_c, enums_in_python
 
 LONGEST = 100
 # The files written by hand that have the version too, and the line where it is.
@@ -144,12 +144,12 @@ def located_fields() -> dict[str, list[str]]:
 
 def exports_python() -> str:
     """The names that the module of python/ has from here."""
-    lines = [f'"""{WRITTEN}. Don\'t edit."""', "", "# The version, by CHANGELOG.md.", f'VERSION = "{version()}"', ""]
+    lines = [f'"""{WRITTEN}. Don\'t edit."""', "", "import enum", "", "# The version, by CHANGELOG.md.", f'VERSION = "{version()}"', ""]
     lines += ["# The names of the statuses, by their numbers.", "STATUSES = ["]
     lines += [f'    "{name}",' for name in ("Accepted", *[name for name, _, _ in numbers()])]
     lines += ["]", "", "# What `NAME_locate` fills, in this order, by NAME.", "FIELDS = {"]
     lines += [f'    "{message}": {json.dumps(names)},' for message, names in located_fields().items()]
-    return "\n".join([*lines, "}", ""])
+    return "\n".join([*lines, "}", *enums_in_python(), ""])
 
 
 def files() -> dict[pathlib.Path, str]:
