@@ -15,10 +15,11 @@ docs/CALLERS.md says what is proved and what is trusted.
 from __future__ import annotations
 
 import ctypes
+import pathlib
 from collections.abc import Iterator
 from typing import Union
 
-from tls_codec_exports import FIELDS, STATUSES, VERSION, MlsWireFormat
+from tls_codec_exports import FIELDS, MARK, STATUSES, VERSION, MlsWireFormat
 
 __version__ = VERSION
 Buffer = Union[bytes, bytearray, memoryview]
@@ -55,9 +56,13 @@ class Rejected(ValueError):
 
 
 class Codec:
-    """The validators of a shared object, and its decoders."""
+    """The validators of a shared object, and its decoders. If tls_codec.version of the archives lies beside it, they have to be of this version."""
 
     def __init__(self, path: str) -> None:
+        mark = pathlib.Path(path).with_name("tls_codec.version")
+        found = mark.read_text(encoding="utf-8").strip() if mark.is_file() else MARK
+        if found != MARK:
+            raise ImportError(f"the archives are of {found!r}, and not of {MARK!r}: {mark}")
         self.library = ctypes.CDLL(path)
 
     def outcome(self, name: str, data: Buffer, *filled: object) -> Outcome:

@@ -5,6 +5,9 @@ import enum
 # The version, by CHANGELOG.md.
 VERSION = "0.2.0"
 
+# What archives of this version and these headers have beside them.
+MARK = "0.2.0 2b21fffde8a59e2d"
+
 # The names of the statuses, by their numbers.
 STATUSES = [
     "Accepted",

@@ -22,6 +22,13 @@ VECTOR = {
     "remove_proposal": ("mls_proposal", "0003"),
     "pre_shared_key_proposal": ("mls_proposal", "0004"),
 }
+# What examples/sender.c prints of a public message, by what comes after its epoch: rows of `test_outcome`, and an external sender's proposal.
+SENT = {
+    "010000000202fbfc0102a1a201d101e1": "member 2\napplication data\nsignature of 1 bytes",
+    "020000000501fb0200030000000901e1": "external sender 5\nproposal\nsignature of 1 bytes",
+    "03000200030000000902d1d2": "new member, by a proposal\nproposal\nsignature of 2 bytes",
+    "040003000001d101e1": "new member, by a commit\ncommit\nsignature of 1 bytes",
+}
 # What the blocks of C in docs/CALLERS.md use.
 USED = """\
 #include <tls_codec/mls.h>
