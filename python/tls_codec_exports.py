@@ -6,7 +6,7 @@ import enum
 VERSION = "0.2.0"
 
 # What archives of this version and these headers have beside them.
-MARK = "0.2.0 2b21fffde8a59e2d"
+MARK = "0.2.0 91604660266db0de"
 
 # The names of the statuses, by their numbers.
 STATUSES = [

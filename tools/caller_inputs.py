@@ -31,8 +31,8 @@ SENT = {
 }
 # What the blocks of C in docs/CALLERS.md use.
 USED = """\
+#include <tls_codec/lengths.h>
 #include <tls_codec/mls.h>
-#include <tls_codec/tls_codec.h>
 extern const uint8_t *bytes, *key, *message, *content, *context;
 extern size_t length, content_length, context_length;
 extern mls_key_package_fields fields;

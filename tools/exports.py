@@ -18,7 +18,7 @@ import sys
 
 sys.dont_write_bytecode = True
 from exported import MEANINGS, WRITTEN, Unread, about, exports_of, libraries, numbers, structs, taken_by, type_in_c
-from exports_rust import exports_rust
+from exports_rust import MODULES, exports_rust
 from libraries import TOP
 from registries import enums_in_c, enums_in_python
 
@@ -123,7 +123,7 @@ def header(crate: str) -> str:
         body += ["", *struct_in_c(it)] if it in taken and structs()[it].crate != "tls_codec_outcome" else []
     for it in exports_of(crate):
         body += ["", *comment(it.in_c()), it.prototype()]
-    return guarded(name, crate, [*body, "", "#ifdef __cplusplus", "}", "#endif"])
+    return guarded(MODULES.get(name, name), crate, [*body, "", "#ifdef __cplusplus", "}", "#endif"])
 
 
 def table() -> str:
@@ -160,7 +160,9 @@ def exports_python() -> str:
 
 def headers() -> dict[pathlib.Path, str]:
     include = TOP / "c" / "include" / "tls_codec"
-    return {include / "outcome.h": outcome_header(), **{include / f"{it.removesuffix('_c')}.h": header(it) for it in libraries()}}
+    names = {it: it.removesuffix("_c") for it in libraries()}
+    found = {include / f"{MODULES.get(name, name)}.h": header(it) for it, name in names.items()}
+    return {include / "outcome.h": outcome_header(), **found}
 
 
 @functools.cache

@@ -6,8 +6,8 @@
 #include <errno.h>
 #include <stdio.h>
 #include <string.h>
+#include <tls_codec/lengths.h>
 #include <tls_codec/tls13.h>
-#include <tls_codec/tls_codec.h>
 #include <unistd.h>
 
 /* The bytes before a fragment, and how many a fragment and all messages have at most. */
