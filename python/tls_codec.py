@@ -15,10 +15,11 @@ docs/CALLERS.md says what is proved and what is trusted.
 from __future__ import annotations
 
 import ctypes
+import pathlib
 from collections.abc import Iterator
 from typing import Union
 
-from tls_codec_exports import FIELDS, STATUSES, VERSION
+from tls_codec_exports import FIELDS, MARK, STATUSES, VERSION, MlsWireFormat
 
 __version__ = VERSION
 Buffer = Union[bytes, bytearray, memoryview]
@@ -55,9 +56,13 @@ class Rejected(ValueError):
 
 
 class Codec:
-    """The validators of a shared object, and its decoders."""
+    """The validators of a shared object, and its decoders. If tls_codec.version of the archives lies beside it, they have to be of this version."""
 
     def __init__(self, path: str) -> None:
+        mark = pathlib.Path(path).with_name("tls_codec.version")
+        found = mark.read_text(encoding="utf-8").strip() if mark.is_file() else MARK
+        if found != MARK:
+            raise ImportError(f"the archives are of {found!r}, and not of {MARK!r}: {mark}")
         self.library = ctypes.CDLL(path)
 
     def outcome(self, name: str, data: Buffer, *filled: object) -> Outcome:
@@ -96,11 +101,11 @@ class Codec:
                 raise Rejected(outcome.status, at + outcome.at, outcome.detail)
             yield found.of(content)
 
-    def message_kind(self, data: Buffer) -> int:
-        """The kind of the MLSMessage that the bytes begin with: 1 is a public message, 5 a key package."""
+    def message_kind(self, data: Buffer) -> MlsWireFormat:
+        """The kind of the MLSMessage that the bytes begin with. Other numbers have names in tls_codec_exports, as MlsContentType."""
         kind = ctypes.c_uint16()
         self.accepted("mls_message_kind", data, kind)
-        return kind.value
+        return MlsWireFormat(kind.value)
 
     def framed_content_tbs(self, wire_format: int, content: Buffer, context: Buffer = b"") -> bytes:
         """What is signed of a message of MLS, by the encodings of its FramedContent and, if it is signed too, of its GroupContext."""

@@ -1,7 +1,12 @@
 """Written by tools/exports.py. Don't edit."""
 
+import enum
+
 # The version, by CHANGELOG.md.
 VERSION = "0.2.0"
+
+# What archives of this version and these headers have beside them.
+MARK = "0.2.0 91604660266db0de"
 
 # The names of the statuses, by their numbers.
 STATUSES = [
@@ -50,3 +55,56 @@ FIELDS = {
     "mls_commit": ["proposals", "path"],
     "mls_proposal": ["proposal_type", "body"],
 }
+
+
+class MlsWireFormat(enum.IntEnum):
+    """The numbers of WireFormat that have names."""
+
+    PUBLIC_MESSAGE = 1
+    PRIVATE_MESSAGE = 2
+    WELCOME = 3
+    GROUP_INFO = 4
+    KEY_PACKAGE = 5
+
+
+class MlsSenderType(enum.IntEnum):
+    """The numbers of SenderType that have names."""
+
+    MEMBER = 1
+    EXTERNAL = 2
+    NEW_MEMBER_PROPOSAL = 3
+    NEW_MEMBER_COMMIT = 4
+
+
+class MlsContentType(enum.IntEnum):
+    """The numbers of ContentType that have names."""
+
+    APPLICATION = 1
+    PROPOSAL = 2
+    COMMIT = 3
+
+
+class Tls13HandshakeType(enum.IntEnum):
+    """The numbers of HandshakeType that have names."""
+
+    CLIENT_HELLO = 1
+    SERVER_HELLO = 2
+    NEW_SESSION_TICKET = 4
+    END_OF_EARLY_DATA = 5
+    ENCRYPTED_EXTENSIONS = 8
+    CERTIFICATE = 11
+    CERTIFICATE_REQUEST = 13
+    CERTIFICATE_VERIFY = 15
+    FINISHED = 20
+    KEY_UPDATE = 24
+    MESSAGE_HASH = 254
+
+
+class Tls13ContentType(enum.IntEnum):
+    """The numbers of ContentType that have names."""
+
+    CHANGE_CIPHER_SPEC = 20
+    ALERT = 21
+    HANDSHAKE = 22
+    APPLICATION_DATA = 23
+    HEARTBEAT = 24

@@ -1,6 +1,8 @@
-//! Finds the archives: in the folder that `TLS_CODEC_ARCHIVES` names, or in `c/out` of this repository.
+//! Finds the archives: in the folder that `TLS_CODEC_ARCHIVES` names, or in `c/out` of this repository. They have to be of the same headers.
 use std::path::PathBuf;
-use std::{env, process};
+use std::{env, fs, process};
+
+const MARK: &str = include_str!("tls_codec.version");
 
 fn main() {
     println!("cargo::rerun-if-env-changed=TLS_CODEC_ARCHIVES");
@@ -18,6 +20,13 @@ fn main() {
             eprintln!("{} is not there: tools/archives.py makes it", archive.display());
             process::exit(1);
         }
+    }
+    let mark = folder.join("tls_codec.version");
+    println!("cargo::rerun-if-changed={}", mark.display());
+    let found = fs::read_to_string(&mark).unwrap_or_default();
+    if found != MARK {
+        eprintln!("the archives are of {found:?}, and not of {MARK:?}: {}", mark.display());
+        process::exit(1);
     }
     println!("cargo::rustc-link-search=native={}", folder.display());
 }

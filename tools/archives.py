@@ -3,7 +3,7 @@
 
 They are built over the libraries that `rt ci` left in crates/*/out/rlib. Where some aren't there, `rt lib` first proves and builds all those
 below an archive, which takes longer. Beside them lies libtls_codec_heap.a, which decoders need: malloc and free by the names by which Rattle calls
-them. TARGET is x86_64-unknown-linux-gnu if none is given. For aarch64-unknown-linux-gnu the kit has no such heap.
+them; and tls_codec.version, by which a mix with headers of another commit is noticed. TARGET is x86_64-unknown-linux-gnu if none is given. For aarch64-unknown-linux-gnu the kit has no such heap.
 """
 from __future__ import annotations
 
@@ -14,6 +14,7 @@ import sys
 import tempfile
 
 sys.dont_write_bytecode = True
+import exports
 from libraries import CRATES, TOP, Libraries
 
 HEAP = "libtls_codec_heap.a"
@@ -77,17 +78,23 @@ def put_heap(libraries: Libraries, folder: pathlib.Path) -> None:
     shutil.copyfile(libraries.kit / "c" / "liblibc_c.a", folder / HEAP)
 
 
+def put_mark(folder: pathlib.Path) -> None:
+    (folder / exports.MARK).write_text(f"{exports.mark()}\n", encoding="utf-8")
+
+
 def main() -> int:
     folder = pathlib.Path(sys.argv[1]) if sys.argv[1:] else TOP / "c" / "out"
     folder.mkdir(parents=True, exist_ok=True)
     target = sys.argv[2] if sys.argv[2:] else TARGET
     libraries = Libraries()
+    (folder / exports.MARK).unlink(missing_ok=True)
     try:
         if target == TARGET:
             put_heap(libraries, folder)
         for crate in libraries.static:
             build(libraries, crate, folder, target)
             print(folder / f"lib{crate}.a", flush=True)
+        put_mark(folder)
     except (NotBuilt, OSError) as error:
         print(error)
         return 1

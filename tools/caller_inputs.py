@@ -1,11 +1,13 @@
-"""What test_callers tries beside the rows: a test vector of them, and the C of docs/CALLERS.md; and the calls that rows answer."""
+"""What test_callers tries beside the rows: a test vector of them, captured messages, and the C of docs/CALLERS.md; and the calls that rows answer."""
 from __future__ import annotations
 
 import pathlib
+import re
 
 from check_pages import NOT_QUOTED, blocks
-from libraries import ROWS, TOP
+from libraries import CRATES, ROWS, TOP
 
+CAPTURED = CRATES / "test_tls13" / "src" / "tests" / "captured"
 # A test vector's names, by python/vectors.py, and the row of each: its message, and what its hex begins with. Of a proposal this is left out.
 VECTOR = {
     "public_message_commit": ("mls_message", "00010001"),
@@ -20,15 +22,24 @@ VECTOR = {
     "remove_proposal": ("mls_proposal", "0003"),
     "pre_shared_key_proposal": ("mls_proposal", "0004"),
 }
+# What examples/sender.c prints of a public message, by what comes after its epoch: rows of `test_outcome`, and an external sender's proposal.
+SENT = {
+    "010000000202fbfc0102a1a201d101e1": "member 2\napplication data\nsignature of 1 bytes",
+    "020000000501fb0200030000000901e1": "external sender 5\nproposal\nsignature of 1 bytes",
+    "03000200030000000902d1d2": "new member, by a proposal\nproposal\nsignature of 2 bytes",
+    "040003000001d101e1": "new member, by a commit\ncommit\nsignature of 1 bytes",
+}
 # What the blocks of C in docs/CALLERS.md use.
 USED = """\
+#include <tls_codec/lengths.h>
 #include <tls_codec/mls.h>
-#include <tls_codec/tls_codec.h>
-extern const uint8_t *bytes, *key, *content, *context;
+extern const uint8_t *bytes, *key, *message, *content, *context;
 extern size_t length, content_length, context_length;
 extern mls_key_package_fields fields;
 void use(const uint8_t *bytes, size_t length);
+void use_extension(unsigned type, const uint8_t *data, size_t size);
 void sign_with_label(const uint8_t *key, const char *label, const uint8_t *bytes, size_t length);
+int verify_with_label(const uint8_t *key, const char *label, const uint8_t *bytes, size_t length, const uint8_t *signature, size_t signature_length);
 """
 
 
@@ -53,6 +64,44 @@ def vector() -> dict[str, str]:
         digits = next(it for other, it in whole if other == message and it.startswith(begin))
         found[name] = digits[len(begin) :] if message == "mls_proposal" else digits
     return found
+
+
+def captured() -> list[bytes]:
+    """All captured messages that TLS 1.3 has, which are each a whole Handshake."""
+    texts = [path.read_text(encoding="utf-8").partition("REFUSED")[0] for path in sorted(CAPTURED.glob("*.rt"))]
+    found = [digits for text in texts for digits in re.findall(r"digits: &\[(.*?)\]", text, re.S)]
+    return [bytes.fromhex("".join(re.findall(r'"([0-9a-f]+)"', digits))) for digits in found]
+
+
+def record(fragment: bytes, kind: int = 22) -> bytes:
+    """A TLSPlaintext, of a handshake."""
+    return bytes([kind, 3, 1, *len(fragment).to_bytes(2, "big")]) + fragment
+
+
+def extension_lines(message: bytes) -> str:
+    """What examples/hello.c prints of a ClientHello in a Handshake: its extensions come after three fields with lengths, and a length."""
+    number = lambda at, width: int.from_bytes(message[at : at + width], "big")
+    at, lines = 4 + 2 + 32, ""
+    for width in (1, 2, 1):
+        at += width + number(at, width)
+    at += 2
+    while at < len(message):
+        lines += f"extension {number(at, 2)}: {number(at + 2, 2)} bytes\n"
+        at += 4 + number(at + 2, 2)
+    return lines
+
+
+def hellos() -> list[tuple[bytes, str]]:
+    """Records, and what examples/hello.c prints: each captured ClientHello, in one record and over three, of which the last begins another
+    message; records that are cut short, of another type, empty or too long; and messages that are no ClientHello."""
+    whole = [it for it in captured() if it[0] == 1]
+    found = [(record(it), extension_lines(it)) for it in whole]
+    found += [(record(it[:2]) + record(it[2:90]) + record(it[90:] + it[:50]), extension_lines(it)) for it in whole]
+    it, long = whole[0], b"\1\0\xff\xfc" + bytes(16379)
+    cut = [b"", record(it)[:3], record(it)[:-1], record(it[:-1]), record(it[:3]), record(b"") + record(it), record(it, 23)]
+    cut += [record(it + bytes(16385 - len(it))), record(b"\1\1" + bytes(99)) * 2, record(long) + record(bytes(16383)) * 3 + record(bytes(16384))]
+    others = [it[:5] + b"\2" + it[6:], b"\2" + it[1:], b"\1\0\0\0", *[it for it in captured() if it[0] == 2]]
+    return found + [(it, "no whole message\n") for it in cut] + [(record(it), "no ClientHello\n") for it in others]
 
 
 def written_in_c() -> list[str]:

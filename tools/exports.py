@@ -3,12 +3,14 @@
 
 Each static library of crates.txt is read, each function that it exports, of `tls_codec_outcome` the struct and the numbers of the errors, and
 of the texts in crates/tlsgen/data a few enums. By these are written: c/include/tls_codec/*.h, c/tests/exports.inc, rust/src/exports.rs and
-python/tls_codec_exports.py; and by CHANGELOG.md the version in these and in the files of VERSIONED. The last line is
-'N passed, N failed', a file each, and the status is 1 if one failed.
+python/tls_codec_exports.py; and by CHANGELOG.md the version in these and in the files of VERSIONED. By the version and a sum of the headers
+callers in C and Rust (MARKS) and in Python find out whether archives are of other headers. The last line is 'N passed, N failed', a file
+each, and the status is 1 if one failed.
 """
 from __future__ import annotations
 
 import functools
+import hashlib
 import json
 import pathlib
 import re
@@ -16,14 +18,17 @@ import sys
 
 sys.dont_write_bytecode = True
 from exported import MEANINGS, WRITTEN, Unread, about, exports_of, libraries, numbers, structs, taken_by, type_in_c
-from exports_rust import exports_rust
+from exports_rust import MODULES, exports_rust
 from libraries import TOP
-from registries import enums_in_c
+from registries import enums_in_c, enums_in_python
 
 LONGEST = 100
 # The files written by hand that have the version too, and the line where it is.
 VERSIONED = ["rust/Cargo.toml", "c/tls_codec.pc.in", "c/tls_codec_check.pc.in"]
 VERSION_LINE = re.compile(r'^(version = "|Version: )[\d.]+', re.M)
+# The file beside archives that says which headers they are of, and those that it is compared with.
+MARK = "tls_codec.version"
+MARKS = ["c", "rust"]
 # What is written in C of an outcome, beside the declarations.
 WHOLE = """\
 /* The outcome if all of the bytes are to be used: if the encoding is accepted and bytes come after
@@ -37,8 +42,8 @@ static inline tls_codec_outcome tls_codec_whole(tls_codec_outcome outcome, size_
   return outcome;
 }
 
-/* The status of that outcome. */
-static inline uint32_t tls_codec_exactly(tls_codec_outcome outcome, size_t length) {
+/* The status of that outcome: 0, TLS_CODEC_ACCEPTED, if all of the bytes are used. */
+static inline uint32_t tls_codec_whole_status(tls_codec_outcome outcome, size_t length) {
   return tls_codec_whole(outcome, length).status;
 }
 """.split("\n")
@@ -118,7 +123,7 @@ def header(crate: str) -> str:
         body += ["", *struct_in_c(it)] if it in taken and structs()[it].crate != "tls_codec_outcome" else []
     for it in exports_of(crate):
         body += ["", *comment(it.in_c()), it.prototype()]
-    return guarded(name, crate, [*body, "", "#ifdef __cplusplus", "}", "#endif"])
+    return guarded(MODULES.get(name, name), crate, [*body, "", "#ifdef __cplusplus", "}", "#endif"])
 
 
 def table() -> str:
@@ -144,20 +149,32 @@ def located_fields() -> dict[str, list[str]]:
 
 def exports_python() -> str:
     """The names that the module of python/ has from here."""
-    lines = [f'"""{WRITTEN}. Don\'t edit."""', "", "# The version, by CHANGELOG.md.", f'VERSION = "{version()}"', ""]
+    lines = [f'"""{WRITTEN}. Don\'t edit."""', "", "import enum", "", "# The version, by CHANGELOG.md.", f'VERSION = "{version()}"', ""]
+    lines += ["# What archives of this version and these headers have beside them.", f'MARK = "{mark()}"', ""]
     lines += ["# The names of the statuses, by their numbers.", "STATUSES = ["]
     lines += [f'    "{name}",' for name in ("Accepted", *[name for name, _, _ in numbers()])]
     lines += ["]", "", "# What `NAME_locate` fills, in this order, by NAME.", "FIELDS = {"]
     lines += [f'    "{message}": {json.dumps(names)},' for message, names in located_fields().items()]
-    return "\n".join([*lines, "}", ""])
+    return "\n".join([*lines, "}", *enums_in_python(), ""])
+
+
+def headers() -> dict[pathlib.Path, str]:
+    include = TOP / "c" / "include" / "tls_codec"
+    names = {it: it.removesuffix("_c") for it in libraries()}
+    found = {include / f"{MODULES.get(name, name)}.h": header(it) for it, name in names.items()}
+    return {include / "outcome.h": outcome_header(), **found}
+
+
+@functools.cache
+def mark() -> str:
+    """The version, and a sum of the headers."""
+    return f"{version()} {hashlib.sha256(''.join(headers().values()).encode()).hexdigest()[:16]}"
 
 
 def files() -> dict[pathlib.Path, str]:
-    include = TOP / "c" / "include" / "tls_codec"
-    headers = {include / f"{it.removesuffix('_c')}.h": header(it) for it in libraries()}
-    others = {include / "outcome.h": outcome_header(), TOP / "c" / "tests" / "exports.inc": table()}
+    others = {TOP / "c" / "tests" / "exports.inc": table(), **{TOP / it / MARK: f"{mark()}\n" for it in MARKS}}
     modules = {TOP / "rust" / "src" / "exports.rs": exports_rust(), TOP / "python" / "tls_codec_exports.py": exports_python()}
-    return {**headers, **others, **modules, **versioned()}
+    return {**headers(), **others, **modules, **versioned()}
 
 
 def main() -> int:

@@ -2,8 +2,10 @@
 from __future__ import annotations
 
 from exported import MEANINGS, WRITTEN, Export, Unread, about, decoders, exports_of, libraries, numbers, structs, taken_by
+from registries import enums_in_rust
 
-# Modules of the Rust crate that have another name than their library: a caller may use the crate `tls_codec` of crates.io too.
+# Headers of C and modules of the Rust crate that have another name than their library: it is no main header, and a caller may use the crate
+# `tls_codec` of crates.io too.
 MODULES = {"tls_codec": "lengths"}
 SAFE = "the pointer and the length are of one slice, nothing changes it during the call, and the call keeps no pointer."
 # How many bytes an encoder writes beside its parts: of a FramedContentTBS the version and the wire format.
@@ -107,7 +109,7 @@ def module_in_rust(crate: str) -> list[str]:
         body += [f"        {line}" for line in struct_in_rust(it)] + [""]
     body += [f'        #[link(name = "{crate}", kind = "static")]', '        unsafe extern "C" {']
     body += [f"            {it.declaration()}" for it in exports]
-    body += ["        }", "    }"]
+    body += ["        }", "    }", *enums_in_rust(name)]
     for it in whole:
         short = it.name.removesuffix("_validate").removeprefix(f"{name}_")
         body += ["", f"    /// {it.message()}: returns the bytes of the one that `bytes` begin with, and the rest."]

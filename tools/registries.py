@@ -1,4 +1,4 @@
-"""The enums whose numbers have names in the headers, read from the texts and notes in crates/tlsgen/data."""
+"""The enums whose numbers have names in C, Rust and Python, read from the texts and notes in crates/tlsgen/data."""
 from __future__ import annotations
 
 import re
@@ -7,7 +7,11 @@ from libraries import CRATES
 from presentation import Parser, name_of
 
 DATA = CRATES / "tlsgen" / "data"
-ENUMS = {"mls": ["WireFormat", "SenderType", "ContentType"], "tls13": ["HandshakeType", "ContentType"]}
+# The enums of each library, and the types of their numbers.
+ENUMS = {
+    "mls": {"WireFormat": "u16", "SenderType": "u8", "ContentType": "u8"},
+    "tls13": {"HandshakeType": "u8", "ContentType": "u8"},
+}
 UNUSED = re.compile(r"reserved|invalid|.*_RESERVED")
 
 
@@ -20,13 +24,44 @@ def numbers(text: str, enum: str) -> dict[str, int]:
     return {path.removeprefix(f"{enum}."): number for path, number in pairs if path.startswith(f"{enum}.")}
 
 
+def named(library: str, enum: str) -> dict[str, int]:
+    """The same for callers: mls_public_message of the text is PUBLIC_MESSAGE."""
+    found = {it.removeprefix(f"{library}_").upper(): number for it, number in numbers(library, enum).items()}
+    if not found:
+        raise LookupError(f"the texts of {library} have no numbers of {enum}")
+    return found
+
+
+def snake(enum: str) -> str:
+    """`WireFormat` as `wire_format`."""
+    return re.sub(r"(?<=[a-z])(?=[A-Z])", "_", enum).lower()
+
+
 def enums_in_c(library: str) -> list[str]:
-    """`WireFormat` of MLS as `enum mls_wire_format`, with MLS_WIRE_FORMAT_PUBLIC_MESSAGE, by the name mls_public_message in the text."""
+    """`WireFormat` of MLS as `enum mls_wire_format`, with MLS_WIRE_FORMAT_PUBLIC_MESSAGE."""
     lines = []
-    for enum in ENUMS.get(library, []):
-        name = library + re.sub(r"(?=[A-Z])", "_", enum).lower()
-        if not numbers(library, enum):
-            raise LookupError(f"the texts of {library} have no numbers of {enum}")
-        named = [f"  {name}_{it.removeprefix(f'{library}_')}".upper() + f" = {number}" for it, number in numbers(library, enum).items()]
-        lines += ["", f"/* The numbers of {enum} that have names. */", f"enum {name} {{", ",\n".join(named), "};"]
+    for enum in ENUMS.get(library, {}):
+        name = f"{library}_{snake(enum)}"
+        values = [f"  {name.upper()}_{it} = {number}" for it, number in named(library, enum).items()]
+        lines += ["", f"/* The numbers of {enum} that have names. */", f"enum {name} {{", ",\n".join(values), "};"]
+    return lines
+
+
+def enums_in_rust(library: str) -> list[str]:
+    """The same as `wire_format::PUBLIC_MESSAGE`, in the module of MLS."""
+    lines = []
+    for enum, kind in ENUMS.get(library, {}).items():
+        lines += ["", f"    /// The numbers of `{enum}` that have names.", f"    pub mod {snake(enum)} {{"]
+        for it, number in named(library, enum).items():
+            lines += [f"        /// The number of `{it.lower()}`.", f"        pub const {it}: {kind} = {number};"]
+        lines.append("    }")
+    return lines
+
+
+def enums_in_python() -> list[str]:
+    """The same as `MlsWireFormat.PUBLIC_MESSAGE`."""
+    lines = []
+    for library, enum in [(library, enum) for library, enums in ENUMS.items() for enum in enums]:
+        lines += ["", "", f"class {library.capitalize()}{enum}(enum.IntEnum):", f'    """The numbers of {enum} that have names."""', ""]
+        lines += [f"    {it} = {number}" for it, number in named(library, enum).items()]
     return lines

@@ -4,8 +4,8 @@
  * A part is located in the span of the part around it. Offsets count from the pointer that the call was given. */
 #include <inttypes.h>
 #include <stdio.h>
+#include <tls_codec/lengths.h>
 #include <tls_codec/mls.h>
-#include <tls_codec/tls_codec.h>
 
 static const char *const kinds[] = {
     [MLS_WIRE_FORMAT_PUBLIC_MESSAGE] = "public message",

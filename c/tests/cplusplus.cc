@@ -1,5 +1,5 @@
 // The headers in C++: each in any order, and called.
-#include <tls_codec/tls_codec.h>
+#include <tls_codec/lengths.h>
 #include <tls_codec/tls13_check.h>
 #include <tls_codec/mls_check.h>
 #include <tls_codec/tls13.h>
@@ -25,8 +25,8 @@ int main() {
   const bool is_well = is_alert && is_content && is_kept && outcome.status == TLS_CODEC_END_OF_STREAM && outcome.at == 2 && one.taken == 1 &&
                        decoded.status == TLS_CODEC_END_OF_STREAM && decoded.at == 0 &&
                        none.status == TLS_CODEC_END_OF_STREAM &&
-                       tls_codec_exactly(one, sizeof varint) == TLS_CODEC_TRAILING_DATA &&
-                       tls_codec_exactly(one, 1) == TLS_CODEC_ACCEPTED && tls_codec_whole(one, sizeof varint).at == 1 &&
+                       tls_codec_whole_status(one, sizeof varint) == TLS_CODEC_TRAILING_DATA &&
+                       tls_codec_whole_status(one, 1) == TLS_CODEC_ACCEPTED && tls_codec_whole(one, sizeof varint).at == 1 &&
                        tls_codec_whole(one, sizeof varint).taken == 0 && tls_codec_whole(one, 1).taken == 1 &&
                        tls_codec_whole(outcome, sizeof suite).at == 2 &&
                        std::strcmp(tls_codec_status_name(none.status), "EndOfStream") == 0;

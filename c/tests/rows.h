@@ -6,11 +6,11 @@
 #include <stdio.h>
 #include <stdlib.h>
 #include <string.h>
+#include <tls_codec/lengths.h>
 #include <tls_codec/mls.h>
 #include <tls_codec/mls_check.h>
 #include <tls_codec/tls13.h>
 #include <tls_codec/tls13_check.h>
-#include <tls_codec/tls_codec.h>
 
 typedef tls_codec_outcome message_call(const uint8_t *bytes, size_t length);
 

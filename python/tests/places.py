@@ -7,6 +7,7 @@ import sys
 sys.dont_write_bytecode = True
 sys.path.insert(0, str(pathlib.Path(__file__).resolve().parent.parent))
 from tls_codec import Codec, Rejected
+from tls_codec_exports import MlsWireFormat, Tls13HandshakeType
 
 
 def found(codec: Codec, name: str, data: bytes) -> tuple[list[bytes] | int, tuple[int, int, int]]:
@@ -41,8 +42,17 @@ def wanted(name: str, data: bytes, expected: str, filled: str) -> tuple[list[byt
     return [data[offset : offset + size] for offset, size in places], (status, at, detail) if is_rejected else (0, 0, 0)
 
 
+def are_kinds_named(codec: Codec) -> bool:
+    """Whether a private message and a key update have their kinds."""
+    message = bytes.fromhex("0001000201fa0000000000000007010001a102a2a3")
+    handshake = codec.fields("tls13_handshake", bytes([24, 0, 0, 1, 1]))
+    is_private = codec.message_kind(message) is MlsWireFormat.PRIVATE_MESSAGE
+    return is_private and handshake["msg_type"] == bytes([Tls13HandshakeType.KEY_UPDATE])
+
+
 def main() -> int:
-    codec, failed = Codec(sys.argv[1]), 0
+    codec = Codec(sys.argv[1])
+    failed = [are_kinds_named(codec)].count(False)
     with open(sys.argv[2], encoding="utf-8") as file:
         rows = [line.rstrip("\n").split("\t") for line in file]
     for name, digits, expected, filled in rows:

@@ -269,6 +269,46 @@ pub mod tls13 {
         }
     }
 
+    /// The numbers of `HandshakeType` that have names.
+    pub mod handshake_type {
+        /// The number of `client_hello`.
+        pub const CLIENT_HELLO: u8 = 1;
+        /// The number of `server_hello`.
+        pub const SERVER_HELLO: u8 = 2;
+        /// The number of `new_session_ticket`.
+        pub const NEW_SESSION_TICKET: u8 = 4;
+        /// The number of `end_of_early_data`.
+        pub const END_OF_EARLY_DATA: u8 = 5;
+        /// The number of `encrypted_extensions`.
+        pub const ENCRYPTED_EXTENSIONS: u8 = 8;
+        /// The number of `certificate`.
+        pub const CERTIFICATE: u8 = 11;
+        /// The number of `certificate_request`.
+        pub const CERTIFICATE_REQUEST: u8 = 13;
+        /// The number of `certificate_verify`.
+        pub const CERTIFICATE_VERIFY: u8 = 15;
+        /// The number of `finished`.
+        pub const FINISHED: u8 = 20;
+        /// The number of `key_update`.
+        pub const KEY_UPDATE: u8 = 24;
+        /// The number of `message_hash`.
+        pub const MESSAGE_HASH: u8 = 254;
+    }
+
+    /// The numbers of `ContentType` that have names.
+    pub mod content_type {
+        /// The number of `change_cipher_spec`.
+        pub const CHANGE_CIPHER_SPEC: u8 = 20;
+        /// The number of `alert`.
+        pub const ALERT: u8 = 21;
+        /// The number of `handshake`.
+        pub const HANDSHAKE: u8 = 22;
+        /// The number of `application_data`.
+        pub const APPLICATION_DATA: u8 = 23;
+        /// The number of `heartbeat`.
+        pub const HEARTBEAT: u8 = 24;
+    }
+
     /// `TLSPlaintext` (RFC 8446, section 5.1): returns the bytes of the one that `bytes` begin with, and the rest.
     pub fn tls_plaintext(bytes: &[u8]) -> Result<(&[u8], &[u8]), Rejected> {
         split(bytes, foreign::tls13_tls_plaintext_validate)
@@ -906,6 +946,42 @@ pub mod mls {
             pub fn mls_ratchet_tree_validate(bytes: *const u8, length: usize) -> Outcome;
             pub fn mls_framed_content_tbs_encode(wire_format: u16, content: *const u8, content_length: usize, context: *const u8, context_length: usize, out: *mut u8, out_length: usize) -> Outcome;
         }
+    }
+
+    /// The numbers of `WireFormat` that have names.
+    pub mod wire_format {
+        /// The number of `public_message`.
+        pub const PUBLIC_MESSAGE: u16 = 1;
+        /// The number of `private_message`.
+        pub const PRIVATE_MESSAGE: u16 = 2;
+        /// The number of `welcome`.
+        pub const WELCOME: u16 = 3;
+        /// The number of `group_info`.
+        pub const GROUP_INFO: u16 = 4;
+        /// The number of `key_package`.
+        pub const KEY_PACKAGE: u16 = 5;
+    }
+
+    /// The numbers of `SenderType` that have names.
+    pub mod sender_type {
+        /// The number of `member`.
+        pub const MEMBER: u8 = 1;
+        /// The number of `external`.
+        pub const EXTERNAL: u8 = 2;
+        /// The number of `new_member_proposal`.
+        pub const NEW_MEMBER_PROPOSAL: u8 = 3;
+        /// The number of `new_member_commit`.
+        pub const NEW_MEMBER_COMMIT: u8 = 4;
+    }
+
+    /// The numbers of `ContentType` that have names.
+    pub mod content_type {
+        /// The number of `application`.
+        pub const APPLICATION: u8 = 1;
+        /// The number of `proposal`.
+        pub const PROPOSAL: u8 = 2;
+        /// The number of `commit`.
+        pub const COMMIT: u8 = 3;
     }
 
     /// `MLSMessage` (RFC 9420, section 6): returns the bytes of the one that `bytes` begin with, and the rest.

@@ -177,6 +177,14 @@ fn each_field_of_mls_is_found() {
 }
 
 #[test]
+fn kinds_have_names() {
+    let message = bytes_of("0001000201fa0000000000000007010001a102a2a3");
+    assert_eq!(mls::message_kind(&message), Ok((mls::wire_format::PRIVATE_MESSAGE, &[][..])));
+    let (handshake, _) = tls13::handshake_locate(&[24, 0, 0, 1, 1]).expect("a key update");
+    assert_eq!(handshake.msg_type, [tls13::handshake_type::KEY_UPDATE]);
+}
+
+#[test]
 fn each_length_is_found() {
     let lines = lines_of("c/tests/lengths.tsv");
     lines.iter().for_each(|it| Row::of(it).has_its_outcome());

@@ -71,7 +71,7 @@ fn fields_are_slices() {
     let (found, rest) = mls::private_message_locate(&message).expect("a message");
     assert_eq!(found.group_id, [0xfa]);
     assert_eq!(found.epoch, 7u64.to_be_bytes());
-    assert_eq!(found.content_type, [1]);
+    assert_eq!(found.content_type, [mls::content_type::APPLICATION]);
     assert!(found.authenticated_data.is_empty());
     assert_eq!(found.encrypted_sender_data, [0xa1]);
     assert_eq!(found.ciphertext, [0xa2, 0xa3]);

@@ -67,8 +67,8 @@ static inline tls_codec_outcome tls_codec_whole(tls_codec_outcome outcome, size_
   return outcome;
 }
 
-/* The status of that outcome. */
-static inline uint32_t tls_codec_exactly(tls_codec_outcome outcome, size_t length) {
+/* The status of that outcome: 0, TLS_CODEC_ACCEPTED, if all of the bytes are used. */
+static inline uint32_t tls_codec_whole_status(tls_codec_outcome outcome, size_t length) {
   return tls_codec_whole(outcome, length).status;
 }
 

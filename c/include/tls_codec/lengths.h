@@ -1,6 +1,6 @@
 /* Written by tools/exports.py from crates/tls_codec_c/src. Don't edit. */
-#ifndef TLS_CODEC_TLS_CODEC_H
-#define TLS_CODEC_TLS_CODEC_H
+#ifndef TLS_CODEC_LENGTHS_H
+#define TLS_CODEC_LENGTHS_H
 
 /* Checks without allocation whether bytes begin with a variable-length integer, or with bytes after
    a length. */
