@@ -96,6 +96,8 @@ def module_in_rust(crate: str) -> list[str]:
     kinds = [it for it in exports if it.name.endswith("_kind")]
     lists = [it for it in exports if it.name.endswith("_next")]
     encoders = [it for it in exports if it.name.endswith("_encode")]
+    if len(whole + located + kinds + encoders + lists) != len(exports):
+        raise Unread(f"{crate}: an export of no kind that Rust has a function for")
     used = ["Rejected", "split", *(["split_as"] if located else [])]
     if len(taken) < len(located) and not taken:
         used.insert(1, "Span")

@@ -19,5 +19,5 @@ int main(void) {
     fprintf(stderr, " at byte %zu of %zu\n", outcome.at, length);
     return 1;
   }
-  return fwrite(bytes, 1, length, stdout) != length;
+  return fwrite(bytes, 1, length, stdout) != length || fflush(stdout) != 0;
 }

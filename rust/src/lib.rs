@@ -22,11 +22,12 @@
 #![no_std]
 #![deny(missing_docs)]
 
+#[rustfmt::skip]
 mod exports;
 
 use core::fmt;
-use exports::{Outcome, Span};
 pub use exports::{Error, lengths, mls, tls13};
+use exports::{Outcome, Span};
 #[cfg(feature = "check")]
 pub use exports::{mls_check, tls13_check};
 
@@ -54,19 +55,13 @@ impl core::error::Error for Rejected {}
 pub fn exactly<'a>(found: Result<(&'a [u8], &'a [u8]), Rejected>) -> Result<&'a [u8], Rejected> {
     let (message, rest) = found?;
     if !rest.is_empty() {
-        return Err(Rejected {
-            error: Error::TrailingData,
-            at: message.len(),
-        });
+        return Err(Rejected { error: Error::TrailingData, at: message.len() });
     }
     Ok(message)
 }
 
 /// What a call says of bytes.
-fn split(
-    bytes: &[u8],
-    call: unsafe extern "C" fn(*const u8, usize) -> Outcome,
-) -> Result<(&[u8], &[u8]), Rejected> {
+fn split(bytes: &[u8], call: unsafe extern "C" fn(*const u8, usize) -> Outcome) -> Result<(&[u8], &[u8]), Rejected> {
     // SAFETY: the pointer and the length are of one slice, nothing changes it during the call, and the call keeps no pointer.
     let outcome = unsafe { call(bytes.as_ptr(), bytes.len()) };
     split_as(bytes, outcome)
@@ -74,20 +69,14 @@ fn split(
 
 /// What a decoder says of bytes, without a position.
 #[cfg(feature = "check")]
-fn decode(
-    bytes: &[u8],
-    check: unsafe extern "C" fn(*const u8, usize) -> Outcome,
-) -> Result<(&[u8], &[u8]), Error> {
+fn decode(bytes: &[u8], check: unsafe extern "C" fn(*const u8, usize) -> Outcome) -> Result<(&[u8], &[u8]), Error> {
     split(bytes, check).map_err(|it| it.error)
 }
 
 /// The bytes as a call says that they are to be split.
 fn split_as(bytes: &[u8], outcome: Outcome) -> Result<(&[u8], &[u8]), Rejected> {
     if outcome.status != 0 {
-        return Err(Rejected {
-            error: Error::of(&outcome),
-            at: outcome.at,
-        });
+        return Err(Rejected { error: Error::of(&outcome), at: outcome.at });
     }
     Ok(bytes.split_at(outcome.taken))
 }
@@ -120,10 +109,7 @@ pub struct Elements<'a> {
 
 impl<'a> Elements<'a> {
     fn of(content: &'a [u8], next: Next) -> Elements<'a> {
-        let left = Span {
-            offset: 0,
-            size: content.len(),
-        };
+        let left = Span { offset: 0, size: content.len() };
         Elements { content, left, next }
     }
 }
@@ -138,15 +124,10 @@ impl<'a> Iterator for Elements<'a> {
         let from = self.left.offset;
         let mut element = Span::default();
         // SAFETY: the pointer and the length are of one slice, nothing changes it during the call, and the call keeps no pointer.
-        let outcome = unsafe {
-            (self.next)(self.content.as_ptr(), self.content.len(), &mut self.left, &mut element)
-        };
+        let outcome = unsafe { (self.next)(self.content.as_ptr(), self.content.len(), &mut self.left, &mut element) };
         if outcome.status != 0 {
             self.left.size = 0;
-            return Some(Err(Rejected {
-                error: Error::of(&outcome),
-                at: from + outcome.at,
-            }));
+            return Some(Err(Rejected { error: Error::of(&outcome), at: from + outcome.at }));
         }
         Some(Ok(element.of(self.content)))
     }
