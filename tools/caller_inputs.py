@@ -7,6 +7,7 @@ import re
 from check_pages import NOT_QUOTED, blocks
 from libraries import CRATES, ROWS, TOP
 
+PAGE = TOP / "docs" / "CALLERS.md"
 CAPTURED = CRATES / "test_tls13" / "src" / "tests" / "captured"
 # A test vector's names, by python/vectors.py, and the row of each: its message, and what its hex begins with. Of a proposal this is left out.
 VECTOR = {
@@ -106,10 +107,15 @@ def hellos() -> list[tuple[bytes, str]]:
 
 def written_in_c() -> list[str]:
     """The blocks of C in docs/CALLERS.md that are no quotes, each as a function's definition."""
-    lines = (TOP / "docs" / "CALLERS.md").read_text(encoding="utf-8").split("\n")
+    lines = PAGE.read_text(encoding="utf-8").split("\n")
     found = []
     for words, kind, block in blocks(lines):
         if kind == "c" and NOT_QUOTED.fullmatch(next(it for it in reversed(words) if it)):
             body = "\n".join(f"    {line}" for _, line in block)
             found.append(f"int block_{len(found)}(void);\nint block_{len(found)}(void) {{\n  {{\n{body}\n  }}\n  return 1;\n}}\n")
     return found
+
+
+def statuses_of(path: pathlib.Path) -> list[str]:
+    """The numbers of the statuses that a page or a header has."""
+    return sorted(set(re.findall(r"TLS_CODEC_\w+ = \d+", path.read_text(encoding="utf-8"))))
