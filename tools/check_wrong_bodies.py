@@ -27,7 +27,7 @@ WITHOUT = TOP / "tools/without_wrong_bodies.txt"
 
 
 def excepted() -> set[str]:
-    """The paths in WITHOUT, each of which has a reason."""
+    """The paths in WITHOUT that have a reason."""
     lines = [line.partition("  ") for line in WITHOUT.read_text().split("\n") if line and not line.startswith("#")]
     return {path for path, _, reason in lines if reason.strip()}
 

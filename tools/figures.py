@@ -11,12 +11,19 @@ import pathlib
 import re
 from collections.abc import Callable
 
+import refusals
+
 TOP = pathlib.Path(__file__).resolve().parent.parent
 CRATES = TOP / "crates"
 REFUSALS = TOP / "docs/REFUSALS.md"
 WORDS = {"nine": 9, "ten": 10, "eleven": 11, "twelve": 12}
 EXPLAINED = "# The inputs that `docs/REFUSALS.md` explains.\n"
 OUTCOMES = ("crates/test_outcome/stdout", "c/tests/tls13.tsv")
+
+
+def lines(*files: str) -> Callable[[], int]:
+    """How many lines these files have."""
+    return lambda: sum((TOP / file).read_text().count("\n") for file in files)
 
 
 def rows(*files: str) -> Callable[[], int]:
@@ -34,11 +41,14 @@ def first(file: str) -> Callable[[], int]:
     return lambda: int((TOP / file).read_text().split()[0])
 
 
+PRESENTED = [f"crates/tls_presentation/specs/{it}.antt" for it in ("Definition", "Printed", "Cut", "Meaning", "Says")]
 # A page, the place of a figure in it, and what it counts.
 FIGURES = [
     *((page, r"([\d,]+) inputs of `(?:tlsview|test_rows)`", rows("crates/test_rows/stdout")) for page in ("README.md", "docs/PROVED.md")),
     ("CONTRIBUTING.md", r"test_rows' ([\d,]+) answers", rows("crates/test_rows/stdout")),
     ("docs/PROVED.md", r"each of the (\d+) requests of `test_memory`", first("crates/test_memory/stdout")),
+    ("docs/PROVED.md", r"and (\d+) refusals in them, by hand", lambda: len(refusals.REFUSALS)),
+    ("docs/MESSAGES.md", r"five files of (\d+) lines and what they use", lines(*PRESENTED)),
     ("docs/CALLERS.md", r"(\d+) inputs of the \d+ messages", rows(*OUTCOMES)),
     ("docs/CALLERS.md", r"\d+ inputs of the (\d+) messages", names(*OUTCOMES)),
     ("docs/CALLERS.md", r"for (\d+) messages of MLS", names(OUTCOMES[0])),
@@ -65,9 +75,9 @@ def figure_findings() -> tuple[list[str], int]:
 
 def table(section: str) -> list[list[str]]:
     """The rows of the first table of a section of docs/REFUSALS.md, as cells."""
-    text = REFUSALS.read_text().split(f"\n## {section}\n")[1].split("\n## ")[0]
-    lines = [line for line in text.split("\n") if line.startswith("|")][2:]
-    return [[cell.strip() for cell in line.strip("|").split(" | ")] for line in lines]
+    text = REFUSALS.read_text().partition(f"\n## {section}\n")[2].split("\n## ")[0]
+    listed = [line for line in text.split("\n") if line.startswith("|")][2:]
+    return [[cell.strip() for cell in line.strip("|").split(" | ")] for line in listed]
 
 
 def answers_of(answer: str) -> tuple[str, str]:

@@ -1,6 +1,6 @@
 #!/usr/bin/env python3
 """write_laws.py [--compare] CRATE TEXT [OVER..]: writes crates/CRATE_laws, which says of each type of the written crate CRATE what its text
-crates/tlsgen/data/TEXT.tls means; OVER are the texts that it stands on, as CRATE=TEXT. With --compare it writes nothing, and prints which
+crates/tlsgen/data/TEXT.tls means; OVER are the texts below it, as CRATE=TEXT. With --compare it writes nothing, and prints which
 files aren't as it would write them, except for blanks and the order of imports.
 
 What it writes is proved as any other crate, and compared with the text and the crate by tools/check_laws.py: nothing rests on this program.
