@@ -112,4 +112,5 @@ def main():
     table(own, crate)
 
 
-main()
+if __name__ == "__main__":
+    main()

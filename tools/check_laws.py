@@ -1,14 +1,16 @@
 #!/usr/bin/env python3
 """What the prover can't see of the crates of laws (crates/*_laws): their quoted lines are those of the texts, each type of a written crate
-has its laws, under its own name in the text, and each name that is called is that of the field which is viewed.
+has its laws, under its own name in the text, and each name that is called is that of the field which is viewed. And the crates are what
+write_laws.py writes, except for blanks and the order of imports.
 
-For each crate a line says so, or what isn't so.
+For each crate a line says so, or what isn't so, and another one compares it with what write_laws.py writes.
 """
 import re
 import sys
 
 sys.dont_write_bytecode = True
-from libraries import CRATES, TEXTS
+from libraries import CRATES, TEXTS, Libraries
+from write_laws import differences
 
 DATA = CRATES / "tlsgen" / "data"
 
@@ -149,14 +151,25 @@ def faults_of(crate, text):
                 yield f"{page.stem}: {fault}"
 
 
-def main():
-    failed = 0
+def unlike(crate: str, text: str) -> list[str]:
+    """What isn't as write_laws.py writes it, of a crate whose text is over those of the crates that it uses."""
+    over = [it for it in Libraries().uses[crate] if it in TEXTS]
+    return [f"{it} isn't as tools/write_laws.py writes it" for it in differences(crate, text, over)]
+
+
+def reported(crate: str, faults: list[str], otherwise: str) -> bool:
+    """Prints the faults of a crate of laws, or the other words. Returns whether there are none."""
+    print(f"{crate}_laws: " + ("; ".join(faults) or otherwise))
+    return not faults
+
+
+def main() -> None:
+    passed = 0
     for crate, text in TEXTS.items():
-        faults = list(faults_of(crate, text))
-        failed += bool(faults)
-        print(f"{crate}_laws: " + ("; ".join(faults) if faults else f"the lines of {text}.tls, and each type under its names"))
-    print(f"{len(TEXTS) - failed} passed, {failed} failed")
-    sys.exit(failed > 0)
+        passed += reported(crate, list(faults_of(crate, text)), f"the lines of {text}.tls, and each type under its names")
+        passed += reported(crate, unlike(crate, text), "what tools/write_laws.py writes")
+    print(f"{passed} passed, {2 * len(TEXTS) - passed} failed")
+    sys.exit(passed < 2 * len(TEXTS))
 
 
 if __name__ == "__main__":

@@ -2,8 +2,8 @@
 """Compares the pages with the crates: those at the top and docs/*.md.
 
 - A block of code has to occur, line by line and in order, in the file that the words before it name
-  (`src/leaf.rt`, `specs/Messages.antt`), or, if they name none, in one file under crates/. Space at both ends of a
-  line doesn't count; c/, python/ and rust/ are read as crates/ is. A block is no quote if it is `console`, or after a line <!-- not quoted --> or <!-- file: PATH -->.
+  (`src/leaf.rt`, `specs/Messages.antt`), or, if they name none, in one file under crates/. From a function's head it leaves out no
+  clause after a line that it quotes. Space at both ends of a line doesn't count; c/, python/ and rust/ are read as crates/ is. A block is no quote if it is `console`, or after a line <!-- not quoted --> or <!-- file: PATH -->.
 - A link that isn't of another site has to lead to a file of the repository, and to a heading of it.
 - A name in `code` that is a path under crates/, docs/, tools/ or .ci/, or has an underscore in it, has to occur in the repository;
   names of what was before, in CHANGELOG.md, and a few of elsewhere don't.
@@ -30,7 +30,9 @@ NOT_QUOTED = re.compile(r"<!-- (?:not quoted|file: \S+) -->")
 LINK = re.compile(r"\]\(([^()\s]+)\)")
 CODE = re.compile(r"`([^`]+)`")
 ELSEWHERE = {"conditionally_deserializable", "from_iter", "read_to_end"}
-NAMED = re.compile(r"`((?:src|specs|proofs|must-fail|wrong)/[\w/.-]+|(?:stdin|stdout|crates\.txt))`")
+NAMED = re.compile(r"`((?:src|specs|proofs|must-fail|wrong)/[\w/.-]+|(?:stdin|stdout))`")
+HEAD = re.compile(r"(?:pub )?(?:final )?(?:const |unsafe )*fn ")
+CLAUSES = ("requires", "ensures")
 
 
 def sources():
@@ -46,15 +48,31 @@ def sources():
     return files
 
 
-def first_missing(quote, lines):
-    """The first line of a quote that doesn't come in its turn, as (number, line), or None."""
-    at = 0
+def clause_after(lines: list[str], at: int) -> int | None:
+    """The place of the next clause, if a function's head goes on from this line to it."""
+    for place in range(at, len(lines)):
+        line = lines[place]
+        if line.startswith(CLAUSES):
+            return place
+        if not line or line.startswith(("//", "{", "}")) or line.endswith((";", "{", "{}")) or HEAD.match(line):
+            return None
+    return None
+
+
+def fault_of(quote: list[tuple[int, str]], lines: list[str]) -> tuple[int, str, str] | None:
+    """The first line of a quote that doesn't come in its turn, or is before a clause that it drops: (number, what is wrong, line), or None."""
+    places: list[int] = []
     for number, line in quote:
+        at = places[-1] + 1 if places else 0
         while at < len(lines) and lines[at] != line:
             at += 1
         if at == len(lines):
-            return number, line
-        at += 1
+            return number, "not in", line
+        places.append(at)
+    for (number, _), place in zip(quote, places):
+        clause = clause_after(lines, place + 1)
+        if clause is not None and clause not in places:
+            return number, "drops a clause of", lines[clause]
     return None
 
 
@@ -110,10 +128,13 @@ def check_quotes(lines, files):
         names = NAMED.findall(("" if start is None else before[start] + "\n") + tail)
         name = names[-1] if names else None
         heard = [path for path in files if name and path.endswith("/" + name)]
-        missing = [first_missing(quote, files[path]) for path in heard or files]
-        if all(missing):
-            number, line = max(missing)
-            yield number, f"not in {name if heard else 'one file under crates/'}: {line}"
+        if name and not heard:
+            yield quote[0][0], f"no such file: {name}"
+            continue
+        faults = [fault_of(quote, files[path]) for path in heard or files]
+        if all(faults):
+            number, fault, line = max(faults)
+            yield number, f"{fault} {name or 'one file under crates/'}: {line}"
 
 
 def check_links(page, lines):

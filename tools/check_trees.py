@@ -13,10 +13,8 @@ sys.dont_write_bytecode = True
 from libraries import CRATES
 from message_reader import PROTOCOLS, Reader, Refused, Text, counted
 from presentation import Parser, name_of
-from refusals import REFUSALS
+from refusals import REFUSALS, UNREAD
 
-# inputs of which nothing is shown
-UNREAD = ("several_types", "unknown_type", "wrong_digit", "odd_digits", "no_file")
 # outputs that are no tree
 BY_HAND = ("help", "version")
 

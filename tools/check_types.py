@@ -6,22 +6,26 @@ that has a decoder has a line of names for it, and each that has `PartialEq` a l
 stands under the generic type that it names. Types that a context decides stand in `contexts.rt`, and are held to the traits in a context
 too: such a type has no format but one for each context, so its line is one of `SameFormat` and not of `Means`. Each that has a decoder
 from a slice, and each of `tls_codec_cases`, is validated by an impl in `tls_codec_validate`, without a context or in one.
-Each has a row in docs/API.md, with its crate and its traits, and so have the types of std that `tls_codec_base` gives them to.
+Each has a row in docs/API.md, with its crate and its traits, and so have the types of std that `tls_codec_base` gives them to;
+each name there is such a type's.
 Each variant of `Error` is among the words for contracts, and each line that exports names can be read. Prints what is missing; the last
 line is 'N passed, N failed', a type each.
 """
 import pathlib
 import re
 import sys
+from collections.abc import Iterator
 
 CRATES = pathlib.Path(__file__).resolve().parent.parent / "crates"
 TABLE = CRATES / "tls_codec/src"
 PAGE = CRATES.parent / "docs/API.md"
 EXPORT = re.compile(r"^pub use (\w+)::(?:\{([^{}*]*)\}|(\w+));", re.M)
 NAME = re.compile(r"[A-Z]\w*")
-# an impl of a trait for a type, with or without parameters
-IMPL = re.compile(r"^impl(?:<[^{]*?>)? (\w+)(?:<[A-Z]>)?\s+for &?(?:'a )?(\w+)", re.M)
+# an impl of a trait for a type, with or without parameters: a name, a tuple, an array or a slice
+TYPE = r"&?(?:'a )?(\w+)|(\([^)]*\)|&?\[[^\]]*\])"
+IMPL = re.compile(rf"^impl(?:<[^{{]*?>)? (\w+)(?:<[A-Z]>)?\s+for (?:{TYPE})", re.M)
 DERIVE = re.compile(r"#\[derive\(([^)]*)\)\]\n(?:#\[[^\n]*\]\n)*pub struct (\w+)")
+ALIAS = re.compile(r"^pub type (\w+)", re.M)
 STRUCT = re.compile(r"^pub (?:struct|enum) (\w+)", re.M)
 
 # what reads a type from a slice, and what tells its bytes from others
@@ -49,8 +53,8 @@ def traits_of(crate):
         text = path.read_text()
         for name in STRUCT.findall(text):
             found.setdefault(name, set())
-        for trait, name in IMPL.findall(text):
-            found.setdefault(name, set()).add(trait)
+        for trait, name, signs in IMPL.findall(text):
+            found.setdefault(name or signs, set()).add(trait)
         for traits, name in DERIVE.findall(text):
             found.setdefault(name, set()).update(NAME.findall(traits))
     return found
@@ -84,16 +88,18 @@ def not_validated(name, traits, validated):
 LETTERS = {"Serialize": "S", "SerializeBytes": "B", "Deserialize": "D", "DeserializeBytes": "D"}
 
 
-def rows():
-    """Each row of the table of types in docs/API.md: the names in its first cell, without their widths, its crate and letters."""
-    section = PAGE.read_text().split("\n## ")[1]
-    for line in section.split("\n"):
+def rows() -> list[tuple[set[str], str, set[str]]]:
+    """Each row of the table of types in docs/API.md: the types in its first cell, without their widths, its crate and letters."""
+    found = []
+    for line in PAGE.read_text().split("\n## ")[1].split("\n"):
         cells = [cell.strip() for cell in line.split("|")]
         if line.startswith("| `") and len(cells) > 4:
-            names = {unnumbered(name) for name in re.findall(r"\w+", cells[1])}
+            spans = [re.match(TYPE, span) for span in re.findall(r"`([^`:]+)`", cells[1])]
+            names = {unnumbered(span[1] or span[2]) for span in spans if span and len(span[0]) > 1}
             for stem, least, most in re.findall(r"`(\w+?)(\d)` to `\1(\d)`", cells[1]):
                 names |= {f"{stem}{number}" for number in range(int(least), int(most) + 1)}
-            yield names, cells[2], set(cells[3])
+            found.append((names, cells[2], set(cells[3])))
+    return found
 
 
 def unnumbered(name):
@@ -101,9 +107,29 @@ def unnumbered(name):
     return re.sub(r"(?<=[a-z])U(?:8|16|24|32)$", "", name)
 
 
+def short(crate: str) -> str:
+    """The name of a crate in docs/API.md."""
+    return "base" if crate == "tls_codec_wire" else crate.removeprefix("tls_codec_")
+
+
+def with_format(by_crate: dict[str, dict[str, set[str]]]) -> Iterator[tuple[str, str]]:
+    """The types that a row of docs/API.md can be of, by their crates: those with a format, and other names of types."""
+    for crate, types in by_crate.items():
+        others = ALIAS.findall("".join(path.read_text() for path in sorted((CRATES / crate / "src").rglob("*.rt"))))
+        for name in [*(name for name, traits in types.items() if "Size" in traits), *others]:
+            yield short(crate), unnumbered(name)
+
+
+def without_type(row: tuple[set[str], str, set[str]], types: set[tuple[str, str]]) -> list[str]:
+    """The names of a row of docs/API.md that no type of its crate has."""
+    names, crate, _ = row
+    found = [f"docs/API.md: {crate} has no type {name} with a format" for name in sorted(names) if (crate, name) not in types]
+    return found or ([] if names else ["docs/API.md: a row of no type"])
+
+
 def not_in_page(crate, name, traits, page):
     """What the row of a type in docs/API.md lacks or says wrongly."""
-    where = "base" if crate == "tls_codec_wire" else crate.removeprefix("tls_codec_")
+    where = short(crate)
     letters = {LETTERS[trait] for trait in traits & LETTERS.keys()}
     found = [row for row in page if unnumbered(name) in row[0] and row[1] == where]
     if not found:
@@ -134,8 +160,9 @@ def main():
     names = list(exported())
     by_crate = {crate: traits_of(crate) for crate in {crate for crate, _ in names}}
     validated = traits_of("tls_codec_validate")
-    page, decided = list(rows()), PAGE.read_text().split("\n## In a context\n")[1].split("\n## ")[0]
-    results = []
+    page, decided = rows(), PAGE.read_text().split("\n## In a context\n")[1].split("\n## ")[0]
+    types_of = set(with_format(by_crate))
+    results = [report(without_type(row, types_of)) for row in page]
     for crate, name in names:
         # (an impl for a type of wire stands in base)
         traits = by_crate[crate].get(name, set()) | by_crate["tls_codec_base"].get(name, set())
@@ -148,7 +175,7 @@ def main():
             results.append(report(lacks))
     for name, traits in sorted(by_crate["tls_codec_base"].items()):
         if "Size" in traits and name not in {name for _, name in names}:
-            results.append(report(not_in_page("tls_codec_base", name, traits, page)))
+            results.append(report([*not_in_page("tls_codec_base", name, traits, page), *not_validated(name, traits, validated)]))
     for name, traits in sorted(traits_of("tls_codec_cases").items()):
         if traits & VALIDATED.keys():
             results.append(report(not_validated(name, traits, validated)))

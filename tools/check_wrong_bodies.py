@@ -1,13 +1,14 @@
 #!/usr/bin/env python3
-"""Lists the public functions with a contract that have no wrong body: of the library, the archives, and what these and `tlsview` are made of.
+"""Lists the public functions with a contract, and the methods of traits, that have no wrong body: of the library, the archives, and what
+these and `tlsview` are made of.
 
-An edit of wrong/ names its function; one of must-fail/ turns that which has its `old:` text. A function needs none if its body is empty, as
-a law's is, or one call: what this calls has its own. WITHOUT has the other exceptions, with reasons. Prints each function that lacks
-one, and each exception that is none; last 'N passed, N failed', a function each.
+An edit of wrong/ names its function; one of must-fail/ turns that which has its `old:` text. A method in an `impl Trait for Type` has the
+contract of the trait, and the path that rattle gives it: `tagged::TaggedSerialize::tls_serialize`. A function needs none if its body is
+empty, as a law's is, or one call: what this calls has its own. without_wrong_bodies.txt has the other exceptions, with reasons; "none yet"
+is a gap. Prints each function that lacks one, and each exception that is none; last 'N passed, N failed', a function each.
 """
 from __future__ import annotations
 
-import pathlib
 import re
 import sys
 from collections.abc import Iterator
@@ -16,30 +17,19 @@ sys.dont_write_bytecode = True
 import edits
 from libraries import CRATES, TOP, Libraries
 
-FUNCTION = re.compile(r'( *)pub (?:const |unsafe |extern "C" )*fn (?:r#)?(\w+)')
+FUNCTION = re.compile(r'( *)(pub )?(?:final |const |unsafe |extern "C" )*fn (?:r#)?(\w+)')
 # What is more than one call: a statement, a block or an operator. `let found = call()?;` with `Ok(found)` or `Ok(Type(found))` is one.
 MORE = re.compile(r"[;{]|\s(?:[-+*/%^|&<>=!]=?|&&|\|\||<<|>>)\s")
 PASSED_ON = re.compile(r"let (\w+) = [^;{]*\?;\s*Ok\((?:[\w:]+\()?\1\)?\)")
 BELOW_ARCHIVES = ["mls_fields", "tls13_fields", "mls_signed", "tls_codec_outcome", "view_input", "tlsview_run"]
 
-WITHOUT = {
-    "a sibling with the same body has one": [
-        *(f"mls_c::fields::mls_{it}_locate" for it in ("message", "private_message", "framed_content", "welcome")),
-        *(f"tls13_c::fields::tls13_{it}_locate" for it in ("server_hello", "certificate", "certificate_verify", "new_session_ticket", "tls_plaintext")),
-        *(f"tls_codec_c::tls_codec_opaque_{it}_locate" for it in ("u8", "u24")),
-        *(f"tls_codec_validate::tags::split_{it}" for it in ("u32", "u64")),
-        "tls_codec_cases::written_as::append_as",
-        "tls_codec_views::elements::Encoded::elements",
-    ],
-    "what it calls has one, and it does little else": [
-        "tls_codec_base::context::enclosed::read_enclosed",
-        "tls_codec_base::lists::writing::append_bytes",
-        "tls_codec_grammar::digits::read_digits",
-        *(f"tls_codec_views::choices::Encoded::{it}" for it in ("case", "number")),
-        "tls_codec_vl::show::debug",
-    ],
-    "it puts its own fields into another struct": ["tls_codec_views::parts_for::EncodedFor::parts"],
-}
+WITHOUT = TOP / "tools/without_wrong_bodies.txt"
+
+
+def excepted() -> set[str]:
+    """The paths in WITHOUT that have a reason."""
+    lines = [line.partition("  ") for line in WITHOUT.read_text().split("\n") if line and not line.startswith("#")]
+    return {path for path, _, reason in lines if reason.strip()}
 
 
 def held() -> list[str]:
@@ -54,12 +44,48 @@ def module_of(file: str) -> str:
     return "" if module in ("lib", "main") else f"{module}::"
 
 
+def without_parameters(head: str) -> str:
+    """What is after the parameters `<..>` that a text begins with, or the text."""
+    depth = 0
+    for at, sign in enumerate(head):
+        depth += {"<": 1, ">": -1}.get(sign, 0)
+        if not depth:
+            return head[at + 1 :] if at else head
+    return head
+
+
+def name_of(text: str) -> str:
+    """The name of a type in paths, as rattle writes it: without its parameters, and with the types that it is of."""
+    text = text.strip()
+    if text.startswith("&"):
+        return "Ref" + name_of(re.sub(r"^&(?:'\w+)?", "", text))
+    if text.startswith("("):
+        return f"Tuple{text.count(',') + 1}" if text != "()" else "Unit"
+    if text.startswith("["):
+        return ("Array" if ";" in text else "Slice") + name_of(re.match(r"\[(\w+)", text)[1])
+    path, _, inside = text.partition("<")
+    if not path or text.startswith("'") or re.fullmatch(r"[A-Z][A-Z_0-9]*", path) and path != "U24":
+        return ""
+    parts = inside.rpartition(">")[0].split(",") if "<" not in inside else [inside.rpartition(">")[0]]
+    return "".join(part[0].upper() + part[1:] for part in path.split("::")) + "".join(name_of(part) for part in parts if part)
+
+
 def owner(lines: list[str]) -> str:
-    """The type or trait that the last of these lines is in, with `::` at its end."""
-    head = next(line[found.end() :] for line in reversed(lines) if (found := re.match(r"impl|(?:pub )?trait", line)))
-    while (shorter := re.sub(r"<[^<>]*>", "", head)) != head:
-        head = shorter
-    return re.search(r"\w+", head)[0] + "::"
+    """The type or trait that the last of these lines is in, with `::` at its end: `TaggedSerialize::` for `impl .. Serialize for Tagged<..>`."""
+    head = head_of(lines)
+    trait, _, of = head.rpartition(" for ")
+    if not trait:
+        return re.search(r"\w+", of)[0] + "::"
+    word, _, inside = trait.partition("<")
+    parameter = name_of(inside.rpartition(">")[0])
+    return name_of(of) + word.split("::")[-1].strip() + parameter + "::"
+
+
+def head_of(lines: list[str]) -> str:
+    """What comes after `impl` or `trait` in the last such line, without its parameters."""
+    start = max((n for n, line in enumerate(lines) if re.match(r"impl\b|(?:pub )?trait\b", line)), default=len(lines))
+    head = " ".join(line.strip() for line in lines[start:]).replace("->", "").partition("{")[0].partition(" where ")[0]
+    return without_parameters(re.sub(r"^(?:impl|(?:pub )?trait)\s*", "", head)).strip()
 
 
 def named(file: str, lines: list[str], name: str) -> str:
@@ -67,18 +93,27 @@ def named(file: str, lines: list[str], name: str) -> str:
     return module_of(file) + (owner(lines) if lines[-1].startswith(" ") else "") + name
 
 
+def is_of_trait(lines: list[str]) -> bool:
+    """Whether the last of these lines is in an impl of a trait, or in a trait: these have its contract."""
+    start = max((n for n, line in enumerate(lines) if re.match(r"\S.*\{$|impl\b|(?:pub )?trait\b", line)), default=0)
+    is_trait = re.match(r"(?:pub )?trait\b", lines[start])
+    return lines[-1].startswith("    ") and bool(is_trait or " for " in head_of(lines))
+
+
 def functions(crate: str) -> Iterator[tuple[str, str]]:
-    """The public functions of a crate that have a contract, by their paths, with their bodies."""
+    """The public functions of a crate that have a contract, and the methods of traits, by their paths, with their bodies."""
     for path in sorted((CRATES / crate / "src").rglob("*.rt")):
         lines = path.read_text().split("\n")
         for at, line in enumerate(lines):
             found = FUNCTION.match(line)
-            if not found:
+            if not found or not found[2] and not is_of_trait(lines[: at + 1]):
                 continue
-            indent, name = found.groups()
-            start = next(n for n in range(at, len(lines)) if re.search(r"\{(?:\})?$", lines[n]) and not lines[n].startswith(f"{indent}    "))
+            indent, is_public, name = found.groups()
+            start = next(n for n in range(at, len(lines)) if lines[n].endswith(";") or re.search(r"\{\}?$", lines[n]) and not lines[n].startswith(f"{indent}    "))
+            if lines[start].endswith(";"):
+                continue
             end = next(n for n in range(start, len(lines)) if lines[n].startswith(f"{indent}}}") or lines[n].endswith("{}"))
-            if any(it.startswith(f"{indent}    ensures") for it in lines[at:start]):
+            if not is_public or any(it.startswith(f"{indent}    ensures") for it in lines[at:start]):
                 file = path.relative_to(CRATES / crate).as_posix()
                 yield named(file, lines[: at + 1], name), "\n".join(lines[start + 1 : end]).strip()
 
@@ -98,15 +133,15 @@ def turned(crate: str) -> set[str]:
 
 
 def main() -> int:
-    passed, lacking, unused = 0, [], {name for names in WITHOUT.values() for name in names}
-    excepted = set(unused)
+    passed, lacking, exceptions = 0, [], excepted()
+    unused = set(exceptions)
     for crate in held():
         has_one = turned(crate)
         for path, body in functions(crate):
             is_one_call = not MORE.search(body) or PASSED_ON.fullmatch(body)
             if not is_one_call and path not in has_one:
                 unused.discard(f"{crate}::{path}")
-                lacking += [f"{crate}::{path}: no wrong body"] if f"{crate}::{path}" not in excepted else []
+                lacking += [f"{crate}::{path}: no wrong body"] if f"{crate}::{path}" not in exceptions else []
             passed += 1
     lacking += [f"{name}: an exception that is none" for name in sorted(unused)]
     print("".join(f"{line}\n" for line in lacking), end="")

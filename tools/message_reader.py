@@ -292,11 +292,9 @@ class Reader:
             return self.code(at, label, depth, data, names)
         self.field(of, other, label, depth)
 
-    # the RFCs close these (a number without a name is refused), by a select or by their prose
     def refuses(self, of):
-        return of in ("ContentType", "SenderType", "LeafNodeSource", "PSKType", "ProposalOrRefType", "NodeType", "Version") or (
-            of in ("ResumptionPSKUsage", "KeyUpdateRequest")
-        )
+        """Whether a number without a name is refused."""
+        return of in CLOSED
 
     def code(self, at, label, depth, data, names):
         name = names.get(int.from_bytes(data))
@@ -305,6 +303,19 @@ class Reader:
         digits = f"0x{data.hex()}"
         self.line(at, depth, label, f"{name} ({digits})" if name else digits, number=int.from_bytes(data), code=name)
 
+
+# enums that the RFCs close, by a select or by their prose: a number without a name is refused
+CLOSED = {
+    "ContentType",
+    "KeyUpdateRequest",
+    "LeafNodeSource",
+    "NodeType",
+    "PSKType",
+    "ProposalOrRefType",
+    "ResumptionPSKUsage",
+    "SenderType",
+    "Version",
+}
 
 # fields that have one value (RFC 9420, sections 6 and 8.1; RFC 8446, section 4.1.2)
 CONSTANTS = {

@@ -1,20 +1,23 @@
 #!/usr/bin/env python3
-"""Checks what the pages ask of a reader: their words, the records of docs/DECISIONS.md, and the short reading lists of docs/MAP.md.
+"""Checks what the pages ask of a reader: their words, the records of docs/DECISIONS.md, the short reading lists of docs/MAP.md, and figures.
 
 All pages except docs/DECISIONS.md have at most MOST_WORDS words outside of their blocks: what is between blanks and has a letter, and each
 `code` once.
 Each record of docs/DECISIONS.md, from `### ` on, is a question, begins with its date and commit, and fits on a screen.
-Each error of the library, by its variant and text, has a sentence in docs/REFUSALS.md.
+Figures of the pages, and answers and sentences of docs/REFUSALS.md, are those of the files that have them (figures.py).
 The two short lists of "What to read" in docs/MAP.md are closed, and are as long as the page says. An item `1. **Formats**, 600 lines: ..` lists files under the short names of the crates; a file "to `word`" is read to the line before the
 first one that has the word. Each word that such a part takes from the specs or declarations of the repository's crates has to be in a part
 of the same list or of the list before, or among the words after "Skip".
 
-Prints what isn't so; last 'N passed, N failed', which counts those words and lengths, records, errors and pages. With the word `words`, it
+Prints what isn't so; last 'N passed, N failed', which counts those words and lengths, records, figures, errors and pages. With the word `words`, it
 prints how many each page has.
 """
 import pathlib
 import re
 import sys
+
+sys.dont_write_bytecode = True
+import figures
 
 TOP = pathlib.Path(__file__).resolve().parent.parent
 PAGES = [*sorted(TOP.glob("*.md")), *sorted((TOP / "docs").glob("*.md"))]
@@ -66,20 +69,9 @@ def record_findings():
     return found, len(records)
 
 
-def sentence_findings():
-    """Which errors of the library have no sentence for a person in docs/REFUSALS.md, and how many there are."""
-    page = (TOP / "docs/REFUSALS.md").read_text()
-    sentences = page[page.index("## For a person to read") :]
-    enum = re.search(r"^pub enum Error \{\n(.*?)^\}", (TOP / "crates/tls_codec_wire/src/error.rt").read_text(), re.M | re.S)[1]
-    code = "".join(path.read_text() for path in sorted((TOP / "crates").glob("tls_codec*/src/**/*.rt")))
-    errors = set(re.findall(r"^    ([A-Z]\w+)", enum, re.M)) - {"DecodingError", "EncodingError"}
-    errors |= {found[0] for found in re.finditer(r'(?:De|En)codingError\("[^"]*"\)', code)}
-    return [f"docs/REFUSALS.md: no sentence for {error}" for error in sorted(errors) if f"`{error}" not in sentences], len(errors)
-
-
 def findings():
     """What isn't so, and how much was checked."""
-    parts = [list_findings(), record_findings(), sentence_findings(), length_findings()]
+    parts = [list_findings(), record_findings(), figures.findings(), length_findings()]
     return [line for found, _ in parts for line in found], sum(checked for _, checked in parts)
 
 

@@ -1,4 +1,4 @@
-"""What `tlsdump` says on standard error of its stored inputs that are rejected."""
+"""What `tlsdump` says on standard error of its stored inputs that are rejected, or that it can't read."""
 
 # RFC 9420, section 2.1.2: a length of 63, and fewer bytes
 IDENTITY_CUT_OFF = (
@@ -82,4 +82,13 @@ REFUSALS = {
         'refused at byte 3, in encrypted_path_secret[0].kem_output: DecodingError("elements do not fill the declared '
         'length"): expected opaque kem_output<V>, the validator rejects what begins here'
     ),
+}
+
+# What it says of each stored input that can't be read, after the program's name. After a blank at the end come the system's words.
+UNREAD = {
+    "no_file": "nowhere: ",
+    "odd_digits": "an odd number of hex digits (5); --binary takes the bytes themselves",
+    "several_types": "Certificate names several types: write mls.Certificate or tls.Certificate",
+    "unknown_type": "there is no type Nothing: --list prints them",
+    "wrong_digit": "line 2, column 8: 0x67 is no hex digit; --binary takes the bytes themselves, --base64 base64",
 }

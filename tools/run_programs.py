@@ -5,7 +5,7 @@ A program is built once, without proof (`rt try`). A run is a file with the inpu
 NAME.stdout what it must print. rt ci runs a program on one input alone, and proves it again for another one.
 Then tlsdump runs with a request for memory refused: it prints nothing and ends with status 3. The program that `rt ci` left in out/
 runs with an output that is full, which is status 3 too, and on each input that is rejected or can't be read: standard error has one line, that of
-check_trees.py or of UNREAD. tlsgen, from out/ too, has runs that print nothing but what TLSGEN has for standard error: {} among their words
+refusals.py or of UNREAD. tlsgen, from out/ too, has runs that print nothing but what TLSGEN has for standard error: {} among their words
 names a copy of the input.
 """
 from __future__ import annotations
@@ -20,7 +20,7 @@ import tempfile
 
 sys.dont_write_bytecode = True
 import check_generated as generated
-import check_trees as trees
+import refusals
 
 CRATES = pathlib.Path(__file__).resolve().parent.parent / "crates"
 
@@ -104,15 +104,8 @@ SHOWN = {
 }
 
 
-# What standard error has of each input that can't be read, after the program's name. After a blank at the end come the system's words.
-UNREAD = {
-    "no_file": "nowhere: ",
-    "odd_digits": "an odd number of hex digits (5); --binary takes the bytes themselves",
-    "over_limit": f"the input has more than {MOST} bytes",
-    "several_types": "Certificate names several types: write mls.Certificate or tls.Certificate",
-    "unknown_type": "there is no type Nothing: --list prints them",
-    "wrong_digit": "line 2, column 8: 0x67 is no hex digit; --binary takes the bytes themselves, --base64 base64",
-}
+# What standard error has of each input that can't be read, of those that are stored and of those that are made.
+UNREAD = {**refusals.UNREAD, "over_limit": f"the input has more than {MOST} bytes"}
 
 # The status of each run of tlsgen, and what standard error has, or how it begins before the system's words or clap's.
 NO_NAME = "expected a crate's name, of small letters, digits and _, and no word of Rust\n"
@@ -188,7 +181,7 @@ def streams() -> collections.abc.Iterator[tuple[str, bool, str]]:
         make(cases)
         status, printed = built([], cases / "key_package", "/dev/full")
         yield "tlsdump, full", (status, printed.startswith("tlsdump: ")) == (NO_ROOM, True), printed
-        for wanted, lines in ((1, trees.REFUSALS), (2, UNREAD)):
+        for wanted, lines in ((1, refusals.REFUSALS), (2, UNREAD)):
             assert set(lines) == {name for name, status in STATUS["tlsdump"].items() if status == wanted}, f"no line for each run with status {wanted}"
             for name, line in lines.items():
                 words = cases / f"{name}.args"

@@ -1,0 +1,148 @@
+"""Figures and answers in pages, held to the files that have them.
+
+- A figure of FIGURES is what its files say: how many rows or names they have.
+- "Ten inputs" of docs/REFUSALS.md has as many rows as its heading says: those of the inputs that crates/test_values names for it, with their
+  answers, and inputs that crates/test_types rejects.
+- The sentences there are those of the library's errors, one for each.
+"""
+from __future__ import annotations
+
+import pathlib
+import re
+from collections.abc import Callable
+
+import refusals
+
+TOP = pathlib.Path(__file__).resolve().parent.parent
+CRATES = TOP / "crates"
+REFUSALS = TOP / "docs/REFUSALS.md"
+WORDS = {"nine": 9, "ten": 10, "eleven": 11, "twelve": 12}
+EXPLAINED = "# The inputs that `docs/REFUSALS.md` explains.\n"
+OUTCOMES = ("crates/test_outcome/stdout", "c/tests/tls13.tsv")
+
+
+def lines(*files: str) -> Callable[[], int]:
+    """How many lines these files have."""
+    return lambda: sum((TOP / file).read_text().count("\n") for file in files)
+
+
+def rows(*files: str) -> Callable[[], int]:
+    """How many rows these files have."""
+    return lambda: sum(bool(line) and not line.startswith("#") for file in files for line in (TOP / file).read_text().split("\n"))
+
+
+def names(*files: str) -> Callable[[], int]:
+    """How many names the rows of these files begin with."""
+    return lambda: len({line.split("\t")[0] for file in files for line in (TOP / file).read_text().split("\n") if line and not line.startswith("#")})
+
+
+def first(file: str) -> Callable[[], int]:
+    """The number that a file begins with."""
+    return lambda: int((TOP / file).read_text().split()[0])
+
+
+PRESENTED = [f"crates/tls_presentation/specs/{it}.antt" for it in ("Definition", "Printed", "Cut", "Meaning", "Says")]
+# A page, the place of a figure in it, and what it counts.
+FIGURES = [
+    *((page, r"([\d,]+) inputs of `(?:tlsview|test_rows)`", rows("crates/test_rows/stdout")) for page in ("README.md", "docs/PROVED.md")),
+    ("CONTRIBUTING.md", r"test_rows' ([\d,]+) answers", rows("crates/test_rows/stdout")),
+    ("docs/PROVED.md", r"each of the (\d+) requests of `test_memory`", first("crates/test_memory/stdout")),
+    ("docs/PROVED.md", r"and (\d+) refusals in them, by hand", lambda: len(refusals.REFUSALS)),
+    ("docs/MESSAGES.md", r"five files of (\d+) lines and what they use", lines(*PRESENTED)),
+    ("docs/CALLERS.md", r"(\d+) inputs of the \d+ messages", rows(*OUTCOMES)),
+    ("docs/CALLERS.md", r"\d+ inputs of the (\d+) messages", names(*OUTCOMES)),
+    ("docs/CALLERS.md", r"for (\d+) messages of MLS", names(OUTCOMES[0])),
+    ("docs/CALLERS.md", r"for (\d+) messages of TLS", names(OUTCOMES[1])),
+    ("docs/CALLERS.md", r"mls_check\.h` \| `NAME_check` for the same (\d+) messages", names(OUTCOMES[0])),
+    ("docs/CALLERS.md", r"tls13_check\.h` \| `NAME_check` for the same (\d+) messages", names(OUTCOMES[1])),
+    ("docs/CALLERS.md", r"(\d+) of lists, fields and kinds", rows("crates/test_places/stdout")),
+    ("docs/CALLERS.md", r"(\d+) of lengths and", rows("c/tests/lengths.tsv")),
+    ("docs/CALLERS.md", r"lengths and (\w+) of what is signed", rows("c/tests/signed.tsv")),
+]
+
+
+def figure_findings() -> tuple[list[str], int]:
+    """Which figures aren't what their files say, and how many there are."""
+    found = []
+    for page, place, counted in FIGURES:
+        stated = re.findall(place, re.sub(r"\s+", " ", (TOP / page).read_text()))
+        right = counted()
+        if not stated:
+            found.append(f"{page}: no figure {place}")
+        found += [f"{page}: {it} in {place!r} is {right:,}" for it in stated if WORDS.get(it, it.replace(",", "")) not in (right, str(right))]
+    return found, len(FIGURES)
+
+
+def table(section: str) -> list[list[str]]:
+    """The rows of the first table of a section of docs/REFUSALS.md, as cells."""
+    text = REFUSALS.read_text().partition(f"\n## {section}\n")[2].split("\n## ")[0]
+    listed = [line for line in text.split("\n") if line.startswith("|")][2:]
+    return [[cell.strip() for cell in line.strip("|").split(" | ")] for line in listed]
+
+
+def answers_of(answer: str) -> tuple[str, str]:
+    """The errors of the slice path and of the reader path in an answer of test_values."""
+    found = re.match(r'(?:refused|.*exact forms refuse) (\w+(?:\("[^"]*"\))?)(?:, by reader (\w+(?:\("[^"]*"\))?))?', answer)
+    return (found[1], found[2] or found[1]) if found else ("none", "none")
+
+
+def explained() -> dict[tuple[str, str], tuple[str, str]]:
+    """The inputs that test_values has for docs/REFUSALS.md, by their types and bytes, with the errors of both paths."""
+    pairs = [(CRATES / "test_values" / file).read_text().split(EXPLAINED)[1].split("\n#")[0].splitlines() for file in ("stdin", "stdout")]
+    found = {}
+    for given, line in zip(*pairs, strict=True):
+        of, _, data = given.split("\t")
+        found[of, data] = answers_of(line.removeprefix(f"{given}\t"))
+    return found
+
+
+def rejected() -> dict[tuple[str, str], tuple[str, str]]:
+    """The inputs that test_types rejects, in the same way."""
+    code = "\n".join(path.read_text() for path in sorted((CRATES / "test_types/src").rglob("*.rt")))
+    errors = dict(re.findall(r"^(?:pub(?:\(\w+\))? )?const (\w+): Error =\s*Error::([^;]*);", code, re.M))
+    found = {}
+    for of, data, name in re.findall(r"expect_refused::<(.*)>\(&rt, alloc, &\[([^\]]*)\], (\w+)\)", code):
+        numbers = re.findall(r"\b(?:0x[0-9a-f]+|\d+)\b", data)
+        found[of, "".join(f"{int(it, 0):02x}" for it in numbers)] = (errors.get(name, name),) * 2
+    return found
+
+
+def input_findings() -> tuple[list[str], int]:
+    """Which rows of "Ten inputs" aren't what the tests say, and how many there are."""
+    given, others, found, seen = explained(), rejected(), [], set()
+    listed = table("Ten inputs")
+    for of, data, by_slice, by_reader, _ in listed:
+        key = re.match(r"`(.*?)`", of)[1], data.strip("`")
+        stated = by_slice.strip("`"), (by_slice if by_reader == "the same" else by_reader).strip("`")
+        seen.add(key)
+        right = given.get(key) or others.get(key)
+        if right is None:
+            found.append(f"docs/REFUSALS.md: no test of {' '.join(key)}")
+        elif right != stated:
+            found.append(f"docs/REFUSALS.md: {' '.join(key)} is {right[0]}, by a reader {right[1]}")
+    found += [f"docs/REFUSALS.md: no row for {' '.join(key)}" for key in given if key not in seen]
+    if len(listed) != WORDS["ten"]:
+        found.append(f"docs/REFUSALS.md: {len(listed)} inputs")
+    return found, len(listed)
+
+
+def errors() -> set[str]:
+    """The errors that the library makes: variants, and those with a text."""
+    enum = re.search(r"^pub enum Error \{\n(.*?)^\}", (CRATES / "tls_codec_wire/src/error.rt").read_text(), re.M | re.S)[1]
+    code = "".join(path.read_text() for path in sorted(CRATES.glob("tls_codec*/src/**/*.rt")))
+    with_texts = {found[0] for found in re.finditer(r'(?:De|En)codingError\("[^"]*"\)', code)}
+    return set(re.findall(r"^    ([A-Z]\w+)", enum, re.M)) - {"DecodingError", "EncodingError"} | with_texts
+
+
+def sentence_findings() -> tuple[list[str], int]:
+    """Which errors of the library have no sentence for a person in docs/REFUSALS.md, which sentences have no error, and how many errors there are."""
+    made = errors()
+    named = {it.removesuffix("(n)") for cells in table("For a person to read") for it in re.findall(r"`([^`]*)`", cells[0])}
+    found = [f"docs/REFUSALS.md: no sentence for {error}" for error in sorted(made - named)]
+    return found + [f"docs/REFUSALS.md: a sentence for no error: {error}" for error in sorted(named - made)], len(made)
+
+
+def findings() -> tuple[list[str], int]:
+    """What isn't so, and how much was checked."""
+    parts = [figure_findings(), input_findings(), sentence_findings()]
+    return [line for found, _ in parts for line in found], sum(checked for _, checked in parts)
