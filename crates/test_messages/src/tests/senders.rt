@@ -13,9 +13,9 @@ fn leaf_of(content: &FramedContent) -> Option<u32> {
     }
 }
 
-// The commit that a message is.
-fn commit_of(content: FramedContent) -> Option<Commit> {
-    match content.content_type {
+// The commit that a message's content is.
+fn commit_of(content: ContentTypeData) -> Option<Commit> {
+    match content {
         ContentTypeData::Commit(commit) => Some(commit),
         _ => None,
     }
@@ -30,6 +30,6 @@ fn a_commit_of_a_member(rt: HostRuntime) -> Result<(), Fail> {
     };
     same(&rt, leaf_of(&message.content), Some(2));
     let expected = Commit::tls_deserialize_exact_bytes(alloc, &COMMIT[22..88])?;
-    same(&rt, commit_of(message.content), Some(expected));
+    same(&rt, commit_of(message.content.content_type), Some(expected));
     Ok(())
 }
