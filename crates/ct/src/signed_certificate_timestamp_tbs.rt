@@ -21,7 +21,7 @@ pub struct SignedCertificateTimestampTBS {
     pub signature_type: SignatureTypeCertificateTimestamp,
     /// `uint64 timestamp;`
     pub timestamp: u64,
-    /// `LogEntryType entry_type;`
+    /// `LogEntryType entry_type; select (entry_type);`
     pub signed_entry: LogEntryTypeData,
     /// `CtExtensions extensions;`
     pub extensions: CtExtensions,
@@ -137,7 +137,7 @@ pub struct SignedCertificateTimestampTBSView<'a> {
     pub signature_type: Encoded<'a, SignatureTypeCertificateTimestamp>,
     /// `uint64 timestamp;`
     pub timestamp: Encoded<'a, u64>,
-    /// `LogEntryType entry_type;`
+    /// `LogEntryType entry_type; select (entry_type);`
     pub signed_entry: Encoded<'a, LogEntryTypeData>,
     /// `CtExtensions extensions;`
     pub extensions: Encoded<'a, CtExtensions>,

@@ -15,7 +15,7 @@ use tls_codec_views::{Encoded, Parted};
 pub struct TimestampedEntry {
     /// `uint64 timestamp;`
     pub timestamp: u64,
-    /// `LogEntryType entry_type;`
+    /// `LogEntryType entry_type; select (entry_type);`
     pub signed_entry: TimestampedEntryLogEntryTypeData,
     /// `CtExtensions extensions;`
     pub extensions: CtExtensions,
@@ -120,7 +120,7 @@ impl Parted for TimestampedEntry {
 pub struct TimestampedEntryView<'a> {
     /// `uint64 timestamp;`
     pub timestamp: Encoded<'a, u64>,
-    /// `LogEntryType entry_type;`
+    /// `LogEntryType entry_type; select (entry_type);`
     pub signed_entry: Encoded<'a, TimestampedEntryLogEntryTypeData>,
     /// `CtExtensions extensions;`
     pub extensions: Encoded<'a, CtExtensions>,

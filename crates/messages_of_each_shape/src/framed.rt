@@ -17,7 +17,7 @@ use tls_codec_views::{Encoded, Parted};
 pub struct Framed {
     /// `uint32 epoch;`
     pub epoch: u32,
-    /// `ContentType content_type;`
+    /// `ContentType content_type; select (content_type);`
     pub content_type: ContentTypeData,
     /// `opaque signature<V>;`
     pub signature: VLBytes,
@@ -119,7 +119,7 @@ impl Parted for Framed {
 pub struct FramedView<'a> {
     /// `uint32 epoch;`
     pub epoch: Encoded<'a, u32>,
-    /// `ContentType content_type;`
+    /// `ContentType content_type; select (content_type);`
     pub content_type: Encoded<'a, ContentTypeData>,
     /// `opaque signature<V>;`
     pub signature: Encoded<'a, VLBytes>,

@@ -14,7 +14,7 @@ use tls_codec_cases::append_as;
 pub struct NodeTBS<'a> {
     /// `Key key;`
     pub key: &'a Key,
-    /// `NodeSource node_source;`
+    /// `NodeSource node_source; select (node_source);`
     pub node_source: NodeTBSOrigin<'a>,
     /// `optional<Key> last;`
     pub last: &'a Option<Key>,

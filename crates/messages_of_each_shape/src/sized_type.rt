@@ -15,7 +15,7 @@ use tls_codec_views::{Encoded, Parted};
 pub struct SizedType {
     /// `uint8 before;`
     pub before: u8,
-    /// `uint16 version;`
+    /// `uint16 version; select (version);`
     pub contents: VersionData,
     /// `uint8 after;`
     pub after: u8,
@@ -115,7 +115,7 @@ impl Parted for SizedType {
 pub struct SizedTypeView<'a> {
     /// `uint8 before;`
     pub before: Encoded<'a, u8>,
-    /// `uint16 version;`
+    /// `uint16 version; select (version);`
     pub contents: Encoded<'a, VersionData>,
     /// `uint8 after;`
     pub after: Encoded<'a, u8>,

@@ -2,12 +2,13 @@ pub mod AuthenticatedContent
 pub mod AuthenticatedContentTBM
 pub mod ConfirmedTranscriptHashInput
 pub mod ContentType
-pub mod ContentTypeData
 pub mod FramedContent
 pub mod FramedContentAuthData
+pub mod FramedContentBody
 pub mod FramedContentTBS
 pub mod InterimTranscriptHashInput
 pub mod MLSMessage
+pub mod MLSMessageBody
 pub mod PrivateContent
 pub mod PrivateContentAAD
 pub mod PrivateMessage
@@ -18,4 +19,3 @@ pub mod SenderData
 pub mod SenderDataAAD
 pub mod SenderType
 pub mod WireFormat
-pub mod WireFormatData

@@ -5,7 +5,7 @@ ghost use Rattle.mls.specs.declared.framed_content.FramedContent.{FramedContent}
 ghost use Rattle.mls.specs.FramedContent.{framed_content_sender_type};
 ghost use Rattle.mls.specs.FramedContent.{framed_content_content_type};
 
-use crate::{ContentType, ContentTypeData, Sender, SenderType};
+use crate::{ContentType, FramedContentBody, Sender, SenderType};
 use std::alloc::Global;
 use tls_codec::{
     ByRef2, ByRef3, Deserialize, DeserializeBytes, Error, Serialize, Sink, Size, Source, VLBytes,
@@ -25,11 +25,11 @@ pub struct FramedContent {
     pub sender: Sender,
     /// `opaque authenticated_data<V>;`
     pub authenticated_data: VLBytes,
-    /// `ContentType content_type;`
-    pub content_type: ContentTypeData,
+    /// `ContentType content_type; select (content_type);`
+    pub body: FramedContentBody,
 }
 
-type Parts = ((VLBytes, u64, Sender), (VLBytes, ContentTypeData));
+type Parts = ((VLBytes, u64, Sender), (VLBytes, FramedContentBody));
 
 impl Size for FramedContent {
     ghost plain = { framed_content_plain };
@@ -39,7 +39,7 @@ impl Size for FramedContent {
     fn tls_serialized_len(&self) -> usize {
         (
             ByRef3(&self.group_id, &self.epoch, &self.sender),
-            ByRef2(&self.authenticated_data, &self.content_type),
+            ByRef2(&self.authenticated_data, &self.body),
         )
             .tls_serialized_len()
     }
@@ -51,7 +51,7 @@ impl Serialize for FramedContent {
     fn tls_serialize<W: Sink>(&self, writer: &mut W) -> Result<usize, Error> {
         (
             ByRef3(&self.group_id, &self.epoch, &self.sender),
-            ByRef2(&self.authenticated_data, &self.content_type),
+            ByRef2(&self.authenticated_data, &self.body),
         )
             .tls_serialize(writer)
     }
@@ -61,7 +61,7 @@ impl Serialize for FramedContent {
             self,
             &(
                 ByRef3(&self.group_id, &self.epoch, &self.sender),
-                ByRef2(&self.authenticated_data, &self.content_type),
+                ByRef2(&self.authenticated_data, &self.body),
             ),
             out,
         )
@@ -72,14 +72,15 @@ impl Deserialize for FramedContent {
     ghost names = { ⟦<Parts as Deserialize>⟧.names };
 
     fn tls_deserialize<R: Source>(alloc: Global, src: &mut R) -> Result<FramedContent, Error> {
-        let ((group_id, epoch, sender), (authenticated_data, content_type)) =
-            <Parts>::tls_deserialize(alloc, src)?;
+        let ((group_id, epoch, sender), (authenticated_data, body)) = <Parts>::tls_deserialize(
+            alloc, src,
+        )?;
         Ok(FramedContent {
             group_id,
             epoch,
             sender,
             authenticated_data,
-            content_type,
+            body,
         })
     }
 }
@@ -88,7 +89,7 @@ impl DeserializeBytes for FramedContent {
     ghost names = { ⟦<Parts as DeserializeBytes>⟧.names };
 
     fn tls_deserialize_bytes(alloc: Global, whole: &[u8]) -> Result<(FramedContent, &[u8]), Error> {
-        let (((group_id, epoch, sender), (authenticated_data, content_type)), rest) =
+        let (((group_id, epoch, sender), (authenticated_data, body)), rest) =
             <Parts>::tls_deserialize_bytes(alloc, whole)?;
         Ok((
             FramedContent {
@@ -96,7 +97,7 @@ impl DeserializeBytes for FramedContent {
                 epoch,
                 sender,
                 authenticated_data,
-                content_type,
+                body,
             },
             rest,
         ))
@@ -132,24 +133,24 @@ pub struct FramedContentView<'a> {
     pub sender: Encoded<'a, Sender>,
     /// `opaque authenticated_data<V>;`
     pub authenticated_data: Encoded<'a, VLBytes>,
-    /// `ContentType content_type;`
-    pub content_type: Encoded<'a, ContentTypeData>,
+    /// `ContentType content_type; select (content_type);`
+    pub body: Encoded<'a, FramedContentBody>,
 }
 
 impl<'a> From<Encoded<'a, FramedContent>> for FramedContentView<'a> {
     ghost from_gives = { λ whole view. whole ≡ ((view.group_id ++ (view.epoch ++ view.sender)) ++
-        (view.authenticated_data ++ view.content_type)) };
+        (view.authenticated_data ++ view.body)) };
 
     fn from(whole: Encoded<'a, FramedContent>) -> FramedContentView<'a> {
         let (parts_0, parts_1) = whole.parts().split();
         let (group_id, epoch, sender) = parts_0.split();
-        let (authenticated_data, content_type) = parts_1.split();
+        let (authenticated_data, body) = parts_1.split();
         FramedContentView {
             group_id,
             epoch,
             sender,
             authenticated_data,
-            content_type,
+            body,
         }
     }
 }
@@ -166,7 +167,7 @@ impl Holds<ContentType> for FramedContent {
     ghost held = { framed_content_content_type };
 
     fn held(&self) -> ContentType {
-        self.content_type.held()
+        self.body.held()
     }
 }
 
@@ -199,13 +200,13 @@ impl HoldsKey<ContentType> for FramedContent {
 
 type KeyedParts = (
     (Keyless<VLBytes>, Keyless<u64>, Sender),
-    (Keyless<VLBytes>, ContentTypeData),
+    (Keyless<VLBytes>, FramedContentBody),
 );
 
 impl ValidateKeyed for FramedContent {
     fn tls_validate_keyed(whole: &[u8]) -> Result<((u64, u64), &[u8]), Rejected<'_>> {
-        let (((_, _, sender), (_, content_type)), rest) = <KeyedParts>::tls_validate_keyed(whole)?;
-        Ok(((sender, content_type), rest))
+        let (((_, _, sender), (_, body)), rest) = <KeyedParts>::tls_validate_keyed(whole)?;
+        Ok(((sender, body), rest))
     }
 }
 
@@ -217,5 +218,5 @@ pub fn is_compared_by_its_fields()
         && (⟦<u64 as PartialEq>⟧.eq x.epoch y.epoch
         && (⟦<Sender as PartialEq>⟧.eq x.sender y.sender
         && (⟦<VLBytes as PartialEq>⟧.eq x.authenticated_data y.authenticated_data
-        && ⟦<ContentTypeData as PartialEq>⟧.eq x.content_type y.content_type)))) }
+        && ⟦<FramedContentBody as PartialEq>⟧.eq x.body y.body)))) }
 {}

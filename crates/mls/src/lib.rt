@@ -5,12 +5,13 @@ pub mod authenticated_content;
 pub mod authenticated_content_tbm;
 pub mod confirmed_transcript_hash_input;
 pub mod content_type;
-pub mod content_type_data;
 pub mod framed_content;
 pub mod framed_content_auth_data;
+pub mod framed_content_body;
 pub mod framed_content_tbs;
 pub mod interim_transcript_hash_input;
 pub mod mls_message;
+pub mod mls_message_body;
 pub mod private_content;
 pub mod private_content_aad;
 pub mod private_message;
@@ -21,15 +22,14 @@ pub mod sender_data;
 pub mod sender_data_aad;
 pub mod sender_type;
 pub mod wire_format;
-pub mod wire_format_data;
 
 pub use authenticated_content::AuthenticatedContent;
 pub use authenticated_content_tbm::AuthenticatedContentTBM;
 pub use confirmed_transcript_hash_input::ConfirmedTranscriptHashInput;
 pub use content_type::ContentType;
-pub use content_type_data::{ContentTypeData, ContentTypeDataView};
 pub use framed_content::{FramedContent, FramedContentView};
 pub use framed_content_auth_data::FramedContentAuthData;
+pub use framed_content_body::{FramedContentBody, FramedContentBodyView};
 pub use framed_content_tbs::FramedContentTBS;
 pub use interim_transcript_hash_input::InterimTranscriptHashInput;
 pub use mls_group::{
@@ -41,6 +41,7 @@ pub use mls_group::{
     UpdatePathNode, Welcome,
 };
 pub use mls_message::{MLSMessage, MLSMessageView};
+pub use mls_message_body::{MLSMessageBody, MLSMessageBodyView};
 pub use mls_tree::{
     Capabilities, Certificate, CipherSuite, Credential, CredentialType, EncryptContext, Extension,
     ExtensionType, HPKEPublicKey, KeyPackage, KeyPackageTBS, LeafNode, LeafNodeHashInput,
@@ -58,4 +59,3 @@ pub use sender_data::{SenderData, SenderDataView};
 pub use sender_data_aad::SenderDataAAD;
 pub use sender_type::SenderType;
 pub use wire_format::WireFormat;
-pub use wire_format_data::{WireFormatData, WireFormatDataView};

@@ -3,7 +3,7 @@ ghost use Rattle.std.specs.Prelude.{◌≡◌, ◌&&◌, ◌++◌};
 ghost use Rattle.mls.specs.MLSMessage.{mls_message_format, mls_message_meets, mls_message_plain};
 ghost use Rattle.mls.specs.declared.mls_message.MLSMessage.{MLSMessage};
 
-use crate::WireFormatData;
+use crate::MLSMessageBody;
 use mls_group::ProtocolVersionMls10;
 use std::alloc::Global;
 use tls_codec::{ByRef, Deserialize, DeserializeBytes, Error, Serialize, Sink, Size, Source};
@@ -16,11 +16,11 @@ use tls_codec_views::{Encoded, Parted};
 pub struct MLSMessage {
     /// `ProtocolVersion version = mls10;`
     pub version: ProtocolVersionMls10,
-    /// `WireFormat wire_format;`
-    pub wire_format: WireFormatData,
+    /// `WireFormat wire_format; select (wire_format);`
+    pub body: MLSMessageBody,
 }
 
-type Parts = (ProtocolVersionMls10, WireFormatData);
+type Parts = (ProtocolVersionMls10, MLSMessageBody);
 
 impl Size for MLSMessage {
     ghost plain = { mls_message_plain };
@@ -28,7 +28,7 @@ impl Size for MLSMessage {
     ghost format = { mls_message_format };
 
     fn tls_serialized_len(&self) -> usize {
-        (ByRef(&self.version), ByRef(&self.wire_format)).tls_serialized_len()
+        (ByRef(&self.version), ByRef(&self.body)).tls_serialized_len()
     }
 
     ghost lawful = { mls_message_meets };
@@ -36,11 +36,11 @@ impl Size for MLSMessage {
 
 impl Serialize for MLSMessage {
     fn tls_serialize<W: Sink>(&self, writer: &mut W) -> Result<usize, Error> {
-        (ByRef(&self.version), ByRef(&self.wire_format)).tls_serialize(writer)
+        (ByRef(&self.version), ByRef(&self.body)).tls_serialize(writer)
     }
 
     fn tls_serialize_into(&self, out: &mut Vec<u8>) -> Result<usize, Error> {
-        append_as(self, &(ByRef(&self.version), ByRef(&self.wire_format)), out)
+        append_as(self, &(ByRef(&self.version), ByRef(&self.body)), out)
     }
 }
 
@@ -48,11 +48,8 @@ impl Deserialize for MLSMessage {
     ghost names = { ⟦<Parts as Deserialize>⟧.names };
 
     fn tls_deserialize<R: Source>(alloc: Global, src: &mut R) -> Result<MLSMessage, Error> {
-        let (version, wire_format) = <Parts>::tls_deserialize(alloc, src)?;
-        Ok(MLSMessage {
-            version,
-            wire_format,
-        })
+        let (version, body) = <Parts>::tls_deserialize(alloc, src)?;
+        Ok(MLSMessage { version, body })
     }
 }
 
@@ -60,14 +57,8 @@ impl DeserializeBytes for MLSMessage {
     ghost names = { ⟦<Parts as DeserializeBytes>⟧.names };
 
     fn tls_deserialize_bytes(alloc: Global, whole: &[u8]) -> Result<(MLSMessage, &[u8]), Error> {
-        let ((version, wire_format), rest) = <Parts>::tls_deserialize_bytes(alloc, whole)?;
-        Ok((
-            MLSMessage {
-                version,
-                wire_format,
-            },
-            rest,
-        ))
+        let ((version, body), rest) = <Parts>::tls_deserialize_bytes(alloc, whole)?;
+        Ok((MLSMessage { version, body }, rest))
     }
 }
 
@@ -94,19 +85,16 @@ impl Parted for MLSMessage {
 pub struct MLSMessageView<'a> {
     /// `ProtocolVersion version = mls10;`
     pub version: Encoded<'a, ProtocolVersionMls10>,
-    /// `WireFormat wire_format;`
-    pub wire_format: Encoded<'a, WireFormatData>,
+    /// `WireFormat wire_format; select (wire_format);`
+    pub body: Encoded<'a, MLSMessageBody>,
 }
 
 impl<'a> From<Encoded<'a, MLSMessage>> for MLSMessageView<'a> {
-    ghost from_gives = { λ whole view. whole ≡ (view.version ++ view.wire_format) };
+    ghost from_gives = { λ whole view. whole ≡ (view.version ++ view.body) };
 
     fn from(whole: Encoded<'a, MLSMessage>) -> MLSMessageView<'a> {
-        let (version, wire_format) = whole.parts().split();
-        MLSMessageView {
-            version,
-            wire_format,
-        }
+        let (version, body) = whole.parts().split();
+        MLSMessageView { version, body }
     }
 }
 
@@ -115,5 +103,5 @@ pub fn is_compared_by_its_fields()
     ensures { (x y : MLSMessage) →
         ⟦<MLSMessage as PartialEq>⟧.eq x y
         ≡ (⟦<ProtocolVersionMls10 as PartialEq>⟧.eq x.version y.version
-        && ⟦<WireFormatData as PartialEq>⟧.eq x.wire_format y.wire_format) }
+        && ⟦<MLSMessageBody as PartialEq>⟧.eq x.body y.body) }
 {}

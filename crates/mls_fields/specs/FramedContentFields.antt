@@ -5,7 +5,7 @@ use Rattle.tls_codec_outcome.specs.Cases.{IsCaseFrom}
 use Rattle.tls_codec_outcome.specs.Fields.{IsContentFrom, IsFieldFrom, span_end}
 use Rattle.tls_codec_grammar.specs.Field.{variable_field}
 use Rattle.mls.specs.Sender.{sender_format}
-use Rattle.mls.specs.ContentTypeData.{content_type_data_variants}
+use Rattle.mls.specs.FramedContentBody.{framed_content_body_variants}
 use Rattle.mls_fields.specs.declared.framed_content.FramedContentFields.{FramedContentFields}
 
 -- x begins with them, one after the other; the tag of one byte decides what is after it
@@ -14,5 +14,5 @@ pub record AreFramedContentFields (x : List ℕ) (f : FramedContentFields) : Typ
   pub epoch : IsFieldFrom (number_format 8) x (span_end f.group_id) f.epoch
   pub sender : IsFieldFrom sender_format x (span_end f.epoch) f.sender
   pub authenticated_data : IsContentFrom variable_field x (span_end f.sender) f.authenticated_data
-  pub content : IsCaseFrom 1 content_type_data_variants x (span_end f.authenticated_data)
+  pub content : IsCaseFrom 1 framed_content_body_variants x (span_end f.authenticated_data)
       f.content_type f.content

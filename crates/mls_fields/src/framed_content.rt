@@ -1,10 +1,10 @@
 //! The fields of `FramedContent`.
-ghost use Rattle.mls.specs.ContentTypeData.{content_type_data_variants};
+ghost use Rattle.mls.specs.FramedContentBody.{framed_content_body_variants};
 ghost use Rattle.mls.specs.FramedContent.{framed_content_format};
 ghost use Rattle.tls_codec_outcome.specs.Fields.{Located};
 ghost use Rattle.mls_fields.specs.FramedContentFields.{AreFramedContentFields};
 
-use mls::{ContentTypeData, Sender};
+use mls::{FramedContentBody, Sender};
 use tls_codec::TlsVarInt;
 use tls_codec_outcome::{Content, Field, Locate, Span, TagAndBody, TaggedEnum};
 
@@ -34,9 +34,9 @@ impl TaggedEnum for Contents {
 
     const TAG_LEN: usize = 1;
 
-    type Enum = ContentTypeData;
+    type Enum = FramedContentBody;
 
-    ghost variants = { content_type_data_variants };
+    ghost variants = { framed_content_body_variants };
 
     ghost is_tagged = { λ bytes v is. is };
 

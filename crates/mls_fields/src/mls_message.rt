@@ -1,10 +1,10 @@
 //! The fields of `MLSMessage`.
 ghost use Rattle.mls.specs.MLSMessage.{mls_message_format};
-ghost use Rattle.mls.specs.WireFormatData.{wire_format_data_variants};
+ghost use Rattle.mls.specs.MLSMessageBody.{mls_message_body_variants};
 ghost use Rattle.tls_codec_outcome.specs.Fields.{Located};
 ghost use Rattle.mls_fields.specs.MLSMessageFields.{AreMLSMessageFields};
 
-use mls::WireFormatData;
+use mls::MLSMessageBody;
 use mls_group::ProtocolVersionMls10;
 use tls_codec_outcome::{Field, Locate, Span, TagAndBody, TaggedEnum};
 
@@ -27,9 +27,9 @@ impl TaggedEnum for Formats {
 
     const TAG_LEN: usize = 2;
 
-    type Enum = WireFormatData;
+    type Enum = MLSMessageBody;
 
-    ghost variants = { wire_format_data_variants };
+    ghost variants = { mls_message_body_variants };
 
     ghost is_tagged = { λ bytes v is. is };
 

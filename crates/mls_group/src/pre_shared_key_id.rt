@@ -15,7 +15,7 @@ use tls_codec_views::{Encoded, Parted};
 /// `PreSharedKeyID` (RFC 9420, section 8.4).
 #[derive(PartialEq, Eq, Debug, Clone, Drop)]
 pub struct PreSharedKeyID {
-    /// `PSKType psktype;`
+    /// `PSKType psktype; select (psktype);`
     pub psktype: PSKOrigin,
     /// `opaque psk_nonce<V>;`
     pub psk_nonce: VLBytes,
@@ -87,7 +87,7 @@ impl Parted for PreSharedKeyID {
 /// The encoding of a [`PreSharedKeyID`], split into its fields.
 #[derive(Drop)]
 pub struct PreSharedKeyIDView<'a> {
-    /// `PSKType psktype;`
+    /// `PSKType psktype; select (psktype);`
     pub psktype: Encoded<'a, PSKOrigin>,
     /// `opaque psk_nonce<V>;`
     pub psk_nonce: Encoded<'a, VLBytes>,

@@ -14,12 +14,13 @@ use Rattle.mls.specs.AuthenticatedContent.{authenticated_content_format, authent
 use Rattle.mls.specs.AuthenticatedContentTBM.{authenticated_content_tbm_format, authenticated_content_tbm_plain}
 use Rattle.mls.specs.ConfirmedTranscriptHashInput.{confirmed_transcript_hash_input_format, confirmed_transcript_hash_input_plain}
 use Rattle.mls.specs.ContentType.{content_type_code, content_type_format, content_type_name, content_type_plain}
-use Rattle.mls.specs.ContentTypeData.{content_type_data_format, content_type_data_plain}
 use Rattle.mls.specs.FramedContent.{framed_content_format, framed_content_plain}
 use Rattle.mls.specs.FramedContentAuthData.{framed_content_auth_data_format_for, framed_content_auth_data_plain}
+use Rattle.mls.specs.FramedContentBody.{framed_content_body_format, framed_content_body_plain}
 use Rattle.mls.specs.FramedContentTBS.{framed_content_tbs_format, framed_content_tbs_plain}
 use Rattle.mls.specs.InterimTranscriptHashInput.{interim_transcript_hash_input_format, interim_transcript_hash_input_plain}
 use Rattle.mls.specs.MLSMessage.{mls_message_format, mls_message_plain}
+use Rattle.mls.specs.MLSMessageBody.{mls_message_body_format, mls_message_body_plain}
 use Rattle.mls.specs.PrivateContent.{private_content_format_for, private_content_plain}
 use Rattle.mls.specs.PrivateContentAAD.{private_content_aad_format, private_content_aad_plain}
 use Rattle.mls.specs.PrivateMessage.{private_message_format, private_message_plain}
@@ -30,25 +31,25 @@ use Rattle.mls.specs.SenderData.{sender_data_format, sender_data_plain}
 use Rattle.mls.specs.SenderDataAAD.{sender_data_aad_format, sender_data_aad_plain}
 use Rattle.mls.specs.SenderType.{sender_type_code, sender_type_format, sender_type_name, sender_type_plain}
 use Rattle.mls.specs.WireFormat.{wire_format_format, wire_format_plain}
-use Rattle.mls.specs.WireFormatData.{wire_format_data_format, wire_format_data_plain}
-use Rattle.mls_tree.specs.KeyPackage.{key_package_plain}
 use Rattle.mls_group.specs.Commit.{commit_plain}
 use Rattle.mls_group.specs.GroupContext.{group_context_plain}
 use Rattle.mls_group.specs.GroupInfo.{group_info_plain}
 use Rattle.mls_group.specs.Proposal.{proposal_plain}
 use Rattle.mls_group.specs.ProtocolVersionMls10.{protocol_version_mls10_plain}
 use Rattle.mls_group.specs.Welcome.{welcome_plain}
+use Rattle.mls_tree.specs.KeyPackage.{key_package_plain}
 use Rattle.tls_codec.specs.Contents.{bytes_of}
 use Rattle.mls.specs.declared.authenticated_content.AuthenticatedContent.{AuthenticatedContent}
 use Rattle.mls.specs.declared.authenticated_content_tbm.AuthenticatedContentTBM.{AuthenticatedContentTBM}
 use Rattle.mls.specs.declared.confirmed_transcript_hash_input.ConfirmedTranscriptHashInput.{ConfirmedTranscriptHashInput}
 use Rattle.mls.specs.declared.content_type.ContentType.{ContentType}
-use Rattle.mls.specs.declared.content_type_data.ContentTypeData.{ContentTypeData}
 use Rattle.mls.specs.declared.framed_content.FramedContent.{FramedContent}
 use Rattle.mls.specs.declared.framed_content_auth_data.FramedContentAuthData.{FramedContentAuthData}
+use Rattle.mls.specs.declared.framed_content_body.FramedContentBody.{FramedContentBody}
 use Rattle.mls.specs.declared.framed_content_tbs.FramedContentTBS.{FramedContentTBS}
 use Rattle.mls.specs.declared.interim_transcript_hash_input.InterimTranscriptHashInput.{InterimTranscriptHashInput}
 use Rattle.mls.specs.declared.mls_message.MLSMessage.{MLSMessage}
+use Rattle.mls.specs.declared.mls_message_body.MLSMessageBody.{MLSMessageBody}
 use Rattle.mls.specs.declared.private_content.PrivateContent.{PrivateContent}
 use Rattle.mls.specs.declared.private_content_aad.PrivateContentAAD.{PrivateContentAAD}
 use Rattle.mls.specs.declared.private_message.PrivateMessage.{PrivateMessage}
@@ -59,14 +60,13 @@ use Rattle.mls.specs.declared.sender_data.SenderData.{SenderData}
 use Rattle.mls.specs.declared.sender_data_aad.SenderDataAAD.{SenderDataAAD}
 use Rattle.mls.specs.declared.sender_type.SenderType.{SenderType}
 use Rattle.mls.specs.declared.wire_format.WireFormat.{WireFormat}
-use Rattle.mls.specs.declared.wire_format_data.WireFormatData.{WireFormatData}
 use Rattle.mls.specs.declared.content_type.ContentType.TheVariants.{Application as ContentTypeApplication, Proposal as ContentTypeProposal, Commit as ContentTypeCommit}
-use Rattle.mls.specs.declared.content_type_data.ContentTypeData.TheVariants.{Application as ContentTypeDataApplication, Proposal as ContentTypeDataProposal, Commit as ContentTypeDataCommit}
+use Rattle.mls.specs.declared.framed_content_body.FramedContentBody.TheVariants.{Application as FramedContentBodyApplication, Proposal as FramedContentBodyProposal, Commit as FramedContentBodyCommit}
+use Rattle.mls.specs.declared.mls_message_body.MLSMessageBody.TheVariants.{MlsPublicMessage as MLSMessageBodyMlsPublicMessage, MlsPrivateMessage as MLSMessageBodyMlsPrivateMessage, MlsWelcome as MLSMessageBodyMlsWelcome, MlsGroupInfo as MLSMessageBodyMlsGroupInfo, MlsKeyPackage as MLSMessageBodyMlsKeyPackage}
 use Rattle.mls.specs.declared.private_content.PrivateContent.TheVariants.{Application as PrivateContentApplication, Proposal as PrivateContentProposal, Commit as PrivateContentCommit}
 use Rattle.mls.specs.declared.sender.Sender.TheVariants.{Member as SenderMember, External as SenderExternal, NewMemberCommit as SenderNewMemberCommit, NewMemberProposal as SenderNewMemberProposal}
 use Rattle.mls.specs.declared.sender_type.SenderType.TheVariants.{Member as SenderTypeMember, External as SenderTypeExternal, NewMemberProposal as SenderTypeNewMemberProposal, NewMemberCommit as SenderTypeNewMemberCommit}
-use Rattle.mls.specs.declared.wire_format_data.WireFormatData.TheVariants.{MlsPublicMessage as WireFormatDataMlsPublicMessage, MlsPrivateMessage as WireFormatDataMlsPrivateMessage, MlsWelcome as WireFormatDataMlsWelcome, MlsGroupInfo as WireFormatDataMlsGroupInfo, MlsKeyPackage as WireFormatDataMlsKeyPackage}
-use Rattle.mls_laws.specs.Says.{AuthenticatedContentSays, AuthenticatedContentTBMSays, ConfirmedTranscriptHashInputSays, ContentTypeSays, ContentTypeDataSays, FramedContentSays, FramedContentAuthDataSays, FramedContentTBSSays, InterimTranscriptHashInputSays, MLSMessageSays, PrivateContentSays, PrivateContentAADSays, PrivateMessageSays, PrivateMessageContentSays, PublicMessageSays, SenderSays, SenderDataSays, SenderDataAADSays, SenderTypeSays, WireFormatSays, WireFormatDataSays}
+use Rattle.mls_laws.specs.Says.{AuthenticatedContentSays, AuthenticatedContentTBMSays, ConfirmedTranscriptHashInputSays, ContentTypeSays, FramedContentSays, FramedContentAuthDataSays, FramedContentBodySays, FramedContentTBSSays, InterimTranscriptHashInputSays, MLSMessageSays, MLSMessageBodySays, PrivateContentSays, PrivateContentAADSays, PrivateMessageSays, PrivateMessageContentSays, PublicMessageSays, SenderSays, SenderDataSays, SenderDataAADSays, SenderTypeSays, WireFormatSays}
 
 pub authenticated_content_saying : (v : AuthenticatedContent) (d : Direction) (b : List ℕ) → authenticated_content_format.spells d b (authenticated_content_plain v) ↔ AuthenticatedContentSays v d b
 authenticated_content_saying v d b = struct_saying mls "AuthenticatedContent" Empty (called "wire_format" (wire_format_plain v.wire_format) ∷
@@ -95,25 +95,25 @@ content_type_naming ContentTypeApplication = refl
 content_type_naming ContentTypeProposal = refl
 content_type_naming ContentTypeCommit = refl
 
-pub content_type_data_saying : (v : ContentTypeData) (d : Direction) (b : List ℕ) → content_type_data_format.spells d b (content_type_data_plain v) ↔ ContentTypeDataSays v d b
-content_type_data_saying (ContentTypeDataApplication a0) d b = case_saying mls "FramedContent" "content_type" (word "application") Empty (called "application_data" (number_trees (bytes_of a0)) ∷
-    []) d b
-content_type_data_saying (ContentTypeDataProposal a0) d b = case_saying mls "FramedContent" "content_type" (word "proposal") Empty (called "proposal" (proposal_plain a0) ∷
-    []) d b
-content_type_data_saying (ContentTypeDataCommit a0) d b = case_saying mls "FramedContent" "content_type" (word "commit") Empty (called "commit" (commit_plain a0) ∷
-    []) d b
-
 pub framed_content_saying : (v : FramedContent) (d : Direction) (b : List ℕ) → framed_content_format.spells d b (framed_content_plain v) ↔ FramedContentSays v d b
 framed_content_saying v d b = struct_saying mls "FramedContent" Empty (called "group_id" (number_trees (bytes_of v.group_id)) ∷
     called "epoch" (Number v.epoch) ∷
     called "sender" (sender_plain v.sender) ∷
     called "authenticated_data" (number_trees (bytes_of v.authenticated_data)) ∷
-    called "content_type" (content_type_data_plain v.content_type) ∷
+    called "body" (framed_content_body_plain v.body) ∷
     []) d b
 
 pub framed_content_auth_data_saying : (c : Tree) (v : FramedContentAuthData) (d : Direction) (b : List ℕ) → (framed_content_auth_data_format_for c).spells d b (framed_content_auth_data_plain v) ↔ FramedContentAuthDataSays c v d b
 framed_content_auth_data_saying c v d b = struct_saying mls "FramedContentAuthData" c (called "signature" (number_trees (bytes_of v.signature)) ∷
     called "confirmation_tag" (option_plain (λ v. number_trees (bytes_of v)) v.confirmation_tag) ∷
+    []) d b
+
+pub framed_content_body_saying : (v : FramedContentBody) (d : Direction) (b : List ℕ) → framed_content_body_format.spells d b (framed_content_body_plain v) ↔ FramedContentBodySays v d b
+framed_content_body_saying (FramedContentBodyApplication a0) d b = case_saying mls "FramedContent" "content_type" (word "application") Empty (called "application_data" (number_trees (bytes_of a0)) ∷
+    []) d b
+framed_content_body_saying (FramedContentBodyProposal a0) d b = case_saying mls "FramedContent" "content_type" (word "proposal") Empty (called "proposal" (proposal_plain a0) ∷
+    []) d b
+framed_content_body_saying (FramedContentBodyCommit a0) d b = case_saying mls "FramedContent" "content_type" (word "commit") Empty (called "commit" (commit_plain a0) ∷
     []) d b
 
 pub framed_content_tbs_saying : (v : FramedContentTBS) (d : Direction) (b : List ℕ) → framed_content_tbs_format.spells d b (framed_content_tbs_plain v) ↔ FramedContentTBSSays v d b
@@ -129,7 +129,19 @@ interim_transcript_hash_input_saying v d b = borrowed_saying mls "InterimTranscr
 
 pub mls_message_saying : (v : MLSMessage) (d : Direction) (b : List ℕ) → mls_message_format.spells d b (mls_message_plain v) ↔ MLSMessageSays v d b
 mls_message_saying v d b = struct_saying mls "MLSMessage" Empty (called "version" (protocol_version_mls10_plain v.version) ∷
-    called "wire_format" (wire_format_data_plain v.wire_format) ∷
+    called "body" (mls_message_body_plain v.body) ∷
+    []) d b
+
+pub mls_message_body_saying : (v : MLSMessageBody) (d : Direction) (b : List ℕ) → mls_message_body_format.spells d b (mls_message_body_plain v) ↔ MLSMessageBodySays v d b
+mls_message_body_saying (MLSMessageBodyMlsPublicMessage a0) d b = case_saying mls "MLSMessage" "wire_format" (word "mls_public_message") Empty (called "public_message" (public_message_plain a0) ∷
+    []) d b
+mls_message_body_saying (MLSMessageBodyMlsPrivateMessage a0) d b = case_saying mls "MLSMessage" "wire_format" (word "mls_private_message") Empty (called "private_message" (private_message_plain a0) ∷
+    []) d b
+mls_message_body_saying (MLSMessageBodyMlsWelcome a0) d b = case_saying mls "MLSMessage" "wire_format" (word "mls_welcome") Empty (called "welcome" (welcome_plain a0) ∷
+    []) d b
+mls_message_body_saying (MLSMessageBodyMlsGroupInfo a0) d b = case_saying mls "MLSMessage" "wire_format" (word "mls_group_info") Empty (called "group_info" (group_info_plain a0) ∷
+    []) d b
+mls_message_body_saying (MLSMessageBodyMlsKeyPackage a0) d b = case_saying mls "MLSMessage" "wire_format" (word "mls_key_package") Empty (called "key_package" (key_package_plain a0) ∷
     []) d b
 
 pub private_content_saying : (c : Tree) (v : PrivateContent) (d : Direction) (b : List ℕ) → (private_content_format_for c).spells d b (private_content_plain v) ↔ PrivateContentSays c v d b
@@ -201,15 +213,3 @@ sender_type_naming SenderTypeNewMemberCommit = refl
 
 pub wire_format_saying : (v : WireFormat) (d : Direction) (b : List ℕ) → wire_format_format.spells d b (wire_format_plain v) ↔ WireFormatSays v d b
 wire_format_saying v d b = number_saying mls "WireFormat" v.0 d b
-
-pub wire_format_data_saying : (v : WireFormatData) (d : Direction) (b : List ℕ) → wire_format_data_format.spells d b (wire_format_data_plain v) ↔ WireFormatDataSays v d b
-wire_format_data_saying (WireFormatDataMlsPublicMessage a0) d b = case_saying mls "MLSMessage" "wire_format" (word "mls_public_message") Empty (called "public_message" (public_message_plain a0) ∷
-    []) d b
-wire_format_data_saying (WireFormatDataMlsPrivateMessage a0) d b = case_saying mls "MLSMessage" "wire_format" (word "mls_private_message") Empty (called "private_message" (private_message_plain a0) ∷
-    []) d b
-wire_format_data_saying (WireFormatDataMlsWelcome a0) d b = case_saying mls "MLSMessage" "wire_format" (word "mls_welcome") Empty (called "welcome" (welcome_plain a0) ∷
-    []) d b
-wire_format_data_saying (WireFormatDataMlsGroupInfo a0) d b = case_saying mls "MLSMessage" "wire_format" (word "mls_group_info") Empty (called "group_info" (group_info_plain a0) ∷
-    []) d b
-wire_format_data_saying (WireFormatDataMlsKeyPackage a0) d b = case_saying mls "MLSMessage" "wire_format" (word "mls_key_package") Empty (called "key_package" (key_package_plain a0) ∷
-    []) d b

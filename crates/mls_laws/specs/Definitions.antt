@@ -205,6 +205,10 @@ notes =
     FillsZeros (codes "PrivateMessageContent.padding") ∷
     IsCalled (codes "PrivateMessageContent.content_type") (codes "PrivateContent") ∷
     IsCalled (codes "PrivateMessageContent.content_type") (codes "content") ∷
+    IsCalled (codes "MLSMessage.wire_format") (codes "MLSMessageBody") ∷
+    IsCalled (codes "MLSMessage.wire_format") (codes "body") ∷
+    IsCalled (codes "FramedContent.content_type") (codes "FramedContentBody") ∷
+    IsCalled (codes "FramedContent.content_type") (codes "body") ∷
     []
 
 abbrev pub mls : Text

@@ -25,4 +25,10 @@ notes_text = lines (
     "PrivateMessageContent.padding fills rest with zeros;" ∷
     "PrivateMessageContent.content_type called PrivateContent;" ∷
     "PrivateMessageContent.content_type called content;" ∷
+    "" ∷
+    "// A tag and what its select has." ∷
+    "MLSMessage.wire_format called MLSMessageBody;" ∷
+    "MLSMessage.wire_format called body;" ∷
+    "FramedContent.content_type called FramedContentBody;" ∷
+    "FramedContent.content_type called body;" ∷
     [])

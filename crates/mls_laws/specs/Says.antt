@@ -6,34 +6,35 @@ use Rattle.tls_presentation.specs.Definition.{word}
 use Rattle.mls_laws.specs.Definitions.{mls}
 use Rattle.tls_presentation.specs.Says.{called, says, value_says, number_says, case_says, choice_says}
 use Rattle.mls.specs.ContentType.{content_type_plain}
-use Rattle.mls.specs.ContentTypeData.{content_type_data_plain}
 use Rattle.mls.specs.FramedContent.{framed_content_plain}
 use Rattle.mls.specs.FramedContentAuthData.{framed_content_auth_data_plain}
+use Rattle.mls.specs.FramedContentBody.{framed_content_body_plain}
 use Rattle.mls.specs.FramedContentTBS.{framed_content_tbs_plain}
+use Rattle.mls.specs.MLSMessageBody.{mls_message_body_plain}
 use Rattle.mls.specs.PrivateContent.{private_content_plain}
 use Rattle.mls.specs.PrivateMessage.{private_message_plain}
 use Rattle.mls.specs.PublicMessage.{public_message_plain}
 use Rattle.mls.specs.Sender.{sender_plain}
 use Rattle.mls.specs.WireFormat.{wire_format_plain}
-use Rattle.mls.specs.WireFormatData.{wire_format_data_plain}
-use Rattle.mls_tree.specs.KeyPackage.{key_package_plain}
 use Rattle.mls_group.specs.Commit.{commit_plain}
 use Rattle.mls_group.specs.GroupContext.{group_context_plain}
 use Rattle.mls_group.specs.GroupInfo.{group_info_plain}
 use Rattle.mls_group.specs.Proposal.{proposal_plain}
 use Rattle.mls_group.specs.ProtocolVersionMls10.{protocol_version_mls10_plain}
 use Rattle.mls_group.specs.Welcome.{welcome_plain}
+use Rattle.mls_tree.specs.KeyPackage.{key_package_plain}
 use Rattle.tls_codec.specs.Contents.{bytes_of}
 use Rattle.mls.specs.declared.authenticated_content.AuthenticatedContent.{AuthenticatedContent}
 use Rattle.mls.specs.declared.authenticated_content_tbm.AuthenticatedContentTBM.{AuthenticatedContentTBM}
 use Rattle.mls.specs.declared.confirmed_transcript_hash_input.ConfirmedTranscriptHashInput.{ConfirmedTranscriptHashInput}
 use Rattle.mls.specs.declared.content_type.ContentType.{ContentType}
-use Rattle.mls.specs.declared.content_type_data.ContentTypeData.{ContentTypeData}
 use Rattle.mls.specs.declared.framed_content.FramedContent.{FramedContent}
 use Rattle.mls.specs.declared.framed_content_auth_data.FramedContentAuthData.{FramedContentAuthData}
+use Rattle.mls.specs.declared.framed_content_body.FramedContentBody.{FramedContentBody}
 use Rattle.mls.specs.declared.framed_content_tbs.FramedContentTBS.{FramedContentTBS}
 use Rattle.mls.specs.declared.interim_transcript_hash_input.InterimTranscriptHashInput.{InterimTranscriptHashInput}
 use Rattle.mls.specs.declared.mls_message.MLSMessage.{MLSMessage}
+use Rattle.mls.specs.declared.mls_message_body.MLSMessageBody.{MLSMessageBody}
 use Rattle.mls.specs.declared.private_content.PrivateContent.{PrivateContent}
 use Rattle.mls.specs.declared.private_content_aad.PrivateContentAAD.{PrivateContentAAD}
 use Rattle.mls.specs.declared.private_message.PrivateMessage.{PrivateMessage}
@@ -44,13 +45,12 @@ use Rattle.mls.specs.declared.sender_data.SenderData.{SenderData}
 use Rattle.mls.specs.declared.sender_data_aad.SenderDataAAD.{SenderDataAAD}
 use Rattle.mls.specs.declared.sender_type.SenderType.{SenderType}
 use Rattle.mls.specs.declared.wire_format.WireFormat.{WireFormat}
-use Rattle.mls.specs.declared.wire_format_data.WireFormatData.{WireFormatData}
 use Rattle.mls.specs.declared.content_type.ContentType.TheVariants.{Application as ContentTypeApplication, Proposal as ContentTypeProposal, Commit as ContentTypeCommit}
-use Rattle.mls.specs.declared.content_type_data.ContentTypeData.TheVariants.{Application as ContentTypeDataApplication, Proposal as ContentTypeDataProposal, Commit as ContentTypeDataCommit}
+use Rattle.mls.specs.declared.framed_content_body.FramedContentBody.TheVariants.{Application as FramedContentBodyApplication, Proposal as FramedContentBodyProposal, Commit as FramedContentBodyCommit}
+use Rattle.mls.specs.declared.mls_message_body.MLSMessageBody.TheVariants.{MlsPublicMessage as MLSMessageBodyMlsPublicMessage, MlsPrivateMessage as MLSMessageBodyMlsPrivateMessage, MlsWelcome as MLSMessageBodyMlsWelcome, MlsGroupInfo as MLSMessageBodyMlsGroupInfo, MlsKeyPackage as MLSMessageBodyMlsKeyPackage}
 use Rattle.mls.specs.declared.private_content.PrivateContent.TheVariants.{Application as PrivateContentApplication, Proposal as PrivateContentProposal, Commit as PrivateContentCommit}
 use Rattle.mls.specs.declared.sender.Sender.TheVariants.{Member as SenderMember, External as SenderExternal, NewMemberCommit as SenderNewMemberCommit, NewMemberProposal as SenderNewMemberProposal}
 use Rattle.mls.specs.declared.sender_type.SenderType.TheVariants.{Member as SenderTypeMember, External as SenderTypeExternal, NewMemberProposal as SenderTypeNewMemberProposal, NewMemberCommit as SenderTypeNewMemberCommit}
-use Rattle.mls.specs.declared.wire_format_data.WireFormatData.TheVariants.{MlsPublicMessage as WireFormatDataMlsPublicMessage, MlsPrivateMessage as WireFormatDataMlsPrivateMessage, MlsWelcome as WireFormatDataMlsWelcome, MlsGroupInfo as WireFormatDataMlsGroupInfo, MlsKeyPackage as WireFormatDataMlsKeyPackage}
 
 abbrev pub AuthenticatedContentSays : AuthenticatedContent → Direction → List ℕ → Type 0
 AuthenticatedContentSays v = says mls "AuthenticatedContent" Empty (called "wire_format" (wire_format_plain v.wire_format) ∷
@@ -74,25 +74,25 @@ ContentTypeSays ContentTypeApplication = value_says mls "ContentType" "applicati
 ContentTypeSays ContentTypeProposal = value_says mls "ContentType" "proposal"
 ContentTypeSays ContentTypeCommit = value_says mls "ContentType" "commit"
 
-abbrev pub ContentTypeDataSays : ContentTypeData → Direction → List ℕ → Type 0
-ContentTypeDataSays (ContentTypeDataApplication a0) = case_says mls "FramedContent" "content_type" (word "application") Empty (called "application_data" (number_trees (bytes_of a0)) ∷
-    [])
-ContentTypeDataSays (ContentTypeDataProposal a0) = case_says mls "FramedContent" "content_type" (word "proposal") Empty (called "proposal" (proposal_plain a0) ∷
-    [])
-ContentTypeDataSays (ContentTypeDataCommit a0) = case_says mls "FramedContent" "content_type" (word "commit") Empty (called "commit" (commit_plain a0) ∷
-    [])
-
 abbrev pub FramedContentSays : FramedContent → Direction → List ℕ → Type 0
 FramedContentSays v = says mls "FramedContent" Empty (called "group_id" (number_trees (bytes_of v.group_id)) ∷
     called "epoch" (Number v.epoch) ∷
     called "sender" (sender_plain v.sender) ∷
     called "authenticated_data" (number_trees (bytes_of v.authenticated_data)) ∷
-    called "content_type" (content_type_data_plain v.content_type) ∷
+    called "body" (framed_content_body_plain v.body) ∷
     [])
 
 abbrev pub FramedContentAuthDataSays : Tree → FramedContentAuthData → Direction → List ℕ → Type 0
 FramedContentAuthDataSays c v = says mls "FramedContentAuthData" c (called "signature" (number_trees (bytes_of v.signature)) ∷
     called "confirmation_tag" (option_plain (λ v. number_trees (bytes_of v)) v.confirmation_tag) ∷
+    [])
+
+abbrev pub FramedContentBodySays : FramedContentBody → Direction → List ℕ → Type 0
+FramedContentBodySays (FramedContentBodyApplication a0) = case_says mls "FramedContent" "content_type" (word "application") Empty (called "application_data" (number_trees (bytes_of a0)) ∷
+    [])
+FramedContentBodySays (FramedContentBodyProposal a0) = case_says mls "FramedContent" "content_type" (word "proposal") Empty (called "proposal" (proposal_plain a0) ∷
+    [])
+FramedContentBodySays (FramedContentBodyCommit a0) = case_says mls "FramedContent" "content_type" (word "commit") Empty (called "commit" (commit_plain a0) ∷
     [])
 
 abbrev pub FramedContentTBSSays : FramedContentTBS → Direction → List ℕ → Type 0
@@ -108,7 +108,19 @@ InterimTranscriptHashInputSays v = says mls "InterimTranscriptHashInput" Empty (
 
 abbrev pub MLSMessageSays : MLSMessage → Direction → List ℕ → Type 0
 MLSMessageSays v = says mls "MLSMessage" Empty (called "version" (protocol_version_mls10_plain v.version) ∷
-    called "wire_format" (wire_format_data_plain v.wire_format) ∷
+    called "body" (mls_message_body_plain v.body) ∷
+    [])
+
+abbrev pub MLSMessageBodySays : MLSMessageBody → Direction → List ℕ → Type 0
+MLSMessageBodySays (MLSMessageBodyMlsPublicMessage a0) = case_says mls "MLSMessage" "wire_format" (word "mls_public_message") Empty (called "public_message" (public_message_plain a0) ∷
+    [])
+MLSMessageBodySays (MLSMessageBodyMlsPrivateMessage a0) = case_says mls "MLSMessage" "wire_format" (word "mls_private_message") Empty (called "private_message" (private_message_plain a0) ∷
+    [])
+MLSMessageBodySays (MLSMessageBodyMlsWelcome a0) = case_says mls "MLSMessage" "wire_format" (word "mls_welcome") Empty (called "welcome" (welcome_plain a0) ∷
+    [])
+MLSMessageBodySays (MLSMessageBodyMlsGroupInfo a0) = case_says mls "MLSMessage" "wire_format" (word "mls_group_info") Empty (called "group_info" (group_info_plain a0) ∷
+    [])
+MLSMessageBodySays (MLSMessageBodyMlsKeyPackage a0) = case_says mls "MLSMessage" "wire_format" (word "mls_key_package") Empty (called "key_package" (key_package_plain a0) ∷
     [])
 
 abbrev pub PrivateContentSays : Tree → PrivateContent → Direction → List ℕ → Type 0
@@ -174,15 +186,3 @@ SenderTypeSays SenderTypeNewMemberCommit = value_says mls "SenderType" "new_memb
 
 abbrev pub WireFormatSays : WireFormat → Direction → List ℕ → Type 0
 WireFormatSays v = number_says mls "WireFormat" v.0
-
-abbrev pub WireFormatDataSays : WireFormatData → Direction → List ℕ → Type 0
-WireFormatDataSays (WireFormatDataMlsPublicMessage a0) = case_says mls "MLSMessage" "wire_format" (word "mls_public_message") Empty (called "public_message" (public_message_plain a0) ∷
-    [])
-WireFormatDataSays (WireFormatDataMlsPrivateMessage a0) = case_says mls "MLSMessage" "wire_format" (word "mls_private_message") Empty (called "private_message" (private_message_plain a0) ∷
-    [])
-WireFormatDataSays (WireFormatDataMlsWelcome a0) = case_says mls "MLSMessage" "wire_format" (word "mls_welcome") Empty (called "welcome" (welcome_plain a0) ∷
-    [])
-WireFormatDataSays (WireFormatDataMlsGroupInfo a0) = case_says mls "MLSMessage" "wire_format" (word "mls_group_info") Empty (called "group_info" (group_info_plain a0) ∷
-    [])
-WireFormatDataSays (WireFormatDataMlsKeyPackage a0) = case_says mls "MLSMessage" "wire_format" (word "mls_key_package") Empty (called "key_package" (key_package_plain a0) ∷
-    [])

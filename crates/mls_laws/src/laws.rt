@@ -4,17 +4,18 @@ ghost use Rattle.tls_codec_grammar.specs.Tree.{Tree};
 ghost use Rattle.tls_presentation.specs.Meaning.{SameBytes, means, part_means};
 ghost use Rattle.tls_presentation.specs.Says.{SpelledAs};
 ghost use Rattle.mls_laws.specs.Definitions.{mls};
-ghost use Rattle.mls_laws.specs.Says.{AuthenticatedContentSays, AuthenticatedContentTBMSays, ConfirmedTranscriptHashInputSays, ContentTypeSays, ContentTypeDataSays, FramedContentSays, FramedContentAuthDataSays, FramedContentTBSSays, InterimTranscriptHashInputSays, MLSMessageSays, PrivateContentSays, PrivateContentAADSays, PrivateMessageSays, PrivateMessageContentSays, PublicMessageSays, SenderSays, SenderDataSays, SenderDataAADSays, SenderTypeSays, WireFormatSays, WireFormatDataSays};
+ghost use Rattle.mls_laws.specs.Says.{AuthenticatedContentSays, AuthenticatedContentTBMSays, ConfirmedTranscriptHashInputSays, ContentTypeSays, FramedContentSays, FramedContentAuthDataSays, FramedContentBodySays, FramedContentTBSSays, InterimTranscriptHashInputSays, MLSMessageSays, MLSMessageBodySays, PrivateContentSays, PrivateContentAADSays, PrivateMessageSays, PrivateMessageContentSays, PublicMessageSays, SenderSays, SenderDataSays, SenderDataAADSays, SenderTypeSays, WireFormatSays};
 ghost use Rattle.mls.specs.declared.authenticated_content.AuthenticatedContent.{AuthenticatedContent};
 ghost use Rattle.mls.specs.declared.authenticated_content_tbm.AuthenticatedContentTBM.{AuthenticatedContentTBM};
 ghost use Rattle.mls.specs.declared.confirmed_transcript_hash_input.ConfirmedTranscriptHashInput.{ConfirmedTranscriptHashInput};
 ghost use Rattle.mls.specs.declared.content_type.ContentType.{ContentType};
-ghost use Rattle.mls.specs.declared.content_type_data.ContentTypeData.{ContentTypeData};
 ghost use Rattle.mls.specs.declared.framed_content.FramedContent.{FramedContent};
 ghost use Rattle.mls.specs.declared.framed_content_auth_data.FramedContentAuthData.{FramedContentAuthData};
+ghost use Rattle.mls.specs.declared.framed_content_body.FramedContentBody.{FramedContentBody};
 ghost use Rattle.mls.specs.declared.framed_content_tbs.FramedContentTBS.{FramedContentTBS};
 ghost use Rattle.mls.specs.declared.interim_transcript_hash_input.InterimTranscriptHashInput.{InterimTranscriptHashInput};
 ghost use Rattle.mls.specs.declared.mls_message.MLSMessage.{MLSMessage};
+ghost use Rattle.mls.specs.declared.mls_message_body.MLSMessageBody.{MLSMessageBody};
 ghost use Rattle.mls.specs.declared.private_content.PrivateContent.{PrivateContent};
 ghost use Rattle.mls.specs.declared.private_content_aad.PrivateContentAAD.{PrivateContentAAD};
 ghost use Rattle.mls.specs.declared.private_message.PrivateMessage.{PrivateMessage};
@@ -25,7 +26,6 @@ ghost use Rattle.mls.specs.declared.sender_data.SenderData.{SenderData};
 ghost use Rattle.mls.specs.declared.sender_data_aad.SenderDataAAD.{SenderDataAAD};
 ghost use Rattle.mls.specs.declared.sender_type.SenderType.{SenderType};
 ghost use Rattle.mls.specs.declared.wire_format.WireFormat.{WireFormat};
-ghost use Rattle.mls.specs.declared.wire_format_data.WireFormatData.{WireFormatData};
 ghost use Rattle.mls.specs.ContentType.{content_type_code, content_type_name};
 ghost use Rattle.mls.specs.SenderType.{sender_type_code, sender_type_name};
 ghost use Rattle.mls.specs.WireFormat.{wire_format_names};
@@ -34,10 +34,10 @@ ghost use Rattle.tls_presentation.specs.Says.{names_in, value_number};
 
 use mls::{
     AuthenticatedContent, AuthenticatedContentTBM, ConfirmedTranscriptHashInput, ContentType,
-    ContentTypeData, FramedContent, FramedContentAuthData, FramedContentTBS,
-    InterimTranscriptHashInput, MLSMessage, PrivateContent, PrivateContentAAD, PrivateMessage,
-    PrivateMessageContent, PublicMessage, Sender, SenderData, SenderDataAAD, SenderType,
-    WireFormat, WireFormatData,
+    FramedContent, FramedContentAuthData, FramedContentBody, FramedContentTBS,
+    InterimTranscriptHashInput, MLSMessage, MLSMessageBody, PrivateContent, PrivateContentAAD,
+    PrivateMessage, PrivateMessageContent, PublicMessage, Sender, SenderData, SenderDataAAD,
+    SenderType, WireFormat,
 };
 use tls_codec::{Size, SizeFor};
 
@@ -78,14 +78,6 @@ pub fn content_type_is_as_printed()
         ≡ content_type_code v }
 {}
 
-/// `ContentTypeData`.
-pub fn content_type_data_is_as_printed()
-    ensures bytes { (c : Tree) → SameBytes (part_means mls "FramedContent" "content_type" c)
-        ⟦<ContentTypeData as Size>⟧.format }
-    ensures values { (v : ContentTypeData) → SpelledAs ⟦<ContentTypeData as Size>⟧.format
-        (⟦<ContentTypeData as Size>⟧.plain v) (ContentTypeDataSays v) }
-{}
-
 /// `FramedContent`.
 pub fn framed_content_is_as_printed()
     ensures bytes { (c : Tree) → SameBytes (means mls "FramedContent" c)
@@ -102,6 +94,14 @@ pub fn framed_content_auth_data_is_as_printed()
         SpelledAs (⟦<FramedContentAuthData as SizeFor<ContentType>>⟧.format_for c)
         (⟦<FramedContentAuthData as SizeFor<ContentType>>⟧.plain v)
         (FramedContentAuthDataSays c v) }
+{}
+
+/// `FramedContentBody`.
+pub fn framed_content_body_is_as_printed()
+    ensures bytes { (c : Tree) → SameBytes (part_means mls "FramedContent" "body" c)
+        ⟦<FramedContentBody as Size>⟧.format }
+    ensures values { (v : FramedContentBody) → SpelledAs ⟦<FramedContentBody as Size>⟧.format
+        (⟦<FramedContentBody as Size>⟧.plain v) (FramedContentBodySays v) }
 {}
 
 /// `FramedContentTBS`.
@@ -128,6 +128,14 @@ pub fn mls_message_is_as_printed()
         ⟦<MLSMessage as Size>⟧.format }
     ensures values { (v : MLSMessage) → SpelledAs ⟦<MLSMessage as Size>⟧.format
         (⟦<MLSMessage as Size>⟧.plain v) (MLSMessageSays v) }
+{}
+
+/// `MLSMessageBody`.
+pub fn mls_message_body_is_as_printed()
+    ensures bytes { (c : Tree) → SameBytes (part_means mls "MLSMessage" "body" c)
+        ⟦<MLSMessageBody as Size>⟧.format }
+    ensures values { (v : MLSMessageBody) → SpelledAs ⟦<MLSMessageBody as Size>⟧.format
+        (⟦<MLSMessageBody as Size>⟧.plain v) (MLSMessageBodySays v) }
 {}
 
 /// `PrivateContent`.
@@ -214,12 +222,4 @@ pub fn wire_format_is_as_printed()
     ensures values { (v : WireFormat) → SpelledAs ⟦<WireFormat as Size>⟧.format
         (⟦<WireFormat as Size>⟧.plain v) (WireFormatSays v) }
     ensures names { wire_format_names ≡ names_in mls "WireFormat" }
-{}
-
-/// `WireFormatData`.
-pub fn wire_format_data_is_as_printed()
-    ensures bytes { (c : Tree) → SameBytes (part_means mls "MLSMessage" "wire_format" c)
-        ⟦<WireFormatData as Size>⟧.format }
-    ensures values { (v : WireFormatData) → SpelledAs ⟦<WireFormatData as Size>⟧.format
-        (⟦<WireFormatData as Size>⟧.plain v) (WireFormatDataSays v) }
 {}

@@ -25,7 +25,7 @@ pub struct LeafNode {
     pub credential: Credential,
     /// `Capabilities capabilities;`
     pub capabilities: Capabilities,
-    /// `LeafNodeSource leaf_node_source;`
+    /// `LeafNodeSource leaf_node_source; select (leaf_node_source);`
     pub leaf_node_source: LeafNodeOrigin,
     /// `Extension extensions<V>;`
     pub extensions: Vec<Extension>,
@@ -157,7 +157,7 @@ pub struct LeafNodeView<'a> {
     pub credential: Encoded<'a, Credential>,
     /// `Capabilities capabilities;`
     pub capabilities: Encoded<'a, Capabilities>,
-    /// `LeafNodeSource leaf_node_source;`
+    /// `LeafNodeSource leaf_node_source; select (leaf_node_source);`
     pub leaf_node_source: Encoded<'a, LeafNodeOrigin>,
     /// `Extension extensions<V>;`
     pub extensions: Encoded<'a, Vec<Extension>>,

@@ -23,7 +23,7 @@ pub struct LeafNodeTBS<'a> {
     pub credential: &'a Credential,
     /// `Capabilities capabilities;`
     pub capabilities: &'a Capabilities,
-    /// `LeafNodeSource leaf_node_source;`
+    /// `LeafNodeSource leaf_node_source; select (leaf_node_source);`
     pub leaf_node_source: LeafNodeTBSOrigin<'a>,
 }
 

@@ -181,6 +181,9 @@ impl<'a> Resolver<'a> {
         let own = given.unwrap_or(&tag.name);
         check_letters(self.alloc, own)?;
         let words = underscored(self.alloc, own.text.as_str())?;
+        let mut declared = declared(self.alloc, tag)?;
+        let of_tag = tag.name.text.as_str();
+        write!(declared, " select ({of_tag});")?;
         Ok(ResolvedMember {
             member: Member {
                 name: field_name(self.alloc, words.as_str())?,
@@ -191,7 +194,7 @@ impl<'a> Resolver<'a> {
                 },
                 decided: Decided::Alone,
                 present_for: None,
-                declared: declared(self.alloc, tag)?,
+                declared,
                 comment: tag.name.remark.text.clone()?,
             },
             place: tag.name.place,

@@ -1,7 +1,7 @@
 //! Key packages as docs/MLS.md reads them.
 use crate::tests::mls_messages::{KEY_PACKAGE, PRIVATE_MESSAGE};
 use crate::tests::same;
-use mls::{MLSMessage, WireFormatData};
+use mls::{MLSMessage, MLSMessageBody};
 use mls_tree::{KeyPackage, KeyPackageView};
 use std::alloc::Global;
 use std::test::Fail;
@@ -12,8 +12,8 @@ use tls_codec_views::Encoded;
 // The key package that a message is. Rejected bytes cost no memory.
 fn key_package_of(alloc: Global, bytes: &[u8]) -> Result<Option<KeyPackage>, Error> {
     let message = MLSMessage::tls_deserialize_validated(alloc, bytes)?;
-    match message.wire_format {
-        WireFormatData::MlsKeyPackage(package) => Ok(Some(package)),
+    match message.body {
+        MLSMessageBody::MlsKeyPackage(package) => Ok(Some(package)),
         _ => Ok(None),
     }
 }

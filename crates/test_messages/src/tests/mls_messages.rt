@@ -1,7 +1,7 @@
 //! Messages of MLS (RFC 9420), encoded field by field.
 use crate::tests::each_call::expect_encoded_as;
 use crate::tests::{holds, same, same_at};
-use mls::{CipherSuite, Credential, LeafNodeOrigin, Lifetime, MLSMessage, Sender, WireFormatData};
+use mls::{CipherSuite, Credential, LeafNodeOrigin, Lifetime, MLSMessage, MLSMessageBody, Sender};
 use std::alloc::Global;
 use std::process::Abort;
 use std::test::Fail;
@@ -211,23 +211,17 @@ fn each_wire_format(rt: HostRuntime) -> Result<(), Fail> {
     let message = is_message(&rt, alloc, &COMMIT)?;
     holds(
         &rt,
-        matches!(message.wire_format, WireFormatData::MlsPublicMessage(_)),
+        matches!(message.body, MLSMessageBody::MlsPublicMessage(_)),
     );
     let message = is_message(&rt, alloc, &PRIVATE_MESSAGE)?;
     holds(
         &rt,
-        matches!(message.wire_format, WireFormatData::MlsPrivateMessage(_)),
+        matches!(message.body, MLSMessageBody::MlsPrivateMessage(_)),
     );
     let message = is_message(&rt, alloc, &WELCOME)?;
-    holds(
-        &rt,
-        matches!(message.wire_format, WireFormatData::MlsWelcome(_)),
-    );
+    holds(&rt, matches!(message.body, MLSMessageBody::MlsWelcome(_)));
     let message = is_message(&rt, alloc, &GROUP_INFO)?;
-    holds(
-        &rt,
-        matches!(message.wire_format, WireFormatData::MlsGroupInfo(_)),
-    );
+    holds(&rt, matches!(message.body, MLSMessageBody::MlsGroupInfo(_)));
     Ok(())
 }
 
@@ -235,7 +229,7 @@ fn each_wire_format(rt: HostRuntime) -> Result<(), Fail> {
 fn a_key_package(rt: HostRuntime) -> Result<(), Fail> {
     let alloc = rt.alloc();
     let message = is_message(&rt, alloc, &KEY_PACKAGE)?;
-    let WireFormatData::MlsKeyPackage(package) = message.wire_format else {
+    let MLSMessageBody::MlsKeyPackage(package) = message.body else {
         panic!(rt; "no key package");
     };
     let suites = &package.leaf_node.capabilities.cipher_suites;

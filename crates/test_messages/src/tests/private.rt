@@ -3,7 +3,7 @@ use crate::tests::mls_messages::COMMIT;
 use crate::tests::signed::part;
 use crate::tests::{MISFIT, same};
 use mls::{
-    Commit, ContentType, ContentTypeData, FramedContent, PrivateContent, PrivateMessage,
+    Commit, ContentType, FramedContent, FramedContentBody, PrivateContent, PrivateMessage,
     PrivateMessageContent, Sender, SenderData,
 };
 use std::alloc::Global;
@@ -30,17 +30,17 @@ fn framed_content(
     sender_data: &SenderData,
     content: PrivateContent,
 ) -> FramedContent {
-    let content_type = match content {
-        PrivateContent::Application(data) => ContentTypeData::Application(data),
-        PrivateContent::Proposal(proposal) => ContentTypeData::Proposal(proposal),
-        PrivateContent::Commit(commit) => ContentTypeData::Commit(commit),
+    let body = match content {
+        PrivateContent::Application(data) => FramedContentBody::Application(data),
+        PrivateContent::Proposal(proposal) => FramedContentBody::Proposal(proposal),
+        PrivateContent::Commit(commit) => FramedContentBody::Commit(commit),
     };
     FramedContent {
         group_id: message.group_id,
         epoch: message.epoch,
         sender: Sender::Member(sender_data.leaf_index),
         authenticated_data: message.authenticated_data,
-        content_type,
+        body,
     }
 }
 

@@ -1,7 +1,7 @@
 //! Who sent a public message, and what, as docs/MLS.md reads them.
 use crate::tests::mls_messages::COMMIT;
 use crate::tests::same;
-use mls::{Commit, ContentTypeData, FramedContent, MLSMessage, Sender, WireFormatData};
+use mls::{Commit, FramedContent, FramedContentBody, MLSMessage, MLSMessageBody, Sender};
 use std::test::Fail;
 use tls_codec::DeserializeBytes;
 
@@ -14,9 +14,9 @@ fn leaf_of(content: &FramedContent) -> Option<u32> {
 }
 
 // The commit that a message's content is.
-fn commit_of(content: ContentTypeData) -> Option<Commit> {
+fn commit_of(content: FramedContentBody) -> Option<Commit> {
     match content {
-        ContentTypeData::Commit(commit) => Some(commit),
+        FramedContentBody::Commit(commit) => Some(commit),
         _ => None,
     }
 }
@@ -25,11 +25,11 @@ fn commit_of(content: ContentTypeData) -> Option<Commit> {
 fn a_commit_of_a_member(rt: HostRuntime) -> Result<(), Fail> {
     let alloc = rt.alloc();
     let message = MLSMessage::tls_deserialize_exact_bytes(alloc, &COMMIT)?;
-    let WireFormatData::MlsPublicMessage(message) = message.wire_format else {
+    let MLSMessageBody::MlsPublicMessage(message) = message.body else {
         panic!(rt; "no public message");
     };
     same(&rt, leaf_of(&message.content), Some(2));
     let expected = Commit::tls_deserialize_exact_bytes(alloc, &COMMIT[22..88])?;
-    same(&rt, commit_of(message.content.content_type), Some(expected));
+    same(&rt, commit_of(message.content.body), Some(expected));
     Ok(())
 }

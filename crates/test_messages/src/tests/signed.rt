@@ -5,18 +5,17 @@ use crate::tests::{MISFIT, expect_misfit, same};
 use mls::{
     AuthenticatedContent, AuthenticatedContentTBM, Commit, ConfirmedTranscriptHashInput,
     FramedContentTBS, GroupContext, GroupInfo, GroupInfoTBS, KeyPackage, KeyPackageTBS, LeafNode,
-    LeafNodeOrigin, LeafNodeTBS, LeafNodeTBSOrigin, MLSMessage, PrivateContentAAD,
+    LeafNodeOrigin, LeafNodeTBS, LeafNodeTBSOrigin, MLSMessage, MLSMessageBody, PrivateContentAAD,
     ProtocolVersionMls10, PublicMessage, RefHashInput, SenderDataAAD, SignContent, WireFormat,
-    WireFormatData,
 };
 use std::alloc::Global;
 use std::process::Abort;
 use std::test::Fail;
 use tls_codec::{DeserializeBytes, Error, Serialize, VLBytes};
 
-fn read(alloc: Global, bytes: &[u8]) -> Result<WireFormatData, Error> {
+fn read(alloc: Global, bytes: &[u8]) -> Result<MLSMessageBody, Error> {
     let message = MLSMessage::tls_deserialize_exact_bytes(alloc, bytes)?;
-    Ok(message.wire_format)
+    Ok(message.body)
 }
 
 // The bytes of a message from one place up to another, and then others.
@@ -51,7 +50,7 @@ fn signed_bytes(alloc: Global, package: &KeyPackage) -> Result<Vec<u8>, Error> {
 #[test]
 fn a_key_package(rt: HostRuntime) -> Result<(), Fail> {
     let alloc = rt.alloc();
-    let WireFormatData::MlsKeyPackage(package) = read(alloc, &KEY_PACKAGE)? else {
+    let MLSMessageBody::MlsKeyPackage(package) = read(alloc, &KEY_PACKAGE)? else {
         panic!(rt; "no key package");
     };
     // The label, the length of the content, and all of the key package but its signature.
@@ -64,7 +63,7 @@ fn a_key_package(rt: HostRuntime) -> Result<(), Fail> {
 }
 
 fn group_info(rt: &impl Abort, alloc: Global) -> Result<GroupInfo, Fail> {
-    let WireFormatData::MlsGroupInfo(info) = read(alloc, &GROUP_INFO)? else {
+    let MLSMessageBody::MlsGroupInfo(info) = read(alloc, &GROUP_INFO)? else {
         panic!(rt; "no group info");
     };
     Ok(info)
@@ -108,7 +107,7 @@ fn expect_leaf_written(
 }
 
 fn public_message(rt: &impl Abort, alloc: Global) -> Result<PublicMessage, Fail> {
-    let WireFormatData::MlsPublicMessage(message) = read(alloc, &COMMIT)? else {
+    let MLSMessageBody::MlsPublicMessage(message) = read(alloc, &COMMIT)? else {
         panic!(rt; "no public message");
     };
     Ok(message)
@@ -192,7 +191,7 @@ static PROPOSAL: [u8; 30] = [
 #[test]
 fn a_proposal(rt: HostRuntime) -> Result<(), Fail> {
     let alloc = rt.alloc();
-    let WireFormatData::MlsPublicMessage(message) = read(alloc, &PROPOSAL)? else {
+    let MLSMessageBody::MlsPublicMessage(message) = read(alloc, &PROPOSAL)? else {
         panic!(rt; "no public message");
     };
     same(&rt, &message.membership_tag, &None);
@@ -219,7 +218,7 @@ fn a_proposal(rt: HostRuntime) -> Result<(), Fail> {
 fn misfits(rt: HostRuntime) -> Result<(), Fail> {
     let alloc = rt.alloc();
     let mut commit = public_message(&rt, alloc)?;
-    let WireFormatData::MlsPublicMessage(mut proposal) = read(alloc, &PROPOSAL)? else {
+    let MLSMessageBody::MlsPublicMessage(mut proposal) = read(alloc, &PROPOSAL)? else {
         panic!(rt; "no public message");
     };
     proposal.membership_tag = commit.membership_tag.take();
@@ -275,7 +274,7 @@ fn the_leaf_node_of_a_commit(rt: HostRuntime) -> Result<(), Fail> {
 #[test]
 fn additional_data(rt: HostRuntime) -> Result<(), Fail> {
     let alloc = rt.alloc();
-    let WireFormatData::MlsPrivateMessage(private) = read(alloc, &PRIVATE_MESSAGE)? else {
+    let MLSMessageBody::MlsPrivateMessage(private) = read(alloc, &PRIVATE_MESSAGE)? else {
         panic!(rt; "no private message");
     };
     let content = PrivateContentAAD {
