@@ -13,8 +13,8 @@
 //!   and siblings; wrappers of slices [`TlsSliceU8`], [`TlsByteSliceU8`] and siblings.
 //! - [`Within`]: such a length with bounds, as of `CipherSuite cipher_suites<2..2^16-2>`, which is a
 //!   `TlsVec<Within<u16, 2, 65534>, CipherSuite>`.
-//! - Key material that is cleared when it is dropped: [`SecretVLBytes`], [`SecretVLByteVec`],
-//!   [`SecretTlsVecU8`] and siblings, and [`Zeroize`].
+//! - Key material that is cleared when it is dropped, though freed memory may still hold it:
+//!   [`SecretVLBytes`], [`SecretVLByteVec`], [`SecretTlsVecU8`] and siblings. [`Zeroize`] says why.
 //! - [`vlen`]: lengths as variable-length integers. [`lists`]: the engines that every list goes through.
 //! - [`deserialize_to_end`]: a value and the end of its source, as in a file that holds one message;
 //!   [`expect_end`]: the end alone.

@@ -1,5 +1,6 @@
 //! Vectors of key material after a length of one to four bytes (RFC 8446, section 3.4): the lists of
-//! `tls_codec_vec`, but they clear their elements when they are dropped.
+//! `tls_codec_vec`, but they clear their elements when they are dropped. Freed memory may still hold them:
+//! see `Zeroize` of `tls_codec_vl`.
 //!
 //! - [`list`]: [`SecretTlsVec`] and its calls, and the names [`SecretTlsVecU8`], [`SecretTlsVecU16`],
 //!   [`SecretTlsVecU24`] and [`SecretTlsVecU32`].

@@ -1,5 +1,5 @@
 //! [`SecretVarBytes`], bytes that are cleared when they are dropped, under two names: [`SecretVLBytes`] and
-//! [`SecretVLByteVec`].
+//! [`SecretVLByteVec`]. Freed memory may still hold them: see [`Zeroize`].
 ghost use Rattle.std.specs.Prelude.{◌≡◌, [], ◌∷◌, ◌++◌, is_ok, if◌then◌else◌, length, IfErr, IfOk, IsOk, MatchOption, Some};
 ghost use Rattle.tls_codec_wire.specs.declared.error.Error.TheVariants.{OutOfMemory};
 ghost use Rattle.tls_codec_grammar.specs.Tree.{number_trees};
