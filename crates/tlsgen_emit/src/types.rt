@@ -5,8 +5,8 @@ ghost use Rattle.tlsgen_emit.specs.Texts.{bracketed};
 use crate::index::Index;
 use crate::template::Holes;
 use crate::templates::types::{
-    ARRAY, BOUNDED_BYTES, BOUNDED_LIST, BYTES, EXACT_LIST, FIXED_BYTES, FIXED_LIST, Kind, LIST,
-    MESSAGE, MESSAGE_IN_CONTEXT, NUMBER, NUMBER_OF_THREE_BYTES, OPTION, PRESENT, TEXT,
+    ARRAY, BOUNDED_BYTES, BOUNDED_LIST, BYTES, EXACT_LIST, FIXED_BYTES, FIXED_LIST, LIST, MESSAGE,
+    MESSAGE_IN_CONTEXT, NUMBER, NUMBER_OF_THREE_BYTES, OPTION, PRESENT, TEXT, TypeTemplates,
 };
 use std::alloc::{AllocError, Global};
 use std::collections::BTreeMap;
@@ -31,7 +31,7 @@ pub struct Words<'a> {
     pub is_borrowed: bool,
 }
 
-impl Kind {
+impl TypeTemplates {
     // The words for a type of others.
     fn words_of<'a>(
         &self,
@@ -153,8 +153,8 @@ impl<'a> Names<'a> {
         alloc: Global,
         of: &'a Type,
         holes: Holes,
-        bytes: &Kind,
-        list: &Kind,
+        bytes: &TypeTemplates,
+        list: &TypeTemplates,
     ) -> Result<Words<'a>, AllocError> {
         match of.element {
             Element::Opaque => self.alone(alloc, bytes, holes),
@@ -183,9 +183,14 @@ impl<'a> Names<'a> {
     }
 
     // The words for a type that no message is in.
-    fn alone(&self, alloc: Global, kind: &Kind, holes: Holes) -> Result<Words<'a>, AllocError> {
+    fn alone(
+        &self,
+        alloc: Global,
+        templates: &TypeTemplates,
+        holes: Holes,
+    ) -> Result<Words<'a>, AllocError> {
         Ok(Words {
-            texts: kind.texts(alloc, &holes)?,
+            texts: templates.texts(alloc, &holes)?,
             named: None,
             cited: None,
             is_borrowed: false,
@@ -193,11 +198,11 @@ impl<'a> Names<'a> {
     }
 
     fn number(&self, alloc: Global, width: usize) -> Result<Words<'a>, AllocError> {
-        let kind = match width {
+        let templates = match width {
             3 => &NUMBER_OF_THREE_BYTES,
             _ => &NUMBER,
         };
-        self.alone(alloc, kind, of_width(alloc, width)?)
+        self.alone(alloc, templates, of_width(alloc, width)?)
     }
 
     /// The words for an element alone.
@@ -220,13 +225,13 @@ impl<'a> Names<'a> {
             alloc,
             &[("name", name), ("module", module), ("lifetime", lifetime)],
         )?;
-        let kind = if self.is_in_context(name) {
+        let templates = if self.is_in_context(name) {
             &MESSAGE_IN_CONTEXT
         } else {
             &MESSAGE
         };
         Ok(Words {
-            texts: kind.texts(alloc, &holes)?,
+            texts: templates.texts(alloc, &holes)?,
             named: Some(name),
             cited: Some(name),
             is_borrowed,
