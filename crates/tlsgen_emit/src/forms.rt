@@ -6,7 +6,6 @@ ghost use Rattle.tlsgen_emit.specs.Paths.{needs_answers};
 use crate::docs::doc;
 use crate::holds::Held;
 use crate::owners::Owner;
-use crate::parts::{Part, cases_of, has, has_bare, values_of};
 use crate::rows::Row;
 use crate::template::Holes;
 use crate::templates::views::{AFTER_TAG, IN_A_ROW};
@@ -16,6 +15,7 @@ use crate::templates::{
 };
 use crate::types::{Names, length_field};
 use crate::uses::Uses;
+use crate::variant_forms::{VariantForm, cases_of, has, has_bare, values_of};
 use crate::vocabulary::{
     CASES_OF_ROW, CASES_OF_SELECT, CASES_OF_STRUCT, CASES_OF_SUM, CASES_OF_THEN, HOLDS,
 };
@@ -51,7 +51,7 @@ pub struct Form<'a> {
     pub is_borrowed: bool,
     pub holes: Holes,
     /// Its values, or its cases.
-    pub parts: Vec<Part>,
+    pub parts: Vec<VariantForm>,
     pub uses: Uses<'a>,
     /// What it takes of the cases by name.
     pub cases: Vec<&'static str>,

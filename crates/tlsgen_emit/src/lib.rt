@@ -3,7 +3,7 @@
 //! - [`file`]: [`files_of`](file::files_of), all files of a crate, each of them a [`Written`](tlsgen_model::emitted::Written).
 //! - `code`, `specs` and `proofs`: the texts of `src/`, `specs/` and the answers, by `templates`; `imports`: which
 //!   lines of imports a text needs, by the `vocabulary`; `docs`: doc comments; `breaks`: where long lines are broken.
-//! - `forms`: a message as what stands for the holes of its templates; `template` and `lines` fill these. `parts`: its values
+//! - `forms`: a message as what stands for the holes of its templates; `template` and `lines` fill these. `variant_forms`: its values
 //!   or cases; `contents`: what cases are made of; `tags`: the tag in front of them; `sums`: cases that nest. `contexts`: what
 //!   decides its parts; `thens`: fields on tags before them; `holds` and `keys`: tags of others in it; `wholes`: a borrowed struct of
 //!   another's fields; `views`: a struct's encoding by its fields. `uses`: the names that it brings in.
@@ -27,7 +27,6 @@ mod keys;
 mod lines;
 mod nesting;
 mod owners;
-mod parts;
 mod present;
 mod proofs;
 mod rows;
@@ -39,6 +38,7 @@ mod templates;
 mod thens;
 mod types;
 mod uses;
+mod variant_forms;
 mod views;
 mod vocabulary;
 mod wholes;

@@ -3,13 +3,13 @@
 use crate::joining::Join;
 use crate::lines::{self, Lines};
 use crate::nesting::Nesting;
-use crate::parts::Part;
 use crate::rows::Row;
 use crate::template::Holes;
 use crate::templates::structs_in_context::{NOT_PARTED, PARTED};
 use crate::templates::views::{AS_READ, IN_BOX, NONE, OF_CASES, OF_FIELDS, OF_SELECT, USES};
 use crate::thens;
 use crate::types::Names;
+use crate::variant_forms::VariantForm;
 use std::alloc::{AllocError, Global};
 use tlsgen_model::plan::{Body, Decided, Element, Member, Message, Shape};
 
@@ -120,7 +120,7 @@ pub fn set_of_case(alloc: Global, holes: &mut Holes, row: &Row) -> Result<(), Al
 pub fn set_cases(
     alloc: Global,
     holes: &mut Holes,
-    parts: &[Part],
+    parts: &[VariantForm],
     texts: &[Lines],
 ) -> Result<(), AllocError> {
     if !holes.has("view_name") {
