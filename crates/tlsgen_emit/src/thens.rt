@@ -5,7 +5,7 @@ use crate::owners::Owner;
 use crate::rows::Row;
 use crate::template::Holes;
 use crate::templates::structs_on_tags::{
-    BEFORE, BEHIND, BORROWED, FIRST, GIVER, LATER, OWNED, Part,
+    BEFORE, BEHIND, BORROWED, FIRST, FieldHoles, GIVER, LATER, OWNED,
 };
 use crate::types::{Names, parenthesized};
 use crate::uses::Uses;
@@ -112,19 +112,24 @@ fn set_giver<'a>(
 }
 
 // Sets the holes of some of the fields.
-fn set_part(alloc: Global, holes: &mut Holes, row: &Row, part: &Part) -> Result<(), AllocError> {
+fn set_part(
+    alloc: Global,
+    holes: &mut Holes,
+    row: &Row,
+    words: &FieldHoles,
+) -> Result<(), AllocError> {
     let tuples = [
-        (part.types, "$part$"),
-        (part.borrowed_types, "$borrowed_part$"),
-        (part.borrowed, "$lend$"),
+        (words.types, "$part$"),
+        (words.borrowed_types, "$borrowed_part$"),
+        (words.borrowed, "$lend$"),
     ];
     for (word, template) in tuples {
         holes.set(word, row.nested(alloc, template, Join::Tuple, " ")?)?;
     }
     let definitions = [
-        (part.plain, "", "$tree_of$", &TREES),
-        (part.format, part.binds, "$format$", &FORMATS),
-        (part.law, part.binds, "$law$", &LAWS),
+        (words.plain, "", "$tree_of$", &TREES),
+        (words.format, words.binds, "$format$", &FORMATS),
+        (words.law, words.binds, "$law$", &LAWS),
     ];
     for (word, binds, template, rows) in definitions {
         let text = row.defined(alloc, template, rows, " ")?;
@@ -133,5 +138,5 @@ fn set_part(alloc: Global, holes: &mut Holes, row: &Row, part: &Part) -> Result<
             parenthesized(alloc, format!(in alloc; "{binds}{text}")?)?,
         )?;
     }
-    holes.set(part.lets, row.let_statements(alloc, part.tuple)?)
+    holes.set(words.lets, row.let_statements(alloc, words.tuple)?)
 }
