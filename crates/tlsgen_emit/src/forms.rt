@@ -5,8 +5,8 @@ ghost use Rattle.tlsgen_emit.specs.Paths.{needs_answers};
 
 use crate::docs::doc;
 use crate::holds::Held;
+use crate::nested_fields::NestedFields;
 use crate::owners::Owner;
-use crate::rows::Row;
 use crate::template::Holes;
 use crate::templates::views::{AFTER_TAG, IN_A_ROW};
 use crate::templates::{
@@ -211,10 +211,10 @@ impl<'a> Form<'a> {
         }
         let is_in_context = message.context.is_some();
         let (of, uses) = (Owner::of_struct(is_in_context), &mut self.uses);
-        let row = Row::of(alloc, names, of, self.is_borrowed, members, uses)?;
-        row.set(alloc, &mut self.holes)?;
+        let fields = NestedFields::of(alloc, names, of, self.is_borrowed, members, uses)?;
+        fields.set(alloc, &mut self.holes)?;
         self.set_read(alloc, members.len())?;
-        views::set(alloc, &mut self.holes, &row, members)?;
+        views::set(alloc, &mut self.holes, &fields, members)?;
         if !is_in_context {
             return add_names(&mut self.cases, &CASES_OF_ROW);
         }

@@ -7,7 +7,7 @@
 //!   or cases; `contents`: what cases are made of; `tags`: the tag in front of them; `sums`: cases that nest. `contexts`: what
 //!   decides its parts; `thens`: fields on tags before them; `holds` and `keys`: tags of others in it; `wholes`: a borrowed struct of
 //!   another's fields; `views`: a struct's encoding by its fields. `uses`: the names that it brings in.
-//! - `types`: what stands for a type of the plan; `index`: messages by their names. `rows`, `fields`, `owners`, `nesting` and
+//! - `types`: what stands for a type of the plan; `index`: messages by their names. `nested_fields`, `fields`, `owners`, `nesting` and
 //!   `joining`: fields in a row, as tuples that nest.
 #![tactic(auto)]
 
@@ -25,11 +25,11 @@ mod index;
 mod joining;
 mod keys;
 mod lines;
+mod nested_fields;
 mod nesting;
 mod owners;
 mod present;
 mod proofs;
-mod rows;
 mod specs;
 mod sums;
 mod tags;

@@ -1,8 +1,8 @@
 //! The fields of a struct. Some of them depend on tags that an earlier field is or holds.
 
 use crate::joining::{FORMATS, Join, LAWS, TREES};
+use crate::nested_fields::NestedFields;
 use crate::owners::Owner;
-use crate::rows::Row;
 use crate::template::Holes;
 use crate::templates::structs_on_tags::{
     BEFORE, BEHIND, BORROWED, FIRST, FieldHoles, GIVER, LATER, OWNED,
@@ -72,19 +72,19 @@ pub fn set<'a>(
         return Ok(());
     };
     let owner = set_giver(alloc, names, holes, uses, giver)?;
-    let all = Row::of(alloc, names, Owner::Struct, is_borrowed, members, uses)?;
+    let all = NestedFields::of(alloc, names, Owner::Struct, is_borrowed, members, uses)?;
     all.set(alloc, holes)?;
     let (before, others) = members.split_at_checked(giver.at).unwrap_or((&[], members));
     let (given, behind) = others.split_at_checked(1).unwrap_or((&[], others));
-    let given = Row::of(alloc, names, Owner::Struct, is_borrowed, given, uses)?;
+    let given = NestedFields::of(alloc, names, Owner::Struct, is_borrowed, given, uses)?;
     given.set_giver(alloc, holes)?;
     set_part(alloc, holes, &given, &GIVER)?;
-    let behind = Row::of(alloc, names, owner, is_borrowed, behind, uses)?;
+    let behind = NestedFields::of(alloc, names, owner, is_borrowed, behind, uses)?;
     set_part(alloc, holes, &behind, &BEHIND)?;
     if before.is_empty() {
         holes.set_each(alloc, &FIRST)?;
     } else {
-        let before = Row::of(alloc, names, Owner::Struct, is_borrowed, before, uses)?;
+        let before = NestedFields::of(alloc, names, Owner::Struct, is_borrowed, before, uses)?;
         set_part(alloc, holes, &before, &BEFORE)?;
         holes.set_each(alloc, &LATER)?;
     }
@@ -115,7 +115,7 @@ fn set_giver<'a>(
 fn set_part(
     alloc: Global,
     holes: &mut Holes,
-    row: &Row,
+    fields: &NestedFields,
     words: &FieldHoles,
 ) -> Result<(), AllocError> {
     let tuples = [
@@ -124,7 +124,7 @@ fn set_part(
         (words.borrowed, "$lend$"),
     ];
     for (word, template) in tuples {
-        holes.set(word, row.nested(alloc, template, Join::Tuple, " ")?)?;
+        holes.set(word, fields.nested(alloc, template, Join::Tuple, " ")?)?;
     }
     let definitions = [
         (words.plain, "", "$tree_of$", &TREES),
@@ -132,11 +132,11 @@ fn set_part(
         (words.law, words.binds, "$law$", &LAWS),
     ];
     for (word, binds, template, rows) in definitions {
-        let text = row.defined(alloc, template, rows, " ")?;
+        let text = fields.defined(alloc, template, rows, " ")?;
         holes.set(
             word,
             parenthesized(alloc, format!(in alloc; "{binds}{text}")?)?,
         )?;
     }
-    holes.set(words.lets, row.let_statements(alloc, words.tuple)?)
+    holes.set(words.lets, fields.let_statements(alloc, words.tuple)?)
 }

@@ -1,8 +1,8 @@
 //! The values or the cases of a message.
 
 use crate::docs::doc;
+use crate::nested_fields::NestedFields;
 use crate::owners::Owner;
-use crate::rows::Row;
 use crate::template::Holes;
 use crate::types::Names;
 use crate::uses::Uses;
@@ -62,8 +62,8 @@ pub fn cases_of<'a>(
     for variant in variants {
         let at = parts.len();
         let members = variant.fields.as_slice();
-        let row = Row::of(alloc, names, owner, is_borrowed, members, uses)?;
-        parts.push(case(alloc, holes, at, variant, &row)?)?;
+        let fields = NestedFields::of(alloc, names, owner, is_borrowed, members, uses)?;
+        parts.push(case(alloc, holes, at, variant, &fields)?)?;
     }
     contents::set(alloc, parts.as_mut_slice())?;
     Ok(parts)
@@ -74,7 +74,7 @@ fn case(
     holes: &Holes,
     at: usize,
     variant: &Variant,
-    row: &Row,
+    fields: &NestedFields,
 ) -> Result<VariantForm, AllocError> {
     let texts = [
         ("variant", variant.name.as_str()),
@@ -82,8 +82,8 @@ fn case(
         ("constant", variant.constant.as_str()),
     ];
     let mut part = VariantForm::of(alloc, holes, variant.fields.len(), at, &texts, variant.tag)?;
-    row.set(alloc, &mut part.holes)?;
-    views::set_of_case(alloc, &mut part.holes, row)?;
+    fields.set(alloc, &mut part.holes)?;
+    views::set_of_case(alloc, &mut part.holes, fields)?;
     part.set_fields(alloc)?;
     Ok(part)
 }
