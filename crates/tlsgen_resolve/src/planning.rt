@@ -26,8 +26,8 @@ const MOST: usize = 100_000;
 
 /// Why there is no plan.
 #[derive(Drop)]
-pub struct Fault {
-    /// The file at fault, by its position among the files.
+pub struct PlanError {
+    /// The rejected file, by its position among the files.
     pub file: usize,
     /// It is the file's notes.
     pub is_note: bool,
@@ -52,7 +52,7 @@ pub struct Fault {
 ///
 /// In what is made, each struct has at most 27 fields and each case at most 18, with names that differ; the numbers of
 /// an enum and of the cases of a tag differ, and have the bytes of the enum or the tag: 1, 2, 4 or 8.
-pub fn plan_of(alloc: Global, files: &mut [File]) -> Result<Plan, Fault>
+pub fn plan_of(alloc: Global, files: &mut [File]) -> Result<Plan, PlanError>
     ensures writable { IfOk result (λ plan. AreWritable plan.messages.items) }
     ensures differ { IfOk result (λ plan. HaveModules plan.messages.items) }
 {
@@ -60,7 +60,7 @@ pub fn plan_of(alloc: Global, files: &mut [File]) -> Result<Plan, Fault>
 }
 
 /// The same, with at most `most` fields and cases in all, where `plan_of` allows 100,000.
-pub fn plan_within(alloc: Global, files: &mut [File], most: usize) -> Result<Plan, Fault>
+pub fn plan_within(alloc: Global, files: &mut [File], most: usize) -> Result<Plan, PlanError>
     ensures writable { IfOk result (λ plan. AreWritable plan.messages.items) }
     ensures differ { IfOk result (λ plan. HaveModules plan.messages.items) }
 {
@@ -80,13 +80,17 @@ pub fn plan_within(alloc: Global, files: &mut [File], most: usize) -> Result<Pla
 }
 
 // Puts in place of each name the one of the definition that it means.
-fn settle_all(alloc: Global, definitions: &Definitions, files: &mut [File]) -> Result<(), Fault> {
+fn settle_all(
+    alloc: Global,
+    definitions: &Definitions,
+    files: &mut [File],
+) -> Result<(), PlanError> {
     for (at, file) in files.iter_mut().enumerate() {
         if let Err(trouble) = settle(alloc, definitions, at, file) {
-            return Err(fault_of(alloc, definitions, at, false, trouble));
+            return Err(error_of(alloc, definitions, at, false, trouble));
         }
         if let Err(trouble) = settle_notes(alloc, definitions, at, file) {
-            return Err(fault_of(alloc, definitions, at, true, trouble));
+            return Err(error_of(alloc, definitions, at, true, trouble));
         }
     }
     Ok(())
@@ -99,7 +103,7 @@ fn resolved(
     files: &[File],
     index: &Index,
     most: usize,
-) -> Result<Output, Fault> {
+) -> Result<Output, PlanError> {
     let all = Scope::new(files, index);
     let mut resolver = match Resolver::new(alloc, definitions, all, most) {
         Ok(resolver) => resolver,
@@ -110,22 +114,22 @@ fn resolved(
             return Err(out_of_memory(alloc, error));
         }
         if let Err(trouble) = resolver.check_notes(file) {
-            return Err(fault_of(alloc, definitions, at, true, trouble));
+            return Err(error_of(alloc, definitions, at, true, trouble));
         }
         if let Err(trouble) = resolver.resolve_file(file) {
-            return Err(fault_of(alloc, definitions, at, false, trouble));
+            return Err(error_of(alloc, definitions, at, false, trouble));
         }
     }
     Ok(resolver.out)
 }
 
-fn fault_of(
+fn error_of(
     alloc: Global,
     definitions: &Definitions,
     file: usize,
     is_note: bool,
     trouble: Trouble,
-) -> Fault {
+) -> PlanError {
     let homes = match &trouble {
         Trouble::Refused(refusal) => {
             definitions.homes_before(alloc, file, refusal.found.as_str())
@@ -133,7 +137,7 @@ fn fault_of(
         Trouble::Memory => Ok(Vec::new(alloc)),
     };
     match homes {
-        Ok(homes) => Fault {
+        Ok(homes) => PlanError {
             file,
             is_note,
             homes,
@@ -143,8 +147,8 @@ fn fault_of(
     }
 }
 
-fn out_of_memory(alloc: Global, error: AllocError) -> Fault {
-    Fault {
+fn out_of_memory(alloc: Global, error: AllocError) -> PlanError {
+    PlanError {
         file: 0,
         is_note: false,
         homes: Vec::new(alloc),
