@@ -25,7 +25,7 @@ pub enum Site<'a> {
 /// Where the tag of a select at a position is.
 pub fn site_of<'a>(
     alloc: Global,
-    files: Scope<'a>,
+    scope: Scope<'a>,
     all: &mut Known<'a>,
     sequence: &Sequence<'a>,
     at: usize,
@@ -36,7 +36,7 @@ pub fn site_of<'a>(
     if is_here(sequence, select) {
         return site_on_path(alloc, sequence, select, at);
     }
-    let tag = outer_tag(alloc, files, select)?;
+    let tag = outer_tag(alloc, scope, select)?;
     match giver_of(alloc, all, sequence, at, &tag)? {
         Some(giver) => Ok(Site::Before(giver)),
         None => Ok(Site::Elsewhere),

@@ -160,7 +160,7 @@ impl<'a> Resolver<'a> {
     fn resolve_file(&mut self, file: &'a File) -> Result<(), Trouble> {
         self.add_modules(file)?;
         self.check_types(file)?;
-        for at in &order_of(self.alloc, self.files, file)? {
+        for at in &order_of(self.alloc, self.scope, file)? {
             if let Some(item) = file.items.get(*at) {
                 self.resolve_item(item)?;
             }
@@ -196,7 +196,7 @@ impl<'a> Resolver<'a> {
         let declared = declared(self.alloc, field)?;
         self.out.aliases.push(Alias {
             name: type_name(self.alloc, field.name.text.as_str())?,
-            of: type_of(self.alloc, self.files, field)?,
+            of: type_of(self.alloc, self.scope, field)?,
             ends: false,
             home: self.out.home,
             doc: definition_doc(self.alloc, declared.as_str(), &field.name.remark)?,

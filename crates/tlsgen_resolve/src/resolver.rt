@@ -29,7 +29,7 @@ use tlsgen_syntax::syntax::{Field, File, Name, Remark};
 pub struct Resolver<'a> {
     pub alloc: Global,
     /// The files so far: those of other crates, and the one that is resolved now.
-    pub files: Scope<'a>,
+    pub scope: Scope<'a>,
     // The modules of the items of the file that is resolved now.
     modules: BTreeSet<String>,
     /// The structs that are resolved.
@@ -45,23 +45,23 @@ impl<'a> Resolver<'a> {
     pub fn new(
         alloc: Global,
         definitions: &Definitions,
-        files: Scope<'a>,
+        scope: Scope<'a>,
         most: usize,
     ) -> Result<Resolver<'a>, AllocError> {
         Ok(Resolver {
             alloc,
-            files,
+            scope,
             modules: BTreeSet::new(alloc),
             known: Known::new(alloc),
             placed: BTreeMap::new(alloc),
-            out: Output::new(alloc, files.files.len(), definitions.hidden(alloc)?),
+            out: Output::new(alloc, scope.files.len(), definitions.hidden(alloc)?),
             budget: Budget::new(most),
         })
     }
 
     /// Goes on to the last of these files.
-    pub fn enter(&mut self, files: Scope<'a>, home: usize) -> Result<(), AllocError> {
-        self.files = files;
+    pub fn enter(&mut self, scope: Scope<'a>, home: usize) -> Result<(), AllocError> {
+        self.scope = scope;
         let modules = replace(&mut self.modules, BTreeSet::new(self.alloc));
         self.out.enter(home, modules)
     }
@@ -75,7 +75,7 @@ impl<'a> Resolver<'a> {
     }
 
     fn add_module(&mut self, name: &Name) -> Result<(), Trouble> {
-        if self.files.count() > MOST_ITEMS {
+        if self.scope.count() > MOST_ITEMS {
             return Err(self.refused_name(name, "at most 100000 definitions"));
         }
         let module = type_module(self.alloc, name)?;
@@ -107,7 +107,7 @@ impl<'a> Resolver<'a> {
     /// The member of a field.
     pub fn member_of(&mut self, field: &Field) -> Result<ResolvedMember, Trouble> {
         self.check_member(field)?;
-        let of = type_of(self.alloc, self.files, field)?;
+        let of = type_of(self.alloc, self.scope, field)?;
         self.typed_member(field, of)
     }
 
@@ -117,7 +117,7 @@ impl<'a> Resolver<'a> {
         length: &Field,
         field: &Field,
     ) -> Result<ResolvedMember, Trouble> {
-        let of = counted_type(self.alloc, self.files, length, field)?;
+        let of = counted_type(self.alloc, self.scope, length, field)?;
         self.typed_member(field, of)
     }
 
@@ -128,7 +128,7 @@ impl<'a> Resolver<'a> {
         field: &Field,
     ) -> Result<ResolvedMember, Trouble> {
         self.check_member(field)?;
-        let of = counted_type(self.alloc, self.files, length, field)?;
+        let of = counted_type(self.alloc, self.scope, length, field)?;
         self.typed_member(field, of)
     }
 

@@ -26,12 +26,12 @@ use tlsgen_syntax::syntax::{Field, Part, Select, Struct};
 impl<'a> Resolver<'a> {
     /// Makes the messages of a struct, and keeps its pieces for the structs that have it.
     pub fn resolve_struct(&mut self, one: &'a Struct) -> Result<(), Trouble> {
-        let sequence = sequence_of(self.alloc, self.files, &mut self.known, one)?;
+        let sequence = sequence_of(self.alloc, self.scope, &mut self.known, one)?;
         self.check_borrowed(&sequence)?;
         self.make_constants(one)?;
         self.check_borrowed_context(&sequence)?;
         check_padding(self.alloc, &sequence)?;
-        match ending_of(self.files, one) {
+        match ending_of(self.scope, one) {
             Some(ending) => self.make_ending(one, ending)?,
             None if sequence.is_filling => {}
             None => self.make_messages(&sequence)?,
@@ -94,7 +94,7 @@ impl<'a> Resolver<'a> {
         select: &'a Select,
         tail: &mut Vec<ResolvedPiece<'a>>,
     ) -> Result<bool, Trouble> {
-        match site_of(self.alloc, self.files, &mut self.known, sequence, index)? {
+        match site_of(self.alloc, self.scope, &mut self.known, sequence, index)? {
             Site::Here => {
                 let select = self.resolve_select(sequence, select, index)?;
                 tail.push(ResolvedPiece::Select(select))?;
@@ -172,7 +172,7 @@ impl<'a> Resolver<'a> {
         let Some(constant) = &field.constant else {
             return Ok(());
         };
-        let fixed = fixed_of(self.alloc, self.files, field, constant)?;
+        let fixed = fixed_of(self.alloc, self.scope, field, constant)?;
         self.make_fixed(fixed)
     }
 
