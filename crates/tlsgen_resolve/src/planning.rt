@@ -173,15 +173,15 @@ impl<'a> Resolver<'a> {
 
     fn resolve_item(&mut self, item: &'a Item) -> Result<(), Trouble> {
         match item {
-            Item::Enum(one) => self.resolve_enum(one),
+            Item::Enum(definition) => self.resolve_enum(definition),
             Item::Alias(field) => self.resolve_alias(field),
-            Item::Struct(one) => self.resolve_struct(one),
+            Item::Struct(structure) => self.resolve_struct(structure),
         }
     }
 
-    fn resolve_enum(&mut self, one: &Enum) -> Result<(), Trouble> {
-        let body = enum_body(self.alloc, one)?;
-        let name = &one.name;
+    fn resolve_enum(&mut self, definition: &Enum) -> Result<(), Trouble> {
+        let body = enum_body(self.alloc, definition)?;
+        let name = &definition.name;
         let message = self.defined_message(name.text.as_str(), &name.remark, body)?;
         self.push(name.place, message)
     }
@@ -207,12 +207,12 @@ impl<'a> Resolver<'a> {
     // Rejects a struct that fills what is left of a length, and isn't a case after one.
     fn check_filling(&self) -> Result<(), Trouble> {
         let filled = filled_types(self.alloc, self.known.as_slice())?;
-        for one in self.known.as_slice() {
-            if one.is_filling && !filled.contains(one.name) {
+        for sequence in self.known.as_slice() {
+            if sequence.is_filling && !filled.contains(sequence.name) {
                 return Err(refused(
                     self.alloc,
-                    one.place,
-                    one.name,
+                    sequence.place,
+                    sequence.name,
                     "a struct that is all of a case whose length counts the rest: a note says that it fills what is left",
                 ));
             }
@@ -227,20 +227,23 @@ fn filled_types<'a>(
     known: &[Sequence<'a>],
 ) -> Result<BTreeSet<&'a str>, AllocError> {
     let mut filled = BTreeSet::new(alloc);
-    for one in known {
-        if one
+    for sequence in known {
+        if sequence
             .pieces
             .iter()
             .any(|piece| matches!(piece, Piece::Length(_)))
         {
-            add_filled(&mut filled, one)?;
+            add_filled(&mut filled, sequence)?;
         }
     }
     Ok(filled)
 }
 
-fn add_filled<'a>(filled: &mut BTreeSet<&'a str>, one: &Sequence<'a>) -> Result<(), AllocError> {
-    for piece in &one.pieces {
+fn add_filled<'a>(
+    filled: &mut BTreeSet<&'a str>,
+    sequence: &Sequence<'a>,
+) -> Result<(), AllocError> {
+    for piece in &sequence.pieces {
         if let Piece::Select(select) = piece {
             for field in select.cases.iter().flat_map(|case| case.fields.iter()) {
                 filled.insert(field.of.text.as_str())?;

@@ -142,10 +142,10 @@ impl<'a> Resolver<'a> {
 
     // Rejects a type that fills a length, or that is in a context, where it can't be.
     fn check_context(&self, field: &Field) -> Result<(), Trouble> {
-        let Some(one) = sequence_named(&self.known, field.of.text.as_str()) else {
+        let Some(sequence) = sequence_named(&self.known, field.of.text.as_str()) else {
             return Ok(());
         };
-        match self.misplaced(one, field)? {
+        match self.misplaced(sequence, field)? {
             Some(expected) => Err(self.refused_name(&field.of, expected)),
             None => Ok(()),
         }
@@ -154,21 +154,21 @@ impl<'a> Resolver<'a> {
     // What should be in place of a field of a struct's type.
     fn misplaced(
         &self,
-        one: &Sequence<'a>,
+        sequence: &Sequence<'a>,
         field: &Field,
     ) -> Result<Option<&'static str>, AllocError> {
-        if one.is_filling {
+        if sequence.is_filling {
             return Ok(Some(
                 "no struct that fills what is left, but as all of a case whose length counts the rest",
             ));
         }
-        if let Some(padding) = &one.padding {
+        if let Some(padding) = &sequence.padding {
             return Ok(Some(padding.instead()));
         }
-        if one.context.is_none() {
+        if sequence.context.is_none() {
             return Ok(None);
         }
-        if self.is_elsewhere(one.name)? {
+        if self.is_elsewhere(sequence.name)? {
             return Ok(Some("no type of another crate that is in the context of a tag elsewhere"));
         }
         if field.is_optional {

@@ -25,14 +25,14 @@ use tlsgen_syntax::syntax::{Field, Part, Select, Struct};
 
 impl<'a> Resolver<'a> {
     /// Makes the messages of a struct, and keeps its pieces for the structs that have it.
-    pub fn resolve_struct(&mut self, one: &'a Struct) -> Result<(), Trouble> {
-        let sequence = sequence_of(self.alloc, self.scope, &mut self.known, one)?;
+    pub fn resolve_struct(&mut self, structure: &'a Struct) -> Result<(), Trouble> {
+        let sequence = sequence_of(self.alloc, self.scope, &mut self.known, structure)?;
         self.check_borrowed(&sequence)?;
-        self.make_constants(one)?;
+        self.make_constants(structure)?;
         self.check_borrowed_context(&sequence)?;
         check_padding(self.alloc, &sequence)?;
-        match ending_of(self.scope, one) {
-            Some(ending) => self.make_ending(one, ending)?,
+        match ending_of(self.scope, structure) {
+            Some(ending) => self.make_ending(structure, ending)?,
             None if sequence.is_filling => {}
             None => self.make_messages(&sequence)?,
         }
@@ -144,8 +144,8 @@ impl<'a> Resolver<'a> {
     }
 
     // Makes the types of a struct's constants, unless they are there.
-    fn make_constants(&mut self, one: &Struct) -> Result<(), Trouble> {
-        for part in &one.parts {
+    fn make_constants(&mut self, structure: &Struct) -> Result<(), Trouble> {
+        for part in &structure.parts {
             match part {
                 Part::Field(field) => self.make_constant(field)?,
                 Part::Select(select) => self.make_case_constants(select)?,
