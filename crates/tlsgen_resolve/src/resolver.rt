@@ -239,6 +239,6 @@ impl<'a> Resolver<'a> {
     pub fn push(&mut self, place: Place, message: Message) -> Result<(), Trouble>
         requires { IsWritable message.body }
     {
-        self.out.push(self.alloc, place, message)
+        self.out.push(place, message)
     }
 }
