@@ -16,7 +16,6 @@ use tlsgen_model::plan::{Body, Element, Holder, Message, Other, Plan, Shape, Typ
 #[derive(Drop)]
 pub struct Words<'a> {
     /// What stands for these holes:
-    ///
     /// - `rust`: the Rust type, such as `Vec<u16>`;
     /// - `plain`: what a value stands for, as a function: `(λ v. trees Number v.items)`;
     /// - `tree`: the tree that a value stands for, with a hole for the value: `trees Number $v$.items`;
@@ -294,8 +293,7 @@ impl<'a> Names<'a> {
         }
     }
 
-    /// Whether the message with this name decides parts of others: it is the context of one, or a field before them is it
-    /// or holds it.
+    /// Whether the message with this name decides parts of others: it is their context, or a field before them is or holds it.
     pub fn is_context(&self, name: &str) -> bool {
         self.index.deciding.contains(name)
     }
