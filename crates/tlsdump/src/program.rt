@@ -21,7 +21,7 @@ use tlsgen_syntax::syntax::Item;
 /// Each message was shown.
 const ALL: u8 = 0;
 /// A field was rejected.
-const REFUSED: u8 = 1;
+const REJECTED: u8 = 1;
 /// The arguments or the input can't be read.
 const UNREAD: u8 = 2;
 /// Memory or the output failed.
@@ -170,17 +170,17 @@ fn print_messages<R: Print + Eprint + AllocGlobal>(
         is_short: matches.get_flag("short"),
     };
     let dump = dump_of(alloc, &definitions, kind, bytes)?;
-    let Answer { shown, refusal } = if matches.get_flag("json") {
+    let Answer { shown, reason } = if matches.get_flag("json") {
         json(alloc, kind.name, &dump)?
     } else {
         tree(alloc, options, &dump)?
     };
     print!(rt; "{shown}")?;
-    if dump.refused.is_none() {
+    if dump.rejection.is_none() {
         return Ok(ALL);
     }
-    eprintln!(rt; "tlsdump: {refusal}")?;
-    Ok(REFUSED)
+    eprintln!(rt; "tlsdump: {reason}")?;
+    Ok(REJECTED)
 }
 
 // All that the input has, or prints why it isn't read.

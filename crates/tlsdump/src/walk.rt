@@ -47,7 +47,7 @@ pub(crate) struct Walk<'a> {
     /// How many bytes were taken.
     pub at: usize,
     /// Where the decoder rejects a field.
-    pub refused_at: usize,
+    pub rejected_at: usize,
     pub tasks: Vec<Task<'a>>,
     pub scope: Scope<'a>,
     pub openings: Vec<Opening<'a>>,
@@ -75,13 +75,13 @@ pub fn lines_of<'a>(
     definitions: &'a Definitions,
     of: &'a str,
     bytes: &'a [u8],
-    refused_at: Option<usize>,
+    rejected_at: Option<usize>,
 ) -> Result<Walked<'a>, AllocError>
-    ensures { IfOk result (ShowsInOrder bytes.now refused_at) }
+    ensures { IfOk result (ShowsInOrder bytes.now rejected_at) }
 {
-    let walked = walk_over(alloc, definitions, of, bytes, refused_at)?;
+    let walked = walk_over(alloc, definitions, of, bytes, rejected_at)?;
     match after_lines(walked.lines.as_slice(), bytes) {
-        Some(rest) if rest.is_empty() || refused_at.is_some() => Ok(walked),
+        Some(rest) if rest.is_empty() || rejected_at.is_some() => Ok(walked),
         _ => unread(alloc, bytes, walked.stop),
     }
 }
@@ -133,20 +133,20 @@ fn walk_over<'a>(
     definitions: &'a Definitions,
     of: &'a str,
     bytes: &'a [u8],
-    refused_at: Option<usize>,
+    rejected_at: Option<usize>,
 ) -> Result<Walked<'a>, AllocError> {
     let mut walk = Walk {
         definitions,
         lines: Vec::new(alloc),
         rest: bytes,
         at: 0,
-        refused_at: refused_at.unwrap_or(usize::MAX),
+        rejected_at: rejected_at.unwrap_or(usize::MAX),
         tasks: Vec::new(alloc),
         scope: Scope::new(alloc),
         openings: Vec::new(alloc),
     };
     match walk.run(of) {
-        Ok(()) => walk.ended(refused_at.is_some()),
+        Ok(()) => walk.ended(rejected_at.is_some()),
         Err(Halt::Stop(stop)) => Ok(walk.stopped(stop)),
         Err(Halt::Memory) => Err(AllocError),
     }
@@ -204,14 +204,14 @@ impl<'a> Walk<'a> {
     }
 
     // What was walked over, and what is left as a line.
-    fn ended(self, is_refused: bool) -> Result<Walked<'a>, AllocError> {
+    fn ended(self, is_rejected: bool) -> Result<Walked<'a>, AllocError> {
         let rest = self.rest;
         let stop = Stop {
             at: self.at,
             depth: 0,
             label: ROOT.label,
             expected: Expected::End("message"),
-            found: Found::Refused,
+            found: Found::Rejected,
         };
         let mut lines = self.lines;
         if !rest.is_empty() {
@@ -224,7 +224,7 @@ impl<'a> Walk<'a> {
         }
         Ok(Walked {
             lines,
-            stop: if is_refused { Some(stop) } else { None },
+            stop: if is_rejected { Some(stop) } else { None },
         })
     }
 
@@ -272,7 +272,7 @@ impl<'a> Walk<'a> {
         expected: Expected<'a>,
         found: Found,
     ) -> Result<(), Halt<'a>> {
-        if at >= self.refused_at {
+        if at >= self.rejected_at {
             return Err(stop_at(place, at, expected, found));
         }
         Ok(())

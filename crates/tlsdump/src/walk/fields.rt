@@ -69,7 +69,7 @@ impl<'a> Walk<'a> {
                 self.parts(one, place.depth.saturating_add(1))
             }
             Definition::Alias(field) => self.alias(place, (of, name), field, expected),
-            Definition::Unknown => Err(stop_at(place, self.at, expected, Found::Refused)),
+            Definition::Unknown => Err(stop_at(place, self.at, expected, Found::Rejected)),
         }
     }
 

@@ -14,7 +14,7 @@ impl<'a> Walk<'a> {
         let Some(case) = select.cases.iter().find(|case| is_for(case, known)) else {
             let found = match known {
                 Some(known) => Found::Number(known.number),
-                None => Found::Refused,
+                None => Found::Rejected,
             };
             return Err(stop_at(place, self.at, Expected::Case(select), found));
         };

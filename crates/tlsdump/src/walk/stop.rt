@@ -50,7 +50,7 @@ pub enum Found {
     /// A number.
     Number(u64),
     /// What the decoder rejects, and the walk doesn't: a field, or all that begins with it.
-    Refused,
+    Rejected,
 }
 
 /// Why a step isn't made.

@@ -132,7 +132,7 @@ impl<'a> Walk<'a> {
             return Err(stop_at(place, length.at, expected, found));
         };
         if length.width > 0 || length.count > 0 {
-            self.stop_if_rejected(place, length.at, expected, Found::Refused)?;
+            self.stop_if_rejected(place, length.at, expected, Found::Rejected)?;
         }
         let are_bytes = matches!(
             self.definition(field.of.text.as_str()),
