@@ -25,7 +25,7 @@ use crate::walk::definitions::{Definition, Definitions};
 use crate::walk::line::{Label, Line, Shown};
 use crate::walk::opened::role_of;
 use crate::walk::scope::{Known, Scope};
-use crate::walk::stop::{Expected, Found, Halt, Stop};
+use crate::walk::stop::{Expected, Found, Stop, WalkError};
 use crate::walk::tasks::{Place, Task};
 use std::alloc::{AllocError, Global};
 
@@ -147,14 +147,14 @@ fn walk_over<'a>(
     };
     match walk.run(of) {
         Ok(()) => walk.ended(rejected_at.is_some()),
-        Err(Halt::Stop(stop)) => Ok(walk.stopped(stop)),
-        Err(Halt::Memory) => Err(AllocError),
+        Err(WalkError::Stop(stop)) => Ok(walk.stopped(stop)),
+        Err(WalkError::Memory) => Err(AllocError),
     }
 }
 
 impl<'a> Walk<'a> {
     // Walks over all that there is of a type.
-    fn run(&mut self, of: &'a str) -> Result<(), Halt<'a>> {
+    fn run(&mut self, of: &'a str) -> Result<(), WalkError<'a>> {
         if let Some((name, number)) = role_of(of) {
             self.scope.set(Known {
                 owner: "Handshake",
@@ -170,14 +170,14 @@ impl<'a> Walk<'a> {
             let Some(task) = self.tasks.pop() else {
                 break;
             };
-            if let Err(halt) = self.step(task) {
-                self.fall_back(halt)?;
+            if let Err(error) = self.step(task) {
+                self.fall_back(error)?;
             }
         }
         Ok(())
     }
 
-    fn step(&mut self, task: Task<'a>) -> Result<(), Halt<'a>> {
+    fn step(&mut self, task: Task<'a>) -> Result<(), WalkError<'a>> {
         match task {
             Task::Field(place, field) => self.field(place, field),
             Task::Value(place, field) => self.value(place, field),
@@ -188,12 +188,12 @@ impl<'a> Walk<'a> {
     }
 
     // Goes back to the innermost bytes that were opened, and shows them as bytes.
-    fn fall_back(&mut self, halt: Halt<'a>) -> Result<(), Halt<'a>> {
-        if let Halt::Memory = halt {
-            return Err(halt);
+    fn fall_back(&mut self, error: WalkError<'a>) -> Result<(), WalkError<'a>> {
+        if let WalkError::Memory = error {
+            return Err(error);
         }
         let Some(opening) = self.openings.pop() else {
-            return Err(halt);
+            return Err(error);
         };
         self.lines.truncate(opening.line);
         self.lines.push(opening.closed)?;
@@ -254,7 +254,7 @@ impl<'a> Walk<'a> {
         place: Place<'a>,
         bytes: &'a [u8],
         shown: Shown<'a>,
-    ) -> Result<(), Halt<'a>> {
+    ) -> Result<(), WalkError<'a>> {
         self.lines.push(Line {
             depth: place.depth,
             label: place.label,
@@ -271,7 +271,7 @@ impl<'a> Walk<'a> {
         at: usize,
         expected: Expected<'a>,
         found: Found,
-    ) -> Result<(), Halt<'a>> {
+    ) -> Result<(), WalkError<'a>> {
         if at >= self.rejected_at {
             return Err(stop_at(place, at, expected, found));
         }
@@ -306,8 +306,8 @@ pub(crate) fn stop_at<'a>(
     at: usize,
     expected: Expected<'a>,
     found: Found,
-) -> Halt<'a> {
-    Halt::Stop(Stop {
+) -> WalkError<'a> {
+    WalkError::Stop(Stop {
         at,
         depth: place.depth,
         label: place.label,

@@ -1,7 +1,7 @@
 //! Where a walk can't go on.
 
 ghost use Rattle.std.specs.Prelude.{◌≡◌};
-ghost use Rattle.tlsdump.specs.declared.walk.stop.Halt.TheVariants.{Memory};
+ghost use Rattle.tlsdump.specs.declared.walk.stop.WalkError.TheVariants.{Memory};
 
 use crate::walk::line::{Label, Line};
 use std::alloc::{AllocError, AllocFailed, Global};
@@ -55,25 +55,25 @@ pub enum Found {
 
 /// Why a step isn't made.
 #[derive(Clone, Copy)]
-pub enum Halt<'a> {
+pub enum WalkError<'a> {
     Stop(Stop<'a>),
     /// Memory was refused.
     Memory,
 }
 
-impl From<AllocError> for Halt<'_> {
-    ghost from_gives = { λ _ halt. halt ≡ Memory };
+impl From<AllocError> for WalkError<'_> {
+    ghost from_gives = { λ _ error. error ≡ Memory };
 
     fn from(_error: AllocError) -> Self {
-        Halt::Memory
+        WalkError::Memory
     }
 }
 
-impl<T: Drop> From<AllocFailed<T>> for Halt<'_> {
-    ghost from_gives = { λ _ halt. halt ≡ Memory };
+impl<T: Drop> From<AllocFailed<T>> for WalkError<'_> {
+    ghost from_gives = { λ _ error. error ≡ Memory };
 
     fn from(_error: AllocFailed<T>) -> Self {
-        Halt::Memory
+        WalkError::Memory
     }
 }
 
