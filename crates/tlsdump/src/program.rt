@@ -3,7 +3,7 @@
 use crate::answer::{Answer, json, tree};
 use crate::command_line::command;
 use crate::dump::dump_of;
-use crate::input::{LONGEST, LONGEST_TEXT, Unread, read};
+use crate::input::{InputError, LONGEST, LONGEST_TEXT, read};
 use crate::kinds::{Kind, Named, PROTOCOLS, Protocol, kind_of, recognised};
 use crate::notation::{NoBytes, Notation, bytes_of};
 use crate::show::PrintOptions;
@@ -207,9 +207,9 @@ fn read_input<R: Files + Eprint + AllocGlobal, I: Read + Drop>(
     };
     match found {
         Ok(text) => return Ok(Some(text)),
-        Err(Unread::Long) => eprintln!(rt; "tlsdump: the input has more than {most} bytes")?,
-        Err(Unread::Failed) => eprintln!(rt; "tlsdump: the input failed")?,
-        Err(Unread::Memory) => return Err(AllocError.into()),
+        Err(InputError::Long) => eprintln!(rt; "tlsdump: the input has more than {most} bytes")?,
+        Err(InputError::Failed) => eprintln!(rt; "tlsdump: the input failed")?,
+        Err(InputError::Memory) => return Err(AllocError.into()),
     }
     Ok(None)
 }
