@@ -5,7 +5,7 @@ use crate::command_line::command;
 use crate::dump::dump_of;
 use crate::input::{InputError, LONGEST, LONGEST_TEXT, read};
 use crate::kinds::{Kind, Named, PROTOCOLS, Protocol, kind_of, recognised};
-use crate::notation::{NoBytes, Notation, bytes_of};
+use crate::notation::{Notation, NotationError, bytes_of};
 use crate::show::PrintOptions;
 use crate::texts::definitions;
 use crate::walk::definitions::name_of;
@@ -138,7 +138,7 @@ fn bytes_from<R: Files + Eprint + AllocGlobal, I: Read + Drop>(
     match bytes_of(rt.alloc(), notation, text) {
         Ok(bytes) if bytes.len() <= LONGEST => return Ok(Some(bytes)),
         Ok(_) => eprintln!(rt; "tlsdump: the input has more than {LONGEST} bytes of messages")?,
-        Err(fault) => print_fault(rt, fault)?,
+        Err(error) => print_error(rt, error)?,
     }
     Ok(None)
 }
@@ -214,20 +214,20 @@ fn read_input<R: Files + Eprint + AllocGlobal, I: Read + Drop>(
     Ok(None)
 }
 
-// Prints why a text stands for no bytes. Refused memory is no fault of the text.
-fn print_fault<R: Eprint>(rt: &R, fault: NoBytes) -> anyhow::Result<()> {
-    match fault {
-        NoBytes::Digit { line, column, byte } => eprintln!(rt;
+// Prints why a text stands for no bytes. Refused memory is no error of the text.
+fn print_error<R: Eprint>(rt: &R, error: NotationError) -> anyhow::Result<()> {
+    match error {
+        NotationError::Digit { line, column, byte } => eprintln!(rt;
             "tlsdump: line {line}, column {column}: 0x{byte:02x} is no hex digit; --binary takes \
              the bytes themselves, --base64 base64"
         )?,
-        NoBytes::Odd(count) => eprintln!(rt;
+        NotationError::Odd(count) => eprintln!(rt;
             "tlsdump: an odd number of hex digits ({count}); --binary takes the bytes themselves"
         )?,
-        NoBytes::Base64 => eprintln!(rt;
+        NotationError::Base64 => eprintln!(rt;
             "tlsdump: the input looks like base64, but isn't; --binary takes the bytes themselves"
         )?,
-        NoBytes::Memory => return Err(AllocError.into()),
+        NotationError::Memory => return Err(AllocError.into()),
     }
     Ok(())
 }
