@@ -41,7 +41,7 @@ pub fn program<R: Env + Files + Print + Eprint + AllocGlobal, I: Read + Drop>(
     }
 }
 
-// Does what the arguments say. An error is want of memory, or of room for the output.
+// Does what the arguments say. It fails if memory runs out, or if the output has no room.
 fn run<R: Env + Files + Print + Eprint + AllocGlobal, I: Read + Drop>(
     rt: &R,
     input: I,
@@ -111,7 +111,7 @@ fn print_unknown<R: Eprint + AllocGlobal>(
     Ok(())
 }
 
-// The types of this name, as `mls.Extension or tls.Extension`.
+// The types of this name, such as `mls.Extension or tls.Extension`.
 fn types_named(alloc: Global, name: &str) -> Result<String, AllocError> {
     let mut out = String::new(alloc);
     for protocol in PROTOCOLS {
