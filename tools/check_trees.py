@@ -11,9 +11,9 @@ import sys
 
 sys.dont_write_bytecode = True
 from libraries import CRATES
-from message_reader import PROTOCOLS, Reader, Refused, Text, counted
+from message_reader import PROTOCOLS, Reader, Rejected, Text, counted
 from presentation import Parser, name_of
-from refusals import REFUSALS, UNREAD
+from rejections import REJECTIONS, UNREAD
 
 # outputs that are no tree
 BY_HAND = ("help", "version")
@@ -26,7 +26,7 @@ def show(line, options):
         digits = data[:16].hex() + ".." if "--short" in options and len(data) > 32 else data.hex()
         shown = f"{counted(len(data), 'byte')} {digits}".rstrip()
         shown += f' "{line["text"]}"' if line["text"] else ""
-        shown += f" (no {line['refused']})" if line["refused"] else ""
+        shown += f" (no {line['rejected']})" if line["rejected"] else ""
     front = f"{line['at']:>8}  " if "--offsets" in options else ""
     return f"{front}{'  ' * line['depth']}{line['label']}: {shown}\n"
 
@@ -46,7 +46,7 @@ def tree_of(lines):
         if "bytes" in line:
             value["hex"] = line["bytes"].hex()
             value.update({"text": line["text"]} if line["text"] else {})
-            value.update({"not": line["refused"]} if line["refused"] else {})
+            value.update({"not": line["rejected"]} if line["rejected"] else {})
         if "number" in line:
             value["number"] = line["number"]
         if "type" in line:
@@ -77,32 +77,32 @@ def named(words, given):
     return next((protocol, names[0]) for protocol in ("ct", "tls", "mls") if names[0] in Text(PROTOCOLS[protocol]).structs)
 
 
-def position(refusal):
+def position(reason):
     """The byte that the line of a rejection names."""
-    return int(re.match(r"refused at byte (\d+), ", refusal)[1])
+    return int(re.match(r"rejected at byte (\d+), ", reason)[1])
 
 
-def printed(given, words, refusal):
+def printed(given, words, reason):
     data = bytes_of(given, words)
     protocol, of = named(words, data)
     text, at, out, values = Text(PROTOCOLS[protocol]), 0, "", []
     while True:
         reader = Reader(text, data, protocol, of)
         reader.at = at
-        refused = None
+        rejected = None
         try:
             reader.type(None, of, "message", 0, 1)
-        except Refused as error:
-            refused = error
+        except Rejected as error:
+            rejected = error
         at = reader.at
         out += "".join(show(line, words) for line in reader.lines)
         values += tree_of(reader.lines)
-        if refused:
-            out += f"{'  ' * refused.depth}{refused.label}: refused\n"
-        if refused or at >= len(data):
+        if rejected:
+            out += f"{'  ' * rejected.depth}{rejected.label}: rejected\n"
+        if rejected or at >= len(data):
             break
     if "--json" in words:
-        value = {"messages": values, "type": of} | ({"refused_at": position(refusal), "refusal": refusal} if refused else {})
+        value = {"messages": values, "type": of} | ({"rejected_at": position(reason), "rejection": reason} if rejected else {})
         return json.dumps(value, indent=2, sort_keys=True, ensure_ascii=False) + "\n"
     return out
 
@@ -173,7 +173,7 @@ def main():
             tree = listed()
         else:
             given = folder / "data" / "message" if path.name == "file" else path
-            tree = printed(given.read_bytes(), words, REFUSALS.get(path.name))
+            tree = printed(given.read_bytes(), words, REJECTIONS.get(path.name))
         if "--write" in sys.argv:
             stored.write_text(tree)
         if stored.is_file() and stored.read_text() == tree:

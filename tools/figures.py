@@ -11,7 +11,7 @@ import pathlib
 import re
 from collections.abc import Callable
 
-import refusals
+import rejections
 
 TOP = pathlib.Path(__file__).resolve().parent.parent
 CRATES = TOP / "crates"
@@ -47,7 +47,7 @@ FIGURES = [
     *((page, r"([\d,]+) inputs of `(?:tlsview|test_rows)`", rows("crates/test_rows/stdout")) for page in ("README.md", "docs/PROVED.md")),
     ("CONTRIBUTING.md", r"test_rows' ([\d,]+) answers", rows("crates/test_rows/stdout")),
     ("docs/PROVED.md", r"each of the (\d+) requests of `test_memory`", first("crates/test_memory/stdout")),
-    ("docs/PROVED.md", r"and (\d+) refusals in them, by hand", lambda: len(refusals.REFUSALS)),
+    ("docs/PROVED.md", r"and (\d+) rejections in them, by hand", lambda: len(rejections.REJECTIONS)),
     ("docs/MESSAGES.md", r"five files of (\d+) lines and what they use", lines(*PRESENTED)),
     ("docs/CALLERS.md", r"(\d+) inputs of the \d+ messages", rows(*OUTCOMES)),
     ("docs/CALLERS.md", r"\d+ inputs of the (\d+) messages", names(*OUTCOMES)),

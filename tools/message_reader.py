@@ -39,7 +39,7 @@ EXTENSIONS = {
 OWN = "struct { opaque application_id<V>; } ApplicationId; struct { Handshake messages[rest]; } HandshakeMessages;"
 
 
-class Refused(Exception):
+class Rejected(Exception):
     """The field that can't be read, with the lines that it is in."""
 
     def __init__(self, label, depth):
@@ -112,7 +112,7 @@ class Reader:
 
     def take(self, count, label, depth):
         if count > self.left():
-            raise Refused(label, depth)
+            raise Rejected(label, depth)
         self.at += count
         return self.data[self.at - count : self.at]
 
@@ -130,22 +130,22 @@ class Reader:
                 self.has_case(of, part["name"], depth)
         if of == "Handshake":
             if self.left():
-                raise Refused("length", depth)
+                raise Rejected("length", depth)
             self.end = end
 
     def has_case(self, of, name, depth):
-        """A tag that no case of a select in its struct has is refused where it is."""
+        """A tag that no case of a select in its struct has is rejected where it is."""
         for part in self.text.structs[of]:
             if "cases" in part and part["path"] in (name, f"{of}.{name}"):
                 if not any(self.known[name] in labels for labels, _ in part["cases"]):
                     self.lines.pop()
-                    raise Refused(name, depth)
+                    raise Rejected(name, depth)
 
     def select(self, of, select, depth):
         tag = self.text.fixed.get((of, end_of(select["path"]))) or self.known.get(end_of(select["path"]))
         chosen = [fields for labels, fields in select["cases"] if tag in labels]
         if not chosen:
-            raise Refused("", depth)
+            raise Rejected("", depth)
         called = select["ending"][1] if select["ending"][0] == "called" else ""
         for field in chosen[0]:
             self.field(of, field, field["name"] or (called if called[:1].islower() else tag), depth)
@@ -156,7 +156,7 @@ class Reader:
         at = self.at
         count, width = self.length(of, field, label, depth)
         if count > self.left():
-            raise Refused(label, depth)
+            raise Rejected(label, depth)
         if WIDTHS.get(field["of"]) == 1 and not field["optional"]:
             return self.content(of, label, at, count, width, depth)
         end, self.end = self.end, self.at + count
@@ -167,27 +167,27 @@ class Reader:
                 begun = self.at, len(self.lines), dict(self.known)
                 self.value(of, field, f"[{elements}]", depth + 1)
                 elements += 1
-        except Refused:
-            line["shown"] = f"{counted(elements, 'element')}, and one that is refused"
+        except Rejected:
+            line["shown"] = f"{counted(elements, 'element')}, and one that is rejected"
             self.passes_end(of, field, f"[{elements}]", depth + 1, begun, end)
             raise
         line["shown"] = counted(elements, "element")
         self.end = end
 
     def passes_end(self, of, field, label, depth, begun, end):
-        """An element that ends after its list does is refused as a whole, so at the first of its fields."""
+        """An element that ends after its list does is rejected as a whole, so at the first of its fields."""
         at, lines, known = begun
         left, read, inner = self.at, self.lines[lines:], self.end
         del self.lines[lines:]
         self.at, self.end, self.known = at, end, known
         try:
             self.value(of, field, label, depth)
-        except Refused:
+        except Rejected:
             self.lines[lines:], self.at, self.end = read, left, inner
             return
         first = next(line for line in self.lines[lines:] if line.get("below") != "fields")
         del self.lines[self.lines.index(first) :]
-        raise Refused(first["label"], first["depth"])
+        raise Rejected(first["label"], first["depth"])
 
     def length(self, of, field, label, depth):
         kind, *bounds = field["vector"]
@@ -200,15 +200,15 @@ class Reader:
             width = (most.bit_length() + 7) // 8
             count = int.from_bytes(self.take(width, label, depth))
             if not least <= count <= most:
-                raise Refused(label, depth)
+                raise Rejected(label, depth)
             return count, width
         first = self.take(1, label, depth)[0]
         width = 1 << (first >> 6)
         if width == 8:
-            raise Refused(label, depth)
+            raise Rejected(label, depth)
         count = (first & 0x3F) << 8 * (width - 1) | int.from_bytes(self.take(width - 1, label, depth))
         if width > 1 and count < 1 << (8 * (width // 2) - 2):
-            raise Refused(label, depth)
+            raise Rejected(label, depth)
         return count, width
 
     def content(self, of, label, at, count, width, depth):
@@ -221,14 +221,14 @@ class Reader:
             try:
                 self.type(of, opened, None, depth, depth + 1)
                 if self.left():
-                    raise Refused(label, depth)
+                    raise Rejected(label, depth)
                 self.end = end
                 return
-            except Refused:
+            except Rejected:
                 del self.lines[lines:]
                 self.at, self.end, self.known = start, end, known
         data = self.take(count, label, depth)
-        self.line(at, depth, label, "", bytes=data, text=text_of(label, data), refused=opened)
+        self.line(at, depth, label, "", bytes=data, text=text_of(label, data), rejected=opened)
 
     # what the bytes of a field are, if that is known
     def opened(self, of, label, count):
@@ -252,7 +252,7 @@ class Reader:
         at = self.at
         tag = self.take(1, label, depth)[0]
         if tag > 1:
-            raise Refused(label, depth)
+            raise Rejected(label, depth)
         if not tag:
             return self.line(at, depth, label, "none", value=None)
         self.line(at, depth, label, field["of"], below="fields", type=field["of"])
@@ -269,10 +269,10 @@ class Reader:
             values, width = self.text.enums[of]
             data = self.take(width, label, depth)
             names = {int.from_bytes(data): name for first, last, name in values if first <= int.from_bytes(data) <= last}
-            if not names and self.refuses(of):
-                raise Refused(label, depth)
+            if not names and self.rejects(of):
+                raise Rejected(label, depth)
             if (owner, of) in CONSTANTS and CONSTANTS[owner, of] not in names.values():
-                raise Refused(label, depth)
+                raise Rejected(label, depth)
             self.known[label] = names.get(int.from_bytes(data))
             return self.code(at, label, depth, data, names)
         if of in WIDTHS:
@@ -280,7 +280,7 @@ class Reader:
             number = self.known[label] = int.from_bytes(data)
             if (owner, label) == ("Handshake", "length"):
                 if number > self.left():
-                    raise Refused(label, depth)
+                    raise Rejected(label, depth)
                 self.end = self.at + number
             return self.line(at, depth, label, number_text(label, number), number=number, date=date(label, number))
         other = self.text.others[of]
@@ -288,12 +288,12 @@ class Reader:
             data = self.take(WIDTHS[other["of"]], label, depth)
             names = TLS_NAMES.get(of, {}) if self.protocol == "tls" else {}
             if (owner, of) in CONSTANTS and CONSTANTS[owner, of] != names.get(int.from_bytes(data)):
-                raise Refused(label, depth)
+                raise Rejected(label, depth)
             return self.code(at, label, depth, data, names)
         self.field(of, other, label, depth)
 
-    def refuses(self, of):
-        """Whether a number without a name is refused."""
+    def rejects(self, of):
+        """Whether a number without a name is rejected."""
         return of in CLOSED
 
     def code(self, at, label, depth, data, names):
@@ -304,7 +304,7 @@ class Reader:
         self.line(at, depth, label, f"{name} ({digits})" if name else digits, number=int.from_bytes(data), code=name)
 
 
-# enums that the RFCs close, by a select or by their prose: a number without a name is refused
+# enums that the RFCs close, by a select or by their prose: a number without a name is rejected
 CLOSED = {
     "ContentType",
     "KeyUpdateRequest",

@@ -232,13 +232,13 @@ def tlsdump(dark):
     """A terminal with a stored run of tlsdump, and with one that is rejected."""
     folder = TOP / "crates" / "tlsdump" / "runs"
     shown = (folder / "private_message.stdout").read_text().splitlines()
-    refused = (folder / "refused_identity.stdout").read_text().splitlines()
+    rejected = (folder / "rejected_identity.stdout").read_text().splitlines()
     # the line on standard error, in the width of the picture
-    error = textwrap.wrap(f"tlsdump: {trees.REFUSALS['refused_identity']}", 95)
-    digits = (folder / "refused_identity").read_text().strip()
+    error = textwrap.wrap(f"tlsdump: {trees.REJECTIONS['rejected_identity']}", 95)
+    digits = (folder / "rejected_identity").read_text().strip()
     lines = [("ink", "$ tlsdump --binary auto private_message"), *[("soft", line) for line in shown], ("ink", "")]
-    lines += [("ink", f"$ echo {digits} | tlsdump KeyPackage"), *[("soft", line) for line in refused[:-1]]]
-    lines += [("end", refused[-1]), *[("end", line) for line in error]]
+    lines += [("ink", f"$ echo {digits} | tlsdump KeyPackage"), *[("soft", line) for line in rejected[:-1]]]
+    lines += [("end", rejected[-1]), *[("end", line) for line in error]]
     p = Picture(56 + 17 * len(lines), "A message as tlsdump shows it, and one that it rejects", dark)
     p.box(12, 12, WIDTH - 24, 32 + 17 * len(lines), "plain", 6)
     for at, (role, line) in enumerate(lines):

@@ -5,7 +5,7 @@ A program is built once, without proof (`rt try`). A run is a file with the inpu
 NAME.stdout what it must print. rt ci runs a program on one input alone, and proves it again for another one.
 Then tlsdump runs with a request for memory refused: it prints nothing and ends with status 3. The program that `rt ci` left in out/
 runs with an output that is full, which is status 3 too, and on each input that is rejected or can't be read: standard error has one line, that of
-refusals.py or of UNREAD. tlsgen, from out/ too, has runs that print nothing but what TLSGEN has for standard error: {} among their words
+rejections.py or of UNREAD. tlsgen, from out/ too, has runs that print nothing but what TLSGEN has for standard error: {} among their words
 names a copy of the input.
 """
 from __future__ import annotations
@@ -20,7 +20,7 @@ import tempfile
 
 sys.dont_write_bytecode = True
 import check_generated as generated
-import refusals
+import rejections
 
 CRATES = pathlib.Path(__file__).resolve().parent.parent / "crates"
 
@@ -60,7 +60,7 @@ STATUS = {
         "json_leaf_index": 1,
         "json_legacy_version": 1,
         "json_option_tag": 1,
-        "json_refused": 1,
+        "json_rejected": 1,
         "json_session_id": 1,
         "json_version": 1,
         "json_wire_format": 1,
@@ -75,10 +75,10 @@ STATUS = {
         "private_message": 0,
         "ratchet_tree": 0,
         "records": 0,
-        "refused_identity": 1,
-        "refused_length": 1,
-        "refused_list": 1,
-        "refused_session_id": 1,
+        "rejected_identity": 1,
+        "rejected_length": 1,
+        "rejected_list": 1,
+        "rejected_session_id": 1,
         "server_hello": 0,
         "server_hello_body": 0,
         "several_types": 2,
@@ -105,7 +105,7 @@ SHOWN = {
 
 
 # What standard error has of each input that can't be read, of those that are stored and of those that are made.
-UNREAD = {**refusals.UNREAD, "over_limit": f"the input has more than {MOST} bytes"}
+UNREAD = {**rejections.UNREAD, "over_limit": f"the input has more than {MOST} bytes"}
 
 # The status of each run of tlsgen, and what standard error has, or how it begins before the system's words or clap's.
 NO_NAME = "expected a crate's name, of small letters, digits and _, and no word of Rust\n"
@@ -181,7 +181,7 @@ def streams() -> collections.abc.Iterator[tuple[str, bool, str]]:
         make(cases)
         status, printed = built([], cases / "key_package", "/dev/full")
         yield "tlsdump, full", (status, printed.startswith("tlsdump: ")) == (NO_ROOM, True), printed
-        for wanted, lines in ((1, refusals.REFUSALS), (2, UNREAD)):
+        for wanted, lines in ((1, rejections.REJECTIONS), (2, UNREAD)):
             assert set(lines) == {name for name, status in STATUS["tlsdump"].items() if status == wanted}, f"no line for each run with status {wanted}"
             for name, line in lines.items():
                 words = cases / f"{name}.args"

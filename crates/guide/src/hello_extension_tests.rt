@@ -9,7 +9,7 @@ use tls_codec::{
 };
 use tls_codec_cases::Chosen;
 
-const MISFIT: Error = Error::EncodingError("value does not fit its context");
+const DOES_NOT_FIT: Error = Error::EncodingError("value does not fit its context");
 
 // `supported_versions` of TLS 1.3 alone (RFC 8446, section 4.2.1).
 const VERSIONS: [u8; 7] = [0, 0x2b, 0, 3, 2, 3, 4];
@@ -74,8 +74,11 @@ fn comes_back_in(
     assert!(rt; split == *value);
     let chosen = Chosen(value.cases());
     assert!(rt; chosen.fits(&type_read) && !chosen.fits(&1u16));
-    assert_eq!(rt; value.tls_serialize_for(&1, &mut sent), Err(MISFIT));
-    assert_eq!(rt; value.tls_serialize_into_for(&1, &mut sent), Err(MISFIT));
+    assert_eq!(rt; value.tls_serialize_for(&1, &mut sent), Err(DOES_NOT_FIT));
+    assert_eq!(rt;
+        value.tls_serialize_into_for(&1, &mut sent),
+        Err(DOES_NOT_FIT)
+    );
     assert_eq!(rt; sent.as_slice(), bytes);
     Ok(())
 }
@@ -84,7 +87,7 @@ fn comes_back_in(
 fn a_known_type_is_never_unknown(rt: HostRuntime) -> Result<(), Fail> {
     let alloc = rt.alloc();
     let bytes = TlsByteVecU16::from_slice(alloc, &[2, 3, 4])?;
-    assert_eq!(rt; UnknownExtension::new(43, bytes).err(), Some(MISFIT));
+    assert_eq!(rt; UnknownExtension::new(43, bytes).err(), Some(DOES_NOT_FIT));
     Ok(())
 }
 

@@ -22,7 +22,7 @@ use std::fmt::Debug;
 use std::process::Abort;
 use tls_codec::{Error, Serialize, VLBytes};
 
-const MISFIT: Error = Error::EncodingError("value does not fit its context");
+const DOES_NOT_FIT: Error = Error::EncodingError("value does not fit its context");
 
 // An assertion that is written out is proved at each place: this one is proved once.
 fn same<T: PartialEq + Debug + Drop>(rt: &impl Abort, found: T, expected: T) {
@@ -44,8 +44,12 @@ fn holds(rt: &impl Abort, condition: bool) {
 }
 
 // No encoder writes the value: a part is for another tag than the one before it.
-fn expect_misfit<T: Serialize>(rt: &impl Abort, alloc: Global, value: &T) {
-    same(rt, value.tls_serialize_detached(alloc).err(), Some(MISFIT));
+fn expect_does_not_fit<T: Serialize>(rt: &impl Abort, alloc: Global, value: &T) {
+    same(
+        rt,
+        value.tls_serialize_detached(alloc).err(),
+        Some(DOES_NOT_FIT),
+    );
 }
 
 fn one_byte(alloc: Global, byte: u8) -> Result<VLBytes, Error> {

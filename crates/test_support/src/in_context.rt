@@ -50,7 +50,7 @@ fn expect_written_in<C: Size, T: SerializeFor<C>>(
 }
 
 /// No encoder writes the value in a context that asks for another one.
-pub fn expect_misfit<C: Size, T: SerializeFor<C>>(
+pub fn expect_does_not_fit<C: Size, T: SerializeFor<C>>(
     alloc: Global,
     row: &str,
     context: &C,

@@ -52,7 +52,7 @@ fn expects(rt: &impl Abort, refusal: &Refusal, word: &str) {
 
 fn plan(alloc: Global, text: &str) -> Result<Plan, Trouble> {
     let file = parse(alloc, text)?;
-    plan_of(alloc, &mut [file]).map_err(|fault| fault.trouble)
+    plan_of(alloc, &mut [file]).map_err(|error| error.trouble)
 }
 
 fn made(rt: &impl Abort, alloc: Global, text: &str) -> Plan {

@@ -1,4 +1,4 @@
-//! `tls_codec_bench` times the codecs of `tls_codec_base`.
+//! `tls_codec_bench` times encoders, decoders, validators and views: those of the library's types, and those of `mls`.
 //!
 //! With no argument it makes each call a few times, and prints the name of each case and the bytes of its
 //! encoding, with a tab between. With the argument `run` it prints a line for each case, with tabs

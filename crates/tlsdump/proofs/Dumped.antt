@@ -7,13 +7,13 @@ use Rattle.tls_codec_validate.specs.Validated.{BeginsLeaving, Rejects}
 use Rattle.tls_codec.specs.Spellings.{IsHollow}
 use Rattle.tls_codec_validate.specs.declared.rejected.Rejected.{Rejected}
 use Rattle.tlsdump.proofs.Named.{of_both, of_each, of_one}
-use Rattle.tlsdump.specs.Dumps.{AreMessages, InARow, IsDump, IsMessage, IsNoLess, IsNone, IsRefused, Shows, Tells, rows}
+use Rattle.tlsdump.specs.Dumps.{AreMessages, InARow, IsDump, IsMessage, IsNoLess, IsNone, IsRejected, Shows, Tells, rows}
 use Rattle.tlsdump.specs.Kinds.{Checks, FirstNamed, Kind}
 use Rattle.tlsdump.specs.Rows.{ShowsInOrder, row}
 use Rattle.tlsdump.specs.declared.dump.Dump.{Dump}
 use Rattle.tlsdump.specs.declared.dump.Part.{Part}
 use Rattle.tlsdump.specs.declared.dump.Part.TheVariants.{Message, NoMessage}
-use Rattle.tlsdump.specs.declared.dump.Refused.{Refused}
+use Rattle.tlsdump.specs.declared.dump.Rejection.{Rejection}
 use Rattle.tlsdump.specs.declared.walk.Walked.{Walked}
 
 -- the lines of what is in front of the rest show a message
@@ -28,10 +28,10 @@ shown f x rest message walked left before lines =
       whole = begins.whole ∙ ap (λ s. s ++ rest) all;
     }
 
--- bytes that are refused begin with no message
-pub refused_is_none : (f : Format) (x : List ℕ) (rejected : Rejected) (refused : Refused) → Rejects f.spells x rejected.error
-    → IsRefused x rejected.error refused → IsNone f x refused
-refused_is_none f x rejected refused rejects is = record {
+-- bytes that are rejected begin with no message
+pub rejected_is_none : (f : Format) (x : List ℕ) (rejected : Rejected) (rejection : Rejection) → Rejects f.spells x rejected.error
+    → IsRejected x rejected.error rejection → IsNone f x rejection
+rejected_is_none f x rejected rejection rejects is = record {
   none = rejects.none;
   of_bytes = rw is.named rejects.not_memory;
   behind = is.behind;
@@ -52,11 +52,11 @@ abbrev pub Checked : Type 0
 Checked = Option (Result (Bor (List ℕ)) Rejected)
 
 -- the same of the type of a name
-pub none_named : (ks : List Kind) (name x : List ℕ) (checked : Checked) (rejected : Rejected) (refused : Refused) → checked ≡ Some (Err rejected)
-    → FirstNamed ks name (λ k. Checks k.format x checked) (checked ≡ None) → IsRefused x rejected.error refused
-    → FirstNamed ks name (λ k. IsNone k.format x refused) ⊤
-none_named ks name x checked rejected refused is of_kind refusal =
-    of_one ks name (λ k found. refused_is_none k.format x rejected refused (rw is at found) refusal) (λ none. tt) of_kind
+pub none_named : (ks : List Kind) (name x : List ℕ) (checked : Checked) (rejected : Rejected) (rejection : Rejection) → checked ≡ Some (Err rejected)
+    → FirstNamed ks name (λ k. Checks k.format x checked) (checked ≡ None) → IsRejected x rejected.error rejection
+    → FirstNamed ks name (λ k. IsNone k.format x rejection) ⊤
+none_named ks name x checked rejected rejection is of_kind is_rejected =
+    of_one ks name (λ k found. rejected_is_none k.format x rejected rejection (rw is at found) is_rejected) (λ none. tt) of_kind
 
 pub shown_named : (ks : List Kind) (name x : List ℕ) (checked : Checked) (rest : Bor (List ℕ)) (message : List ℕ) (walked : Walked)
     → checked ≡ Some (Ok rest) → FirstNamed ks name (λ k. Checks k.format x checked) (checked ≡ None)
@@ -106,7 +106,7 @@ ends f rest w behind shows (inr small) =
 
 -- no message comes behind the last one
 pub ended : (ks : List Kind) (name x : List ℕ) (ws : List Walked) (rest : List ℕ) (w : Walked) (behind : List ℕ) (dump : Dump)
-    → dump.messages.items ≡ ws ++ w ∷ [] → dump.refused ≡ None → IsNoLess rest behind
+    → dump.messages.items ≡ ws ++ w ∷ [] → dump.rejection ≡ None → IsNoLess rest behind
     → FirstNamed ks name (λ k. InARow k.format x ws rest) ⊤ → FirstNamed ks name (λ k. Shows k.format rest w behind) ⊤
     → FirstNamed ks name (λ k. IsDump k.format x dump) ⊤
 ended ks name x ws rest w behind dump are none end row shows = of_both ks name (λ k a b. record {
@@ -116,10 +116,10 @@ ended ks name x ws rest w behind dump are none end row shows = of_both ks name (
 }) (λ a b. tt) row shows
 
 -- what is left begins with no message
-pub stopped : (ks : List Kind) (name x : List ℕ) (rest : List ℕ) (refused : Refused) (dump : Dump) → dump.refused ≡ Some refused
-    → FirstNamed ks name (λ k. InARow k.format x dump.messages.items rest) ⊤ → FirstNamed ks name (λ k. IsNone k.format rest refused) ⊤
+pub stopped : (ks : List Kind) (name x : List ℕ) (rest : List ℕ) (rejection : Rejection) (dump : Dump) → dump.rejection ≡ Some rejection
+    → FirstNamed ks name (λ k. InARow k.format x dump.messages.items rest) ⊤ → FirstNamed ks name (λ k. IsNone k.format rest rejection) ⊤
     → FirstNamed ks name (λ k. IsDump k.format x dump) ⊤
-stopped ks name x rest refused dump is row none = of_both ks name (λ k a b. record {
+stopped ks name x rest rejection dump is row none = of_both ks name (λ k a b. record {
   rest = rest;
   messages = a;
   end = rw is b;
@@ -130,6 +130,6 @@ pub message_named : (ks : List Kind) (name x : List ℕ) (part : Part) (w : Walk
     → FirstNamed ks name (λ k. Tells k.format x part) ⊤ → FirstNamed ks name (λ k. Shows k.format x w behind.now) ⊤
 message_named ks name x part w behind is told = let whole = rw is at told in whole
 
-pub no_message_named : (ks : List Kind) (name x : List ℕ) (part : Part) (refused : Refused) → part ≡ NoMessage refused
-    → FirstNamed ks name (λ k. Tells k.format x part) ⊤ → FirstNamed ks name (λ k. IsNone k.format x refused) ⊤
-no_message_named ks name x part refused is told = let whole = rw is at told in whole
+pub no_message_named : (ks : List Kind) (name x : List ℕ) (part : Part) (rejection : Rejection) → part ≡ NoMessage rejection
+    → FirstNamed ks name (λ k. Tells k.format x part) ⊤ → FirstNamed ks name (λ k. IsNone k.format x rejection) ⊤
+no_message_named ks name x part rejection is told = let whole = rw is at told in whole

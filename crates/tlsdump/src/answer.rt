@@ -16,7 +16,7 @@ pub struct Answer {
     /// The messages, up to a rejected field.
     pub shown: String,
     /// Why no message is at the end, or nothing if there is no reason.
-    pub refusal: String,
+    pub reason: String,
 }
 
 /// The lines of messages in a row.
@@ -26,27 +26,27 @@ pub fn tree(alloc: Global, options: PrintOptions, dump: &Dump<'_>) -> Result<Ans
     for walked in &dump.messages {
         start = push_lines(alloc, &mut shown, options, start, walked.lines.as_slice())?;
     }
-    if let Some(refused) = &dump.refused {
+    if let Some(rejection) = &dump.rejection {
         push_lines(
             alloc,
             &mut shown,
             options,
             start,
-            refused.walked.lines.as_slice(),
+            rejection.walked.lines.as_slice(),
         )?;
-        if let Some(stop) = &refused.walked.stop {
+        if let Some(stop) = &rejection.walked.stop {
             begin_line(
                 &mut shown,
                 options,
-                start.saturating_add(refused.at),
+                start.saturating_add(rejection.at),
                 stop.depth,
             )?;
             push_label(&mut shown, stop.label)?;
-            shown.push_str(": refused\n")?;
+            shown.push_str(": rejected\n")?;
         }
     }
-    let refusal = refusal(alloc, start, dump)?;
-    Ok(Answer { shown, refusal })
+    let reason = reason(alloc, start, dump)?;
+    Ok(Answer { shown, reason })
 }
 
 /// Messages in a row as JSON, with the name of their type.
@@ -57,38 +57,43 @@ pub fn json(alloc: Global, of: &str, dump: &Dump<'_>) -> Result<Answer, AllocErr
     for walked in &dump.messages {
         start = push_tree(alloc, &mut messages, start, walked.lines.as_slice())?;
     }
-    let refusal = refusal(alloc, start, dump)?;
-    if let Some(refused) = &dump.refused {
-        push_tree(alloc, &mut messages, start, refused.walked.lines.as_slice())?;
-        let at = start.saturating_add(refused.at);
-        put(&mut members, alloc, "refused_at", Value::from(at as u64))?;
-        put_text(&mut members, alloc, "refusal", refusal.as_str())?;
+    let reason = reason(alloc, start, dump)?;
+    if let Some(rejection) = &dump.rejection {
+        push_tree(
+            alloc,
+            &mut messages,
+            start,
+            rejection.walked.lines.as_slice(),
+        )?;
+        let at = start.saturating_add(rejection.at);
+        put(&mut members, alloc, "rejected_at", Value::from(at as u64))?;
+        put_text(&mut members, alloc, "rejection", reason.as_str())?;
     }
     put_text(&mut members, alloc, "type", of)?;
     put(&mut members, alloc, "messages", Value::Array(messages))?;
     let mut shown = Value::Object(members).to_string_pretty(alloc)?;
     shown.push_str("\n")?;
-    Ok(Answer { shown, refusal })
+    Ok(Answer { shown, reason })
 }
 
-// The line of a rejection, if there is one: `refused at byte 21, in content.sender.leaf_index:
+// The line of a rejection, if there is one: `rejected at byte 21, in content.sender.leaf_index:
 // EndOfStream: expected uint32 leaf_index, 3 bytes are left`
-fn refusal(alloc: Global, start: usize, dump: &Dump<'_>) -> Result<String, AllocError> {
+fn reason(alloc: Global, start: usize, dump: &Dump<'_>) -> Result<String, AllocError> {
     let mut out = String::new(alloc);
-    let Some(refused) = &dump.refused else {
+    let Some(rejection) = &dump.rejection else {
         return Ok(out);
     };
-    let at = start.saturating_add(refused.at);
-    write!(out, "refused at byte {at}")?;
-    let Some(stop) = &refused.walked.stop else {
+    let at = start.saturating_add(rejection.at);
+    write!(out, "rejected at byte {at}")?;
+    let Some(stop) = &rejection.walked.stop else {
         out.push_str(": ")?;
-        push_error(&mut out, refused.error)?;
+        push_error(&mut out, rejection.error)?;
         return Ok(out);
     };
     out.push_str(", in ")?;
-    push_path(alloc, &mut out, stop, refused.walked.lines.as_slice())?;
+    push_path(alloc, &mut out, stop, rejection.walked.lines.as_slice())?;
     out.push_str(": ")?;
-    push_error(&mut out, refused.error)?;
+    push_error(&mut out, rejection.error)?;
     out.push_str(": expected ")?;
     push_expected(&mut out, stop.expected)?;
     out.push_str(", ")?;

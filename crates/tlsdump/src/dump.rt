@@ -1,7 +1,7 @@
 //! The messages that bytes are, one after another.
 ghost use Rattle.std.specs.Prelude.{◌≡◌, ◌<◌, ◌++◌, ℕ, List, length};
 ghost use Rattle.std.specs.Prelude.{IfOk, IsTrue, false, ⊤};
-ghost use Rattle.tlsdump.specs.Dumps.{IsDump, IsNoLess, IsRefused, Tells};
+ghost use Rattle.tlsdump.specs.Dumps.{IsDump, IsNoLess, IsRejected, Tells};
 ghost use Rattle.tlsdump.specs.Kinds.{FirstNamed};
 ghost use Rattle.tlsdump.specs.Protocols.{kinds_of};
 
@@ -18,12 +18,12 @@ pub struct Dump<'a> {
     /// The lines of each message.
     pub messages: Vec<Walked<'a>>,
     /// Why the bytes after them begin with no message.
-    pub refused: Option<Refused<'a>>,
+    pub rejection: Option<Rejection<'a>>,
 }
 
 /// Bytes that begin with no message.
 #[derive(Drop)]
-pub struct Refused<'a> {
+pub struct Rejection<'a> {
     /// The lines up to the rejected field.
     pub walked: Walked<'a>,
     /// The position of the rejected field.
@@ -36,7 +36,7 @@ pub struct Refused<'a> {
 enum Part<'a> {
     // A message, and the bytes after it.
     Message(Walked<'a>, &'a [u8]),
-    NoMessage(Refused<'a>),
+    NoMessage(Rejection<'a>),
 }
 
 /// The messages of one kind that the bytes are, one after another: at least one, or those before a
@@ -54,10 +54,10 @@ pub fn dump_of<'a>(
     let mut rest = bytes;
     'messages: loop {
         match part_of(alloc, definitions, kind, rest)? {
-            Part::NoMessage(refused) => {
+            Part::NoMessage(rejection) => {
                 return Ok(Dump {
                     messages,
-                    refused: Some(refused),
+                    rejection: Some(rejection),
                 });
             }
             Part::Message(walked, behind) => {
@@ -65,7 +65,7 @@ pub fn dump_of<'a>(
                 if is_end(rest, behind) {
                     return Ok(Dump {
                         messages,
-                        refused: None,
+                        rejection: None,
                     });
                 }
                 rest = behind;
@@ -101,8 +101,8 @@ fn part_of<'a>(
             Ok(Part::Message(walked, rest))
         }
         Some(Err(rejected)) => {
-            let refused = none_of(alloc, definitions, kind, bytes, rejected)?;
-            Ok(Part::NoMessage(refused))
+            let rejection = none_of(alloc, definitions, kind, bytes, rejected)?;
+            Ok(Part::NoMessage(rejection))
         }
         None => {
             let walked = lines_of(alloc, definitions, kind.name, bytes, None)?;
@@ -129,12 +129,12 @@ fn none_of<'a>(
     kind: Kind<'a>,
     bytes: &'a [u8],
     rejected: Rejected<'a>,
-) -> Result<Refused<'a>, AllocError>
-    ensures { IfOk result (IsRefused bytes.now rejected.entry.error) }
+) -> Result<Rejection<'a>, AllocError>
+    ensures { IfOk result (IsRejected bytes.now rejected.entry.error) }
 {
     let at = rejected.at(bytes);
     let walked = lines_of(alloc, definitions, kind.name, bytes, Some(at))?;
-    Ok(Refused {
+    Ok(Rejection {
         walked,
         at,
         error: rejected.error,

@@ -16,7 +16,7 @@ pub fn push_found(out: &mut String, found: Found) -> Result<(), AllocError> {
         Found::Length(count) => write!(out, "its length is {count} bytes"),
         Found::Spelling => out.push_str("its length isn't in the fewest bytes, or is 2^30 or more"),
         Found::Number(number) => write!(out, "{number} (0x{number:x}) is there"),
-        Found::Refused => out.push_str("the validator rejects what begins here"),
+        Found::Rejected => out.push_str("the validator rejects what begins here"),
     }
 }
 

@@ -15,7 +15,7 @@ const PIECE: usize = 4096;
 
 /// Why an input isn't read.
 #[derive(Clone, Copy, PartialEq, Eq, Debug)]
-pub enum Unread {
+pub enum InputError {
     /// It has more bytes than an input may have.
     Long,
     /// It failed, or was interrupted more than [`MAX_INTERRUPTIONS`] times in a row.
@@ -24,14 +24,14 @@ pub enum Unread {
     Memory,
 }
 
-impl From<AllocError> for Unread {
-    fn from(_error: AllocError) -> Unread {
-        Unread::Memory
+impl From<AllocError> for InputError {
+    fn from(_error: AllocError) -> InputError {
+        InputError::Memory
     }
 }
 
 /// All that an input has, if it isn't more than this.
-pub fn read<I: Read>(alloc: Global, input: &mut I, most: usize) -> Result<Vec<u8>, Unread> {
+pub fn read<I: Read>(alloc: Global, input: &mut I, most: usize) -> Result<Vec<u8>, InputError> {
     let mut all = Vec::new(alloc);
     let mut piece = [0u8; PIECE];
     for _ in 0..u64::MAX {
@@ -43,21 +43,21 @@ pub fn read<I: Read>(alloc: Global, input: &mut I, most: usize) -> Result<Vec<u8
             all.extend_from_slice(read)?;
         }
         if all.len() > most {
-            return Err(Unread::Long);
+            return Err(InputError::Long);
         }
     }
-    Err(Unread::Long)
+    Err(InputError::Long)
 }
 
 // Reads once, and again after an interruption, up to `MAX_INTERRUPTIONS` times in a row.
-fn next_piece<I: Read>(input: &mut I, into: &mut [u8]) -> Result<usize, Unread> {
+fn next_piece<I: Read>(input: &mut I, into: &mut [u8]) -> Result<usize, InputError> {
     for _row in 0..=MAX_INTERRUPTIONS {
         match input.read(into) {
             Ok(count) => return Ok(count),
             Err(error) if error.kind() == ErrorKind::Interrupted => {}
-            Err(error) if error.kind() == ErrorKind::OutOfMemory => return Err(Unread::Memory),
-            Err(_) => return Err(Unread::Failed),
+            Err(error) if error.kind() == ErrorKind::OutOfMemory => return Err(InputError::Memory),
+            Err(_) => return Err(InputError::Failed),
         }
     }
-    Err(Unread::Failed)
+    Err(InputError::Failed)
 }

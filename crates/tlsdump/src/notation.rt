@@ -16,7 +16,7 @@ pub enum Notation {
 
 /// Why a text stands for no bytes.
 #[derive(Clone, Copy, PartialEq, Eq, Debug)]
-pub enum NoBytes {
+pub enum NotationError {
     /// A byte at a line and a column, each from 1, is no digit and nothing that may be between
     /// digits.
     Digit {
@@ -32,20 +32,24 @@ pub enum NoBytes {
     Memory,
 }
 
-impl From<AllocError> for NoBytes {
-    fn from(_error: AllocError) -> NoBytes {
-        NoBytes::Memory
+impl From<AllocError> for NotationError {
+    fn from(_error: AllocError) -> NotationError {
+        NotationError::Memory
     }
 }
 
-impl<T: Drop> From<AllocFailed<T>> for NoBytes {
-    fn from(_error: AllocFailed<T>) -> NoBytes {
-        NoBytes::Memory
+impl<T: Drop> From<AllocFailed<T>> for NotationError {
+    fn from(_error: AllocFailed<T>) -> NotationError {
+        NotationError::Memory
     }
 }
 
 /// The bytes of an input.
-pub fn bytes_of(alloc: Global, notation: Notation, input: Vec<u8>) -> Result<Vec<u8>, NoBytes> {
+pub fn bytes_of(
+    alloc: Global,
+    notation: Notation,
+    input: Vec<u8>,
+) -> Result<Vec<u8>, NotationError> {
     match notation {
         Notation::Binary => Ok(input),
         Notation::Base64 => base64_bytes(alloc, &input),
@@ -57,7 +61,7 @@ pub fn bytes_of(alloc: Global, notation: Notation, input: Vec<u8>) -> Result<Vec
 /// The bytes that hex digits stand for, each two after each other. Between them may be blanks,
 /// colons, commas and `0x`; of the lines of a dump, as `xxd` prints them, the digits between the
 /// position and the text count.
-pub fn hex_bytes(alloc: Global, text: &[u8]) -> Result<Vec<u8>, NoBytes> {
+pub fn hex_bytes(alloc: Global, text: &[u8]) -> Result<Vec<u8>, NotationError> {
     let mut digits = Digits {
         bytes: Vec::new(alloc),
         half: None,
@@ -68,7 +72,7 @@ pub fn hex_bytes(alloc: Global, text: &[u8]) -> Result<Vec<u8>, NoBytes> {
     }
     match digits.half {
         None => Ok(digits.bytes),
-        Some(_) => Err(NoBytes::Odd(digits.count)),
+        Some(_) => Err(NotationError::Odd(digits.count)),
     }
 }
 
@@ -82,7 +86,7 @@ struct Digits {
 }
 
 impl Digits {
-    fn add_line(&mut self, number: usize, line: &[u8]) -> Result<(), NoBytes> {
+    fn add_line(&mut self, number: usize, line: &[u8]) -> Result<(), NotationError> {
         let (from, to) = dumped(line);
         for (at, byte) in line.iter().enumerate() {
             if at >= from && at < to && !is_mark(line, at, *byte) {
@@ -93,9 +97,9 @@ impl Digits {
         Ok(())
     }
 
-    fn add(&mut self, line: usize, column: usize, byte: u8) -> Result<(), NoBytes> {
+    fn add(&mut self, line: usize, column: usize, byte: u8) -> Result<(), NotationError> {
         let Some(digit) = value_of(byte) else {
-            return Err(NoBytes::Digit { line, column, byte });
+            return Err(NotationError::Digit { line, column, byte });
         };
         self.count = self.count.saturating_add(1);
         match self.half {
@@ -178,12 +182,12 @@ fn is_blank(byte: u8) -> bool {
     matches!(byte, b' ' | b'\t' | b'\r' | b'\n')
 }
 
-fn base64_bytes(alloc: Global, text: &[u8]) -> Result<Vec<u8>, NoBytes> {
+fn base64_bytes(alloc: Global, text: &[u8]) -> Result<Vec<u8>, NotationError> {
     let mut packed = Vec::from_slice(alloc, text)?;
     packed.retain(|byte| !is_blank(*byte));
     match STANDARD.decode(alloc, &packed) {
         Ok(bytes) => Ok(bytes),
-        Err(DecodeAllocError::OutOfMemory) => Err(NoBytes::Memory),
-        Err(_) => Err(NoBytes::Base64),
+        Err(DecodeAllocError::OutOfMemory) => Err(NotationError::Memory),
+        Err(_) => Err(NotationError::Base64),
     }
 }

@@ -3,9 +3,9 @@
 use crate::answer::{Answer, json, tree};
 use crate::command_line::command;
 use crate::dump::dump_of;
-use crate::input::{LONGEST, LONGEST_TEXT, Unread, read};
+use crate::input::{InputError, LONGEST, LONGEST_TEXT, read};
 use crate::kinds::{Kind, Named, PROTOCOLS, Protocol, kind_of, recognised};
-use crate::notation::{NoBytes, Notation, bytes_of};
+use crate::notation::{Notation, NotationError, bytes_of};
 use crate::show::PrintOptions;
 use crate::texts::definitions;
 use crate::walk::definitions::name_of;
@@ -21,7 +21,7 @@ use tlsgen_syntax::syntax::Item;
 /// Each message was shown.
 const ALL: u8 = 0;
 /// A field was rejected.
-const REFUSED: u8 = 1;
+const REJECTED: u8 = 1;
 /// The arguments or the input can't be read.
 const UNREAD: u8 = 2;
 /// Memory or the output failed.
@@ -41,7 +41,7 @@ pub fn program<R: Env + Files + Print + Eprint + AllocGlobal, I: Read + Drop>(
     }
 }
 
-// Does what the arguments say. An error is want of memory, or of room for the output.
+// Does what the arguments say. It fails if memory runs out, or if the output has no room.
 fn run<R: Env + Files + Print + Eprint + AllocGlobal, I: Read + Drop>(
     rt: &R,
     input: I,
@@ -111,7 +111,7 @@ fn print_unknown<R: Eprint + AllocGlobal>(
     Ok(())
 }
 
-// The types of this name, as `mls.Extension or tls.Extension`.
+// The types of this name, such as `mls.Extension or tls.Extension`.
 fn types_named(alloc: Global, name: &str) -> Result<String, AllocError> {
     let mut out = String::new(alloc);
     for protocol in PROTOCOLS {
@@ -138,7 +138,7 @@ fn bytes_from<R: Files + Eprint + AllocGlobal, I: Read + Drop>(
     match bytes_of(rt.alloc(), notation, text) {
         Ok(bytes) if bytes.len() <= LONGEST => return Ok(Some(bytes)),
         Ok(_) => eprintln!(rt; "tlsdump: the input has more than {LONGEST} bytes of messages")?,
-        Err(fault) => print_fault(rt, fault)?,
+        Err(error) => print_error(rt, error)?,
     }
     Ok(None)
 }
@@ -170,17 +170,17 @@ fn print_messages<R: Print + Eprint + AllocGlobal>(
         is_short: matches.get_flag("short"),
     };
     let dump = dump_of(alloc, &definitions, kind, bytes)?;
-    let Answer { shown, refusal } = if matches.get_flag("json") {
+    let Answer { shown, reason } = if matches.get_flag("json") {
         json(alloc, kind.name, &dump)?
     } else {
         tree(alloc, options, &dump)?
     };
     print!(rt; "{shown}")?;
-    if dump.refused.is_none() {
+    if dump.rejection.is_none() {
         return Ok(ALL);
     }
-    eprintln!(rt; "tlsdump: {refusal}")?;
-    Ok(REFUSED)
+    eprintln!(rt; "tlsdump: {reason}")?;
+    Ok(REJECTED)
 }
 
 // All that the input has, or prints why it isn't read.
@@ -207,27 +207,27 @@ fn read_input<R: Files + Eprint + AllocGlobal, I: Read + Drop>(
     };
     match found {
         Ok(text) => return Ok(Some(text)),
-        Err(Unread::Long) => eprintln!(rt; "tlsdump: the input has more than {most} bytes")?,
-        Err(Unread::Failed) => eprintln!(rt; "tlsdump: the input failed")?,
-        Err(Unread::Memory) => return Err(AllocError.into()),
+        Err(InputError::Long) => eprintln!(rt; "tlsdump: the input has more than {most} bytes")?,
+        Err(InputError::Failed) => eprintln!(rt; "tlsdump: the input failed")?,
+        Err(InputError::Memory) => return Err(AllocError.into()),
     }
     Ok(None)
 }
 
-// Prints why a text stands for no bytes. Refused memory is no fault of the text.
-fn print_fault<R: Eprint>(rt: &R, fault: NoBytes) -> anyhow::Result<()> {
-    match fault {
-        NoBytes::Digit { line, column, byte } => eprintln!(rt;
+// Prints why a text stands for no bytes. Refused memory is no error of the text.
+fn print_error<R: Eprint>(rt: &R, error: NotationError) -> anyhow::Result<()> {
+    match error {
+        NotationError::Digit { line, column, byte } => eprintln!(rt;
             "tlsdump: line {line}, column {column}: 0x{byte:02x} is no hex digit; --binary takes \
              the bytes themselves, --base64 base64"
         )?,
-        NoBytes::Odd(count) => eprintln!(rt;
+        NotationError::Odd(count) => eprintln!(rt;
             "tlsdump: an odd number of hex digits ({count}); --binary takes the bytes themselves"
         )?,
-        NoBytes::Base64 => eprintln!(rt;
+        NotationError::Base64 => eprintln!(rt;
             "tlsdump: the input looks like base64, but isn't; --binary takes the bytes themselves"
         )?,
-        NoBytes::Memory => return Err(AllocError.into()),
+        NotationError::Memory => return Err(AllocError.into()),
     }
     Ok(())
 }

@@ -81,7 +81,7 @@ fn push_shown(
         Shown::List(count) => push_count(out, count, "element"),
         Shown::Cut(count) => {
             push_count(out, count, "element")?;
-            out.push_str(", and one that is refused")
+            out.push_str(", and one that is rejected")
         }
         Shown::Absent => out.push_str("none"),
         Shown::Number => push_number(alloc, out, line),

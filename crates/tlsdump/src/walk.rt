@@ -25,7 +25,7 @@ use crate::walk::definitions::{Definition, Definitions};
 use crate::walk::line::{Label, Line, Shown};
 use crate::walk::opened::role_of;
 use crate::walk::scope::{Known, Scope};
-use crate::walk::stop::{Expected, Found, Halt, Stop};
+use crate::walk::stop::{Expected, Found, Stop, WalkError};
 use crate::walk::tasks::{Place, Task};
 use std::alloc::{AllocError, Global};
 
@@ -47,7 +47,7 @@ pub(crate) struct Walk<'a> {
     /// How many bytes were taken.
     pub at: usize,
     /// Where the decoder rejects a field.
-    pub refused_at: usize,
+    pub rejected_at: usize,
     pub tasks: Vec<Task<'a>>,
     pub scope: Scope<'a>,
     pub openings: Vec<Opening<'a>>,
@@ -75,13 +75,13 @@ pub fn lines_of<'a>(
     definitions: &'a Definitions,
     of: &'a str,
     bytes: &'a [u8],
-    refused_at: Option<usize>,
+    rejected_at: Option<usize>,
 ) -> Result<Walked<'a>, AllocError>
-    ensures { IfOk result (ShowsInOrder bytes.now refused_at) }
+    ensures { IfOk result (ShowsInOrder bytes.now rejected_at) }
 {
-    let walked = walk_over(alloc, definitions, of, bytes, refused_at)?;
+    let walked = walk_over(alloc, definitions, of, bytes, rejected_at)?;
     match after_lines(walked.lines.as_slice(), bytes) {
-        Some(rest) if rest.is_empty() || refused_at.is_some() => Ok(walked),
+        Some(rest) if rest.is_empty() || rejected_at.is_some() => Ok(walked),
         _ => unread(alloc, bytes, walked.stop),
     }
 }
@@ -133,28 +133,28 @@ fn walk_over<'a>(
     definitions: &'a Definitions,
     of: &'a str,
     bytes: &'a [u8],
-    refused_at: Option<usize>,
+    rejected_at: Option<usize>,
 ) -> Result<Walked<'a>, AllocError> {
     let mut walk = Walk {
         definitions,
         lines: Vec::new(alloc),
         rest: bytes,
         at: 0,
-        refused_at: refused_at.unwrap_or(usize::MAX),
+        rejected_at: rejected_at.unwrap_or(usize::MAX),
         tasks: Vec::new(alloc),
         scope: Scope::new(alloc),
         openings: Vec::new(alloc),
     };
     match walk.run(of) {
-        Ok(()) => walk.ended(refused_at.is_some()),
-        Err(Halt::Stop(stop)) => Ok(walk.stopped(stop)),
-        Err(Halt::Memory) => Err(AllocError),
+        Ok(()) => walk.ended(rejected_at.is_some()),
+        Err(WalkError::Stop(stop)) => Ok(walk.stopped(stop)),
+        Err(WalkError::Memory) => Err(AllocError),
     }
 }
 
 impl<'a> Walk<'a> {
     // Walks over all that there is of a type.
-    fn run(&mut self, of: &'a str) -> Result<(), Halt<'a>> {
+    fn run(&mut self, of: &'a str) -> Result<(), WalkError<'a>> {
         if let Some((name, number)) = role_of(of) {
             self.scope.set(Known {
                 owner: "Handshake",
@@ -170,14 +170,14 @@ impl<'a> Walk<'a> {
             let Some(task) = self.tasks.pop() else {
                 break;
             };
-            if let Err(halt) = self.step(task) {
-                self.fall_back(halt)?;
+            if let Err(error) = self.step(task) {
+                self.fall_back(error)?;
             }
         }
         Ok(())
     }
 
-    fn step(&mut self, task: Task<'a>) -> Result<(), Halt<'a>> {
+    fn step(&mut self, task: Task<'a>) -> Result<(), WalkError<'a>> {
         match task {
             Task::Field(place, field) => self.field(place, field),
             Task::Value(place, field) => self.value(place, field),
@@ -188,12 +188,12 @@ impl<'a> Walk<'a> {
     }
 
     // Goes back to the innermost bytes that were opened, and shows them as bytes.
-    fn fall_back(&mut self, halt: Halt<'a>) -> Result<(), Halt<'a>> {
-        if let Halt::Memory = halt {
-            return Err(halt);
+    fn fall_back(&mut self, error: WalkError<'a>) -> Result<(), WalkError<'a>> {
+        if let WalkError::Memory = error {
+            return Err(error);
         }
         let Some(opening) = self.openings.pop() else {
-            return Err(halt);
+            return Err(error);
         };
         self.lines.truncate(opening.line);
         self.lines.push(opening.closed)?;
@@ -204,14 +204,14 @@ impl<'a> Walk<'a> {
     }
 
     // What was walked over, and what is left as a line.
-    fn ended(self, is_refused: bool) -> Result<Walked<'a>, AllocError> {
+    fn ended(self, is_rejected: bool) -> Result<Walked<'a>, AllocError> {
         let rest = self.rest;
         let stop = Stop {
             at: self.at,
             depth: 0,
             label: ROOT.label,
             expected: Expected::End("message"),
-            found: Found::Refused,
+            found: Found::Rejected,
         };
         let mut lines = self.lines;
         if !rest.is_empty() {
@@ -224,7 +224,7 @@ impl<'a> Walk<'a> {
         }
         Ok(Walked {
             lines,
-            stop: if is_refused { Some(stop) } else { None },
+            stop: if is_rejected { Some(stop) } else { None },
         })
     }
 
@@ -254,7 +254,7 @@ impl<'a> Walk<'a> {
         place: Place<'a>,
         bytes: &'a [u8],
         shown: Shown<'a>,
-    ) -> Result<(), Halt<'a>> {
+    ) -> Result<(), WalkError<'a>> {
         self.lines.push(Line {
             depth: place.depth,
             label: place.label,
@@ -271,8 +271,8 @@ impl<'a> Walk<'a> {
         at: usize,
         expected: Expected<'a>,
         found: Found,
-    ) -> Result<(), Halt<'a>> {
-        if at >= self.refused_at {
+    ) -> Result<(), WalkError<'a>> {
+        if at >= self.rejected_at {
             return Err(stop_at(place, at, expected, found));
         }
         Ok(())
@@ -306,8 +306,8 @@ pub(crate) fn stop_at<'a>(
     at: usize,
     expected: Expected<'a>,
     found: Found,
-) -> Halt<'a> {
-    Halt::Stop(Stop {
+) -> WalkError<'a> {
+    WalkError::Stop(Stop {
         at,
         depth: place.depth,
         label: place.label,

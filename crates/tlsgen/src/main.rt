@@ -177,9 +177,9 @@ fn without_mark(text: &str) -> &str {
 fn plan<R: Eprint + AllocGlobal>(rt: &R, texts: &mut Texts) -> anyhow::Result<Option<Plan>> {
     match texts.plan(rt.alloc()) {
         Ok(plan) => Ok(Some(plan)),
-        Err(fault) => {
-            let homes = texts.homes(rt.alloc(), &fault)?;
-            print_trouble(rt, texts.path(&fault), fault.trouble)?;
+        Err(error) => {
+            let homes = texts.homes(rt.alloc(), &error)?;
+            print_trouble(rt, texts.path(&error), error.trouble)?;
             if !homes.is_empty() {
                 eprintln!(rt; "of other crates, this name is in: {homes}")?;
             }

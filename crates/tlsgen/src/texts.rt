@@ -3,7 +3,7 @@
 use std::alloc::{AllocError, Global};
 use tlsgen_model::plan::Plan;
 use tlsgen_resolve::plan_of;
-use tlsgen_resolve::planning::Fault;
+use tlsgen_resolve::planning::PlanError;
 use tlsgen_syntax::noted::apply;
 use tlsgen_syntax::parser::{parse, parse_notes};
 use tlsgen_syntax::refusal::Trouble;
@@ -62,14 +62,14 @@ impl Texts {
     }
 
     /// The plan of the crate whose text was added last, over those before.
-    pub fn plan(&mut self, alloc: Global) -> Result<Plan, Fault> {
+    pub fn plan(&mut self, alloc: Global) -> Result<Plan, PlanError> {
         plan_of(alloc, &mut self.files)
     }
 
     /// The names of the crates that have what is rejected, such as `tls13, ct`.
-    pub fn homes(&self, alloc: Global, fault: &Fault) -> Result<String, AllocError> {
+    pub fn homes(&self, alloc: Global, error: &PlanError) -> Result<String, AllocError> {
         let mut names = String::new(alloc);
-        for home in &fault.homes {
+        for home in &error.homes {
             if let Some(name) = self.crates.get(*home) {
                 if !names.is_empty() {
                     names.push_str(", ")?;
@@ -80,14 +80,14 @@ impl Texts {
         Ok(names)
     }
 
-    /// The path of the text at fault, or of its notes.
-    pub fn path(&self, fault: &Fault) -> &str {
-        let paths = if fault.is_note {
+    /// The path of the rejected text, or of its notes.
+    pub fn path(&self, error: &PlanError) -> &str {
+        let paths = if error.is_note {
             &self.notes
         } else {
             &self.paths
         };
-        match paths.get(fault.file) {
+        match paths.get(error.file) {
             Some(path) => path.as_str(),
             None => "",
         }

@@ -1,9 +1,9 @@
 -- Which kinds of messages have answers.
 use Rattle.std.specs.Prelude.{Bool, true, false}
-use Rattle.tlsgen_emit.specs.declared.forms.Kind.{Kind}
-use Rattle.tlsgen_emit.specs.declared.forms.Kind.TheVariants.{Struct, StructInContext, Then, Values, Open, Choice, Sum, Select}
+use Rattle.tlsgen_emit.specs.declared.forms.MessageKind.{MessageKind}
+use Rattle.tlsgen_emit.specs.declared.forms.MessageKind.TheVariants.{Struct, StructInContext, Then, Values, Open, Choice, Sum, Select}
 
-abbrev pub has_answers : Kind → Bool
+abbrev pub has_answers : MessageKind → Bool
 has_answers Struct = false
 has_answers StructInContext = false
 has_answers Then = false

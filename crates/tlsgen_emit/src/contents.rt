@@ -1,13 +1,13 @@
 //! What a case is made of by `From`.
 
-use crate::parts::Part;
 use crate::templates::contents::{FROM, NONE};
+use crate::variant_forms::VariantForm;
 use std::alloc::{AllocError, Global};
 
 /// Sets the hole `from_content` of each case: its `From`, if it has one field, of a type that no other such case has.
 ///
 /// Types are distinguished by their format, not by their name: an alias of a type has its format.
-pub fn set(alloc: Global, parts: &mut [Part]) -> Result<(), AllocError> {
+pub fn set(alloc: Global, parts: &mut [VariantForm]) -> Result<(), AllocError> {
     let templates = templates_of(alloc, parts)?;
     for (part, template) in parts.iter_mut().zip(&templates) {
         part.holes.set_each(alloc, &[("from_content", *template)])?;
@@ -16,7 +16,7 @@ pub fn set(alloc: Global, parts: &mut [Part]) -> Result<(), AllocError> {
 }
 
 // The template of each case.
-fn templates_of(alloc: Global, parts: &[Part]) -> Result<Vec<&'static str>, AllocError> {
+fn templates_of(alloc: Global, parts: &[VariantForm]) -> Result<Vec<&'static str>, AllocError> {
     let formats = formats_of(alloc, parts)?;
     let mut templates = vec![in alloc; NONE; parts.len()]?;
     for i in 0..formats.len() {
@@ -30,7 +30,7 @@ fn templates_of(alloc: Global, parts: &[Part]) -> Result<Vec<&'static str>, Allo
 }
 
 // The format of each case of one field, in order, and where the case is.
-fn formats_of(alloc: Global, parts: &[Part]) -> Result<Vec<(String, usize)>, AllocError> {
+fn formats_of(alloc: Global, parts: &[VariantForm]) -> Result<Vec<(String, usize)>, AllocError> {
     let mut formats = Vec::new(alloc);
     for (at, part) in parts.iter().enumerate() {
         if part.fields == 1 {

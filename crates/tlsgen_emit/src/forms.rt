@@ -5,9 +5,8 @@ ghost use Rattle.tlsgen_emit.specs.Paths.{needs_answers};
 
 use crate::docs::doc;
 use crate::holds::Held;
+use crate::nested_fields::NestedFields;
 use crate::owners::Owner;
-use crate::parts::{Part, cases_of, has, has_bare, values_of};
-use crate::rows::Row;
 use crate::template::Holes;
 use crate::templates::views::{AFTER_TAG, IN_A_ROW};
 use crate::templates::{
@@ -16,6 +15,7 @@ use crate::templates::{
 };
 use crate::types::{Names, length_field};
 use crate::uses::Uses;
+use crate::variant_forms::{VariantForm, cases_of, has, has_bare, values_of};
 use crate::vocabulary::{
     CASES_OF_ROW, CASES_OF_SELECT, CASES_OF_STRUCT, CASES_OF_SUM, CASES_OF_THEN, HOLDS,
 };
@@ -25,7 +25,7 @@ use tlsgen_model::plan::{Body, Member, Message, Variant};
 
 /// Which templates a message is written by.
 #[derive(Clone, Copy)]
-pub enum Kind {
+pub enum MessageKind {
     Struct,
     /// A struct. A context decides some of its fields.
     StructInContext,
@@ -46,12 +46,12 @@ pub enum Kind {
 /// A message, as what stands for the holes of its templates.
 #[derive(Drop)]
 pub struct Form<'a> {
-    pub kind: Kind,
+    pub kind: MessageKind,
     /// It has references to its fields. It can only be encoded.
     pub is_borrowed: bool,
     pub holes: Holes,
     /// Its values, or its cases.
-    pub parts: Vec<Part>,
+    pub parts: Vec<VariantForm>,
     pub uses: Uses<'a>,
     /// What it takes of the cases by name.
     pub cases: Vec<&'static str>,
@@ -59,33 +59,33 @@ pub struct Form<'a> {
     pub held: Held,
 }
 
-impl Kind {
-    fn of(message: &Message) -> Kind
+impl MessageKind {
+    fn of(message: &Message) -> MessageKind
         ensures { has_answers result ≡ needs_answers message.now.body }
     {
         match &message.body {
-            Body::Fields(_) if message.context.is_some() => Kind::StructInContext,
-            Body::Fields(members) if thens::giver_of(members).is_some() => Kind::Then,
-            Body::Fields(_) => Kind::Struct,
-            Body::Values { is_open: true, .. } => Kind::Open,
-            Body::Values { .. } => Kind::Values,
-            Body::Choice { .. } => Kind::Choice,
-            Body::Sum { .. } if message.context.is_some() => Kind::Select,
-            Body::Sum { .. } => Kind::Sum,
+            Body::Fields(_) if message.context.is_some() => MessageKind::StructInContext,
+            Body::Fields(members) if thens::giver_of(members).is_some() => MessageKind::Then,
+            Body::Fields(_) => MessageKind::Struct,
+            Body::Values { is_open: true, .. } => MessageKind::Open,
+            Body::Values { .. } => MessageKind::Values,
+            Body::Choice { .. } => MessageKind::Choice,
+            Body::Sum { .. } if message.context.is_some() => MessageKind::Select,
+            Body::Sum { .. } => MessageKind::Sum,
         }
     }
 
     /// What it is written by.
     pub fn templates(self) -> Templates {
         match self {
-            Kind::Struct => structs::templates(),
-            Kind::StructInContext => structs_in_context::templates(),
-            Kind::Then => structs_on_tags::templates(),
-            Kind::Values => values::templates(),
-            Kind::Open => opens::templates(),
-            Kind::Choice => choices::templates(),
-            Kind::Sum => templates::tagged(),
-            Kind::Select => templates::chosen(),
+            MessageKind::Struct => structs::templates(),
+            MessageKind::StructInContext => structs_in_context::templates(),
+            MessageKind::Then => structs_on_tags::templates(),
+            MessageKind::Values => values::templates(),
+            MessageKind::Open => opens::templates(),
+            MessageKind::Choice => choices::templates(),
+            MessageKind::Sum => templates::tagged(),
+            MessageKind::Select => templates::chosen(),
         }
     }
 
@@ -94,9 +94,9 @@ impl Kind {
         ensures { result ≡ has_answers self }
     {
         match self {
-            Kind::Values | Kind::Choice => true,
-            Kind::Struct | Kind::StructInContext | Kind::Then => false,
-            Kind::Open | Kind::Sum | Kind::Select => false,
+            MessageKind::Values | MessageKind::Choice => true,
+            MessageKind::Struct | MessageKind::StructInContext | MessageKind::Then => false,
+            MessageKind::Open | MessageKind::Sum | MessageKind::Select => false,
         }
     }
 }
@@ -110,7 +110,7 @@ impl<'a> Form<'a> {
         ensures { IfOk result (λ form. has_answers form.kind ≡ needs_answers message.now.body) }
     {
         let mut form = Form {
-            kind: Kind::of(message),
+            kind: MessageKind::of(message),
             is_borrowed: message.is_borrowed,
             holes: Holes::new(alloc),
             parts: Vec::new(alloc),
@@ -204,17 +204,17 @@ impl<'a> Form<'a> {
     ) -> Result<(), AllocError>
         ensures { self.new.kind ≡ self.old.kind }
     {
-        if let Kind::Then = self.kind {
+        if let MessageKind::Then = self.kind {
             add_names(&mut self.cases, &CASES_OF_THEN)?;
             let (is_borrowed, uses) = (self.is_borrowed, &mut self.uses);
             return thens::set(alloc, names, &mut self.holes, uses, is_borrowed, members);
         }
         let is_in_context = message.context.is_some();
         let (of, uses) = (Owner::of_struct(is_in_context), &mut self.uses);
-        let row = Row::of(alloc, names, of, self.is_borrowed, members, uses)?;
-        row.set(alloc, &mut self.holes)?;
+        let fields = NestedFields::of(alloc, names, of, self.is_borrowed, members, uses)?;
+        fields.set(alloc, &mut self.holes)?;
         self.set_read(alloc, members.len())?;
-        views::set(alloc, &mut self.holes, &row, members)?;
+        views::set(alloc, &mut self.holes, &fields, members)?;
         if !is_in_context {
             return add_names(&mut self.cases, &CASES_OF_ROW);
         }
@@ -293,7 +293,7 @@ impl<'a> Form<'a> {
             return self.holes.set_each(alloc, &selectors::NONE);
         }
         match self.kind {
-            Kind::Open => self.holes.set_each(alloc, &selectors::OPEN),
+            MessageKind::Open => self.holes.set_each(alloc, &selectors::OPEN),
             _ => self.holes.set_each(alloc, &selectors::CLOSED),
         }
     }
@@ -332,15 +332,15 @@ impl<'a> Form<'a> {
         ensures { self.new.kind ≡ self.old.kind }
     {
         match self.kind {
-            Kind::Values => self.holes.set("has", has(alloc, &self.parts)?)?,
-            Kind::Choice => self.set_names(alloc)?,
+            MessageKind::Values => self.holes.set("has", has(alloc, &self.parts)?)?,
+            MessageKind::Choice => self.set_names(alloc)?,
             _ => {}
         }
         let (holes, parts) = (&mut self.holes, self.parts.as_slice());
         lines::set(alloc, holes, parts, self.kind.templates().texts)?;
         match self.kind {
-            Kind::Choice => views::set_cases(alloc, holes, parts, &IN_A_ROW),
-            Kind::Sum => views::set_cases(alloc, holes, parts, &AFTER_TAG),
+            MessageKind::Choice => views::set_cases(alloc, holes, parts, &IN_A_ROW),
+            MessageKind::Sum => views::set_cases(alloc, holes, parts, &AFTER_TAG),
             _ => Ok(()),
         }
     }

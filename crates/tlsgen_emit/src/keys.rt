@@ -2,8 +2,8 @@
 
 use crate::holds::Held;
 use crate::joining::Join;
+use crate::nested_fields::NestedFields;
 use crate::owners::Owner;
-use crate::rows::Row;
 use crate::template::Holes;
 use crate::templates::keys::{CLAUSE, ENUM_USE, HOLDS_KEY, IN_ENUM, IN_STRUCT, KEYED, MADE};
 use crate::types::Names;
@@ -150,14 +150,14 @@ fn set_struct<'a>(
     holders: &[&'a Holder],
     uses: &mut Uses<'a>,
 ) -> Result<(), AllocError> {
-    let mut row = Row::of(alloc, names, Owner::Struct, false, members, uses)?;
-    row.set_keys(alloc, holders)?;
+    let mut fields = NestedFields::of(alloc, names, Owner::Struct, false, members, uses)?;
+    fields.set_keys(alloc, holders)?;
     let texts = [
         ("keyed_parts", "$keyed_part$"),
         ("keyed_pattern", "$keyed_name$"),
     ];
     for (word, template) in texts {
-        holes.set(word, row.nested(alloc, template, Join::Tuple, " ")?)?;
+        holes.set(word, fields.nested(alloc, template, Join::Tuple, " ")?)?;
     }
     let mut found = Vec::new(alloc);
     for holder in holders {

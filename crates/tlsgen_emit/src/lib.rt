@@ -3,11 +3,11 @@
 //! - [`file`]: [`files_of`](file::files_of), all files of a crate, each of them a [`Written`](tlsgen_model::emitted::Written).
 //! - `code`, `specs` and `proofs`: the texts of `src/`, `specs/` and the answers, by `templates`; `imports`: which
 //!   lines of imports a text needs, by the `vocabulary`; `docs`: doc comments; `breaks`: where long lines are broken.
-//! - `forms`: a message as what stands for the holes of its templates; `template` and `lines` fill these. `parts`: its values
+//! - `forms`: a message as what stands for the holes of its templates; `template` and `lines` fill these. `variant_forms`: its values
 //!   or cases; `contents`: what cases are made of; `tags`: the tag in front of them; `sums`: cases that nest. `contexts`: what
 //!   decides its parts; `thens`: fields on tags before them; `holds` and `keys`: tags of others in it; `wholes`: a borrowed struct of
 //!   another's fields; `views`: a struct's encoding by its fields. `uses`: the names that it brings in.
-//! - `types`: what stands for a type of the plan; `index`: messages by their names. `rows`, `fields`, `owners`, `nesting` and
+//! - `types`: what stands for a type of the plan; `index`: messages by their names. `nested_fields`, `fields`, `owners`, `nesting` and
 //!   `joining`: fields in a row, as tuples that nest.
 #![tactic(auto)]
 
@@ -25,12 +25,11 @@ mod index;
 mod joining;
 mod keys;
 mod lines;
+mod nested_fields;
 mod nesting;
 mod owners;
-mod parts;
 mod present;
 mod proofs;
-mod rows;
 mod specs;
 mod sums;
 mod tags;
@@ -39,6 +38,7 @@ mod templates;
 mod thens;
 mod types;
 mod uses;
+mod variant_forms;
 mod views;
 mod vocabulary;
 mod wholes;

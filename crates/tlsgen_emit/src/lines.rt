@@ -1,7 +1,7 @@
 //! Texts with a line for each value or case of a message.
 
-use crate::parts::Part;
 use crate::template::Holes;
+use crate::variant_forms::VariantForm;
 use std::alloc::{AllocError, Global};
 
 /// Templates of such a text. The message fills the parts before all lines and after them.
@@ -27,7 +27,7 @@ impl Lines {
         &self,
         alloc: Global,
         of_message: &Holes,
-        parts: &[Part],
+        parts: &[VariantForm],
     ) -> Result<String, AllocError> {
         if let (Some(alone), [only]) = (self.alone, parts)
             && only.fields == 0
@@ -52,7 +52,7 @@ impl Lines {
 pub fn set(
     alloc: Global,
     of_message: &mut Holes,
-    parts: &[Part],
+    parts: &[VariantForm],
     texts: &[Lines],
 ) -> Result<(), AllocError> {
     for lines in texts {

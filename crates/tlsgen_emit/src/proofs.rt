@@ -5,7 +5,7 @@ ghost use Rattle.tlsgen_model.specs.Paths.{answers_path};
 ghost use Rattle.tlsgen_emit.specs.Forms.{has_answers};
 ghost use Rattle.tlsgen_emit.specs.Paths.{answers_if, paths_in};
 
-use crate::forms::{Form, Kind};
+use crate::forms::{Form, MessageKind};
 use crate::templates::{choices_answers, values};
 use crate::{breaks, imports};
 use std::alloc::{AllocError, Global};
@@ -55,7 +55,7 @@ fn push_answers(
 // The answers of one function, with their imports.
 fn text(alloc: Global, form: &Form<'_>, function: Answered) -> Result<String, AllocError> {
     let cited = match form.kind {
-        Kind::Values => values::CITED,
+        MessageKind::Values => values::CITED,
         _ => choices_answers::CITED,
     };
     let answers = answers(alloc, form, function)?;
@@ -73,11 +73,11 @@ fn text(alloc: Global, form: &Form<'_>, function: Answered) -> Result<String, Al
 
 fn answers(alloc: Global, form: &Form<'_>, function: Answered) -> Result<String, AllocError> {
     let lines = match (form.kind, function) {
-        (Kind::Values, Answered::Writes) => &values::WRITES,
-        (Kind::Values, Answered::Appends) => &values::APPENDS,
-        (Kind::Values, Answered::Reads) => &values::READS,
-        (Kind::Values, Answered::Splits) => &values::SPLITS,
-        (Kind::Values, Answered::Validates) => &values::VALIDATES,
+        (MessageKind::Values, Answered::Writes) => &values::WRITES,
+        (MessageKind::Values, Answered::Appends) => &values::APPENDS,
+        (MessageKind::Values, Answered::Reads) => &values::READS,
+        (MessageKind::Values, Answered::Splits) => &values::SPLITS,
+        (MessageKind::Values, Answered::Validates) => &values::VALIDATES,
         (_, Answered::Writes) => &choices_answers::WRITES,
         (_, Answered::Appends) => &choices_answers::APPENDS,
         (_, Answered::Reads) => &choices_answers::READS,

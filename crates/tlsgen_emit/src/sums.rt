@@ -1,8 +1,8 @@
 //! The cases of a sum, which nest evenly as pairs.
 
-use crate::parts::Part;
 use crate::template::Holes;
 use crate::templates::sums::{ALONE, BORROWED, ENCLOSED, OWNED, Wrapping};
+use crate::variant_forms::VariantForm;
 use std::alloc::{AllocError, Global};
 use tlsgen_model::plan::Variant;
 
@@ -65,7 +65,7 @@ impl Pair {
 /// Sets the holes of a sum's cases. Each case fills the length if there is one.
 pub fn set_cases(
     alloc: Global,
-    parts: &mut [Part],
+    parts: &mut [VariantForm],
     has_length: bool,
     variants: &[Variant],
 ) -> Result<(), AllocError> {
@@ -111,7 +111,7 @@ fn set_case(
 pub fn set(
     alloc: Global,
     holes: &mut Holes,
-    parts: &[Part],
+    parts: &[VariantForm],
     wrapping: Wrapping,
 ) -> Result<(), AllocError> {
     let texts = [
@@ -136,7 +136,7 @@ pub fn set(
 }
 
 // A text for each case.
-fn each(alloc: Global, parts: &[Part], template: &str) -> Result<Vec<String>, AllocError> {
+fn each(alloc: Global, parts: &[VariantForm], template: &str) -> Result<Vec<String>, AllocError> {
     let mut texts = Vec::new(alloc);
     for part in parts {
         texts.push(part.holes.filled(alloc, template)?)?;
@@ -144,6 +144,6 @@ fn each(alloc: Global, parts: &[Part], template: &str) -> Result<Vec<String>, Al
     Ok(texts)
 }
 
-fn has_fields(parts: &[Part]) -> bool {
+fn has_fields(parts: &[VariantForm]) -> bool {
     parts.iter().any(|part| part.fields > 0)
 }

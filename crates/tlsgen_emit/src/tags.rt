@@ -1,10 +1,10 @@
 //! The tag in front of a message's cases. A method returns it.
 
-use crate::parts::Part;
 use crate::template::Holes;
 use crate::templates::tags::{CLOSED, METHOD, NONE, NUMBER, OPEN, VALUES};
 use crate::types::{Names, set_width};
 use crate::uses::Uses;
+use crate::variant_forms::VariantForm;
 use std::alloc::{AllocError, Global};
 use tlsgen_model::plan::{Body, CaseTag, Message, Value, Variant};
 
@@ -23,7 +23,7 @@ pub fn set<'a>(
     alloc: Global,
     names: &Names<'a>,
     holes: &mut Holes,
-    parts: &mut [Part],
+    parts: &mut [VariantForm],
     uses: &mut Uses<'a>,
     message: &'a Message,
     variants: &[Variant],

@@ -1,11 +1,11 @@
 //! The fields of a struct. Some of them depend on tags that an earlier field is or holds.
 
 use crate::joining::{FORMATS, Join, LAWS, TREES};
+use crate::nested_fields::NestedFields;
 use crate::owners::Owner;
-use crate::rows::Row;
 use crate::template::Holes;
 use crate::templates::structs_on_tags::{
-    BEFORE, BEHIND, BORROWED, FIRST, GIVER, LATER, OWNED, Part,
+    BEFORE, BEHIND, BORROWED, FIRST, FieldHoles, GIVER, LATER, OWNED,
 };
 use crate::types::{Names, parenthesized};
 use crate::uses::Uses;
@@ -72,19 +72,19 @@ pub fn set<'a>(
         return Ok(());
     };
     let owner = set_giver(alloc, names, holes, uses, giver)?;
-    let all = Row::of(alloc, names, Owner::Struct, is_borrowed, members, uses)?;
+    let all = NestedFields::of(alloc, names, Owner::Struct, is_borrowed, members, uses)?;
     all.set(alloc, holes)?;
     let (before, others) = members.split_at_checked(giver.at).unwrap_or((&[], members));
     let (given, behind) = others.split_at_checked(1).unwrap_or((&[], others));
-    let given = Row::of(alloc, names, Owner::Struct, is_borrowed, given, uses)?;
+    let given = NestedFields::of(alloc, names, Owner::Struct, is_borrowed, given, uses)?;
     given.set_giver(alloc, holes)?;
     set_part(alloc, holes, &given, &GIVER)?;
-    let behind = Row::of(alloc, names, owner, is_borrowed, behind, uses)?;
+    let behind = NestedFields::of(alloc, names, owner, is_borrowed, behind, uses)?;
     set_part(alloc, holes, &behind, &BEHIND)?;
     if before.is_empty() {
         holes.set_each(alloc, &FIRST)?;
     } else {
-        let before = Row::of(alloc, names, Owner::Struct, is_borrowed, before, uses)?;
+        let before = NestedFields::of(alloc, names, Owner::Struct, is_borrowed, before, uses)?;
         set_part(alloc, holes, &before, &BEFORE)?;
         holes.set_each(alloc, &LATER)?;
     }
@@ -112,26 +112,31 @@ fn set_giver<'a>(
 }
 
 // Sets the holes of some of the fields.
-fn set_part(alloc: Global, holes: &mut Holes, row: &Row, part: &Part) -> Result<(), AllocError> {
+fn set_part(
+    alloc: Global,
+    holes: &mut Holes,
+    fields: &NestedFields,
+    words: &FieldHoles,
+) -> Result<(), AllocError> {
     let tuples = [
-        (part.types, "$part$"),
-        (part.borrowed_types, "$borrowed_part$"),
-        (part.borrowed, "$lend$"),
+        (words.types, "$part$"),
+        (words.borrowed_types, "$borrowed_part$"),
+        (words.borrowed, "$lend$"),
     ];
     for (word, template) in tuples {
-        holes.set(word, row.nested(alloc, template, Join::Tuple, " ")?)?;
+        holes.set(word, fields.nested(alloc, template, Join::Tuple, " ")?)?;
     }
     let definitions = [
-        (part.plain, "", "$tree_of$", &TREES),
-        (part.format, part.binds, "$format$", &FORMATS),
-        (part.law, part.binds, "$law$", &LAWS),
+        (words.plain, "", "$tree_of$", &TREES),
+        (words.format, words.binds, "$format$", &FORMATS),
+        (words.law, words.binds, "$law$", &LAWS),
     ];
     for (word, binds, template, rows) in definitions {
-        let text = row.defined(alloc, template, rows, " ")?;
+        let text = fields.defined(alloc, template, rows, " ")?;
         holes.set(
             word,
             parenthesized(alloc, format!(in alloc; "{binds}{text}")?)?,
         )?;
     }
-    holes.set(part.lets, row.let_statements(alloc, part.tuple)?)
+    holes.set(words.lets, fields.let_statements(alloc, words.tuple)?)
 }

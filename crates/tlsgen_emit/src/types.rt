@@ -5,8 +5,8 @@ ghost use Rattle.tlsgen_emit.specs.Texts.{bracketed};
 use crate::index::Index;
 use crate::template::Holes;
 use crate::templates::types::{
-    ARRAY, BOUNDED_BYTES, BOUNDED_LIST, BYTES, EXACT_LIST, FIXED_BYTES, FIXED_LIST, Kind, LIST,
-    MESSAGE, MESSAGE_IN_CONTEXT, NUMBER, NUMBER_OF_THREE_BYTES, OPTION, PRESENT, TEXT,
+    ARRAY, BOUNDED_BYTES, BOUNDED_LIST, BYTES, EXACT_LIST, FIXED_BYTES, FIXED_LIST, LIST, MESSAGE,
+    MESSAGE_IN_CONTEXT, NUMBER, NUMBER_OF_THREE_BYTES, OPTION, PRESENT, TEXT, TypeTemplates,
 };
 use std::alloc::{AllocError, Global};
 use std::collections::BTreeMap;
@@ -16,7 +16,6 @@ use tlsgen_model::plan::{Body, Element, Holder, Message, Other, Plan, Shape, Typ
 #[derive(Drop)]
 pub struct Words<'a> {
     /// What stands for these holes:
-    ///
     /// - `rust`: the Rust type, such as `Vec<u16>`;
     /// - `plain`: what a value stands for, as a function: `(λ v. trees Number v.items)`;
     /// - `tree`: the tree that a value stands for, with a hole for the value: `trees Number $v$.items`;
@@ -31,7 +30,7 @@ pub struct Words<'a> {
     pub is_borrowed: bool,
 }
 
-impl Kind {
+impl TypeTemplates {
     // The words for a type of others.
     fn words_of<'a>(
         &self,
@@ -153,8 +152,8 @@ impl<'a> Names<'a> {
         alloc: Global,
         of: &'a Type,
         holes: Holes,
-        bytes: &Kind,
-        list: &Kind,
+        bytes: &TypeTemplates,
+        list: &TypeTemplates,
     ) -> Result<Words<'a>, AllocError> {
         match of.element {
             Element::Opaque => self.alone(alloc, bytes, holes),
@@ -183,9 +182,14 @@ impl<'a> Names<'a> {
     }
 
     // The words for a type that no message is in.
-    fn alone(&self, alloc: Global, kind: &Kind, holes: Holes) -> Result<Words<'a>, AllocError> {
+    fn alone(
+        &self,
+        alloc: Global,
+        templates: &TypeTemplates,
+        holes: Holes,
+    ) -> Result<Words<'a>, AllocError> {
         Ok(Words {
-            texts: kind.texts(alloc, &holes)?,
+            texts: templates.texts(alloc, &holes)?,
             named: None,
             cited: None,
             is_borrowed: false,
@@ -193,11 +197,11 @@ impl<'a> Names<'a> {
     }
 
     fn number(&self, alloc: Global, width: usize) -> Result<Words<'a>, AllocError> {
-        let kind = match width {
+        let templates = match width {
             3 => &NUMBER_OF_THREE_BYTES,
             _ => &NUMBER,
         };
-        self.alone(alloc, kind, of_width(alloc, width)?)
+        self.alone(alloc, templates, of_width(alloc, width)?)
     }
 
     /// The words for an element alone.
@@ -220,13 +224,13 @@ impl<'a> Names<'a> {
             alloc,
             &[("name", name), ("module", module), ("lifetime", lifetime)],
         )?;
-        let kind = if self.is_in_context(name) {
+        let templates = if self.is_in_context(name) {
             &MESSAGE_IN_CONTEXT
         } else {
             &MESSAGE
         };
         Ok(Words {
-            texts: kind.texts(alloc, &holes)?,
+            texts: templates.texts(alloc, &holes)?,
             named: Some(name),
             cited: Some(name),
             is_borrowed,
@@ -289,8 +293,7 @@ impl<'a> Names<'a> {
         }
     }
 
-    /// Whether the message with this name decides parts of others: it is the context of one, or a field before them is it
-    /// or holds it.
+    /// Whether the message with this name decides parts of others: it is their context, or a field before them is or holds it.
     pub fn is_context(&self, name: &str) -> bool {
         self.index.deciding.contains(name)
     }

@@ -2,14 +2,14 @@
 
 use crate::joining::Join;
 use crate::lines::{self, Lines};
+use crate::nested_fields::NestedFields;
 use crate::nesting::Nesting;
-use crate::parts::Part;
-use crate::rows::Row;
 use crate::template::Holes;
 use crate::templates::structs_in_context::{NOT_PARTED, PARTED};
 use crate::templates::views::{AS_READ, IN_BOX, NONE, OF_CASES, OF_FIELDS, OF_SELECT, USES};
 use crate::thens;
 use crate::types::Names;
+use crate::variant_forms::VariantForm;
 use std::alloc::{AllocError, Global};
 use tlsgen_model::plan::{Body, Decided, Element, Member, Message, Shape};
 
@@ -88,7 +88,7 @@ pub fn set_name(
 pub fn set(
     alloc: Global,
     holes: &mut Holes,
-    row: &Row,
+    fields: &NestedFields,
     members: &[Member],
 ) -> Result<(), AllocError> {
     if !holes.has("view_name") {
@@ -100,27 +100,31 @@ pub fn set(
         (&AS_READ, "whole.parts()")
     };
     holes.set_each(alloc, parts)?;
-    holes.set("viewed", row.listed(alloc, IN_STRUCT)?)?;
-    let bytes = row.nested(alloc, "view.$name$", Join::Bytes, " ")?;
+    holes.set("viewed", fields.listed(alloc, IN_STRUCT)?)?;
+    let bytes = fields.nested(alloc, "view.$name$", Join::Bytes, " ")?;
     holes.set("view_bytes", bytes)?;
-    holes.set("view_splits", row.splits(alloc, whole)?)?;
+    holes.set("view_splits", fields.splits(alloc, whole)?)?;
     holes.set_each(alloc, &OF_FIELDS)
 }
 
 /// Sets the holes `viewed`, `view_bytes` and `view_splits` of a case with these fields.
-pub fn set_of_case(alloc: Global, holes: &mut Holes, row: &Row) -> Result<(), AllocError> {
-    holes.set("viewed", row.listed(alloc, IN_VARIANT)?)?;
-    let bytes = row.nested(alloc, "a$at$", Join::Bytes, " ")?;
+pub fn set_of_case(
+    alloc: Global,
+    holes: &mut Holes,
+    fields: &NestedFields,
+) -> Result<(), AllocError> {
+    holes.set("viewed", fields.listed(alloc, IN_VARIANT)?)?;
+    let bytes = fields.nested(alloc, "a$at$", Join::Bytes, " ")?;
     holes.set("view_bytes", bytes)?;
     let whole = holes.filled(alloc, "Encoded::<$types$>::from_proved(parts)")?;
-    holes.set("view_splits", row.splits(alloc, whole.as_str())?)
+    holes.set("view_splits", fields.splits(alloc, whole.as_str())?)
 }
 
 /// Sets the hole `view` of an enum with these cases, by texts with a line for each, if it has a view.
 pub fn set_cases(
     alloc: Global,
     holes: &mut Holes,
-    parts: &[Part],
+    parts: &[VariantForm],
     texts: &[Lines],
 ) -> Result<(), AllocError> {
     if !holes.has("view_name") {

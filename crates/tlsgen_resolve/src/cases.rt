@@ -31,8 +31,8 @@ pub struct Labelled<'a> {
 }
 
 /// The type of a field that is a tag: an integer, an enum, or another name of one.
-pub fn tag_of<'a>(alloc: Global, files: Scope<'a>, field: &'a Field) -> Result<Tag<'a>, Trouble> {
-    match find_tag(alloc, files, field)? {
+pub fn tag_of<'a>(alloc: Global, scope: Scope<'a>, field: &'a Field) -> Result<Tag<'a>, Trouble> {
+    match find_tag(alloc, scope, field)? {
         Some(tag) => Ok(tag),
         None => Err(refused(
             alloc,
@@ -46,18 +46,18 @@ pub fn tag_of<'a>(alloc: Global, files: Scope<'a>, field: &'a Field) -> Result<T
 /// The type of a field, if it is an integer, an enum or another name of one, of 1, 2, 4 or 8 bytes.
 pub fn find_tag<'a>(
     alloc: Global,
-    files: Scope<'a>,
+    scope: Scope<'a>,
     field: &'a Field,
 ) -> Result<Option<Tag<'a>>, Trouble> {
     if !is_single(field) {
         return Ok(None);
     }
-    let last = files.last_alias(field.of.text.as_str()).unwrap_or(field);
+    let last = scope.last_alias(field.of.text.as_str()).unwrap_or(field);
     if !is_single(last) {
         return Ok(None);
     }
     let of = last.of.text.as_str();
-    match find(files, of) {
+    match find(scope, of) {
         Some(Item::Enum(one)) => {
             let width = enum_width(alloc, one)?;
             Ok(Some(Tag {

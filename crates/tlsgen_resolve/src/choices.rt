@@ -32,12 +32,12 @@ impl<'a> Resolver<'a> {
         index: usize,
     ) -> Result<ResolvedSelect<'a>, Trouble> {
         let tag = tag_of_select(self.alloc, sequence, select, index)?;
-        let of = tag_of(self.alloc, self.files, tag.field)?;
+        let of = tag_of(self.alloc, self.scope, tag.field)?;
         let cases = cases_of(self.alloc, of, select, &mut self.budget)?;
         Ok(ResolvedSelect {
             tag: tag.index,
             cases,
-            given: given_to(self.files, sequence.name, select),
+            given: given_to(self.scope, sequence.name, select),
             place: select.place,
         })
     }
@@ -86,7 +86,7 @@ impl<'a> Resolver<'a> {
         if let Some((select, length)) = counted_select(segment) {
             return self.counted_body(sequence, tag, select, length, name);
         }
-        let of = tag_of(self.alloc, self.files, tag.field)?;
+        let of = tag_of(self.alloc, self.scope, tag.field)?;
         let mut list = CaseList::new(self.alloc, of.width);
         if let Some(nearest) = nearest_select(segment) {
             let cases = &nearest.cases;
@@ -156,7 +156,7 @@ impl<'a> Resolver<'a> {
     fn tag_of_cases(&self, field: &'a Field) -> Result<CaseTag, Trouble> {
         check_letters(self.alloc, &field.name)?;
         let name = member_name(self.alloc, field)?;
-        let tag = tag_of(self.alloc, self.files, field)?;
+        let tag = tag_of(self.alloc, self.scope, field)?;
         let Some(one) = tag.of else {
             return Ok(CaseTag {
                 name,

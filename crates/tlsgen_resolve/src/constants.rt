@@ -39,25 +39,25 @@ pub struct Fixed {
 /// What a field always is. Rejects a constant that the field's type doesn't have.
 pub fn fixed_of(
     alloc: Global,
-    files: Scope<'_>,
+    scope: Scope<'_>,
     field: &Field,
     constant: &Constant,
 ) -> Result<Fixed, Trouble> {
     match constant {
-        Constant::Named(name) => named_constant(alloc, files, field, name),
-        Constant::Number(number) => numbered_constant(alloc, files, field, *number),
-        Constant::Elements(elements) => constant_of_bytes(alloc, files, field, elements),
+        Constant::Named(name) => named_constant(alloc, scope, field, name),
+        Constant::Number(number) => numbered_constant(alloc, scope, field, *number),
+        Constant::Elements(elements) => constant_of_bytes(alloc, scope, field, elements),
     }
 }
 
 // A value of the field's enum.
 fn named_constant(
     alloc: Global,
-    files: Scope<'_>,
+    scope: Scope<'_>,
     field: &Field,
     name: &Name,
 ) -> Result<Fixed, Trouble> {
-    let found = find_tag(alloc, files, field)?.and_then(|tag| tag.of);
+    let found = find_tag(alloc, scope, field)?.and_then(|tag| tag.of);
     if let Some(one) = found {
         if let Some(value) = find_value(one, name) {
             let number = Number {
@@ -134,11 +134,11 @@ fn has_one_value(one: &Enum) -> bool {
 // A number, also the one of an enum's value.
 fn numbered_constant(
     alloc: Global,
-    files: Scope<'_>,
+    scope: Scope<'_>,
     field: &Field,
     number: Number,
 ) -> Result<Fixed, Trouble> {
-    match find_tag(alloc, files, field)? {
+    match find_tag(alloc, scope, field)? {
         Some(Tag { width, of: None }) => of_number(alloc, field, width, number),
         Some(
             Tag {
@@ -156,7 +156,7 @@ fn numbered_constant(
 // The bytes of a number, or of an array of bytes.
 fn constant_of_bytes(
     alloc: Global,
-    files: Scope<'_>,
+    scope: Scope<'_>,
     field: &Field,
     elements: &[Number],
 ) -> Result<Fixed, Trouble> {
@@ -164,7 +164,7 @@ fn constant_of_bytes(
     let width = if is_array {
         array_width(field)
     } else {
-        find_tag(alloc, files, field)?.map(|tag| tag.width)
+        find_tag(alloc, scope, field)?.map(|tag| tag.width)
     };
     let Some(width) = width else {
         return Err(refused_field(alloc, field, NO_CONSTANT));
@@ -183,7 +183,7 @@ fn constant_of_bytes(
     if is_array {
         return of_number(alloc, field, width, number);
     }
-    numbered_constant(alloc, files, field, number)
+    numbered_constant(alloc, scope, field, number)
 }
 
 // How many bytes an array of bytes has.

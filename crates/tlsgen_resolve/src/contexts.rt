@@ -97,16 +97,16 @@ impl<'a> OuterTag<'a> {
 /// name, an enum of that name, also in small letters: `certificate_type` for `CertificateType`.
 pub fn outer_tag<'a>(
     alloc: Global,
-    files: Scope<'a>,
+    scope: Scope<'a>,
     select: &'a Select,
 ) -> Result<OuterTag<'a>, Trouble> {
     let Some((name, words)) = select.path.split_last() else {
         return Err(refused(alloc, select.place, "select", "the name of a tag"));
     };
-    let owner = struct_on_path(files, words);
+    let owner = struct_on_path(scope, words);
     let found = match owner {
-        Some(owner) => tag_in(alloc, files, owner, name)?,
-        None if words.is_empty() => enum_tag(alloc, files, name)?,
+        Some(owner) => tag_in(alloc, scope, owner, name)?,
+        None if words.is_empty() => enum_tag(alloc, scope, name)?,
         None => None,
     };
     match found {
@@ -125,24 +125,24 @@ pub fn outer_tag<'a>(
 }
 
 // The struct at the end of a path that begins with a struct's name, through fields.
-fn struct_on_path<'a>(files: Scope<'a>, words: &[Name]) -> Option<&'a Struct> {
+fn struct_on_path<'a>(scope: Scope<'a>, words: &[Name]) -> Option<&'a Struct> {
     let (head, fields) = words.split_first()?;
-    let mut one = find_struct(files, head.text.as_str())?;
+    let mut one = find_struct(scope, head.text.as_str())?;
     for word in fields {
         let field = field_of(one, word)?;
-        one = find_struct(files, field.of.text.as_str())?;
+        one = find_struct(scope, field.of.text.as_str())?;
     }
     Some(one)
 }
 
 fn tag_in<'a>(
     alloc: Global,
-    files: Scope<'a>,
+    scope: Scope<'a>,
     one: &'a Struct,
     name: &Name,
 ) -> Result<Option<Tag<'a>>, Trouble> {
     match field_of(one, name) {
-        Some(field) => find_tag(alloc, files, field),
+        Some(field) => find_tag(alloc, scope, field),
         None => Ok(None),
     }
 }
@@ -154,8 +154,8 @@ fn field_of<'a>(one: &'a Struct, name: &Name) -> Option<&'a Field> {
     })
 }
 
-fn enum_tag<'a>(alloc: Global, files: Scope<'a>, name: &Name) -> Result<Option<Tag<'a>>, Trouble> {
-    let Some(Item::Enum(one)) = files.find_enum(name.text.as_str()) else {
+fn enum_tag<'a>(alloc: Global, scope: Scope<'a>, name: &Name) -> Result<Option<Tag<'a>>, Trouble> {
+    let Some(Item::Enum(one)) = scope.find_enum(name.text.as_str()) else {
         return Ok(None);
     };
     let width = enum_width(alloc, one)?;
@@ -169,7 +169,7 @@ fn enum_tag<'a>(alloc: Global, files: Scope<'a>, name: &Name) -> Result<Option<T
 /// for those that a field before them has. Rejects two.
 pub fn context_of<'a>(
     alloc: Global,
-    files: Scope<'a>,
+    scope: Scope<'a>,
     all: &mut Known<'a>,
     sequence: &Sequence<'a>,
 ) -> Result<Option<OuterTag<'a>>, Trouble> {
@@ -181,7 +181,7 @@ pub fn context_of<'a>(
             }
             Piece::Length(_) => context,
             Piece::Select(select) => {
-                let tag = tag_elsewhere(alloc, files, all, sequence, at, select)?;
+                let tag = tag_elsewhere(alloc, scope, all, sequence, at, select)?;
                 let context = with_select(alloc, tag, context)?;
                 with_cases(alloc, all, sequence, select, context)?
             }
@@ -193,15 +193,15 @@ pub fn context_of<'a>(
 // The tag of a select at a position, if it is in another struct or said by the protocol alone.
 fn tag_elsewhere<'a>(
     alloc: Global,
-    files: Scope<'a>,
+    scope: Scope<'a>,
     all: &mut Known<'a>,
     sequence: &Sequence<'a>,
     at: usize,
     select: &'a Select,
 ) -> Result<Option<OuterTag<'a>>, Trouble> {
-    match site_of(alloc, files, all, sequence, at)? {
+    match site_of(alloc, scope, all, sequence, at)? {
         Site::Here | Site::Before(_) => Ok(None),
-        Site::Elsewhere => Ok(Some(outer_tag(alloc, files, select)?)),
+        Site::Elsewhere => Ok(Some(outer_tag(alloc, scope, select)?)),
     }
 }
 

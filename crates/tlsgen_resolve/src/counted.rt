@@ -69,7 +69,7 @@ pub fn path_of_array(field: &Field) -> Option<&[Name]> {
 /// The type of a field of as many bytes as the number before it says.
 pub fn counted_type(
     alloc: Global,
-    files: Scope<'_>,
+    scope: Scope<'_>,
     length: &Field,
     field: &Field,
 ) -> Result<Type, Trouble>
@@ -79,7 +79,7 @@ pub fn counted_type(
     let most = greatest_of(length).unwrap_or(0);
     bounded_type(
         alloc,
-        files,
+        scope,
         field,
         Number { value: 0, place },
         Number { value: most, place },

@@ -20,11 +20,11 @@ pub struct Ending<'a> {
 }
 
 /// The fields of a struct, if a note says that the second one ends the first.
-pub fn ending_of<'a>(files: Scope<'_>, one: &'a Struct) -> Option<Ending<'a>> {
+pub fn ending_of<'a>(scope: Scope<'_>, one: &'a Struct) -> Option<Ending<'a>> {
     let [Part::Field(content), Part::Field(kind), Part::Field(zeros)] = one.parts.as_slice() else {
         return None;
     };
-    let is_named = match said_of(files, &one.name, &kind.name) {
+    let is_named = match said_of(scope, &one.name, &kind.name) {
         Some(Said::Ends(name)) => name.text == content.name.text,
         _ => false,
     };
@@ -43,7 +43,7 @@ impl<'a> Resolver<'a> {
     /// Makes another name of `InnerPlaintext` for such a struct. Rejects a type of more than one byte.
     pub fn make_ending(&mut self, one: &Struct, ending: Ending<'a>) -> Result<(), Trouble> {
         let kind = ending.kind;
-        match find_tag(self.alloc, self.files, kind)? {
+        match find_tag(self.alloc, self.scope, kind)? {
             Some(tag) if tag.width.bytes == 1 => {}
             _ => {
                 return Err(self.refused_name(
@@ -61,7 +61,7 @@ impl<'a> Resolver<'a> {
         )?;
         self.out.aliases.push(Alias {
             name: type_name(self.alloc, one.name.text.as_str())?,
-            of: type_of(self.alloc, self.files, kind)?,
+            of: type_of(self.alloc, self.scope, kind)?,
             ends: true,
             home: self.out.home,
             doc,

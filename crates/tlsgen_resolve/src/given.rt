@@ -15,7 +15,7 @@ pub struct Given<'a> {
 }
 
 /// The names of a select of a struct: the one after it, or else those that notes give it.
-pub fn given_to<'a>(files: Scope<'a>, of: &str, select: &'a Select) -> Given<'a> {
+pub fn given_to<'a>(scope: Scope<'a>, of: &str, select: &'a Select) -> Given<'a> {
     match &select.name {
         Some(name) if is_of_field(name) => Given {
             of_type: None,
@@ -26,8 +26,8 @@ pub fn given_to<'a>(files: Scope<'a>, of: &str, select: &'a Select) -> Given<'a>
             of_field: None,
         },
         None => Given {
-            of_type: name_of_select(files, of, select, false),
-            of_field: name_of_select(files, of, select, true),
+            of_type: name_of_select(scope, of, select, false),
+            of_field: name_of_select(scope, of, select, true),
         },
     }
 }

@@ -115,18 +115,18 @@ impl<'a> Resolver<'a> {
         )?;
         let mut field = giver;
         for _ in 0..=self.known.len() {
-            let Some(one) = self.known.holding(&label, field) else {
+            let Some(holding) = self.known.holding(&label, field) else {
                 break;
             };
-            if self.known.is_kept(&label, one.name) {
+            if self.known.is_kept(&label, holding.name) {
                 return Ok(());
             }
-            self.push_holder(field, &one, tag, of)?;
-            self.known.set_kept(&label, one.name)?;
-            if tag.is_field(one.name, one.field) {
+            self.push_holder(field, &holding, tag, of)?;
+            self.known.set_kept(&label, holding.name)?;
+            if tag.is_field(holding.name, holding.field) {
                 return Ok(());
             }
-            field = one.field;
+            field = holding.field;
         }
         Err(self.refused_name(
             &giver.of,
@@ -138,11 +138,11 @@ impl<'a> Resolver<'a> {
     fn push_holder(
         &mut self,
         field: &Field,
-        one: &Holding<'a>,
+        holding: &Holding<'a>,
         tag: &OuterTag<'a>,
         of: &String,
     ) -> Result<(), Trouble> {
-        let name = type_name(self.alloc, one.name)?;
+        let name = type_name(self.alloc, holding.name)?;
         if self.out.home_of(&name) != Some(self.out.home) {
             if self.out.holder(&name, of).is_some() {
                 return Ok(());
@@ -152,7 +152,7 @@ impl<'a> Resolver<'a> {
                 "a struct of this text, or one whose own text has parts that its tag decides",
             ));
         }
-        let member = self.holding_member(one, of, tag)?;
+        let member = self.holding_member(holding, of, tag)?;
         self.keep_holder(tag.name, name, of, member)
     }
 
@@ -185,15 +185,15 @@ impl<'a> Resolver<'a> {
     // The member of a struct that is a tag or holds it; none if its cases are on the tag.
     fn holding_member(
         &mut self,
-        one: &Holding<'a>,
+        holding: &Holding<'a>,
         of: &String,
         tag: &OuterTag<'a>,
     ) -> Result<Option<String>, Trouble> {
-        if !tag.is_field(one.name, one.field) {
-            return Ok(Some(member_name(self.alloc, one.field)?));
+        if !tag.is_field(holding.name, holding.field) {
+            return Ok(Some(member_name(self.alloc, holding.field)?));
         }
-        match self.placed_tag(one) {
-            None => Ok(Some(member_name(self.alloc, one.field)?)),
+        match self.placed_tag(holding) {
+            None => Ok(Some(member_name(self.alloc, holding.field)?)),
             Some(TagPart::Whole) => Ok(None),
             Some(TagPart::Member(member, part)) => {
                 let (member, name) = (member.clone()?, part.clone()?);
@@ -201,15 +201,15 @@ impl<'a> Resolver<'a> {
                 Ok(Some(member))
             }
             Some(TagPart::Fixed) => Err(self.refused_name(
-                &one.field.name,
+                &holding.field.name,
                 "a tag of several cases, where it decides parts of other structs",
             )),
         }
     }
 
-    fn placed_tag(&self, one: &Holding<'a>) -> Option<&TagPart> {
-        for placed in self.placed.get(one.name)? {
-            if is_same(placed.place, one.field.name.place) {
+    fn placed_tag(&self, holding: &Holding<'a>) -> Option<&TagPart> {
+        for placed in self.placed.get(holding.name)? {
+            if is_same(placed.place, holding.field.name.place) {
                 return Some(&placed.part);
             }
         }

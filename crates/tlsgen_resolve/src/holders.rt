@@ -25,7 +25,7 @@ pub enum Site<'a> {
 /// Where the tag of a select at a position is.
 pub fn site_of<'a>(
     alloc: Global,
-    files: Scope<'a>,
+    scope: Scope<'a>,
     all: &mut Known<'a>,
     sequence: &Sequence<'a>,
     at: usize,
@@ -36,7 +36,7 @@ pub fn site_of<'a>(
     if is_here(sequence, select) {
         return site_on_path(alloc, sequence, select, at);
     }
-    let tag = outer_tag(alloc, files, select)?;
+    let tag = outer_tag(alloc, scope, select)?;
     match giver_of(alloc, all, sequence, at, &tag)? {
         Some(giver) => Ok(Site::Before(giver)),
         None => Ok(Site::Elsewhere),
@@ -114,7 +114,7 @@ pub fn find_holders<'a>(
     tag: &OuterTag<'a>,
     label: &String,
 ) -> Result<(), AllocError> {
-    for at in not_looked_at(alloc, all, pieces, label)?.iter() {
+    for at in unchecked(alloc, all, pieces, label)?.iter() {
         let found = all
             .get(*at)
             .and_then(|one| only_holding(all, one, tag, label));
@@ -124,7 +124,7 @@ pub fn find_holders<'a>(
 }
 
 // The positions of the structs that pieces contain, except those already checked for this tag.
-fn not_looked_at(
+fn unchecked(
     alloc: Global,
     all: &Known<'_>,
     pieces: &[Piece<'_>],
@@ -153,7 +153,7 @@ fn push_contained(
     for piece in pieces {
         if let Piece::Field(field) = piece {
             if let Some(at) = all.position(field.of.text.as_str()) {
-                if is_giver(field) && !all.is_looked_at(label, at) && found.insert(at)? {
+                if is_giver(field) && !all.is_checked(label, at) && found.insert(at)? {
                     left.push(at)?;
                 }
             }

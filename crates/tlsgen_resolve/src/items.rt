@@ -27,13 +27,13 @@ pub fn item_name_mut(item: &mut Item) -> &mut Name {
 }
 
 /// The item of this name, in whichever file it is.
-pub fn find<'a>(files: Scope<'a>, name: &str) -> Option<&'a Item> {
-    files.find(name)
+pub fn find<'a>(scope: Scope<'a>, name: &str) -> Option<&'a Item> {
+    scope.find(name)
 }
 
 /// The struct of this name.
-pub fn find_struct<'a>(files: Scope<'a>, name: &str) -> Option<&'a Struct> {
-    match find(files, name) {
+pub fn find_struct<'a>(scope: Scope<'a>, name: &str) -> Option<&'a Struct> {
+    match find(scope, name) {
         Some(Item::Struct(one)) => Some(one),
         _ => None,
     }

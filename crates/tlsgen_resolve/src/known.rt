@@ -64,7 +64,7 @@ impl<'a> Known<'a> {
     }
 
     /// Whether a struct was checked for a tag of this label.
-    pub fn is_looked_at(&self, label: &String, at: usize) -> bool {
+    pub fn is_checked(&self, label: &String, at: usize) -> bool {
         self.by_tag
             .get(label.as_str())
             .is_some_and(|own| own.pieces.get(&at).is_some())

@@ -14,10 +14,10 @@ use tlsgen_syntax::syntax::{
 };
 
 /// The number that a note gives for a name between an array's brackets.
-pub fn number_of_path(files: Scope<'_>, path: &[Name]) -> Option<Number> {
+pub fn number_of_path(scope: Scope<'_>, path: &[Name]) -> Option<Number> {
     let first = path.first()?;
-    for at in files.notes(first.text.as_str()) {
-        let note = files.note(*at)?;
+    for at in scope.notes(first.text.as_str()) {
+        let note = scope.note(*at)?;
         match note.said {
             Said::Number(number) if are_same(&note.path, path) => return Some(number),
             _ => {}
@@ -35,9 +35,9 @@ fn are_same(own: &[Name], path: &[Name]) -> bool {
 }
 
 /// What a note says of a name in a struct.
-pub fn said_of<'a>(files: Scope<'a>, of: &Name, name: &Name) -> Option<&'a Said> {
-    for at in files.notes(of.text.as_str()) {
-        let note = files.note(*at)?;
+pub fn said_of<'a>(scope: Scope<'a>, of: &Name, name: &Name) -> Option<&'a Said> {
+    for at in scope.notes(of.text.as_str()) {
+        let note = scope.note(*at)?;
         if is_of(&note.path, of, name) && !matches!(note.said, Said::Called(_)) {
             return Some(&note.said);
         }
@@ -57,25 +57,25 @@ fn is_of_names(path: &[Name], of: &str, name: &Name) -> bool {
 }
 
 /// Whether a part of a struct is a number that counts the bytes of the select directly after it.
-pub fn counts_select(files: Scope<'_>, one: &Struct, at: usize) -> bool {
+pub fn counts_select(scope: Scope<'_>, one: &Struct, at: usize) -> bool {
     let (Some(Part::Field(length)), Some(Part::Select(_))) = (
         one.parts.get(at),
         one.parts.get(at.saturating_add(1)),
     ) else {
         return false;
     };
-    is_length(length) && matches!(said_of(files, &one.name, &length.name), Some(Said::Counts))
+    is_length(length) && matches!(said_of(scope, &one.name, &length.name), Some(Said::Counts))
 }
 
 /// The one field of a struct, if it is bytes that fill what is left.
-pub fn filling_field<'a>(files: Scope<'_>, one: &'a Struct) -> Option<&'a Field> {
+pub fn filling_field<'a>(scope: Scope<'_>, one: &'a Struct) -> Option<&'a Field> {
     let [part] = one.parts.as_slice() else {
         return None;
     };
     let Part::Field(field) = part else {
         return None;
     };
-    let fills = matches!(said_of(files, &one.name, &field.name), Some(Said::Fills));
+    let fills = matches!(said_of(scope, &one.name, &field.name), Some(Said::Fills));
     if fills && field.of.text.as_str() == "opaque" && path_of_array(field).is_some() {
         Some(field)
     } else {
@@ -84,25 +84,25 @@ pub fn filling_field<'a>(files: Scope<'_>, one: &'a Struct) -> Option<&'a Field>
 }
 
 /// The field at the end of a struct that goes to the end of what is read, if it has one.
-pub fn padding_of<'a>(files: Scope<'_>, one: &'a Struct) -> Option<Padding<'a>> {
-    if let Some(ending) = ending_of(files, one) {
+pub fn padding_of<'a>(scope: Scope<'_>, one: &'a Struct) -> Option<Padding<'a>> {
+    if let Some(ending) = ending_of(scope, one) {
         return Some(Padding::BehindType(ending.zeros));
     }
     let Some(Part::Field(field)) = one.parts.last() else {
         return None;
     };
-    if !is_padding(files, one, field) {
+    if !is_padding(scope, one, field) {
         return None;
     }
-    match said_of(files, &one.name, &field.name) {
+    match said_of(scope, &one.name, &field.name) {
         Some(Said::Pads) => Some(Padding::Zeros(field)),
         _ => Some(Padding::Bytes(field)),
     }
 }
 
 /// Whether a field of a struct goes to the end of what is read.
-pub fn is_padding(files: Scope<'_>, one: &Struct, field: &Field) -> bool {
-    let goes_on = match said_of(files, &one.name, &field.name) {
+pub fn is_padding(scope: Scope<'_>, one: &Struct, field: &Field) -> bool {
+    let goes_on = match said_of(scope, &one.name, &field.name) {
         Some(Said::Pads) => true,
         Some(Said::Fills) => one.parts.len() > 1,
         _ => false,
@@ -118,14 +118,14 @@ pub fn is_sized_by_name(field: &Field) -> bool {
 
 /// The name that a note gives a select of a struct: of its field, with a small letter, or of its type.
 pub fn name_of_select<'a>(
-    files: Scope<'a>,
+    scope: Scope<'a>,
     of: &str,
     select: &Select,
     is_field: bool,
 ) -> Option<&'a Name> {
     let tag = select.path.last()?;
-    for at in files.notes(of) {
-        let note = files.note(*at)?;
+    for at in scope.notes(of) {
+        let note = scope.note(*at)?;
         match &note.said {
             Said::Called(name)
                 if is_of_names(&note.path, of, tag) && is_of_field(name) == is_field => {
@@ -138,11 +138,11 @@ pub fn name_of_select<'a>(
 }
 
 /// The only case of a select whose tag is elsewhere and always has one value.
-pub fn settled_case<'a>(files: Scope<'_>, one: &Struct, select: &'a Select) -> Option<&'a Case> {
+pub fn settled_case<'a>(scope: Scope<'_>, one: &Struct, select: &'a Select) -> Option<&'a Case> {
     let [tag] = select.path.as_slice() else {
         return None;
     };
-    let Some(Said::Named(value)) = said_of(files, &one.name, tag) else {
+    let Some(Said::Named(value)) = said_of(scope, &one.name, tag) else {
         return None;
     };
     select.cases.iter().find(|case| has_label(case, value))
@@ -190,7 +190,7 @@ impl<'a> Resolver<'a> {
     // The definition of the file whose name is the first one of a path.
     fn item_of<'b>(&self, file: &'b File, path: &[Name]) -> Option<&'b Item> {
         let first = path.first()?;
-        let at = self.files.position(first.text.as_str())?;
+        let at = self.scope.position(first.text.as_str())?;
         file.items.get(at)
     }
 
@@ -203,16 +203,16 @@ impl<'a> Resolver<'a> {
     fn is_said_of(&self, one: &Struct, note: &Note, said: &Said) -> bool {
         one.parts.iter().enumerate().any(|(at, part)| match (part, said) {
             (Part::Field(field), Said::Counts) => {
-                is_of(&note.path, &one.name, &field.name) && counts_select(self.files, one, at)
+                is_of(&note.path, &one.name, &field.name) && counts_select(self.scope, one, at)
             }
             (Part::Field(field), Said::Fills | Said::Pads) => {
                 is_of(&note.path, &one.name, &field.name)
                     && at.saturating_add(1) == one.parts.len()
-                    && (filling_field(self.files, one).is_some()
-                        || is_padding(self.files, one, field))
+                    && (filling_field(self.scope, one).is_some()
+                        || is_padding(self.scope, one, field))
             }
             (Part::Field(field), Said::Ends(_)) => {
-                is_of(&note.path, &one.name, &field.name) && ending_of(self.files, one).is_some()
+                is_of(&note.path, &one.name, &field.name) && ending_of(self.scope, one).is_some()
             }
             (Part::Select(select), Said::Called(_)) => {
                 select.name.is_none()
@@ -223,7 +223,7 @@ impl<'a> Resolver<'a> {
             }
             (Part::Select(select), Said::Named(_)) => {
                 is_of_select(&note.path, &one.name, select)
-                    && settled_case(self.files, one, select).is_some()
+                    && settled_case(self.scope, one, select).is_some()
             }
             _ => false,
         })

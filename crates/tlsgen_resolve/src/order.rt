@@ -11,8 +11,8 @@ use tlsgen_syntax::syntax::{Field, File, Item, Part, Select, Struct};
 ///
 /// It is the order of going over the items from the first to the last, again and again, and settling each whose parts are
 /// settled.
-pub fn order_of(alloc: Global, files: Scope<'_>, file: &File) -> Result<Vec<usize>, Trouble> {
-    let needs = needs_of(alloc, files, file)?;
+pub fn order_of(alloc: Global, scope: Scope<'_>, file: &File) -> Result<Vec<usize>, Trouble> {
+    let needs = needs_of(alloc, scope, file)?;
     let rounds = Rounds::of(alloc, &needs)?;
     match rounds.left.iter().position(|left| *left > 0) {
         None => Ok(rounds.order(alloc)?),
@@ -176,63 +176,63 @@ fn next_unsettled(needs: &[Vec<usize>], left: &[usize], at: usize) -> usize {
     }
 }
 
-fn needs_of(alloc: Global, files: Scope<'_>, file: &File) -> Result<Vec<Vec<usize>>, AllocError> {
+fn needs_of(alloc: Global, scope: Scope<'_>, file: &File) -> Result<Vec<Vec<usize>>, AllocError> {
     let mut needs = Vec::new(alloc);
     for item in &file.items {
-        let parts = item_needs(alloc, files, item)?;
+        let parts = item_needs(alloc, scope, item)?;
         needs.push(parts)?;
     }
     Ok(needs)
 }
 
-fn item_needs(alloc: Global, files: Scope<'_>, item: &Item) -> Result<Vec<usize>, AllocError> {
+fn item_needs(alloc: Global, scope: Scope<'_>, item: &Item) -> Result<Vec<usize>, AllocError> {
     let mut needs = Vec::new(alloc);
     match item {
         Item::Enum(_) => {}
-        Item::Alias(field) => add_needs_of(files, &mut needs, field)?,
-        Item::Struct(one) => add_needs_of_parts(files, &mut needs, one)?,
+        Item::Alias(field) => add_needs_of(scope, &mut needs, field)?,
+        Item::Struct(one) => add_needs_of_parts(scope, &mut needs, one)?,
     }
     Ok(needs)
 }
 
 fn add_needs_of_parts(
-    files: Scope<'_>,
+    scope: Scope<'_>,
     needs: &mut Vec<usize>,
     one: &Struct,
 ) -> Result<(), AllocError> {
     for part in &one.parts {
         match part {
-            Part::Field(field) => add_needs_of(files, needs, field)?,
-            Part::Select(select) => add_needs_of_cases(files, needs, select)?,
+            Part::Field(field) => add_needs_of(scope, needs, field)?,
+            Part::Select(select) => add_needs_of_cases(scope, needs, select)?,
         }
     }
     Ok(())
 }
 
 fn add_needs_of_cases(
-    files: Scope<'_>,
+    scope: Scope<'_>,
     needs: &mut Vec<usize>,
     select: &Select,
 ) -> Result<(), AllocError> {
     for case in &select.cases {
-        add_needs_of_fields(files, needs, &case.fields)?;
+        add_needs_of_fields(scope, needs, &case.fields)?;
     }
     Ok(())
 }
 
 fn add_needs_of_fields(
-    files: Scope<'_>,
+    scope: Scope<'_>,
     needs: &mut Vec<usize>,
     fields: &[Field],
 ) -> Result<(), AllocError> {
     for field in fields {
-        add_needs_of(files, needs, field)?;
+        add_needs_of(scope, needs, field)?;
     }
     Ok(())
 }
 
-fn add_needs_of(files: Scope<'_>, needs: &mut Vec<usize>, field: &Field) -> Result<(), AllocError> {
-    if let Some(at) = files.position(field.of.text.as_str()) {
+fn add_needs_of(scope: Scope<'_>, needs: &mut Vec<usize>, field: &Field) -> Result<(), AllocError> {
+    if let Some(at) = scope.position(field.of.text.as_str()) {
         needs.push(at)?;
     }
     Ok(())

@@ -201,7 +201,7 @@ impl Output {
     }
 
     /// Appends a message. Rejects it if another has its module.
-    pub fn push(&mut self, alloc: Global, place: Place, message: Message) -> Result<(), Trouble>
+    pub fn push(&mut self, place: Place, message: Message) -> Result<(), Trouble>
         requires { IsWritable message.body }
     {
         let made = Made {
@@ -218,7 +218,7 @@ impl Output {
                 Ok(())
             }
             Some(message) => Err(refused(
-                alloc,
+                self.alloc,
                 place,
                 message.name.as_str(),
                 "a name that no type has",

@@ -12,7 +12,7 @@ use tlsgen_syntax::syntax::{Field, Part, Select, Struct};
 /// The pieces of a struct.
 pub fn own_pieces<'a>(
     alloc: Global,
-    files: Scope<'a>,
+    scope: Scope<'a>,
     one: &'a Struct,
 ) -> Result<Sequence<'a>, Trouble> {
     let name = one.name.text.as_str();
@@ -20,11 +20,11 @@ pub fn own_pieces<'a>(
     if one.parts.len() > MOST_PIECES {
         return Err(refused_size(alloc, &one.name));
     }
-    for (at, part) in written_parts(files, one).iter().enumerate() {
+    for (at, part) in written_parts(scope, one).iter().enumerate() {
         match part {
-            Part::Field(field) if is_padding(files, one, field) => {}
-            Part::Field(field) => push_field(files, one, at, field, &mut pieces)?,
-            Part::Select(select) => push_select(files, one, select, &mut pieces)?,
+            Part::Field(field) if is_padding(scope, one, field) => {}
+            Part::Field(field) => push_field(scope, one, at, field, &mut pieces)?,
+            Part::Select(select) => push_select(scope, one, select, &mut pieces)?,
         }
     }
     Ok(Sequence {
@@ -34,14 +34,14 @@ pub fn own_pieces<'a>(
         is_borrowed: one.is_borrowed,
         pieces,
         context: None,
-        is_filling: filling_field(files, one).is_some(),
-        padding: padding_of(files, one),
+        is_filling: filling_field(scope, one).is_some(),
+        padding: padding_of(scope, one),
     })
 }
 
 // None of a struct that is another name of `InnerPlaintext`.
-fn written_parts<'a>(files: Scope<'_>, one: &'a Struct) -> &'a [Part] {
-    match ending_of(files, one) {
+fn written_parts<'a>(scope: Scope<'_>, one: &'a Struct) -> &'a [Part] {
+    match ending_of(scope, one) {
         Some(_) => &[],
         None => one.parts.as_slice(),
     }
@@ -49,7 +49,7 @@ fn written_parts<'a>(files: Scope<'_>, one: &'a Struct) -> &'a [Part] {
 
 // A number that counts the field directly after it becomes a piece with that field.
 fn push_field<'a>(
-    files: Scope<'_>,
+    scope: Scope<'_>,
     one: &'a Struct,
     at: usize,
     field: &'a Field,
@@ -60,7 +60,7 @@ fn push_field<'a>(
             pieces.pop();
             pieces.push(Piece::Counted(length, field))?;
         }
-        None if counts_select(files, one, at) => pieces.push(Piece::Length(field))?,
+        None if counts_select(scope, one, at) => pieces.push(Piece::Length(field))?,
         None => pieces.push(Piece::Field(field))?,
     }
     Ok(())
@@ -68,12 +68,12 @@ fn push_field<'a>(
 
 // A select that always has one case is the fields of that case.
 fn push_select<'a>(
-    files: Scope<'_>,
+    scope: Scope<'_>,
     one: &'a Struct,
     select: &'a Select,
     pieces: &mut Vec<Piece<'a>>,
 ) -> Result<(), AllocError> {
-    let Some(case) = settled_case(files, one, select) else {
+    let Some(case) = settled_case(scope, one, select) else {
         pieces.push(Piece::Select(select))?;
         return Ok(());
     };

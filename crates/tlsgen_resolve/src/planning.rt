@@ -26,8 +26,8 @@ const MOST: usize = 100_000;
 
 /// Why there is no plan.
 #[derive(Drop)]
-pub struct Fault {
-    /// The file at fault, by its position among the files.
+pub struct PlanError {
+    /// The rejected file, by its position among the files.
     pub file: usize,
     /// It is the file's notes.
     pub is_note: bool,
@@ -52,7 +52,7 @@ pub struct Fault {
 ///
 /// In what is made, each struct has at most 27 fields and each case at most 18, with names that differ; the numbers of
 /// an enum and of the cases of a tag differ, and have the bytes of the enum or the tag: 1, 2, 4 or 8.
-pub fn plan_of(alloc: Global, files: &mut [File]) -> Result<Plan, Fault>
+pub fn plan_of(alloc: Global, files: &mut [File]) -> Result<Plan, PlanError>
     ensures writable { IfOk result (λ plan. AreWritable plan.messages.items) }
     ensures differ { IfOk result (λ plan. HaveModules plan.messages.items) }
 {
@@ -60,7 +60,7 @@ pub fn plan_of(alloc: Global, files: &mut [File]) -> Result<Plan, Fault>
 }
 
 /// The same, with at most `most` fields and cases in all, where `plan_of` allows 100,000.
-pub fn plan_within(alloc: Global, files: &mut [File], most: usize) -> Result<Plan, Fault>
+pub fn plan_within(alloc: Global, files: &mut [File], most: usize) -> Result<Plan, PlanError>
     ensures writable { IfOk result (λ plan. AreWritable plan.messages.items) }
     ensures differ { IfOk result (λ plan. HaveModules plan.messages.items) }
 {
@@ -80,13 +80,17 @@ pub fn plan_within(alloc: Global, files: &mut [File], most: usize) -> Result<Pla
 }
 
 // Puts in place of each name the one of the definition that it means.
-fn settle_all(alloc: Global, definitions: &Definitions, files: &mut [File]) -> Result<(), Fault> {
+fn settle_all(
+    alloc: Global,
+    definitions: &Definitions,
+    files: &mut [File],
+) -> Result<(), PlanError> {
     for (at, file) in files.iter_mut().enumerate() {
         if let Err(trouble) = settle(alloc, definitions, at, file) {
-            return Err(fault_of(alloc, definitions, at, false, trouble));
+            return Err(error_of(alloc, definitions, at, false, trouble));
         }
         if let Err(trouble) = settle_notes(alloc, definitions, at, file) {
-            return Err(fault_of(alloc, definitions, at, true, trouble));
+            return Err(error_of(alloc, definitions, at, true, trouble));
         }
     }
     Ok(())
@@ -99,7 +103,7 @@ fn resolved(
     files: &[File],
     index: &Index,
     most: usize,
-) -> Result<Output, Fault> {
+) -> Result<Output, PlanError> {
     let all = Scope::new(files, index);
     let mut resolver = match Resolver::new(alloc, definitions, all, most) {
         Ok(resolver) => resolver,
@@ -110,22 +114,22 @@ fn resolved(
             return Err(out_of_memory(alloc, error));
         }
         if let Err(trouble) = resolver.check_notes(file) {
-            return Err(fault_of(alloc, definitions, at, true, trouble));
+            return Err(error_of(alloc, definitions, at, true, trouble));
         }
         if let Err(trouble) = resolver.resolve_file(file) {
-            return Err(fault_of(alloc, definitions, at, false, trouble));
+            return Err(error_of(alloc, definitions, at, false, trouble));
         }
     }
     Ok(resolver.out)
 }
 
-fn fault_of(
+fn error_of(
     alloc: Global,
     definitions: &Definitions,
     file: usize,
     is_note: bool,
     trouble: Trouble,
-) -> Fault {
+) -> PlanError {
     let homes = match &trouble {
         Trouble::Refused(refusal) => {
             definitions.homes_before(alloc, file, refusal.found.as_str())
@@ -133,7 +137,7 @@ fn fault_of(
         Trouble::Memory => Ok(Vec::new(alloc)),
     };
     match homes {
-        Ok(homes) => Fault {
+        Ok(homes) => PlanError {
             file,
             is_note,
             homes,
@@ -143,8 +147,8 @@ fn fault_of(
     }
 }
 
-fn out_of_memory(alloc: Global, error: AllocError) -> Fault {
-    Fault {
+fn out_of_memory(alloc: Global, error: AllocError) -> PlanError {
+    PlanError {
         file: 0,
         is_note: false,
         homes: Vec::new(alloc),
@@ -156,7 +160,7 @@ impl<'a> Resolver<'a> {
     fn resolve_file(&mut self, file: &'a File) -> Result<(), Trouble> {
         self.add_modules(file)?;
         self.check_types(file)?;
-        for at in &order_of(self.alloc, self.files, file)? {
+        for at in &order_of(self.alloc, self.scope, file)? {
             if let Some(item) = file.items.get(*at) {
                 self.resolve_item(item)?;
             }
@@ -169,15 +173,15 @@ impl<'a> Resolver<'a> {
 
     fn resolve_item(&mut self, item: &'a Item) -> Result<(), Trouble> {
         match item {
-            Item::Enum(one) => self.resolve_enum(one),
+            Item::Enum(definition) => self.resolve_enum(definition),
             Item::Alias(field) => self.resolve_alias(field),
-            Item::Struct(one) => self.resolve_struct(one),
+            Item::Struct(structure) => self.resolve_struct(structure),
         }
     }
 
-    fn resolve_enum(&mut self, one: &Enum) -> Result<(), Trouble> {
-        let body = enum_body(self.alloc, one)?;
-        let name = &one.name;
+    fn resolve_enum(&mut self, definition: &Enum) -> Result<(), Trouble> {
+        let body = enum_body(self.alloc, definition)?;
+        let name = &definition.name;
         let message = self.defined_message(name.text.as_str(), &name.remark, body)?;
         self.push(name.place, message)
     }
@@ -192,7 +196,7 @@ impl<'a> Resolver<'a> {
         let declared = declared(self.alloc, field)?;
         self.out.aliases.push(Alias {
             name: type_name(self.alloc, field.name.text.as_str())?,
-            of: type_of(self.alloc, self.files, field)?,
+            of: type_of(self.alloc, self.scope, field)?,
             ends: false,
             home: self.out.home,
             doc: definition_doc(self.alloc, declared.as_str(), &field.name.remark)?,
@@ -203,12 +207,12 @@ impl<'a> Resolver<'a> {
     // Rejects a struct that fills what is left of a length, and isn't a case after one.
     fn check_filling(&self) -> Result<(), Trouble> {
         let filled = filled_types(self.alloc, self.known.as_slice())?;
-        for one in self.known.as_slice() {
-            if one.is_filling && !filled.contains(one.name) {
+        for sequence in self.known.as_slice() {
+            if sequence.is_filling && !filled.contains(sequence.name) {
                 return Err(refused(
                     self.alloc,
-                    one.place,
-                    one.name,
+                    sequence.place,
+                    sequence.name,
                     "a struct that is all of a case whose length counts the rest: a note says that it fills what is left",
                 ));
             }
@@ -223,20 +227,23 @@ fn filled_types<'a>(
     known: &[Sequence<'a>],
 ) -> Result<BTreeSet<&'a str>, AllocError> {
     let mut filled = BTreeSet::new(alloc);
-    for one in known {
-        if one
+    for sequence in known {
+        if sequence
             .pieces
             .iter()
             .any(|piece| matches!(piece, Piece::Length(_)))
         {
-            add_filled(&mut filled, one)?;
+            add_filled(&mut filled, sequence)?;
         }
     }
     Ok(filled)
 }
 
-fn add_filled<'a>(filled: &mut BTreeSet<&'a str>, one: &Sequence<'a>) -> Result<(), AllocError> {
-    for piece in &one.pieces {
+fn add_filled<'a>(
+    filled: &mut BTreeSet<&'a str>,
+    sequence: &Sequence<'a>,
+) -> Result<(), AllocError> {
+    for piece in &sequence.pieces {
         if let Piece::Select(select) = piece {
             for field in select.cases.iter().flat_map(|case| case.fields.iter()) {
                 filled.insert(field.of.text.as_str())?;

@@ -24,7 +24,7 @@ impl<'a> Resolver<'a> {
         select: &'a Select,
         decided: &Decided,
     ) -> Result<Option<ResolvedMember>, Trouble> {
-        let given = given_to(self.files, sequence.name, select);
+        let given = given_to(self.scope, sequence.name, select);
         if given.of_type.is_some() {
             return Ok(None);
         }

@@ -32,7 +32,7 @@ impl Budget {
                 alloc,
                 place,
                 found,
-                "a smaller text: at most 100000 fields and cases, with those that stand in several places",
+                "a smaller text: at most 100000 fields and cases, with those that are in several places",
             ));
         }
         self.left -= 1;

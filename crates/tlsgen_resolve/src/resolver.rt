@@ -29,7 +29,7 @@ use tlsgen_syntax::syntax::{Field, File, Name, Remark};
 pub struct Resolver<'a> {
     pub alloc: Global,
     /// The files so far: those of other crates, and the one that is resolved now.
-    pub files: Scope<'a>,
+    pub scope: Scope<'a>,
     // The modules of the items of the file that is resolved now.
     modules: BTreeSet<String>,
     /// The structs that are resolved.
@@ -45,23 +45,23 @@ impl<'a> Resolver<'a> {
     pub fn new(
         alloc: Global,
         definitions: &Definitions,
-        files: Scope<'a>,
+        scope: Scope<'a>,
         most: usize,
     ) -> Result<Resolver<'a>, AllocError> {
         Ok(Resolver {
             alloc,
-            files,
+            scope,
             modules: BTreeSet::new(alloc),
             known: Known::new(alloc),
             placed: BTreeMap::new(alloc),
-            out: Output::new(alloc, files.files.len(), definitions.hidden(alloc)?),
+            out: Output::new(alloc, scope.files.len(), definitions.hidden(alloc)?),
             budget: Budget::new(most),
         })
     }
 
     /// Goes on to the last of these files.
-    pub fn enter(&mut self, files: Scope<'a>, home: usize) -> Result<(), AllocError> {
-        self.files = files;
+    pub fn enter(&mut self, scope: Scope<'a>, home: usize) -> Result<(), AllocError> {
+        self.scope = scope;
         let modules = replace(&mut self.modules, BTreeSet::new(self.alloc));
         self.out.enter(home, modules)
     }
@@ -75,7 +75,7 @@ impl<'a> Resolver<'a> {
     }
 
     fn add_module(&mut self, name: &Name) -> Result<(), Trouble> {
-        if self.files.count() > MOST_ITEMS {
+        if self.scope.count() > MOST_ITEMS {
             return Err(self.refused_name(name, "at most 100000 definitions"));
         }
         let module = type_module(self.alloc, name)?;
@@ -107,7 +107,7 @@ impl<'a> Resolver<'a> {
     /// The member of a field.
     pub fn member_of(&mut self, field: &Field) -> Result<ResolvedMember, Trouble> {
         self.check_member(field)?;
-        let of = type_of(self.alloc, self.files, field)?;
+        let of = type_of(self.alloc, self.scope, field)?;
         self.typed_member(field, of)
     }
 
@@ -117,7 +117,7 @@ impl<'a> Resolver<'a> {
         length: &Field,
         field: &Field,
     ) -> Result<ResolvedMember, Trouble> {
-        let of = counted_type(self.alloc, self.files, length, field)?;
+        let of = counted_type(self.alloc, self.scope, length, field)?;
         self.typed_member(field, of)
     }
 
@@ -128,7 +128,7 @@ impl<'a> Resolver<'a> {
         field: &Field,
     ) -> Result<ResolvedMember, Trouble> {
         self.check_member(field)?;
-        let of = counted_type(self.alloc, self.files, length, field)?;
+        let of = counted_type(self.alloc, self.scope, length, field)?;
         self.typed_member(field, of)
     }
 
@@ -142,10 +142,10 @@ impl<'a> Resolver<'a> {
 
     // Rejects a type that fills a length, or that is in a context, where it can't be.
     fn check_context(&self, field: &Field) -> Result<(), Trouble> {
-        let Some(one) = sequence_named(&self.known, field.of.text.as_str()) else {
+        let Some(sequence) = sequence_named(&self.known, field.of.text.as_str()) else {
             return Ok(());
         };
-        match self.misplaced(one, field)? {
+        match self.misplaced(sequence, field)? {
             Some(expected) => Err(self.refused_name(&field.of, expected)),
             None => Ok(()),
         }
@@ -154,21 +154,21 @@ impl<'a> Resolver<'a> {
     // What should be in place of a field of a struct's type.
     fn misplaced(
         &self,
-        one: &Sequence<'a>,
+        sequence: &Sequence<'a>,
         field: &Field,
     ) -> Result<Option<&'static str>, AllocError> {
-        if one.is_filling {
+        if sequence.is_filling {
             return Ok(Some(
                 "no struct that fills what is left, but as all of a case whose length counts the rest",
             ));
         }
-        if let Some(padding) = &one.padding {
+        if let Some(padding) = &sequence.padding {
             return Ok(Some(padding.instead()));
         }
-        if one.context.is_none() {
+        if sequence.context.is_none() {
             return Ok(None);
         }
-        if self.is_elsewhere(one.name)? {
+        if self.is_elsewhere(sequence.name)? {
             return Ok(Some("no type of another crate that is in the context of a tag elsewhere"));
         }
         if field.is_optional {
@@ -239,6 +239,6 @@ impl<'a> Resolver<'a> {
     pub fn push(&mut self, place: Place, message: Message) -> Result<(), Trouble>
         requires { IsWritable message.body }
     {
-        self.out.push(self.alloc, place, message)
+        self.out.push(place, message)
     }
 }

@@ -53,13 +53,13 @@ pub struct Sequence<'a> {
 /// The pieces of a struct; all structs that it contains are known.
 pub fn sequence_of<'a>(
     alloc: Global,
-    files: Scope<'a>,
+    scope: Scope<'a>,
     all: &mut Known<'a>,
     one: &'a Struct,
 ) -> Result<Sequence<'a>, Trouble> {
-    let mut sequence = own_pieces(alloc, files, one)?;
+    let mut sequence = own_pieces(alloc, scope, one)?;
     check_paths(alloc, &sequence)?;
-    sequence.context = context_of(alloc, files, all, &sequence)?;
+    sequence.context = context_of(alloc, scope, all, &sequence)?;
     Ok(sequence)
 }
 

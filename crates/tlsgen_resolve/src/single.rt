@@ -24,7 +24,7 @@ impl<'a> Resolver<'a> {
         segment: &[ResolvedPiece<'a>],
         tail: &mut Vec<ResolvedPiece<'a>>,
     ) -> Result<(), Trouble> {
-        let of = tag_of(self.alloc, self.files, tag.field)?;
+        let of = tag_of(self.alloc, self.scope, tag.field)?;
         if let Some(nearest) = nearest_select(segment) {
             check_segment(self.alloc, segment, tag.index, &nearest.cases)?;
         }

@@ -25,14 +25,14 @@ use tlsgen_syntax::syntax::{Field, Part, Select, Struct};
 
 impl<'a> Resolver<'a> {
     /// Makes the messages of a struct, and keeps its pieces for the structs that have it.
-    pub fn resolve_struct(&mut self, one: &'a Struct) -> Result<(), Trouble> {
-        let sequence = sequence_of(self.alloc, self.files, &mut self.known, one)?;
+    pub fn resolve_struct(&mut self, structure: &'a Struct) -> Result<(), Trouble> {
+        let sequence = sequence_of(self.alloc, self.scope, &mut self.known, structure)?;
         self.check_borrowed(&sequence)?;
-        self.make_constants(one)?;
+        self.make_constants(structure)?;
         self.check_borrowed_context(&sequence)?;
         check_padding(self.alloc, &sequence)?;
-        match ending_of(self.files, one) {
-            Some(ending) => self.make_ending(one, ending)?,
+        match ending_of(self.scope, structure) {
+            Some(ending) => self.make_ending(structure, ending)?,
             None if sequence.is_filling => {}
             None => self.make_messages(&sequence)?,
         }
@@ -94,7 +94,7 @@ impl<'a> Resolver<'a> {
         select: &'a Select,
         tail: &mut Vec<ResolvedPiece<'a>>,
     ) -> Result<bool, Trouble> {
-        match site_of(self.alloc, self.files, &mut self.known, sequence, index)? {
+        match site_of(self.alloc, self.scope, &mut self.known, sequence, index)? {
             Site::Here => {
                 let select = self.resolve_select(sequence, select, index)?;
                 tail.push(ResolvedPiece::Select(select))?;
@@ -144,8 +144,8 @@ impl<'a> Resolver<'a> {
     }
 
     // Makes the types of a struct's constants, unless they are there.
-    fn make_constants(&mut self, one: &Struct) -> Result<(), Trouble> {
-        for part in &one.parts {
+    fn make_constants(&mut self, structure: &Struct) -> Result<(), Trouble> {
+        for part in &structure.parts {
             match part {
                 Part::Field(field) => self.make_constant(field)?,
                 Part::Select(select) => self.make_case_constants(select)?,
@@ -172,7 +172,7 @@ impl<'a> Resolver<'a> {
         let Some(constant) = &field.constant else {
             return Ok(());
         };
-        let fixed = fixed_of(self.alloc, self.files, field, constant)?;
+        let fixed = fixed_of(self.alloc, self.scope, field, constant)?;
         self.make_fixed(fixed)
     }
 

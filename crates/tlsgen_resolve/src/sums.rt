@@ -44,7 +44,7 @@ impl<'a> Resolver<'a> {
         giver: Option<&'a Field>,
         tail: &mut Vec<ResolvedPiece<'a>>,
     ) -> Result<bool, Trouble> {
-        let tag = outer_tag(self.alloc, self.files, select)?;
+        let tag = outer_tag(self.alloc, self.scope, select)?;
         self.check_home(&tag)?;
         let decided = match giver {
             Some(giver) => self.decided_by(sequence, giver, &tag)?,
@@ -57,7 +57,7 @@ impl<'a> Resolver<'a> {
                 return Ok(false);
             }
         }
-        let given = given_to(self.files, sequence.name, select);
+        let given = given_to(self.scope, sequence.name, select);
         let name = if is_all {
             type_name(self.alloc, sequence.name)?
         } else {
@@ -140,7 +140,7 @@ impl<'a> Resolver<'a> {
         if sequence.is_borrowed {
             return Err(refused_counting(self.alloc, length));
         }
-        let of = tag_of(self.alloc, self.files, tag.field)?;
+        let of = tag_of(self.alloc, self.scope, tag.field)?;
         if of.width.bytes > 2 {
             return Err(self.refused_name(
                 &tag.field.of,

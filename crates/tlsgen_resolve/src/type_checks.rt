@@ -24,14 +24,14 @@ impl<'a> Resolver<'a> {
 
     // A field that fills what is left has the type of the length that counts it.
     fn check_parts(&self, one: &Struct) -> Result<(), Trouble> {
-        if filling_field(self.files, one).is_some() && !one.is_borrowed
-            || ending_of(self.files, one).is_some()
+        if filling_field(self.scope, one).is_some() && !one.is_borrowed
+            || ending_of(self.scope, one).is_some()
         {
             return Ok(());
         }
         for (at, part) in one.parts.iter().enumerate() {
             match part {
-                Part::Field(field) if is_padding(self.files, one, field) => {}
+                Part::Field(field) if is_padding(self.scope, one, field) => {}
                 Part::Field(field) => self.check_part(one, at, field)?,
                 Part::Select(select) => self.check_cases(select, one.is_borrowed)?,
             }
@@ -44,7 +44,7 @@ impl<'a> Resolver<'a> {
         let Some(length) = length_before(one, at) else {
             return self.check_type(field, true);
         };
-        counted_type(self.alloc, self.files, length, field)?;
+        counted_type(self.alloc, self.scope, length, field)?;
         if self.names_borrowed(field) {
             return Err(self.refused_borrowed(field));
         }
@@ -68,7 +68,7 @@ impl<'a> Resolver<'a> {
     // Also rejects a borrowed struct, unless the field is a single one and is where a borrowed
     // struct may be.
     fn check_type(&self, field: &Field, is_borrowed: bool) -> Result<(), Trouble> {
-        type_of(self.alloc, self.files, field)?;
+        type_of(self.alloc, self.scope, field)?;
         if self.names_borrowed(field) && !(is_borrowed && is_single(field)) {
             return Err(self.refused_borrowed(field));
         }
@@ -100,6 +100,6 @@ impl<'a> Resolver<'a> {
     }
 
     fn names_borrowed(&self, field: &Field) -> bool {
-        find_struct(self.files, field.of.text.as_str()).is_some_and(|one| one.is_borrowed)
+        find_struct(self.scope, field.of.text.as_str()).is_some_and(|one| one.is_borrowed)
     }
 }

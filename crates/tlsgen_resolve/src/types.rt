@@ -24,28 +24,28 @@ const CUT: &str =
     "the bytes of whole elements: between an array's brackets is the number of its bytes";
 
 /// The type of a field or of another name. Rejects a type that nothing defines, and a vector that it can't have.
-pub fn type_of(alloc: Global, files: Scope<'_>, field: &Field) -> Result<Type, Trouble>
+pub fn type_of(alloc: Global, scope: Scope<'_>, field: &Field) -> Result<Type, Trouble>
     ensures { IfOk result IsType }
 {
     if let Some(constant) = &field.constant {
-        return constant_type(alloc, files, field, constant);
+        return constant_type(alloc, scope, field, constant);
     }
     match &field.vector {
-        Vector::One => single_type(alloc, files, field),
-        Vector::Array(number) => array_type(alloc, files, field, *number),
-        Vector::Counted(path) => match number_of_path(files, path) {
-            Some(number) => array_type(alloc, files, field, number),
+        Vector::One => single_type(alloc, scope, field),
+        Vector::Array(number) => array_type(alloc, scope, field, *number),
+        Vector::Counted(path) => match number_of_path(scope, path) {
+            Some(number) => array_type(alloc, scope, field, number),
             None => Err(refused_length(alloc, path)),
         },
-        Vector::Variable => listed_type(alloc, files, field, Shape::Variable),
-        Vector::Bounded(least, most) => bounded_type(alloc, files, field, *least, *most),
+        Vector::Variable => listed_type(alloc, scope, field, Shape::Variable),
+        Vector::Bounded(least, most) => bounded_type(alloc, scope, field, *least, *most),
     }
 }
 
 /// The type of a field after a length that is neither below `least` nor above `most`.
 pub fn bounded_type(
     alloc: Global,
-    files: Scope<'_>,
+    scope: Scope<'_>,
     field: &Field,
     least: Number,
     most: Number,
@@ -53,18 +53,18 @@ pub fn bounded_type(
     ensures { IfOk result IsType }
 {
     let shape = bounded_shape(alloc, least, most)?;
-    listed_type(alloc, files, field, shape)
+    listed_type(alloc, scope, field, shape)
 }
 
 fn constant_type(
     alloc: Global,
-    files: Scope<'_>,
+    scope: Scope<'_>,
     field: &Field,
     constant: &Constant,
 ) -> Result<Type, Trouble>
     ensures { IfOk result IsType }
 {
-    let fixed = fixed_of(alloc, files, field, constant)?;
+    let fixed = fixed_of(alloc, scope, field, constant)?;
     Ok(Type {
         shape: Shape::One,
         is_optional: false,
@@ -73,10 +73,10 @@ fn constant_type(
 }
 
 // Without a vector.
-fn single_type(alloc: Global, files: Scope<'_>, field: &Field) -> Result<Type, Trouble>
+fn single_type(alloc: Global, scope: Scope<'_>, field: &Field) -> Result<Type, Trouble>
     ensures { IfOk result IsType }
 {
-    let element = single_element(alloc, files, field)?;
+    let element = single_element(alloc, scope, field)?;
     Ok(Type {
         shape: Shape::One,
         is_optional: field.is_optional,
@@ -87,7 +87,7 @@ fn single_type(alloc: Global, files: Scope<'_>, field: &Field) -> Result<Type, T
 // In a vector of this shape.
 fn listed_type(
     alloc: Global,
-    files: Scope<'_>,
+    scope: Scope<'_>,
     field: &Field,
     shape: Shape,
 ) -> Result<Type, Trouble>
@@ -96,7 +96,7 @@ fn listed_type(
     requires no_array { IsTrue (is_no_array shape) }
     ensures { IfOk result IsType }
 {
-    let element = listed_element(alloc, files, field)?;
+    let element = listed_element(alloc, scope, field)?;
     Ok(Type {
         shape,
         is_optional: field.is_optional,
@@ -121,7 +121,7 @@ fn refused_length(alloc: Global, path: &[Name]) -> Trouble {
 // 3.4).
 fn array_type(
     alloc: Global,
-    files: Scope<'_>,
+    scope: Scope<'_>,
     field: &Field,
     number: Number,
 ) -> Result<Type, Trouble>
@@ -140,7 +140,7 @@ fn array_type(
     if cuts_an_integer(field, number.value) {
         return Err(refused_number(alloc, number, CUT));
     }
-    listed_type(alloc, files, field, Shape::Exact(number.value))
+    listed_type(alloc, scope, field, Shape::Exact(number.value))
 }
 
 // Whether this many bytes are no whole number of a field's elements, if those are integers.
@@ -188,7 +188,7 @@ fn power_text(number: u64) -> Option<&'static str> {
 }
 
 // Without a vector.
-fn single_element(alloc: Global, files: Scope<'_>, field: &Field) -> Result<Element, Trouble>
+fn single_element(alloc: Global, scope: Scope<'_>, field: &Field) -> Result<Element, Trouble>
     ensures { IfOk result (λ element. IsTrue (can_be element field.now.is_optional shapes.One)) }
 {
     let of = &field.of;
@@ -200,12 +200,12 @@ fn single_element(alloc: Global, files: Scope<'_>, field: &Field) -> Result<Elem
             "bytes in a vector, as `opaque NAME<V>` or `opaque NAME[16]`",
         )),
         "string" => Ok(Element::Text),
-        _ => named_element(alloc, files, of),
+        _ => named_element(alloc, scope, of),
     }
 }
 
 // In a vector.
-fn listed_element(alloc: Global, files: Scope<'_>, field: &Field) -> Result<Element, Trouble>
+fn listed_element(alloc: Global, scope: Scope<'_>, field: &Field) -> Result<Element, Trouble>
     ensures { IfOk result (λ e. (s : AShape) → IsTrue (is_vector s) → IsTrue (is_no_array s) →
         IsTrue (can_be e field.now.is_optional s)) }
 {
@@ -224,27 +224,27 @@ fn listed_element(alloc: Global, files: Scope<'_>, field: &Field) -> Result<Elem
             "string",
             "a text without a vector, `string NAME`",
         )),
-        _ => named_element(alloc, files, of),
+        _ => named_element(alloc, scope, of),
     }
 }
 
 // An integer, or a type of the file.
-fn named_element(alloc: Global, files: Scope<'_>, of: &Name) -> Result<Element, Trouble>
+fn named_element(alloc: Global, scope: Scope<'_>, of: &Name) -> Result<Element, Trouble>
     ensures { IfOk result (λ element. (o : Bool) (s : AShape) → IsTrue (is_no_array s) →
         IsTrue (can_be element o s)) }
 {
     match integer_width(of.text.as_str()) {
         Some(width) => Ok(Element::Integer(width)),
-        None => defined(alloc, files, of),
+        None => defined(alloc, scope, of),
     }
 }
 
-fn defined(alloc: Global, files: Scope<'_>, of: &Name) -> Result<Element, Trouble>
+fn defined(alloc: Global, scope: Scope<'_>, of: &Name) -> Result<Element, Trouble>
     ensures { IfOk result (λ element. (o : Bool) (s : AShape) → IsTrue (is_no_array s) →
         IsTrue (can_be element o s)) }
 {
     let text = of.text.as_str();
-    match find(files, text) {
+    match find(scope, text) {
         Some(Item::Alias(_)) => Ok(Element::Alias(type_name(alloc, text)?)),
         Some(_) => Ok(Element::Message(type_name(alloc, text)?)),
         None => Err(refused(

@@ -8,7 +8,7 @@ use tls_codec::{
     SerializeFor, Size,
 };
 
-const MISFIT: Error = Error::EncodingError("value does not fit its context");
+const DOES_NOT_FIT: Error = Error::EncodingError("value does not fit its context");
 
 // The value is written as these bytes by each encoder, and each decoder reads it from them.
 pub(super) fn expect_encoded_as<T>(
@@ -90,7 +90,7 @@ where
 }
 
 // No encoder writes the value in a context that asks for another one, and a vector has the bytes from before.
-pub(super) fn expect_misfit<C: Size, T: SerializeFor<C>>(
+pub(super) fn expect_does_not_fit<C: Size, T: SerializeFor<C>>(
     rt: &impl Abort,
     alloc: Global,
     context: &C,
@@ -101,16 +101,16 @@ pub(super) fn expect_misfit<C: Size, T: SerializeFor<C>>(
     same(
         rt,
         value.tls_serialize_into_for(context, &mut out).err(),
-        Some(MISFIT),
+        Some(DOES_NOT_FIT),
     );
     same(rt, out.as_slice(), [0xee].as_slice());
     same(
         rt,
         value.tls_serialize_for(context, &mut out).err(),
-        Some(MISFIT),
+        Some(DOES_NOT_FIT),
     );
     let detached = value.tls_serialize_detached_for(context, alloc).err();
-    same(rt, detached, Some(MISFIT));
+    same(rt, detached, Some(DOES_NOT_FIT));
     Ok(())
 }
 

@@ -1,5 +1,5 @@
 //! Messages in a context: their tag is a number or a name of another struct.
-use crate::tests::in_context::{expect_misfit_in, expect_refused_in, expect_spelled_in};
+use crate::tests::in_context::{expect_does_not_fit_in, expect_refused_in, expect_spelled_in};
 use messages_of_each_shape::{ByVersion, CertificateType, CertificateTypeData, Entries, Entry};
 use std::alloc::Global;
 use std::test::Fail;
@@ -34,7 +34,7 @@ fn by_a_number(rt: HostRuntime) -> Result<(), Fail> {
     ] {
         expect_spelled_in(&rt, alloc, &version, &value, bytes)?;
         for other in others {
-            expect_misfit_in(&rt, alloc, &other, &value)?;
+            expect_does_not_fit_in(&rt, alloc, &other, &value)?;
         }
     }
     Ok(())
@@ -101,7 +101,7 @@ fn by_a_name(rt: HostRuntime) -> Result<(), Fail> {
         (RAW, X509, raw(alloc, &[])?, &[0]),
     ] {
         expect_spelled_in(&rt, alloc, &kind, &body, bytes)?;
-        expect_misfit_in(&rt, alloc, &other, &body)?;
+        expect_does_not_fit_in(&rt, alloc, &other, &body)?;
     }
     Ok(())
 }
@@ -124,7 +124,7 @@ fn among_fields(rt: HostRuntime) -> Result<(), Fail> {
         ),
     ] {
         expect_spelled_in(&rt, alloc, &kind, &entry, bytes)?;
-        expect_misfit_in(&rt, alloc, &other, &entry)?;
+        expect_does_not_fit_in(&rt, alloc, &other, &entry)?;
     }
     Ok(())
 }
@@ -185,7 +185,7 @@ fn lists(rt: HostRuntime) -> Result<(), Fail> {
             entries: TlsVecU24::new(entries),
         };
         expect_spelled_in(&rt, alloc, &kind, &entries, bytes)?;
-        expect_misfit_in(&rt, alloc, &other, &entries)?;
+        expect_does_not_fit_in(&rt, alloc, &other, &entries)?;
     }
     Ok(())
 }
@@ -208,7 +208,7 @@ fn no_entry_and_entries_of_two_cases(rt: HostRuntime) -> Result<(), Fail> {
     };
     for kind in [X509, RAW] {
         expect_spelled_in(&rt, alloc, &kind, &none, &[0, 0, 0, 0])?;
-        expect_misfit_in(&rt, alloc, &kind, &both)?;
+        expect_does_not_fit_in(&rt, alloc, &kind, &both)?;
     }
     Ok(())
 }

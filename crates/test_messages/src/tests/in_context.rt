@@ -1,5 +1,5 @@
 //! What each call makes of a value or of bytes in a context.
-use crate::tests::{MISFIT, same, same_at};
+use crate::tests::{DOES_NOT_FIT, same, same_at};
 use std::alloc::Global;
 use std::fmt::Debug;
 use std::process::Abort;
@@ -63,7 +63,7 @@ fn expect_written_in<C: Size, T: SerializeFor<C>>(
 }
 
 // No encoder writes the value in a context that asks for another one, and a vector has the bytes from before.
-pub(super) fn expect_misfit_in<C: Size, T: SerializeFor<C>>(
+pub(super) fn expect_does_not_fit_in<C: Size, T: SerializeFor<C>>(
     rt: &impl Abort,
     alloc: Global,
     context: &C,
@@ -71,12 +71,12 @@ pub(super) fn expect_misfit_in<C: Size, T: SerializeFor<C>>(
 ) -> Result<(), Fail> {
     let mut out = [0xee].to_vec(alloc)?;
     let appended = value.tls_serialize_into_for(context, &mut out).err();
-    same(rt, appended, Some(MISFIT));
+    same(rt, appended, Some(DOES_NOT_FIT));
     same(rt, out.as_slice(), [0xee].as_slice());
     let sent = value.tls_serialize_for(context, &mut out).err();
-    same(rt, sent, Some(MISFIT));
+    same(rt, sent, Some(DOES_NOT_FIT));
     let detached = value.tls_serialize_detached_for(context, alloc).err();
-    same(rt, detached, Some(MISFIT));
+    same(rt, detached, Some(DOES_NOT_FIT));
     Ok(())
 }
 

@@ -1,7 +1,7 @@
 //! What a private message encrypts, in the context of its content type (RFC 9420, section 6.3.1).
 use crate::tests::mls_messages::COMMIT;
 use crate::tests::signed::part;
-use crate::tests::{MISFIT, same};
+use crate::tests::{DOES_NOT_FIT, same};
 use mls::{
     Commit, ContentType, FramedContent, FramedContentBody, PrivateContent, PrivateMessage,
     PrivateMessageContent, Sender, SenderData,
@@ -58,7 +58,7 @@ fn comes_back(
     same(rt, count, Ok(bytes.len()));
     same(rt, out.get(1..), Some(bytes));
     let other = found.tls_serialize_into_for(&ContentType::Proposal, &mut out);
-    same(rt, other, Err(MISFIT));
+    same(rt, other, Err(DOES_NOT_FIT));
     same(rt, out.get(1..), Some(bytes));
     Ok(found)
 }

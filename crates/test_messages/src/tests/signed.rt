@@ -1,7 +1,7 @@
 //! What is signed or authenticated, borrowed from messages that were read (RFC 9420).
 use crate::tests::each_call::expect_written;
 use crate::tests::mls_messages::{COMMIT, GROUP_INFO, KEY_PACKAGE, PRIVATE_MESSAGE};
-use crate::tests::{MISFIT, expect_misfit, same};
+use crate::tests::{DOES_NOT_FIT, expect_does_not_fit, same};
 use mls::{
     AuthenticatedContent, AuthenticatedContentTBM, Commit, ConfirmedTranscriptHashInput,
     FramedContentTBS, GroupContext, GroupInfo, GroupInfoTBS, KeyPackage, KeyPackageTBS, LeafNode,
@@ -171,7 +171,7 @@ fn a_commit(rt: HostRuntime) -> Result<(), Fail> {
         &tagged,
     )?;
     let without = signed_content(&message, &None).tls_serialize_detached(alloc);
-    same(&rt, without.err(), Some(MISFIT));
+    same(&rt, without.err(), Some(DOES_NOT_FIT));
     Ok(())
 }
 
@@ -209,25 +209,25 @@ fn a_proposal(rt: HostRuntime) -> Result<(), Fail> {
     )?;
     let context = Some(group_info(&rt, alloc)?.group_context);
     let with = signed_content(&message, &context).tls_serialize_detached(alloc);
-    same(&rt, with.err(), Some(MISFIT));
+    same(&rt, with.err(), Some(DOES_NOT_FIT));
     Ok(())
 }
 
 // A commit without its confirmation, a message of a member without its tag, and both where there should be none.
 #[test]
-fn misfits(rt: HostRuntime) -> Result<(), Fail> {
+fn contents_that_do_not_fit(rt: HostRuntime) -> Result<(), Fail> {
     let alloc = rt.alloc();
     let mut commit = public_message(&rt, alloc)?;
     let MLSMessageBody::MlsPublicMessage(mut proposal) = read(alloc, &PROPOSAL)? else {
         panic!(rt; "no public message");
     };
     proposal.membership_tag = commit.membership_tag.take();
-    expect_misfit(&rt, alloc, &commit);
-    expect_misfit(&rt, alloc, &proposal);
+    expect_does_not_fit(&rt, alloc, &commit);
+    expect_does_not_fit(&rt, alloc, &proposal);
     commit.membership_tag = proposal.membership_tag.take();
     proposal.auth.confirmation_tag = commit.auth.confirmation_tag.take();
-    expect_misfit(&rt, alloc, &commit);
-    expect_misfit(&rt, alloc, &proposal);
+    expect_does_not_fit(&rt, alloc, &commit);
+    expect_does_not_fit(&rt, alloc, &proposal);
     Ok(())
 }
 

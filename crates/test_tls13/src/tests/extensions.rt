@@ -3,7 +3,7 @@ use std::alloc::Global;
 use std::process::Abort;
 use std::test::Fail;
 use test_support::each_call::round_trips;
-use test_support::in_context::{expect_misfit, expect_refused_in, round_trips_in};
+use test_support::in_context::{expect_does_not_fit, expect_refused_in, round_trips_in};
 use test_support::rows::same_at;
 use tls_codec::{Error, TlsByteVecU16};
 use tls13::{
@@ -211,13 +211,13 @@ fn values_of_other_messages(rt: HostRuntime) -> Result<(), Fail> {
     let identity = PreSharedKeyExtension::ServerHello(0);
     let early = EarlyDataIndication::ClientHello(EmptyType {});
     let client = HandshakeType::ClientHello;
-    expect_misfit(alloc, "a version", &client, &version)?;
-    expect_misfit(alloc, "an identity", &client, &identity)?;
+    expect_does_not_fit(alloc, "a version", &client, &version)?;
+    expect_does_not_fit(alloc, "an identity", &client, &identity)?;
     for (row, kind) in [
         ("a server's", HandshakeType::EncryptedExtensions),
         ("a ticket's", HandshakeType::NewSessionTicket),
     ] {
-        expect_misfit(alloc, row, &kind, &early)?;
+        expect_does_not_fit(alloc, row, &kind, &early)?;
     }
     Ok(())
 }

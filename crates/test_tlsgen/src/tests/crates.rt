@@ -34,11 +34,11 @@ fn rejected(
     texts: &[&str],
 ) -> Result<(usize, Refusal), AllocError> {
     let mut files = read(rt, alloc, texts)?;
-    let Err(fault) = plan_of(alloc, &mut files) else {
+    let Err(error) = plan_of(alloc, &mut files) else {
         panic!(rt; "not rejected: {texts:?}");
     };
-    let file = fault.file;
-    let trouble = fault.trouble;
+    let file = error.file;
+    let trouble = error.trouble;
     match trouble {
         Trouble::Refused(refusal) => Ok((file, refusal)),
         _ => panic!(rt; "not rejected: {texts:?}"),
@@ -190,12 +190,12 @@ fn names_of_two_crates(rt: HostRuntime) -> Result<(), Fail> {
         alloc,
         &["uint8 A;", "uint16 A;", "struct { uint8 b; A a; } C;"],
     )?;
-    let Err(fault) = plan_of(alloc, &mut files) else {
+    let Err(error) = plan_of(alloc, &mut files) else {
         panic!(rt; "not rejected");
     };
-    same(&rt, fault.file, 2);
-    same(&rt, fault.homes.as_slice(), &[0, 1]);
-    let trouble = fault.trouble;
+    same(&rt, error.file, 2);
+    same(&rt, error.homes.as_slice(), &[0, 1]);
+    let trouble = error.trouble;
     match trouble {
         Trouble::Refused(refusal) => {
             same(&rt, refusal.found.as_str(), "A");

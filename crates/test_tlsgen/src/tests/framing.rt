@@ -86,8 +86,8 @@ struct {
 
 // PublicMessage and MLSMessage with the same bytes, by selects on tags of their own structs alone.
 pub static FRAMING: &str = "
-// ---- 6.1, 6.2: PublicMessage and MLSMessage, whose later fields depend on earlier tags: what depends stands in the cases, and
-// so does what is between. The bytes are those of the RFC:
+// ---- 6.1, 6.2: PublicMessage and MLSMessage, whose later fields depend on earlier tags: what depends is in the cases, and
+// so is what is between. The bytes are those of the RFC:
 //   struct { FramedContent content; FramedContentAuthData auth;
 //            select (PublicMessage.content.sender.sender_type) { case member: MAC membership_tag; ... } } PublicMessage;
 //   struct { opaque signature<V>; select (FramedContent.content_type) { case commit: MAC confirmation_tag; ... } } FramedContentAuthData;

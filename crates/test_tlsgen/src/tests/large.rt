@@ -68,10 +68,10 @@ fn copies_are_counted(rt: HostRuntime) -> Result<(), Fail> {
     };
     let mut files = [file];
     same(&rt, plan_within(alloc, &mut files, 18).is_ok(), true);
-    let Err(fault) = plan_within(alloc, &mut files, 17) else {
+    let Err(error) = plan_within(alloc, &mut files, 17) else {
         panic!(rt; "not refused");
     };
-    let trouble = fault.trouble;
+    let trouble = error.trouble;
     match trouble {
         Trouble::Refused(refusal) => {
             expects(&rt, &refusal, "a smaller text");

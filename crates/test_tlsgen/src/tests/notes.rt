@@ -272,7 +272,7 @@ static REFUSED: [(&str, &str, usize, &str, &str); 35] = [
 pub fn read(alloc: Global, text: &str, notes: &str) -> Result<Plan, Trouble> {
     let mut file = parse(alloc, text)?;
     apply(alloc, &mut file, parse_notes(alloc, notes)?)?;
-    plan_of(alloc, &mut [file]).map_err(|fault| fault.trouble)
+    plan_of(alloc, &mut [file]).map_err(|error| error.trouble)
 }
 
 #[test]

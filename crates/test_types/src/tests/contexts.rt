@@ -14,7 +14,7 @@ use tls_codec::{
     laws, lists,
 };
 
-const MISFIT: Error = Error::EncodingError("value does not fit its context");
+const DOES_NOT_FIT: Error = Error::EncodingError("value does not fit its context");
 
 /// The context is 1.
 #[derive(Drop)]
@@ -84,19 +84,23 @@ fn a_first_part_decides_the_rest(rt: HostRuntime) -> Result<(), Fail> {
 }
 
 #[test]
-fn misfits_are_not_written(rt: HostRuntime) -> Result<(), Fail> {
+fn values_that_do_not_fit_are_not_written(rt: HostRuntime) -> Result<(), Fail> {
     let alloc = rt.alloc();
     let mut out = [0xeeu8].to_vec(alloc)?;
     let missing = ByRefThen {
         first: &1u8,
         rest: borrowed(&None),
     };
-    same(&rt, missing.tls_serialize_into(&mut out), Err(MISFIT));
+    same(&rt, missing.tls_serialize_into(&mut out), Err(DOES_NOT_FIT));
     let too_much = ByRefThen {
         first: &2u8,
         rest: borrowed(&Some(7)),
     };
-    same(&rt, too_much.tls_serialize_into(&mut out), Err(MISFIT));
+    same(
+        &rt,
+        too_much.tls_serialize_into(&mut out),
+        Err(DOES_NOT_FIT),
+    );
     same(&rt, out.as_slice(), [0xeeu8].as_slice());
     Ok(())
 }
@@ -263,7 +267,11 @@ fn expect_all_written(
         Ok(bytes.len()),
     );
     same(rt, out.as_slice(), bytes);
-    same(rt, lists::append_for(&2u8, &mut out, elements), Err(MISFIT));
+    same(
+        rt,
+        lists::append_for(&2u8, &mut out, elements),
+        Err(DOES_NOT_FIT),
+    );
     same(rt, out.as_slice(), bytes);
     let mut appended = Vec::new(alloc);
     same(

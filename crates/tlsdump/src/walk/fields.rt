@@ -4,14 +4,18 @@ use crate::walk::definitions::{Definition, value_name, width_of};
 use crate::walk::line::{Label, Shown, number_of};
 use crate::walk::opened::code_name;
 use crate::walk::scope::Known;
-use crate::walk::stop::{Expected, Found, Halt};
+use crate::walk::stop::{Expected, Found, WalkError};
 use crate::walk::tasks::{Leave, Place, Task};
 use crate::walk::{Walk, stop_at};
 use tlsgen_syntax::syntax::{Enum, Field, Part, Said, Struct, Vector};
 
 impl<'a> Walk<'a> {
     /// One value of a field's type.
-    pub(crate) fn value(&mut self, place: Place<'a>, field: &'a Field) -> Result<(), Halt<'a>> {
+    pub(crate) fn value(
+        &mut self,
+        place: Place<'a>,
+        field: &'a Field,
+    ) -> Result<(), WalkError<'a>> {
         let of = field.of.text.as_str();
         if field.is_optional {
             return self.option(place, field, of);
@@ -20,7 +24,12 @@ impl<'a> Walk<'a> {
     }
 
     // An option: its tag, and then a value or none.
-    fn option(&mut self, place: Place<'a>, field: &'a Field, of: &'a str) -> Result<(), Halt<'a>> {
+    fn option(
+        &mut self,
+        place: Place<'a>,
+        field: &'a Field,
+        of: &'a str,
+    ) -> Result<(), WalkError<'a>> {
         let at = self.at;
         let expected = Expected::Tag(of);
         let Some(tag) = self.take(1) else {
@@ -53,7 +62,7 @@ impl<'a> Walk<'a> {
         of: &'a str,
         name: &'a str,
         expected: Expected<'a>,
-    ) -> Result<(), Halt<'a>> {
+    ) -> Result<(), WalkError<'a>> {
         match self.definition(of) {
             Definition::Opaque => self.number(place, (of, name), 1, expected, Shown::Number),
             Definition::Number(width) => self.number(
@@ -69,7 +78,7 @@ impl<'a> Walk<'a> {
                 self.parts(one, place.depth.saturating_add(1))
             }
             Definition::Alias(field) => self.alias(place, (of, name), field, expected),
-            Definition::Unknown => Err(stop_at(place, self.at, expected, Found::Refused)),
+            Definition::Unknown => Err(stop_at(place, self.at, expected, Found::Rejected)),
         }
     }
 
@@ -80,7 +89,7 @@ impl<'a> Walk<'a> {
         (of, name): (&'a str, &'a str),
         alias: &'a Field,
         expected: Expected<'a>,
-    ) -> Result<(), Halt<'a>> {
+    ) -> Result<(), WalkError<'a>> {
         if let (Vector::One, Definition::Number(width)) = (
             &alias.vector,
             self.definition(alias.of.text.as_str()),
@@ -101,7 +110,7 @@ impl<'a> Walk<'a> {
         width: usize,
         expected: Expected<'a>,
         shown: Shown<'a>,
-    ) -> Result<(), Halt<'a>> {
+    ) -> Result<(), WalkError<'a>> {
         let at = self.at;
         let left = self.rest.len();
         let Some(bytes) = self.take(width) else {
@@ -132,7 +141,7 @@ impl<'a> Walk<'a> {
         at: usize,
         number: u64,
         expected: Expected<'a>,
-    ) -> Result<(), Halt<'a>> {
+    ) -> Result<(), WalkError<'a>> {
         let Some(Task::Select(..)) = self.tasks.last() else {
             return Ok(());
         };
@@ -158,7 +167,12 @@ impl<'a> Walk<'a> {
     }
 
     // A number of an enum.
-    fn code(&mut self, place: Place<'a>, name: &'a str, one: &'a Enum) -> Result<(), Halt<'a>> {
+    fn code(
+        &mut self,
+        place: Place<'a>,
+        name: &'a str,
+        one: &'a Enum,
+    ) -> Result<(), WalkError<'a>> {
         let at = self.at;
         let left = self.rest.len();
         let expected = Expected::Value(one);
@@ -182,7 +196,7 @@ impl<'a> Walk<'a> {
     }
 
     /// The parts of a struct, still to come.
-    pub(crate) fn parts(&mut self, one: &'a Struct, depth: usize) -> Result<(), Halt<'a>> {
+    pub(crate) fn parts(&mut self, one: &'a Struct, depth: usize) -> Result<(), WalkError<'a>> {
         let owner = one.name.text.as_str();
         for part in one.parts.iter().rev() {
             self.part(owner, part, depth)?;
@@ -190,7 +204,7 @@ impl<'a> Walk<'a> {
         Ok(())
     }
 
-    fn part(&mut self, owner: &'a str, part: &'a Part, depth: usize) -> Result<(), Halt<'a>> {
+    fn part(&mut self, owner: &'a str, part: &'a Part, depth: usize) -> Result<(), WalkError<'a>> {
         let task = match part {
             Part::Field(field) => Task::Field(
                 Place {

@@ -2,19 +2,23 @@
 
 use crate::walk::line::Label;
 use crate::walk::scope::Known;
-use crate::walk::stop::{Expected, Found, Halt};
+use crate::walk::stop::{Expected, Found, WalkError};
 use crate::walk::tasks::{Place, Task};
 use crate::walk::{Walk, stop_at};
 use tlsgen_syntax::syntax::{Case, Field, Label as CaseLabel, Said, Select};
 
 impl<'a> Walk<'a> {
     /// The fields of the case that a tag has.
-    pub(crate) fn select(&mut self, place: Place<'a>, select: &'a Select) -> Result<(), Halt<'a>> {
+    pub(crate) fn select(
+        &mut self,
+        place: Place<'a>,
+        select: &'a Select,
+    ) -> Result<(), WalkError<'a>> {
         let known = self.tag_of(place.owner, select);
         let Some(case) = select.cases.iter().find(|case| is_for(case, known)) else {
             let found = match known {
                 Some(known) => Found::Number(known.number),
-                None => Found::Refused,
+                None => Found::Rejected,
             };
             return Err(stop_at(place, self.at, Expected::Case(select), found));
         };

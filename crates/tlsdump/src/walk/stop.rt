@@ -1,7 +1,7 @@
 //! Where a walk can't go on.
 
 ghost use Rattle.std.specs.Prelude.{◌≡◌};
-ghost use Rattle.tlsdump.specs.declared.walk.stop.Halt.TheVariants.{Memory};
+ghost use Rattle.tlsdump.specs.declared.walk.stop.WalkError.TheVariants.{Memory};
 
 use crate::walk::line::{Label, Line};
 use std::alloc::{AllocError, AllocFailed, Global};
@@ -50,30 +50,30 @@ pub enum Found {
     /// A number.
     Number(u64),
     /// What the decoder rejects, and the walk doesn't: a field, or all that begins with it.
-    Refused,
+    Rejected,
 }
 
 /// Why a step isn't made.
 #[derive(Clone, Copy)]
-pub enum Halt<'a> {
+pub enum WalkError<'a> {
     Stop(Stop<'a>),
     /// Memory was refused.
     Memory,
 }
 
-impl From<AllocError> for Halt<'_> {
-    ghost from_gives = { λ _ halt. halt ≡ Memory };
+impl From<AllocError> for WalkError<'_> {
+    ghost from_gives = { λ _ error. error ≡ Memory };
 
     fn from(_error: AllocError) -> Self {
-        Halt::Memory
+        WalkError::Memory
     }
 }
 
-impl<T: Drop> From<AllocFailed<T>> for Halt<'_> {
-    ghost from_gives = { λ _ halt. halt ≡ Memory };
+impl<T: Drop> From<AllocFailed<T>> for WalkError<'_> {
+    ghost from_gives = { λ _ error. error ≡ Memory };
 
     fn from(_error: AllocFailed<T>) -> Self {
-        Halt::Memory
+        WalkError::Memory
     }
 }
 

@@ -3,7 +3,7 @@
 use crate::walk::definitions::{Definition, bytes_for};
 use crate::walk::line::{Label, Line, Shown, number_of};
 use crate::walk::opened::{code_name, content_of};
-use crate::walk::stop::{Expected, Found, Halt};
+use crate::walk::stop::{Expected, Found, WalkError};
 use crate::walk::tasks::{Elements, Leave, Place, Task};
 use crate::walk::{Opening, Walk, stop_at};
 use tlsgen_syntax::syntax::{Field, Name, Said, Vector};
@@ -22,7 +22,11 @@ struct Length<'a> {
 
 impl<'a> Walk<'a> {
     /// A field as it is declared: one value, bytes or a list.
-    pub(crate) fn field(&mut self, place: Place<'a>, field: &'a Field) -> Result<(), Halt<'a>> {
+    pub(crate) fn field(
+        &mut self,
+        place: Place<'a>,
+        field: &'a Field,
+    ) -> Result<(), WalkError<'a>> {
         let length = match &field.vector {
             Vector::One => return self.value(place, field),
             Vector::Array(number) => self.no_length(number.value as usize),
@@ -61,7 +65,11 @@ impl<'a> Walk<'a> {
     }
 
     // A length of variable width (RFC 9420, section 2.1.2), in the fewest bytes.
-    fn variable(&mut self, place: Place<'a>, field: &'a Field) -> Result<Length<'a>, Halt<'a>> {
+    fn variable(
+        &mut self,
+        place: Place<'a>,
+        field: &'a Field,
+    ) -> Result<Length<'a>, WalkError<'a>> {
         let expected = Expected::Field(field);
         let (at, from) = (self.at, self.rest);
         let Some(first) = from.first() else {
@@ -100,7 +108,7 @@ impl<'a> Walk<'a> {
         field: &'a Field,
         least: usize,
         most: usize,
-    ) -> Result<Length<'a>, Halt<'a>> {
+    ) -> Result<Length<'a>, WalkError<'a>> {
         let expected = Expected::Field(field);
         let (at, from) = (self.at, self.rest);
         let width = bytes_for(most as u64);
@@ -125,14 +133,14 @@ impl<'a> Walk<'a> {
         place: Place<'a>,
         field: &'a Field,
         length: Length<'a>,
-    ) -> Result<(), Halt<'a>> {
+    ) -> Result<(), WalkError<'a>> {
         let expected = Expected::Field(field);
         let Some((content, after)) = self.rest.split_at_checked(length.count) else {
             let found = Found::Announced(length.count, self.rest.len());
             return Err(stop_at(place, length.at, expected, found));
         };
         if length.width > 0 || length.count > 0 {
-            self.stop_if_rejected(place, length.at, expected, Found::Refused)?;
+            self.stop_if_rejected(place, length.at, expected, Found::Rejected)?;
         }
         let are_bytes = matches!(
             self.definition(field.of.text.as_str()),
@@ -165,7 +173,7 @@ impl<'a> Walk<'a> {
         length: Length<'a>,
         content: &'a [u8],
         after: &'a [u8],
-    ) -> Result<(), Halt<'a>> {
+    ) -> Result<(), WalkError<'a>> {
         let whole = match length
             .from
             .split_at_checked(length.width.saturating_add(length.count))
@@ -195,7 +203,7 @@ impl<'a> Walk<'a> {
         length: Length<'a>,
         whole: &'a [u8],
         after: &'a [u8],
-    ) -> Result<(), Halt<'a>> {
+    ) -> Result<(), WalkError<'a>> {
         self.openings.push(Opening {
             line: self.lines.len(),
             closed: Line {
@@ -219,7 +227,7 @@ impl<'a> Walk<'a> {
     }
 
     // What is in opened bytes: a struct's fields, or one value.
-    fn inside(&mut self, place: Place<'a>, of: &'a str) -> Result<(), Halt<'a>> {
+    fn inside(&mut self, place: Place<'a>, of: &'a str) -> Result<(), WalkError<'a>> {
         let within = Place {
             owner: of,
             label: Label::Field("value"),
@@ -236,7 +244,7 @@ impl<'a> Walk<'a> {
         &mut self,
         place: Place<'a>,
         elements: Elements<'a>,
-    ) -> Result<(), Halt<'a>> {
+    ) -> Result<(), WalkError<'a>> {
         if self.rest.is_empty() {
             if let Some(line) = self.lines.get_mut(elements.list) {
                 line.shown = Shown::List(elements.begun);
@@ -267,7 +275,11 @@ impl<'a> Walk<'a> {
     }
 
     /// The end of what is in a length.
-    pub(crate) fn leave(&mut self, place: Place<'a>, leave: Leave<'a>) -> Result<(), Halt<'a>> {
+    pub(crate) fn leave(
+        &mut self,
+        place: Place<'a>,
+        leave: Leave<'a>,
+    ) -> Result<(), WalkError<'a>> {
         if !self.rest.is_empty() {
             let found = Found::Left(self.rest.len());
             return Err(stop_at(place, self.at, Expected::End(leave.of), found));

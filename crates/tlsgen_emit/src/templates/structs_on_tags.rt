@@ -4,7 +4,7 @@
 use super::{Templates, structs};
 
 /// The holes of some of the fields: how they are read and borrowed, and their definitions.
-pub struct Part {
+pub struct FieldHoles {
     pub types: &'static str,
     pub borrowed_types: &'static str,
     pub borrowed: &'static str,
@@ -32,7 +32,7 @@ pub fn templates() -> Templates {
 }
 
 /// The fields before the one that decides others.
-pub static BEFORE: Part = Part {
+pub static BEFORE: FieldHoles = FieldHoles {
     types: "before_types",
     borrowed_types: "before_borrowed_types",
     borrowed: "before_borrowed",
@@ -45,7 +45,7 @@ pub static BEFORE: Part = Part {
 };
 
 /// The field that decides others.
-pub static GIVER: Part = Part {
+pub static GIVER: FieldHoles = FieldHoles {
     types: "giver_type",
     borrowed_types: "giver_borrowed_type",
     borrowed: "giver_borrowed",
@@ -58,7 +58,7 @@ pub static GIVER: Part = Part {
 };
 
 /// The fields after it.
-pub static BEHIND: Part = Part {
+pub static BEHIND: FieldHoles = FieldHoles {
     types: "behind_types",
     borrowed_types: "behind_borrowed_types",
     borrowed: "behind_borrowed",

@@ -1,7 +1,7 @@
 //! A type: as Rust, what a value stands for, its format and its law.
 
-/// The templates of a kind of type.
-pub struct Kind {
+/// The templates of a type: of numbers, of texts, of lists and so on.
+pub struct TypeTemplates {
     pub rust: &'static str,
     pub plain: &'static str,
     pub tree: &'static str,
@@ -9,7 +9,7 @@ pub struct Kind {
     pub law: &'static str,
 }
 
-pub static NUMBER: Kind = Kind {
+pub static NUMBER: TypeTemplates = TypeTemplates {
     rust: "u$bits$",
     plain: "Number",
     tree: "Number $v$",
@@ -17,7 +17,7 @@ pub static NUMBER: Kind = Kind {
     law: "u$bits$_meets",
 };
 
-pub static NUMBER_OF_THREE_BYTES: Kind = Kind {
+pub static NUMBER_OF_THREE_BYTES: TypeTemplates = TypeTemplates {
     rust: "U24",
     plain: "(λ v. Number (uint24_of v))",
     tree: "Number (uint24_of $v$)",
@@ -25,7 +25,7 @@ pub static NUMBER_OF_THREE_BYTES: Kind = Kind {
     law: "u24_meets",
 };
 
-pub static TEXT: Kind = Kind {
+pub static TEXT: TypeTemplates = TypeTemplates {
     rust: "String",
     plain: "(λ v. number_trees (string_bytes v))",
     tree: "number_trees (string_bytes $v$)",
@@ -33,7 +33,7 @@ pub static TEXT: Kind = Kind {
     law: "text_meets",
 };
 
-pub static BYTES: Kind = Kind {
+pub static BYTES: TypeTemplates = TypeTemplates {
     rust: "VLBytes",
     plain: "(λ v. number_trees (bytes_of v))",
     tree: "number_trees (bytes_of $v$)",
@@ -41,7 +41,7 @@ pub static BYTES: Kind = Kind {
     law: "bytes_meets",
 };
 
-pub static FIXED_BYTES: Kind = Kind {
+pub static FIXED_BYTES: TypeTemplates = TypeTemplates {
     rust: "TlsByteVecU$bits$",
     plain: "(λ v. number_trees (fixed_bytes_of v))",
     tree: "number_trees (fixed_bytes_of $v$)",
@@ -49,7 +49,7 @@ pub static FIXED_BYTES: Kind = Kind {
     law: "fixed_bytes_meets $width$",
 };
 
-pub static BOUNDED_BYTES: Kind = Kind {
+pub static BOUNDED_BYTES: TypeTemplates = TypeTemplates {
     rust: "TlsByteVec<Within<$field$, $least$, $most$>>",
     plain: "(λ v. number_trees (fixed_bytes_of v))",
     tree: "number_trees (fixed_bytes_of $v$)",
@@ -57,7 +57,7 @@ pub static BOUNDED_BYTES: Kind = Kind {
     law: "bounded_bytes_meets $width$ $least$ $most$ (omega arith)",
 };
 
-pub static ARRAY: Kind = Kind {
+pub static ARRAY: TypeTemplates = TypeTemplates {
     rust: "[u8; $len$]",
     plain: "number_trees",
     tree: "number_trees $v$",
@@ -65,7 +65,7 @@ pub static ARRAY: Kind = Kind {
     law: "array_meets $len$ (omega arith)",
 };
 
-pub static MESSAGE: Kind = Kind {
+pub static MESSAGE: TypeTemplates = TypeTemplates {
     rust: "$name$$lifetime$",
     plain: "$module$_plain",
     tree: "$module$_plain $v$",
@@ -74,7 +74,7 @@ pub static MESSAGE: Kind = Kind {
 };
 
 /// One that a context decides: the hole `c` is for what that stands for.
-pub static MESSAGE_IN_CONTEXT: Kind = Kind {
+pub static MESSAGE_IN_CONTEXT: TypeTemplates = TypeTemplates {
     rust: "$name$",
     plain: "$module$_plain",
     tree: "$module$_plain $v$",
@@ -84,7 +84,7 @@ pub static MESSAGE_IN_CONTEXT: Kind = Kind {
 
 // Those of other types have holes for the texts of these.
 
-pub static OPTION: Kind = Kind {
+pub static OPTION: TypeTemplates = TypeTemplates {
     rust: "Option<$rust$>",
     plain: "(option_plain $plain$)",
     tree: "option_plain $plain$ $v$",
@@ -93,7 +93,7 @@ pub static OPTION: Kind = Kind {
 };
 
 /// A field that is present for some numbers of a tag only: no byte says whether it is.
-pub static PRESENT: Kind = Kind {
+pub static PRESENT: TypeTemplates = TypeTemplates {
     rust: "Option<$rust$>",
     plain: "(option_plain $plain$)",
     tree: "option_plain $plain$ $v$",
@@ -101,7 +101,7 @@ pub static PRESENT: Kind = Kind {
     law: "present_meets ($test$) $law$",
 };
 
-pub static LIST: Kind = Kind {
+pub static LIST: TypeTemplates = TypeTemplates {
     rust: "Vec<$rust$>",
     plain: "(λ v. trees $plain$ v.items)",
     tree: "trees $plain$ $v$.items",
@@ -109,7 +109,7 @@ pub static LIST: Kind = Kind {
     law: "list_meets $law$",
 };
 
-pub static FIXED_LIST: Kind = Kind {
+pub static FIXED_LIST: TypeTemplates = TypeTemplates {
     rust: "TlsVecU$bits$<$rust$>",
     plain: "(λ v. trees $plain$ (elements_of v))",
     tree: "trees $plain$ (elements_of $v$)",
@@ -117,7 +117,7 @@ pub static FIXED_LIST: Kind = Kind {
     law: "fixed_list_meets $width$ $law$",
 };
 
-pub static BOUNDED_LIST: Kind = Kind {
+pub static BOUNDED_LIST: TypeTemplates = TypeTemplates {
     rust: "TlsVec<Within<$field$, $least$, $most$>, $rust$>",
     plain: "(λ v. trees $plain$ (elements_of v))",
     tree: "trees $plain$ (elements_of $v$)",
@@ -126,7 +126,7 @@ pub static BOUNDED_LIST: Kind = Kind {
 };
 
 /// A list of `count` bytes in total: an array whose elements aren't bytes.
-pub static EXACT_LIST: Kind = Kind {
+pub static EXACT_LIST: TypeTemplates = TypeTemplates {
     rust: "TlsVec<Exactly<$count$>, $rust$>",
     plain: "(λ v. trees $plain$ (elements_of v))",
     tree: "trees $plain$ (elements_of $v$)",

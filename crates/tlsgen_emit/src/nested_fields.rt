@@ -16,7 +16,7 @@ use tlsgen_model::plan::{Holder, Member};
 
 /// The fields of a struct or of a variant.
 #[derive(Drop)]
-pub struct Row {
+pub struct NestedFields {
     owner: Owner,
     is_borrowed: bool,
     fields: Vec<Field>,
@@ -28,7 +28,7 @@ static AT_ONCE: [(&str, &str); 2] = [("split", "$pattern$"), ("apart", "")];
 
 static IN_STEPS: [(&str, &str); 2] = [("split", "parts"), ("apart", "$lets$")];
 
-impl Row {
+impl NestedFields {
     /// The fields of a struct or of a case in three groups at most, or those of a variant in two.
     pub fn of<'a>(
         alloc: Global,
@@ -37,7 +37,7 @@ impl Row {
         is_borrowed: bool,
         members: &'a [Member],
         uses: &mut Uses<'a>,
-    ) -> Result<Row, AllocError> {
+    ) -> Result<NestedFields, AllocError> {
         let mut fields = Vec::new(alloc);
         for member in members {
             let mut words = names.words(alloc, &member.of)?;
@@ -51,7 +51,7 @@ impl Row {
             fields.push(Field::of(alloc, owner, is_borrowed, at, member, words, is_copied)?)?;
         }
         let nesting = nesting_of(alloc, owner, fields.as_slice())?;
-        Ok(Row {
+        Ok(NestedFields {
             owner,
             is_borrowed,
             fields,

@@ -1,8 +1,8 @@
 //! The values or the cases of a message.
 
 use crate::docs::doc;
+use crate::nested_fields::NestedFields;
 use crate::owners::Owner;
-use crate::rows::Row;
 use crate::template::Holes;
 use crate::types::Names;
 use crate::uses::Uses;
@@ -10,9 +10,9 @@ use crate::{contents, views};
 use std::alloc::{AllocError, Global};
 use tlsgen_model::plan::{Value, Variant};
 
-/// A value or a case.
+/// A value or a case, as what stands for the holes of its templates.
 #[derive(Drop)]
-pub struct Part {
+pub struct VariantForm {
     /// How many fields it has.
     pub fields: usize,
     pub holes: Holes,
@@ -25,7 +25,7 @@ pub fn values_of(
     holes: &Holes,
     is_open: bool,
     values: &[Value],
-) -> Result<Vec<Part>, AllocError> {
+) -> Result<Vec<VariantForm>, AllocError> {
     let mut order = Vec::new(alloc);
     for (at, value) in values.iter().enumerate() {
         order.push((if is_open { 0 } else { value.number }, at))?;
@@ -42,7 +42,7 @@ pub fn values_of(
             ("constant", value.constant.as_str()),
         ];
         let at = parts.len();
-        let mut part = Part::of(alloc, holes, 0, at, &texts, value.number)?;
+        let mut part = VariantForm::of(alloc, holes, 0, at, &texts, value.number)?;
         part.holes
             .set("comment", doc(alloc, value.comment.as_str())?)?;
         parts.push(part)?;
@@ -57,13 +57,13 @@ pub fn cases_of<'a>(
     (owner, is_borrowed): (Owner, bool),
     variants: &'a [Variant],
     uses: &mut Uses<'a>,
-) -> Result<Vec<Part>, AllocError> {
+) -> Result<Vec<VariantForm>, AllocError> {
     let mut parts = Vec::new(alloc);
     for variant in variants {
         let at = parts.len();
         let members = variant.fields.as_slice();
-        let row = Row::of(alloc, names, owner, is_borrowed, members, uses)?;
-        parts.push(case(alloc, holes, at, variant, &row)?)?;
+        let fields = NestedFields::of(alloc, names, owner, is_borrowed, members, uses)?;
+        parts.push(case(alloc, holes, at, variant, &fields)?)?;
     }
     contents::set(alloc, parts.as_mut_slice())?;
     Ok(parts)
@@ -74,22 +74,22 @@ fn case(
     holes: &Holes,
     at: usize,
     variant: &Variant,
-    row: &Row,
-) -> Result<Part, AllocError> {
+    fields: &NestedFields,
+) -> Result<VariantForm, AllocError> {
     let texts = [
         ("variant", variant.name.as_str()),
         ("label", variant.label.as_str()),
         ("constant", variant.constant.as_str()),
     ];
-    let mut part = Part::of(alloc, holes, variant.fields.len(), at, &texts, variant.tag)?;
-    row.set(alloc, &mut part.holes)?;
-    views::set_of_case(alloc, &mut part.holes, row)?;
+    let mut part = VariantForm::of(alloc, holes, variant.fields.len(), at, &texts, variant.tag)?;
+    fields.set(alloc, &mut part.holes)?;
+    views::set_of_case(alloc, &mut part.holes, fields)?;
     part.set_fields(alloc)?;
     Ok(part)
 }
 
 /// Whether a case has no fields.
-pub fn has_bare(parts: &[Part]) -> bool {
+pub fn has_bare(parts: &[VariantForm]) -> bool {
     for part in parts {
         if part.fields == 0 {
             return true;
@@ -99,7 +99,7 @@ pub fn has_bare(parts: &[Part]) -> bool {
 }
 
 /// Which numbers there are: `(n == 1) || ((n == 2) || (n == 3))`.
-pub fn has(alloc: Global, parts: &[Part]) -> Result<String, AllocError> {
+pub fn has(alloc: Global, parts: &[VariantForm]) -> Result<String, AllocError> {
     let mut out = String::new(alloc);
     let last = parts.len().saturating_sub(1);
     for (i, part) in parts.iter().enumerate() {
@@ -134,7 +134,7 @@ static FIRST: [(&str, &str); 5] = [
     ("line", ""),
 ];
 
-impl Part {
+impl VariantForm {
     // A part with `fields` fields. It has the holes of the message and of its tag, these texts,
     // `number`, and those of its position.
     fn of(
@@ -144,13 +144,13 @@ impl Part {
         at: usize,
         texts: &[(&'static str, &str)],
         number: u64,
-    ) -> Result<Part, AllocError> {
+    ) -> Result<VariantForm, AllocError> {
         let mut holes = Holes::new(alloc);
         holes.set_as(of_message)?;
         holes.set_all(alloc, texts)?;
         holes.set_number(alloc, "number", number)?;
         holes.set_each(alloc, if at == 0 { &FIRST } else { &LATER })?;
-        Ok(Part { fields, holes })
+        Ok(VariantForm { fields, holes })
     }
 
     // Sets the holes `lefts`, `rights` and `value`: variables for the fields of two values, such as
