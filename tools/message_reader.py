@@ -1,4 +1,6 @@
 """Reads messages line by line, by the texts of crates/tlsgen/data. It shares no code with `tlsdump`."""
+from __future__ import annotations
+
 import datetime
 
 from libraries import CRATES
@@ -51,10 +53,17 @@ class Text:
 
     def __init__(self, names):
         self.enums, self.structs, self.others, self.fixed = {}, {}, {}, {}
+        # whether a note closes an enum or opens it, and the paths of lengths of what follows and of bytes to the end
+        self.closed, self.counts_rest, self.fills_rest = {}, set(), set()
         for name in names:
             self.define((CRATES / "tlsgen" / "data" / f"{name}.tls").read_text())
             self.note((CRATES / "tlsgen" / "data" / f"{name}.notes").read_text())
         self.define(OWN)
+        fields = [(of, part) for of, parts in self.structs.items() for part in parts if "cases" not in part]
+        # the enums that are the tag of a select right in their struct
+        self.tags = {part["of"] for of, part in fields if self.select_on(of, part["name"]) and part["of"] not in self.others}
+        # the numbers of fields that have one value
+        self.constants = {(of, part["name"]): self.constant_of(part) for of, part in fields if part["constant"]}
 
     def define(self, text):
         for one in Parser(text).all():
@@ -73,6 +82,39 @@ class Text:
                     self.enums.setdefault(of, ([], WIDTHS[self.others[of]["of"]]))[0].append((words[0], words[0], name))
                 else:
                     self.fixed[of, name] = words[0]
+            elif kind in ("IsClosed", "IsOpen"):
+                self.closed[path] = kind == "IsClosed"
+            elif kind == "CountsRest":
+                self.counts_rest.add(path)
+            elif kind == "FillsRest":
+                self.fills_rest.add(path)
+
+    def select_on(self, of: str, field: str) -> dict | None:
+        """The select of a struct whose tag is this field of it."""
+        return next((part for part in self.structs[of] if "cases" in part and part["path"] in (field, f"{of}.{field}")), None)
+
+    def width(self, of: str) -> int | None:
+        """How many bytes a number has, or None of what is no number."""
+        if of in self.enums:
+            return self.enums[of][1]
+        if of in self.others and self.others[of]["vector"] == ("one",):
+            return self.width(self.others[of]["of"])
+        return WIDTHS.get(of)
+
+    def name(self, of: str, number: int) -> str | None:
+        """What an enum or a registry calls a number."""
+        return next((name for first, last, name in self.enums.get(of, ([], 0))[0] if first <= number <= last), None)
+
+    def constant_of(self, field: dict) -> int:
+        """The one number that a field has: by its name, as the text has it, or byte by byte."""
+        kind, value = field["constant"]
+        if kind == "bytes":
+            return int.from_bytes(bytes(value), "big")
+        return value if isinstance(value, int) else next(first for first, _, name in self.enums[field["of"]][0] if name == value)
+
+    def has(self, of: str, number: int) -> bool:
+        """Whether a number is a value of its type: an enum that a select or a note closes has those with a name that isn't reserved."""
+        return not self.closed.get(of, of in self.tags) or self.name(of, number) not in (None, "reserved")
 
 
 def codes_of(values):
@@ -269,15 +311,13 @@ class Reader:
             values, width = self.text.enums[of]
             data = self.take(width, label, depth)
             names = {int.from_bytes(data): name for first, last, name in values if first <= int.from_bytes(data) <= last}
-            if not names and self.rejects(of):
-                raise Rejected(label, depth)
-            if (owner, of) in CONSTANTS and CONSTANTS[owner, of] not in names.values():
-                raise Rejected(label, depth)
+            self.check(owner, of, label, depth, int.from_bytes(data))
             self.known[label] = names.get(int.from_bytes(data))
             return self.code(at, label, depth, data, names)
         if of in WIDTHS:
             data = self.take(WIDTHS[of], label, depth)
             number = self.known[label] = int.from_bytes(data)
+            self.check(owner, of, label, depth, number)
             if (owner, label) == ("Handshake", "length"):
                 if number > self.left():
                     raise Rejected(label, depth)
@@ -287,14 +327,14 @@ class Reader:
         if other["vector"] == ("one",) and other["of"] in WIDTHS:
             data = self.take(WIDTHS[other["of"]], label, depth)
             names = TLS_NAMES.get(of, {}) if self.protocol == "tls" else {}
-            if (owner, of) in CONSTANTS and CONSTANTS[owner, of] != names.get(int.from_bytes(data)):
-                raise Rejected(label, depth)
+            self.check(owner, of, label, depth, int.from_bytes(data))
             return self.code(at, label, depth, data, names)
         self.field(of, other, label, depth)
 
-    def rejects(self, of):
-        """Whether a number without a name is rejected."""
-        return of in CLOSED
+    def check(self, owner: str | None, of: str, label: str | None, depth: int, number: int) -> None:
+        """A number that its field or its type doesn't have is rejected."""
+        if number != self.text.constants.get((owner, label), number) or not self.text.has(of, number):
+            raise Rejected(label, depth)
 
     def code(self, at, label, depth, data, names):
         name = names.get(int.from_bytes(data))
@@ -302,27 +342,6 @@ class Reader:
             name = "GREASE"
         digits = f"0x{data.hex()}"
         self.line(at, depth, label, f"{name} ({digits})" if name else digits, number=int.from_bytes(data), code=name)
-
-
-# enums that the RFCs close, by a select or by their prose: a number without a name is rejected
-CLOSED = {
-    "ContentType",
-    "KeyUpdateRequest",
-    "LeafNodeSource",
-    "NodeType",
-    "PSKType",
-    "ProposalOrRefType",
-    "ResumptionPSKUsage",
-    "SenderType",
-    "Version",
-}
-
-# fields that have one value (RFC 9420, sections 6 and 8.1; RFC 8446, section 4.1.2)
-CONSTANTS = {
-    ("MLSMessage", "ProtocolVersion"): "mls10",
-    ("GroupContext", "ProtocolVersion"): "mls10",
-    ("ClientHello", "ProtocolVersion"): "TLS 1.2",
-}
 
 
 def counted(count, of):
