@@ -2,7 +2,7 @@
 """Compares the stored rows of messages with what outcome_reader.py, an independent reader, says of their inputs.
 
 They are those of crates/test_outcome, crates/test_places and c/tests/tls13.tsv. It also compares the byte and the error of each rejection of
-tlsdump in refusals.py. `check_outcomes.py --write NAME HEX ..` prints rows for inputs of your own: NAME is a message, or a call of test_places.
+tlsdump in rejections.py. `check_outcomes.py --write NAME HEX ..` prints rows for inputs of your own: NAME is a message, or a call of test_places.
 Append them to stdout there, and their first two columns to stdin.
 """
 from __future__ import annotations
@@ -13,8 +13,8 @@ sys.dont_write_bytecode = True
 from check_trees import bytes_of, named
 from libraries import CRATES, TOP
 from message_reader import PROTOCOLS, Text
-from outcome_reader import TEXTS, Outcome, Span, elements, first_refused, located
-from refusals import REFUSALS
+from outcome_reader import TEXTS, Outcome, Span, elements, first_rejected, located
+from rejections import REJECTIONS
 
 RUNS = CRATES / "tlsdump" / "runs"
 TABLES = [CRATES / "test_outcome" / "stdout", CRATES / "test_places" / "stdout", TOP / "c" / "tests" / "tls13.tsv"]
@@ -88,16 +88,16 @@ def unnoticed() -> list[str]:
     return found
 
 
-def wrong_refusal(name: str, said: str) -> str | None:
-    """What is wrong with what tlsdump says of a stored input, as refusals.py has it."""
+def wrong_rejection(name: str, said: str) -> str | None:
+    """What is wrong with what tlsdump says of a stored input, as rejections.py has it."""
     words = (RUNS / f"{name}.args").read_text().split() if (RUNS / f"{name}.args").exists() else []
     data = bytes_of((RUNS / name).read_bytes(), words)
     protocol, of = named(words, data)
-    refused = first_refused(Text(PROTOCOLS[protocol]), of, data)
-    if not refused:
+    rejected = first_rejected(Text(PROTOCOLS[protocol]), of, data)
+    if not rejected:
         return f"{name}: nothing is rejected, expected {said!r}"
-    found = said.startswith(f"refused at byte {refused.at}, in ") and f": {refused.error}: expected " in said
-    return None if found else f"{name}: {refused.error} at {refused.at}, expected {said!r}"
+    found = said.startswith(f"rejected at byte {rejected.at}, in ") and f": {rejected.error}: expected " in said
+    return None if found else f"{name}: {rejected.error} at {rejected.at}, expected {said!r}"
 
 
 def check() -> tuple[int, list[str]]:
@@ -111,8 +111,8 @@ def check() -> tuple[int, list[str]]:
         inputs = table.with_name("stdin")
         if inputs.exists() and ["\t".join(row.split("\t")[:2]) for row in rows] != inputs.read_text(encoding="utf-8").splitlines():
             failures.append(f"{inputs.relative_to(TOP)} isn't the first two columns of stdout")
-    found = [it for name, said in REFUSALS.items() if (it := wrong_refusal(name, said))]
-    return passed + len(REFUSALS) - len(found), failures + found
+    found = [it for name, said in REJECTIONS.items() if (it := wrong_rejection(name, said))]
+    return passed + len(REJECTIONS) - len(found), failures + found
 
 
 def main() -> None:

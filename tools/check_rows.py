@@ -37,7 +37,10 @@ def wrong(row: str) -> str | None:
         return f"there is no kind {kind}"
     if len(answers) != 2:
         return f"{kind} {digits}: {len(answers) + 2} columns, and not 4"
-    expected = row_of(kind, digits)
+    try:
+        expected = row_of(kind, digits)
+    except ValueError as error:
+        return f"{kind} {digits}: {error}"
     return None if row == expected else f"stored {row!r}, expected {expected!r}"
 
 

@@ -1,7 +1,7 @@
 """Says of bytes what the validators of the static libraries say, by the texts and notes of crates/tlsgen/data.
 
-It shares no code with the library or with what `tlsgen` writes. It was written from RFC 8446, section 3, and from the pages: docs/REFUSALS.md
-(the slice path), docs/MESSAGES.md (which numbers an enum has, and what a note says) and docs/CALLERS.md (statuses, places and spans).
+It shares no code with the library or with what `tlsgen` writes. It follows RFC 8446, section 3, and the pages: docs/REFUSALS.md (the slice path),
+docs/MESSAGES.md (which numbers an enum has, and what a note says) and docs/CALLERS.md (statuses, places and spans).
 """
 from __future__ import annotations
 
@@ -11,7 +11,7 @@ from typing import Any
 
 from message_reader import WIDTHS, Text, end_of
 from row_reader import LENGTHS, Input, Varint
-from row_reader import Refused as Unread
+from row_reader import Rejected as Unread
 
 # The texts of each library.
 TEXTS = {library: Text(names) for library, names in {"mls": ["mls", "mls_group", "mls_tree"], "tls13": ["tls13"]}.items()}
@@ -23,7 +23,7 @@ Part = dict[str, Any]
 Span = tuple[int, int]
 
 
-class Refused(Exception):
+class Rejected(Exception):
     """A field is rejected: the error as `Display` prints it, and the byte at which the field begins."""
 
     def __init__(self, error: str, at: int, unknown: int = 0) -> None:
@@ -48,6 +48,7 @@ class Outcome:
 
 
 def accepted(taken: int) -> Outcome:
+    """The bytes begin with a message of so many bytes."""
     return Outcome(0, taken, 0, 0)
 
 
@@ -65,7 +66,7 @@ class Reader:
     def take(self, count: int, begun: int) -> int:
         """So many bytes as a number, for a field that has begun at this byte."""
         if count > self.left():
-            raise Refused("EndOfStream", begun)
+            raise Rejected("EndOfStream", begun)
         self.at += count
         return int.from_bytes(self.data[self.at - count : self.at], "big")
 
@@ -104,11 +105,11 @@ class Reader:
         begun, end = self.at, self.end
         count = self.take(WIDTHS[length["of"]], begun)
         if count > self.left():
-            raise Refused("EndOfStream", begun)
+            raise Rejected("EndOfStream", begun)
         self.end = self.at + count
         self.select(of, select)
         if self.left():
-            raise Refused("TrailingData", self.at)
+            raise Rejected("TrailingData", self.at)
         self.end = end
 
     def field(self, of: str, field: Part) -> Span:
@@ -132,7 +133,7 @@ class Reader:
         begun = self.at
         tag = self.take(1, begun)
         if tag > 1:
-            raise Refused('DecodingError("option tag is not 0 or 1")', begun)
+            raise Rejected('DecodingError("option tag is not 0 or 1")', begun)
         if tag:
             self.value("", field)
 
@@ -143,13 +144,13 @@ class Reader:
             _, least, most = vector
             count = self.take((most.bit_length() + 7) // 8, begun)
             if not least <= count <= most:
-                raise Refused("InvalidVectorLength", begun)
+                raise Rejected("InvalidVectorLength", begun)
             return count
         source = Input(self.data[begun : self.end], True)
         try:
             count = Varint(LENGTHS).read(source)
         except Unread as error:
-            raise Refused(str(error), begun) from None
+            raise Rejected(str(error), begun) from None
         self.at += source.at
         return count
 
@@ -159,16 +160,16 @@ class Reader:
         first, last = self.at, self.at + count
         if field["of"] == "opaque":
             if count > self.left():
-                raise Refused(NOT_THERE if field["vector"] == ("variable",) else "EndOfStream", begun)
+                raise Rejected(NOT_THERE if field["vector"] == ("variable",) else "EndOfStream", begun)
             self.at = last
             return first, last
         while self.at < last:
             element = self.at
             self.field(of, field | {"vector": ("one",), "name": None, "constant": None})
             if self.at == element:
-                raise Refused('DecodingError("vector element consumed 0 bytes")', element)
+                raise Rejected('DecodingError("vector element consumed 0 bytes")', element)
             if self.at > last:
-                raise Refused('DecodingError("elements do not fill the declared length")', element)
+                raise Rejected('DecodingError("elements do not fill the declared length")', element)
         return begun, last
 
     def value(self, of: str, field: Part) -> Span:
@@ -191,7 +192,7 @@ class Reader:
         else:
             known = number == self.text.constants.get((of, label), number) and self.text.has(kind, number)
         if not known:
-            raise Refused(f"UnknownValue({number})", begun, number)
+            raise Rejected(f"UnknownValue({number})", begun, number)
         if label:
             self.known[label] = name
 
@@ -216,7 +217,7 @@ def located(name: str, data: bytes) -> tuple[Outcome, list[Span], dict[str, str 
     reader = Reader(text, data)
     try:
         spans = reader.struct(of)
-    except Refused as error:
+    except Rejected as error:
         return error.outcome(), [], {}
     return accepted(reader.at), spans, reader.known
 
@@ -230,19 +231,19 @@ def elements(name: str, data: bytes) -> tuple[Outcome, list[Span]]:
         begun = reader.at
         try:
             reader.field("", element)
-        except Refused as error:
+        except Rejected as error:
             return error.outcome(begun), spans
         spans.append((begun, reader.at))
     first, last = spans[-1]
     return accepted(last - first), spans
 
 
-def first_refused(text: Text, of: str, data: bytes) -> Refused | None:
+def first_rejected(text: Text, of: str, data: bytes) -> Rejected | None:
     """What is rejected of messages in a row."""
     reader = Reader(text, data)
     try:
         while reader.left():
             reader.struct(of)
-    except Refused as error:
+    except Rejected as error:
         return error
     return None

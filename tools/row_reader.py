@@ -1,8 +1,8 @@
 """Reads the kinds of `tlsview` by both paths, and gives the lines that it prints.
 
-It shares no code with the library. It was written from RFC 8446, section 3, RFC 9000, section 16, and the tables of docs/DEFINITIONS.md
-(formats) and docs/REFUSALS.md (the error that each path names); Kinds.antt and Texts.antt of tlsview_run say what the kinds are and how values
-are printed. The paths differ in two rules, and in nothing else: from a reader a list ends for its elements where its length says, and a content
+It shares no code with the library. It follows RFC 8446, section 3, and RFC 9000, section 16, as docs/DEFINITIONS.md (formats) and
+docs/REFUSALS.md (the error that each path names) have them; Kinds.antt and Texts.antt of tlsview_run say what the kinds are and how values are
+printed. The paths differ in two rules, and in nothing else: from a reader a list ends for its elements where its length says, and a content
 that isn't all there is `EndOfStream`.
 """
 from __future__ import annotations
@@ -14,7 +14,7 @@ from typing import Any, Protocol
 LENGTHS = 1 << 30
 
 
-class Refused(Exception):
+class Rejected(Exception):
     """The bytes begin with no encoding. The argument is the error's name."""
 
 
@@ -30,7 +30,7 @@ class Input:
 
     def take(self, count: int) -> bytes:
         if count > self.left():
-            raise Refused("EndOfStream")
+            raise Rejected("EndOfStream")
         self.at += count
         return self.data[self.at - count : self.at]
 
@@ -72,7 +72,7 @@ class Varint:
         rest = source.take((1 << (first >> 6)) - 1)
         value = int.from_bytes(bytes([first & 0x3F]) + rest, "big")
         if value >= self.limit or len(self.write(value)) != 1 + len(rest):
-            raise Refused("InvalidVectorLength")
+            raise Rejected("InvalidVectorLength")
         return value
 
     def write(self, value: int) -> bytes:
@@ -93,7 +93,7 @@ class Optional:
     def read(self, source: Input) -> tuple[Any, ...]:
         tag = source.take(1)[0]
         if tag > 1:
-            raise Refused("DecodingError")
+            raise Rejected("DecodingError")
         return (self.payload.read(source),) if tag else ()
 
     def write(self, value: tuple[Any, ...]) -> bytes:
@@ -121,7 +121,7 @@ class Vector:
             values.append(self.element.read(source))
             # an element without bytes fills nothing; one past the declared end fills too much
             if source.at == begun or source.at > last:
-                raise Refused("DecodingError")
+                raise Rejected("DecodingError")
         source.end = end
         return values
 
@@ -142,7 +142,7 @@ class Opaque:
     def read(self, source: Input) -> bytes:
         count = self.length.read(source)
         if count > source.left() and source.is_slice and isinstance(self.length, Varint):
-            raise Refused("DecodingError")
+            raise Rejected("DecodingError")
         return source.take(count)
 
     def write(self, value: bytes) -> bytes:
@@ -160,7 +160,7 @@ class Utf8(Opaque):
         try:
             value.decode("utf-8", "strict")
         except UnicodeDecodeError:
-            raise Refused("DecodingError") from None
+            raise Rejected("DecodingError") from None
         return value
 
 
@@ -189,7 +189,7 @@ class Select:
     def read(self, source: Input) -> tuple[int, Any]:
         tag = source.take(1)[0]
         if tag not in self.cases:
-            raise Refused("UnknownValue")
+            raise Rejected("UnknownValue")
         field = self.cases[tag][1]
         return tag, field.read(source) if field else None
 
@@ -236,7 +236,7 @@ def read_by(path: str, kind: Type, data: bytes) -> tuple[str, Any]:
     source = Input(data, path == "slice")
     try:
         value = kind.read(source)
-    except Refused as error:
+    except Rejected as error:
         return f"{path} refused {error}", []
     return f"{path} ok {kind.show(value)} rest {digits_of(data[source.at:])}", [value]
 
