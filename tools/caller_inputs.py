@@ -32,6 +32,7 @@ SENT = {
 }
 # What the blocks of C in docs/CALLERS.md use.
 USED = """\
+#include <stdlib.h>
 #include <tls_codec/lengths.h>
 #include <tls_codec/mls.h>
 extern const uint8_t *bytes, *key, *message, *content, *context;
