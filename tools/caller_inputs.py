@@ -120,3 +120,13 @@ def written_in_c() -> list[str]:
 def statuses_of(path: pathlib.Path) -> list[str]:
     """The numbers of the statuses that a page or a header has."""
     return sorted(set(re.findall(r"TLS_CODEC_\w+ = \d+", path.read_text(encoding="utf-8"))))
+
+
+def listed_messages() -> set[str]:
+    """The messages that docs/CALLERS.md lists: lines that begin with `mls_` or `tls13_` alone, and those after them with space before."""
+    found, prefix = set(), ""
+    for line in PAGE.read_text(encoding="utf-8").split("\n"):
+        word, *names = line.split(None) if line[:1].strip() else [prefix, *line.split()]
+        prefix = word if word in ("mls_", "tls13_") else ""
+        found |= {f"{prefix}{it}" for it in names} if prefix else set()
+    return found
