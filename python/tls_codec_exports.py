@@ -6,7 +6,7 @@ import enum
 VERSION = "0.2.0"
 
 # What archives of this version and these headers have beside them.
-MARK = "0.2.0 55617bab0a695731"
+MARK = "0.2.0 dfb50b0412051b5b"
 
 # The names of the statuses, by their numbers.
 STATUSES = [
@@ -38,7 +38,7 @@ FIELDS = {
     "tls13_certificate_verify": ["algorithm", "signature"],
     "tls13_new_session_ticket": ["ticket_lifetime", "ticket_age_add", "ticket_nonce", "ticket", "extensions"],
     "tls13_key_update": ["request_update"],
-    "tls13_tls_plaintext": ["kind", "legacy_record_version", "fragment"],
+    "tls13_tls_plaintext": ["type", "legacy_record_version", "fragment"],
     "tls13_tls_ciphertext": ["opaque_type", "legacy_record_version", "encrypted_record"],
     "tls13_alert": ["level", "description"],
     "mls_message": ["version", "wire_format", "message"],

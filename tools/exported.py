@@ -33,6 +33,8 @@ INSIDE = {
     "The offset of the rejected field's first byte; 0 if the bytes are accepted.": " It counts from `bytes`; of `NAME_next` from the first byte"
     " of `*left` before the call, and of `NAME_encode` from `out`. It is 0 if `out` is too small, and of each `NAME_decode_check`.",
 }
+# Fields that C and Python name as the RFC does, where Rattle and Rust have that word themselves.
+AS_IN_THE_RFC = {"kind": "type"}
 # Names of the texts for `opaque <V>`.
 OPAQUE = re.compile(r"`(?:HPKEPublicKey|SignaturePublicKey|MAC) \w+;`")
 # What a status means to a caller. The comments of `Error` in Rattle also speak of sinks, sources and values.
@@ -175,6 +177,11 @@ def type_in_c(kind: str) -> str:
 def words_of(text: str) -> str:
     """What the lines of a doc comment say."""
     return " ".join(it.strip().removeprefix("///").strip() for it in text.strip().splitlines())
+
+
+def named_as_in_the_rfc(field: str) -> str:
+    """A field's name in C and Python."""
+    return AS_IN_THE_RFC.get(field, field)
 
 
 @functools.cache

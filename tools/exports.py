@@ -17,7 +17,8 @@ import re
 import sys
 
 sys.dont_write_bytecode = True
-from exported import CALLS, MEANINGS, WHOLE, WRITTEN, Export, Unread, about, exports_of, libraries, numbers, structs, taken_by, type_in_c
+from exported import CALLS, MEANINGS, WHOLE, WRITTEN, Export, Unread
+from exported import about, exports_of, libraries, named_as_in_the_rfc, numbers, structs, taken_by, type_in_c
 from exports_rust import MODULES, exports_rust
 from libraries import TOP
 from headers import CONTRACT, LISTS, READERS, UMBRELLA, WHOLE_OUTCOME
@@ -34,7 +35,7 @@ def struct_in_c(kind: str) -> list[str]:
     name, lines = type_in_c(kind), comment(structs()[kind].text)
     lines.append(f"typedef struct {name} {{")
     for text, field, field_kind in structs()[kind].fields:
-        lines += [*comment(text, "  "), f"  {type_in_c(field_kind)} {field};"]
+        lines += [*comment(text, "  "), f"  {type_in_c(field_kind)} {named_as_in_the_rfc(field)};"]
     return [*lines, f"}} {name};"]
 
 
@@ -145,7 +146,7 @@ def located() -> list[Export]:
 
 def located_fields() -> dict[str, list[str]]:
     """What each `NAME_locate` fills, by NAME: the names of its struct's fields in their order, or of the one place."""
-    fields = {kind: [field for _, field, _ in it.fields] for kind, it in structs().items()}
+    fields = {kind: [named_as_in_the_rfc(field) for _, field, _ in it.fields] for kind, it in structs().items()}
     return {it.subject: [it.parameters[1][0]] if taken_by(it) == "Span" else fields[taken_by(it)] for it in located()}
 
 
@@ -154,7 +155,7 @@ def fields_with_length() -> dict[str, list[str]]:
     found = {}
     for it in located():
         fields = structs()[taken_by(it)].fields if taken_by(it) != "Span" else []
-        if names := [field for text, field, _ in fields if "with its length" in text]:
+        if names := [named_as_in_the_rfc(field) for text, field, _ in fields if "with its length" in text]:
             found[it.subject] = names
     return found
 

@@ -9,8 +9,8 @@ CONTRACT = """\
      other pointer to `const uint8_t` and its length. Nothing changes the bytes during the call.
    - A pointer that is to be filled must not be NULL. What it points to must not overlap the bytes,
      nor anything else that the call is given.
-   - If the status isn't 0, nothing is filled. Only `NAME_encode` writes its buffer before it looks
-     at the bytes; if the buffer is too small, that is unchanged too.
+   - If the status isn't 0, nothing is filled. The exception is `NAME_encode`, which writes its buffer
+     even if it then rejects what it wrote; a buffer that is too small is unchanged.
    - No call keeps a pointer, leaves anything to free, or has state: calls may run in any thread.
      Only `NAME_decode_check` allocates.
    - Each call but `NAME_validate` accepts bytes that come after the message, and `taken` says where

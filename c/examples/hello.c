@@ -33,7 +33,7 @@ static int append_fragment(uint8_t *messages, size_t *size) {
   size_t length = tls_codec_u16(record + 3);
   if (!length || length > FRAGMENT || !read_all(record + HEADER, length)) return 0;
   if (tls13_tls_plaintext_locate(record, HEADER + length, &fields).status != TLS_CODEC_ACCEPTED) return 0;
-  if (record[fields.kind.offset] != TLS13_CONTENT_TYPE_HANDSHAKE || length > MOST - *size) return 0;
+  if (record[fields.type.offset] != TLS13_CONTENT_TYPE_HANDSHAKE || length > MOST - *size) return 0;
   memcpy(messages + *size, record + fields.fragment.offset, fields.fragment.size);
   *size += fields.fragment.size;
   return 1;

@@ -8,8 +8,8 @@
      other pointer to `const uint8_t` and its length. Nothing changes the bytes during the call.
    - A pointer that is to be filled must not be NULL. What it points to must not overlap the bytes,
      nor anything else that the call is given.
-   - If the status isn't 0, nothing is filled. Only `NAME_encode` writes its buffer before it looks
-     at the bytes; if the buffer is too small, that is unchanged too.
+   - If the status isn't 0, nothing is filled. The exception is `NAME_encode`, which writes its buffer
+     even if it then rejects what it wrote; a buffer that is too small is unchanged.
    - No call keeps a pointer, leaves anything to free, or has state: calls may run in any thread.
      Only `NAME_decode_check` allocates.
    - Each call but `NAME_validate` accepts bytes that come after the message, and `taken` says where
@@ -22,7 +22,7 @@
 #define TLS_CODEC_VERSION "0.2.0"
 
 /* The line that `tls_codec.version` beside archives of just these headers has. */
-#define TLS_CODEC_HEADERS "0.2.0 55617bab0a695731"
+#define TLS_CODEC_HEADERS "0.2.0 dfb50b0412051b5b"
 
 /* A call's status. The numbers don't change. */
 enum tls_codec_status {

@@ -327,7 +327,7 @@ tls_codec_outcome tls13_key_update_locate(const uint8_t *bytes, size_t length, t
    bytes without their length. */
 typedef struct tls13_tls_plaintext_fields {
   /* `ContentType type;` */
-  tls_codec_span kind;
+  tls_codec_span type;
   /* `ProtocolVersion legacy_record_version;` */
   tls_codec_span legacy_record_version;
   /* `opaque fragment[TLSPlaintext.length];` */
