@@ -93,7 +93,10 @@ def encoder_in_rust(export: Export, name: str) -> list[str]:
 def decoders_in_rust(crate: str) -> list[str]:
     """The functions of a static library of decoders, as those of a module that a feature adds."""
     name, exports = crate.removesuffix("_c"), exports_of(crate)
-    body = ["", f"/// {about(crate)}", '#[cfg(feature = "check")]', f"pub mod {name} {{", "    use crate::{Error, decode};", ""]
+    text = about(crate).removesuffix(": `at` is 0.")
+    if text == about(crate):
+        raise Unread(f"{crate}: its text ends in other words")
+    body = ["", f"/// {text}.", '#[cfg(feature = "check")]', f"pub mod {name} {{", "    use crate::{Error, decode};", ""]
     body += ["    mod foreign {", "        use crate::Outcome;", "", f'        #[link(name = "{crate}", kind = "static")]']
     body += ['        unsafe extern "C" {', *[f"            {it.declaration()}" for it in exports], "        }", "    }"]
     for it in exports:

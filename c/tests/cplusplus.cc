@@ -1,4 +1,4 @@
-// The headers in C++: each in any order, and called.
+// The headers in C++: each in any order, and called, also with NULL for no bytes.
 #include <tls_codec/tls_codec.h>
 #include <tls_codec/lengths.h>
 #include <tls_codec/tls13_check.h>
@@ -26,7 +26,12 @@ int main() {
   const bool is_whole = tls13_alert_validate(alert, 2).taken == 2 &&
                         tls13_alert_validate(alert, sizeof alert).status == TLS_CODEC_TRAILING_DATA && tls_codec_u16(opaque) == 2 &&
                         tls_codec_varint_value(varint) == 63;
-  const bool is_well = is_alert && is_whole && is_content && is_kept && outcome.status == TLS_CODEC_END_OF_STREAM && outcome.at == 2 && one.taken == 1 &&
+  tls_codec_span left = {0, 0}, element = {9, 9};
+  const bool is_null_empty = mls_message_decode_check(nullptr, 0).status == TLS_CODEC_END_OF_STREAM &&
+                             tls_codec_opaque_v_locate(nullptr, 0, &content).status == TLS_CODEC_END_OF_STREAM &&
+                             mls_extension_next(nullptr, 0, &left, &element).status == TLS_CODEC_END_OF_STREAM && element.offset == 9;
+  const bool is_well = is_alert && is_whole && is_null_empty && is_content && is_kept &&
+                       outcome.status == TLS_CODEC_END_OF_STREAM && outcome.at == 2 && one.taken == 1 &&
                        decoded.status == TLS_CODEC_END_OF_STREAM && decoded.at == 0 &&
                        none.status == TLS_CODEC_END_OF_STREAM &&
                        tls_codec_whole_status(one, sizeof varint) == TLS_CODEC_TRAILING_DATA &&

@@ -796,7 +796,7 @@ pub mod tls13 {
     }
 }
 
-/// Checks whether bytes begin with a message of TLS 1.3: its decoder makes the value and drops it. `OutOfMemory`: memory was refused, and nothing is said about the bytes. No position is reported: `at` is 0.
+/// Checks whether bytes begin with a message of TLS 1.3: its decoder makes the value and drops it. `OutOfMemory`: memory was refused, and nothing is said about the bytes. No position is reported.
 #[cfg(feature = "check")]
 pub mod tls13_check {
     use crate::{Error, decode};
@@ -1642,7 +1642,7 @@ pub mod mls {
     }
 }
 
-/// Checks whether bytes begin with a message of MLS: its decoder makes the value and drops it. `OutOfMemory`: memory was refused, and nothing is said about the bytes. No position is reported: `at` is 0.
+/// Checks whether bytes begin with a message of MLS: its decoder makes the value and drops it. `OutOfMemory`: memory was refused, and nothing is said about the bytes. No position is reported.
 #[cfg(feature = "check")]
 pub mod mls_check {
     use crate::{Error, decode};
