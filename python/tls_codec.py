@@ -4,11 +4,13 @@
 
 The decoders need libmls_check_c.a, libtls13_check_c.a and libtls_codec_heap.a in it too.
 
-    codec = Codec("./libtls_codec.so")
-    message, rest = codec.split("mls_key_package", data)
-    extensions = codec.fields("mls_key_package", message)["extensions"]
-    content = codec.fields("tls_codec_opaque_v", extensions)["content"]
-    for extension in codec.elements("mls_extension", content): ...
+    validators = Validators("./libtls_codec.so")
+    message = validators.whole("mls_key_package", data)
+    extensions = validators.fields("mls_key_package", message)["extensions"]
+    content = validators.fields("tls_codec_opaque_v", extensions)["content"]
+    for extension in validators.elements("mls_extension", content): ...
+
+A number's field is its bytes: `int.from_bytes(fields["epoch"], "big")`.
 
 docs/CALLERS.md says what is proved and what is trusted.
 """
@@ -55,8 +57,8 @@ class Rejected(ValueError):
         super().__init__(f"{self.error}{number} at byte {at}")
 
 
-class Codec:
-    """The validators of a shared object, and its decoders. If tls_codec.version of the archives lies beside it, they have to be of this version."""
+class Validators:
+    """The calls of a shared object. If tls_codec.version of the archives lies beside it, they have to be of this version."""
 
     def __init__(self, path: str) -> None:
         mark = pathlib.Path(path).with_name("tls_codec.version")
@@ -79,13 +81,23 @@ class Codec:
         return outcome
 
     def split(self, message: str, data: Buffer) -> tuple[bytes, bytes]:
-        """The message that the bytes begin with, and the rest of them. The message is named as in the headers, without `_validate`."""
+        """The message that the bytes begin with, and the rest of them. The message is named as in the headers, without `_validate_prefix`."""
         data = plain(data)
-        outcome = self.accepted(f"{message}_validate", data)
+        outcome = self.accepted(f"{message}_validate_prefix", data)
         return data[: outcome.taken], data[outcome.taken :]
 
+    def whole(self, message: str, data: Buffer) -> bytes:
+        """The message, if nothing comes after it."""
+        found, rest = self.split(message, data)
+        if rest:
+            raise Rejected(STATUSES.index("TrailingData"), len(found))
+        return found
+
     def fields(self, message: str, data: Buffer) -> dict[str, bytes]:
-        """The fields of the message that the bytes begin with, by the names that its struct has in the headers, in that order."""
+        """The fields of the message that the bytes begin with, by the names that its struct has in the headers, in that order.
+
+        Those in WITH_LENGTH of tls_codec_exports have a length in them, such as a list's.
+        """
         names, data = FIELDS[message], plain(data)
         spans = (Span * len(names))()
         self.accepted(f"{message}_locate", data, spans)
@@ -101,11 +113,11 @@ class Codec:
                 raise Rejected(outcome.status, at + outcome.at, outcome.detail)
             yield found.of(content)
 
-    def message_kind(self, data: Buffer) -> MlsWireFormat:
-        """The kind of the MLSMessage that the bytes begin with. Other numbers have names in tls_codec_exports, as MlsContentType."""
-        kind = ctypes.c_uint16()
-        self.accepted("mls_message_kind", data, kind)
-        return MlsWireFormat(kind.value)
+    def message_wire_format(self, data: Buffer) -> MlsWireFormat:
+        """The wire format of the MLSMessage that the bytes begin with. Other numbers have names in tls_codec_exports, as MlsContentType."""
+        wire_format = ctypes.c_uint16()
+        self.accepted("mls_message_wire_format", data, wire_format)
+        return MlsWireFormat(wire_format.value)
 
     def framed_content_tbs(self, wire_format: int, content: Buffer, context: Buffer = b"") -> bytes:
         """What is signed of a message of MLS, by the encodings of its FramedContent and, if it is signed too, of its GroupContext."""
@@ -121,10 +133,3 @@ class Codec:
         if outcome.taken != len(out):
             raise Rejected(STATUSES.index("TrailingData"), outcome.taken)
         return out.raw
-
-    def exactly(self, message: str, data: Buffer) -> bytes:
-        """The message, if nothing comes after it."""
-        found, rest = self.split(message, data)
-        if rest:
-            raise Rejected(STATUSES.index("TrailingData"), len(found))
-        return found

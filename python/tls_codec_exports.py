@@ -6,7 +6,7 @@ import enum
 VERSION = "0.2.0"
 
 # What archives of this version and these headers have beside them.
-MARK = "0.2.0 91604660266db0de"
+MARK = "0.2.0 dfb50b0412051b5b"
 
 # The names of the statuses, by their numbers.
 STATUSES = [
@@ -38,7 +38,7 @@ FIELDS = {
     "tls13_certificate_verify": ["algorithm", "signature"],
     "tls13_new_session_ticket": ["ticket_lifetime", "ticket_age_add", "ticket_nonce", "ticket", "extensions"],
     "tls13_key_update": ["request_update"],
-    "tls13_tls_plaintext": ["kind", "legacy_record_version", "fragment"],
+    "tls13_tls_plaintext": ["type", "legacy_record_version", "fragment"],
     "tls13_tls_ciphertext": ["opaque_type", "legacy_record_version", "encrypted_record"],
     "tls13_alert": ["level", "description"],
     "mls_message": ["version", "wire_format", "message"],
@@ -54,6 +54,26 @@ FIELDS = {
     "mls_group_context": ["version", "cipher_suite", "group_id", "epoch", "tree_hash", "confirmed_transcript_hash", "extensions"],
     "mls_commit": ["proposals", "path"],
     "mls_proposal": ["proposal_type", "body"],
+}
+
+# Which of these have a length in them, in some case or in each. The others are contents without their length, or have none.
+WITH_LENGTH = {
+    "tls13_handshake": ["body"],
+    "tls13_client_hello": ["cipher_suites", "extensions"],
+    "tls13_server_hello": ["extensions"],
+    "tls13_encrypted_extensions": ["extensions"],
+    "tls13_certificate_request": ["extensions"],
+    "tls13_certificate": ["certificate_list"],
+    "tls13_new_session_ticket": ["extensions"],
+    "mls_public_message": ["auth", "membership_tag"],
+    "mls_framed_content": ["content"],
+    "mls_key_package": ["extensions"],
+    "mls_leaf_node": ["origin", "extensions"],
+    "mls_welcome": ["secrets"],
+    "mls_group_secrets": ["psks"],
+    "mls_group_info": ["extensions"],
+    "mls_group_context": ["extensions"],
+    "mls_commit": ["proposals"],
 }
 
 
@@ -84,6 +104,50 @@ class MlsContentType(enum.IntEnum):
     COMMIT = 3
 
 
+class MlsProposalType(enum.IntEnum):
+    """The numbers of ProposalType that have names."""
+
+    ADD = 1
+    UPDATE = 2
+    REMOVE = 3
+    PSK = 4
+    REINIT = 5
+    EXTERNAL_INIT = 6
+    GROUP_CONTEXT_EXTENSIONS = 7
+
+
+class MlsProposalOrRefType(enum.IntEnum):
+    """The numbers of ProposalOrRefType that have names."""
+
+    PROPOSAL = 1
+    REFERENCE = 2
+
+
+class MlsLeafNodeSource(enum.IntEnum):
+    """The numbers of LeafNodeSource that have names."""
+
+    KEY_PACKAGE = 1
+    UPDATE = 2
+    COMMIT = 3
+
+
+class MlsCredentialType(enum.IntEnum):
+    """The numbers of CredentialType that have names."""
+
+    BASIC = 1
+    X509 = 2
+
+
+class MlsExtensionType(enum.IntEnum):
+    """The numbers of ExtensionType that have names."""
+
+    APPLICATION_ID = 1
+    RATCHET_TREE = 2
+    REQUIRED_CAPABILITIES = 3
+    EXTERNAL_PUB = 4
+    EXTERNAL_SENDERS = 5
+
+
 class Tls13HandshakeType(enum.IntEnum):
     """The numbers of HandshakeType that have names."""
 
@@ -108,3 +172,69 @@ class Tls13ContentType(enum.IntEnum):
     HANDSHAKE = 22
     APPLICATION_DATA = 23
     HEARTBEAT = 24
+
+
+class Tls13AlertLevel(enum.IntEnum):
+    """The numbers of AlertLevel that have names."""
+
+    WARNING = 1
+    FATAL = 2
+
+
+class Tls13AlertDescription(enum.IntEnum):
+    """The numbers of AlertDescription that have names."""
+
+    CLOSE_NOTIFY = 0
+    UNEXPECTED_MESSAGE = 10
+    BAD_RECORD_MAC = 20
+    RECORD_OVERFLOW = 22
+    HANDSHAKE_FAILURE = 40
+    BAD_CERTIFICATE = 42
+    UNSUPPORTED_CERTIFICATE = 43
+    CERTIFICATE_REVOKED = 44
+    CERTIFICATE_EXPIRED = 45
+    CERTIFICATE_UNKNOWN = 46
+    ILLEGAL_PARAMETER = 47
+    UNKNOWN_CA = 48
+    ACCESS_DENIED = 49
+    DECODE_ERROR = 50
+    DECRYPT_ERROR = 51
+    PROTOCOL_VERSION = 70
+    INSUFFICIENT_SECURITY = 71
+    INTERNAL_ERROR = 80
+    INAPPROPRIATE_FALLBACK = 86
+    USER_CANCELED = 90
+    MISSING_EXTENSION = 109
+    UNSUPPORTED_EXTENSION = 110
+    UNRECOGNIZED_NAME = 112
+    BAD_CERTIFICATE_STATUS_RESPONSE = 113
+    UNKNOWN_PSK_IDENTITY = 115
+    CERTIFICATE_REQUIRED = 116
+    NO_APPLICATION_PROTOCOL = 120
+
+
+class Tls13ExtensionType(enum.IntEnum):
+    """The numbers of ExtensionType that have names."""
+
+    SERVER_NAME = 0
+    MAX_FRAGMENT_LENGTH = 1
+    STATUS_REQUEST = 5
+    SUPPORTED_GROUPS = 10
+    SIGNATURE_ALGORITHMS = 13
+    USE_SRTP = 14
+    HEARTBEAT = 15
+    APPLICATION_LAYER_PROTOCOL_NEGOTIATION = 16
+    SIGNED_CERTIFICATE_TIMESTAMP = 18
+    CLIENT_CERTIFICATE_TYPE = 19
+    SERVER_CERTIFICATE_TYPE = 20
+    PADDING = 21
+    PRE_SHARED_KEY = 41
+    EARLY_DATA = 42
+    SUPPORTED_VERSIONS = 43
+    COOKIE = 44
+    PSK_KEY_EXCHANGE_MODES = 45
+    CERTIFICATE_AUTHORITIES = 47
+    OID_FILTERS = 48
+    POST_HANDSHAKE_AUTH = 49
+    SIGNATURE_ALGORITHMS_CERT = 50
+    KEY_SHARE = 51

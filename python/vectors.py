@@ -9,7 +9,7 @@ import json
 import sys
 
 sys.dont_write_bytecode = True
-from tls_codec import Codec, Rejected
+from tls_codec import Rejected, Validators
 
 # The message that each name has.
 MESSAGES = {
@@ -36,7 +36,7 @@ PROPOSALS = {
 }
 
 
-def rejection(codec: Codec, name: str, data: bytes) -> str:
+def rejection(validators: Validators, name: str, data: bytes) -> str:
     """Why a message is rejected; empty if it isn't."""
     if name in PROPOSALS:
         message, data = "mls_proposal", PROPOSALS[name].to_bytes(2, "big") + data
@@ -45,19 +45,19 @@ def rejection(codec: Codec, name: str, data: bytes) -> str:
     else:
         return "no message of this name is known"
     try:
-        codec.exactly(message, data)
+        validators.whole(message, data)
     except Rejected as rejected:
         return f"{rejected} of {len(data)}"
     return ""
 
 
 def main() -> int:
-    codec, counts = Codec(sys.argv[1]), {True: 0, False: 0}
+    validators, counts = Validators(sys.argv[1]), {True: 0, False: 0}
     with open(sys.argv[2], encoding="utf-8") as file:
         vectors = json.load(file)
     for number, vector in enumerate(vectors):
         for name, digits in vector.items():
-            found = rejection(codec, name, bytes.fromhex(digits))
+            found = rejection(validators, name, bytes.fromhex(digits))
             counts[not found] += 1
             if found:
                 print(f"vector {number}, {name}: {found}")

@@ -2,7 +2,7 @@
 """caller_figures.py [ARCHIVES [BENCH]]: the figures of docs/CALLERS.md, of the archives in a folder, c/out if none is given.
 
 The size of each archive; how much stack calls touch at most, over the rows that tools/test_callers has; and by `valgrind --tool=callgrind` the
-instructions of `NAME_validate` from C on the key package and the private message of tls_codec_bench. With BENCH, the built program of that
+instructions of `NAME_validate_prefix` from C on the key package and the private message of tls_codec_bench. With BENCH, the built program of that
 crate, those of `tls_validate_prefix` in Rattle too, which takes a minute.
 """
 from __future__ import annotations
@@ -71,7 +71,7 @@ def main() -> int:
             row.write_text(f"{message}\t{data.hex()}\n")
             beside = in_rattle.get(case, {})
             beside_it = f", in Rattle {beside['validate']:.0f}" if beside else ""
-            print(f"{message}_validate of {len(data)} bytes: {counted(program, row, f'{message}_validate')} instructions{beside_it}")
+            print(f"{message}_validate_prefix of {len(data)} bytes: {counted(program, row, f'{message}_validate_prefix')} instructions{beside_it}")
     return 0
 
 

@@ -32,6 +32,7 @@ SENT = {
 }
 # What the blocks of C in docs/CALLERS.md use.
 USED = """\
+#include <stdlib.h>
 #include <tls_codec/lengths.h>
 #include <tls_codec/mls.h>
 extern const uint8_t *bytes, *key, *message, *content, *context;
@@ -53,7 +54,7 @@ def answered(places: list[pathlib.Path], signed: pathlib.Path) -> set[str]:
     found = {"mls_framed_content_tbs_encode" for it in rows_of(signed) if it[3].startswith("0 ")}
     found |= {it[0] for path in places for it in rows_of(path) if it[2].startswith("0 ")}
     for columns in (it for path in ROWS for it in rows_of(path) if it[2].startswith("0 ")):
-        found |= {f"{columns[0]}_{call}" for call in ("validate", "check", *["locate"] * (len(columns) > 4))}
+        found |= {f"{columns[0]}_{call}" for call in ("validate_prefix", "decode_check", *["locate"] * (len(columns) > 4))}
     return found
 
 
@@ -119,3 +120,13 @@ def written_in_c() -> list[str]:
 def statuses_of(path: pathlib.Path) -> list[str]:
     """The numbers of the statuses that a page or a header has."""
     return sorted(set(re.findall(r"TLS_CODEC_\w+ = \d+", path.read_text(encoding="utf-8"))))
+
+
+def listed_messages() -> set[str]:
+    """The messages that docs/CALLERS.md lists: lines that begin with `mls_` or `tls13_` alone, and those after them with space before."""
+    found, prefix = set(), ""
+    for line in PAGE.read_text(encoding="utf-8").split("\n"):
+        word, *names = line.split(None) if line[:1].strip() else [prefix, *line.split()]
+        prefix = word if word in ("mls_", "tls13_") else ""
+        found |= {f"{prefix}{it}" for it in names} if prefix else set()
+    return found

@@ -15,14 +15,28 @@ NUMBER = re.compile(r"^        Error::(\w+)(\(_\))? => (\d+),$", re.M)
 C = {"u16": "uint16_t", "u32": "uint32_t", "u64": "uint64_t", "usize": "size_t"}
 # The libraries whose structs cross, and what their names begin with in C.
 STRUCTS = {"tls_codec_outcome": "tls_codec", "mls_fields": "mls", "tls13_fields": "tls13"}
-# What a call does, in C, by the end of its name; and what is put before its text in the source, or in place of the words there.
-ASKED = {"_validate": ": whether the bytes begin with one.", "_check": ": whether the bytes begin with one, by the decoder."}
+# How the names of calls end, by what they do, in the order of a header.
+CALLS = ("_validate_prefix", "_locate", "_next", "_wire_format", "_encode", "_decode_check")
+# What a call does, in C, by the end of its name: what is put after its text in the source.
+ASKED = {"_validate_prefix": ": whether the bytes begin with one.", "_decode_check": ": whether the bytes begin with one, by the decoder."}
+WHOLE = ": whether the bytes are one, with nothing after it."
 FOUND = re.compile(r"(its fields are|its content is)\.")
-NEXT = (
-    " Before the first call `left` is the place of all elements in `bytes`: offset 0 and size `length`, if `bytes` are the list without its length."
-    " The element's place is put into `element`, and `at` counts from the first byte of `left`. If the element is rejected, neither `left` nor"
-    " `element` changes."
-)
+# What C says of pointers, beside the text in the source.
+POINTERS = " `out` must not overlap `content` or `context`; an empty `context` may be NULL."
+# What is said of a field of a struct beside its definition: how the bytes of its span begin.
+INSIDE = {
+    "`Sender sender;`": ": a byte of `SenderType`, then of a member or an external sender its index, a uint32",
+    "`FramedContentAuthData auth;`": ": `opaque signature<V>` with its length, then of a commit its `MAC confirmation_tag` with its length",
+    "`optional<UpdatePath> path;`": ": a byte 0, or a byte 1 and the `UpdatePath`",
+    "`optional<PathSecret> path_secret;`": ": a byte 0, or a byte 1 and the `PathSecret`",
+    "What its case has, with its length: a `ClientHello`, a `ServerHello`, ..": "; the length has three bytes",
+    "The offset of the rejected field's first byte; 0 if the bytes are accepted.": " It counts from `bytes`; of `NAME_next` from the first byte"
+    " of `*left` before the call, and of `NAME_encode` from `out`. It is 0 if `out` is too small, and of each `NAME_decode_check`.",
+}
+# Fields that C and Python name as the RFC does, where Rattle and Rust have that word themselves.
+AS_IN_THE_RFC = {"kind": "type"}
+# Names of the texts for `opaque <V>`.
+OPAQUE = re.compile(r"`(?:HPKEPublicKey|SignaturePublicKey|MAC) \w+;`")
 # What a status means to a caller. The comments of `Error` in Rattle also speak of sinks, sources and values.
 MEANINGS = {
     "Accepted": "The bytes begin with an encoding.",
@@ -30,8 +44,8 @@ MEANINGS = {
     "InvalidVectorLength": "A length or a variable-length integer has more bytes than it needs, or is outside the bounds of its field.",
     "InvalidWriteLength": "The buffer to write into is too small.",
     "InvalidInput": "No call returns it.",
-    "DecodingError": "A content after a variable-length length isn't all there, an element passes the end of its list, or the byte before"
-    " an optional field is neither 0 nor 1.",
+    "DecodingError": "One of three, which aren't told apart: the content after a variable-length length isn't all there; an element passes"
+    " the end of its list; the byte before an optional field is neither 0 nor 1.",
     "EndOfStream": "The bytes, or the body of a Handshake, end before a field does.",
     "TrailingData": "Bytes are left, after the message or, in a Handshake, after its body.",
     "UnknownValue": "No case has this number, or a constant has another value.",
@@ -53,13 +67,33 @@ class Export:
     parameters: list[tuple[str, str]]
     result: str
 
+    @property
+    def call(self) -> str:
+        """How the name ends, by what the call does."""
+        found = next((it for it in CALLS if self.name.endswith(it)), None)
+        if not found:
+            raise Unread(f"{self.name}: no call of {CALLS}")
+        return found
+
+    @property
+    def subject(self) -> str:
+        """What the call is of: its name without that end."""
+        return self.name.removesuffix(self.call)
+
     def in_c(self) -> str:
         """What the call does, as a header says it."""
-        call = "_" + self.name.rpartition("_")[2]
-        if call == "_next":
-            return self.text + NEXT
-        asked = ASKED.get(call)
+        if self.call == "_next":
+            return f"{self.message()}: the next one of a list."
+        if self.call == "_encode":
+            return self.text + POINTERS
+        asked = ASKED.get(self.call)
         return self.text.removesuffix(".") + asked if asked else FOUND.sub(r"\1, if the bytes begin with one.", self.text)
+
+    def whole_in_c(self) -> list[str]:
+        """Of a validator the call that wants all of the bytes."""
+        name = f"{self.subject}_validate"
+        lines = [f"static inline tls_codec_outcome {name}(const uint8_t *bytes, size_t length) {{"]
+        return [*lines, f"  return tls_codec_whole({self.name}(bytes, length), length);", "}"]
 
     def message(self) -> str:
         """The message, or what else is found, with the section of its RFC."""
@@ -117,9 +151,18 @@ def structs() -> dict[str, Struct]:
     for crate in STRUCTS:
         for path in sorted((TOP / "crates" / crate / "src").glob("*.rt")):
             for text, name, inside in STRUCT.findall(path.read_text(encoding="utf-8")):
-                fields = [(words_of(it), field, kind) for it, field, kind in FIELD.findall(inside)]
+                fields = [(described(words_of(it)), field, kind) for it, field, kind in FIELD.findall(inside)]
                 found[name] = Struct(words_of(text), crate, fields)
+    texts = " ".join(text for it in found.values() for text, _, _ in it.fields)
+    if unused := [it for it in INSIDE if it + INSIDE[it] not in texts]:
+        raise Unread(f"no field is {unused}")
     return found
+
+
+def described(text: str) -> str:
+    """What is said of a field: its definition, and how its bytes begin."""
+    is_opaque = OPAQUE.fullmatch(text) is not None
+    return text + INSIDE.get(text, " without its length" if is_opaque else "")
 
 
 def type_in_c(kind: str) -> str:
@@ -134,6 +177,11 @@ def type_in_c(kind: str) -> str:
 def words_of(text: str) -> str:
     """What the lines of a doc comment say."""
     return " ".join(it.strip().removeprefix("///").strip() for it in text.strip().splitlines())
+
+
+def named_as_in_the_rfc(field: str) -> str:
+    """A field's name in C and Python."""
+    return AS_IN_THE_RFC.get(field, field)
 
 
 @functools.cache

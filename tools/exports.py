@@ -4,7 +4,7 @@
 Each static library of crates.txt is read, each function that it exports, of `tls_codec_outcome` the struct and the numbers of the errors, and
 of the texts in crates/tlsgen/data a few enums. By these are written: c/include/tls_codec/*.h, c/tests/exports.inc, rust/src/exports.rs and
 python/tls_codec_exports.py; and by CHANGELOG.md the version in these and in the files of VERSIONED. By the version and a sum of the headers
-callers in C and Rust (MARKS) and in Python find out whether archives are of other headers. The last line is 'N passed, N failed', a file
+callers in C (TLS_CODEC_HEADERS), C and Rust (MARKS) and in Python find out whether archives are of other headers. The last line is 'N passed, N failed', a file
 each, and the status is 1 if one failed.
 """
 from __future__ import annotations
@@ -17,9 +17,11 @@ import re
 import sys
 
 sys.dont_write_bytecode = True
-from exported import MEANINGS, WRITTEN, Unread, about, exports_of, libraries, numbers, structs, taken_by, type_in_c
+from exported import CALLS, MEANINGS, WHOLE, WRITTEN, Export, Unread
+from exported import about, exports_of, libraries, named_as_in_the_rfc, numbers, structs, taken_by, type_in_c
 from exports_rust import MODULES, exports_rust
 from libraries import TOP
+from headers import CONTRACT, LISTS, READERS, UMBRELLA, WHOLE_OUTCOME
 from registries import enums_in_c, enums_in_python
 
 LONGEST = 100
@@ -29,31 +31,11 @@ VERSION_LINE = re.compile(r'^(version = "|Version: )[\d.]+', re.M)
 # The file beside archives that says which headers they are of, and those that it is compared with.
 MARK = "tls_codec.version"
 MARKS = ["c", "rust"]
-# What is written in C of an outcome, beside the declarations.
-WHOLE = """\
-/* The outcome if all of the bytes are to be used: if the encoding is accepted and bytes come after
-   it, the status is TLS_CODEC_TRAILING_DATA, taken is 0, and at is where they begin. */
-static inline tls_codec_outcome tls_codec_whole(tls_codec_outcome outcome, size_t length) {
-  if (outcome.status == TLS_CODEC_ACCEPTED && outcome.taken != length) {
-    outcome.status = TLS_CODEC_TRAILING_DATA;
-    outcome.at = outcome.taken;
-    outcome.taken = 0;
-  }
-  return outcome;
-}
-
-/* The status of that outcome: 0, TLS_CODEC_ACCEPTED, if all of the bytes are used. */
-static inline uint32_t tls_codec_whole_status(tls_codec_outcome outcome, size_t length) {
-  return tls_codec_whole(outcome, length).status;
-}
-""".split("\n")
-
-
 def struct_in_c(kind: str) -> list[str]:
     name, lines = type_in_c(kind), comment(structs()[kind].text)
     lines.append(f"typedef struct {name} {{")
     for text, field, field_kind in structs()[kind].fields:
-        lines += [*comment(text, "  "), f"  {type_in_c(field_kind)} {field};"]
+        lines += [*comment(text, "  "), f"  {type_in_c(field_kind)} {named_as_in_the_rfc(field)};"]
     return [*lines, f"}} {name};"]
 
 
@@ -62,12 +44,18 @@ def spaced(name: str) -> str:
     return re.sub(r"(?<=[a-z])(?=[A-Z])", "_", name).upper()
 
 
+def named_in_c(text: str) -> str:
+    """A text with the statuses by their names in C: `[`ACCEPTED`]` and the errors."""
+    text = text.replace("[`ACCEPTED`]", "`TLS_CODEC_ACCEPTED`")
+    for name, _, _ in numbers():
+        text = text.replace(f"`{name}`", f"`TLS_CODEC_{spaced(name)}`")
+    return text
+
+
 def comment(text: str, indent: str = "") -> list[str]:
     """A comment of C, in lines that aren't too long."""
-    for name, in_c_name in (("[`ACCEPTED`]", "TLS_CODEC_ACCEPTED"), ("`UnknownValue`", "TLS_CODEC_UNKNOWN_VALUE"), ("`", "")):
-        text = text.replace(name, in_c_name)
     lines, line = [], f"{indent}/*"
-    for word in f"{text} */".split():
+    for word in f"{named_in_c(text)} */".split():
         if len(line) + len(word) >= LONGEST and word != "*/":
             lines.append(line)
             line = f"{indent}  "
@@ -97,17 +85,19 @@ def versioned() -> dict[pathlib.Path, str]:
     return {path: VERSION_LINE.sub(rf"\g<1>{version()}", text, count=1) for path, text in texts.items()}
 
 
-def outcome_header() -> str:
+def outcome_header(of_headers: str) -> str:
+    """outcome.h, which names the headers that it is of."""
     names = [("Accepted", False, 0), *numbers()]
-    body = ["#include <stddef.h>", "#include <stdint.h>", "", "/* The version of this header, by CHANGELOG.md. */"]
-    body += [f'#define TLS_CODEC_VERSION "{version()}"', ""]
+    body = [*CONTRACT, "#include <stddef.h>", "#include <stdint.h>", "", "/* The version of this header, by CHANGELOG.md. */"]
+    body += [f'#define TLS_CODEC_VERSION "{version()}"', "", *comment(f"The line that `{MARK}` beside archives of just these headers has.")]
+    body += [f'#define TLS_CODEC_HEADERS "{of_headers}"', ""]
     body += ["/* A call's status. The numbers don't change. */", "enum tls_codec_status {"]
     for name, _, number in names:
         body += [*comment(MEANINGS[name], "  "), f"  TLS_CODEC_{spaced(name)} = {number}{'' if name == names[-1][0] else ','}"]
     body += ["};", ""]
     for it in structs():
         body += [*struct_in_c(it), ""] if structs()[it].crate == "tls_codec_outcome" else []
-    body += WHOLE
+    body += WHOLE_OUTCOME
     body += ["/* The name of a status, as \"EndOfStream\"; \"?\" of another number. */"]
     body += ["static inline const char *tls_codec_status_name(uint32_t status) {", "  switch (status) {"]
     body += [f'  case TLS_CODEC_{spaced(name)}: return "{name}";' for name, _, _ in names]
@@ -115,35 +105,58 @@ def outcome_header() -> str:
     return guarded("outcome", "tls_codec_outcome", body)
 
 
+def declared(it: Export) -> list[str]:
+    """A call in C: the struct that it fills, its prototype, and of a validator the call that wants all of the bytes."""
+    lines: list[str] = []
+    if it.call == "_locate" and structs()[taken_by(it)].crate != "tls_codec_outcome":
+        lines = ["", *struct_in_c(taken_by(it))]
+    lines += ["", *comment(it.in_c()), it.prototype()]
+    if it.call == "_validate_prefix":
+        lines += ["", *comment(it.text.removesuffix(".") + WHOLE), *it.whole_in_c()]
+    return lines
+
+
 def header(crate: str) -> str:
     name = crate.removesuffix("_c")
-    body = [*comment(about(crate)), "", '#include "outcome.h"', "", "#ifdef __cplusplus", 'extern "C" {', "#endif", *enums_in_c(name)]
-    taken = {kind.removeprefix("&mut ") for it in exports_of(crate) for _, kind in it.parameters}
-    for it in structs():
-        body += ["", *struct_in_c(it)] if it in taken and structs()[it].crate != "tls_codec_outcome" else []
-    for it in exports_of(crate):
-        body += ["", *comment(it.in_c()), it.prototype()]
-    return guarded(MODULES.get(name, name), crate, [*body, "", "#ifdef __cplusplus", "}", "#endif"])
+    body = [*comment(f"{about(crate)} What holds for each call is in outcome.h."), "", '#include "outcome.h"', ""]
+    body += ["#ifdef __cplusplus", 'extern "C" {', "#endif", *enums_in_c(name)]
+    for call in CALLS:
+        calls = [it for it in exports_of(crate) if it.call == call]
+        body += ["", *comment(LISTS)] if call == "_next" and calls else []
+        body += [line for it in calls for line in declared(it)]
+    body += ["", "#ifdef __cplusplus", "}", "#endif", *(["", *READERS] if name in MODULES else [])]
+    return guarded(MODULES.get(name, name), crate, body)
 
 
 def table() -> str:
     """The lines by which tests in C find a message's calls."""
-    found = [(it.name.rpartition("_"), it) for crate in libraries() for it in exports_of(crate)]
-    calls = {call: [name for (name, _, other), _ in found if other == call] for call in ("validate", "check")}
-    lines = ["#ifdef MESSAGE", *[f"MESSAGE({name})" for name in calls["validate"] if name in calls["check"]]]
-    lines += ["#endif", "#ifdef LOCATED"]
-    lines += [f"LOCATED({name}, {type_in_c(taken_by(it))})" for (name, _, call), it in found if call == "locate"]
-    lines += ["#endif", "#ifdef LISTED", *[f"LISTED({name})" for (name, _, call), _ in found if call == "next"]]
+    found = [it for crate in libraries() for it in exports_of(crate)]
+    by_call = {call: [it for it in found if it.call == call] for call in CALLS}
+    decoded = {it.subject for it in by_call["_decode_check"]}
+    lines = ["#ifdef MESSAGE", *[f"MESSAGE({it.subject})" for it in by_call["_validate_prefix"] if it.subject in decoded]]
+    lines += ["#endif", "#ifdef LOCATED", *[f"LOCATED({it.subject}, {type_in_c(taken_by(it))})" for it in by_call["_locate"]]]
+    lines += ["#endif", "#ifdef LISTED", *[f"LISTED({it.subject})" for it in by_call["_next"]]]
     return "\n".join([f"/* {WRITTEN}. Don't edit. */", *lines, "#endif", ""])
+
+
+def located() -> list[Export]:
+    """All `NAME_locate`."""
+    return [it for crate in libraries() for it in exports_of(crate) if it.call == "_locate"]
 
 
 def located_fields() -> dict[str, list[str]]:
     """What each `NAME_locate` fills, by NAME: the names of its struct's fields in their order, or of the one place."""
+    fields = {kind: [named_as_in_the_rfc(field) for _, field, _ in it.fields] for kind, it in structs().items()}
+    return {it.subject: [it.parameters[1][0]] if taken_by(it) == "Span" else fields[taken_by(it)] for it in located()}
+
+
+def fields_with_length() -> dict[str, list[str]]:
+    """Which of these fields have a length in them, in some case or in each, by NAME."""
     found = {}
-    for export in [it for crate in libraries() for it in exports_of(crate) if it.name.endswith("_locate")]:
-        kind = taken_by(export)
-        names = [export.parameters[1][0]] if kind == "Span" else [field for _, field, _ in structs()[kind].fields]
-        found[export.name.removesuffix("_locate")] = names
+    for it in located():
+        fields = structs()[taken_by(it)].fields if taken_by(it) != "Span" else []
+        if names := [named_as_in_the_rfc(field) for text, field, _ in fields if "with its length" in text]:
+            found[it.subject] = names
     return found
 
 
@@ -155,26 +168,29 @@ def exports_python() -> str:
     lines += [f'    "{name}",' for name in ("Accepted", *[name for name, _, _ in numbers()])]
     lines += ["]", "", "# What `NAME_locate` fills, in this order, by NAME.", "FIELDS = {"]
     lines += [f'    "{message}": {json.dumps(names)},' for message, names in located_fields().items()]
+    lines += ["}", "", "# Which of these have a length in them, in some case or in each. The others are contents without their length, or have none."]
+    lines += ["WITH_LENGTH = {", *[f'    "{message}": {json.dumps(names)},' for message, names in fields_with_length().items()]]
     return "\n".join([*lines, "}", *enums_in_python(), ""])
 
 
-def headers() -> dict[pathlib.Path, str]:
+def headers(of_headers: str) -> dict[pathlib.Path, str]:
+    """The headers. outcome.h has the mark of all of them, or an empty one, of which that is made."""
     include = TOP / "c" / "include" / "tls_codec"
     names = {it: it.removesuffix("_c") for it in libraries()}
     found = {include / f"{MODULES.get(name, name)}.h": header(it) for it, name in names.items()}
-    return {include / "outcome.h": outcome_header(), **found}
+    return {include / "outcome.h": outcome_header(of_headers), include / "tls_codec.h": UMBRELLA, **found}
 
 
 @functools.cache
 def mark() -> str:
     """The version, and a sum of the headers."""
-    return f"{version()} {hashlib.sha256(''.join(headers().values()).encode()).hexdigest()[:16]}"
+    return f"{version()} {hashlib.sha256(''.join(headers('').values()).encode()).hexdigest()[:16]}"
 
 
 def files() -> dict[pathlib.Path, str]:
     others = {TOP / "c" / "tests" / "exports.inc": table(), **{TOP / it / MARK: f"{mark()}\n" for it in MARKS}}
     modules = {TOP / "rust" / "src" / "exports.rs": exports_rust(), TOP / "python" / "tls_codec_exports.py": exports_python()}
-    return {**headers(), **others, **modules, **versioned()}
+    return {**headers(mark()), **others, **modules, **versioned()}
 
 
 def main() -> int:

@@ -1,13 +1,21 @@
 """rust/src/exports.rs: what the Rust crate declares of the static libraries, and the functions over it. exports.py writes it."""
 from __future__ import annotations
 
-from exported import MEANINGS, WRITTEN, Export, Unread, about, decoders, exports_of, libraries, numbers, structs, taken_by
+from exported import CALLS, MEANINGS, WRITTEN, Export, Unread, about, decoders, exports_of, libraries, numbers, structs, taken_by
 from registries import enums_in_rust
 
 # Headers of C and modules of the Rust crate that have another name than their library: it is no main header, and a caller may use the crate
 # `tls_codec` of crates.io too.
 MODULES = {"tls_codec": "lengths"}
 SAFE = "the pointer and the length are of one slice, nothing changes it during the call, and the call keeps no pointer."
+# Words of the sources' texts, as a caller in Rust reads them.
+REWORDED = {
+    "The result is that of validation for the written bytes, and `at` counts from the first of them. Use them only if all of them are accepted:"
+    " a context that isn't signed would be left over. They are written even if they are rejected. If `out` has too little room, nothing is"
+    " written: `InvalidWriteLength`.": "Returns the written bytes, if all of them are accepted. Else the error is that of validation, and its"
+    " place counts from the first byte of `out`, which they stay in; a context that isn't signed is `TrailingData`. If `out` has too little"
+    " room, nothing is written, and the error is `InvalidWriteLength`.",
+}
 # How many bytes an encoder writes beside its parts: of a FramedContentTBS the version and the wire format.
 BESIDE = {"mls_framed_content_tbs_encode": 4}
 
@@ -30,7 +38,7 @@ def content_in_rust(export: Export, name: str) -> list[str]:
     return found_in_rust(export, name, "that content", ("&[u8]", "Span::default()", "found.of(bytes)"))
 
 
-def kind_in_rust(export: Export, name: str) -> list[str]:
+def number_in_rust(export: Export, name: str) -> list[str]:
     kind = taken_by(export)
     return found_in_rust(export, name, "that number", (kind, f"0{kind}", "found"))
 
@@ -59,13 +67,21 @@ def located_in_rust(module: str, export: Export) -> list[str]:
     return [*lines, "        };", "        Ok((fields, rest))", "    }"]
 
 
+def reworded(export: Export) -> str:
+    """The text of an encoder, as a caller in Rust reads it."""
+    found = [it for it in REWORDED if export.text.endswith(it)]
+    if not found:
+        raise Unread(f"{export.name}: its text ends in other words")
+    return export.text.removesuffix(found[0]) + REWORDED[found[0]]
+
+
 def encoder_in_rust(export: Export, name: str) -> list[str]:
     """The function that writes into a buffer, and returns what it wrote if all of it is accepted."""
     taken = [it if kind != "Global" else None for it, kind in export.parameters]
     kinds = dict(export.parameters)
     passed = [f"{it}.as{'_mut' if kinds[it] == '&mut [u8]' else ''}_ptr(), {it}.len()" if kinds[it].endswith("[u8]") else it for it in taken]
     parameters = ", ".join(f"{it}: {kind}" for it, kind in export.parameters).replace("&mut [u8]", "&'a mut [u8]")
-    lines = ["", f"    /// {export.text} Returns the written bytes, if they are accepted.", f"    pub fn {name}<'a>({parameters}) -> Result<&'a [u8], Rejected> {{"]
+    lines = ["", f"    /// {reworded(export)}", f"    pub fn {name}<'a>({parameters}) -> Result<&'a [u8], Rejected> {{"]
     lines += ["        // SAFETY: each pointer and its length are of one slice, nothing else changes or reads it during the call, and the call keeps no pointer."]
     lines += [f"        let outcome = unsafe {{ foreign::{export.name}({', '.join(passed)}) }};"]
     if export.name not in BESIDE:
@@ -77,11 +93,14 @@ def encoder_in_rust(export: Export, name: str) -> list[str]:
 def decoders_in_rust(crate: str) -> list[str]:
     """The functions of a static library of decoders, as those of a module that a feature adds."""
     name, exports = crate.removesuffix("_c"), exports_of(crate)
-    body = ["", f"/// {about(crate)}", '#[cfg(feature = "check")]', f"pub mod {name} {{", "    use crate::{Error, decode};", ""]
+    text = about(crate).removesuffix(": `at` is 0.")
+    if text == about(crate):
+        raise Unread(f"{crate}: its text ends in other words")
+    body = ["", f"/// {text}.", '#[cfg(feature = "check")]', f"pub mod {name} {{", "    use crate::{Error, decode};", ""]
     body += ["    mod foreign {", "        use crate::Outcome;", "", f'        #[link(name = "{crate}", kind = "static")]']
     body += ['        unsafe extern "C" {', *[f"            {it.declaration()}" for it in exports], "        }", "    }"]
     for it in exports:
-        short = it.name.removesuffix("_check").removeprefix(f"{name.removesuffix('_check')}_")
+        short = it.subject.removeprefix(f"{name.removesuffix('_check')}_")
         body += ["", f"    /// {it.message()}: returns the bytes of the one that `bytes` begin with, and the rest, by the decoder."]
         body += [f"    pub fn {short}(bytes: &[u8]) -> Result<(&[u8], &[u8]), Error> {{", f"        decode(bytes, foreign::{it.name})", "    }"]
     return [*body, "}"]
@@ -90,13 +109,10 @@ def decoders_in_rust(crate: str) -> list[str]:
 def module_in_rust(crate: str) -> list[str]:
     """A static library's functions, as those of a module."""
     name, exports = crate.removesuffix("_c"), exports_of(crate)
-    whole = [it for it in exports if it.name.endswith("_validate")]
-    located = [it for it in exports if it.name.endswith("_locate")]
+    by_call = {call: [it for it in exports if it.call == call] for call in CALLS}
+    located, lists, encoders = by_call["_locate"], by_call["_next"], by_call["_encode"]
     taken = dict.fromkeys(taken_by(it) for it in located if taken_by(it) != "Span")
-    kinds = [it for it in exports if it.name.endswith("_kind")]
-    lists = [it for it in exports if it.name.endswith("_next")]
-    encoders = [it for it in exports if it.name.endswith("_encode")]
-    if len(whole + located + kinds + encoders + lists) != len(exports):
+    if by_call["_decode_check"]:
         raise Unread(f"{crate}: an export of no kind that Rust has a function for")
     used = ["Rejected", "split", *(["split_as"] if located else [])]
     if len(taken) < len(located) and not taken:
@@ -112,19 +128,19 @@ def module_in_rust(crate: str) -> list[str]:
     body += [f'        #[link(name = "{crate}", kind = "static")]', '        unsafe extern "C" {']
     body += [f"            {it.declaration()}" for it in exports]
     body += ["        }", "    }", *enums_in_rust(name)]
-    for it in whole:
-        short = it.name.removesuffix("_validate").removeprefix(f"{name}_")
+    for it in by_call["_validate_prefix"]:
+        short = it.subject.removeprefix(f"{name}_")
         body += ["", f"    /// {it.message()}: returns the bytes of the one that `bytes` begin with, and the rest."]
         body += [f"    pub fn {short}(bytes: &[u8]) -> Result<(&[u8], &[u8]), Rejected> {{"]
         body += [f"        split(bytes, foreign::{it.name})", "    }"]
     for it in located:
         body += located_in_rust(name, it)
-    for it in kinds:
-        body += kind_in_rust(it, it.name.removeprefix(f"{name}_"))
+    for it in by_call["_wire_format"]:
+        body += number_in_rust(it, it.name.removeprefix(f"{name}_"))
     for it in encoders:
-        body += encoder_in_rust(it, it.name.removesuffix("_encode").removeprefix(f"{name}_"))
+        body += encoder_in_rust(it, it.subject.removeprefix(f"{name}_"))
     for it in lists:
-        body += elements_in_rust(it, it.name.removesuffix("_next").removeprefix(f"{name}_"))
+        body += elements_in_rust(it, it.subject.removeprefix(f"{name}_"))
     return [*body, "}"]
 
 

@@ -53,9 +53,9 @@ FIGURES = [
     ("docs/CALLERS.md", r"\d+ inputs of the (\d+) messages", names(*OUTCOMES)),
     ("docs/CALLERS.md", r"for (\d+) messages of MLS", names(OUTCOMES[0])),
     ("docs/CALLERS.md", r"for (\d+) messages of TLS", names(OUTCOMES[1])),
-    ("docs/CALLERS.md", r"mls_check\.h` \| `NAME_check` for the same (\d+) messages", names(OUTCOMES[0])),
-    ("docs/CALLERS.md", r"tls13_check\.h` \| `NAME_check` for the same (\d+) messages", names(OUTCOMES[1])),
-    ("docs/CALLERS.md", r"(\d+) of lists, fields and kinds", rows("crates/test_places/stdout")),
+    ("docs/CALLERS.md", r"mls_check\.h` \| `NAME_decode_check` for the same (\d+) messages", names(OUTCOMES[0])),
+    ("docs/CALLERS.md", r"tls13_check\.h` \| `NAME_decode_check` for the same (\d+) messages", names(OUTCOMES[1])),
+    ("docs/CALLERS.md", r"(\d+) of lists, fields and wire formats", rows("crates/test_places/stdout")),
     ("docs/CALLERS.md", r"(\d+) of lengths and", rows("c/tests/lengths.tsv")),
     ("docs/CALLERS.md", r"lengths and (\w+) of what is signed", rows("c/tests/signed.tsv")),
 ]

@@ -9,10 +9,27 @@ from presentation import Parser, name_of
 DATA = CRATES / "tlsgen" / "data"
 # The enums of each library, and the types of their numbers.
 ENUMS = {
-    "mls": {"WireFormat": "u16", "SenderType": "u8", "ContentType": "u8"},
-    "tls13": {"HandshakeType": "u8", "ContentType": "u8"},
+    "mls": {
+        "WireFormat": "u16",
+        "SenderType": "u8",
+        "ContentType": "u8",
+        "ProposalType": "u16",
+        "ProposalOrRefType": "u8",
+        "LeafNodeSource": "u8",
+        "CredentialType": "u16",
+        "ExtensionType": "u16",
+    },
+    "tls13": {
+        "HandshakeType": "u8",
+        "ContentType": "u8",
+        "AlertLevel": "u8",
+        "AlertDescription": "u8",
+        "ExtensionType": "u16",
+    },
 }
-UNUSED = re.compile(r"reserved|invalid|.*_RESERVED")
+# The texts that have a library's messages, if they have other names than it.
+TEXTS = {"mls": ["mls", "mls_tree", "mls_group"]}
+UNUSED = re.compile(r"reserved|RESERVED|invalid|.*_RESERVED")
 
 
 def numbers(text: str, enum: str) -> dict[str, int]:
@@ -26,10 +43,10 @@ def numbers(text: str, enum: str) -> dict[str, int]:
 
 def named(library: str, enum: str) -> dict[str, int]:
     """The same for callers: mls_public_message of the text is PUBLIC_MESSAGE."""
-    found = {it.removeprefix(f"{library}_").upper(): number for it, number in numbers(library, enum).items()}
-    if not found:
-        raise LookupError(f"the texts of {library} have no numbers of {enum}")
-    return found
+    texts = [found for text in TEXTS.get(library, [library]) if (found := numbers(text, enum))]
+    if len(texts) != 1:
+        raise LookupError(f"{len(texts)} texts of {library} have numbers of {enum}")
+    return {it.removeprefix(f"{library}_").upper(): number for it, number in texts[0].items()}
 
 
 def snake(enum: str) -> str:

@@ -1,6 +1,6 @@
-/* border: lets standard input through, if it is one MLSMessage, and says else why it isn't.
+/* border: copies standard input to standard output, if it is one MLSMessage; otherwise prints why not.
  *
- * Put such a check before the parser that is there: what comes through is the canonical encoding of a message. */
+ * Put such a check before your existing parser: what comes through is the canonical encoding of a message. */
 #include <inttypes.h>
 #include <stdio.h>
 #include <tls_codec/mls.h>
@@ -12,7 +12,7 @@ int main(void) {
     fprintf(stderr, "%zu bytes or more, or the read failed\n", sizeof bytes);
     return 1;
   }
-  tls_codec_outcome outcome = tls_codec_whole(mls_message_validate(bytes, length), length);
+  tls_codec_outcome outcome = mls_message_validate(bytes, length);
   if (outcome.status != TLS_CODEC_ACCEPTED) {
     fputs(tls_codec_status_name(outcome.status), stderr);
     if (outcome.status == TLS_CODEC_UNKNOWN_VALUE) fprintf(stderr, " (%" PRIu64 ")", outcome.detail);

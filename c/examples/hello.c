@@ -30,10 +30,10 @@ static int append_fragment(uint8_t *messages, size_t *size) {
   uint8_t record[HEADER + FRAGMENT];
   tls13_tls_plaintext_fields fields;
   if (!read_all(record, HEADER)) return 0;
-  size_t length = (size_t)record[3] << 8 | record[4];
+  size_t length = tls_codec_u16(record + 3);
   if (!length || length > FRAGMENT || !read_all(record + HEADER, length)) return 0;
   if (tls13_tls_plaintext_locate(record, HEADER + length, &fields).status != TLS_CODEC_ACCEPTED) return 0;
-  if (record[fields.kind.offset] != TLS13_CONTENT_TYPE_HANDSHAKE || length > MOST - *size) return 0;
+  if (record[fields.type.offset] != TLS13_CONTENT_TYPE_HANDSHAKE || length > MOST - *size) return 0;
   memcpy(messages + *size, record + fields.fragment.offset, fields.fragment.size);
   *size += fields.fragment.size;
   return 1;
@@ -41,7 +41,7 @@ static int append_fragment(uint8_t *messages, size_t *size) {
 
 /* How many bytes the first message has, 0 if its length isn't there yet. */
 static size_t announced(const uint8_t *bytes, size_t size) {
-  return size < 4 ? 0 : 4 + ((size_t)bytes[1] << 16 | (size_t)bytes[2] << 8 | bytes[3]);
+  return size < 4 ? 0 : 4 + (size_t)tls_codec_u24(bytes + 1);
 }
 
 /* The place of the ClientHello in a Handshake, whose body begins with its length of three bytes. */
@@ -58,7 +58,7 @@ static int find_hello(const uint8_t *message, size_t length, tls_codec_span *hel
 static int print_extension(const uint8_t *extension, size_t size) {
   tls_codec_span data;
   if (tls_codec_opaque_u16_locate(extension + 2, size - 2, &data).status != TLS_CODEC_ACCEPTED) return 0;
-  printf("extension %u: %zu bytes\n", (unsigned)extension[0] << 8 | extension[1], data.size);
+  printf("extension %u: %zu bytes\n", tls_codec_u16(extension), data.size);
   return 1;
 }
 

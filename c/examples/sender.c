@@ -1,5 +1,5 @@
-/* sender: the kind of the MLSMessage on standard input; and of a public message the sender, what kind of content it sent, and how many bytes
- * the signature has.
+/* sender: the wire format of the MLSMessage on standard input; and of a public message the sender, the type of its content, and how many
+ * bytes the signature has.
  *
  * A part is located in the span of the part around it. Offsets count from the pointer that the call was given. */
 #include <inttypes.h>
@@ -7,7 +7,7 @@
 #include <tls_codec/lengths.h>
 #include <tls_codec/mls.h>
 
-static const char *const kinds[] = {
+static const char *const wire_formats[] = {
     [MLS_WIRE_FORMAT_PUBLIC_MESSAGE] = "public message",
     [MLS_WIRE_FORMAT_PRIVATE_MESSAGE] = "private message",
     [MLS_WIRE_FORMAT_WELCOME] = "welcome",
@@ -26,15 +26,11 @@ static int rejected(const char *part, tls_codec_outcome outcome) {
   return 1;
 }
 
-static uint32_t number(const uint8_t *bytes) {
-  return (uint32_t)bytes[0] << 24 | (uint32_t)bytes[1] << 16 | (uint32_t)bytes[2] << 8 | bytes[3];
-}
-
 /* A sender has its type, and after it, if it is a member or external, an index. */
 static void print_sender(const uint8_t *sender) {
   switch (sender[0]) {
-  case MLS_SENDER_TYPE_MEMBER: printf("member %" PRIu32 "\n", number(sender + 1)); break;
-  case MLS_SENDER_TYPE_EXTERNAL: printf("external sender %" PRIu32 "\n", number(sender + 1)); break;
+  case MLS_SENDER_TYPE_MEMBER: printf("member %" PRIu32 "\n", tls_codec_u32(sender + 1)); break;
+  case MLS_SENDER_TYPE_EXTERNAL: printf("external sender %" PRIu32 "\n", tls_codec_u32(sender + 1)); break;
   case MLS_SENDER_TYPE_NEW_MEMBER_PROPOSAL: puts("new member, by a proposal"); break;
   case MLS_SENDER_TYPE_NEW_MEMBER_COMMIT: puts("new member, by a commit"); break;
   }
@@ -67,7 +63,7 @@ int main(void) {
   mls_message_fields fields;
   tls_codec_outcome outcome = tls_codec_whole(mls_message_locate(bytes, length, &fields), length);
   if (outcome.status != TLS_CODEC_ACCEPTED) return rejected("message", outcome);
-  uint8_t kind = bytes[fields.wire_format.offset + 1];
-  puts(kinds[kind]);
-  return kind == MLS_WIRE_FORMAT_PUBLIC_MESSAGE ? print_public_message(bytes + fields.message.offset, fields.message.size) : 0;
+  uint16_t wire_format = tls_codec_u16(bytes + fields.wire_format.offset);
+  puts(wire_formats[wire_format]);
+  return wire_format == MLS_WIRE_FORMAT_PUBLIC_MESSAGE ? print_public_message(bytes + fields.message.offset, fields.message.size) : 0;
 }

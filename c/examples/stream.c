@@ -26,7 +26,7 @@ int main(void) {
     more = read_more(bytes + left, sizeof bytes - left);
     if (more > 0) left += (size_t)more;
     size_t from = 0;
-    while ((outcome = tls13_tls_plaintext_validate(bytes + from, left - from)).status == TLS_CODEC_ACCEPTED) {
+    while ((outcome = tls13_tls_plaintext_validate_prefix(bytes + from, left - from)).status == TLS_CODEC_ACCEPTED) {
       printf("%zu\n", outcome.taken);
       from += outcome.taken;
     }

@@ -1,4 +1,5 @@
-// The headers in C++: each in any order, and called.
+// The headers in C++: each in any order, and called, also with NULL for no bytes.
+#include <tls_codec/tls_codec.h>
 #include <tls_codec/lengths.h>
 #include <tls_codec/tls13_check.h>
 #include <tls_codec/mls_check.h>
@@ -10,19 +11,27 @@
 
 int main() {
   const uint8_t alert[] = {1, 0, 0xee};
-  const bool is_alert = tls13_alert_validate(alert, sizeof alert).taken == 2 && tls13_alert_check(alert, sizeof alert).taken == 2;
+  const bool is_alert = tls13_alert_validate_prefix(alert, sizeof alert).taken == 2 && tls13_alert_decode_check(alert, sizeof alert).taken == 2;
   const uint8_t suite[] = {0, 1};
-  const tls_codec_outcome outcome = mls_welcome_validate(suite, sizeof suite);
-  const tls_codec_outcome decoded = mls_welcome_check(suite, sizeof suite);
+  const tls_codec_outcome outcome = mls_welcome_validate_prefix(suite, sizeof suite);
+  const tls_codec_outcome decoded = mls_welcome_decode_check(suite, sizeof suite);
   const tls_codec_outcome none = mls_message_validate(nullptr, 0);
   const uint8_t varint[] = {0x3f, 0xee};
-  const tls_codec_outcome one = tls_codec_varint_validate(varint, sizeof varint);
+  const tls_codec_outcome one = tls_codec_varint_validate_prefix(varint, sizeof varint);
   const uint8_t opaque[] = {0, 2, 7, 8, 0xee};
   tls_codec_span content = {9, 9};
   const bool is_content = tls_codec_opaque_u16_locate(opaque, sizeof opaque, &content).taken == 4 && content.offset == 2 &&
                           content.size == 2;
   const bool is_kept = tls_codec_opaque_v_locate(opaque + 1, 2, &content).status == TLS_CODEC_DECODING_ERROR && content.offset == 2;
-  const bool is_well = is_alert && is_content && is_kept && outcome.status == TLS_CODEC_END_OF_STREAM && outcome.at == 2 && one.taken == 1 &&
+  const bool is_whole = tls13_alert_validate(alert, 2).taken == 2 &&
+                        tls13_alert_validate(alert, sizeof alert).status == TLS_CODEC_TRAILING_DATA && tls_codec_u16(opaque) == 2 &&
+                        tls_codec_varint_value(varint) == 63;
+  tls_codec_span left = {0, 0}, element = {9, 9};
+  const bool is_null_empty = mls_message_decode_check(nullptr, 0).status == TLS_CODEC_END_OF_STREAM &&
+                             tls_codec_opaque_v_locate(nullptr, 0, &content).status == TLS_CODEC_END_OF_STREAM &&
+                             mls_extension_next(nullptr, 0, &left, &element).status == TLS_CODEC_END_OF_STREAM && element.offset == 9;
+  const bool is_well = is_alert && is_whole && is_null_empty && is_content && is_kept &&
+                       outcome.status == TLS_CODEC_END_OF_STREAM && outcome.at == 2 && one.taken == 1 &&
                        decoded.status == TLS_CODEC_END_OF_STREAM && decoded.at == 0 &&
                        none.status == TLS_CODEC_END_OF_STREAM &&
                        tls_codec_whole_status(one, sizeof varint) == TLS_CODEC_TRAILING_DATA &&

@@ -1,4 +1,4 @@
-/* places FILE: what is filled for each row of test_places or lengths.tsv: places of fields, of elements and of contents, and kinds.
+/* places FILE: what is filled for each row of test_places or lengths.tsv: places of fields, of elements and of contents, and wire formats.
  *
  * A row has a function's name, hex or `-`, what the last call is to say, as `STATUS TAKEN AT DETAIL`, and what it is to fill, or `-`. The
  * bytes of `NAME_next` are those of a list after its length; each of their bits is turned in its turn. What is rejected fills nothing. */
@@ -74,15 +74,15 @@ static int is_sound_with_each_bit_turned(next *next, uint8_t *bytes, size_t leng
 static int call(const char *name, uint8_t *bytes, size_t length, struct answer *answer) {
   const struct list *list = find(name);
   if (list) return go_over(list->next, bytes, length, answer) && is_sound_with_each_bit_turned(list->next, bytes, length);
-  if (strcmp(name, "mls_message_kind") == 0) {
-    uint16_t kind = 77;
-    answer->outcome = mls_message_kind(bytes, length, &kind);
-    if (answer->outcome.status != TLS_CODEC_ACCEPTED) return kind == 77;
-    sprintf(answer->filled, "%d", kind);
+  if (strcmp(name, "mls_message_wire_format") == 0) {
+    uint16_t wire_format = 77;
+    answer->outcome = mls_message_wire_format(bytes, length, &wire_format);
+    if (answer->outcome.status != TLS_CODEC_ACCEPTED) return wire_format == 77;
+    sprintf(answer->filled, "%d", wire_format);
     return 1;
   }
-  if (strcmp(name, "tls_codec_varint_validate") == 0) {
-    answer->outcome = tls_codec_varint_validate(bytes, length);
+  if (strcmp(name, "tls_codec_varint_validate_prefix") == 0) {
+    answer->outcome = tls_codec_varint_validate_prefix(bytes, length);
     return 1;
   }
 #define LOCATED(message, fields)                                                                \

@@ -60,17 +60,24 @@ static int are_in(const struct located *it, size_t taken) {
 /* Whether the decoder says the same, but for the place. */
 static int is_decoded_alike(const struct message *it, tls_codec_outcome outcome, const uint8_t *bytes, size_t length) {
   outcome.at = 0;
-  return is_same(it->check(bytes, length), outcome);
+  return is_same(it->decode_check(bytes, length), outcome);
+}
+
+/* Whether the call that wants all of the bytes says the same, or that some are left. */
+static int is_whole_alike(const struct message *it, tls_codec_outcome outcome, const uint8_t *bytes, size_t length) {
+  tls_codec_outcome whole = it->validate(bytes, length);
+  if (outcome.status != TLS_CODEC_ACCEPTED || outcome.taken == length) return is_same(whole, outcome);
+  return whole.status == TLS_CODEC_TRAILING_DATA && !whole.taken && whole.at == outcome.taken && !whole.detail;
 }
 
 /* What has to be so of any bytes. */
 static int is_sound(const struct message *it, const uint8_t *bytes, size_t length) {
-  tls_codec_outcome outcome = it->validate(bytes, length);
+  tls_codec_outcome outcome = it->validate_prefix(bytes, length);
   struct located found = locate(it->name, bytes, length);
   int is_accepted = outcome.status == TLS_CODEC_ACCEPTED;
   int is_well = is_accepted ? outcome.taken <= length && !outcome.at && !outcome.detail
                             : !outcome.taken && outcome.at <= length && outcome.status < TLS_CODEC_OUT_OF_MEMORY;
-  is_well &= is_decoded_alike(it, outcome, bytes, length);
+  is_well &= is_decoded_alike(it, outcome, bytes, length) && is_whole_alike(it, outcome, bytes, length);
   if (!found.count) return is_well;
   return is_well && is_same(outcome, found.outcome) && (is_accepted ? are_in(&found, outcome.taken) : is_kept(&found));
 }
@@ -122,8 +129,8 @@ int main(int count, char **words) {
     size_t length;
     uint8_t *bytes = bytes_of(digits, &length);
     rows++;
-    int is_well = is_as_expected(name, "validator", it->validate(bytes, length), validated);
-    is_well &= !decoded || is_as_expected(name, "decoder", it->check(bytes, length), decoded);
+    int is_well = is_as_expected(name, "validator", it->validate_prefix(bytes, length), validated);
+    is_well &= !decoded || is_as_expected(name, "decoder", it->decode_check(bytes, length), decoded);
     is_well &= !decoded || are_placed(it, bytes, length, fields ? fields : "");
     failed += !(is_sound_with_each_bit_turned(it, bytes, length) && is_well);
     free(bytes);

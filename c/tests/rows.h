@@ -6,21 +6,19 @@
 #include <stdio.h>
 #include <stdlib.h>
 #include <string.h>
-#include <tls_codec/lengths.h>
-#include <tls_codec/mls.h>
 #include <tls_codec/mls_check.h>
-#include <tls_codec/tls13.h>
 #include <tls_codec/tls13_check.h>
+#include <tls_codec/tls_codec.h>
 
 typedef tls_codec_outcome message_call(const uint8_t *bytes, size_t length);
 
 struct message {
   const char *name;
-  message_call *validate, *check;
+  message_call *validate_prefix, *validate, *decode_check;
 };
 
 static const struct message messages[] = {
-#define MESSAGE(name) {#name, name##_validate, name##_check},
+#define MESSAGE(name) {#name, name##_validate_prefix, name##_validate, name##_decode_check},
 #include "exports.inc"
 #undef MESSAGE
 };

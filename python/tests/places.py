@@ -6,22 +6,21 @@ import sys
 
 sys.dont_write_bytecode = True
 sys.path.insert(0, str(pathlib.Path(__file__).resolve().parent.parent))
-from tls_codec import Codec, Rejected
+from tls_codec import Rejected, Validators
 from tls_codec_exports import MlsWireFormat, Tls13HandshakeType
 
 
-def found(codec: Codec, name: str, data: bytes) -> tuple[list[bytes] | int, tuple[int, int, int]]:
+def found(validators: Validators, name: str, data: bytes) -> tuple[list[bytes] | int, tuple[int, int, int]]:
     """What is found, and the numbers of what is rejected after it."""
-    call, _, kind = name.rpartition("_")
     parts: list[bytes] = []
     try:
-        if kind == "kind":
-            return codec.message_kind(data), (0, 0, 0)
-        if kind == "locate":
-            return list(codec.fields(call, data).values()), (0, 0, 0)
-        if kind == "validate":
-            return [codec.split(call, data)[0]], (0, 0, 0)
-        for element in codec.elements(call, data):
+        if name == "mls_message_wire_format":
+            return validators.message_wire_format(data), (0, 0, 0)
+        if name.endswith("_locate"):
+            return list(validators.fields(name.removesuffix("_locate"), data).values()), (0, 0, 0)
+        if name.endswith("_validate_prefix"):
+            return [validators.split(name.removesuffix("_validate_prefix"), data)[0]], (0, 0, 0)
+        for element in validators.elements(name.removesuffix("_next"), data):
             parts.append(element)
         return parts, (0, 0, 0)
     except Rejected as rejected:
@@ -31,9 +30,9 @@ def found(codec: Codec, name: str, data: bytes) -> tuple[list[bytes] | int, tupl
 def wanted(name: str, data: bytes, expected: str, filled: str) -> tuple[list[bytes] | int, tuple[int, int, int]]:
     """The same as the row has it: of an element that is rejected its place is behind those before it. A validator finds what it takes."""
     status, taken, at, detail = map(int, expected.split())
-    if name == "mls_message_kind" and not status:
+    if name == "mls_message_wire_format" and not status:
         return int(filled), (0, 0, 0)
-    if name.endswith("_validate") and not status:
+    if name.endswith("_validate_prefix") and not status:
         return [data[:taken]], (0, 0, 0)
     places = [tuple(map(int, it.split("+"))) for it in filled.split() if it != "-"]
     if name.endswith("_next"):
@@ -42,22 +41,22 @@ def wanted(name: str, data: bytes, expected: str, filled: str) -> tuple[list[byt
     return [data[offset : offset + size] for offset, size in places], (status, at, detail) if is_rejected else (0, 0, 0)
 
 
-def are_kinds_named(codec: Codec) -> bool:
-    """Whether a private message and a key update have their kinds."""
+def are_numbers_named(validators: Validators) -> bool:
+    """Whether the wire format of a private message and the type of a key update have their names."""
     message = bytes.fromhex("0001000201fa0000000000000007010001a102a2a3")
-    handshake = codec.fields("tls13_handshake", bytes([24, 0, 0, 1, 1]))
-    is_private = codec.message_kind(message) is MlsWireFormat.PRIVATE_MESSAGE
+    handshake = validators.fields("tls13_handshake", bytes([24, 0, 0, 1, 1]))
+    is_private = validators.message_wire_format(message) is MlsWireFormat.PRIVATE_MESSAGE
     return is_private and handshake["msg_type"] == bytes([Tls13HandshakeType.KEY_UPDATE])
 
 
 def main() -> int:
-    codec = Codec(sys.argv[1])
-    failed = [are_kinds_named(codec)].count(False)
+    validators = Validators(sys.argv[1])
+    failed = [are_numbers_named(validators)].count(False)
     with open(sys.argv[2], encoding="utf-8") as file:
         rows = [line.rstrip("\n").split("\t") for line in file]
     for name, digits, expected, filled in rows:
         data = b"" if digits == "-" else bytes.fromhex(digits)
-        answer = found(codec, name, data)
+        answer = found(validators, name, data)
         if answer != wanted(name, data, expected, filled):
             failed += 1
             print(f"{name} {digits}: {answer}, and not {expected}, {filled}")

@@ -6,10 +6,15 @@ import sys
 
 sys.dont_write_bytecode = True
 sys.path.insert(0, str(pathlib.Path(__file__).resolve().parent.parent))
-from tls_codec import Codec, Rejected
-from tls_codec_exports import FIELDS
+from tls_codec import Rejected, Span, Validators
+from tls_codec_exports import FIELDS, WITH_LENGTH
 
 Numbers = tuple[int, int, int, int]
+# The lists among the fields, and the calls that find their elements.
+LISTS = {
+    "mls": {it: "tls_codec_opaque_v_locate" for it in ("extensions", "proposals", "psks", "secrets")},
+    "tls13": {it: "tls_codec_opaque_u16_locate" for it in ("extensions", "cipher_suites")},
+}
 
 
 def numbers(rejected: Rejected) -> Numbers:
@@ -17,84 +22,93 @@ def numbers(rejected: Rejected) -> Numbers:
     return rejected.status, 0, rejected.at, rejected.detail
 
 
-def validated(codec: Codec, name: str, data: bytes) -> Numbers:
+def validated(validators: Validators, name: str, data: bytes) -> Numbers:
     """What the validator says."""
     try:
-        return 0, len(codec.split(name, data)[0]), 0, 0
+        return 0, len(validators.split(name, data)[0]), 0, 0
     except Rejected as rejected:
         return numbers(rejected)
 
 
-def decoded(codec: Codec, name: str, data: bytes) -> Numbers:
+def decoded(validators: Validators, name: str, data: bytes) -> Numbers:
     """What the decoder says."""
-    outcome = codec.outcome(f"{name}_check", data)
+    outcome = validators.outcome(f"{name}_decode_check", data)
     return outcome.status, outcome.taken, outcome.at, outcome.detail
 
 
-def fields(codec: Codec, name: str, data: bytes) -> list[bytes] | Numbers:
+def fields(validators: Validators, name: str, data: bytes) -> list[bytes] | Numbers:
     """The fields of a message in their order, or what is rejected."""
     try:
-        return list(codec.fields(name, data).values())
+        return list(validators.fields(name, data).values())
     except Rejected as rejected:
         return numbers(rejected)
 
 
-def are_placed(codec: Codec, name: str, data: bytes, columns: list[str]) -> bool:
+def are_placed(validators: Validators, name: str, data: bytes, columns: list[str]) -> bool:
     """Whether the fields are where a row of `test_outcome` has them, or are rejected as the message is."""
     expected: Numbers = tuple(map(int, columns[2].split()))
     if name not in FIELDS or len(columns) == 3:
         return len(columns) < 5
     places = [tuple(map(int, it.split("+"))) for it in " ".join(columns[4:]).split()]
-    return fields(codec, name, data) == (expected if expected[0] else [data[offset : offset + size] for offset, size in places])
+    return fields(validators, name, data) == (expected if expected[0] else [data[offset : offset + size] for offset, size in places])
 
 
-def is_as_expected(codec: Codec, columns: list[str]) -> bool:
+def have_lengths(validators: Validators, name: str, data: bytes) -> bool:
+    """Whether the lists among the fields of an accepted message have their lengths, as WITH_LENGTH says."""
+    lists = LISTS[name.partition("_")[0]]
+    found = {it: value for it, value in validators.fields(name, data).items() if it in lists} if name in FIELDS else {}
+    taken = {it: validators.outcome(lists[it], value, Span()).taken for it, value in found.items()}
+    return all(taken[it] == len(value) and it in WITH_LENGTH[name] for it, value in found.items())
+
+
+def is_as_expected(validators: Validators, columns: list[str]) -> bool:
     """Whether the calls answer a row. The decoder says the same as the validator, but for the place."""
     name, data = columns[0], b"" if columns[1] == "-" else bytes.fromhex(columns[1])
     status, taken, at, detail = map(int, columns[2].split())
-    found, by_decoder = validated(codec, name, data), decoded(codec, name, data)
-    if found == (status, taken, at, detail) and by_decoder == (status, taken, 0, detail) and are_placed(codec, name, data, columns):
+    found, by_decoder = validated(validators, name, data), decoded(validators, name, data)
+    is_answered = found == (status, taken, at, detail) and by_decoder == (status, taken, 0, detail)
+    if is_answered and are_placed(validators, name, data, columns) and (status or have_lengths(validators, name, data)):
         return True
     print(f"{name} {columns[1]}: {found}, by the decoder {by_decoder}, and not {columns[2:]}, or its fields are elsewhere")
     return False
 
 
-def rejection(codec: Codec, name: str, data: bytes) -> str:
+def rejection(validators: Validators, name: str, data: bytes) -> str:
     """Why bytes aren't one message."""
     try:
-        return f"accepted: {codec.exactly(name, data)!r}"
+        return f"accepted: {validators.whole(name, data)!r}"
     except Rejected as rejected:
         return str(rejected)
 
 
-def are_rejections_worded(codec: Codec) -> bool:
-    left, unknown = rejection(codec, "tls13_alert", b"\1\0\7"), rejection(codec, "tls13_key_update", b"\xc0")
+def are_rejections_worded(validators: Validators) -> bool:
+    left, unknown = rejection(validators, "tls13_alert", b"\1\0\7"), rejection(validators, "tls13_key_update", b"\xc0")
     return (left, unknown) == ("TrailingData at byte 2", "UnknownValue (192) at byte 0")
 
 
-def are_buffers_taken(codec: Codec) -> bool:
+def are_buffers_taken(validators: Validators) -> bool:
     """Whether the message in a buffer is found, and what is no buffer is refused."""
     alert = bytearray(b"\1\0")
-    is_taken = codec.exactly("tls13_alert", alert) == codec.exactly("tls13_alert", memoryview(alert)) == bytes(alert)
+    is_taken = validators.whole("tls13_alert", alert) == validators.whole("tls13_alert", memoryview(alert)) == bytes(alert)
     try:
-        codec.exactly("tls13_alert", 2)
+        validators.whole("tls13_alert", 2)
     except TypeError:
         return is_taken
     return False
 
 
-def are_fields_named(codec: Codec) -> bool:
+def are_fields_named(validators: Validators) -> bool:
     """Whether fields have the names that the headers give them."""
-    alert, opaque = codec.fields("tls13_alert", b"\1\0"), codec.fields("tls_codec_opaque_v", b"\2\7\x08\x09")
+    alert, opaque = validators.fields("tls13_alert", b"\1\0"), validators.fields("tls_codec_opaque_v", b"\2\7\x08\x09")
     return (alert, opaque) == ({"level": b"\1", "description": b"\0"}, {"content": b"\7\x08"})
 
 
 def main() -> int:
-    codec = Codec(sys.argv[1])
+    validators = Validators(sys.argv[1])
     with open(sys.argv[2], encoding="utf-8") as file:
         rows = [line.rstrip("\n").split("\t") for line in file]
-    failed = [is_as_expected(codec, it) for it in rows].count(False)
-    failed += [are_rejections_worded(codec), are_buffers_taken(codec), are_fields_named(codec)].count(False)
+    failed = [is_as_expected(validators, it) for it in rows].count(False)
+    failed += [are_rejections_worded(validators), are_buffers_taken(validators), are_fields_named(validators)].count(False)
     print(f"{len(rows)} rows, {failed} failed")
     return 1 if failed or len(rows) < 100 else 0
 

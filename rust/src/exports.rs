@@ -22,7 +22,7 @@ pub enum Error {
     InvalidWriteLength,
     /// No call returns it. Status 4.
     InvalidInput,
-    /// A content after a variable-length length isn't all there, an element passes the end of its list, or the byte before an optional field is neither 0 nor 1. Status 5.
+    /// One of three, which aren't told apart: the content after a variable-length length isn't all there; an element passes the end of its list; the byte before an optional field is neither 0 nor 1. Status 5.
     DecodingError,
     /// The bytes, or the body of a Handshake, end before a field does. Status 6.
     EndOfStream,
@@ -73,7 +73,7 @@ pub mod lengths {
 
         #[link(name = "tls_codec_c", kind = "static")]
         unsafe extern "C" {
-            pub fn tls_codec_varint_validate(bytes: *const u8, length: usize) -> Outcome;
+            pub fn tls_codec_varint_validate_prefix(bytes: *const u8, length: usize) -> Outcome;
             pub fn tls_codec_opaque_v_locate(bytes: *const u8, length: usize, content: &mut Span) -> Outcome;
             pub fn tls_codec_opaque_u8_locate(bytes: *const u8, length: usize, content: &mut Span) -> Outcome;
             pub fn tls_codec_opaque_u16_locate(bytes: *const u8, length: usize, content: &mut Span) -> Outcome;
@@ -83,7 +83,7 @@ pub mod lengths {
 
     /// A variable-length integer (RFC 9000, section 16) in its least width: returns the bytes of the one that `bytes` begin with, and the rest.
     pub fn varint(bytes: &[u8]) -> Result<(&[u8], &[u8]), Rejected> {
-        split(bytes, foreign::tls_codec_varint_validate)
+        split(bytes, foreign::tls_codec_varint_validate_prefix)
     }
 
     /// `opaque content<V>` (RFC 9420, section 2.1.2), and where its content is. A list `<V>` has its elements there. Returns that content, and the rest of the bytes.
@@ -254,18 +254,18 @@ pub mod tls13 {
             pub fn tls13_tls_plaintext_locate(bytes: *const u8, length: usize, fields: &mut TLSPlaintextFields) -> Outcome;
             pub fn tls13_tls_ciphertext_locate(bytes: *const u8, length: usize, fields: &mut TLSCiphertextFields) -> Outcome;
             pub fn tls13_alert_locate(bytes: *const u8, length: usize, fields: &mut AlertFields) -> Outcome;
-            pub fn tls13_tls_plaintext_validate(bytes: *const u8, length: usize) -> Outcome;
-            pub fn tls13_tls_ciphertext_validate(bytes: *const u8, length: usize) -> Outcome;
-            pub fn tls13_alert_validate(bytes: *const u8, length: usize) -> Outcome;
-            pub fn tls13_handshake_validate(bytes: *const u8, length: usize) -> Outcome;
-            pub fn tls13_client_hello_validate(bytes: *const u8, length: usize) -> Outcome;
-            pub fn tls13_server_hello_validate(bytes: *const u8, length: usize) -> Outcome;
-            pub fn tls13_encrypted_extensions_validate(bytes: *const u8, length: usize) -> Outcome;
-            pub fn tls13_certificate_request_validate(bytes: *const u8, length: usize) -> Outcome;
-            pub fn tls13_certificate_validate(bytes: *const u8, length: usize) -> Outcome;
-            pub fn tls13_certificate_verify_validate(bytes: *const u8, length: usize) -> Outcome;
-            pub fn tls13_new_session_ticket_validate(bytes: *const u8, length: usize) -> Outcome;
-            pub fn tls13_key_update_validate(bytes: *const u8, length: usize) -> Outcome;
+            pub fn tls13_tls_plaintext_validate_prefix(bytes: *const u8, length: usize) -> Outcome;
+            pub fn tls13_tls_ciphertext_validate_prefix(bytes: *const u8, length: usize) -> Outcome;
+            pub fn tls13_alert_validate_prefix(bytes: *const u8, length: usize) -> Outcome;
+            pub fn tls13_handshake_validate_prefix(bytes: *const u8, length: usize) -> Outcome;
+            pub fn tls13_client_hello_validate_prefix(bytes: *const u8, length: usize) -> Outcome;
+            pub fn tls13_server_hello_validate_prefix(bytes: *const u8, length: usize) -> Outcome;
+            pub fn tls13_encrypted_extensions_validate_prefix(bytes: *const u8, length: usize) -> Outcome;
+            pub fn tls13_certificate_request_validate_prefix(bytes: *const u8, length: usize) -> Outcome;
+            pub fn tls13_certificate_validate_prefix(bytes: *const u8, length: usize) -> Outcome;
+            pub fn tls13_certificate_verify_validate_prefix(bytes: *const u8, length: usize) -> Outcome;
+            pub fn tls13_new_session_ticket_validate_prefix(bytes: *const u8, length: usize) -> Outcome;
+            pub fn tls13_key_update_validate_prefix(bytes: *const u8, length: usize) -> Outcome;
         }
     }
 
@@ -309,64 +309,178 @@ pub mod tls13 {
         pub const HEARTBEAT: u8 = 24;
     }
 
+    /// The numbers of `AlertLevel` that have names.
+    pub mod alert_level {
+        /// The number of `warning`.
+        pub const WARNING: u8 = 1;
+        /// The number of `fatal`.
+        pub const FATAL: u8 = 2;
+    }
+
+    /// The numbers of `AlertDescription` that have names.
+    pub mod alert_description {
+        /// The number of `close_notify`.
+        pub const CLOSE_NOTIFY: u8 = 0;
+        /// The number of `unexpected_message`.
+        pub const UNEXPECTED_MESSAGE: u8 = 10;
+        /// The number of `bad_record_mac`.
+        pub const BAD_RECORD_MAC: u8 = 20;
+        /// The number of `record_overflow`.
+        pub const RECORD_OVERFLOW: u8 = 22;
+        /// The number of `handshake_failure`.
+        pub const HANDSHAKE_FAILURE: u8 = 40;
+        /// The number of `bad_certificate`.
+        pub const BAD_CERTIFICATE: u8 = 42;
+        /// The number of `unsupported_certificate`.
+        pub const UNSUPPORTED_CERTIFICATE: u8 = 43;
+        /// The number of `certificate_revoked`.
+        pub const CERTIFICATE_REVOKED: u8 = 44;
+        /// The number of `certificate_expired`.
+        pub const CERTIFICATE_EXPIRED: u8 = 45;
+        /// The number of `certificate_unknown`.
+        pub const CERTIFICATE_UNKNOWN: u8 = 46;
+        /// The number of `illegal_parameter`.
+        pub const ILLEGAL_PARAMETER: u8 = 47;
+        /// The number of `unknown_ca`.
+        pub const UNKNOWN_CA: u8 = 48;
+        /// The number of `access_denied`.
+        pub const ACCESS_DENIED: u8 = 49;
+        /// The number of `decode_error`.
+        pub const DECODE_ERROR: u8 = 50;
+        /// The number of `decrypt_error`.
+        pub const DECRYPT_ERROR: u8 = 51;
+        /// The number of `protocol_version`.
+        pub const PROTOCOL_VERSION: u8 = 70;
+        /// The number of `insufficient_security`.
+        pub const INSUFFICIENT_SECURITY: u8 = 71;
+        /// The number of `internal_error`.
+        pub const INTERNAL_ERROR: u8 = 80;
+        /// The number of `inappropriate_fallback`.
+        pub const INAPPROPRIATE_FALLBACK: u8 = 86;
+        /// The number of `user_canceled`.
+        pub const USER_CANCELED: u8 = 90;
+        /// The number of `missing_extension`.
+        pub const MISSING_EXTENSION: u8 = 109;
+        /// The number of `unsupported_extension`.
+        pub const UNSUPPORTED_EXTENSION: u8 = 110;
+        /// The number of `unrecognized_name`.
+        pub const UNRECOGNIZED_NAME: u8 = 112;
+        /// The number of `bad_certificate_status_response`.
+        pub const BAD_CERTIFICATE_STATUS_RESPONSE: u8 = 113;
+        /// The number of `unknown_psk_identity`.
+        pub const UNKNOWN_PSK_IDENTITY: u8 = 115;
+        /// The number of `certificate_required`.
+        pub const CERTIFICATE_REQUIRED: u8 = 116;
+        /// The number of `no_application_protocol`.
+        pub const NO_APPLICATION_PROTOCOL: u8 = 120;
+    }
+
+    /// The numbers of `ExtensionType` that have names.
+    pub mod extension_type {
+        /// The number of `server_name`.
+        pub const SERVER_NAME: u16 = 0;
+        /// The number of `max_fragment_length`.
+        pub const MAX_FRAGMENT_LENGTH: u16 = 1;
+        /// The number of `status_request`.
+        pub const STATUS_REQUEST: u16 = 5;
+        /// The number of `supported_groups`.
+        pub const SUPPORTED_GROUPS: u16 = 10;
+        /// The number of `signature_algorithms`.
+        pub const SIGNATURE_ALGORITHMS: u16 = 13;
+        /// The number of `use_srtp`.
+        pub const USE_SRTP: u16 = 14;
+        /// The number of `heartbeat`.
+        pub const HEARTBEAT: u16 = 15;
+        /// The number of `application_layer_protocol_negotiation`.
+        pub const APPLICATION_LAYER_PROTOCOL_NEGOTIATION: u16 = 16;
+        /// The number of `signed_certificate_timestamp`.
+        pub const SIGNED_CERTIFICATE_TIMESTAMP: u16 = 18;
+        /// The number of `client_certificate_type`.
+        pub const CLIENT_CERTIFICATE_TYPE: u16 = 19;
+        /// The number of `server_certificate_type`.
+        pub const SERVER_CERTIFICATE_TYPE: u16 = 20;
+        /// The number of `padding`.
+        pub const PADDING: u16 = 21;
+        /// The number of `pre_shared_key`.
+        pub const PRE_SHARED_KEY: u16 = 41;
+        /// The number of `early_data`.
+        pub const EARLY_DATA: u16 = 42;
+        /// The number of `supported_versions`.
+        pub const SUPPORTED_VERSIONS: u16 = 43;
+        /// The number of `cookie`.
+        pub const COOKIE: u16 = 44;
+        /// The number of `psk_key_exchange_modes`.
+        pub const PSK_KEY_EXCHANGE_MODES: u16 = 45;
+        /// The number of `certificate_authorities`.
+        pub const CERTIFICATE_AUTHORITIES: u16 = 47;
+        /// The number of `oid_filters`.
+        pub const OID_FILTERS: u16 = 48;
+        /// The number of `post_handshake_auth`.
+        pub const POST_HANDSHAKE_AUTH: u16 = 49;
+        /// The number of `signature_algorithms_cert`.
+        pub const SIGNATURE_ALGORITHMS_CERT: u16 = 50;
+        /// The number of `key_share`.
+        pub const KEY_SHARE: u16 = 51;
+    }
+
     /// `TLSPlaintext` (RFC 8446, section 5.1): returns the bytes of the one that `bytes` begin with, and the rest.
     pub fn tls_plaintext(bytes: &[u8]) -> Result<(&[u8], &[u8]), Rejected> {
-        split(bytes, foreign::tls13_tls_plaintext_validate)
+        split(bytes, foreign::tls13_tls_plaintext_validate_prefix)
     }
 
     /// `TLSCiphertext` (RFC 8446, section 5.2): returns the bytes of the one that `bytes` begin with, and the rest.
     pub fn tls_ciphertext(bytes: &[u8]) -> Result<(&[u8], &[u8]), Rejected> {
-        split(bytes, foreign::tls13_tls_ciphertext_validate)
+        split(bytes, foreign::tls13_tls_ciphertext_validate_prefix)
     }
 
     /// `Alert` (RFC 8446, section 6): returns the bytes of the one that `bytes` begin with, and the rest.
     pub fn alert(bytes: &[u8]) -> Result<(&[u8], &[u8]), Rejected> {
-        split(bytes, foreign::tls13_alert_validate)
+        split(bytes, foreign::tls13_alert_validate_prefix)
     }
 
     /// `Handshake` (RFC 8446, section 4): returns the bytes of the one that `bytes` begin with, and the rest.
     pub fn handshake(bytes: &[u8]) -> Result<(&[u8], &[u8]), Rejected> {
-        split(bytes, foreign::tls13_handshake_validate)
+        split(bytes, foreign::tls13_handshake_validate_prefix)
     }
 
     /// `ClientHello` (RFC 8446, section 4.1.2): returns the bytes of the one that `bytes` begin with, and the rest.
     pub fn client_hello(bytes: &[u8]) -> Result<(&[u8], &[u8]), Rejected> {
-        split(bytes, foreign::tls13_client_hello_validate)
+        split(bytes, foreign::tls13_client_hello_validate_prefix)
     }
 
     /// `ServerHello` (RFC 8446, section 4.1.3): returns the bytes of the one that `bytes` begin with, and the rest.
     pub fn server_hello(bytes: &[u8]) -> Result<(&[u8], &[u8]), Rejected> {
-        split(bytes, foreign::tls13_server_hello_validate)
+        split(bytes, foreign::tls13_server_hello_validate_prefix)
     }
 
     /// `EncryptedExtensions` (RFC 8446, section 4.3.1): returns the bytes of the one that `bytes` begin with, and the rest.
     pub fn encrypted_extensions(bytes: &[u8]) -> Result<(&[u8], &[u8]), Rejected> {
-        split(bytes, foreign::tls13_encrypted_extensions_validate)
+        split(bytes, foreign::tls13_encrypted_extensions_validate_prefix)
     }
 
     /// `CertificateRequest` (RFC 8446, section 4.3.2): returns the bytes of the one that `bytes` begin with, and the rest.
     pub fn certificate_request(bytes: &[u8]) -> Result<(&[u8], &[u8]), Rejected> {
-        split(bytes, foreign::tls13_certificate_request_validate)
+        split(bytes, foreign::tls13_certificate_request_validate_prefix)
     }
 
     /// `Certificate` (RFC 8446, section 4.4.2): returns the bytes of the one that `bytes` begin with, and the rest.
     pub fn certificate(bytes: &[u8]) -> Result<(&[u8], &[u8]), Rejected> {
-        split(bytes, foreign::tls13_certificate_validate)
+        split(bytes, foreign::tls13_certificate_validate_prefix)
     }
 
     /// `CertificateVerify` (RFC 8446, section 4.4.3): returns the bytes of the one that `bytes` begin with, and the rest.
     pub fn certificate_verify(bytes: &[u8]) -> Result<(&[u8], &[u8]), Rejected> {
-        split(bytes, foreign::tls13_certificate_verify_validate)
+        split(bytes, foreign::tls13_certificate_verify_validate_prefix)
     }
 
     /// `NewSessionTicket` (RFC 8446, section 4.6.1): returns the bytes of the one that `bytes` begin with, and the rest.
     pub fn new_session_ticket(bytes: &[u8]) -> Result<(&[u8], &[u8]), Rejected> {
-        split(bytes, foreign::tls13_new_session_ticket_validate)
+        split(bytes, foreign::tls13_new_session_ticket_validate_prefix)
     }
 
     /// `KeyUpdate` (RFC 8446, section 4.6.3): returns the bytes of the one that `bytes` begin with, and the rest.
     pub fn key_update(bytes: &[u8]) -> Result<(&[u8], &[u8]), Rejected> {
-        split(bytes, foreign::tls13_key_update_validate)
+        split(bytes, foreign::tls13_key_update_validate_prefix)
     }
 
     /// Where the fields of a `Handshake` are (RFC 8446, section 4).
@@ -374,7 +488,7 @@ pub mod tls13 {
     pub struct HandshakeFields<'a> {
         /// `HandshakeType msg_type;`
         pub msg_type: &'a [u8],
-        /// What its case has, with its length: a `ClientHello`, a `ServerHello`, ..
+        /// What its case has, with its length: a `ClientHello`, a `ServerHello`, ..; the length has three bytes
         pub body: &'a [u8],
     }
 
@@ -682,7 +796,7 @@ pub mod tls13 {
     }
 }
 
-/// Checks whether bytes begin with a message of TLS 1.3: its decoder makes the value and drops it. `OutOfMemory`: memory was refused, and nothing is said about the bytes. No position is reported: `at` is 0.
+/// Checks whether bytes begin with a message of TLS 1.3: its decoder makes the value and drops it. `OutOfMemory`: memory was refused, and nothing is said about the bytes. No position is reported.
 #[cfg(feature = "check")]
 pub mod tls13_check {
     use crate::{Error, decode};
@@ -692,79 +806,79 @@ pub mod tls13_check {
 
         #[link(name = "tls13_check_c", kind = "static")]
         unsafe extern "C" {
-            pub fn tls13_tls_plaintext_check(bytes: *const u8, length: usize) -> Outcome;
-            pub fn tls13_tls_ciphertext_check(bytes: *const u8, length: usize) -> Outcome;
-            pub fn tls13_alert_check(bytes: *const u8, length: usize) -> Outcome;
-            pub fn tls13_handshake_check(bytes: *const u8, length: usize) -> Outcome;
-            pub fn tls13_client_hello_check(bytes: *const u8, length: usize) -> Outcome;
-            pub fn tls13_server_hello_check(bytes: *const u8, length: usize) -> Outcome;
-            pub fn tls13_encrypted_extensions_check(bytes: *const u8, length: usize) -> Outcome;
-            pub fn tls13_certificate_request_check(bytes: *const u8, length: usize) -> Outcome;
-            pub fn tls13_certificate_check(bytes: *const u8, length: usize) -> Outcome;
-            pub fn tls13_certificate_verify_check(bytes: *const u8, length: usize) -> Outcome;
-            pub fn tls13_new_session_ticket_check(bytes: *const u8, length: usize) -> Outcome;
-            pub fn tls13_key_update_check(bytes: *const u8, length: usize) -> Outcome;
+            pub fn tls13_tls_plaintext_decode_check(bytes: *const u8, length: usize) -> Outcome;
+            pub fn tls13_tls_ciphertext_decode_check(bytes: *const u8, length: usize) -> Outcome;
+            pub fn tls13_alert_decode_check(bytes: *const u8, length: usize) -> Outcome;
+            pub fn tls13_handshake_decode_check(bytes: *const u8, length: usize) -> Outcome;
+            pub fn tls13_client_hello_decode_check(bytes: *const u8, length: usize) -> Outcome;
+            pub fn tls13_server_hello_decode_check(bytes: *const u8, length: usize) -> Outcome;
+            pub fn tls13_encrypted_extensions_decode_check(bytes: *const u8, length: usize) -> Outcome;
+            pub fn tls13_certificate_request_decode_check(bytes: *const u8, length: usize) -> Outcome;
+            pub fn tls13_certificate_decode_check(bytes: *const u8, length: usize) -> Outcome;
+            pub fn tls13_certificate_verify_decode_check(bytes: *const u8, length: usize) -> Outcome;
+            pub fn tls13_new_session_ticket_decode_check(bytes: *const u8, length: usize) -> Outcome;
+            pub fn tls13_key_update_decode_check(bytes: *const u8, length: usize) -> Outcome;
         }
     }
 
     /// `TLSPlaintext` (RFC 8446, section 5.1): returns the bytes of the one that `bytes` begin with, and the rest, by the decoder.
     pub fn tls_plaintext(bytes: &[u8]) -> Result<(&[u8], &[u8]), Error> {
-        decode(bytes, foreign::tls13_tls_plaintext_check)
+        decode(bytes, foreign::tls13_tls_plaintext_decode_check)
     }
 
     /// `TLSCiphertext` (RFC 8446, section 5.2): returns the bytes of the one that `bytes` begin with, and the rest, by the decoder.
     pub fn tls_ciphertext(bytes: &[u8]) -> Result<(&[u8], &[u8]), Error> {
-        decode(bytes, foreign::tls13_tls_ciphertext_check)
+        decode(bytes, foreign::tls13_tls_ciphertext_decode_check)
     }
 
     /// `Alert` (RFC 8446, section 6): returns the bytes of the one that `bytes` begin with, and the rest, by the decoder.
     pub fn alert(bytes: &[u8]) -> Result<(&[u8], &[u8]), Error> {
-        decode(bytes, foreign::tls13_alert_check)
+        decode(bytes, foreign::tls13_alert_decode_check)
     }
 
     /// `Handshake` (RFC 8446, section 4): returns the bytes of the one that `bytes` begin with, and the rest, by the decoder.
     pub fn handshake(bytes: &[u8]) -> Result<(&[u8], &[u8]), Error> {
-        decode(bytes, foreign::tls13_handshake_check)
+        decode(bytes, foreign::tls13_handshake_decode_check)
     }
 
     /// `ClientHello` (RFC 8446, section 4.1.2): returns the bytes of the one that `bytes` begin with, and the rest, by the decoder.
     pub fn client_hello(bytes: &[u8]) -> Result<(&[u8], &[u8]), Error> {
-        decode(bytes, foreign::tls13_client_hello_check)
+        decode(bytes, foreign::tls13_client_hello_decode_check)
     }
 
     /// `ServerHello` (RFC 8446, section 4.1.3): returns the bytes of the one that `bytes` begin with, and the rest, by the decoder.
     pub fn server_hello(bytes: &[u8]) -> Result<(&[u8], &[u8]), Error> {
-        decode(bytes, foreign::tls13_server_hello_check)
+        decode(bytes, foreign::tls13_server_hello_decode_check)
     }
 
     /// `EncryptedExtensions` (RFC 8446, section 4.3.1): returns the bytes of the one that `bytes` begin with, and the rest, by the decoder.
     pub fn encrypted_extensions(bytes: &[u8]) -> Result<(&[u8], &[u8]), Error> {
-        decode(bytes, foreign::tls13_encrypted_extensions_check)
+        decode(bytes, foreign::tls13_encrypted_extensions_decode_check)
     }
 
     /// `CertificateRequest` (RFC 8446, section 4.3.2): returns the bytes of the one that `bytes` begin with, and the rest, by the decoder.
     pub fn certificate_request(bytes: &[u8]) -> Result<(&[u8], &[u8]), Error> {
-        decode(bytes, foreign::tls13_certificate_request_check)
+        decode(bytes, foreign::tls13_certificate_request_decode_check)
     }
 
     /// `Certificate` (RFC 8446, section 4.4.2): returns the bytes of the one that `bytes` begin with, and the rest, by the decoder.
     pub fn certificate(bytes: &[u8]) -> Result<(&[u8], &[u8]), Error> {
-        decode(bytes, foreign::tls13_certificate_check)
+        decode(bytes, foreign::tls13_certificate_decode_check)
     }
 
     /// `CertificateVerify` (RFC 8446, section 4.4.3): returns the bytes of the one that `bytes` begin with, and the rest, by the decoder.
     pub fn certificate_verify(bytes: &[u8]) -> Result<(&[u8], &[u8]), Error> {
-        decode(bytes, foreign::tls13_certificate_verify_check)
+        decode(bytes, foreign::tls13_certificate_verify_decode_check)
     }
 
     /// `NewSessionTicket` (RFC 8446, section 4.6.1): returns the bytes of the one that `bytes` begin with, and the rest, by the decoder.
     pub fn new_session_ticket(bytes: &[u8]) -> Result<(&[u8], &[u8]), Error> {
-        decode(bytes, foreign::tls13_new_session_ticket_check)
+        decode(bytes, foreign::tls13_new_session_ticket_decode_check)
     }
 
     /// `KeyUpdate` (RFC 8446, section 4.6.3): returns the bytes of the one that `bytes` begin with, and the rest, by the decoder.
     pub fn key_update(bytes: &[u8]) -> Result<(&[u8], &[u8]), Error> {
-        decode(bytes, foreign::tls13_key_update_check)
+        decode(bytes, foreign::tls13_key_update_decode_check)
     }
 }
 
@@ -929,22 +1043,22 @@ pub mod mls {
             pub fn mls_group_context_locate(bytes: *const u8, length: usize, fields: &mut GroupContextFields) -> Outcome;
             pub fn mls_commit_locate(bytes: *const u8, length: usize, fields: &mut CommitFields) -> Outcome;
             pub fn mls_proposal_locate(bytes: *const u8, length: usize, fields: &mut ProposalFields) -> Outcome;
-            pub fn mls_message_kind(bytes: *const u8, length: usize, kind: &mut u16) -> Outcome;
-            pub fn mls_message_validate(bytes: *const u8, length: usize) -> Outcome;
-            pub fn mls_public_message_validate(bytes: *const u8, length: usize) -> Outcome;
-            pub fn mls_private_message_validate(bytes: *const u8, length: usize) -> Outcome;
-            pub fn mls_framed_content_validate(bytes: *const u8, length: usize) -> Outcome;
-            pub fn mls_sender_data_validate(bytes: *const u8, length: usize) -> Outcome;
-            pub fn mls_welcome_validate(bytes: *const u8, length: usize) -> Outcome;
-            pub fn mls_group_secrets_validate(bytes: *const u8, length: usize) -> Outcome;
-            pub fn mls_group_info_validate(bytes: *const u8, length: usize) -> Outcome;
-            pub fn mls_group_context_validate(bytes: *const u8, length: usize) -> Outcome;
-            pub fn mls_commit_validate(bytes: *const u8, length: usize) -> Outcome;
-            pub fn mls_proposal_validate(bytes: *const u8, length: usize) -> Outcome;
-            pub fn mls_key_package_validate(bytes: *const u8, length: usize) -> Outcome;
-            pub fn mls_leaf_node_validate(bytes: *const u8, length: usize) -> Outcome;
-            pub fn mls_ratchet_tree_validate(bytes: *const u8, length: usize) -> Outcome;
+            pub fn mls_message_validate_prefix(bytes: *const u8, length: usize) -> Outcome;
+            pub fn mls_public_message_validate_prefix(bytes: *const u8, length: usize) -> Outcome;
+            pub fn mls_private_message_validate_prefix(bytes: *const u8, length: usize) -> Outcome;
+            pub fn mls_framed_content_validate_prefix(bytes: *const u8, length: usize) -> Outcome;
+            pub fn mls_sender_data_validate_prefix(bytes: *const u8, length: usize) -> Outcome;
+            pub fn mls_welcome_validate_prefix(bytes: *const u8, length: usize) -> Outcome;
+            pub fn mls_group_secrets_validate_prefix(bytes: *const u8, length: usize) -> Outcome;
+            pub fn mls_group_info_validate_prefix(bytes: *const u8, length: usize) -> Outcome;
+            pub fn mls_group_context_validate_prefix(bytes: *const u8, length: usize) -> Outcome;
+            pub fn mls_commit_validate_prefix(bytes: *const u8, length: usize) -> Outcome;
+            pub fn mls_proposal_validate_prefix(bytes: *const u8, length: usize) -> Outcome;
+            pub fn mls_key_package_validate_prefix(bytes: *const u8, length: usize) -> Outcome;
+            pub fn mls_leaf_node_validate_prefix(bytes: *const u8, length: usize) -> Outcome;
+            pub fn mls_ratchet_tree_validate_prefix(bytes: *const u8, length: usize) -> Outcome;
             pub fn mls_framed_content_tbs_encode(wire_format: u16, content: *const u8, content_length: usize, context: *const u8, context_length: usize, out: *mut u8, out_length: usize) -> Outcome;
+            pub fn mls_message_wire_format(bytes: *const u8, length: usize, wire_format: &mut u16) -> Outcome;
         }
     }
 
@@ -984,74 +1098,132 @@ pub mod mls {
         pub const COMMIT: u8 = 3;
     }
 
+    /// The numbers of `ProposalType` that have names.
+    pub mod proposal_type {
+        /// The number of `add`.
+        pub const ADD: u16 = 1;
+        /// The number of `update`.
+        pub const UPDATE: u16 = 2;
+        /// The number of `remove`.
+        pub const REMOVE: u16 = 3;
+        /// The number of `psk`.
+        pub const PSK: u16 = 4;
+        /// The number of `reinit`.
+        pub const REINIT: u16 = 5;
+        /// The number of `external_init`.
+        pub const EXTERNAL_INIT: u16 = 6;
+        /// The number of `group_context_extensions`.
+        pub const GROUP_CONTEXT_EXTENSIONS: u16 = 7;
+    }
+
+    /// The numbers of `ProposalOrRefType` that have names.
+    pub mod proposal_or_ref_type {
+        /// The number of `proposal`.
+        pub const PROPOSAL: u8 = 1;
+        /// The number of `reference`.
+        pub const REFERENCE: u8 = 2;
+    }
+
+    /// The numbers of `LeafNodeSource` that have names.
+    pub mod leaf_node_source {
+        /// The number of `key_package`.
+        pub const KEY_PACKAGE: u8 = 1;
+        /// The number of `update`.
+        pub const UPDATE: u8 = 2;
+        /// The number of `commit`.
+        pub const COMMIT: u8 = 3;
+    }
+
+    /// The numbers of `CredentialType` that have names.
+    pub mod credential_type {
+        /// The number of `basic`.
+        pub const BASIC: u16 = 1;
+        /// The number of `x509`.
+        pub const X509: u16 = 2;
+    }
+
+    /// The numbers of `ExtensionType` that have names.
+    pub mod extension_type {
+        /// The number of `application_id`.
+        pub const APPLICATION_ID: u16 = 1;
+        /// The number of `ratchet_tree`.
+        pub const RATCHET_TREE: u16 = 2;
+        /// The number of `required_capabilities`.
+        pub const REQUIRED_CAPABILITIES: u16 = 3;
+        /// The number of `external_pub`.
+        pub const EXTERNAL_PUB: u16 = 4;
+        /// The number of `external_senders`.
+        pub const EXTERNAL_SENDERS: u16 = 5;
+    }
+
     /// `MLSMessage` (RFC 9420, section 6): returns the bytes of the one that `bytes` begin with, and the rest.
     pub fn message(bytes: &[u8]) -> Result<(&[u8], &[u8]), Rejected> {
-        split(bytes, foreign::mls_message_validate)
+        split(bytes, foreign::mls_message_validate_prefix)
     }
 
     /// `PublicMessage` (RFC 9420, section 6.2): returns the bytes of the one that `bytes` begin with, and the rest.
     pub fn public_message(bytes: &[u8]) -> Result<(&[u8], &[u8]), Rejected> {
-        split(bytes, foreign::mls_public_message_validate)
+        split(bytes, foreign::mls_public_message_validate_prefix)
     }
 
     /// `PrivateMessage` (RFC 9420, section 6.3): returns the bytes of the one that `bytes` begin with, and the rest.
     pub fn private_message(bytes: &[u8]) -> Result<(&[u8], &[u8]), Rejected> {
-        split(bytes, foreign::mls_private_message_validate)
+        split(bytes, foreign::mls_private_message_validate_prefix)
     }
 
     /// `FramedContent` (RFC 9420, section 6): returns the bytes of the one that `bytes` begin with, and the rest.
     pub fn framed_content(bytes: &[u8]) -> Result<(&[u8], &[u8]), Rejected> {
-        split(bytes, foreign::mls_framed_content_validate)
+        split(bytes, foreign::mls_framed_content_validate_prefix)
     }
 
     /// `SenderData` (RFC 9420, section 6.3.2): returns the bytes of the one that `bytes` begin with, and the rest.
     pub fn sender_data(bytes: &[u8]) -> Result<(&[u8], &[u8]), Rejected> {
-        split(bytes, foreign::mls_sender_data_validate)
+        split(bytes, foreign::mls_sender_data_validate_prefix)
     }
 
     /// `Welcome` (RFC 9420, section 12.4.3.1): returns the bytes of the one that `bytes` begin with, and the rest.
     pub fn welcome(bytes: &[u8]) -> Result<(&[u8], &[u8]), Rejected> {
-        split(bytes, foreign::mls_welcome_validate)
+        split(bytes, foreign::mls_welcome_validate_prefix)
     }
 
     /// `GroupSecrets` (RFC 9420, section 12.4.3.1): returns the bytes of the one that `bytes` begin with, and the rest.
     pub fn group_secrets(bytes: &[u8]) -> Result<(&[u8], &[u8]), Rejected> {
-        split(bytes, foreign::mls_group_secrets_validate)
+        split(bytes, foreign::mls_group_secrets_validate_prefix)
     }
 
     /// `GroupInfo` (RFC 9420, section 12.4.3): returns the bytes of the one that `bytes` begin with, and the rest.
     pub fn group_info(bytes: &[u8]) -> Result<(&[u8], &[u8]), Rejected> {
-        split(bytes, foreign::mls_group_info_validate)
+        split(bytes, foreign::mls_group_info_validate_prefix)
     }
 
     /// `GroupContext` (RFC 9420, section 8.1): returns the bytes of the one that `bytes` begin with, and the rest.
     pub fn group_context(bytes: &[u8]) -> Result<(&[u8], &[u8]), Rejected> {
-        split(bytes, foreign::mls_group_context_validate)
+        split(bytes, foreign::mls_group_context_validate_prefix)
     }
 
     /// `Commit` (RFC 9420, section 12.4): returns the bytes of the one that `bytes` begin with, and the rest.
     pub fn commit(bytes: &[u8]) -> Result<(&[u8], &[u8]), Rejected> {
-        split(bytes, foreign::mls_commit_validate)
+        split(bytes, foreign::mls_commit_validate_prefix)
     }
 
     /// `Proposal` (RFC 9420, section 12.1): returns the bytes of the one that `bytes` begin with, and the rest.
     pub fn proposal(bytes: &[u8]) -> Result<(&[u8], &[u8]), Rejected> {
-        split(bytes, foreign::mls_proposal_validate)
+        split(bytes, foreign::mls_proposal_validate_prefix)
     }
 
     /// `KeyPackage` (RFC 9420, section 10): returns the bytes of the one that `bytes` begin with, and the rest.
     pub fn key_package(bytes: &[u8]) -> Result<(&[u8], &[u8]), Rejected> {
-        split(bytes, foreign::mls_key_package_validate)
+        split(bytes, foreign::mls_key_package_validate_prefix)
     }
 
     /// `LeafNode` (RFC 9420, section 7.2): returns the bytes of the one that `bytes` begin with, and the rest.
     pub fn leaf_node(bytes: &[u8]) -> Result<(&[u8], &[u8]), Rejected> {
-        split(bytes, foreign::mls_leaf_node_validate)
+        split(bytes, foreign::mls_leaf_node_validate_prefix)
     }
 
     /// `RatchetTree` (RFC 9420, section 12.4.3.3): returns the bytes of the one that `bytes` begin with, and the rest.
     pub fn ratchet_tree(bytes: &[u8]) -> Result<(&[u8], &[u8]), Rejected> {
-        split(bytes, foreign::mls_ratchet_tree_validate)
+        split(bytes, foreign::mls_ratchet_tree_validate_prefix)
     }
 
     /// Where the fields of an `MLSMessage` are (RFC 9420, section 6).
@@ -1084,7 +1256,7 @@ pub mod mls {
     pub struct PublicMessageFields<'a> {
         /// `FramedContent content;`
         pub content: &'a [u8],
-        /// `FramedContentAuthData auth;`
+        /// `FramedContentAuthData auth;`: `opaque signature<V>` with its length, then of a commit its `MAC confirmation_tag` with its length
         pub auth: &'a [u8],
         /// `MAC membership_tag;` with its length; no bytes if the sender is no member
         pub membership_tag: &'a [u8],
@@ -1145,7 +1317,7 @@ pub mod mls {
         pub group_id: &'a [u8],
         /// `uint64 epoch;`
         pub epoch: &'a [u8],
-        /// `Sender sender;`
+        /// `Sender sender;`: a byte of `SenderType`, then of a member or an external sender its index, a uint32
         pub sender: &'a [u8],
         /// `opaque authenticated_data<V>;`
         pub authenticated_data: &'a [u8],
@@ -1204,7 +1376,7 @@ pub mod mls {
         pub version: &'a [u8],
         /// `CipherSuite cipher_suite;`
         pub cipher_suite: &'a [u8],
-        /// `HPKEPublicKey init_key;`
+        /// `HPKEPublicKey init_key;` without its length
         pub init_key: &'a [u8],
         /// `LeafNode leaf_node;`
         pub leaf_node: &'a [u8],
@@ -1234,9 +1406,9 @@ pub mod mls {
     /// Where the fields of a `LeafNode` are (RFC 9420, section 7.2). A span of `opaque` has the bytes without their length.
     #[derive(Clone, Copy, PartialEq, Eq, Debug)]
     pub struct LeafNodeFields<'a> {
-        /// `HPKEPublicKey encryption_key;`
+        /// `HPKEPublicKey encryption_key;` without its length
         pub encryption_key: &'a [u8],
-        /// `SignaturePublicKey signature_key;`
+        /// `SignaturePublicKey signature_key;` without its length
         pub signature_key: &'a [u8],
         /// `Credential credential;`
         pub credential: &'a [u8],
@@ -1301,7 +1473,7 @@ pub mod mls {
     pub struct GroupSecretsFields<'a> {
         /// `opaque joiner_secret<V>;`
         pub joiner_secret: &'a [u8],
-        /// `optional<PathSecret> path_secret;`
+        /// `optional<PathSecret> path_secret;`: a byte 0, or a byte 1 and the `PathSecret`
         pub path_secret: &'a [u8],
         /// `PreSharedKeyID psks<V>;` with its length
         pub psks: &'a [u8],
@@ -1328,7 +1500,7 @@ pub mod mls {
         pub group_context: &'a [u8],
         /// `Extension extensions<V>;` with its length
         pub extensions: &'a [u8],
-        /// `MAC confirmation_tag;`
+        /// `MAC confirmation_tag;` without its length
         pub confirmation_tag: &'a [u8],
         /// `uint32 signer;`
         pub signer: &'a [u8],
@@ -1394,7 +1566,7 @@ pub mod mls {
     pub struct CommitFields<'a> {
         /// `ProposalOrRef proposals<V>;` with its length
         pub proposals: &'a [u8],
-        /// `optional<UpdatePath> path;`
+        /// `optional<UpdatePath> path;`: a byte 0, or a byte 1 and the `UpdatePath`
         pub path: &'a [u8],
     }
 
@@ -1434,15 +1606,15 @@ pub mod mls {
     }
 
     /// `MLSMessage` (RFC 9420, section 6), and its `WireFormat`: 1 is a public message, 2 a private message, 3 a welcome, 4 a group info, 5 a key package. Returns that number, and the rest of the bytes.
-    pub fn message_kind(bytes: &[u8]) -> Result<(u16, &[u8]), Rejected> {
+    pub fn message_wire_format(bytes: &[u8]) -> Result<(u16, &[u8]), Rejected> {
         let mut found = 0u16;
         // SAFETY: the pointer and the length are of one slice, nothing changes it during the call, and the call keeps no pointer.
-        let outcome = unsafe { foreign::mls_message_kind(bytes.as_ptr(), bytes.len(), &mut found) };
+        let outcome = unsafe { foreign::mls_message_wire_format(bytes.as_ptr(), bytes.len(), &mut found) };
         let (_, rest) = split_as(bytes, outcome)?;
         Ok((found, rest))
     }
 
-    /// `FramedContentTBS` (RFC 9420, section 6.1): writes into a buffer what `SignWithLabel` (section 5.1.2) signs of a message, under the label `FramedContentTBS`: the version, the wire format, the encoding of a `FramedContent`, and that of a `GroupContext` if the sender is a member or a new member that commits; else the context is empty. Any wire format is written; a public message has 1, a private message 2. The buffer overlaps neither part. The result is that of validation for the bytes that are written, and `at` counts from the first of them. Use them only if it accepts all of them: a context that isn't signed would be left over. They are written even if they are rejected. If the buffer has too little room, nothing is written, and the status is that of `InvalidWriteLength`. Returns the written bytes, if they are accepted.
+    /// `FramedContentTBS` (RFC 9420, section 6.1): writes into `out` what `SignWithLabel` (section 5.1.2) signs of a message, under the label `FramedContentTBS`: the version, the wire format, the encoding of a `FramedContent`, and that of a `GroupContext` if the sender is a member or a new member that commits; else `context` is empty. Any wire format is written; a public message has 1, a private message 2. Returns the written bytes, if all of them are accepted. Else the error is that of validation, and its place counts from the first byte of `out`, which they stay in; a context that isn't signed is `TrailingData`. If `out` has too little room, nothing is written, and the error is `InvalidWriteLength`.
     pub fn framed_content_tbs<'a>(wire_format: u16, content: &[u8], context: &[u8], out: &'a mut [u8]) -> Result<&'a [u8], Rejected> {
         // SAFETY: each pointer and its length are of one slice, nothing else changes or reads it during the call, and the call keeps no pointer.
         let outcome = unsafe { foreign::mls_framed_content_tbs_encode(wire_format, content.as_ptr(), content.len(), context.as_ptr(), context.len(), out.as_mut_ptr(), out.len()) };
@@ -1470,7 +1642,7 @@ pub mod mls {
     }
 }
 
-/// Checks whether bytes begin with a message of MLS: its decoder makes the value and drops it. `OutOfMemory`: memory was refused, and nothing is said about the bytes. No position is reported: `at` is 0.
+/// Checks whether bytes begin with a message of MLS: its decoder makes the value and drops it. `OutOfMemory`: memory was refused, and nothing is said about the bytes. No position is reported.
 #[cfg(feature = "check")]
 pub mod mls_check {
     use crate::{Error, decode};
@@ -1480,90 +1652,90 @@ pub mod mls_check {
 
         #[link(name = "mls_check_c", kind = "static")]
         unsafe extern "C" {
-            pub fn mls_message_check(bytes: *const u8, length: usize) -> Outcome;
-            pub fn mls_public_message_check(bytes: *const u8, length: usize) -> Outcome;
-            pub fn mls_private_message_check(bytes: *const u8, length: usize) -> Outcome;
-            pub fn mls_framed_content_check(bytes: *const u8, length: usize) -> Outcome;
-            pub fn mls_sender_data_check(bytes: *const u8, length: usize) -> Outcome;
-            pub fn mls_welcome_check(bytes: *const u8, length: usize) -> Outcome;
-            pub fn mls_group_secrets_check(bytes: *const u8, length: usize) -> Outcome;
-            pub fn mls_group_info_check(bytes: *const u8, length: usize) -> Outcome;
-            pub fn mls_group_context_check(bytes: *const u8, length: usize) -> Outcome;
-            pub fn mls_commit_check(bytes: *const u8, length: usize) -> Outcome;
-            pub fn mls_proposal_check(bytes: *const u8, length: usize) -> Outcome;
-            pub fn mls_key_package_check(bytes: *const u8, length: usize) -> Outcome;
-            pub fn mls_leaf_node_check(bytes: *const u8, length: usize) -> Outcome;
-            pub fn mls_ratchet_tree_check(bytes: *const u8, length: usize) -> Outcome;
+            pub fn mls_message_decode_check(bytes: *const u8, length: usize) -> Outcome;
+            pub fn mls_public_message_decode_check(bytes: *const u8, length: usize) -> Outcome;
+            pub fn mls_private_message_decode_check(bytes: *const u8, length: usize) -> Outcome;
+            pub fn mls_framed_content_decode_check(bytes: *const u8, length: usize) -> Outcome;
+            pub fn mls_sender_data_decode_check(bytes: *const u8, length: usize) -> Outcome;
+            pub fn mls_welcome_decode_check(bytes: *const u8, length: usize) -> Outcome;
+            pub fn mls_group_secrets_decode_check(bytes: *const u8, length: usize) -> Outcome;
+            pub fn mls_group_info_decode_check(bytes: *const u8, length: usize) -> Outcome;
+            pub fn mls_group_context_decode_check(bytes: *const u8, length: usize) -> Outcome;
+            pub fn mls_commit_decode_check(bytes: *const u8, length: usize) -> Outcome;
+            pub fn mls_proposal_decode_check(bytes: *const u8, length: usize) -> Outcome;
+            pub fn mls_key_package_decode_check(bytes: *const u8, length: usize) -> Outcome;
+            pub fn mls_leaf_node_decode_check(bytes: *const u8, length: usize) -> Outcome;
+            pub fn mls_ratchet_tree_decode_check(bytes: *const u8, length: usize) -> Outcome;
         }
     }
 
     /// `MLSMessage` (RFC 9420, section 6): returns the bytes of the one that `bytes` begin with, and the rest, by the decoder.
     pub fn message(bytes: &[u8]) -> Result<(&[u8], &[u8]), Error> {
-        decode(bytes, foreign::mls_message_check)
+        decode(bytes, foreign::mls_message_decode_check)
     }
 
     /// `PublicMessage` (RFC 9420, section 6.2): returns the bytes of the one that `bytes` begin with, and the rest, by the decoder.
     pub fn public_message(bytes: &[u8]) -> Result<(&[u8], &[u8]), Error> {
-        decode(bytes, foreign::mls_public_message_check)
+        decode(bytes, foreign::mls_public_message_decode_check)
     }
 
     /// `PrivateMessage` (RFC 9420, section 6.3): returns the bytes of the one that `bytes` begin with, and the rest, by the decoder.
     pub fn private_message(bytes: &[u8]) -> Result<(&[u8], &[u8]), Error> {
-        decode(bytes, foreign::mls_private_message_check)
+        decode(bytes, foreign::mls_private_message_decode_check)
     }
 
     /// `FramedContent` (RFC 9420, section 6): returns the bytes of the one that `bytes` begin with, and the rest, by the decoder.
     pub fn framed_content(bytes: &[u8]) -> Result<(&[u8], &[u8]), Error> {
-        decode(bytes, foreign::mls_framed_content_check)
+        decode(bytes, foreign::mls_framed_content_decode_check)
     }
 
     /// `SenderData` (RFC 9420, section 6.3.2): returns the bytes of the one that `bytes` begin with, and the rest, by the decoder.
     pub fn sender_data(bytes: &[u8]) -> Result<(&[u8], &[u8]), Error> {
-        decode(bytes, foreign::mls_sender_data_check)
+        decode(bytes, foreign::mls_sender_data_decode_check)
     }
 
     /// `Welcome` (RFC 9420, section 12.4.3.1): returns the bytes of the one that `bytes` begin with, and the rest, by the decoder.
     pub fn welcome(bytes: &[u8]) -> Result<(&[u8], &[u8]), Error> {
-        decode(bytes, foreign::mls_welcome_check)
+        decode(bytes, foreign::mls_welcome_decode_check)
     }
 
     /// `GroupSecrets` (RFC 9420, section 12.4.3.1): returns the bytes of the one that `bytes` begin with, and the rest, by the decoder.
     pub fn group_secrets(bytes: &[u8]) -> Result<(&[u8], &[u8]), Error> {
-        decode(bytes, foreign::mls_group_secrets_check)
+        decode(bytes, foreign::mls_group_secrets_decode_check)
     }
 
     /// `GroupInfo` (RFC 9420, section 12.4.3): returns the bytes of the one that `bytes` begin with, and the rest, by the decoder.
     pub fn group_info(bytes: &[u8]) -> Result<(&[u8], &[u8]), Error> {
-        decode(bytes, foreign::mls_group_info_check)
+        decode(bytes, foreign::mls_group_info_decode_check)
     }
 
     /// `GroupContext` (RFC 9420, section 8.1): returns the bytes of the one that `bytes` begin with, and the rest, by the decoder.
     pub fn group_context(bytes: &[u8]) -> Result<(&[u8], &[u8]), Error> {
-        decode(bytes, foreign::mls_group_context_check)
+        decode(bytes, foreign::mls_group_context_decode_check)
     }
 
     /// `Commit` (RFC 9420, section 12.4): returns the bytes of the one that `bytes` begin with, and the rest, by the decoder.
     pub fn commit(bytes: &[u8]) -> Result<(&[u8], &[u8]), Error> {
-        decode(bytes, foreign::mls_commit_check)
+        decode(bytes, foreign::mls_commit_decode_check)
     }
 
     /// `Proposal` (RFC 9420, section 12.1): returns the bytes of the one that `bytes` begin with, and the rest, by the decoder.
     pub fn proposal(bytes: &[u8]) -> Result<(&[u8], &[u8]), Error> {
-        decode(bytes, foreign::mls_proposal_check)
+        decode(bytes, foreign::mls_proposal_decode_check)
     }
 
     /// `KeyPackage` (RFC 9420, section 10): returns the bytes of the one that `bytes` begin with, and the rest, by the decoder.
     pub fn key_package(bytes: &[u8]) -> Result<(&[u8], &[u8]), Error> {
-        decode(bytes, foreign::mls_key_package_check)
+        decode(bytes, foreign::mls_key_package_decode_check)
     }
 
     /// `LeafNode` (RFC 9420, section 7.2): returns the bytes of the one that `bytes` begin with, and the rest, by the decoder.
     pub fn leaf_node(bytes: &[u8]) -> Result<(&[u8], &[u8]), Error> {
-        decode(bytes, foreign::mls_leaf_node_check)
+        decode(bytes, foreign::mls_leaf_node_decode_check)
     }
 
     /// `RatchetTree` (RFC 9420, section 12.4.3.3): returns the bytes of the one that `bytes` begin with, and the rest, by the decoder.
     pub fn ratchet_tree(bytes: &[u8]) -> Result<(&[u8], &[u8]), Error> {
-        decode(bytes, foreign::mls_ratchet_tree_check)
+        decode(bytes, foreign::mls_ratchet_tree_decode_check)
     }
 }

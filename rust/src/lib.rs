@@ -5,15 +5,15 @@
 //! proved and what is trusted. The feature `check` adds the decoders, which make the value and drop it, and so allocate.
 //!
 //! ```
-//! use tls_codec_border::{Error, Rejected, exactly, tls13};
+//! use tls_codec_border::{Error, Rejected, tls13, whole};
 //!
 //! // an alert of two bytes, and what comes after it
 //! assert_eq!(tls13::alert(&[2, 42, 0xee]), Ok((&[2, 42][..], &[0xee][..])));
 //!
 //! // nothing may come after it
-//! assert_eq!(exactly(tls13::alert(&[2, 42])), Ok(&[2, 42][..]));
+//! assert_eq!(whole(tls13::alert(&[2, 42])), Ok(&[2, 42][..]));
 //! let left = Rejected { error: Error::TrailingData, at: 2 };
-//! assert_eq!(exactly(tls13::alert(&[2, 42, 0xee])), Err(left));
+//! assert_eq!(whole(tls13::alert(&[2, 42, 0xee])), Err(left));
 //!
 //! // why, and which field: the description isn't there
 //! let cut = Rejected { error: Error::EndOfStream, at: 1 };
@@ -45,14 +45,47 @@ pub struct Rejected {
 
 impl fmt::Display for Rejected {
     fn fmt(&self, f: &mut fmt::Formatter<'_>) -> fmt::Result {
-        write!(f, "{:?} at byte {}", self.error, self.at)
+        write!(f, "{} at byte {}", self.error, self.at)
     }
 }
 
 impl core::error::Error for Rejected {}
 
+impl fmt::Display for Error {
+    fn fmt(&self, f: &mut fmt::Formatter<'_>) -> fmt::Result {
+        match self {
+            Error::UnknownValue(number) => write!(f, "UnknownValue ({number})"),
+            Error::Other(status) => write!(f, "status {status}"),
+            named => write!(f, "{named:?}"),
+        }
+    }
+}
+
+impl core::error::Error for Error {}
+
+/// The number that a field of at most eight bytes has, such as an epoch; `None` of more bytes.
+///
+/// ```
+/// assert_eq!(tls_codec_border::number(&[1, 0]), Some(256));
+/// ```
+pub fn number(field: &[u8]) -> Option<u64> {
+    (field.len() <= 8).then(|| field.iter().fold(0, |value, byte| value << 8 | u64::from(*byte)))
+}
+
+/// The value of a variable-length integer, as [`lengths::varint`] finds one; `None` if the width that it begins with isn't that of the
+/// slice.
+///
+/// ```
+/// assert_eq!(tls_codec_border::varint_value(&[0x7b, 0xbd]), Some(15_293));
+/// ```
+pub fn varint_value(varint: &[u8]) -> Option<u64> {
+    let width = 1usize << (varint.first()? >> 6);
+    let value = number(varint).filter(|_| varint.len() == width)?;
+    Some(value & (u64::MAX >> (66 - 8 * width)))
+}
+
 /// The message, if nothing comes after it.
-pub fn exactly<'a>(found: Result<(&'a [u8], &'a [u8]), Rejected>) -> Result<&'a [u8], Rejected> {
+pub fn whole<'a>(found: Result<(&'a [u8], &'a [u8]), Rejected>) -> Result<&'a [u8], Rejected> {
     let (message, rest) = found?;
     if !rest.is_empty() {
         return Err(Rejected { error: Error::TrailingData, at: message.len() });
@@ -84,7 +117,7 @@ fn split_as(bytes: &[u8], outcome: Outcome) -> Result<(&[u8], &[u8]), Rejected> 
 /// The bytes that a call wrote, if all of them are accepted.
 fn written_as(out: &mut [u8], size: usize, outcome: Outcome) -> Result<&[u8], Rejected> {
     let out: &[u8] = out;
-    exactly(split_as(out.get(..size).unwrap_or(out), outcome))
+    whole(split_as(out.get(..size).unwrap_or(out), outcome))
 }
 
 type Next = unsafe extern "C" fn(*const u8, usize, &mut Span, &mut Span) -> Outcome;

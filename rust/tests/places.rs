@@ -1,4 +1,4 @@
-//! The rows of `test_places` and `c/tests/lengths.tsv`, and the fields in those of `test_outcome`: the elements of lists, the kind of a message,
+//! The rows of `test_places` and `c/tests/lengths.tsv`, and the fields in those of `test_outcome`: the elements of lists, the wire format of a message,
 //! the fields of each message that has some, and lengths.
 mod common;
 
@@ -69,7 +69,7 @@ fields! {
 /// The content after a length; nothing is filled of a variable-length integer.
 fn content<'a>(name: &str, bytes: &'a [u8]) -> Option<Found<'a>> {
     let locate = match name {
-        "tls_codec_varint_validate" => return Some(lengths::varint(bytes).map(|(_, rest)| (Vec::new(), rest))),
+        "tls_codec_varint_validate_prefix" => return Some(lengths::varint(bytes).map(|(_, rest)| (Vec::new(), rest))),
         "tls_codec_opaque_v_locate" => lengths::opaque_v_locate,
         "tls_codec_opaque_u8_locate" => lengths::opaque_u8_locate,
         "tls_codec_opaque_u16_locate" => lengths::opaque_u16_locate,
@@ -149,10 +149,10 @@ impl Row {
             let wanted = if self.is_accepted() { Ok((self.places(), self.rest())) } else { Err(self.rejected(0)) };
             assert_eq!(found, wanted, "{} {:02x?}", self.name, self.bytes);
         } else {
-            assert_eq!(self.name, "mls_message_kind");
-            let kind = || self.filled.parse().expect("a number");
-            let wanted = if self.is_accepted() { Ok((kind(), self.rest())) } else { Err(self.rejected(0)) };
-            assert_eq!(mls::message_kind(&self.bytes), wanted);
+            assert_eq!(self.name, "mls_message_wire_format");
+            let wire_format = || self.filled.parse().expect("a number");
+            let wanted = if self.is_accepted() { Ok((wire_format(), self.rest())) } else { Err(self.rejected(0)) };
+            assert_eq!(mls::message_wire_format(&self.bytes), wanted);
         }
     }
 }
@@ -177,9 +177,9 @@ fn each_field_of_mls_is_found() {
 }
 
 #[test]
-fn kinds_have_names() {
+fn numbers_have_names() {
     let message = bytes_of("0001000201fa0000000000000007010001a102a2a3");
-    assert_eq!(mls::message_kind(&message), Ok((mls::wire_format::PRIVATE_MESSAGE, &[][..])));
+    assert_eq!(mls::message_wire_format(&message), Ok((mls::wire_format::PRIVATE_MESSAGE, &[][..])));
     let (handshake, _) = tls13::handshake_locate(&[24, 0, 0, 1, 1]).expect("a key update");
     assert_eq!(handshake.msg_type, [tls13::handshake_type::KEY_UPDATE]);
 }

@@ -3,7 +3,7 @@ mod common;
 
 use common::{bytes_of, error_of};
 use std::fs;
-use tls_codec_border::{Error, Rejected, exactly, mls, tls13};
+use tls_codec_border::{Error, Rejected, mls, number, tls13, varint_value, whole};
 
 type Split<'a> = Result<(&'a [u8], &'a [u8]), Rejected>;
 
@@ -70,7 +70,7 @@ fn fields_are_slices() {
     let message = bytes_of("01fa0000000000000007010001a102a2a3ee");
     let (found, rest) = mls::private_message_locate(&message).expect("a message");
     assert_eq!(found.group_id, [0xfa]);
-    assert_eq!(found.epoch, 7u64.to_be_bytes());
+    assert_eq!(number(found.epoch), Some(7));
     assert_eq!(found.content_type, [mls::content_type::APPLICATION]);
     assert!(found.authenticated_data.is_empty());
     assert_eq!(found.encrypted_sender_data, [0xa1]);
@@ -82,12 +82,28 @@ fn fields_are_slices() {
 
 #[test]
 fn nothing_may_be_left() {
-    assert_eq!(exactly(tls13::alert(&[1, 0])), Ok(&[1, 0][..]));
+    assert_eq!(whole(tls13::alert(&[1, 0])), Ok(&[1, 0][..]));
     let left = Rejected { error: Error::TrailingData, at: 2 };
-    assert_eq!(exactly(tls13::alert(&[1, 0, 7])), Err(left));
+    assert_eq!(whole(tls13::alert(&[1, 0, 7])), Err(left));
     assert_eq!(left.to_string(), "TrailingData at byte 2");
+    let unknown = whole(tls13::key_update(&[192])).map_err(|it| it.to_string());
+    assert_eq!(unknown, Err("UnknownValue (192) at byte 0".to_string()));
     let none = Rejected { error: Error::EndOfStream, at: 0 };
-    assert_eq!(exactly(mls::message(&[])), Err(none));
+    assert_eq!(whole(mls::message(&[])), Err(none));
+}
+
+/// The numbers of RFC 9000, appendix A.1, and the ends of the widths.
+#[test]
+fn numbers_are_read() {
+    let varint = |digits| varint_value(&bytes_of(digits));
+    assert_eq!(varint("c2197c5eff14e88c"), Some(151_288_809_941_952_652));
+    assert_eq!(varint("9d7f3e7d"), Some(494_878_333));
+    assert_eq!([varint("7bbd"), varint("25"), varint("4025")], [Some(15_293), Some(37), Some(37)]);
+    assert_eq!([varint("3f"), varint("7fff"), varint("bfffffff")], [Some(63), Some(16_383), Some(1_073_741_823)]);
+    assert_eq!(varint("ffffffffffffffff"), Some(4_611_686_018_427_387_903));
+    assert_eq!([varint("-"), varint("40"), varint("0000")], [None, None, None]);
+    assert_eq!([number(&[]), number(&[1, 2, 3]), number(&[0xff; 8])], [Some(0), Some(66_051), Some(u64::MAX)]);
+    assert_eq!(number(&[0; 9]), None);
 }
 
 #[test]

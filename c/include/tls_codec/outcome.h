@@ -2,11 +2,27 @@
 #ifndef TLS_CODEC_OUTCOME_H
 #define TLS_CODEC_OUTCOME_H
 
+/* What holds for each call of these headers (docs/CALLERS.md says what of it is proved):
+
+   - `bytes` has `length` bytes, below 2^63, and may be NULL if `length` is 0. The same holds for each
+     other pointer to `const uint8_t` and its length. Nothing changes the bytes during the call.
+   - A pointer that is to be filled must not be NULL. What it points to must not overlap the bytes,
+     nor anything else that the call is given.
+   - If the status isn't 0, nothing is filled. The exception is `NAME_encode`, which writes its buffer
+     even if it then rejects what it wrote; a buffer that is too small is unchanged.
+   - No call keeps a pointer, leaves anything to free, or has state: calls may run in any thread.
+     Only `NAME_decode_check` allocates.
+   - Each call but `NAME_validate` accepts bytes that come after the message, and `taken` says where
+     they begin. `tls_codec_whole` rejects them. */
+
 #include <stddef.h>
 #include <stdint.h>
 
 /* The version of this header, by CHANGELOG.md. */
 #define TLS_CODEC_VERSION "0.2.0"
+
+/* The line that `tls_codec.version` beside archives of just these headers has. */
+#define TLS_CODEC_HEADERS "0.2.0 dfb50b0412051b5b"
 
 /* A call's status. The numbers don't change. */
 enum tls_codec_status {
@@ -21,8 +37,9 @@ enum tls_codec_status {
   TLS_CODEC_INVALID_WRITE_LENGTH = 3,
   /* No call returns it. */
   TLS_CODEC_INVALID_INPUT = 4,
-  /* A content after a variable-length length isn't all there, an element passes the end of its
-     list, or the byte before an optional field is neither 0 nor 1. */
+  /* One of three, which aren't told apart: the content after a variable-length length isn't all
+     there; an element passes the end of its list; the byte before an optional field is neither 0
+     nor 1. */
   TLS_CODEC_DECODING_ERROR = 5,
   /* The bytes, or the body of a Handshake, end before a field does. */
   TLS_CODEC_END_OF_STREAM = 6,
@@ -46,18 +63,22 @@ typedef struct tls_codec_span {
 
 /* The result of a call. */
 typedef struct tls_codec_outcome {
-  /* TLS_CODEC_ACCEPTED if the bytes begin with an encoding, and else the number of the error. */
+  /* `TLS_CODEC_ACCEPTED` if the bytes begin with an encoding, and else the number of the error. */
   uint32_t status;
   /* How many bytes the encoding has; 0 if there is none. */
   size_t taken;
-  /* The offset of the rejected field's first byte; 0 if the bytes are accepted. */
+  /* The offset of the rejected field's first byte; 0 if the bytes are accepted. It counts from
+     `bytes`; of `NAME_next` from the first byte of `*left` before the call, and of `NAME_encode`
+     from `out`. It is 0 if `out` is too small, and of each `NAME_decode_check`. */
   size_t at;
-  /* The unknown number, if the error is TLS_CODEC_UNKNOWN_VALUE; 0 for other errors. */
+  /* The unknown number, if the error is `TLS_CODEC_UNKNOWN_VALUE`; 0 for other errors. */
   uint64_t detail;
 } tls_codec_outcome;
 
 /* The outcome if all of the bytes are to be used: if the encoding is accepted and bytes come after
-   it, the status is TLS_CODEC_TRAILING_DATA, taken is 0, and at is where they begin. */
+   it, the status is `TLS_CODEC_TRAILING_DATA`, `taken` is 0, and `at` is where they begin, from
+   where the call's own `at` counts. `length` is what the call was given; after `NAME_encode` it is
+   the number of bytes that were written. */
 static inline tls_codec_outcome tls_codec_whole(tls_codec_outcome outcome, size_t length) {
   if (outcome.status == TLS_CODEC_ACCEPTED && outcome.taken != length) {
     outcome.status = TLS_CODEC_TRAILING_DATA;
@@ -67,7 +88,7 @@ static inline tls_codec_outcome tls_codec_whole(tls_codec_outcome outcome, size_
   return outcome;
 }
 
-/* The status of that outcome: 0, TLS_CODEC_ACCEPTED, if all of the bytes are used. */
+/* The status of that outcome: 0, `TLS_CODEC_ACCEPTED`, if all of the bytes are used. */
 static inline uint32_t tls_codec_whole_status(tls_codec_outcome outcome, size_t length) {
   return tls_codec_whole(outcome, length).status;
 }

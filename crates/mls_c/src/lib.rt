@@ -3,8 +3,8 @@
 
 mod elements;
 mod fields;
-mod kind;
 mod signed;
+mod wire_format;
 
 ghost use Rattle.mls.specs.MLSMessage.{mls_message_format};
 ghost use Rattle.mls.specs.PublicMessage.{public_message_format};
@@ -31,7 +31,7 @@ use tls_codec_validate::Validate;
 
 /// `MLSMessage` (RFC 9420, section 6).
 #[unsafe(no_mangle)]
-pub extern "C" fn mls_message_validate(bytes: &[u8]) -> Outcome
+pub extern "C" fn mls_message_validate_prefix(bytes: &[u8]) -> Outcome
     ensures status { Decides mls_message_format bytes.now result.status }
     ensures taken { IsTaken mls_message_format bytes.now result.status result.taken }
     ensures rejected { IsRejection ⟦<MLSMessage as DeserializeBytes>⟧.names
@@ -42,7 +42,7 @@ pub extern "C" fn mls_message_validate(bytes: &[u8]) -> Outcome
 
 /// `PublicMessage` (RFC 9420, section 6.2).
 #[unsafe(no_mangle)]
-pub extern "C" fn mls_public_message_validate(bytes: &[u8]) -> Outcome
+pub extern "C" fn mls_public_message_validate_prefix(bytes: &[u8]) -> Outcome
     ensures status { Decides public_message_format bytes.now result.status }
     ensures taken { IsTaken public_message_format bytes.now result.status result.taken }
     ensures rejected { IsRejection ⟦<PublicMessage as DeserializeBytes>⟧.names
@@ -53,7 +53,7 @@ pub extern "C" fn mls_public_message_validate(bytes: &[u8]) -> Outcome
 
 /// `PrivateMessage` (RFC 9420, section 6.3).
 #[unsafe(no_mangle)]
-pub extern "C" fn mls_private_message_validate(bytes: &[u8]) -> Outcome
+pub extern "C" fn mls_private_message_validate_prefix(bytes: &[u8]) -> Outcome
     ensures status { Decides private_message_format bytes.now result.status }
     ensures taken { IsTaken private_message_format bytes.now result.status result.taken }
     ensures rejected { IsRejection ⟦<PrivateMessage as DeserializeBytes>⟧.names
@@ -64,7 +64,7 @@ pub extern "C" fn mls_private_message_validate(bytes: &[u8]) -> Outcome
 
 /// `FramedContent` (RFC 9420, section 6).
 #[unsafe(no_mangle)]
-pub extern "C" fn mls_framed_content_validate(bytes: &[u8]) -> Outcome
+pub extern "C" fn mls_framed_content_validate_prefix(bytes: &[u8]) -> Outcome
     ensures status { Decides framed_content_format bytes.now result.status }
     ensures taken { IsTaken framed_content_format bytes.now result.status result.taken }
     ensures rejected { IsRejection ⟦<FramedContent as DeserializeBytes>⟧.names
@@ -75,7 +75,7 @@ pub extern "C" fn mls_framed_content_validate(bytes: &[u8]) -> Outcome
 
 /// `SenderData` (RFC 9420, section 6.3.2).
 #[unsafe(no_mangle)]
-pub extern "C" fn mls_sender_data_validate(bytes: &[u8]) -> Outcome
+pub extern "C" fn mls_sender_data_validate_prefix(bytes: &[u8]) -> Outcome
     ensures status { Decides sender_data_format bytes.now result.status }
     ensures taken { IsTaken sender_data_format bytes.now result.status result.taken }
     ensures rejected { IsRejection ⟦<SenderData as DeserializeBytes>⟧.names
@@ -86,7 +86,7 @@ pub extern "C" fn mls_sender_data_validate(bytes: &[u8]) -> Outcome
 
 /// `Welcome` (RFC 9420, section 12.4.3.1).
 #[unsafe(no_mangle)]
-pub extern "C" fn mls_welcome_validate(bytes: &[u8]) -> Outcome
+pub extern "C" fn mls_welcome_validate_prefix(bytes: &[u8]) -> Outcome
     ensures status { Decides welcome_format bytes.now result.status }
     ensures taken { IsTaken welcome_format bytes.now result.status result.taken }
     ensures rejected { IsRejection ⟦<Welcome as DeserializeBytes>⟧.names
@@ -97,7 +97,7 @@ pub extern "C" fn mls_welcome_validate(bytes: &[u8]) -> Outcome
 
 /// `GroupSecrets` (RFC 9420, section 12.4.3.1).
 #[unsafe(no_mangle)]
-pub extern "C" fn mls_group_secrets_validate(bytes: &[u8]) -> Outcome
+pub extern "C" fn mls_group_secrets_validate_prefix(bytes: &[u8]) -> Outcome
     ensures status { Decides group_secrets_format bytes.now result.status }
     ensures taken { IsTaken group_secrets_format bytes.now result.status result.taken }
     ensures rejected { IsRejection ⟦<GroupSecrets as DeserializeBytes>⟧.names
@@ -108,7 +108,7 @@ pub extern "C" fn mls_group_secrets_validate(bytes: &[u8]) -> Outcome
 
 /// `GroupInfo` (RFC 9420, section 12.4.3).
 #[unsafe(no_mangle)]
-pub extern "C" fn mls_group_info_validate(bytes: &[u8]) -> Outcome
+pub extern "C" fn mls_group_info_validate_prefix(bytes: &[u8]) -> Outcome
     ensures status { Decides group_info_format bytes.now result.status }
     ensures taken { IsTaken group_info_format bytes.now result.status result.taken }
     ensures rejected { IsRejection ⟦<GroupInfo as DeserializeBytes>⟧.names
@@ -119,7 +119,7 @@ pub extern "C" fn mls_group_info_validate(bytes: &[u8]) -> Outcome
 
 /// `GroupContext` (RFC 9420, section 8.1).
 #[unsafe(no_mangle)]
-pub extern "C" fn mls_group_context_validate(bytes: &[u8]) -> Outcome
+pub extern "C" fn mls_group_context_validate_prefix(bytes: &[u8]) -> Outcome
     ensures status { Decides group_context_format bytes.now result.status }
     ensures taken { IsTaken group_context_format bytes.now result.status result.taken }
     ensures rejected { IsRejection ⟦<GroupContext as DeserializeBytes>⟧.names
@@ -130,7 +130,7 @@ pub extern "C" fn mls_group_context_validate(bytes: &[u8]) -> Outcome
 
 /// `Commit` (RFC 9420, section 12.4).
 #[unsafe(no_mangle)]
-pub extern "C" fn mls_commit_validate(bytes: &[u8]) -> Outcome
+pub extern "C" fn mls_commit_validate_prefix(bytes: &[u8]) -> Outcome
     ensures status { Decides commit_format bytes.now result.status }
     ensures taken { IsTaken commit_format bytes.now result.status result.taken }
     ensures rejected { IsRejection ⟦<Commit as DeserializeBytes>⟧.names
@@ -141,7 +141,7 @@ pub extern "C" fn mls_commit_validate(bytes: &[u8]) -> Outcome
 
 /// `Proposal` (RFC 9420, section 12.1).
 #[unsafe(no_mangle)]
-pub extern "C" fn mls_proposal_validate(bytes: &[u8]) -> Outcome
+pub extern "C" fn mls_proposal_validate_prefix(bytes: &[u8]) -> Outcome
     ensures status { Decides proposal_format bytes.now result.status }
     ensures taken { IsTaken proposal_format bytes.now result.status result.taken }
     ensures rejected { IsRejection ⟦<Proposal as DeserializeBytes>⟧.names
@@ -152,7 +152,7 @@ pub extern "C" fn mls_proposal_validate(bytes: &[u8]) -> Outcome
 
 /// `KeyPackage` (RFC 9420, section 10).
 #[unsafe(no_mangle)]
-pub extern "C" fn mls_key_package_validate(bytes: &[u8]) -> Outcome
+pub extern "C" fn mls_key_package_validate_prefix(bytes: &[u8]) -> Outcome
     ensures status { Decides key_package_format bytes.now result.status }
     ensures taken { IsTaken key_package_format bytes.now result.status result.taken }
     ensures rejected { IsRejection ⟦<KeyPackage as DeserializeBytes>⟧.names
@@ -163,7 +163,7 @@ pub extern "C" fn mls_key_package_validate(bytes: &[u8]) -> Outcome
 
 /// `LeafNode` (RFC 9420, section 7.2).
 #[unsafe(no_mangle)]
-pub extern "C" fn mls_leaf_node_validate(bytes: &[u8]) -> Outcome
+pub extern "C" fn mls_leaf_node_validate_prefix(bytes: &[u8]) -> Outcome
     ensures status { Decides leaf_node_format bytes.now result.status }
     ensures taken { IsTaken leaf_node_format bytes.now result.status result.taken }
     ensures rejected { IsRejection ⟦<LeafNode as DeserializeBytes>⟧.names
@@ -174,7 +174,7 @@ pub extern "C" fn mls_leaf_node_validate(bytes: &[u8]) -> Outcome
 
 /// `RatchetTree` (RFC 9420, section 12.4.3.3).
 #[unsafe(no_mangle)]
-pub extern "C" fn mls_ratchet_tree_validate(bytes: &[u8]) -> Outcome
+pub extern "C" fn mls_ratchet_tree_validate_prefix(bytes: &[u8]) -> Outcome
     ensures status { Decides ratchet_tree_format bytes.now result.status }
     ensures taken { IsTaken ratchet_tree_format bytes.now result.status result.taken }
     ensures rejected { IsRejection ⟦<RatchetTree as DeserializeBytes>⟧.names

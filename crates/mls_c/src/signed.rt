@@ -9,13 +9,12 @@ use tls_codec::DeserializeBytes;
 use tls_codec_outcome::Outcome;
 use tls_codec_validate::Validate;
 
-/// `FramedContentTBS` (RFC 9420, section 6.1): writes into a buffer what `SignWithLabel` (section 5.1.2) signs of a message, under
+/// `FramedContentTBS` (RFC 9420, section 6.1): writes into `out` what `SignWithLabel` (section 5.1.2) signs of a message, under
 /// the label `FramedContentTBS`: the version, the wire format, the encoding of a `FramedContent`, and that of a `GroupContext` if
-/// the sender is a member or a new member that commits; else the context is empty. Any wire format is written; a public
-/// message has 1, a private message 2. The buffer overlaps neither part. The result is that of validation for the bytes that
-/// are written, and `at` counts from the first of them. Use them only if it accepts all of them: a context that isn't signed
-/// would be left over. They are written even if they are rejected. If the buffer has too little room, nothing is written, and
-/// the status is that of `InvalidWriteLength`.
+/// the sender is a member or a new member that commits; else `context` is empty. Any wire format is written; a public message
+/// has 1, a private message 2. The result is that of validation for the written bytes, and `at` counts from the first of them.
+/// Use them only if all of them are accepted: a context that isn't signed would be left over. They are written even if they are
+/// rejected. If `out` has too little room, nothing is written: `InvalidWriteLength`.
 #[unsafe(no_mangle)]
 pub extern "C" fn mls_framed_content_tbs_encode(
     wire_format: u16,

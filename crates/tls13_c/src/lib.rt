@@ -28,7 +28,7 @@ use tls13::{
 
 /// `TLSPlaintext` (RFC 8446, section 5.1).
 #[unsafe(no_mangle)]
-pub extern "C" fn tls13_tls_plaintext_validate(bytes: &[u8]) -> Outcome
+pub extern "C" fn tls13_tls_plaintext_validate_prefix(bytes: &[u8]) -> Outcome
     ensures status { Decides tls_plaintext_format bytes.now result.status }
     ensures taken { IsTaken tls_plaintext_format bytes.now result.status result.taken }
     ensures rejected { IsRejection ⟦<TLSPlaintext as DeserializeBytes>⟧.names
@@ -39,7 +39,7 @@ pub extern "C" fn tls13_tls_plaintext_validate(bytes: &[u8]) -> Outcome
 
 /// `TLSCiphertext` (RFC 8446, section 5.2).
 #[unsafe(no_mangle)]
-pub extern "C" fn tls13_tls_ciphertext_validate(bytes: &[u8]) -> Outcome
+pub extern "C" fn tls13_tls_ciphertext_validate_prefix(bytes: &[u8]) -> Outcome
     ensures status { Decides tls_ciphertext_format bytes.now result.status }
     ensures taken { IsTaken tls_ciphertext_format bytes.now result.status result.taken }
     ensures rejected { IsRejection ⟦<TLSCiphertext as DeserializeBytes>⟧.names
@@ -50,7 +50,7 @@ pub extern "C" fn tls13_tls_ciphertext_validate(bytes: &[u8]) -> Outcome
 
 /// `Alert` (RFC 8446, section 6).
 #[unsafe(no_mangle)]
-pub extern "C" fn tls13_alert_validate(bytes: &[u8]) -> Outcome
+pub extern "C" fn tls13_alert_validate_prefix(bytes: &[u8]) -> Outcome
     ensures status { Decides alert_format bytes.now result.status }
     ensures taken { IsTaken alert_format bytes.now result.status result.taken }
     ensures rejected { IsRejection ⟦<Alert as DeserializeBytes>⟧.names
@@ -61,7 +61,7 @@ pub extern "C" fn tls13_alert_validate(bytes: &[u8]) -> Outcome
 
 /// `Handshake` (RFC 8446, section 4).
 #[unsafe(no_mangle)]
-pub extern "C" fn tls13_handshake_validate(bytes: &[u8]) -> Outcome
+pub extern "C" fn tls13_handshake_validate_prefix(bytes: &[u8]) -> Outcome
     ensures status { Decides handshake_format bytes.now result.status }
     ensures taken { IsTaken handshake_format bytes.now result.status result.taken }
     ensures rejected { IsRejection ⟦<Handshake as DeserializeBytes>⟧.names
@@ -72,7 +72,7 @@ pub extern "C" fn tls13_handshake_validate(bytes: &[u8]) -> Outcome
 
 /// `ClientHello` (RFC 8446, section 4.1.2).
 #[unsafe(no_mangle)]
-pub extern "C" fn tls13_client_hello_validate(bytes: &[u8]) -> Outcome
+pub extern "C" fn tls13_client_hello_validate_prefix(bytes: &[u8]) -> Outcome
     ensures status { Decides client_hello_format bytes.now result.status }
     ensures taken { IsTaken client_hello_format bytes.now result.status result.taken }
     ensures rejected { IsRejection ⟦<ClientHello as DeserializeBytes>⟧.names
@@ -83,7 +83,7 @@ pub extern "C" fn tls13_client_hello_validate(bytes: &[u8]) -> Outcome
 
 /// `ServerHello` (RFC 8446, section 4.1.3).
 #[unsafe(no_mangle)]
-pub extern "C" fn tls13_server_hello_validate(bytes: &[u8]) -> Outcome
+pub extern "C" fn tls13_server_hello_validate_prefix(bytes: &[u8]) -> Outcome
     ensures status { Decides server_hello_format bytes.now result.status }
     ensures taken { IsTaken server_hello_format bytes.now result.status result.taken }
     ensures rejected { IsRejection ⟦<ServerHello as DeserializeBytes>⟧.names
@@ -94,7 +94,7 @@ pub extern "C" fn tls13_server_hello_validate(bytes: &[u8]) -> Outcome
 
 /// `EncryptedExtensions` (RFC 8446, section 4.3.1).
 #[unsafe(no_mangle)]
-pub extern "C" fn tls13_encrypted_extensions_validate(bytes: &[u8]) -> Outcome
+pub extern "C" fn tls13_encrypted_extensions_validate_prefix(bytes: &[u8]) -> Outcome
     ensures status { Decides encrypted_extensions_format bytes.now result.status }
     ensures taken { IsTaken encrypted_extensions_format bytes.now result.status result.taken }
     ensures rejected { IsRejection ⟦<EncryptedExtensions as DeserializeBytes>⟧.names
@@ -105,7 +105,7 @@ pub extern "C" fn tls13_encrypted_extensions_validate(bytes: &[u8]) -> Outcome
 
 /// `CertificateRequest` (RFC 8446, section 4.3.2).
 #[unsafe(no_mangle)]
-pub extern "C" fn tls13_certificate_request_validate(bytes: &[u8]) -> Outcome
+pub extern "C" fn tls13_certificate_request_validate_prefix(bytes: &[u8]) -> Outcome
     ensures status { Decides certificate_request_format bytes.now result.status }
     ensures taken { IsTaken certificate_request_format bytes.now result.status result.taken }
     ensures rejected { IsRejection ⟦<CertificateRequest as DeserializeBytes>⟧.names
@@ -116,7 +116,7 @@ pub extern "C" fn tls13_certificate_request_validate(bytes: &[u8]) -> Outcome
 
 /// `Certificate` (RFC 8446, section 4.4.2).
 #[unsafe(no_mangle)]
-pub extern "C" fn tls13_certificate_validate(bytes: &[u8]) -> Outcome
+pub extern "C" fn tls13_certificate_validate_prefix(bytes: &[u8]) -> Outcome
     ensures status { Decides certificate_format bytes.now result.status }
     ensures taken { IsTaken certificate_format bytes.now result.status result.taken }
     ensures rejected { IsRejection ⟦<Certificate as DeserializeBytes>⟧.names
@@ -127,7 +127,7 @@ pub extern "C" fn tls13_certificate_validate(bytes: &[u8]) -> Outcome
 
 /// `CertificateVerify` (RFC 8446, section 4.4.3).
 #[unsafe(no_mangle)]
-pub extern "C" fn tls13_certificate_verify_validate(bytes: &[u8]) -> Outcome
+pub extern "C" fn tls13_certificate_verify_validate_prefix(bytes: &[u8]) -> Outcome
     ensures status { Decides certificate_verify_format bytes.now result.status }
     ensures taken { IsTaken certificate_verify_format bytes.now result.status result.taken }
     ensures rejected { IsRejection ⟦<CertificateVerify as DeserializeBytes>⟧.names
@@ -138,7 +138,7 @@ pub extern "C" fn tls13_certificate_verify_validate(bytes: &[u8]) -> Outcome
 
 /// `NewSessionTicket` (RFC 8446, section 4.6.1).
 #[unsafe(no_mangle)]
-pub extern "C" fn tls13_new_session_ticket_validate(bytes: &[u8]) -> Outcome
+pub extern "C" fn tls13_new_session_ticket_validate_prefix(bytes: &[u8]) -> Outcome
     ensures status { Decides new_session_ticket_format bytes.now result.status }
     ensures taken { IsTaken new_session_ticket_format bytes.now result.status result.taken }
     ensures rejected { IsRejection ⟦<NewSessionTicket as DeserializeBytes>⟧.names
@@ -149,7 +149,7 @@ pub extern "C" fn tls13_new_session_ticket_validate(bytes: &[u8]) -> Outcome
 
 /// `KeyUpdate` (RFC 8446, section 4.6.3).
 #[unsafe(no_mangle)]
-pub extern "C" fn tls13_key_update_validate(bytes: &[u8]) -> Outcome
+pub extern "C" fn tls13_key_update_validate_prefix(bytes: &[u8]) -> Outcome
     ensures status { Decides key_update_format bytes.now result.status }
     ensures taken { IsTaken key_update_format bytes.now result.status result.taken }
     ensures rejected { IsRejection ⟦<KeyUpdate as DeserializeBytes>⟧.names

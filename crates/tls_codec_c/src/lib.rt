@@ -16,7 +16,7 @@ use tls_codec_validate::Validate;
 
 /// A variable-length integer (RFC 9000, section 16) in its least width.
 #[unsafe(no_mangle)]
-pub extern "C" fn tls_codec_varint_validate(bytes: &[u8]) -> Outcome
+pub extern "C" fn tls_codec_varint_validate_prefix(bytes: &[u8]) -> Outcome
     ensures status { Decides varint_format bytes.now result.status }
     ensures taken { IsTaken varint_format bytes.now result.status result.taken }
     ensures rejected { IsRejection ⟦<TlsVarInt as DeserializeBytes>⟧.names

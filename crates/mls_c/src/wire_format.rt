@@ -1,4 +1,4 @@
-//! The kind of a message, once it is validated.
+//! The wire format of a message, once it is validated.
 ghost use Rattle.std.specs.Prelude.{◌≡◌, ◌≢◌};
 ghost use Rattle.mls.specs.MLSMessage.{mls_message_format};
 ghost use Rattle.mls_fields.specs.Kind.{IsKind};
@@ -13,17 +13,17 @@ use tls_codec_validate::Validate;
 /// `MLSMessage` (RFC 9420, section 6), and its `WireFormat`: 1 is a public message, 2 a private message, 3 a welcome, 4 a
 /// group info, 5 a key package.
 #[unsafe(no_mangle)]
-pub extern "C" fn mls_message_kind(bytes: &[u8], kind: &mut u16) -> Outcome
+pub extern "C" fn mls_message_wire_format(bytes: &[u8], wire_format: &mut u16) -> Outcome
     ensures status { Decides mls_message_format bytes.now result.status }
     ensures taken { IsTaken mls_message_format bytes.now result.status result.taken }
     ensures rejected { IsRejection ⟦<MLSMessage as DeserializeBytes>⟧.names
         ⟦<MLSMessage as Validate>⟧.places bytes.now result.status result.at result.detail }
-    ensures kind { result.status ≡ 0 → IsKind bytes.now kind.new }
-    ensures kept { result.status ≢ 0 → kind.new ≡ kind.old }
+    ensures wire_format { result.status ≡ 0 → IsKind bytes.now wire_format.new }
+    ensures kept { result.status ≢ 0 → wire_format.new ≡ wire_format.old }
 {
     let outcome = validate::<MLSMessage>(bytes);
     if outcome.status == ACCEPTED {
-        *kind = kind_of(bytes);
+        *wire_format = kind_of(bytes);
     }
     outcome
 }
