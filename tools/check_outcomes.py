@@ -30,7 +30,7 @@ PLANTS = [
     (EXTENSIONS, "\t2 0 2 0\t", "\t2 0 7 0\t"),
     (EXTENSIONS, "\t0+5", "\t0+6"),
     ("tls13_key_update\tc0", "8 0 0 192", "8 0 0 0"),
-    ("mls_message_kind\t0001000201fa0000000000000007010001a102a2a3", "\t2", "\t1"),
+    ("mls_message_wire_format\t0001000201fa0000000000000007010001a102a2a3", "\t2", "\t1"),
 ]
 
 
@@ -48,8 +48,8 @@ def columns(name: str, data: bytes) -> list[str]:
     if call == "locate":
         outcome, spans, _ = located(message, data)
         return [str(outcome), spans_of(spans) or "-"]
-    if call == "kind":
-        outcome, _, tags = located(message, data)
+    if name.endswith("_wire_format"):
+        outcome, _, tags = located(name.removesuffix("_wire_format"), data)
         formats = {kind: number for number, _, kind in TEXTS["mls"].enums["WireFormat"][0]}
         return [str(outcome), str(formats[tags["wire_format"]]) if tags else "-"]
     outcome, spans, _ = located(name, data)
