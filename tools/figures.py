@@ -41,14 +41,15 @@ def first(file: str) -> Callable[[], int]:
     return lambda: int((TOP / file).read_text().split()[0])
 
 
-PRESENTED = [f"crates/tls_presentation/specs/{it}.antt" for it in ("Definition", "Printed", "Cut", "Meaning", "Says")]
+PRESENTED = sorted(str(it.relative_to(TOP)) for it in (CRATES / "tls_presentation/specs").glob("*.antt") if it.name != "Lib.antt")
 # A page, the place of a figure in it, and what it counts.
 FIGURES = [
     *((page, r"([\d,]+) inputs of `(?:tlsview|test_rows)`", rows("crates/test_rows/stdout")) for page in ("README.md", "docs/PROVED.md")),
     ("CONTRIBUTING.md", r"test_rows' ([\d,]+) answers", rows("crates/test_rows/stdout")),
     ("docs/PROVED.md", r"each of the (\d+) requests of `test_memory`", first("crates/test_memory/stdout")),
     ("docs/PROVED.md", r"and (\d+) rejections in them, by hand", lambda: len(rejections.REJECTIONS)),
-    ("docs/MESSAGES.md", r"five files of (\d+) lines and what they use", lines(*PRESENTED)),
+    ("docs/MESSAGES.md", r"the (\w+) files of its `specs/`, [\d,]+ lines", lambda: len(PRESENTED)),
+    ("docs/MESSAGES.md", r"the \w+ files of its `specs/`, ([\d,]+) lines", lines(*PRESENTED)),
     ("docs/CALLERS.md", r"(\d+) inputs of the \d+ messages", rows(*OUTCOMES)),
     ("docs/CALLERS.md", r"\d+ inputs of the (\d+) messages", names(*OUTCOMES)),
     ("docs/CALLERS.md", r"for (\d+) messages of MLS", names(OUTCOMES[0])),
