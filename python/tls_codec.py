@@ -104,7 +104,7 @@ class Validators:
         return {name: span.of(data) for name, span in zip(names, spans)}
 
     def elements(self, element: str, content: Buffer) -> Iterator[bytes]:
-        """The elements of a list, of which these are the bytes after its length: named as in the headers, without `_next`."""
+        """The elements of a list, from the bytes after its length: named as in the headers, without `_next`."""
         content = plain(content)
         left, found = Span(0, len(content)), Span()
         while left.size:

@@ -2,8 +2,9 @@
 """archives.py [FOLDER [TARGET]]: proves the static libraries and puts their archives into a folder, c/out if none is given.
 
 They are built over the libraries that `rt ci` left in crates/*/out/rlib. Where some aren't there, `rt lib` first proves and builds all those
-below an archive, which takes longer. Beside them lies libtls_codec_heap.a, which decoders need: malloc and free by the names by which Rattle calls
-them; and tls_codec.version, by which a mix with headers of another commit is noticed. TARGET is x86_64-unknown-linux-gnu if none is given. For aarch64-unknown-linux-gnu the kit has no such heap.
+below an archive, which takes longer. Beside them is libtls_codec_heap.a, which decoders need: malloc and free by Rattle's names for them. And
+tls_codec.version has the version of the headers, so that a mix with those of another commit is noticed. TARGET is x86_64-unknown-linux-gnu if
+none is given. For aarch64-unknown-linux-gnu the kit has no such heap.
 """
 from __future__ import annotations
 
@@ -13,7 +14,6 @@ import subprocess
 import sys
 import tempfile
 
-sys.dont_write_bytecode = True
 import exports
 from libraries import CRATES, TOP, Libraries
 
@@ -29,7 +29,7 @@ class NotBuilt(Exception):
 
 
 def is_left_by_ci(libraries: Libraries, crate: str) -> bool:
-    """Whether `rt ci` built all that a static library stands on. A library that another command built has a stamp, and fits no others."""
+    """Whether `rt ci` built all the libraries below a static one. A library that another command built has a stamp, and fits no others."""
     stamps = [(libraries.rlib(it).parent / "stamp").is_file() for it in libraries.below(crate)]
     return not libraries.lacking(crate) and not any(stamps)
 
@@ -56,7 +56,7 @@ def toolchain(kit: pathlib.Path, folder: pathlib.Path) -> pathlib.Path:
 
 
 def build_below(libraries: Libraries, crate: str) -> None:
-    """Proves and builds all that a static library stands on, by `rt lib`: it keeps what it built, and builds anew what another command did."""
+    """Proves and builds all the libraries below a static one, by `rt lib`: it keeps what it built, and builds anew what another command did."""
     for it in libraries.uses[crate]:
         if it in libraries.uses:
             ran(["rt", "lib"], it)

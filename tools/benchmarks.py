@@ -6,8 +6,9 @@ the bytes, and the nanoseconds of each call, with tabs between. OWN has validati
 may have the lines of several runs: the lowest figure of each is taken. Rows of ROUGH aren't drawn."""
 import html
 import math
-import os
 import sys
+
+import libraries
 
 CALLS = ("encode", "into", "slice", "reader")
 # Messages: their figures are of a machine that wasn't quiet.
@@ -106,9 +107,7 @@ def table(own, crate):
 
 def main():
     own, crate = lowest(sys.argv[1]), lowest(sys.argv[2])
-    path = os.path.join(os.path.dirname(os.path.dirname(os.path.abspath(__file__))), "docs", "benchmarks.svg")
-    with open(path, "w", encoding="utf-8") as file:
-        file.write(drawing(own, crate))
+    (libraries.TOP / "docs" / "benchmarks.svg").write_text(drawing(own, crate), encoding="utf-8")
     table(own, crate)
 
 

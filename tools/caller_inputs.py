@@ -9,7 +9,7 @@ from libraries import CRATES, ROWS, TOP
 
 PAGE = TOP / "docs" / "CALLERS.md"
 CAPTURED = CRATES / "test_tls13" / "src" / "tests" / "captured"
-# A test vector's names, by python/vectors.py, and the row of each: its message, and what its hex begins with. Of a proposal this is left out.
+# A test vector's names, by python/vectors.py, and the row of each: its message, and what its hex begins with, except for a proposal.
 VECTOR = {
     "public_message_commit": ("mls_message", "00010001"),
     "private_message": ("mls_message", "00010002"),
@@ -50,7 +50,7 @@ def rows_of(path: pathlib.Path) -> list[list[str]]:
 
 
 def answered(places: list[pathlib.Path], signed: pathlib.Path) -> set[str]:
-    """The calls by which a row's bytes are accepted. A message's row is of its validator and decoder, and with fields also of what finds them."""
+    """The calls that accept a row's bytes. A message's row is of its validator and decoder, and with fields also of what finds them."""
     found = {"mls_framed_content_tbs_encode" for it in rows_of(signed) if it[3].startswith("0 ")}
     found |= {it[0] for path in places for it in rows_of(path) if it[2].startswith("0 ")}
     for columns in (it for path in ROWS for it in rows_of(path) if it[2].startswith("0 ")):
@@ -94,7 +94,7 @@ def extension_lines(message: bytes) -> str:
 
 
 def hellos() -> list[tuple[bytes, str]]:
-    """Records, and what examples/hello.c prints: each captured ClientHello, in one record and over three, of which the last begins another
+    """Records, and what examples/hello.c prints: each captured ClientHello, in one record and over three, where the last begins another
     message; records that are cut short, of another type, empty or too long; and messages that are no ClientHello."""
     whole = [it for it in captured() if it[0] == 1]
     found = [(record(it), extension_lines(it)) for it in whole]

@@ -1,5 +1,5 @@
 #!/usr/bin/env python3
-"""Compares each crate that tlsgen wrote with what the program writes today, but for layout, and its stored output byte for byte.
+"""Compares each crate that tlsgen wrote with what the program writes today, except for layout, and its stored output byte for byte.
 
 The program is built once, without proof (`rt try`), and run once a crate. Three more runs compare files that have one fault each, and must
 end with status 1 and its line. The last line counts the runs that end as they must. With --write it writes the crates instead.
@@ -13,13 +13,13 @@ import subprocess
 import sys
 import tempfile
 
-sys.dont_write_bytecode = True
-from libraries import CRATES, TEXTS
+import cases
+from libraries import CRATES, DATA, TEXTS
 
 STORED = "hello"
 
 
-def words(crate, text):
+def words(crate: str, text: str) -> list[str]:
     """The words for a crate: its notes, and those that it uses with theirs."""
     uses = re.search(rf"^{crate}:(.*)$", (CRATES.parent / "crates.txt").read_text(), re.M).group(1).split()
     others = [f"{other}={TEXTS[other]}.tls,{TEXTS[other]}.notes" for other in uses if other in TEXTS]
@@ -30,26 +30,16 @@ def words(crate, text):
 RUNS = {crate: (crate, text, words(crate, text)) for crate, text in TEXTS.items()}
 
 
-def files_of(crate):
+def files_of(crate: str) -> list[str]:
     """The files that are compared, by their paths in the crate."""
     folder = CRATES / crate
     return [str(it.relative_to(folder)) for part in ("src", "specs", "proofs") for it in sorted(folder.glob(f"{part}/**/*")) if it.is_file()]
 
 
-def run(cases, data):
-    """What `rt try` prints of the runs in a folder."""
-    ran = subprocess.run(["rt", "try", "--cases", cases, *data], cwd=CRATES / "tlsgen", capture_output=True, text=True)
-    return ran.stdout, ran.stdout + ran.stderr
-
-
-def texts():
-    """The words by which each run finds the texts and their notes."""
-    return [word for path in sorted((CRATES / "tlsgen" / "data").iterdir()) for word in ("--data", f"{path.name}=data/{path.name}")]
-
-
-def add(cases, name, text, more, crate=None):
-    pathlib.Path(cases, name).touch()
-    pathlib.Path(cases, f"{name}.args").write_text("\n".join([f"{text}.tls", "--crate", crate or name, *more]) + "\n")
+def add(folder: str, name: str, text: str, more: list[str], crate: str | None = None) -> None:
+    """Adds a run of tlsgen to a folder of cases: from a text to a crate, which has the run's name if none is given."""
+    pathlib.Path(folder, name).touch()
+    pathlib.Path(folder, f"{name}.args").write_text("\n".join([f"{text}.tls", "--crate", crate or name, *more]) + "\n")
 
 
 def stored_files() -> dict[str, str]:
@@ -73,30 +63,30 @@ def faults() -> dict[str, tuple[dict[str, str], str]]:
     }
 
 
-def add_faults(cases: str, folder: str) -> list[str]:
-    """Adds a run for each fault. Returns the words by which they find their files, which are written into a folder."""
-    data = []
+def add_faults(folder: str, room: str) -> dict[str, pathlib.Path]:
+    """Adds a run for each fault. Returns their files, which are written into a room, by the names under which the runs find them."""
+    data = {}
     for name, (files, printed) in faults().items():
-        add(cases, name, STORED, ["--compare", f"of_{name}"], STORED)
-        pathlib.Path(cases, f"{name}.stdout").write_text(f"of_{name}/{printed}\n")
+        add(folder, name, STORED, ["--compare", f"of_{name}"], STORED)
+        pathlib.Path(folder, f"{name}.stdout").write_text(f"of_{name}/{printed}\n")
         for path, text in files.items():
-            file = pathlib.Path(folder, name, path)
+            file = pathlib.Path(room, name, path)
             file.parent.mkdir(parents=True, exist_ok=True)
             file.write_text(text)
-            data += ["--data", f"of_{name}/{path}={file}"]
+            data[f"of_{name}/{path}"] = file
     return data
 
 
-def write():
+def write() -> int:
     """Writes each crate anew, and lays it out, if all runs ended as they must. Returns the exit status."""
-    with tempfile.TemporaryDirectory() as cases:
+    with tempfile.TemporaryDirectory() as folder:
         for name, (_, text, more) in RUNS.items():
-            add(cases, name, text, more)
-        printed, output = run(cases, texts())
-    if ended(output) != set(RUNS):
-        print(f"nothing was written:\n{output.removeprefix(printed)}")
+            add(folder, name, text, more)
+        tried = cases.run("tlsgen", folder, cases.files_in(DATA))
+    if tried.names(0, as_expected=False) != set(RUNS):
+        print(f"nothing was written:\n{tried.said}")
         return 1
-    for part in re.split(r"^== (?=\w+$)", printed, flags=re.M)[1:]:
+    for part in re.split(r"^== (?=\w+$)", tried.printed, flags=re.M)[1:]:
         name, _, files = part.partition("\n")
         for file in re.split(r"^=== (?=\S+$)", files, flags=re.M)[1:]:
             path, _, content = file.partition("\n")
@@ -107,33 +97,27 @@ def write():
     return 0
 
 
-def ended(output: str, status: int = 0, more: str = "") -> set[str]:
-    """The runs that ended with a status, by what `rt try` says of them."""
-    return set(re.findall(rf"^case=(\w+) run=ended status={status} {more}", output, re.M))
-
-
-def compare():
-    data = texts()
-    with tempfile.TemporaryDirectory() as cases, tempfile.TemporaryDirectory() as folder:
-        data += add_faults(cases, folder)
+def compare() -> int:
+    """Compares the crates and the stored output with what tlsgen writes. Returns the exit status."""
+    data = cases.files_in(DATA)
+    with tempfile.TemporaryDirectory() as folder, tempfile.TemporaryDirectory() as room:
+        data |= add_faults(folder, room)
         for name, (crate, text, more) in RUNS.items():
-            add(cases, name, text, [*more, "--compare", f"of_{name}"])
-            for file in files_of(crate):
-                data += ["--data", f"of_{name}/{file}={CRATES / crate / file}"]
+            add(folder, name, text, [*more, "--compare", f"of_{name}"])
+            data |= {f"of_{name}/{file}": CRATES / crate / file for file in files_of(crate)}
         # the run of rt ci, whose output is stored
-        pathlib.Path(cases, STORED).touch()
+        pathlib.Path(folder, STORED).touch()
         for kind in ("args", "stdout"):
-            shutil.copy(CRATES / "tlsgen" / kind, pathlib.Path(cases, f"{STORED}.{kind}"))
-        _, output = run(cases, data)
-    expected = ".*output=expected "
-    same = (ended(output) & set(RUNS)) | (ended(output, 0, expected) & {STORED})
-    refused = ended(output, 1, expected) & set(faults())
+            shutil.copy(CRATES / "tlsgen" / kind, pathlib.Path(folder, f"{STORED}.{kind}"))
+        tried = cases.run("tlsgen", folder, data)
+    same = (tried.names(0, as_expected=False) & set(RUNS)) | (tried.names(0) & {STORED})
+    refused = tried.names(1) & set(faults())
     passed, wanted = len(same) + len(refused), len(RUNS) + 1 + len(faults())
     print(f"{len(same)} of {len(RUNS) + 1} texts are what tlsgen writes today, and {len(refused)} of {len(faults())} faults are reported")
     if passed < wanted:
-        print(output)
+        print(tried.printed + tried.said)
     print(f"{passed} passed, {wanted - passed} failed")
-    return passed < wanted
+    return int(passed < wanted)
 
 
 if __name__ == "__main__":

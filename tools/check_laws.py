@@ -8,11 +8,8 @@ For each crate a line says so, or what isn't so, and another one compares it wit
 import re
 import sys
 
-sys.dont_write_bytecode = True
-from libraries import CRATES, TEXTS, Libraries
+from libraries import CRATES, DATA, TEXTS, Libraries
 from write_laws import differences
-
-DATA = CRATES / "tlsgen" / "data"
 
 
 def plain(name):
@@ -42,7 +39,7 @@ def faults_of_text(laws, page, text):
 # ---- declarations of a written crate
 
 def body(code, head):
-    """What stands between the braces behind a head."""
+    """What is between the braces after a head."""
     found = re.search(rf"{head}\b", code)
     if not found:
         return None
@@ -55,7 +52,7 @@ def body(code, head):
 
 
 def declared_name(text):
-    """The name in a declaration, as `opaque tail<V>;`, or the type where it stands alone."""
+    """The name in a declaration, as `opaque tail<V>;`, or the type if it is alone."""
     text = re.sub(r"^case [^:]*: ?", "", text)
     text = re.sub(r"[\[<=;].*", "", re.sub(r"optional<([^>]*)>", r"\1", text))
     words = text.split()

@@ -3,7 +3,8 @@
 
 - A block of code has to occur, line by line and in order, in the file that the words before it name
   (`src/leaf.rt`, `specs/Messages.antt`), or, if they name none, in one file under crates/. From a function's head it leaves out no
-  clause after a line that it quotes. Space at both ends of a line doesn't count; c/, python/ and rust/ are read as crates/ is. A block is no quote if it is `console`, or after a line <!-- not quoted --> or <!-- file: PATH -->.
+  clause after a line that it quotes. Space at both ends of a line doesn't count; c/, python/ and rust/ are read as crates/ is. A block is no
+  quote if it is `console`, or after a line <!-- not quoted --> or <!-- file: PATH -->.
 - A link that isn't of another site has to lead to a file of the repository, and to a heading of it.
 - A name in `code` that is a path under crates/, docs/, tools/ or .ci/, or has an underscore in it, has to occur in the repository;
   names of what was before, in CHANGELOG.md, and a few of elsewhere don't.
@@ -11,20 +12,24 @@
 - No word is one of the dialect (tools/dialect.py). The pages are short, and their reading lists closed (tools/reading.py).
 - The pictures are what tools/pictures.py draws.
 
-Prints a line for each place that doesn't match, and last 'N passed, N failed', which counts pages and pictures, the words of all sources
-as one, and what tools/reading.py checks as one; the exit status is 1 if one failed.
+Before that it tries its checks on lines with one fault each. Prints a line for each place that doesn't match, and last 'N passed, N failed',
+which counts pages and pictures, and as one each these lines, the words of all sources, and what tools/reading.py checks; the exit status is 1
+if one failed.
 """
+from __future__ import annotations
+
 import pathlib
 import re
 import sys
+from collections.abc import Iterator
 
-TOP = pathlib.Path(__file__).resolve().parent.parent
-sys.dont_write_bytecode = True
 import dialect
 import pictures
 import reading
+from libraries import PAGES, TOP, files_of_clone
 
-PAGES = [*sorted(TOP.glob("*.md")), *sorted((TOP / "docs").glob("*.md"))]
+# A fault: the line where it is, and what it is.
+Fault = tuple[int, str]
 FENCE = re.compile(r"^ *```")
 NOT_QUOTED = re.compile(r"<!-- (?:not quoted|file: \S+) -->")
 LINK = re.compile(r"\]\(([^()\s]+)\)")
@@ -35,16 +40,16 @@ HEAD = re.compile(r"(?:pub )?(?:final )?(?:const |unsafe )*fn ")
 CLAUSES = ("requires", "ensures")
 
 
-def sources():
+def sources() -> dict[str, list[str]]:
     """Each text file under crates/ and of what callers elsewhere are given, by its path, as lines without the space around them."""
     files = {}
-    for path in [it for root in ("crates", "c", "python", "rust") for it in sorted((TOP / root).rglob("*"))]:
-        if path.is_file() and not {"out", "target"} & set(path.relative_to(TOP).parts):
+    for path in files_of_clone():
+        if path.parts[0] in ("crates", "c", "python", "rust"):
             try:
-                text = path.read_text()
+                text = (TOP / path).read_text()
             except UnicodeDecodeError:
                 continue
-            files[path.relative_to(TOP).as_posix()] = [line.strip() for line in text.split("\n")]
+            files[path.as_posix()] = [line.strip() for line in text.split("\n")]
     return files
 
 
@@ -76,7 +81,7 @@ def fault_of(quote: list[tuple[int, str]], lines: list[str]) -> tuple[int, str, 
     return None
 
 
-def blocks(lines):
+def blocks(lines: list[str]) -> Iterator[tuple[list[str], str, list[tuple[int, str]]]]:
     """Each block of a page: the words since the last one, what it is, and its lines by number."""
     words, kind, quote = [], None, []
     for number, line in enumerate(lines, 1):
@@ -92,7 +97,7 @@ def blocks(lines):
             quote.append((number, line.strip()))
 
 
-def prose(lines):
+def prose(lines: list[str]) -> Iterator[tuple[int, str]]:
     """The lines of a page outside of its blocks, by number."""
     inside = False
     for number, line in enumerate(lines, 1):
@@ -102,7 +107,7 @@ def prose(lines):
             yield number, line
 
 
-def anchors(path):
+def anchors(path: pathlib.Path) -> set[str]:
     """The anchors of a page's headings, as the web pages of repositories make them."""
     found = set()
     for _, line in prose(path.read_text().split("\n")):
@@ -117,7 +122,8 @@ def anchors(path):
     return found
 
 
-def check_quotes(lines, files):
+def check_quotes(lines: list[str], files: dict[str, list[str]]) -> Iterator[Fault]:
+    """The blocks of a page that are no quotes of these files."""
     for words, kind, quote in blocks(lines):
         before = [line.strip() for line in words if line.strip()]
         if not quote or kind == "console" or (before and NOT_QUOTED.fullmatch(before[-1])):
@@ -137,7 +143,8 @@ def check_quotes(lines, files):
             yield number, f"{fault} {name or 'one file under crates/'}: {line}"
 
 
-def check_links(page, lines):
+def check_links(page: pathlib.Path, lines: list[str]) -> Iterator[Fault]:
+    """The links of a page that lead nowhere."""
     for number, line in prose(lines):
         for link in LINK.findall(line):
             if re.match(r"[a-z]+:", link):
@@ -150,7 +157,8 @@ def check_links(page, lines):
                 yield number, f"no such heading: {link}"
 
 
-def check_names(lines, words):
+def check_names(lines: list[str], words: set[str]) -> Iterator[Fault]:
+    """The paths and names in `code` of a page that the repository doesn't have."""
     for number, line in prose(lines):
         for name in CODE.findall(line):
             if re.fullmatch(r"(?:crates|docs|tools|\.ci)/[\w/.-]+", name):
@@ -160,17 +168,45 @@ def check_names(lines, words):
                 yield number, f"no such name: {name}"
 
 
-def check_merged(lines):
+def check_merged(lines: list[str]) -> Iterator[Fault]:
+    """The lines that a merge left."""
     for number, line in enumerate(lines, 1):
         if re.match(r"(<{7}|={7}|>{7})( |$)", line):
             yield number, "left by a merge"
 
 
-def main():
+def selftest() -> list[str]:
+    """The planted faults that aren't found, and what is found in lines that have none."""
+    head, clause, other = "pub fn half(x: u8) -> u8", "requires even { x }", "ensures half { x }"
+    files, page = {"crates/one/src/lib.rt": [head, clause, other, "{"]}, TOP / "README.md"
+
+    def quote(*lines: str) -> Iterator[Fault]:
+        return check_quotes(["From `src/lib.rt`:", "", "```rust", *lines, "```"], files)
+
+    planted = {
+        "another line": quote(head, "requires odd { x }", other),
+        "a dropped clause": quote(head, clause, "{"),
+        "no file of a quote": check_quotes(["`src/other.rt`", "```rust", head, "```"], files),
+        "a dead link": check_links(page, ["[one](docs/NOWHERE.md)"]),
+        "no heading": check_links(page, ["[one](#nowhere)"]),
+        "no name": check_names(["`no_such_name`"], {"name"}),
+        "no path": check_names(["`tools/nowhere.py`"], set()),
+        "a line of a merge": check_merged(["<<<<<<< HEAD"]),
+        "a word of the dialect": dialect.words_in("It stands there."),
+    }
+    names = check_names(["`one_name` of `tools/check_pages.py`"], {"one_name"})
+    sound = [*quote(head, clause, other, "{"), *check_links(page, ["[one](docs/MAP.md)"]), *names, *check_merged(["==="]), *dialect.words_in("It is there.")]
+    return [f"selftest: not found: {fault}" for fault, found in planted.items() if not list(found)] + [f"selftest: found: {it}" for it in sound]
+
+
+def main() -> int:
     files = sources()
     words = {word for lines in files.values() for line in lines for word in re.findall(r"\w+", line)}
     words |= {part for path in files for part in re.split(r"[/.]", path)}
     failed = set()
+    for text in selftest():
+        print(text)
+        failed.add("selftest")
     for page in PAGES:
         lines = page.read_text().split("\n")
         found = [*check_quotes(lines, files), *check_links(page, lines), *check_merged(lines)]
@@ -192,8 +228,9 @@ def main():
         if (TOP / "docs" / name).read_text() != draw(False).svg():
             print(f"docs/{name}: not as tools/pictures.py draws it")
             failed.add(name)
-    read = len(PAGES) + len(pictures.PICTURES) + 2
-    print(f"{len(PAGES)} pages and {len(pictures.PICTURES)} pictures were compared with the crates, and the words of {len(commented)} sources read")
+    read = len(PAGES) + len(pictures.PICTURES) + 3
+    compared = f"{len(PAGES)} pages and {len(pictures.PICTURES)} pictures were compared with the crates"
+    print(f"{compared}, and the words of {len(commented)} sources read")
     print(f"{read - len(failed)} passed, {len(failed)} failed")
     return 1 if failed else 0
 

@@ -16,12 +16,11 @@ import sys
 import tempfile
 from typing import NamedTuple
 
-sys.dont_write_bytecode = True
 import compare_rfc
-from compare_rfc import DATA, TEXTS
+from compare_rfc import TEXTS
+from libraries import CRATES, DATA
 from presentation import Parser
 
-CRATES = DATA.parent.parent
 COMMENT = re.compile(r"/\*.*?\*/|//[^\n]*", re.S)
 # The texts with definitions of each RFC, and the RFCs that are made with page breaks.
 RFCS = {"8446": ["tls13"], "6962": ["ct"], "5246": ["ct"], "9420": ["mls_tree", "mls_group", "mls"]}

@@ -9,7 +9,6 @@ import json
 import re
 import sys
 
-sys.dont_write_bytecode = True
 from libraries import CRATES
 from message_reader import PROTOCOLS, Reader, Rejected, Text, counted
 from presentation import Parser, name_of

@@ -3,7 +3,7 @@
 
 Each struct that `crates/tls_codec/src/lib.rt` exports, and that has an `impl Size`, has a line of `Means` in `types.rt`. Each
 that has a decoder has a line of names for it, and each that has `PartialEq` a line in `equality.rt`. A family such as `TlsVecU8`
-stands under the generic type that it names. Types that a context decides stand in `contexts.rt`, and are held to the traits in a context
+is under the generic type that it names. Types that a context decides are in `contexts.rt`, and are held to the traits in a context
 too: such a type has no format but one for each context, so its line is one of `SameFormat` and not of `Means`. Each that has a decoder
 from a slice, and each of `tls_codec_cases`, is validated by an impl in `tls_codec_validate`, without a context or in one.
 Each has a row in docs/API.md, with its crate and its traits, and so have the types of std that `tls_codec_base` gives them to;
@@ -11,14 +11,16 @@ each name there is such a type's.
 Each variant of `Error` is among the words for contracts, and each line that exports names can be read. Prints what is missing; the last
 line is 'N passed, N failed', a type each.
 """
-import pathlib
+from __future__ import annotations
+
 import re
 import sys
 from collections.abc import Iterator
 
-CRATES = pathlib.Path(__file__).resolve().parent.parent / "crates"
+from libraries import CRATES, TOP
+
 TABLE = CRATES / "tls_codec/src"
-PAGE = CRATES.parent / "docs/API.md"
+PAGE = TOP / "docs/API.md"
 EXPORT = re.compile(r"^pub use (\w+)::(?:\{([^{}*]*)\}|(\w+));", re.M)
 NAME = re.compile(r"[A-Z]\w*")
 # an impl of a trait for a type, with or without parameters: a name, a tuple, an array or a slice
@@ -28,7 +30,7 @@ DERIVE = re.compile(r"#\[derive\(([^)]*)\)\]\n(?:#\[[^\n]*\]\n)*pub struct (\w+)
 ALIAS = re.compile(r"^pub type (\w+)", re.M)
 STRUCT = re.compile(r"^pub (?:struct|enum) (\w+)", re.M)
 
-# what reads a type from a slice, and what tells its bytes from others
+# what reads a type from a slice, and what validates its bytes
 VALIDATED = {"DeserializeBytes": "Validate", "DeserializeBytesFor": "ValidateFor", "SplitCases": "ValidateCases"}
 
 
@@ -164,7 +166,7 @@ def main():
     types_of = set(with_format(by_crate))
     results = [report(without_type(row, types_of)) for row in page]
     for crate, name in names:
-        # (an impl for a type of wire stands in base)
+        # (an impl for a type of wire is in base)
         traits = by_crate[crate].get(name, set()) | by_crate["tls_codec_base"].get(name, set())
         if traits & {"Size", "SizeFor"}:
             lacks = [*missing(name, traits, types, equality), *not_validated(name, traits, validated)]

@@ -13,7 +13,6 @@ import re
 import sys
 from collections.abc import Iterator
 
-sys.dont_write_bytecode = True
 import edits
 from libraries import CRATES, TOP, Libraries
 
@@ -33,7 +32,7 @@ def excepted() -> set[str]:
 
 
 def held() -> list[str]:
-    """The crates whose public functions are looked at: the first group of crates.txt, the archives, and what is below them."""
+    """The crates whose public functions are checked: the first group of crates.txt, the archives, and what is below them."""
     first_group = (TOP / "crates.txt").read_text().partition("\n\n")[0]
     return [*re.findall(r"^(\w+)", first_group, re.M), *Libraries().static, *BELOW_ARCHIVES]
 

@@ -28,10 +28,9 @@ import re
 import sys
 from typing import NamedTuple
 
-sys.dont_write_bytecode = True
+from libraries import DATA
 from presentation import Parser, name_of, tokens
 
-DATA = pathlib.Path(__file__).resolve().parent.parent / "crates" / "tlsgen" / "data"
 TEXTS = ("tls13", "ct", "mls_tree", "mls_group", "mls")
 COMMENT = re.compile(r"/\*.*?\*/|//[^\n]*", re.S)
 FOOTER = re.compile(r"\[Page \d+\]\s*$")

@@ -1,18 +1,30 @@
 #!/usr/bin/env python3
 """Lists words of this project's dialect, with what to write in their place: in the pages, those at the top and docs/*.md, and in the
-comments of what users read: the library, `guide`, `mls` and its siblings, the Rust crate.
+comments of the scripts, of what callers elsewhere are given, of the library, `guide`, and `mls` and its siblings.
 
 Words in `code`, in blocks and in links' targets don't count. Prints a line for each; last 'N passed, N failed', which counts files; the
 exit status is 1 if one failed. To find more, add a line to WORDS.
 """
+from __future__ import annotations
+
+import io
 import pathlib
 import re
 import sys
+import tokenize
+from collections.abc import Iterator
 
-TOP = pathlib.Path(__file__).resolve().parent.parent
-PAGES = ("*.md", "docs/*.md")
-SOURCES = ("rust/src/*.rs", "rust/tests/*.rs", "crates/tls_codec*/src/**/*.rt", "crates/guide/src/*.rt", "crates/mls*/src/*.rt")
+from libraries import PAGES, TOP
+
+CALLERS = ("c/**/*.[ch]", "c/**/*.cc", "rust/**/*.rs", "python/**/*.py")
+SCRIPTS = (".ci/run", "tools/*", "tools/laws/*.py")
+SOURCES = (*SCRIPTS, *CALLERS, "crates/tls_codec*/src/**/*.rt", "crates/guide/src/*.rt", "crates/mls*/src/*.rt")
 COMMENT = re.compile(r"\s*//[/!]?(.*)$")
+# A line within a comment of C that goes over several, and the hash of scripts and data.
+BLOCK = re.compile(r"\s*/?\*+(?!/)(.*?)(?:\*/)?\s*$")
+HASH = re.compile(r"\s*#(?!!)(.*)$")
+# The tokens after which a string alone is a docstring.
+BEFORE_DOCSTRING = {tokenize.ENCODING, tokenize.NEWLINE, tokenize.NL, tokenize.COMMENT, tokenize.INDENT, tokenize.DEDENT}
 
 WORDS = {
     r"(?:of|by|over|upon) (?:which|whom)": "a sentence of its own, or `whose`",
@@ -47,7 +59,7 @@ PATTERN = re.compile("|".join(rf"(\b(?:{word})(?!\w))" for word in WORDS), re.I)
 BETTER = list(WORDS.values())
 
 
-def prose(text):
+def prose(text: str) -> str:
     """The text of a page with blocks, code and the targets of links blanked, line for line."""
     inside, lines = False, []
     for line in text.split("\n"):
@@ -57,28 +69,49 @@ def prose(text):
     return "\n".join(lines)
 
 
-def comments(text):
-    """The comments of a source, line for line."""
-    found = [COMMENT.match(line) for line in text.split("\n")]
-    return "\n".join(it[1] if it else "" for it in found)
+def comments(path: pathlib.Path, text: str) -> str:
+    """The comments of a source, line for line, and the docstrings of Python."""
+    if path.suffix == ".py" or re.match(r"#!.*python", text):
+        return comments_of_python(text)
+    forms = {".rt": [COMMENT], ".rs": [COMMENT], ".c": [COMMENT, BLOCK], ".h": [COMMENT, BLOCK], ".cc": [COMMENT, BLOCK]}.get(path.suffix, [HASH])
+    found = [next((it[1] for it in (form.match(line) for form in forms) if it), "") for line in text.split("\n")]
+    return "\n".join(found)
 
 
-def findings(page):
-    """Each word of the dialect in a page, or in a source's comments: its line, the word, and what is better."""
-    text = page.read_text()
-    text = prose(text if page.suffix == ".md" else comments(text))
+def comments_of_python(text: str) -> str:
+    """The comments and the docstrings of a script, line for line."""
+    lines, before, depth = [""] * (text.count("\n") + 1), tokenize.ENCODING, 0
+    for token in tokenize.generate_tokens(io.StringIO(text).readline):
+        depth += {"(": 1, "[": 1, "{": 1, ")": -1, "]": -1, "}": -1}.get(token.string, 0)
+        is_docstring = token.type == tokenize.STRING and before in BEFORE_DOCSTRING and not depth
+        if token.type == tokenize.COMMENT or is_docstring:
+            for at, line in enumerate(token.string.strip('#"').split("\n"), token.start[0] - 1):
+                lines[at] = line
+        before = token.type
+    return "\n".join(lines)
+
+
+def words_in(text: str) -> Iterator[tuple[int, str, str]]:
+    """Each word of the dialect in a text: its line, the word, and what is better."""
     for found in PATTERN.finditer(re.sub(r"\n", " ", text)):
         line = text.count("\n", 0, found.start()) + 1
         yield line, found[0], BETTER[found.lastindex - 1]
 
 
-def files(forms):
-    return [file for form in forms for file in sorted(TOP.glob(form))]
+def findings(page: pathlib.Path) -> Iterator[tuple[int, str, str]]:
+    """Each word of the dialect in a page, or in a source's comments: its line, the word, and what is better."""
+    text = page.read_text()
+    return words_in(prose(text if page.suffix == ".md" else comments(page, text)))
 
 
-def main():
+def files(forms: tuple[str, ...]) -> list[pathlib.Path]:
+    """The files of these forms, in their order."""
+    return [file for form in forms for file in sorted(TOP.glob(form)) if file.is_file() and not {"out", "target"} & set(file.relative_to(TOP).parts)]
+
+
+def main() -> int:
     passed, failed = 0, 0
-    for page in files((*PAGES, *SOURCES)):
+    for page in (*PAGES, *files(SOURCES)):
         found = list(findings(page))
         for line, word, better in found:
             print(f"{page.relative_to(TOP)}:{line}: {word!r}: {better}")

@@ -27,7 +27,7 @@ class BadEdit(Exception):
 
 @dataclasses.dataclass(frozen=True)
 class Change:
-    """What stands in a file from one place to another, and what it becomes."""
+    """A text in a file, from one place to another, and what it becomes."""
 
     file: str
     start: int
@@ -111,7 +111,7 @@ def hold_to_function(function: str, crate: pathlib.Path, it: Change) -> None:
 
 
 def rounds(edits: list[Edit]) -> list[list[Edit]]:
-    """The edits in few rounds, each of which one copy can hold."""
+    """The edits in few rounds: one copy can hold all of a round."""
     found: list[list[Edit]] = []
     for edit in edits:
         room = next((it for it in found if edit.fits(it)), None)

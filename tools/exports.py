@@ -129,7 +129,7 @@ def header(crate: str) -> str:
 
 
 def table() -> str:
-    """The lines by which tests in C find a message's calls."""
+    """The lines that lead tests in C to a message's calls."""
     found = [it for crate in libraries() for it in exports_of(crate)]
     by_call = {call: [it for it in found if it.call == call] for call in CALLS}
     decoded = {it.subject for it in by_call["_decode_check"]}

@@ -7,14 +7,12 @@
 """
 from __future__ import annotations
 
-import pathlib
 import re
 from collections.abc import Callable
 
 import rejections
+from libraries import CRATES, TOP
 
-TOP = pathlib.Path(__file__).resolve().parent.parent
-CRATES = TOP / "crates"
 REFUSALS = TOP / "docs/REFUSALS.md"
 WORDS = {"nine": 9, "ten": 10, "eleven": 11, "twelve": 12}
 EXPLAINED = "# The inputs that `docs/REFUSALS.md` explains.\n"

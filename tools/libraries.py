@@ -1,13 +1,18 @@
-"""The crates of crates.txt, their texts, the words that let rattle find what `rt ci` built of them, and the rows that callers try."""
+"""The folders and pages of the repository, the crates of crates.txt with their texts, the words that let rattle find what `rt ci` built of
+them, and the rows that callers try."""
 from __future__ import annotations
 
 import pathlib
 import re
 import shutil
+import subprocess
 import sys
 
 TOP = pathlib.Path(__file__).resolve().parent.parent
 CRATES = TOP / "crates"
+# The texts of messages, with their notes.
+DATA = CRATES / "tlsgen" / "data"
+PAGES = [*sorted(TOP.glob("*.md")), *sorted((TOP / "docs").glob("*.md"))]
 # The rows of messages that validators and decoders of callers are tried with.
 ROWS = [CRATES / "test_outcome" / "stdout", TOP / "c" / "tests" / "tls13.tsv"]
 # The crates with laws that tlsgen wrote, and the text of each, which has the crate's name but in one place.
@@ -15,7 +20,21 @@ OTHER_NAMES = {"messages_of_each_shape": "each_shape"}
 TEXTS = {it: OTHER_NAMES.get(it, it) for it in re.findall(r"^(\w+)_laws:", (TOP / "crates.txt").read_text(), re.M)}
 
 
+def files_of_clone() -> list[pathlib.Path]:
+    """The files that a clone of this tree would have, from TOP on, in their order: those that git lists, or all that no build made."""
+    words = ["git", "ls-files", "-z", "--cached", "--others", "--exclude-standard"]
+    listed = subprocess.run(words, cwd=TOP, capture_output=True, text=True) if shutil.which("git") else None
+    names = listed.stdout.split("\0") if listed and not listed.returncode else []
+    found = [pathlib.Path(name) for name in names if name and (TOP / name).is_file()]
+    if not found:
+        paths = [it.relative_to(TOP) for it in TOP.rglob("*") if it.is_file()]
+        found = [it for it in paths if not {".git", "out", "target", "__pycache__"} & set(it.parts)]
+    return sorted(set(found))
+
+
 class Libraries:
+    """The crates, with the libraries that each uses, and those that are static libraries."""
+
     def __init__(self) -> None:
         lines = (TOP / "crates.txt").read_text().splitlines()
         named = [it.partition(":") for it in lines if ":" in it and not it.startswith("#")]

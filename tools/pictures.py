@@ -9,10 +9,9 @@ import pathlib
 import sys
 import textwrap
 
-sys.dont_write_bytecode = True
 import check_trees as trees
+from libraries import TOP
 
-TOP = pathlib.Path(__file__).resolve().parent.parent
 WIDTH = 720
 MONO = "ui-monospace, Menlo, Consolas, 'DejaVu Sans Mono', monospace"
 SANS = "system-ui, 'Segoe UI', Helvetica, 'DejaVu Sans', sans-serif"

@@ -16,7 +16,6 @@ import pathlib
 import re
 import sys
 
-sys.dont_write_bytecode = True
 import figures
 
 TOP = pathlib.Path(__file__).resolve().parent.parent

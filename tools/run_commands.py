@@ -23,7 +23,8 @@ import subprocess
 import sys
 import tempfile
 
-TOP = pathlib.Path(__file__).resolve().parent.parent
+from libraries import PAGES, TOP, files_of_clone
+
 SECONDS = 3600
 PART = re.compile(r"(?:<!-- file: (\S+) -->\n)?^```(\w*)\n(.*?)^```$", re.M | re.S)
 # The kinds of lines in tools/commands.txt, and how many cells a line of each has.
@@ -92,11 +93,9 @@ def has_commands(page: str) -> bool:
 
 def copy_of_clone(folder: pathlib.Path) -> pathlib.Path:
     """The files that a clone of this tree would have."""
-    listed = subprocess.run(["git", "ls-files", "-z", "--cached", "--others", "--exclude-standard"], cwd=TOP, capture_output=True, check=True)
-    for name in filter(None, listed.stdout.decode().split("\0")):
-        if (TOP / name).is_file():
-            (folder / name).parent.mkdir(parents=True, exist_ok=True)
-            shutil.copy2(TOP / name, folder / name)
+    for name in files_of_clone():
+        (folder / name).parent.mkdir(parents=True, exist_ok=True)
+        shutil.copy2(TOP / name, folder / name)
     subprocess.run(["git", "init", "-q", folder], check=True)
     return folder
 
@@ -151,7 +150,7 @@ def results(page: str) -> tuple[int, list[str]]:
 
 
 def main() -> int:
-    files = [it.relative_to(TOP).as_posix() for it in [*sorted(TOP.glob("*.md")), *sorted((TOP / "docs").glob("*.md"))]]
+    files = [it.relative_to(TOP).as_posix() for it in PAGES]
     pages = [it for it in sys.argv[1:] or files if has_commands(it)]
     with concurrent.futures.ThreadPoolExecutor(4) as pool:
         ended = list(pool.map(results, pages))

@@ -12,17 +12,15 @@ from __future__ import annotations
 
 import collections.abc
 import pathlib
-import re
 import shutil
 import subprocess
 import sys
 import tempfile
 
-sys.dont_write_bytecode = True
+import cases
 import check_generated as generated
 import rejections
-
-CRATES = pathlib.Path(__file__).resolve().parent.parent / "crates"
+from libraries import CRATES
 
 # The exit status of each run.
 STATUS = {
@@ -136,28 +134,42 @@ REFUSED = 1000
 NO_ROOM = 3
 
 
-def make(cases):
+def make(folder: pathlib.Path) -> None:
     """Writes the runs that aren't stored."""
     for name, count in MADE.items():
         content = count - 5
-        (cases / name).write_bytes(b"\0" + (1 << 31 | content).to_bytes(4) + b"\xaa" * content)
-        (cases / f"{name}.args").write_text("--binary\n--short\nHPKECiphertext\n")
-        (cases / f"{name}.stdout").write_text(SHOWN[name])
+        (folder / name).write_bytes(b"\0" + (1 << 31 | content).to_bytes(4) + b"\xaa" * content)
+        (folder / f"{name}.args").write_text("--binary\n--short\nHPKECiphertext\n")
+        (folder / f"{name}.stdout").write_text(SHOWN[name])
 
 
-def is_refused():
+def is_refused() -> bool:
     """Whether tlsdump ends as it must, and prints nothing, if a request for memory is refused."""
-    folder = CRATES / "tlsdump"
-    with tempfile.TemporaryDirectory() as cases:
-        shutil.copy(folder / "runs" / "key_package", cases)
-        pathlib.Path(cases, "key_package.stdout").touch()
-        words = ["rt", "try", "--fail-alloc", str(REFUSED), "--cases", cases]
-        ran = subprocess.run(words, cwd=folder, capture_output=True, text=True)
-    output = ran.stdout + ran.stderr
-    if re.search(rf"^case=key_package run=ended status={NO_ROOM} .*output=expected ", output, re.M):
+    with tempfile.TemporaryDirectory() as folder:
+        shutil.copy(CRATES / "tlsdump" / "runs" / "key_package", folder)
+        pathlib.Path(folder, "key_package.stdout").touch()
+        tried = cases.run("tlsdump", folder, flags=("--fail-alloc", str(REFUSED)))
+    if tried.names(NO_ROOM) == {"key_package"}:
         return True
-    print(output)
+    print(tried.printed + tried.said)
     return False
+
+
+def as_stored(program: str, runs: dict[str, int]) -> int:
+    """How many runs of a program print what they must, and end with their status."""
+    folder = CRATES / program
+    data = cases.files_in(folder / "data") if (folder / "data").is_dir() else {}
+    with tempfile.TemporaryDirectory() as room:
+        copied = pathlib.Path(room, "runs")
+        shutil.copytree(folder / "runs", copied)
+        if program == "tlsdump":
+            make(copied)
+        assert {path.stem for path in copied.glob("*.stdout")} == set(runs), f"{program}: STATUS has not just the runs"
+        tried = cases.run(program, copied, data)
+    same = [name for name, status in runs.items() if name in tried.names(status)]
+    if len(same) < len(runs):
+        print(tried.printed + tried.said)
+    return len(same)
 
 
 def built(words: list[str], path: pathlib.Path, output: str) -> tuple[int, str]:
@@ -176,17 +188,18 @@ def is_as(printed: str, wanted: str) -> bool:
 def streams() -> collections.abc.Iterator[tuple[str, bool, str]]:
     """What standard error and the status say of an output without room, and of each input that is rejected or can't be read."""
     with tempfile.TemporaryDirectory() as room:
-        cases = pathlib.Path(room, "runs")
-        shutil.copytree(CRATES / "tlsdump" / "runs", cases)
-        make(cases)
-        status, printed = built([], cases / "key_package", "/dev/full")
+        runs = pathlib.Path(room, "runs")
+        shutil.copytree(CRATES / "tlsdump" / "runs", runs)
+        make(runs)
+        status, printed = built([], runs / "key_package", "/dev/full")
         yield "tlsdump, full", (status, printed.startswith("tlsdump: ")) == (NO_ROOM, True), printed
         for wanted, lines in ((1, rejections.REJECTIONS), (2, UNREAD)):
-            assert set(lines) == {name for name, status in STATUS["tlsdump"].items() if status == wanted}, f"no line for each run with status {wanted}"
+            runs_so = {name for name, status in STATUS["tlsdump"].items() if status == wanted}
+            assert set(lines) == runs_so, f"no line for each run with status {wanted}"
             for name, line in lines.items():
-                words = cases / f"{name}.args"
+                words = runs / f"{name}.args"
                 given = words.read_text().split() if words.exists() else []
-                status, printed = built([word for word in given if word != "--json"], cases / name, "/dev/null")
+                status, printed = built([word for word in given if word != "--json"], runs / name, "/dev/null")
                 line = f"tlsdump: {line}" if line.endswith(" ") else f"tlsdump: {line}\n"
                 yield f"tlsdump, {name}", status == wanted and is_as(printed, line), printed
 
@@ -207,7 +220,7 @@ def generated_runs() -> collections.abc.Iterator[tuple[str, bool, str]]:
         yield f"tlsgen, {name}", is_so and files == (generated.stored_files() if name == WRITES else {}), ran.stderr
 
 
-def main():
+def main() -> int:
     for name in ("tlsdump", "tlsgen"):
         if not (CRATES / name / "out" / name).is_file():
             sys.exit(f"crates/{name}/out/{name} is not there: rt ci or rt run builds it\n0 passed, 1 failed")
@@ -218,25 +231,12 @@ def main():
         if not is_so:
             print(f"{name}: standard error has {printed!r}")
     for program, runs in STATUS.items():
-        folder = CRATES / program
-        with tempfile.TemporaryDirectory() as room:
-            cases = pathlib.Path(room, "runs")
-            shutil.copytree(folder / "runs", cases)
-            if program == "tlsdump":
-                make(cases)
-            assert {path.stem for path in cases.glob("*.stdout")} == set(runs), f"{program}: STATUS has not just the runs"
-            words = [word for path in sorted(folder.glob("data/*")) for word in ("--data", f"{path.name}=data/{path.name}")]
-            ran = subprocess.run(["rt", "try", "--cases", cases, *words], cwd=folder, capture_output=True, text=True)
-        output = ran.stdout + ran.stderr
-        same = [name for name, status in runs.items() if re.search(rf"^case={name} run=ended status={status} .*output=expected ", output, re.M)]
-        passed += len(same)
-        if len(same) < len(runs):
-            print(output)
+        passed += as_stored(program, runs)
     wanted = sum(map(len, STATUS.values())) + asked
     print(f"{passed} of {wanted} runs print what they must, with their exit status")
     print(f"{passed} passed, {wanted - passed} failed")
-    sys.exit(passed < wanted)
+    return int(passed < wanted)
 
 
 if __name__ == "__main__":
-    main()
+    sys.exit(main())

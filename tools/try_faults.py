@@ -3,14 +3,14 @@
 
 crates/NAME_laws/faults/*.fault changes the text from which the crate NAME was written, as a wrong reader of it would:
 
-    refused: Point values       the type whose law must be refused, and by which clauses
+    refused: Point values       the type whose law must be refused, and the clauses that refuse it
     old: opaque x<V>; opaque y<V>;
     new: opaque y<V>; opaque x<V>;
 
 `tlsgen` writes the crate from the changed text, and write_laws.py its laws; the lines that are quoted, and their definitions, stay those of the
 text. So all below the laws agrees with itself. One copy of a crate has all its faults. Just these laws must be refused, by just these
-clauses, each for a goal of its own; all others must be proved. They are checked as a part of the copy, of which nothing else is proved
-anew: they are about its specs.
+clauses, each for a goal of its own; all others must be proved. They are checked as a part of the copy, and nothing else of it is
+proved anew: they are about its specs.
 
 It runs after `rt ci`, over the libraries in crates/*/out/rlib. The last line is 'N passed, N failed'.
 """
@@ -24,12 +24,11 @@ import subprocess
 import sys
 import tempfile
 
-sys.dont_write_bytecode = True
+import cases
 import check_generated as written
 import verdicts
-from libraries import CRATES, TEXTS, TOP, Libraries
+from libraries import CRATES, DATA, TEXTS, TOP, Libraries
 
-DATA = CRATES / "tlsgen" / "data"
 # Pages of the laws that are the text's, and stay.
 OF_TEXT = ("Text", "Notes", "Definitions")
 # How the names of pages begin that a crate takes over from its laws.
@@ -68,13 +67,11 @@ def with_faults(text: str, faults: list[Fault]) -> str:
 def written_from(data: pathlib.Path, crate: str, to: pathlib.Path) -> None:
     """What `tlsgen` writes for the texts of this folder, built without proof."""
     _, text, more = written.RUNS[crate]
-    with tempfile.TemporaryDirectory() as cases:
-        pathlib.Path(cases, "crate").touch()
-        pathlib.Path(cases, "crate.args").write_text("\n".join([f"{text}.tls", "--crate", crate, *more]) + "\n")
-        words = [word for it in sorted(data.iterdir()) for word in ("--data", f"{it.name}={it}")]
-        ran = subprocess.run(["rt", "try", "--cases", cases, *words], cwd=CRATES / "tlsgen", capture_output=True, text=True)
-    assert re.search(r"^case=crate run=ended status=0 ", ran.stdout + ran.stderr, re.M), ran.stdout[-2000:] + ran.stderr[-2000:]
-    for path, code in re.findall(r"^=== (\S+)\n(.*?)(?=^=== |\Z)", ran.stdout, re.M | re.S):
+    with tempfile.TemporaryDirectory() as folder:
+        written.add(folder, "crate", text, more, crate)
+        tried = cases.run("tlsgen", folder, cases.files_in(data))
+    assert tried.names(0, as_expected=False) == {"crate"}, tried.printed[-2000:] + tried.said[-2000:]
+    for path, code in re.findall(r"^=== (\S+)\n(.*?)(?=^=== |\Z)", tried.printed, re.M | re.S):
         file = to / path
         file.parent.mkdir(parents=True, exist_ok=True)
         file.write_text(code)
@@ -126,7 +123,8 @@ def laws_tried(output: str, crate: str, room: pathlib.Path) -> dict[str, set[str
             continue
         answers = f"{law[1].replace('::', '/')}/Answers.antt"
         clauses = {name.removeprefix("returns-clause-") for file, name in open_goals if file == answers}
-        clauses |= {{"saying": "values", "naming": "names"}[name.removeprefix(f"{word[1]}_")] for _, name in open_goals if name in (f"{word[1]}_saying", f"{word[1]}_naming")}
+        lemmas = {f"{word[1]}_saying": "values", f"{word[1]}_naming": "names"}
+        clauses |= {lemmas[name] for _, name in open_goals if name in lemmas}
         found[page.stem] = clauses or (set() if law[2] == "proved" else {"?"})
     return found
 
@@ -143,7 +141,8 @@ def prepared(crate: str, faults: list[Fault], room: pathlib.Path) -> list[str]:
     shutil.copytree(DATA, data)
     (data / f"{text}.tls").write_text(with_faults((data / f"{text}.tls").read_text(), faults))
     written_from(data, crate, room / "crates" / crate)
-    shutil.copytree(TOP / "tools", room / "tools")
+    shutil.copytree(TOP / "tools", room / "tools", ignore=shutil.ignore_patterns("__pycache__"))
+    shutil.copy(TOP / "crates.txt", room)
     subprocess.run([sys.executable, room / "tools" / "write_laws.py", crate, text], check=True, stdout=subprocess.DEVNULL)
     for page in (CRATES / f"{crate}_laws" / "specs").glob("*.antt"):
         if any(it in page.stem for it in OF_TEXT):

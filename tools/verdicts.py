@@ -11,7 +11,7 @@ import enum
 import pathlib
 import re
 
-# How an error begins by which an answer is no proof of its goal. Others say of its text that it is wrong, as a name that isn't there.
+# How an error begins that says of an answer that it is no proof of its goal. Others say that its text is wrong, as a name that isn't there.
 NO_PROOF = re.compile(
     r"`(?:search|grind|omega)`: |`grind` stopped at its own limit |as printed, the two (?:types|sides) |computed as far as they go, the two (?:types|sides) |"
     r"computed as a goal is, one side reads |expected type "
@@ -19,7 +19,7 @@ NO_PROOF = re.compile(
 ERROR = re.compile(r"(\S+):\d+:\d+: error: `([^`]+)`: (.*)")
 OPEN = re.compile(r"`search` did not prove ((?:`[^`]+`(?:, | and )?)+)")
 CALLS = re.compile(r"it calls `.*, which (?:is|are) not proved$")
-# The statuses of a check that ended: all is proved, something isn't, and antt could not tell.
+# The statuses of a check that ended: all is proved, something isn't, and antt came to no answer.
 ENDED = (0, 1, 3)
 
 
@@ -64,7 +64,7 @@ def of(status: int, output: str, crate: str, function: str) -> Verdict:
 
 
 def answers(lines: list[str], function: str) -> tuple[list[str], list[str]]:
-    """The errors in a function's own proof files: those by which an answer is no proof of its goal, and all others."""
+    """The errors in a function's own proof files: those that say that an answer is no proof of its goal, and all others."""
     place = "./proofs/" + function.replace("::", "/") + "/"
     refused, lost = [], []
     for line in lines:

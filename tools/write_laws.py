@@ -10,11 +10,10 @@ from __future__ import annotations
 import re
 import sys
 
-sys.dont_write_bytecode = True
 from laws.modules import modules
 from laws.pages import Files, pages
 from laws.says import Reading
-from laws.written import CRATES
+from libraries import CRATES
 
 IMPORT = re.compile(r"^(?:ghost )?use ([\w.:]+?)(?:\.|::)(?:\{([^}]*)\}|(\w+));?$", re.M)
 

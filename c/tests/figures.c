@@ -1,4 +1,4 @@
-/* figures FILE: how much stack the calls of each row's message touch, in bytes, as `NAME VALIDATOR DECODER`. Each is called once, in a thread
+/* figures FILE: how much stack the calls of each row's message touch, in bytes: a line `NAME VALIDATOR DECODER`. Each is called once, in a thread
  * on a painted stack. What a thread touches that calls nothing isn't counted. */
 #define _POSIX_C_SOURCE 200809L
 #include <pthread.h>

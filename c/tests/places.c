@@ -44,7 +44,7 @@ static int are_marks(const tls_codec_span *places, size_t size) {
 
 static int is_place(tls_codec_span it, size_t offset, size_t size) { return it.offset == offset && it.size == size; }
 
-/* Goes over a list. Returns whether each call moves what is left behind the element, or, if it rejects the bytes, moves nothing. */
+/* Goes over a list. Returns whether each call moves what is left past the element, or, if it rejects the bytes, moves nothing. */
 static int go_over(next *next, const uint8_t *bytes, size_t length, struct answer *answer) {
   tls_codec_span left = {0, length}, element = {7, 8};
   do {
@@ -101,7 +101,7 @@ static int call(const char *name, uint8_t *bytes, size_t length, struct answer *
   return 0;
 }
 
-/* What is left ends behind the bytes, or begins there: no call reads past them. */
+/* What is left ends where the bytes end, or begins there: no call reads past them. */
 static int are_bounds_kept(void) {
   static const uint8_t bytes[] = {0, 10, 0, 0};
   tls_codec_span left = {0, 9}, element = {7, 8};

@@ -1,7 +1,7 @@
 /* rows FILE: what the validator and the decoder say of each row of test_outcome or tls13.tsv, and where the fields are. Then each bit is turned
  * in its turn, and the two are compared.
  *
- * A row has a message's name, hex or `-`, what the validator is to say, as `STATUS TAKEN AT DETAIL`; of test_outcome what the decoder is to
+ * A row has a message's name, hex or `-`, what the validator is to say (`STATUS TAKEN AT DETAIL`); of test_outcome what the decoder is to
  * say, and of some accepted messages where their fields are. */
 #include "rows.h"
 
@@ -19,7 +19,7 @@ struct located {
   tls_codec_span spans[sizeof(union fields) / sizeof(tls_codec_span)];
 };
 
-/* Calls the message's `locate`, over a struct of which each byte is 0xa5. No spans: it has none. */
+/* Calls the message's `locate`, over a struct whose bytes are all 0xa5. No spans: it has none. */
 static struct located locate(const char *name, const uint8_t *bytes, size_t length) {
   struct located found = {{0, 0, 0, 0}, 0, {{0, 0}}};
 #define LOCATED(message, fields)                                       \
@@ -47,7 +47,7 @@ static int is_kept(const struct located *it) {
   return 1;
 }
 
-/* Whether each field is behind the one before it, and all of them in the message. */
+/* Whether each field is after the one before it, and all of them in the message. */
 static int are_in(const struct located *it, size_t taken) {
   size_t end = 0;
   for (size_t i = 0; i < it->count; i++) {
@@ -57,7 +57,7 @@ static int are_in(const struct located *it, size_t taken) {
   return end == taken;
 }
 
-/* Whether the decoder says the same, but for the place. */
+/* Whether the decoder says the same, except for the place. */
 static int is_decoded_alike(const struct message *it, tls_codec_outcome outcome, const uint8_t *bytes, size_t length) {
   outcome.at = 0;
   return is_same(it->decode_check(bytes, length), outcome);
@@ -93,7 +93,7 @@ static int is_sound_with_each_bit_turned(const struct message *it, uint8_t *byte
   return failed == 0;
 }
 
-/* Whether the fields are where the row has them; a row of which it tells none has no such column. */
+/* Whether the fields are where the row has them; a row without fields has no such column. */
 static int are_placed(const struct message *it, const uint8_t *bytes, size_t length, const char *wanted) {
   char text[512] = "";
   struct located found = locate(it->name, bytes, length);

@@ -28,7 +28,7 @@ def found(validators: Validators, name: str, data: bytes) -> tuple[list[bytes] |
 
 
 def wanted(name: str, data: bytes, expected: str, filled: str) -> tuple[list[bytes] | int, tuple[int, int, int]]:
-    """The same as the row has it: of an element that is rejected its place is behind those before it. A validator finds what it takes."""
+    """The same as the row has it: of an element that is rejected its place is after those before it. A validator finds what it takes."""
     status, taken, at, detail = map(int, expected.split())
     if name == "mls_message_wire_format" and not status:
         return int(filled), (0, 0, 0)

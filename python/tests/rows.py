@@ -62,7 +62,7 @@ def have_lengths(validators: Validators, name: str, data: bytes) -> bool:
 
 
 def is_as_expected(validators: Validators, columns: list[str]) -> bool:
-    """Whether the calls answer a row. The decoder says the same as the validator, but for the place."""
+    """Whether the calls answer a row. The decoder says the same as the validator, except for the place."""
     name, data = columns[0], b"" if columns[1] == "-" else bytes.fromhex(columns[1])
     status, taken, at, detail = map(int, columns[2].split())
     found, by_decoder = validated(validators, name, data), decoded(validators, name, data)

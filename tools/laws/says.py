@@ -6,10 +6,10 @@ from typing import Any
 
 from laws.definitions import Field, Part, label_text, listed, quoted
 from laws.shapes import Shape, spread
-from laws.written import CRATES, Written, flat
+from laws.written import Written, flat
+from libraries import CRATES, DATA
 from presentation import Parser, field_name, name_of
 
-DATA = CRATES / "tlsgen/data"
 # A clause of a definition by cases: a pattern, what is said, and the proof that a value says so.
 Clause = tuple[str, str, str]
 

@@ -1,10 +1,10 @@
 """The types of a crate that tlsgen wrote, by their pages in specs/ and their code."""
 from __future__ import annotations
 
-import pathlib
 import re
 
-CRATES = pathlib.Path(__file__).resolve().parents[2] / "crates"
+from libraries import CRATES
+
 # A name, or the parts of an application.
 Term = str | list["Term"]
 
