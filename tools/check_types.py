@@ -8,14 +8,14 @@ too: such a type has no format but one for each context, so its line is one of `
 from a slice, and each of `tls_codec_cases`, is validated by an impl in `tls_codec_validate`, without a context or in one.
 Each has a row in docs/API.md, with its crate and its traits, and so have the types of std that `tls_codec_base` gives them to;
 each name there is such a type's.
-Each variant of `Error` is among the words for contracts, and each line that exports names can be read. Prints what is missing; the last
-line is 'N passed, N failed', a type each.
+Each variant of `Error` is among the words for contracts, and each line that exports names can be read. Before that each check is tried on a
+type that lacks something. Prints what is missing; the last line is 'N passed, N failed', a type each.
 """
 from __future__ import annotations
 
 import re
 import sys
-from collections.abc import Iterator
+from collections.abc import Iterable, Iterator
 
 from libraries import CRATES, TOP
 
@@ -34,21 +34,20 @@ STRUCT = re.compile(r"^pub (?:struct|enum) (\w+)", re.M)
 VALIDATED = {"DeserializeBytes": "Validate", "DeserializeBytesFor": "ValidateFor", "SplitCases": "ValidateCases"}
 
 
-def exported():
+def exported() -> Iterator[tuple[str, str]]:
     """The names that tls_codec exports, by the crate that each is from."""
     for crate, names, name in EXPORT.findall((TABLE / "lib.rt").read_text()):
         for it in NAME.findall(names or name):
             yield crate, it
 
 
-def exports_unread() -> list[str]:
-    """The lines of tls_codec that export names, and can't be read here."""
-    text = (TABLE / "lib.rt").read_text()
+def exports_unread(text: str) -> list[str]:
+    """The lines of this text of tls_codec that export names, and can't be read here."""
     read = {found.start() for found in EXPORT.finditer(text)}
     return [f"lib.rt: not read: {found[0]}" for found in re.finditer(r"\bpub\s+use\b.*", text) if found.start() not in read]
 
 
-def traits_of(crate):
+def traits_of(crate: str) -> dict[str, set[str]]:
     """The structs and enums of a crate, with the traits that each has."""
     found = {}
     for path in sorted((CRATES / crate / "src").rglob("*.rt")):
@@ -62,7 +61,7 @@ def traits_of(crate):
     return found
 
 
-def missing(name, traits, types, equality):
+def missing(name: str, traits: set[str], types: str, equality: str) -> Iterator[str]:
     """What the tables lack of a type with these traits."""
     at = r"⟦<" + name + r"\b[^⟦]*? as {}(?:<C>)?>⟧"
     for trait, page, where in (
@@ -79,7 +78,7 @@ def missing(name, traits, types, equality):
             yield f"{where}: no line for {name} as {trait}"
 
 
-def not_validated(name, traits, validated):
+def not_validated(name: str, traits: set[str], validated: dict[str, set[str]]) -> Iterator[str]:
     """What `tls_codec_validate` lacks of a type with these traits."""
     for reads, tells in VALIDATED.items():
         if reads in traits and tells not in validated.get(name, set()):
@@ -88,9 +87,10 @@ def not_validated(name, traits, validated):
 
 # the letters of docs/API.md; D is both decoders
 LETTERS = {"Serialize": "S", "SerializeBytes": "B", "Deserialize": "D", "DeserializeBytes": "D"}
+Row = tuple[set[str], str, set[str]]
 
 
-def rows() -> list[tuple[set[str], str, set[str]]]:
+def rows() -> list[Row]:
     """Each row of the table of types in docs/API.md: the types in its first cell, without their widths, its crate and letters."""
     found = []
     for line in PAGE.read_text().split("\n## ")[1].split("\n"):
@@ -104,7 +104,7 @@ def rows() -> list[tuple[set[str], str, set[str]]]:
     return found
 
 
-def unnumbered(name):
+def unnumbered(name: str) -> str:
     """The name of a family's member without its width, since a row of the page is for all widths."""
     return re.sub(r"(?<=[a-z])U(?:8|16|24|32)$", "", name)
 
@@ -122,14 +122,14 @@ def with_format(by_crate: dict[str, dict[str, set[str]]]) -> Iterator[tuple[str,
             yield short(crate), unnumbered(name)
 
 
-def without_type(row: tuple[set[str], str, set[str]], types: set[tuple[str, str]]) -> list[str]:
+def without_type(row: Row, types: set[tuple[str, str]]) -> list[str]:
     """The names of a row of docs/API.md that no type of its crate has."""
     names, crate, _ = row
     found = [f"docs/API.md: {crate} has no type {name} with a format" for name in sorted(names) if (crate, name) not in types]
     return found or ([] if names else ["docs/API.md: a row of no type"])
 
 
-def not_in_page(crate, name, traits, page):
+def not_in_page(crate: str, name: str, traits: set[str], page: list[Row]) -> Iterator[str]:
     """What the row of a type in docs/API.md lacks or says wrongly."""
     where = short(crate)
     letters = {LETTERS[trait] for trait in traits & LETTERS.keys()}
@@ -140,23 +140,42 @@ def not_in_page(crate, name, traits, page):
         yield f"docs/API.md: {name} has {''.join(sorted(letters))}"
 
 
-def errors_lacking():
-    """The variants of Error that the words for contracts lack."""
+def errors_lacking(words: str) -> Iterator[str]:
+    """The variants of Error that the words for contracts, in this text, lack."""
     body = (CRATES / "tls_codec_wire/src/error.rt").read_text().split("pub enum Error")[1].split("\n}")[0]
-    words = (CRATES / "tls_codec/specs/Errors.antt").read_text()
     for name in re.findall(r"^    ([A-Z]\w+)", body, re.M):
         if not re.search(rf"\b{name}\b", words):
             yield f"specs/Errors.antt of tls_codec: no {name}"
 
 
-def report(lacks):
+def selftest(types: str, equality: str, page: list[Row]) -> Iterator[str]:
+    """The planted faults that no check finds, each in a type that has none otherwise."""
+    name, traits = "TlsVarInt", {"Size", "Serialize", "SerializeBytes", "Deserialize", "DeserializeBytes", "PartialEq"}
+    planted = {
+        "no line of a type": missing(name, traits, types.replace(f"⟦<{name} as Size>⟧", ""), equality),
+        "no line of a decoder": missing(name, traits, types.replace(f"⟦<{name} as DeserializeBytes>⟧", ""), equality),
+        "no line of an equality": missing(name, traits, types, equality.replace(f"⟦<{name} as PartialEq", "")),
+        "no validator": not_validated(name, traits, {name: {"ValidateFor"}}),
+        "no row": not_in_page("tls_codec_wire", name, traits, [row for row in page if name not in row[0]]),
+        "a wrong letter": not_in_page("tls_codec_wire", name, traits - {"SerializeBytes"}, page),
+        "a row of no type": without_type(({name}, "base", {"S"}), {("vec", name)}),
+        "a row without a name": without_type((set(), "base", {"S"}), {("base", name)}),
+        "an error": errors_lacking("EndOfStream"),
+        "a line of exports": exports_unread("pub use tls_codec_base::*;\n"),
+    }
+    yield from (f"selftest: not found: {fault}" for fault, found in planted.items() if not list(found))
+    sound = [missing(name, traits, types, equality), not_in_page("tls_codec_wire", name, traits, page)]
+    yield from (f"selftest: found: {it}" for found in sound for it in found)
+
+
+def report(lacks: Iterable[str]) -> bool:
     """Prints what a type lacks. Returns whether it lacks nothing."""
     lines = list(lacks)
     print("".join(f"{line}\n" for line in lines), end="")
     return not lines
 
 
-def main():
+def main() -> int:
     types, contexts, equality = ((TABLE / page).read_text() for page in ("types.rt", "contexts.rt", "equality.rt"))
     types += contexts
     names = list(exported())
@@ -164,7 +183,7 @@ def main():
     validated = traits_of("tls_codec_validate")
     page, decided = rows(), PAGE.read_text().split("\n## In a context\n")[1].split("\n## ")[0]
     types_of = set(with_format(by_crate))
-    results = [report(without_type(row, types_of)) for row in page]
+    results = [report(selftest(types, equality, page)), *(report(without_type(row, types_of)) for row in page)]
     for crate, name in names:
         # (an impl for a type of wire is in base)
         traits = by_crate[crate].get(name, set()) | by_crate["tls_codec_base"].get(name, set())
@@ -181,7 +200,7 @@ def main():
     for name, traits in sorted(traits_of("tls_codec_cases").items()):
         if traits & VALIDATED.keys():
             results.append(report(not_validated(name, traits, validated)))
-    results += [report(errors_lacking()), report(exports_unread())]
+    results += [report(errors_lacking((CRATES / "tls_codec/specs/Errors.antt").read_text())), report(exports_unread((TABLE / "lib.rt").read_text()))]
     passed = sum(results)
     print(f"{passed} passed, {len(results) - passed} failed")
     return 0 if passed == len(results) else 1

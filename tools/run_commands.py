@@ -9,8 +9,8 @@ status 0, and print the lines below it, if there are any (on standard output). t
     in place of | PAGE | TEXT | TEXT | REASON           a text of its commands is replaced
     not run | PAGE | COMMAND | REASON                   a command that begins so is left out
 
-A line that fits nothing fails: no command, no page with commands, or none of these three kinds. Last 'N passed, N failed', a command
-each; the exit status is 1 if one failed.
+A line that fits nothing fails: no command, no page with commands, or none of these three kinds. Before that it runs the commands of a page of
+its own, and some of them must fail. Last 'N passed, N failed', a command each, and that page as one; the exit status is 1 if one failed.
 """
 from __future__ import annotations
 
@@ -22,6 +22,7 @@ import shutil
 import subprocess
 import sys
 import tempfile
+from collections.abc import Iterator
 
 from libraries import PAGES, TOP, files_of_clone
 
@@ -50,7 +51,8 @@ class Rules:
         self.rows = [row for row in lines_of_rules() if row[1:2] == [page]]
         self.used: set[int] = set()
 
-    def of(self, kind: str):
+    def of(self, kind: str) -> Iterator[tuple[int, list[str]]]:
+        """The lines of a kind, by their places, without the kind and the page."""
         for at, row in enumerate(self.rows):
             if row[0] == kind:
                 yield at, row[2:]
@@ -74,7 +76,7 @@ class Rules:
         return [" | ".join(row) for at, row in enumerate(self.rows) if at not in self.used]
 
 
-def steps(page: str):
+def steps(page: str) -> Iterator[tuple[str, str, str | list[str]]]:
     """What a page prints in order: ('file', path, text), or ('run', command, lines that it prints)."""
     for path, kind, text in PART.findall((TOP / page).read_text()):
         if path:
@@ -149,12 +151,48 @@ def results(page: str) -> tuple[int, list[str]]:
     return len(wanted) - len(failed), failed + unused
 
 
+# A page of commands, with what must be said of those that fail.
+PAGE = """\
+<!-- file: lines -->
+```text
+one
+two
+```
+```console
+$ cat lines
+one
+two
+$ cat lines
+one
+$ echo three
+one
+$ cd docs
+$ test -f lines
+$ exit 3
+$ echo one
+```
+"""
+FAILING = ["cat lines: it printed", "echo three: it printed", "test -f lines: status 1", "exit 3: it didn't end", "echo one: it didn't end"]
+
+
+def selftest() -> list[str]:
+    """What isn't said of the commands of PAGE as it must be."""
+    with tempfile.TemporaryDirectory() as room:
+        page = pathlib.Path(room, "PAGE.md")
+        page.write_text(PAGE)
+        passed, failed = results(str(page))
+        found = [line.removeprefix(f"{page}: ").split("\n")[0] for line in failed]
+    return [] if (passed, found) == (2, FAILING) else [f"selftest: {passed} passed, and {found} failed"]
+
+
 def main() -> int:
     files = [it.relative_to(TOP).as_posix() for it in PAGES]
     pages = [it for it in sys.argv[1:] or files if has_commands(it)]
     with concurrent.futures.ThreadPoolExecutor(4) as pool:
         ended = list(pool.map(results, pages))
-    passed, failed = sum(count for count, _ in ended), [line for _, lines in ended for line in lines]
+    failed = selftest()
+    passed = sum(count for count, _ in ended) + (not failed)
+    failed += [line for _, lines in ended for line in lines]
     failed += wrong_rules([it for it in files if has_commands(it)])
     print("".join(f"{line}\n" for line in failed), end="")
     print(f"the commands of {len(pages)} pages were run")
