@@ -7,7 +7,7 @@ is under the generic type that it names. Types that a context decides are in `co
 too: such a type has no format but one for each context, so its line is one of `SameFormat` and not of `Means`. Each that has a decoder
 from a slice, and each of `tls_codec_cases`, is validated by an impl in `tls_codec_validate`, without a context or in one.
 Each has a row in docs/API.md, with its crate and its traits, and so have the types of std that `tls_codec_base` gives them to;
-each name there is such a type's.
+each name there is such a type's. What it stands for and its format there are in words of its lines of `Means`, or in short ones (SHORT_FOR).
 Each variant of `Error` is among the words for contracts, and each line that exports names can be read. Before that each check is tried on a
 type that lacks something. Prints what is missing; the last line is 'N passed, N failed', a type each.
 """
@@ -16,6 +16,7 @@ from __future__ import annotations
 import re
 import sys
 from collections.abc import Iterable, Iterator
+from typing import NamedTuple
 
 from libraries import CRATES, TOP
 
@@ -87,21 +88,61 @@ def not_validated(name: str, traits: set[str], validated: dict[str, set[str]]) -
 
 # the letters of docs/API.md; D is both decoders
 LETTERS = {"Serialize": "S", "SerializeBytes": "B", "Deserialize": "D", "DeserializeBytes": "D"}
-Row = tuple[set[str], str, set[str]]
+# Words of specs/ of base for your own messages, with what the lines of `Means` have in their place.
+SHORT_FOR = {
+    **{f"{form}_{of}_format": f"counted_{of}_format" for form in ("fixed", "bounded", "exactly") for of in ("list", "bytes")},
+    "pair_tree": "Join",
+    "triple_tree": "Join",
+    "uint24_of": "number_of",
+    "varint_of": "number_of",
+}
+WORD = re.compile(r"[A-Za-z]\w\w+")
+
+
+class Row(NamedTuple):
+    """A row of the table of types in docs/API.md: its types without their widths, their crate, letters, and the last two cells."""
+
+    names: set[str]
+    crate: str
+    letters: set[str]
+    means: str = ""
+    format: str = ""
+
+
 
 
 def rows() -> list[Row]:
-    """Each row of the table of types in docs/API.md: the types in its first cell, without their widths, its crate and letters."""
+    """Each row of the table of types in docs/API.md; one without six cells has no names."""
     found = []
     for line in PAGE.read_text().split("\n## ")[1].split("\n"):
         cells = [cell.strip() for cell in line.split("|")]
-        if line.startswith("| `") and len(cells) > 4:
+        if line.startswith("| `") and len(cells) != 8:
+            found.append(Row(set(), line, set()))
+        elif line.startswith("| `"):
             spans = [re.match(TYPE, span) for span in re.findall(r"`([^`:]+)`", cells[1])]
             names = {unnumbered(span[1] or span[2]) for span in spans if span and len(span[0]) > 1}
             for stem, least, most in re.findall(r"`(\w+?)(\d)` to `\1(\d)`", cells[1]):
                 names |= {f"{stem}{number}" for number in range(int(least), int(most) + 1)}
-            found.append((names, cells[2], set(cells[3])))
+            found.append(Row(names, cells[2], set(cells[3]), cells[5], cells[6]))
     return found
+
+
+def meanings(types: str) -> dict[str, set[str]]:
+    """The words of the lines of `Means` in these tables, by the types without their widths."""
+    found: dict[str, set[str]] = {}
+    for of, said in re.findall(r"\bMeans ⟦<(.*?) as Size>⟧(.*?) \}\n", types, re.S):
+        name = re.match(TYPE, of.replace("'a ", ""))
+        found.setdefault(unnumbered(name[1] or name[2]), set()).update(WORD.findall(said))
+    return found
+
+
+def unlike(row: Row, means: dict[str, set[str]]) -> Iterator[str]:
+    """The words in `code` of a row's last cells that no line of `Means` of its types has."""
+    words = set().union(*(means.get(name, set()) for name in row.names))
+    for cell in (row.means, row.format):
+        for word in WORD.findall(" ".join(re.findall(r"`([^`]*)`", cell))):
+            if not {word, SHORT_FOR.get(word)} & words:
+                yield f"docs/API.md: no line of Means for {' or '.join(sorted(row.names))} has {word}"
 
 
 def unnumbered(name: str) -> str:
@@ -124,19 +165,18 @@ def with_format(by_crate: dict[str, dict[str, set[str]]]) -> Iterator[tuple[str,
 
 def without_type(row: Row, types: set[tuple[str, str]]) -> list[str]:
     """The names of a row of docs/API.md that no type of its crate has."""
-    names, crate, _ = row
-    found = [f"docs/API.md: {crate} has no type {name} with a format" for name in sorted(names) if (crate, name) not in types]
-    return found or ([] if names else ["docs/API.md: a row of no type"])
+    found = [f"docs/API.md: {row.crate} has no type {name} with a format" for name in sorted(row.names) if (row.crate, name) not in types]
+    return found or ([] if row.names else [f"docs/API.md: a row of no type, or without six cells: {row.crate}"])
 
 
 def not_in_page(crate: str, name: str, traits: set[str], page: list[Row]) -> Iterator[str]:
     """What the row of a type in docs/API.md lacks or says wrongly."""
     where = short(crate)
     letters = {LETTERS[trait] for trait in traits & LETTERS.keys()}
-    found = [row for row in page if unnumbered(name) in row[0] and row[1] == where]
+    found = [row for row in page if unnumbered(name) in row.names and row.crate == where]
     if not found:
         yield f"docs/API.md: no row for {name} of {where}"
-    elif any(row[2] != letters for row in found):
+    elif any(row.letters != letters for row in found):
         yield f"docs/API.md: {name} has {''.join(sorted(letters))}"
 
 
@@ -156,10 +196,12 @@ def selftest(types: str, equality: str, page: list[Row]) -> Iterator[str]:
         "no line of a decoder": missing(name, traits, types.replace(f"⟦<{name} as DeserializeBytes>⟧", ""), equality),
         "no line of an equality": missing(name, traits, types, equality.replace(f"⟦<{name} as PartialEq", "")),
         "no validator": not_validated(name, traits, {name: {"ValidateFor"}}),
-        "no row": not_in_page("tls_codec_wire", name, traits, [row for row in page if name not in row[0]]),
+        "no row": not_in_page("tls_codec_wire", name, traits, [row for row in page if name not in row.names]),
         "a wrong letter": not_in_page("tls_codec_wire", name, traits - {"SerializeBytes"}, page),
-        "a row of no type": without_type(({name}, "base", {"S"}), {("vec", name)}),
-        "a row without a name": without_type((set(), "base", {"S"}), {("base", name)}),
+        "a row of no type": without_type(Row({name}, "base", {"S"}), {("vec", name)}),
+        "a row without a name": without_type(Row(set(), "base", {"S"}), {("base", name)}),
+        "another meaning": unlike(Row({name}, "base", {"S"}, "`trees x`"), meanings(types)),
+        "another format": unlike(Row({name}, "base", {"S"}, "", "`number_format k`, k bytes"), meanings(types)),
         "an error": errors_lacking("EndOfStream"),
         "a line of exports": exports_unread("pub use tls_codec_base::*;\n"),
     }
@@ -182,8 +224,8 @@ def main() -> int:
     by_crate = {crate: traits_of(crate) for crate in {crate for crate, _ in names}}
     validated = traits_of("tls_codec_validate")
     page, decided = rows(), PAGE.read_text().split("\n## In a context\n")[1].split("\n## ")[0]
-    types_of = set(with_format(by_crate))
-    results = [report(selftest(types, equality, page)), *(report(without_type(row, types_of)) for row in page)]
+    types_of, means = set(with_format(by_crate)), meanings(types)
+    results = [report(selftest(types, equality, page)), *(report([*without_type(row, types_of), *unlike(row, means)]) for row in page)]
     for crate, name in names:
         # (an impl for a type of wire is in base)
         traits = by_crate[crate].get(name, set()) | by_crate["tls_codec_base"].get(name, set())

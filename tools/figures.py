@@ -1,16 +1,20 @@
 """Figures and answers in pages, held to the files that have them.
 
 - A figure of FIGURES is what its files say: how many rows or names they have.
-- "Ten inputs" of docs/REFUSALS.md has as many rows as its heading says: those of the inputs that crates/test_values names for it, with their
-  answers, and inputs that crates/test_types rejects.
+- "Ten inputs" of docs/REFUSALS.md has as many rows as its heading says: those of the inputs that crates/test_values names for it, with
+  their answers, and inputs that crates/test_types rejects.
 - The sentences there are those of the library's errors, one for each.
+- The shares of time in README.md are those of the table in docs/BENCHMARKS.md.
+
+Wrong figures are planted first, and have to be found.
 """
 from __future__ import annotations
 
 import re
-from collections.abc import Callable
+from collections.abc import Callable, Iterator
 
 import rejections
+from benchmarks import ROUGH
 from libraries import CRATES, TOP
 
 REFUSALS = TOP / "docs/REFUSALS.md"
@@ -31,12 +35,38 @@ def rows(*files: str) -> Callable[[], int]:
 
 def names(*files: str) -> Callable[[], int]:
     """How many names the rows of these files begin with."""
-    return lambda: len({line.split("\t")[0] for file in files for line in (TOP / file).read_text().split("\n") if line and not line.startswith("#")})
+
+    def counted() -> int:
+        listed = [line for file in files for line in (TOP / file).read_text().split("\n")]
+        return len({line.split("\t")[0] for line in listed if line and not line.startswith("#")})
+
+    return counted
 
 
 def first(file: str) -> Callable[[], int]:
     """The number that a file begins with."""
     return lambda: int((TOP / file).read_text().split()[0])
+
+
+# How the names of the benchmark's rows begin, by what README.md calls them; "other lists" has the rest.
+KINDS = {
+    "lists of numbers": re.compile(r"(?:Tls)?Vec(?:U\d+)?<u\d+> "),
+    "bytes and texts": re.compile(r"(?:VLBytes|String|TlsByteVecU\d+) "),
+    "messages": re.compile("|".join(map(re.escape, sorted(ROUGH)))),
+}
+
+
+def share(kind: str) -> Callable[[], str]:
+    """The least and the greatest share of the Rust crate's time, in percent, in the rows of a kind in docs/BENCHMARKS.md."""
+
+    def counted() -> str:
+        found = []
+        for name, cells in re.findall(r"^\| `([^`]*)` \|(.*)\|$", (TOP / "docs/BENCHMARKS.md").read_text(), re.M):
+            if kind == next((it for it, form in KINDS.items() if form.match(name)), "other lists"):
+                found += [round(100 * float(ratio)) for ratio in re.findall(r"\((\d+\.\d+)\)", cells)]
+        return f"{min(found)} to {max(found)}" if found else "no row"
+
+    return counted
 
 
 PRESENTED = sorted(str(it.relative_to(TOP)) for it in (CRATES / "tls_presentation/specs").glob("*.antt") if it.name != "Lib.antt")
@@ -57,18 +87,23 @@ FIGURES = [
     ("docs/CALLERS.md", r"(\d+) of lists, fields and wire formats", rows("crates/test_places/stdout")),
     ("docs/CALLERS.md", r"(\d+) of lengths and", rows("c/tests/lengths.tsv")),
     ("docs/CALLERS.md", r"lengths and (\w+) of what is signed", rows("c/tests/signed.tsv")),
+    *(("README.md", rf"(\d+ to \d+) % for {it}|for {it} (\d+ to \d+) %", share(it)) for it in (*KINDS, "other lists")),
 ]
+
+
+def wrong_figures(text: str, place: str, right: int | str) -> Iterator[str]:
+    """What isn't so of a figure at its place in a page."""
+    stated = ["".join(it.groups("")) for it in re.finditer(place, re.sub(r"\s+", " ", text))]
+    if not stated:
+        yield f"no figure {place}"
+    for it in stated:
+        if WORDS.get(it, it.replace(",", "")) not in (right, str(right)):
+            yield f"{it} in {place!r} is {right}"
 
 
 def figure_findings() -> tuple[list[str], int]:
     """Which figures aren't what their files say, and how many there are."""
-    found = []
-    for page, place, counted in FIGURES:
-        stated = re.findall(place, re.sub(r"\s+", " ", (TOP / page).read_text()))
-        right = counted()
-        if not stated:
-            found.append(f"{page}: no figure {place}")
-        found += [f"{page}: {it} in {place!r} is {right:,}" for it in stated if WORDS.get(it, it.replace(",", "")) not in (right, str(right))]
+    found = [f"{page}: {it}" for page, place, counted in FIGURES for it in wrong_figures((TOP / page).read_text(), place, counted())]
     return found, len(FIGURES)
 
 
@@ -134,14 +169,23 @@ def errors() -> set[str]:
 
 
 def sentence_findings() -> tuple[list[str], int]:
-    """Which errors of the library have no sentence for a person in docs/REFUSALS.md, which sentences have no error, and how many errors there are."""
+    """Which errors of the library have no sentence for a person in docs/REFUSALS.md, which sentences have no error, and how many there are."""
     made = errors()
     named = {it.removesuffix("(n)") for cells in table("For a person to read") for it in re.findall(r"`([^`]*)`", cells[0])}
     found = [f"docs/REFUSALS.md: no sentence for {error}" for error in sorted(made - named)]
     return found + [f"docs/REFUSALS.md: a sentence for no error: {error}" for error in sorted(named - made)], len(made)
 
 
+def selftest() -> tuple[list[str], int]:
+    """Whether wrong figures are found where they are planted, and none where they are right."""
+    place = r"(\w+|[\d,]+) rows"
+    planted = {"a wrong number": ("It has 2,217 rows.", 2216), "a wrong word": ("It has ten\nrows.", 9), "no figure": ("It has many lines.", 9)}
+    missed = [f"selftest: not found: {fault}" for fault, (text, right) in planted.items() if not list(wrong_figures(text, place, right))]
+    sound = [*wrong_figures("It has 2,216 rows.", r"([\d,]+) rows", 2216), *wrong_figures("It has ten rows.", place, 10)]
+    return missed + [f"selftest: found: {it}" for it in sound], 1
+
+
 def findings() -> tuple[list[str], int]:
     """What isn't so, and how much was checked."""
-    parts = [figure_findings(), input_findings(), sentence_findings()]
+    parts = [selftest(), figure_findings(), input_findings(), sentence_findings()]
     return [line for found, _ in parts for line in found], sum(checked for _, checked in parts)

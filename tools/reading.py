@@ -1,25 +1,28 @@
 #!/usr/bin/env python3
-"""Checks what the pages ask of a reader: their words, the records of docs/DECISIONS.md, the short reading lists of docs/MAP.md, and figures.
+"""Checks that the pages are short and that their lists and figures are right. It runs in check_pages.py, and by hand.
 
-All pages except docs/DECISIONS.md have at most MOST_WORDS words outside of their blocks: what is between blanks and has a letter, and each
-`code` once.
-Each record of docs/DECISIONS.md, from `### ` on, is a question, begins with its date and commit, and fits on a screen.
-Figures of the pages, and answers and sentences of docs/REFUSALS.md, are those of the files that have them (figures.py).
-The two short lists of "What to read" in docs/MAP.md are closed, and are as long as the page says. An item `1. **Formats**, 600 lines: ..` lists files under the short names of the crates; a file "to `word`" is read to the line before the
-first one that has the word. Each word that such a part takes from the specs or declarations of the repository's crates has to be in a part
-of the same list or of the list before, or among the words after "Skip".
+- All pages except docs/DECISIONS.md have at most MOST_WORDS words outside of their blocks: what is between blanks and has a letter, and
+  each `code` once.
+- Each record of docs/DECISIONS.md, from `### ` on, is a question, begins with its date and commit, and fits on a screen.
+- Figures of the pages, and answers and sentences of docs/REFUSALS.md, are those of the files that have them (figures.py).
+- The two short lists of "What to read" in docs/MAP.md are closed, and are as long as the page says. An item `1. **Formats**, 600 lines: ..`
+  lists files under the short names of the crates; a file "to `word`" is read to the line before the first one that has the word. Each word
+  that such a part takes from the specs or declarations of the repository's crates has to be in a part of the same list or of the list
+  before, or among the words after "Skip".
+- "**A day**, N lines of definitions and N clauses" are what these lists leave of the three crates, rounded.
 
-Prints what isn't so; last 'N passed, N failed', which counts those words and lengths, records, figures, errors and pages. With the word `words`, it
-prints how many each page has.
+Prints what isn't so; last 'N passed, N failed', which counts those words and lengths, records, figures, errors and pages. With the word
+`words`, it prints how many each page has.
 """
+from __future__ import annotations
+
 import pathlib
 import re
 import sys
 
 import figures
+from libraries import CRATES, PAGES, TOP
 
-TOP = pathlib.Path(__file__).resolve().parent.parent
-PAGES = [*sorted(TOP.glob("*.md")), *sorted((TOP / "docs").glob("*.md"))]
 RECORDS = TOP / "docs/DECISIONS.md"
 MOST_WORDS = 15_000
 SCREEN = 32
@@ -30,24 +33,27 @@ ITEM = re.compile(r"^\d\. \*\*(\w+)\*\*, (\d+) lines: (.*?)(?=^\d\. |^$)", re.M 
 FILE = re.compile(r"`(wire|grammar|base)/([\w/]+\.(?:antt|rt))`(?:\s+to\s+`([^`]+)`)?")
 LISTS = ["Formats", "Calls"]
 SKIP = re.compile(r"^Skip (.*?)$\n\n", re.M | re.S)
+DAY = re.compile(r"\*\*A day\*\*,\s+([\d,]+)\s+lines\s+of\s+definitions\s+and\s+([\d,]+)\s+clauses")
+# What begins a clause that a day's list counts.
+CLAUSE = re.compile(r"^\s*(?:ensures|requires|ghost (?!use))", re.M)
 TAKEN = re.compile(r"^(?:ghost )?use Rattle\.tls_codec_\w+\.specs\.(?:declared\.)?(\w+)[\w.]*\.\{([^}]*)\}", re.M)
 
 
-def part(crate, path, end):
+def part(crate: str, path: str, end: str) -> list[str]:
     """The lines of a file to the one that has the word."""
-    lines = (TOP / "crates" / SHORT[crate] / path).read_text().rstrip("\n").split("\n")
+    lines = (CRATES / SHORT[crate] / path).read_text().rstrip("\n").split("\n")
     body = [n for n, line in enumerate(lines) if end and end in line and "use " not in line]
     return lines[: body[0]] if body else lines
 
 
-def words(page):
+def words(page: pathlib.Path) -> int:
     """How many words a page has outside of its blocks: what is between blanks and has a letter, and each `code` once."""
     text = re.sub(r"^ *```.*?^ *```", "", page.read_text(), flags=re.M | re.S)
     text = re.sub(r"(`+).*?\1", "code", re.sub(r"<!--.*?-->", "", text, flags=re.S))
     return sum(any(sign.isalpha() for sign in word) for word in text.split())
 
 
-def length_findings():
+def length_findings() -> tuple[list[str], int]:
     """Whether the pages are short enough, and how many were counted."""
     counted = [page for page in PAGES if page != RECORDS]
     total = sum(map(words, counted))
@@ -55,7 +61,7 @@ def length_findings():
     return found, len(counted)
 
 
-def record_findings():
+def record_findings() -> tuple[list[str], int]:
     """Which records of docs/DECISIONS.md are no question, have no date or are too long, and how many there are."""
     found, records = [], RECORD.findall(RECORDS.read_text())
     for title, text in records:
@@ -68,9 +74,11 @@ def record_findings():
     return found, len(records)
 
 
-def findings():
+def findings() -> tuple[list[str], int]:
     """What isn't so, and how much was checked."""
-    parts = [list_findings(), record_findings(), figures.findings(), length_findings()]
+    page = (TOP / "docs/MAP.md").read_text()
+    section = page[page.index("## What to read") :]
+    parts = [selftest(section), list_findings(section), day_findings(section), record_findings(), figures.findings(), length_findings()]
     return [line for found, _ in parts for line in found], sum(checked for _, checked in parts)
 
 
@@ -81,14 +89,42 @@ def ill_formed(items: list[tuple[str, str, str]]) -> list[str]:
     for name, _, text in items:
         named, read = len(re.findall(r"\.(?:antt|rt)\b", text)), len(FILE.findall(text))
         if read != named:
-            found.append(f"docs/MAP.md: {name} names {named} files, of which {read} can be read")
+            found.append(f"docs/MAP.md: {name} names {named} files, and {read} of them can be read")
     return found
 
 
-def list_findings():
+def day_findings(section: str) -> tuple[list[str], int]:
+    """Whether the day's list is as long as it says, to two in a hundred: without specs/laws/, and without the lists of Lib.antt."""
+    stated = DAY.search(section)
+    if not stated:
+        return ["docs/MAP.md: no line **A day**, N lines of definitions and N clauses"], 1
+    read = {(crate, path): len(part(crate, path, end)) for _, _, text in ITEM.findall(section) for crate, path, end in FILE.findall(text)}
+    lines = clauses = 0
+    for short, crate in SHORT.items():
+        for path in sorted((CRATES / crate).glob("specs/*.antt")):
+            at = short, path.relative_to(CRATES / crate).as_posix()
+            lines += (len(part(*at, "")) - read.get(at, 0)) * (path.name != "Lib.antt")
+        for path in sorted((CRATES / crate).glob("src/**/*.rt")):
+            at = short, path.relative_to(CRATES / crate).as_posix()
+            clauses += len(CLAUSE.findall("\n".join(path.read_text().split("\n")[read.get(at, 0) :])))
+    said = zip(("lines of definitions", "clauses"), (lines, clauses), (int(it.replace(",", "")) for it in stated.groups()))
+    return [f"docs/MAP.md: a day has {right:,} {what}" for what, right, number in said if 50 * abs(number - right) > right], 2
+
+
+def selftest(section: str) -> tuple[list[str], int]:
+    """Whether a list of another length, one that isn't closed, and a day of another length are found."""
+    name, stated, text = ITEM.search(section).groups()
+    planted = {
+        "a list's length": list_findings(section.replace(f"**{name}**, {stated} lines", f"**{name}**, {int(stated) + 1} lines")),
+        "a list that isn't closed": list_findings(section.replace("`wire/specs/Digits.antt`,", "")),
+        "a day's length": day_findings(DAY.sub("**A day**, 1 lines of definitions and 1 clauses", section)),
+        "no day": day_findings(section.replace("**A day**", "**A week**")),
+    }
+    return [f"selftest: not found: {fault}" for fault, (found, _) in planted.items() if not found], 1
+
+
+def list_findings(section: str) -> tuple[list[str], int]:
     """What isn't as MAP says, and how many words and lengths were checked."""
-    page = (TOP / "docs/MAP.md").read_text()
-    section = page[page.index("## What to read") :]
     skipped = set(re.findall(r"`(\w+)`", SKIP.search(section)[1]))
     items, read = ITEM.findall(section), ""
     found, checked = ill_formed(items), 1
@@ -100,7 +136,7 @@ def list_findings():
             found.append(f"docs/MAP.md: {name} is {length} lines")
         bodies = {key: "\n".join(line for line in lines if "use Rattle." not in line) for key, lines in parts.items()}
         for (crate, path), lines in parts.items():
-            uses = TAKEN.findall((TOP / "crates" / SHORT[crate] / path).read_text())
+            uses = TAKEN.findall((CRATES / SHORT[crate] / path).read_text())
             taken = " ".join(words for module, words in uses if module != pathlib.Path(path).stem)
             for word in sorted(set(re.findall(r"\w+", taken)) - skipped):
                 if not re.search(rf"\b{word}\b", bodies[crate, path]):
@@ -113,7 +149,7 @@ def list_findings():
     return found, checked
 
 
-def main():
+def main() -> int:
     if sys.argv[1:] == ["words"]:
         print("".join(f"{words(page):6} {page.relative_to(TOP)}\n" for page in PAGES), end="")
     found, checked = findings()
