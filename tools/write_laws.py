@@ -50,6 +50,9 @@ def write(crate: str, text: str, over: list[str]) -> None:
 
 def main() -> int:
     words = [it for it in sys.argv[1:] if it != "--compare"]
+    if len(words) < 2 or any(it.startswith("-") for it in words):
+        print(__doc__, file=sys.stderr)
+        return 2
     crate, text, over = words[0], words[1], [it.split("=")[0] for it in words[2:]]
     if "--compare" not in sys.argv:
         write(crate, text, over)

@@ -1,12 +1,7 @@
 """A text's definitions and notes, as tls_presentation reads them, written as terms of its `Definition`."""
 from __future__ import annotations
 
-from typing import Any
-
-# A field or a select of the text, as presentation.py reads it, and what an item or a part of a struct is: its kind, and then its data.
-Field = dict[str, Any]
-Part = tuple[Any, ...]
-Label = str | int
+from presentation import Field, Label, Part
 
 
 def quoted(text: str) -> str:
