@@ -1,10 +1,10 @@
 #!/usr/bin/env python3
 """archives.py [FOLDER [TARGET]]: proves the static libraries and puts their archives into a folder, c/out if none is given.
 
-They are built over the libraries that `rt ci` left in crates/*/out/rlib. Where some aren't there, `rt lib` first proves and builds all those
-below an archive, which takes longer. Beside them is libtls_codec_heap.a, which decoders need: malloc and free by Rattle's names for them. And
-tls_codec.version has the version of the headers, so that a mix with those of another commit is noticed. TARGET is x86_64-unknown-linux-gnu if
-none is given. For aarch64-unknown-linux-gnu the kit has no such heap.
+They are built over the libraries that `rt ci` left in crates/*/out/rlib. Where some aren't there, `rt lib` first proves and builds all
+those below an archive, which takes longer. Beside them is libtls_codec_heap.a, which decoders need: malloc and free by Rattle's names for
+them. And tls_codec.version has the version of the headers, so that a mix with those of another commit is noticed. TARGET is
+x86_64-unknown-linux-gnu if none is given. For aarch64-unknown-linux-gnu the kit has no such heap.
 """
 from __future__ import annotations
 
@@ -56,7 +56,7 @@ def toolchain(kit: pathlib.Path, folder: pathlib.Path) -> pathlib.Path:
 
 
 def build_below(libraries: Libraries, crate: str) -> None:
-    """Proves and builds all the libraries below a static one, by `rt lib`: it keeps what it built, and builds anew what another command did."""
+    """Proves and builds all the libraries below a static one, by `rt lib`, which keeps what it built, and builds anew what others did."""
     for it in libraries.uses[crate]:
         if it in libraries.uses:
             ran(["rt", "lib"], it)

@@ -33,7 +33,8 @@ RUNS = {crate: (crate, text, words(crate, text)) for crate, text in TEXTS.items(
 def files_of(crate: str) -> list[str]:
     """The files that are compared, by their paths in the crate."""
     folder = CRATES / crate
-    return [str(it.relative_to(folder)) for part in ("src", "specs", "proofs") for it in sorted(folder.glob(f"{part}/**/*")) if it.is_file()]
+    found = [it for part in ("src", "specs", "proofs") for it in sorted(folder.glob(f"{part}/**/*"))]
+    return [str(it.relative_to(folder)) for it in found if it.is_file()]
 
 
 def add(folder: str, name: str, text: str, more: list[str], crate: str | None = None) -> None:

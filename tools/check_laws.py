@@ -3,8 +3,8 @@
 has its laws, under its own name in the text, and each name that is called is that of the field which is viewed. And the crates are what
 write_laws.py writes, except for blanks and the order of imports.
 
-For each crate a line says so, or what isn't so, and another one compares it with what write_laws.py writes. Before that each check is tried on
-laws with one fault, which counts as one.
+For each crate a line says so, or what isn't so, and another one compares it with what write_laws.py writes. Before that each check is tried
+on laws with one fault, which counts as one.
 """
 from __future__ import annotations
 

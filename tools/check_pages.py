@@ -3,8 +3,8 @@
 
 - A block of code has to occur, line by line and in order, in the file that the words before it name
   (`src/leaf.rt`, `specs/Messages.antt`), or, if they name none, in one file under crates/. From a function's head it leaves out no
-  clause after a line that it quotes. Space at both ends of a line doesn't count; c/, python/ and rust/ are read as crates/ is. A block is no
-  quote if it is `console`, or after a line <!-- not quoted --> or <!-- file: PATH -->.
+  clause after a line that it quotes. Space at both ends of a line doesn't count; c/, python/ and rust/ are read as crates/ is. A block is
+  no quote if it is `console`, or after a line <!-- not quoted --> or <!-- file: PATH -->.
 - A link that isn't of another site has to lead to a file of the repository, and to a heading of it.
 - A name in `code` that is a path under crates/, docs/, tools/ or .ci/, or has an underscore in it, has to occur in the repository;
   names of what was before, in CHANGELOG.md, and a few of elsewhere don't.
@@ -12,9 +12,9 @@
 - No word is one of the dialect (tools/dialect.py). The pages are short, and their reading lists closed (tools/reading.py).
 - The pictures are what tools/pictures.py draws.
 
-Before that it tries its checks on lines with one fault each. Prints a line for each place that doesn't match, and last 'N passed, N failed',
-which counts pages and pictures, and as one each these lines, the words of all sources, and what tools/reading.py checks; the exit status is 1
-if one failed.
+Before that it tries its checks on lines with one fault each. Prints a line for each place that doesn't match, and last 'N passed, N
+failed', which counts pages and pictures, and as one each these lines, the words of all sources, and what tools/reading.py checks; the exit
+status is 1 if one failed.
 """
 from __future__ import annotations
 
@@ -65,7 +65,7 @@ def clause_after(lines: list[str], at: int) -> int | None:
 
 
 def fault_of(quote: list[tuple[int, str]], lines: list[str]) -> tuple[int, str, str] | None:
-    """The first line of a quote that doesn't come in its turn, or is before a clause that it drops: (number, what is wrong, line), or None."""
+    """The first line of a quote that isn't there in its turn, or is before a clause that it drops: its number, the fault, the line."""
     places: list[int] = []
     for number, line in quote:
         at = places[-1] + 1 if places else 0
@@ -195,8 +195,10 @@ def selftest() -> list[str]:
         "a word of the dialect": dialect.words_in("It stands there."),
     }
     names = check_names(["`one_name` of `tools/check_pages.py`"], {"one_name"})
-    sound = [*quote(head, clause, other, "{"), *check_links(page, ["[one](docs/MAP.md)"]), *names, *check_merged(["==="]), *dialect.words_in("It is there.")]
-    return [f"selftest: not found: {fault}" for fault, found in planted.items() if not list(found)] + [f"selftest: found: {it}" for it in sound]
+    sound = [*quote(head, clause, other, "{"), *check_links(page, ["[one](docs/MAP.md)"]), *names]
+    sound += [*check_merged(["==="]), *dialect.words_in("It is there.")]
+    missed = [f"selftest: not found: {fault}" for fault, found in planted.items() if not list(found)]
+    return missed + [f"selftest: found: {it}" for it in sound]
 
 
 def main() -> int:

@@ -31,7 +31,7 @@ PROSE = "A Lifetime; and a CipherSuite, as { .. } Alert; has it: <https://www.rf
 
 
 class Change(NamedTuple):
-    """What is in our text, what an RFC has in its place, and the line that must be printed: `here` is the line of the one, `there` of the other."""
+    """What is in our text, what an RFC has in its place, and the line that must be printed, with their lines `here` and `there`."""
 
     rfc: str
     text: str

@@ -109,8 +109,9 @@ def printed(given, words, reason):
 # The structs of the texts that tlsdump doesn't show, by the reason.
 NOT_SHOWN = {
     "hashed, signed or derived from, and not sent: its crate encodes it, and doesn't decode it": {
-        *("AuthenticatedContentTBM", "ConfirmedTranscriptHashInput", "EncryptContext", "FramedContentTBS", "GroupInfoTBS", "InterimTranscriptHashInput"),
-        *("KDFLabel", "KeyPackageTBS", "LeafNodeTBS", "PSKLabel", "ParentHashInput", "PrivateContentAAD", "RefHashInput", "SenderDataAAD", "SignContent"),
+        *("AuthenticatedContentTBM", "ConfirmedTranscriptHashInput", "EncryptContext", "FramedContentTBS", "GroupInfoTBS"),
+        *("InterimTranscriptHashInput", "KDFLabel", "KeyPackageTBS", "LeafNodeTBS", "PSKLabel", "ParentHashInput", "PrivateContentAAD"),
+        *("RefHashInput", "SenderDataAAD", "SignContent"),
     },
     "a field of another message decides what it is": {
         *("EarlyDataIndication", "FramedContentAuthData", "PreSharedKeyExtension", "PrivateMessageContent", "SupportedVersions"),

@@ -7,9 +7,9 @@ is under the generic type that it names. Types that a context decides are in `co
 too: such a type has no format but one for each context, so its line is one of `SameFormat` and not of `Means`. Each that has a decoder
 from a slice, and each of `tls_codec_cases`, is validated by an impl in `tls_codec_validate`, without a context or in one.
 Each has a row in docs/API.md, with its crate and its traits, and so have the types of std that `tls_codec_base` gives them to;
-each name there is such a type's. What it stands for and its format there are in words of its lines of `Means`, or in short ones (SHORT_FOR).
-Each variant of `Error` is among the words for contracts, and each line that exports names can be read. Before that each check is tried on a
-type that lacks something. Prints what is missing; the last line is 'N passed, N failed', a type each.
+each name there is such a type's. What it stands for and its format there are in words of its lines of `Means`, or in short ones
+(SHORT_FOR). Each variant of `Error` is among the words for contracts, and each line that exports names can be read. Before that each check
+is tried on a type that lacks something. Prints what is missing; the last line is 'N passed, N failed', a type each.
 """
 from __future__ import annotations
 
@@ -242,7 +242,8 @@ def main() -> int:
     for name, traits in sorted(traits_of("tls_codec_cases").items()):
         if traits & VALIDATED.keys():
             results.append(report(not_validated(name, traits, validated)))
-    results += [report(errors_lacking((CRATES / "tls_codec/specs/Errors.antt").read_text())), report(exports_unread((TABLE / "lib.rt").read_text()))]
+    results.append(report(errors_lacking((CRATES / "tls_codec/specs/Errors.antt").read_text())))
+    results.append(report(exports_unread((TABLE / "lib.rt").read_text())))
     passed = sum(results)
     print(f"{passed} passed, {len(results) - passed} failed")
     return 0 if passed == len(results) else 1

@@ -71,7 +71,9 @@ def name_of(text: str) -> str:
 
 
 def owner(lines: list[str]) -> str:
-    """The type or trait that the last of these lines is in, with `::` at its end: `TaggedSerialize::` for `impl .. Serialize for Tagged<..>`."""
+    """The type or trait that the last of these lines is in, with `::` at its end.
+
+    It is `TaggedSerialize::` for `impl .. Serialize for Tagged<..>`."""
     head = head_of(lines)
     trait, _, of = head.rpartition(" for ")
     if not trait:
@@ -100,6 +102,11 @@ def is_of_trait(lines: list[str]) -> bool:
     return lines[-1].startswith("    ") and bool(is_trait or " for " in head_of(lines))
 
 
+def ends_head(line: str, indent: str) -> bool:
+    """Whether a line ends the head of a function with this indent: by a semicolon, or by the brace of its body."""
+    return line.endswith(";") or bool(re.search(r"\{\}?$", line)) and not line.startswith(f"{indent}    ")
+
+
 def functions(crate: str) -> Iterator[tuple[str, str]]:
     """The public functions of a crate that have a contract, and the methods of traits, by their paths, with their bodies."""
     for path in sorted((CRATES / crate / "src").rglob("*.rt")):
@@ -109,7 +116,7 @@ def functions(crate: str) -> Iterator[tuple[str, str]]:
             if not found or not found[2] and not is_of_trait(lines[: at + 1]):
                 continue
             indent, is_public, name = found.groups()
-            start = next(n for n in range(at, len(lines)) if lines[n].endswith(";") or re.search(r"\{\}?$", lines[n]) and not lines[n].startswith(f"{indent}    "))
+            start = next(n for n in range(at, len(lines)) if ends_head(lines[n], indent))
             if lines[start].endswith(";"):
                 continue
             end = next(n for n in range(start, len(lines)) if lines[n].startswith(f"{indent}}}") or lines[n].endswith("{}"))
@@ -141,7 +148,8 @@ def selftest() -> list[str]:
     """Whether a function is missed whose edit was taken away, or one reported that needs none."""
     crate, path = "tls_codec_wire", "gather::gather"
     found, has_one = list(functions(crate)), turned(crate)
-    missed = [] if without(found, has_one - {path}) == [*without(found, has_one), path] else [f"selftest: {path} without its edits isn't found"]
+    is_found = set(without(found, has_one - {path})) - set(without(found, has_one)) == {path}
+    missed = [] if is_found else [f"selftest: {path} without its edits isn't found"]
     needless = {"empty": "", "call": "read(at, out)", "passed_on": "let found = read(at)?;\n        Ok(Held(found))"}
     return missed + [f"selftest: {it} needs no wrong body" for it in without(list(needless.items()), set())]
 

@@ -73,7 +73,10 @@ def comments(path: pathlib.Path, text: str) -> str:
     """The comments of a source, line for line, and the docstrings of Python."""
     if path.suffix == ".py" or re.match(r"#!.*python", text):
         return comments_of_python(text)
-    forms = {".rt": [COMMENT], ".rs": [COMMENT], ".c": [COMMENT, BLOCK], ".h": [COMMENT, BLOCK], ".cc": [COMMENT, BLOCK]}.get(path.suffix, [HASH])
+    if path.suffix in (".rt", ".rs"):
+        forms = [COMMENT]
+    else:
+        forms = [COMMENT, BLOCK] if path.suffix in (".c", ".h", ".cc") else [HASH]
     found = [next((it[1] for it in (form.match(line) for form in forms) if it), "") for line in text.split("\n")]
     return "\n".join(found)
 
@@ -106,7 +109,8 @@ def findings(page: pathlib.Path) -> Iterator[tuple[int, str, str]]:
 
 def files(forms: tuple[str, ...]) -> list[pathlib.Path]:
     """The files of these forms, in their order."""
-    return [file for form in forms for file in sorted(TOP.glob(form)) if file.is_file() and not {"out", "target"} & set(file.relative_to(TOP).parts)]
+    found = [file for form in forms for file in sorted(TOP.glob(form))]
+    return [file for file in found if file.is_file() and not {"out", "target"} & set(file.relative_to(TOP).parts)]
 
 
 def main() -> int:

@@ -169,7 +169,7 @@ def errors() -> set[str]:
 
 
 def sentence_findings() -> tuple[list[str], int]:
-    """Which errors of the library have no sentence for a person in docs/REFUSALS.md, which sentences have no error, and how many there are."""
+    """Which errors of the library have no sentence in docs/REFUSALS.md, which sentences have no error, and how many errors there are."""
     made = errors()
     named = {it.removesuffix("(n)") for cells in table("For a person to read") for it in re.findall(r"`([^`]*)`", cells[0])}
     found = [f"docs/REFUSALS.md: no sentence for {error}" for error in sorted(made - named)]
@@ -179,7 +179,11 @@ def sentence_findings() -> tuple[list[str], int]:
 def selftest() -> tuple[list[str], int]:
     """Whether wrong figures are found where they are planted, and none where they are right."""
     place = r"(\w+|[\d,]+) rows"
-    planted = {"a wrong number": ("It has 2,217 rows.", 2216), "a wrong word": ("It has ten\nrows.", 9), "no figure": ("It has many lines.", 9)}
+    planted = {
+        "a wrong number": ("It has 2,217 rows.", 2216),
+        "a wrong word": ("It has ten\nrows.", 9),
+        "no figure": ("It has many lines.", 9),
+    }
     missed = [f"selftest: not found: {fault}" for fault, (text, right) in planted.items() if not list(wrong_figures(text, place, right))]
     sound = [*wrong_figures("It has 2,216 rows.", r"([\d,]+) rows", 2216), *wrong_figures("It has ten rows.", place, 10)]
     return missed + [f"selftest: found: {it}" for it in sound], 1

@@ -8,8 +8,8 @@ from __future__ import annotations
 import re
 from typing import Any
 
-# A field: `of` is its type, `name` what it is called or None, `optional` whether it may be absent, `vector` how many values it has, `constant`
-# the one value that it may have or None.
+# A field: `of` is its type, `name` what it is called or None, `optional` whether it may be absent, `vector` how many values it has,
+# `constant` the one value that it may have or None.
 Field = dict[str, Any]
 # A select: the `path` of its tag, its `cases` as labels and fields, and its `ending`.
 Select = dict[str, Any]

@@ -9,8 +9,8 @@ status 0, and print the lines below it, if there are any (on standard output). t
     in place of | PAGE | TEXT | TEXT | REASON           a text of its commands is replaced
     not run | PAGE | COMMAND | REASON                   a command that begins so is left out
 
-A line that fits nothing fails: no command, no page with commands, or none of these three kinds. Before that it runs the commands of a page of
-its own, and some of them must fail. Last 'N passed, N failed', a command each, and that page as one; the exit status is 1 if one failed.
+A line that fits nothing fails: no command, no page with commands, or none of these three kinds. Before that it runs the commands of a page
+of its own, and some of them must fail. Last 'N passed, N failed', a command each, and that page as one; the exit status is 1 if one failed.
 """
 from __future__ import annotations
 

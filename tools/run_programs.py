@@ -4,9 +4,9 @@
 A program is built once, without proof (`rt try`). A run is a file with the input; NAME.args has its words, and
 NAME.stdout what it must print. rt ci runs a program on one input alone, and proves it again for another one.
 Then tlsdump runs with a request for memory refused: it prints nothing and ends with status 3. The program that `rt ci` left in out/
-runs with an output that is full, which is status 3 too, and on each input that is rejected or can't be read: standard error has one line, that of
-rejections.py or of UNREAD. tlsgen, from out/ too, has runs that print nothing but what TLSGEN has for standard error: {} among their words
-names a copy of the input.
+runs with an output that is full, which is status 3 too, and on each input that is rejected or can't be read: standard error has one line,
+that of rejections.py or of UNREAD. tlsgen, from out/ too, has runs that print nothing but what TLSGEN has for standard error: {} among their
+words names a copy of the input.
 """
 from __future__ import annotations
 
@@ -205,7 +205,7 @@ def streams() -> collections.abc.Iterator[tuple[str, bool, str]]:
 
 
 def generated_runs() -> collections.abc.Iterator[tuple[str, bool, str]]:
-    """What standard error and the status say of each run of tlsgen as rt ci built it, which writes what it must, and prints nothing else."""
+    """What standard error and the status say of each run of tlsgen as rt ci built it, which writes what it must and prints no more."""
     folder = CRATES / "tlsgen"
     assert {path.stem for path in folder.glob("runs/*")} == set(TLSGEN), "TLSGEN has not just the runs"
     for name, (status, wanted) in TLSGEN.items():

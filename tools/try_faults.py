@@ -7,10 +7,10 @@ crates/NAME_laws/faults/*.fault changes the text from which the crate NAME was w
     old: opaque x<V>; opaque y<V>;
     new: opaque y<V>; opaque x<V>;
 
-`tlsgen` writes the crate from the changed text, and write_laws.py its laws; the lines that are quoted, and their definitions, stay those of the
-text. So all below the laws agrees with itself. One copy of a crate has all its faults. Just these laws must be refused, by just these
-clauses, each for a goal of its own; all others must be proved. They are checked as a part of the copy, and nothing else of it is
-proved anew: they are about its specs.
+`tlsgen` writes the crate from the changed text, and write_laws.py its laws; the lines that are quoted, and their definitions, stay those of
+the text. So all below the laws agrees with itself. One copy of a crate has all its faults. Just these laws must be refused, by just these
+clauses, each for a goal of its own; all others must be proved. They are checked as a part of the copy, and nothing else of it is proved
+anew: they are about its specs.
 
 It runs after `rt ci`, over the libraries in crates/*/out/rlib. The last line is 'N passed, N failed'.
 """

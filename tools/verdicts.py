@@ -13,8 +13,8 @@ import re
 
 # How an error begins that says of an answer that it is no proof of its goal. Others say that its text is wrong, as a name that isn't there.
 NO_PROOF = re.compile(
-    r"`(?:search|grind|omega)`: |`grind` stopped at its own limit |as printed, the two (?:types|sides) |computed as far as they go, the two (?:types|sides) |"
-    r"computed as a goal is, one side reads |expected type "
+    r"`(?:search|grind|omega)`: |`grind` stopped at its own limit |as printed, the two (?:types|sides) |"
+    r"computed as far as they go, the two (?:types|sides) |computed as a goal is, one side reads |expected type "
 )
 ERROR = re.compile(r"(\S+):\d+:\d+: error: `([^`]+)`: (.*)")
 OPEN = re.compile(r"`search` did not prove ((?:`[^`]+`(?:, | and )?)+)")

@@ -79,7 +79,8 @@ def module(reading: Reading, types: list[Written]) -> str:
     contexts = {one.context for one in types if one.context and one.context[0].isupper()}
     rust = sorted({one.name for one in types} | contexts)
     sizes = sorted({"SizeFor" if one.context else "Size" for one in types})
-    out = f"//! Each type of `{reading.crate}` has the bytes that its text means.\n//! Each value's bytes are those of its parts, by their names.\n"
+    out = f"//! Each type of `{reading.crate}` has the bytes that its text means.\n"
+    out += "//! Each value's bytes are those of its parts, by their names.\n"
     out += f"{ghosts(reading, types)}\nuse {reading.crate}::{{{', '.join(rust)}}};\nuse tls_codec::{{{', '.join(sizes)}}};\n"
     return out + "".join(law(reading, one) for one in types)
 
@@ -101,7 +102,8 @@ def names_clauses(reading: Reading, one: Written) -> list[str]:
     """That names are the text's: those of a registry's numbers, or of an enum's values."""
     name = quoted(reading.definition(one) or "")
     if reading.is_named_values(one):
-        return [clause("names", f"(v : {one.name}) →", f"value_number {reading.crate} {name}", f"({one.word}_name v)", f"≡ {one.word}_code v")]
+        words = f"value_number {reading.crate} {name}", f"({one.word}_name v)", f"≡ {one.word}_code v"
+        return [clause("names", f"(v : {one.name}) →", *words)]
     if one.is_registry:
         return [clause("names", f"{one.word}_names ≡", f"names_in {reading.crate} {name}")]
     return []

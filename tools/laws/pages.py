@@ -12,10 +12,10 @@ from presentation import name_of
 LONGEST = 370
 
 DEFINITION_WORDS = (
-    *("Numeral", "One", "Array", "Variable", "Bounded", "Is", "Bytes", "Named", "Range", "Width", "Bare", "Ended", "Plain", "Own", "EnumHere"),
-    *("StructHere", "Signed", "Definition", "Enum", "Struct", "SignedStruct", "Alias", "Note", "CountsRest", "FillsRest", "FillsZeros", "Ends"),
-    *("Equals", "IsClosed", "IsOpen", "IsBorrowed", "IsCalled", "LeftOut", "Has", "field", "optional", "has", "is_a", "constant", "word"),
-    *("counted", "value", "case", "cases_of", "select", "called", "enum", "struct", "struct_of"),
+    *("Numeral", "One", "Array", "Variable", "Bounded", "Is", "Bytes", "Named", "Range", "Width", "Bare", "Ended", "Plain", "Own"),
+    *("EnumHere", "StructHere", "Signed", "Definition", "Enum", "Struct", "SignedStruct", "Alias", "Note", "CountsRest", "FillsRest"),
+    *("FillsZeros", "Ends", "Equals", "IsClosed", "IsOpen", "IsBorrowed", "IsCalled", "LeftOut", "Has", "field", "optional"),
+    *("has", "is_a", "constant", "word", "counted", "value", "case", "cases_of", "select", "called", "enum", "struct", "struct_of"),
 )
 DEFINITION_USES = f"""use Rattle.std.specs.Prelude.{{List, [], ◌∷◌, Bool, true, Option, Some, None, codes}}
 use Rattle.tls_presentation.specs.Definition.{{{", ".join(DEFINITION_WORDS)}}}
@@ -35,7 +35,8 @@ def pruned(text: str) -> str:
     for line in lines:
         found = USE.match(line)
         if found:
-            names = [name for name in found[2].split(", ") if name.split(" as ")[-1].strip("◌") in words or name == "◌++◌" and "++" in body]
+            used = words | {"++"} if "++" in body else words
+            names = [name for name in found[2].split(", ") if name.split(" as ")[-1].strip("◌") in used]
             if not names:
                 continue
             line = f"{found[1]}.{{{', '.join(names)}}}"
@@ -166,7 +167,8 @@ def saying(reading: Reading, one: Written) -> str:
     out += "".join(f"{one.word}_saying {c}{one.qualified(left)} d b = {proof}\n" for left, _, proof in reading.says(one))
     if reading.is_named_values(one):
         name = quoted(reading.definition(one))
-        out += f"\npub {one.word}_naming : (v : {one.name}) → value_number {reading.crate} {name} ({one.word}_name v) ≡ {one.word}_code v\n"
+        named = f"value_number {reading.crate} {name} ({one.word}_name v)"
+        out += f"\npub {one.word}_naming : (v : {one.name}) → {named} ≡ {one.word}_code v\n"
         out += "".join(f"{one.word}_naming {one.qualified(left)} = refl\n" for left, _, _ in reading.says(one))
     return out
 

@@ -123,7 +123,8 @@ class Reading:
         word = {"tag": "case", "outer": "choice"}[kind]
         out: list[Clause] = []
         for (head, tree), (label, fields) in zip(one.clauses, cases):
-            args = f"{self.crate} {quoted(shape.name)} {quoted(tag)} {label_text(label)} {context} {self.case_members(one, flat(tree)[1:], fields)}"
+            members = self.case_members(one, flat(tree)[1:], fields)
+            args = f"{self.crate} {quoted(shape.name)} {quoted(tag)} {label_text(label)} {context} {members}"
             out.append((head, f"{word}_says {args}", f"{word}_saying {args} d b"))
         return out
 
