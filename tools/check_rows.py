@@ -8,7 +8,6 @@ from __future__ import annotations
 
 import sys
 
-sys.dont_write_bytecode = True
 from libraries import CRATES
 from row_reader import KINDS, answer
 

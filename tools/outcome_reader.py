@@ -1,7 +1,7 @@
 """Says of bytes what the validators of the static libraries say, by the texts and notes of crates/tlsgen/data.
 
-It shares no code with the library or with what `tlsgen` writes. It follows RFC 8446, section 3, and the pages: docs/REFUSALS.md (the slice path),
-docs/MESSAGES.md (which numbers an enum has, and what a note says) and docs/CALLERS.md (statuses, places and spans).
+It shares no code with the library or with what `tlsgen` writes. It follows RFC 8446, section 3, and the pages: docs/REFUSALS.md (the slice
+path), docs/MESSAGES.md (which numbers an enum has, and what a note says) and docs/CALLERS.md (statuses, places and spans).
 """
 from __future__ import annotations
 
@@ -48,7 +48,7 @@ class Outcome:
 
 
 def accepted(taken: int) -> Outcome:
-    """The bytes begin with a message of so many bytes."""
+    """The bytes begin with a message of `taken` bytes."""
     return Outcome(0, taken, 0, 0)
 
 
@@ -64,7 +64,7 @@ class Reader:
         return self.end - self.at
 
     def take(self, count: int, begun: int) -> int:
-        """So many bytes as a number, for a field that has begun at this byte."""
+        """The next `count` bytes as a number, for a field that has begun at this byte."""
         if count > self.left():
             raise Rejected("EndOfStream", begun)
         self.at += count

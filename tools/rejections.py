@@ -56,7 +56,9 @@ REJECTIONS = {
     # section 7.2: a number of four bytes
     "json_leaf_index": 'rejected at byte 1, in leaf_index: EndOfStream: expected uint32 leaf_index, 3 bytes are left',
     # RFC 8446, section 4: the length has the remaining bytes, and 99 is no type of a message
-    "json_handshake_length": 'rejected at byte 1, in length: EndOfStream: expected uint24 length, its length announces 262 bytes, 2 are left',
+    "json_handshake_length": (
+        'rejected at byte 1, in length: EndOfStream: expected uint24 length, its length announces 262 bytes, 2 are left'
+    ),
     "json_handshake_type": 'rejected at byte 0, in msg_type: UnknownValue(99): expected HandshakeType, 99 (0x63) is there',
     # section 4.1.2: a version, 32 bytes, and a session's id of at most 32
     "json_session_id": (
