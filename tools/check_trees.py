@@ -10,9 +10,10 @@ import re
 import sys
 
 from libraries import CRATES
-from message_reader import PROTOCOLS, Reader, Rejected, Text, counted
+from message_reader import PROTOCOLS, Reader, Rejected, Text
 from presentation import Parser, name_of
 from rejections import REJECTIONS, UNREAD
+from shown import counted
 
 # outputs that are no tree
 BY_HAND = ("help", "version")

@@ -1,10 +1,12 @@
 """Reads messages line by line, by the texts of crates/tlsgen/data. It shares no code with `tlsdump`."""
 from __future__ import annotations
 
-import datetime
 
-from libraries import CRATES
-from presentation import Parser, name_of, plain
+from typing import Any
+
+from libraries import DATA
+from presentation import Field, Parser, Part, Select, Value, name_of, plain
+from shown import counted, date, number_text, text_of
 
 PROTOCOLS = {"mls": ["mls", "mls_group", "mls_tree"], "tls": ["tls13", "ct"], "ct": ["ct"]}
 WIDTHS = {"opaque": 1, "uint8": 1, "uint16": 2, "uint24": 3, "uint32": 4, "uint64": 8}
@@ -41,23 +43,35 @@ EXTENSIONS = {
 OWN = "struct { opaque application_id<V>; } ApplicationId; struct { Handshake messages[rest]; } HandshakeMessages;"
 
 
+# A named number of an enum or of a range: the first, the last and the name.
+Code = tuple[int, int, str]
+# A line of the tree: where its bytes begin, its depth, label and text, and what else JSON has of it.
+Line = dict[str, Any]
+
+
 class Rejected(Exception):
     """The field that can't be read, with the lines that it is in."""
 
-    def __init__(self, label, depth):
+    def __init__(self, label: str | None, depth: int) -> None:
         self.label, self.depth = label, depth
 
 
 class Text:
     """The definitions of some texts with their notes, by name."""
 
-    def __init__(self, names):
-        self.enums, self.structs, self.others, self.fixed = {}, {}, {}, {}
+    def __init__(self, names: list[str]) -> None:
+        self.enums: dict[str, tuple[list[Code], int]] = {}
+        self.structs: dict[str, list[Field | Select]] = {}
+        self.others: dict[str, Field] = {}
+        # the label of a tag that a note fixes, by its struct and field
+        self.fixed: dict[tuple[str, str], str] = {}
         # whether a note closes an enum or opens it, and the paths of lengths of what follows and of bytes to the end
-        self.closed, self.counts_rest, self.fills_rest = {}, set(), set()
+        self.closed: dict[str, bool] = {}
+        self.counts_rest: set[str] = set()
+        self.fills_rest: set[str] = set()
         for name in names:
-            self.define((CRATES / "tlsgen" / "data" / f"{name}.tls").read_text())
-            self.note((CRATES / "tlsgen" / "data" / f"{name}.notes").read_text())
+            self.define((DATA / f"{name}.tls").read_text())
+            self.note((DATA / f"{name}.notes").read_text())
         self.define(OWN)
         fields = [(of, part) for of, parts in self.structs.items() for part in parts if "cases" not in part]
         # the enums that are the tag of a select right in their struct
@@ -65,7 +79,8 @@ class Text:
         # the numbers of fields that have one value
         self.constants = {(of, part["name"]): self.constant_of(part) for of, part in fields if part["constant"]}
 
-    def define(self, text):
+    def define(self, text: str) -> None:
+        """Adds the definitions of a text, if their names are new."""
         for one in Parser(text).all():
             if one[0] == "enum":
                 self.enums.setdefault(name_of(one), codes_of(one[2]))
@@ -74,7 +89,8 @@ class Text:
             else:
                 self.structs.setdefault(name_of(one), [part_of(part) for part in one[-2]])
 
-    def note(self, text):
+    def note(self, text: str) -> None:
+        """Adds what the notes of a file say."""
         for kind, path, *words in Parser(text).notes():
             if kind == "Equals":
                 of, name = path.split(".")
@@ -89,7 +105,7 @@ class Text:
             elif kind == "FillsRest":
                 self.fills_rest.add(path)
 
-    def select_on(self, of: str, field: str) -> dict | None:
+    def select_on(self, of: str, field: str) -> Select | None:
         """The select of a struct whose tag is this field of it."""
         return next((part for part in self.structs[of] if "cases" in part and part["path"] in (field, f"{of}.{field}")), None)
 
@@ -105,7 +121,7 @@ class Text:
         """What an enum or a registry calls a number."""
         return next((name for first, last, name in self.enums.get(of, ([], 0))[0] if first <= number <= last), None)
 
-    def constant_of(self, field: dict) -> int:
+    def constant_of(self, field: Field) -> int:
         """The one number that a field has: by its name, as the text has it, or byte by byte."""
         kind, value = field["constant"]
         if kind == "bytes":
@@ -117,18 +133,18 @@ class Text:
         return not self.closed.get(of, of in self.tags) or self.name(of, number) not in (None, "reserved")
 
 
-def codes_of(values):
+def codes_of(values: list[Value]) -> tuple[list[Code], int]:
     """The named values of an enum, as first, last and name, and how many bytes one has."""
     most = max(value[-1] for value in values)
     return [(value[1], value[-1], value[0]) for value in values if value[0]], (most.bit_length() + 7) // 8
 
 
-def part_of(part):
+def part_of(part: Part) -> Field | Select:
     """A field or a select of a struct. What is signed there is a field with the signature."""
     return plain("DigitallySigned", part[2] or "signature") if part[0] == "signed" else part[1]
 
 
-def end_of(path):
+def end_of(path: str) -> str:
     """The field that a path ends with."""
     return path.split(".")[-1]
 
@@ -136,33 +152,39 @@ def end_of(path):
 class Reader:
     """A message, line by line."""
 
-    def __init__(self, text, data, protocol, message):
+    def __init__(self, text: Text, data: bytes, protocol: str, message: str) -> None:
         self.text, self.data, self.protocol = text, data, protocol
-        self.at, self.end, self.lines, self.known = 0, len(data), [], {}
+        self.at, self.end = 0, len(data)
+        self.lines: list[Line] = []
+        # what was read of the fields so far: a tag's name, or a number
+        self.known: dict[str | None, Any] = {}
         if kind := self.handshake_type("Certificate" if message == "CertificateEntry" else message):
             self.known["msg_type"] = kind
 
-    def handshake_type(self, body):
+    def handshake_type(self, body: str) -> str | None:
         """What a Handshake says of such a body before it. A body alone is read as if that were there."""
         for part in self.text.structs.get("Handshake", []):
             for labels, fields in part.get("cases", []):
                 if [field["of"] for field in fields] == [body]:
                     return labels[0]
 
-    def left(self):
+    def left(self) -> int:
         return self.end - self.at
 
-    def take(self, count, label, depth):
+    def take(self, count: int, label: str | None, depth: int) -> bytes:
+        """The next bytes, for the field with this label."""
         if count > self.left():
             raise Rejected(label, depth)
         self.at += count
         return self.data[self.at - count : self.at]
 
-    def line(self, at, depth, label, shown, **members):
+    def line(self, at: int, depth: int, label: str | None, shown: str, **members: Any) -> Line:
+        """Adds a line, and returns it."""
         self.lines.append({"at": at, "depth": depth, "label": label, "shown": shown, **members})
         return self.lines[-1]
 
-    def struct(self, of, depth):
+    def struct(self, of: str, depth: int) -> None:
+        """The fields of a struct."""
         end = self.end
         for part in self.text.structs[of]:
             if "cases" in part:
@@ -175,7 +197,7 @@ class Reader:
                 raise Rejected("length", depth)
             self.end = end
 
-    def has_case(self, of, name, depth):
+    def has_case(self, of: str, name: str, depth: int) -> None:
         """A tag that no case of a select in its struct has is rejected where it is."""
         for part in self.text.structs[of]:
             if "cases" in part and part["path"] in (name, f"{of}.{name}"):
@@ -183,7 +205,8 @@ class Reader:
                     self.lines.pop()
                     raise Rejected(name, depth)
 
-    def select(self, of, select, depth):
+    def select(self, of: str, select: Select, depth: int) -> None:
+        """The fields of the case that the tag names."""
         tag = self.text.fixed.get((of, end_of(select["path"]))) or self.known.get(end_of(select["path"]))
         chosen = [fields for labels, fields in select["cases"] if tag in labels]
         if not chosen:
@@ -192,7 +215,8 @@ class Reader:
         for field in chosen[0]:
             self.field(of, field, field["name"] or (called if called[:1].islower() else tag), depth)
 
-    def field(self, of, field, label, depth):
+    def field(self, of: str, field: Field, label: str | None, depth: int) -> None:
+        """A field: one value, bytes, or a list."""
         if field["vector"] == ("one",):
             return self.value(of, field, label, depth)
         at = self.at
@@ -216,7 +240,7 @@ class Reader:
         line["shown"] = counted(elements, "element")
         self.end = end
 
-    def passes_end(self, of, field, label, depth, begun, end):
+    def passes_end(self, of: str, field: Field, label: str, depth: int, begun: tuple[int, int, dict], end: int) -> None:
         """An element that ends after its list does is rejected as a whole, so at the first of its fields."""
         at, lines, known = begun
         left, read, inner = self.at, self.lines[lines:], self.end
@@ -231,7 +255,8 @@ class Reader:
         del self.lines[self.lines.index(first) :]
         raise Rejected(first["label"], first["depth"])
 
-    def length(self, of, field, label, depth):
+    def length(self, of: str, field: Field, label: str | None, depth: int) -> tuple[int, int]:
+        """How many bytes a vector has, and how many its length has, which is read."""
         kind, *bounds = field["vector"]
         if kind == "array":
             return bounds[0], 0
@@ -253,7 +278,8 @@ class Reader:
             raise Rejected(label, depth)
         return count, width
 
-    def content(self, of, label, at, count, width, depth):
+    def content(self, of: str, label: str | None, at: int, count: int, width: int, depth: int) -> None:
+        """The bytes of a vector: as a message, if they are known to be one, or in hex."""
         if (of, width) == ("CipherSuite", 0):
             return self.code(at, label, depth, self.take(count, label, depth), TLS_NAMES["CipherSuite"])
         start, end, lines, known, opened = self.at, self.end, len(self.lines), dict(self.known), self.opened(of, label, count)
@@ -272,8 +298,8 @@ class Reader:
         data = self.take(count, label, depth)
         self.line(at, depth, label, "", bytes=data, text=text_of(label, data), rejected=opened)
 
-    # what the bytes of a field are, if that is known
-    def opened(self, of, label, count):
+    def opened(self, of: str, label: str | None, count: int) -> str | None:
+        """What message the bytes of a field are, if that is known."""
         if of == "SerializedSCT":
             return "SignedCertificateTimestamp"
         if of == "TLSPlaintext":
@@ -288,7 +314,8 @@ class Reader:
             return "SignedCertificateTimestampList"
         return EXTENSIONS.get(name)
 
-    def value(self, of, field, label, depth):
+    def value(self, of: str, field: Field, label: str | None, depth: int) -> None:
+        """One value of a field, which may be absent."""
         if not field["optional"]:
             return self.type(of, field["of"], label, depth, depth + 1)
         at = self.at
@@ -296,12 +323,13 @@ class Reader:
         if tag > 1:
             raise Rejected(label, depth)
         if not tag:
-            return self.line(at, depth, label, "none", value=None)
+            self.line(at, depth, label, "none", value=None)
+            return
         self.line(at, depth, label, field["of"], below="fields", type=field["of"])
         self.type(of, field["of"], None, depth, depth + 1)
 
-    # a value of a type; one without a label has its line already
-    def type(self, owner, of, label, depth, below):
+    def type(self, owner: str | None, of: str, label: str | None, depth: int, below: int) -> None:
+        """A value of a type. One without a label has its line already."""
         at = self.at
         if of in self.text.structs:
             if label is not None:
@@ -322,7 +350,8 @@ class Reader:
                 if number > self.left():
                     raise Rejected(label, depth)
                 self.end = self.at + number
-            return self.line(at, depth, label, number_text(label, number), number=number, date=date(label, number))
+            self.line(at, depth, label, number_text(label, number), number=number, date=date(label, number))
+            return
         other = self.text.others[of]
         if other["vector"] == ("one",) and other["of"] in WIDTHS:
             data = self.take(WIDTHS[other["of"]], label, depth)
@@ -336,37 +365,10 @@ class Reader:
         if number != self.text.constants.get((owner, label), number) or not self.text.has(of, number):
             raise Rejected(label, depth)
 
-    def code(self, at, label, depth, data, names):
+    def code(self, at: int, label: str | None, depth: int, data: bytes, names: dict[int, str]) -> None:
+        """The line of a number that may have a name."""
         name = names.get(int.from_bytes(data))
         if name is None and len(data) == 2 and data[0] == data[1] and data[0] & 15 == 10:
             name = "GREASE"
         digits = f"0x{data.hex()}"
         self.line(at, depth, label, f"{name} ({digits})" if name else digits, number=int.from_bytes(data), code=name)
-
-
-def counted(count, of):
-    return f"{count} {of}{'' if count == 1 else 's'}"
-
-
-def text_of(label, data):
-    if label not in ("identity", "application_id", "label") or not data:
-        return None
-    try:
-        text = data.decode()
-    except UnicodeDecodeError:
-        return None
-    printed = all((" " <= one <= "~" and one not in '"\\') or (one > "~" and one.isalnum()) for one in text)
-    return text if printed else None
-
-
-def date(label, number):
-    scale = {"not_before": 1, "not_after": 1, "timestamp": 1000}.get(label)
-    if scale is None or number // scale > 253402207200:
-        return None
-    moment = datetime.datetime(1970, 1, 1) + datetime.timedelta(seconds=number // scale)
-    part = f".{number % scale:03}".rstrip("0") if number % scale else ""
-    return f"{moment.isoformat()}{part}Z"
-
-
-def number_text(label, number):
-    return f"{number} ({date(label, number)})" if date(label, number) else str(number)
