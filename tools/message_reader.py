@@ -1,7 +1,6 @@
 """Reads messages line by line, by the texts of crates/tlsgen/data. It shares no code with `tlsdump`."""
 from __future__ import annotations
 
-
 from typing import Any
 
 from libraries import DATA
