@@ -90,7 +90,7 @@ class Export:
         return self.text.removesuffix(".") + asked if asked else FOUND.sub(r"\1, if the bytes begin with one.", self.text)
 
     def whole_in_c(self) -> list[str]:
-        """Of a validator the call that wants all of the bytes."""
+        """A validator's call that needs all of the bytes to be one message."""
         name = f"{self.subject}_validate"
         lines = [f"static inline tls_codec_outcome {name}(const uint8_t *bytes, size_t length) {{"]
         return [*lines, f"  return tls_codec_whole({self.name}(bytes, length), length);", "}"]

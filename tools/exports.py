@@ -106,7 +106,7 @@ def outcome_header(of_headers: str) -> str:
 
 
 def declared(it: Export) -> list[str]:
-    """A call in C: the struct that it fills, its prototype, and of a validator the call that wants all of the bytes."""
+    """A call in C: the struct that it fills, its prototype, and a validator's call that takes all of the bytes."""
     lines: list[str] = []
     if it.call == "_locate" and structs()[taken_by(it)].crate != "tls_codec_outcome":
         lines = ["", *struct_in_c(taken_by(it))]
@@ -174,7 +174,7 @@ def exports_python() -> str:
 
 
 def headers(of_headers: str) -> dict[pathlib.Path, str]:
-    """The headers. outcome.h has the mark of all of them, or an empty one, of which that is made."""
+    """The headers. outcome.h has this mark: that of all of them, or an empty one, while that is made."""
     include = TOP / "c" / "include" / "tls_codec"
     names = {it: it.removesuffix("_c") for it in libraries()}
     found = {include / f"{MODULES.get(name, name)}.h": header(it) for it, name in names.items()}

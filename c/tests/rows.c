@@ -63,7 +63,7 @@ static int is_decoded_alike(const struct message *it, tls_codec_outcome outcome,
   return is_same(it->decode_check(bytes, length), outcome);
 }
 
-/* Whether the call that wants all of the bytes says the same, or that some are left. */
+/* Whether the call that takes all of the bytes says the same, or that some are left. */
 static int is_whole_alike(const struct message *it, tls_codec_outcome outcome, const uint8_t *bytes, size_t length) {
   tls_codec_outcome whole = it->validate(bytes, length);
   if (outcome.status != TLS_CODEC_ACCEPTED || outcome.taken == length) return is_same(whole, outcome);
