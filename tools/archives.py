@@ -15,9 +15,9 @@ import sys
 import tempfile
 
 import exports
-from libraries import CRATES, TOP, Libraries
+from lib.exported import HEAP
+from lib.libraries import CRATES, TOP, Libraries
 
-HEAP = "libtls_codec_heap.a"
 TARGET = "x86_64-unknown-linux-gnu"
 # Up to which cost LLVM copies a function into its callers; its own bound is 225. Messages of one archive share the validators of their
 # parts, and by that bound most of these stay functions of their own (docs/DECISIONS.md, "How are the archives compiled?").

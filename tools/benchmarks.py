@@ -3,16 +3,15 @@
 
 OWN has what `tls_codec_bench run` printed, CRATE what a program over the Rust crate printed: a line for each case, its name,
 the bytes, and the nanoseconds of each call, with tabs between. OWN has validation and views last, which the crate doesn't have. A file
-may have the lines of several runs: the lowest figure of each is taken. Rows of ROUGH aren't drawn."""
+may have the lines of several runs: the lowest figure of each is taken. Rows of ROUGH (lib/figures.py) aren't drawn."""
 import html
 import math
 import sys
 
-import libraries
+from lib import libraries
+from lib.figures import ROUGH
 
 CALLS = ("encode", "into", "slice", "reader")
-# Messages: their figures are of a machine that wasn't quiet.
-ROUGH = {"KeyPackage", "Welcome, 100 members", "PrivateMessage", "UpdatePath, 10x10"}
 LEAST, MOST = 0.008, 2.5  # the ends of the scale
 TICKS = (0.01, 0.1, 1)
 ROW, TOP, NAMES, PANEL, GAP = 22, 64, 240, 152, 20  # sizes in pixels

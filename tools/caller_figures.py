@@ -1,9 +1,9 @@
 #!/usr/bin/env python3
 """caller_figures.py [ARCHIVES [BENCH]]: the figures of docs/CALLERS.md, of the archives in a folder, c/out if none is given.
 
-The size of each archive; how much stack calls touch at most, over the rows that tools/test_callers has; and by `valgrind --tool=callgrind` the
-instructions of `NAME_validate_prefix` from C on the key package and the private message of tls_codec_bench. With BENCH, the built program of that
-crate, those of `tls_validate_prefix` in Rattle too, which takes a minute.
+The size of each archive; how much stack calls touch at most, over the rows that test_callers.py has; and by `valgrind --tool=callgrind`
+the instructions of `NAME_validate_prefix` from C on the key package and the private message of tls_codec_bench. With BENCH, the built
+program of that crate, those of `tls_validate_prefix` in Rattle too, which takes a minute.
 """
 from __future__ import annotations
 
@@ -13,10 +13,9 @@ import subprocess
 import sys
 import tempfile
 
-sys.dont_write_bytecode = True
-import exported
 import instructions
-from libraries import CRATES, ROWS, TOP
+from lib import exported
+from lib.libraries import CRATES, ROWS, TOP
 
 TIMED = {"mls_key_package": ("KEY_PACKAGE", "KeyPackage"), "mls_private_message": ("PRIVATE_MESSAGE", "PrivateMessage")}
 
@@ -64,14 +63,15 @@ def main() -> int:
         program, row = pathlib.Path(folder) / "figures", pathlib.Path(folder) / "row"
         source = TOP / "c" / "tests" / "figures.c"
         words = ["cc", "-std=c99", "-O2", "-pthread", "-I", TOP / "c" / "include", "-o", program, source, *built]
-        output_of([*words, archives / "libtls_codec_heap.a", "-Wl,-z,now"])
+        output_of([*words, archives / exported.HEAP, "-Wl,-z,now"])
         stack(program)
         for message, (name, case) in TIMED.items():
             data = bench_bytes(name)
             row.write_text(f"{message}\t{data.hex()}\n")
             beside = in_rattle.get(case, {})
             beside_it = f", in Rattle {beside['validate']:.0f}" if beside else ""
-            print(f"{message}_validate_prefix of {len(data)} bytes: {counted(program, row, f'{message}_validate_prefix')} instructions{beside_it}")
+            call = f"{message}_validate_prefix"
+            print(f"{call} of {len(data)} bytes: {counted(program, row, call)} instructions{beside_it}")
     return 0
 
 

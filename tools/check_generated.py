@@ -13,8 +13,8 @@ import subprocess
 import sys
 import tempfile
 
-import cases
-from libraries import CRATES, DATA, TEXTS
+from lib import cases
+from lib.libraries import CRATES, DATA, TEXTS
 
 STORED = "hello"
 

@@ -13,7 +13,7 @@ import re
 import sys
 from collections.abc import Iterator
 
-from libraries import CRATES, DATA, TEXTS, Libraries
+from lib.libraries import CRATES, DATA, TEXTS, Libraries
 from write_laws import differences
 
 

@@ -1,8 +1,8 @@
 #!/usr/bin/env python3
-"""Compares the stored rows of messages with what outcome_reader.py, an independent reader, says of their inputs.
+"""Compares the stored rows of messages with what lib/outcome_reader.py, an independent reader, says of their inputs.
 
 They are those of crates/test_outcome, crates/test_places and c/tests/tls13.tsv. It also compares the byte and the error of each rejection
-of tlsdump in rejections.py. `check_outcomes.py --write NAME HEX ..` prints rows for inputs of your own: NAME is a message, or a call of
+of tlsdump in lib/rejections.py. `check_outcomes.py --write NAME HEX ..` prints rows for inputs of your own: NAME is a message, or a call of
 test_places. Append them to stdout there, and their first two columns to stdin.
 """
 from __future__ import annotations
@@ -10,10 +10,10 @@ from __future__ import annotations
 import sys
 
 from check_trees import bytes_of, named
-from libraries import CRATES, TOP
-from message_reader import PROTOCOLS, Text
-from outcome_reader import TEXTS, Outcome, Span, elements, first_rejected, located
-from rejections import REJECTIONS
+from lib.libraries import CRATES, TOP
+from lib.message_reader import PROTOCOLS, Text
+from lib.outcome_reader import TEXTS, Outcome, Span, elements, first_rejected, located
+from lib.rejections import REJECTIONS
 
 RUNS = CRATES / "tlsdump" / "runs"
 TABLES = [CRATES / "test_outcome" / "stdout", CRATES / "test_places" / "stdout", TOP / "c" / "tests" / "tls13.tsv"]

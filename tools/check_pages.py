@@ -26,12 +26,11 @@ from collections.abc import Iterator
 import dialect
 import pictures
 import reading
-from libraries import PAGES, TOP, files_of_clone
+from lib.blocks import NOT_QUOTED, blocks, prose
+from lib.libraries import PAGES, TOP, files_of_clone
 
 # A fault: the line where it is, and what it is.
 Fault = tuple[int, str]
-FENCE = re.compile(r"^ *```")
-NOT_QUOTED = re.compile(r"<!-- (?:not quoted|file: \S+) -->")
 LINK = re.compile(r"\]\(([^()\s]+)\)")
 CODE = re.compile(r"`([^`]+)`")
 ELSEWHERE = {"conditionally_deserializable", "from_iter", "read_to_end"}
@@ -79,32 +78,6 @@ def fault_of(quote: list[tuple[int, str]], lines: list[str]) -> tuple[int, str, 
         if clause is not None and clause not in places:
             return number, "drops a clause of", lines[clause]
     return None
-
-
-def blocks(lines: list[str]) -> Iterator[tuple[list[str], str, list[tuple[int, str]]]]:
-    """Each block of a page: the words since the last one, what it is, and its lines by number."""
-    words, kind, quote = [], None, []
-    for number, line in enumerate(lines, 1):
-        if FENCE.match(line):
-            if kind is None:
-                kind, quote = line.strip()[3:], []
-            else:
-                yield words, kind, quote
-                words, kind = [], None
-        elif kind is None:
-            words.append(line)
-        elif line.strip():
-            quote.append((number, line.strip()))
-
-
-def prose(lines: list[str]) -> Iterator[tuple[int, str]]:
-    """The lines of a page outside of its blocks, by number."""
-    inside = False
-    for number, line in enumerate(lines, 1):
-        if FENCE.match(line):
-            inside = not inside
-        elif not inside:
-            yield number, line
 
 
 def anchors(path: pathlib.Path) -> set[str]:

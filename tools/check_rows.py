@@ -1,5 +1,5 @@
 #!/usr/bin/env python3
-"""Compares the stored rows of crates/test_rows with what row_reader.py, an independent reader, says of their inputs.
+"""Compares the stored rows of crates/test_rows with what lib/row_reader.py, an independent reader, says of their inputs.
 
 `check_rows.py --write KIND HEX ..` prints rows for inputs of your own as stdout has them. Append them to crates/test_rows/stdout, and their
 first two columns to crates/test_rows/stdin.
@@ -8,8 +8,8 @@ from __future__ import annotations
 
 import sys
 
-from libraries import CRATES
-from row_reader import KINDS, answer
+from lib.libraries import CRATES
+from lib.row_reader import KINDS, answer
 
 FOLDER = CRATES / "test_rows"
 # What is changed of a row, to see that a wrong one is found: a text there, and what is put in its place.

@@ -18,8 +18,8 @@ from typing import NamedTuple
 
 import compare_rfc
 from compare_rfc import TEXTS
-from libraries import CRATES, DATA
-from presentation import Parser
+from lib.libraries import CRATES, DATA
+from lib.presentation import Parser
 
 COMMENT = re.compile(r"/\*.*?\*/|//[^\n]*", re.S)
 # The texts with definitions of each RFC, and the RFCs that are made with page breaks.

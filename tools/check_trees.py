@@ -9,11 +9,11 @@ import json
 import re
 import sys
 
-from libraries import CRATES
-from message_reader import PROTOCOLS, Reader, Rejected, Text
-from presentation import Parser, name_of
-from rejections import REJECTIONS, UNREAD
-from shown import counted
+from lib.libraries import CRATES
+from lib.message_reader import PROTOCOLS, Reader, Rejected, Text
+from lib.presentation import Parser, name_of
+from lib.rejections import REJECTIONS, UNREAD
+from lib.shown import counted
 
 # outputs that are no tree
 BY_HAND = ("help", "version")

@@ -18,7 +18,7 @@ import sys
 from collections.abc import Iterable, Iterator
 from typing import NamedTuple
 
-from libraries import CRATES, TOP
+from lib.libraries import CRATES, TOP
 
 TABLE = CRATES / "tls_codec/src"
 PAGE = TOP / "docs/API.md"

@@ -4,9 +4,9 @@ these and `tlsview` are made of.
 
 An edit of wrong/ names its function; one of must-fail/ turns that which has its `old:` text. A method in an `impl Trait for Type` has the
 contract of the trait, and the path that rattle gives it: `tagged::TaggedSerialize::tls_serialize`. A function needs none if its body is
-empty, as a law's is, or one call: what this calls has its own. without_wrong_bodies.txt has the other exceptions, with reasons; "none yet"
-is a gap. Prints each function that lacks one, and each exception that is none; last 'N passed, N failed', a function each. Before that it
-tries itself on a crate without one of its edits, which counts as one.
+empty, as a law's is, or one call: what this calls has its own. data/without_wrong_bodies.txt has the other exceptions, with reasons; "none
+yet" is a gap. Prints each function that lacks one, and each exception that is none; last 'N passed, N failed', a function each. Before that
+it tries itself on a crate without one of its edits, which counts as one.
 """
 from __future__ import annotations
 
@@ -14,8 +14,8 @@ import re
 import sys
 from collections.abc import Iterator
 
-import edits
-from libraries import CRATES, TOP, Libraries
+from lib import edits
+from lib.libraries import CRATES, TOP, Libraries
 
 FUNCTION = re.compile(r'( *)(pub )?(?:final |const |unsafe |extern "C" )*fn (?:r#)?(\w+)')
 # What is more than one call: a statement, a block or an operator. `let found = call()?;` with `Ok(found)` or `Ok(Type(found))` is one.
@@ -23,7 +23,7 @@ MORE = re.compile(r"[;{]|\s(?:[-+*/%^|&<>=!]=?|&&|\|\||<<|>>)\s")
 PASSED_ON = re.compile(r"let (\w+) = [^;{]*\?;\s*Ok\((?:[\w:]+\()?\1\)?\)")
 BELOW_ARCHIVES = ["mls_fields", "tls13_fields", "mls_signed", "tls_codec_outcome", "view_input", "tlsview_run"]
 
-WITHOUT = TOP / "tools/without_wrong_bodies.txt"
+WITHOUT = TOP / "tools/data/without_wrong_bodies.txt"
 
 
 def excepted() -> set[str]:

@@ -28,8 +28,8 @@ import re
 import sys
 from typing import NamedTuple
 
-from libraries import DATA
-from presentation import Parser, name_of, tokens
+from lib.libraries import DATA
+from lib.presentation import Parser, name_of, tokens
 
 TEXTS = ("tls13", "ct", "mls_tree", "mls_group", "mls")
 COMMENT = re.compile(r"/\*.*?\*/|//[^\n]*", re.S)

@@ -14,10 +14,10 @@ import sys
 import tokenize
 from collections.abc import Iterator
 
-from libraries import PAGES, TOP
+from lib.libraries import PAGES, TOP
 
 CALLERS = ("c/**/*.[ch]", "c/**/*.cc", "rust/**/*.rs", "python/**/*.py")
-SCRIPTS = (".ci/run", "tools/*", "tools/laws/*.py")
+SCRIPTS = (".ci/run", "tools/*", "tools/lib/**/*.py", "tools/data/*")
 SOURCES = (*SCRIPTS, *CALLERS, "crates/tls_codec*/src/**/*.rt", "crates/guide/src/*.rt", "crates/mls*/src/*.rt")
 COMMENT = re.compile(r"\s*//[/!]?(.*)$")
 # A line within a comment of C that goes over several, and the hash of scripts and data.
@@ -71,7 +71,7 @@ def prose(text: str) -> str:
 
 def comments(path: pathlib.Path, text: str) -> str:
     """The comments of a source, line for line, and the docstrings of Python."""
-    if path.suffix == ".py" or re.match(r"#!.*python", text):
+    if path.suffix == ".py":
         return comments_of_python(text)
     if path.suffix in (".rt", ".rs"):
         forms = [COMMENT]

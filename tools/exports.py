@@ -1,11 +1,11 @@
 #!/usr/bin/env python3
 """exports.py [--write]: compares what callers in C, Rust and Python declare with what the static libraries export, or writes it.
 
-Each static library of crates.txt is read, each function that it exports, of `tls_codec_outcome` the struct and the numbers of the errors, and
-of the texts in crates/tlsgen/data a few enums. By these are written: c/include/tls_codec/*.h, c/tests/exports.inc, rust/src/exports.rs and
-python/tls_codec_exports.py; and by CHANGELOG.md the version in these and in the files of VERSIONED. By the version and a sum of the headers
-callers in C (TLS_CODEC_HEADERS), C and Rust (MARKS) and in Python find out whether archives are of other headers. The last line is 'N passed, N failed', a file
-each, and the status is 1 if one failed.
+Each static library of crates.txt is read, each function that it exports, of `tls_codec_outcome` the struct and the numbers of the errors,
+and of the texts in crates/tlsgen/data a few enums. By these are written: c/include/tls_codec/*.h, c/tests/exports.inc, rust/src/exports.rs
+and python/tls_codec_exports.py; and by CHANGELOG.md the version in these and in the files of VERSIONED. By the version and a sum of the
+headers callers in C (TLS_CODEC_HEADERS), C and Rust (MARKS) and in Python find out whether archives are of other headers. The last line is
+'N passed, N failed', a file each, and the status is 1 if one failed.
 """
 from __future__ import annotations
 
@@ -16,13 +16,12 @@ import pathlib
 import re
 import sys
 
-sys.dont_write_bytecode = True
-from exported import CALLS, MEANINGS, WHOLE, WRITTEN, Export, Unread
-from exported import about, exports_of, libraries, named_as_in_the_rfc, numbers, structs, taken_by, type_in_c
-from exports_rust import MODULES, exports_rust
-from libraries import TOP
-from headers import CONTRACT, LISTS, READERS, UMBRELLA, WHOLE_OUTCOME
-from registries import enums_in_c, enums_in_python
+from lib.exported import CALLS, MEANINGS, WHOLE, WRITTEN, Export, Unread
+from lib.exported import about, exports_of, libraries, named_as_in_the_rfc, numbers, structs, taken_by, type_in_c
+from lib.exports_rust import MODULES, exports_rust
+from lib.headers import CONTRACT, LISTS, READERS, UMBRELLA, WHOLE_OUTCOME
+from lib.libraries import TOP
+from lib.registries import enums_in_c, enums_in_python
 
 LONGEST = 100
 # The files written by hand that have the version too, and the line where it is.
@@ -168,7 +167,8 @@ def exports_python() -> str:
     lines += [f'    "{name}",' for name in ("Accepted", *[name for name, _, _ in numbers()])]
     lines += ["]", "", "# What `NAME_locate` fills, in this order, by NAME.", "FIELDS = {"]
     lines += [f'    "{message}": {json.dumps(names)},' for message, names in located_fields().items()]
-    lines += ["}", "", "# Which of these have a length in them, in some case or in each. The others are contents without their length, or have none."]
+    lines += ["}", "", "# Which of these have a length in them, in some case or in each."]
+    lines[-1] += " The others are contents without their length, or have none."
     lines += ["WITH_LENGTH = {", *[f'    "{message}": {json.dumps(names)},' for message, names in fields_with_length().items()]]
     return "\n".join([*lines, "}", *enums_in_python(), ""])
 

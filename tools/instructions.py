@@ -4,7 +4,7 @@
 It runs `PROGRAM run` under `valgrind --tool=callgrind`, which writes what it counted after each row, and divides what the calls
 that are timed took, with all that they call, by how often they were called. With OTHER, a build of another commit, it prints
 both and their ratio. What malloc takes is in it and depends on what was freed before, and the C library copies by one loop or
-another: compare two builds with --same-calls, which puts those of same_calls.c (by cc) in their place. A minute a program.
+another: compare two builds with --same-calls, which puts those of data/same_calls.c (by cc) in their place. A minute a program.
 """
 import collections
 import os
@@ -13,6 +13,8 @@ import re
 import subprocess
 import sys
 import tempfile
+
+from lib.libraries import TOP
 
 CALLS = ("encode", "encode_into", "decode_slice", "decode_reader", "decode_outside", "validate", "view")
 TIMED = re.compile(r"tls_codec_bench::calls::(\w+)::")
@@ -38,7 +40,7 @@ def counted(path):
 def with_same_calls(room):
     """The environment of a program that calls the functions of same_calls.c."""
     built = str(pathlib.Path(room, "same_calls.so"))
-    source = str(pathlib.Path(__file__).with_name("same_calls.c"))
+    source = str(TOP / "tools" / "data" / "same_calls.c")
     subprocess.run(["cc", "-O2", "-fno-builtin-malloc", "-shared", "-fPIC", "-o", built, source], check=True)
     return {**os.environ, "LD_PRELOAD": built}
 

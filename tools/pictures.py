@@ -10,7 +10,7 @@ import sys
 import textwrap
 
 import check_trees as trees
-from libraries import TOP
+from lib.libraries import TOP
 
 WIDTH = 720
 MONO = "ui-monospace, Menlo, Consolas, 'DejaVu Sans Mono', monospace"

@@ -4,7 +4,7 @@
 - All pages except docs/DECISIONS.md have at most MOST_WORDS words outside of their blocks: what is between blanks and has a letter, and
   each `code` once.
 - Each record of docs/DECISIONS.md, from `### ` on, is a question, begins with its date and commit, and fits on a screen.
-- Figures of the pages, and answers and sentences of docs/REFUSALS.md, are those of the files that have them (figures.py).
+- Figures of the pages, and answers and sentences of docs/REFUSALS.md, are those of the files that have them (lib/figures.py).
 - The two short lists of "What to read" in docs/MAP.md are closed, and are as long as the page says. An item `1. **Formats**, 600 lines: ..`
   lists files under the short names of the crates; a file "to `word`" is read to the line before the first one that has the word. Each word
   that such a part takes from the specs or declarations of the repository's crates has to be in a part of the same list or of the list
@@ -20,8 +20,8 @@ import pathlib
 import re
 import sys
 
-import figures
-from libraries import CRATES, PAGES, TOP
+from lib import figures
+from lib.libraries import CRATES, PAGES, TOP
 
 RECORDS = TOP / "docs/DECISIONS.md"
 MOST_WORDS = 15_000

@@ -5,7 +5,7 @@ A program is built once, without proof (`rt try`). A run is a file with the inpu
 NAME.stdout what it must print. rt ci runs a program on one input alone, and proves it again for another one.
 Then tlsdump runs with a request for memory refused: it prints nothing and ends with status 3. The program that `rt ci` left in out/
 runs with an output that is full, which is status 3 too, and on each input that is rejected or can't be read: standard error has one line,
-that of rejections.py or of UNREAD. tlsgen, from out/ too, has runs that print nothing but what TLSGEN has for standard error: {} among
+that of lib/rejections.py or of UNREAD. tlsgen, from out/ too, has runs that print nothing but what TLSGEN has for standard error: {} among
 their words names a copy of the input.
 """
 from __future__ import annotations
@@ -17,10 +17,9 @@ import subprocess
 import sys
 import tempfile
 
-import cases
 import check_generated as generated
-import rejections
-from libraries import CRATES
+from lib import cases, rejections
+from lib.libraries import CRATES
 
 # The exit status of each run.
 STATUS = {

@@ -24,10 +24,9 @@ import subprocess
 import sys
 import tempfile
 
-import cases
 import check_generated as written
-import verdicts
-from libraries import CRATES, DATA, TEXTS, TOP, Libraries
+from lib import cases, verdicts
+from lib.libraries import CRATES, DATA, TEXTS, TOP, Libraries
 
 # Pages of the laws that are the text's, and stay.
 OF_TEXT = ("Text", "Notes", "Definitions")

@@ -10,10 +10,10 @@ from __future__ import annotations
 import re
 import sys
 
-from laws.modules import modules
-from laws.pages import Files, pages
-from laws.says import Reading
-from libraries import CRATES
+from lib.laws.modules import modules
+from lib.laws.pages import Files, pages
+from lib.laws.says import Reading
+from lib.libraries import CRATES
 
 IMPORT = re.compile(r"^(?:ghost )?use ([\w.:]+?)(?:\.|::)(?:\{([^}]*)\}|(\w+));?$", re.M)
 

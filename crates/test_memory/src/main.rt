@@ -3,7 +3,7 @@
 //!
 //! Standard input has the number of the request of the rows that is refused, and nothing else: no number, no refused
 //! request. The toolchain refuses the [`LAST`]th request of a run (`rt try --fail-alloc`), so the program makes those
-//! that are missing to it first. So one build serves for each request: `tools/try_refused_requests` runs it so.
+//! that are missing to it first. So one build serves for each request: `tools/try_refused_requests.py` runs it so.
 //!
 //! The line is `N requests, none refused`, or says which; the status is then 0. Each call was refused exactly if one of
 //! its requests was. Else the line names the row that was wrong, and the status is 1.

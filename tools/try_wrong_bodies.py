@@ -1,17 +1,17 @@
 #!/usr/bin/env python3
-"""try_wrong_bodies [-j N] [--incremental] [--output FOLDER] [NAME | NAME/EDIT ..]: tries the wrong bodies crates/NAME/wrong/EDIT.edit of
+"""try_wrong_bodies.py [-j N] [--incremental] [--output FOLDER] [NAME | NAME/EDIT ..]: tries the wrong bodies crates/NAME/wrong/EDIT.edit of
 these crates, or of all: the prover must refuse each.
 
 A function is proved over what its callees state, whatever their bodies are. So one check of a copy of a crate tries wrong bodies of
-all its functions at once, one a function, and each must be refused for a goal of the function's own (verdicts.py). An edit is a
-file as in must-fail/, with the function that it turns (edits.py). One that only waits for a callee is tried once more alone.
+all its functions at once, one a function, and each must be refused for a goal of the function's own (lib/verdicts.py). An edit is a
+file as in must-fail/, with the function that it turns (lib/edits.py). One that only waits for a callee is tried once more alone.
 
 It runs after `rt ci`, over the libraries that this left in crates/*/out/rlib. That each crate is proved as it is, `rt ci`
 says. -j: that many checks at a time; else as many as there are processors and memory for. --incremental: begins with what `rt
 check` kept, for who writes an edit and has little time. --output: writes there what rattle printed in each check. The last line is
 'N passed, N failed', and the status is 1 if one failed.
 
-Before that it reads the outputs of rattle in outputs/, and stops if it misreads one; --selftest does no more.
+Before that it reads the outputs of rattle in data/outputs/, and stops if it misreads one; --selftest does no more.
 """
 from __future__ import annotations
 
@@ -24,13 +24,12 @@ import subprocess
 import sys
 import tempfile
 
-import edits
-import verdicts
-from edits import Edit
-from libraries import CRATES, Libraries
-from verdicts import Kind, Verdict
+from lib import edits, verdicts
+from lib.edits import Edit
+from lib.libraries import CRATES, TOP, Libraries
+from lib.verdicts import Kind, Verdict
 
-TOOLS = pathlib.Path(__file__).resolve().parent
+OUTPUTS = TOP / "tools" / "data" / "outputs"
 # What a check of one crate holds in memory at most, in bytes (measured: 1.4 to 2.2 GB).
 MEMORY = 2_500_000_000
 
@@ -117,7 +116,7 @@ def main() -> int:
     parser.add_argument("--selftest", action="store_true")
     parser.add_argument("names", nargs="*")
     given = parser.parse_args()
-    misread = verdicts.selftest(TOOLS / "outputs")
+    misread = verdicts.selftest(OUTPUTS)
     if misread or given.selftest:
         print(f"{1 - misread} passed, {misread} failed")
         return misread

@@ -3,7 +3,7 @@ from __future__ import annotations
 
 from typing import Any
 
-from presentation import Field, Label, Part, field_name, plain
+from lib.presentation import Field, Label, Part, field_name, plain
 
 # Each label of a tag, with the fields of its case.
 Cases = list[tuple[Label, list[Field]]]

@@ -3,8 +3,8 @@ from __future__ import annotations
 
 import re
 
-from libraries import CRATES
-from presentation import Parser, name_of
+from lib.libraries import CRATES
+from lib.presentation import Parser, name_of
 
 DATA = CRATES / "tlsgen" / "data"
 # The enums of each library, and the types of their numbers.

@@ -1,11 +1,12 @@
-"""What test_callers tries beside the rows: a test vector of them, captured messages, and the C of docs/CALLERS.md; and the calls that rows answer."""
+"""What test_callers.py tries beside the rows: a test vector of them, captured messages, and the C of docs/CALLERS.md; and the calls that
+rows answer."""
 from __future__ import annotations
 
 import pathlib
 import re
 
-from check_pages import NOT_QUOTED, blocks
-from libraries import CRATES, ROWS, TOP
+from lib.blocks import NOT_QUOTED, blocks
+from lib.libraries import CRATES, ROWS, TOP
 
 PAGE = TOP / "docs" / "CALLERS.md"
 CAPTURED = CRATES / "test_tls13" / "src" / "tests" / "captured"
@@ -23,7 +24,8 @@ VECTOR = {
     "remove_proposal": ("mls_proposal", "0003"),
     "pre_shared_key_proposal": ("mls_proposal", "0004"),
 }
-# What examples/sender.c prints of a public message, by what comes after its epoch: rows of `test_outcome`, and an external sender's proposal.
+# What examples/sender.c prints of a public message, by what comes after its epoch: rows of `test_outcome`, and an external sender's
+# proposal.
 SENT = {
     "010000000202fbfc0102a1a201d101e1": "member 2\napplication data\nsignature of 1 bytes",
     "020000000501fb0200030000000901e1": "external sender 5\nproposal\nsignature of 1 bytes",
@@ -41,7 +43,8 @@ extern mls_key_package_fields fields;
 void use(const uint8_t *bytes, size_t length);
 void use_extension(unsigned type, const uint8_t *data, size_t size);
 void sign_with_label(const uint8_t *key, const char *label, const uint8_t *bytes, size_t length);
-int verify_with_label(const uint8_t *key, const char *label, const uint8_t *bytes, size_t length, const uint8_t *signature, size_t signature_length);
+int verify_with_label(const uint8_t *key, const char *label, const uint8_t *bytes, size_t length, const uint8_t *signature,
+                      size_t signature_length);
 """
 
 
@@ -101,7 +104,8 @@ def hellos() -> list[tuple[bytes, str]]:
     found += [(record(it[:2]) + record(it[2:90]) + record(it[90:] + it[:50]), extension_lines(it)) for it in whole]
     it, long = whole[0], b"\1\0\xff\xfc" + bytes(16379)
     cut = [b"", record(it)[:3], record(it)[:-1], record(it[:-1]), record(it[:3]), record(b"") + record(it), record(it, 23)]
-    cut += [record(it + bytes(16385 - len(it))), record(b"\1\1" + bytes(99)) * 2, record(long) + record(bytes(16383)) * 3 + record(bytes(16384))]
+    cut += [record(it + bytes(16385 - len(it))), record(b"\1\1" + bytes(99)) * 2]
+    cut += [record(long) + record(bytes(16383)) * 3 + record(bytes(16384))]
     others = [it[:5] + b"\2" + it[6:], b"\2" + it[1:], b"\1\0\0\0", *[it for it in captured() if it[0] == 2]]
     return found + [(it, "no whole message\n") for it in cut] + [(record(it), "no ClientHello\n") for it in others]
 

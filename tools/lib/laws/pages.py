@@ -3,10 +3,10 @@ from __future__ import annotations
 
 import re
 
-from laws.definitions import definition_text, note_text, quoted
-from laws.says import Reading
-from laws.written import Written
-from presentation import name_of
+from lib.laws.definitions import definition_text, note_text, quoted
+from lib.laws.says import Reading
+from lib.laws.written import Written
+from lib.presentation import name_of
 
 # How many lines of a text, or of definitions, one page has.
 LONGEST = 370

@@ -4,11 +4,11 @@ from __future__ import annotations
 import re
 from typing import Any
 
-from laws.definitions import label_text, listed, quoted
-from laws.shapes import Shape, spread
-from laws.written import Written, flat
-from libraries import CRATES, DATA
-from presentation import Field, Parser, Part, field_name, name_of
+from lib.laws.definitions import label_text, listed, quoted
+from lib.laws.shapes import Shape, spread
+from lib.laws.written import Written, flat
+from lib.libraries import CRATES, DATA
+from lib.presentation import Field, Parser, Part, field_name, name_of
 
 # A clause of a definition by cases: a pattern, what is said, and the proof that a value says so.
 Clause = tuple[str, str, str]

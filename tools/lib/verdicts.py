@@ -94,5 +94,5 @@ def selftest(folder: pathlib.Path) -> int:
             if verdict.kind is not Kind[kind]:
                 print(f"{path.name}: {function} is {kind}, and read as {verdict.kind.name}: {verdict.text}")
                 failed += 1
-    print(f"{len(paths)} outputs of rattle in outputs/ were read, and {failed} functions in them misread")
+    print(f"{len(paths)} outputs of rattle in tools/data/outputs/ were read, and {failed} functions in them misread")
     return 1 if failed or not paths else 0

@@ -1,10 +1,10 @@
 """The modules of a crate of laws: a law for each type, and the answers to what the tactics leave open."""
 from __future__ import annotations
 
-from laws.definitions import quoted
-from laws.pages import Files, pruned
-from laws.says import Reading
-from laws.written import Written
+from lib.laws.definitions import quoted
+from lib.laws.pages import Files, pruned
+from lib.laws.says import Reading
+from lib.laws.written import Written
 
 # How many types one module has.
 MOST_TYPES = 32

@@ -9,9 +9,9 @@ import re
 from dataclasses import dataclass
 from typing import Any
 
-from message_reader import WIDTHS, Text, end_of
-from row_reader import LENGTHS, Input, Varint
-from row_reader import Rejected as Unread
+from lib.message_reader import WIDTHS, Text, end_of
+from lib.row_reader import LENGTHS, Input, Varint
+from lib.row_reader import Rejected as Unread
 
 # The texts of each library.
 TEXTS = {library: Text(names) for library, names in {"mls": ["mls", "mls_group", "mls_tree"], "tls13": ["tls13"]}.items()}

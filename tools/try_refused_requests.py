@@ -11,8 +11,8 @@ import re
 import sys
 import tempfile
 
-import cases
-from libraries import CRATES
+from lib import cases
+from lib.libraries import CRATES
 
 CRATE = CRATES / "test_memory"
 

@@ -1,13 +1,12 @@
-"""What test_callers builds and runs: a folder with the archives, and the words of the C compiler."""
+"""What test_callers.py builds and runs: a folder with the archives, and the words of the C compiler."""
 from __future__ import annotations
 
 import pathlib
 import shutil
 import subprocess
 
-import archives
-import exported
-from libraries import CRATES, TOP
+from lib import exported
+from lib.libraries import CRATES, TOP
 
 C = TOP / "c"
 PYTHON = TOP / "python"
@@ -41,7 +40,7 @@ class Room:
         return ran.stdout
 
     def linked(self, crates: list[str]) -> list[object]:
-        heap = [archives.HEAP] if set(crates) & set(DECODERS) else []
+        heap = [exported.HEAP] if set(crates) & set(DECODERS) else []
         return [self.archives / it for it in [*(f"lib{it}.a" for it in crates), *heap]]
 
     def program(self, source: str, crates: list[str], *more: str, compiler: str = "cc", flags: list[str] = WARNINGS) -> pathlib.Path:

@@ -1,20 +1,23 @@
 """rust/src/exports.rs: what the Rust crate declares of the static libraries, and the functions over it. exports.py writes it."""
 from __future__ import annotations
 
-from exported import CALLS, MEANINGS, WRITTEN, Export, Unread, about, decoders, exports_of, libraries, numbers, structs, taken_by
-from registries import enums_in_rust
+from lib.exported import CALLS, MEANINGS, WRITTEN, Export, Unread, about, decoders, exports_of, libraries, numbers, structs, taken_by
+from lib.registries import enums_in_rust
 
 # Headers of C and modules of the Rust crate that have another name than their library: it is no main header, and a caller may use the crate
 # `tls_codec` of crates.io too.
 MODULES = {"tls_codec": "lengths"}
 SAFE = "the pointer and the length are of one slice, nothing changes it during the call, and the call keeps no pointer."
+SAFE_TO_WRITE = (
+    "each pointer and its length are of one slice, nothing else changes or reads it during the call, and the call keeps no pointer."
+)
 # Words of the sources' texts, as a caller in Rust reads them.
 REWORDED = {
-    "The result is that of validation for the written bytes, and `at` counts from the first of them. Use them only if all of them are accepted:"
-    " a context that isn't signed would be left over. They are written even if they are rejected. If `out` has too little room, nothing is"
-    " written: `InvalidWriteLength`.": "Returns the written bytes, if all of them are accepted. Else the error is that of validation, and its"
-    " place counts from the first byte of `out`, which they stay in; a context that isn't signed is `TrailingData`. If `out` has too little"
-    " room, nothing is written, and the error is `InvalidWriteLength`.",
+    "The result is that of validation for the written bytes, and `at` counts from the first of them. Use them only if all of them are"
+    " accepted: a context that isn't signed would be left over. They are written even if they are rejected. If `out` has too little room,"
+    " nothing is written: `InvalidWriteLength`.": "Returns the written bytes, if all of them are accepted. Else the error is that of"
+    " validation, and its place counts from the first byte of `out`, which they stay in; a context that isn't signed is `TrailingData`. If"
+    " `out` has too little room, nothing is written, and the error is `InvalidWriteLength`.",
 }
 # How many bytes an encoder writes beside its parts: of a FramedContentTBS the version and the wire format.
 BESIDE = {"mls_framed_content_tbs_encode": 4}
@@ -28,7 +31,8 @@ def struct_in_rust(kind: str) -> list[str]:
 def found_in_rust(export: Export, name: str, text: str, kinds: tuple[str, str, str]) -> list[str]:
     """The function that finds one thing: its type, what is passed to be filled, and what is returned of that."""
     returned, filled, found = kinds
-    lines = ["", f"    /// {export.text} Returns {text}, and the rest of the bytes.", f"    pub fn {name}(bytes: &[u8]) -> Result<({returned}, &[u8]), Rejected> {{"]
+    lines = ["", f"    /// {export.text} Returns {text}, and the rest of the bytes."]
+    lines += [f"    pub fn {name}(bytes: &[u8]) -> Result<({returned}, &[u8]), Rejected> {{"]
     lines += [f"        let mut found = {filled};", f"        // SAFETY: {SAFE}"]
     lines += [f"        let outcome = unsafe {{ foreign::{export.name}(bytes.as_ptr(), bytes.len(), &mut found) }};"]
     return [*lines, "        let (_, rest) = split_as(bytes, outcome)?;", f"        Ok(({found}, rest))", "    }"]
@@ -45,8 +49,10 @@ def number_in_rust(export: Export, name: str) -> list[str]:
 
 def elements_in_rust(export: Export, name: str) -> list[str]:
     """The iterator over the elements of a list."""
-    lines = ["", f"    /// {export.message()}: an iterator over a list's elements. `content` is the list without its length; an error's `at` counts from its first byte."]
-    return [*lines, f"    pub fn {name}_elements(content: &[u8]) -> Elements<'_> {{", f"        Elements::of(content, foreign::{export.name})", "    }"]
+    lines = ["", f"    /// {export.message()}: an iterator over a list's elements. `content` is the list without its length;"]
+    lines[-1] += " an error's `at` counts from its first byte."
+    lines += [f"    pub fn {name}_elements(content: &[u8]) -> Elements<'_> {{", f"        Elements::of(content, foreign::{export.name})"]
+    return [*lines, "    }"]
 
 
 def located_in_rust(module: str, export: Export) -> list[str]:
@@ -58,7 +64,8 @@ def located_in_rust(module: str, export: Export) -> list[str]:
     lines = ["", f"    /// {it.text}", "    #[derive(Clone, Copy, PartialEq, Eq, Debug)]", f"    pub struct {kind}<'a> {{"]
     for text, field, _ in it.fields:
         lines += [f"        /// {text}", f"        pub {field}: &'a [u8],"]
-    lines += ["    }", "", f"    /// {export.message()}: returns the fields of the one that `bytes` begin with, and the rest.", f"    pub fn {name}(bytes: &[u8]) -> Result<({kind}<'_>, &[u8]), Rejected> {{"]
+    lines += ["    }", "", f"    /// {export.message()}: returns the fields of the one that `bytes` begin with, and the rest."]
+    lines += [f"    pub fn {name}(bytes: &[u8]) -> Result<({kind}<'_>, &[u8]), Rejected> {{"]
     lines += [f"        let mut found = foreign::{kind}::default();"]
     lines += [f"        // SAFETY: {SAFE}"]
     lines += [f"        let outcome = unsafe {{ foreign::{export.name}(bytes.as_ptr(), bytes.len(), &mut found) }};"]
@@ -79,10 +86,11 @@ def encoder_in_rust(export: Export, name: str) -> list[str]:
     """The function that writes into a buffer, and returns what it wrote if all of it is accepted."""
     taken = [it if kind != "Global" else None for it, kind in export.parameters]
     kinds = dict(export.parameters)
-    passed = [f"{it}.as{'_mut' if kinds[it] == '&mut [u8]' else ''}_ptr(), {it}.len()" if kinds[it].endswith("[u8]") else it for it in taken]
+    pointers = {"&[u8]": "as_ptr", "&mut [u8]": "as_mut_ptr"}
+    passed = [f"{it}.{pointers[kinds[it]]}(), {it}.len()" if kinds[it] in pointers else it for it in taken]
     parameters = ", ".join(f"{it}: {kind}" for it, kind in export.parameters).replace("&mut [u8]", "&'a mut [u8]")
     lines = ["", f"    /// {reworded(export)}", f"    pub fn {name}<'a>({parameters}) -> Result<&'a [u8], Rejected> {{"]
-    lines += ["        // SAFETY: each pointer and its length are of one slice, nothing else changes or reads it during the call, and the call keeps no pointer."]
+    lines += [f"        // SAFETY: {SAFE_TO_WRITE}"]
     lines += [f"        let outcome = unsafe {{ foreign::{export.name}({', '.join(passed)}) }};"]
     if export.name not in BESIDE:
         raise Unread(f"{export.name}: how many bytes it writes beside its parts")
@@ -102,7 +110,8 @@ def decoders_in_rust(crate: str) -> list[str]:
     for it in exports:
         short = it.subject.removeprefix(f"{name.removesuffix('_check')}_")
         body += ["", f"    /// {it.message()}: returns the bytes of the one that `bytes` begin with, and the rest, by the decoder."]
-        body += [f"    pub fn {short}(bytes: &[u8]) -> Result<(&[u8], &[u8]), Error> {{", f"        decode(bytes, foreign::{it.name})", "    }"]
+        body += [f"    pub fn {short}(bytes: &[u8]) -> Result<(&[u8], &[u8]), Error> {{"]
+        body += [f"        decode(bytes, foreign::{it.name})", "    }"]
     return [*body, "}"]
 
 
@@ -121,7 +130,8 @@ def module_in_rust(crate: str) -> list[str]:
         used.insert(0, "Elements")
     if encoders:
         used.append("written_as")
-    body = ["", f"/// {about(crate)}", f"pub mod {MODULES.get(name, name)} {{", f"    use crate::{{{', '.join(used)}}};", "", "    mod foreign {"]
+    body = ["", f"/// {about(crate)}", f"pub mod {MODULES.get(name, name)} {{", f"    use crate::{{{', '.join(used)}}};", ""]
+    body += ["    mod foreign {"]
     body += [f"        use crate::{{Outcome{', Span' if located else ''}}};" if located else "        use crate::Outcome;", ""]
     for it in taken:
         body += [f"        {line}" for line in struct_in_rust(it)] + [""]

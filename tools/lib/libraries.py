@@ -8,7 +8,7 @@ import shutil
 import subprocess
 import sys
 
-TOP = pathlib.Path(__file__).resolve().parent.parent
+TOP = pathlib.Path(__file__).resolve().parents[2]
 CRATES = TOP / "crates"
 # The texts of messages, with their notes.
 DATA = CRATES / "tlsgen" / "data"

@@ -1,9 +1,10 @@
 """The types of a crate that tlsgen wrote, by their pages in specs/ and their code."""
 from __future__ import annotations
 
+import pathlib
 import re
 
-from libraries import CRATES
+from lib.libraries import CRATES
 
 # A name, or the parts of an application.
 Term = str | list["Term"]

@@ -1,4 +1,4 @@
-"""The tests of c/examples/, and of the commands that the READMEs of c/, rust/ and python/ print. test_callers runs them."""
+"""The tests of c/examples/, and of the commands that the READMEs of c/, rust/ and python/ print. test_callers.py runs them."""
 from __future__ import annotations
 
 import os
@@ -7,9 +7,9 @@ import select
 import shutil
 import subprocess
 
-from caller_inputs import SENT, hellos
-from caller_room import COMMIT, SANITIZED, WARNINGS, Failed, Room
-from run_commands import copy_of_clone, difference, script_of
+from lib.caller_inputs import SENT, hellos
+from lib.caller_room import COMMIT, SANITIZED, WARNINGS, Failed, Room
+from lib.page_commands import copy_of_clone, difference, script_of
 
 # The pages whose commands are run, and how many each has at least, without those of CMake.
 READMES = {"c/README.md": 6, "rust/README.md": 3, "python/README.md": 3}
@@ -87,7 +87,7 @@ def sender(room: Room) -> None:
 
 
 class Built:
-    """What is done with the commands of a README, in place of the lines of tools/commands.txt: the archives are there already."""
+    """What is done with the commands of a README, in place of the lines of tools/data/commands.txt: the archives are there already."""
 
     def of(self, _kind: str) -> list[tuple[int, list[str]]]:
         return []
@@ -108,6 +108,7 @@ def readmes(room: Room) -> None:
         shutil.copytree(room.archives, copy_of_clone(clone) / "c" / "out")
         script, wanted = script_of(page, Built(), clone, answers)
         subprocess.run(["timeout", "600", "bash", "-c", script], stdin=subprocess.DEVNULL, check=False)
-        failed = [f"{page}: {what}: {why}" for at, (what, lines) in enumerate(wanted) if (why := difference(answers, at, lines)) is not None]
+        found = [(what, difference(answers, at, lines)) for at, (what, lines) in enumerate(wanted)]
+        failed = [f"{page}: {what}: {why}" for what, why in found if why is not None]
         if failed or len(wanted) < least:
             raise Failed("\n".join([*failed, f"{len(wanted)} commands of {page}"]))

@@ -5,9 +5,11 @@ import functools
 import re
 from dataclasses import dataclass
 
-from libraries import TOP, Libraries
+from lib.libraries import TOP, Libraries
 
 WRITTEN = "Written by tools/exports.py"
+# The archive beside the others, for decoders: malloc and free by Rattle's names for them.
+HEAP = "libtls_codec_heap.a"
 EXPORT = re.compile(r'((?:^///.*\n)+)#\[unsafe\(no_mangle\)\]\npub extern "C" fn (\w+)\(([^)]*)\) -> (\w+)', re.M)
 STRUCT = re.compile(r"((?:^///.*\n)+)#\[repr\(C\)\]\n(?:#.*\n)*pub struct (\w+) \{\n((?:    .*\n)*)\}", re.M)
 FIELD = re.compile(r"((?:^    ///.*\n)+)    pub (\w+): (\w+),", re.M)
@@ -30,8 +32,8 @@ INSIDE = {
     "`optional<UpdatePath> path;`": ": a byte 0, or a byte 1 and the `UpdatePath`",
     "`optional<PathSecret> path_secret;`": ": a byte 0, or a byte 1 and the `PathSecret`",
     "What its case has, with its length: a `ClientHello`, a `ServerHello`, ..": "; the length has three bytes",
-    "The offset of the rejected field's first byte; 0 if the bytes are accepted.": " It counts from `bytes`; of `NAME_next` from the first byte"
-    " of `*left` before the call, and of `NAME_encode` from `out`. It is 0 if `out` is too small, and of each `NAME_decode_check`.",
+    "The offset of the rejected field's first byte; 0 if the bytes are accepted.": " It counts from `bytes`; of `NAME_next` from the first"
+    " byte of `*left` before the call, and of `NAME_encode` from `out`. It is 0 if `out` is too small, and of each `NAME_decode_check`.",
 }
 # Fields that C and Python name as the RFC does, where Rattle and Rust have that word themselves.
 AS_IN_THE_RFC = {"kind": "type"}

@@ -1,7 +1,7 @@
 """A text's definitions and notes, as tls_presentation reads them, written as terms of its `Definition`."""
 from __future__ import annotations
 
-from presentation import Field, Label, Part
+from lib.presentation import Field, Label, Part
 
 
 def quoted(text: str) -> str:

@@ -3,9 +3,9 @@ from __future__ import annotations
 
 from typing import Any
 
-from libraries import DATA
-from presentation import Field, Parser, Part, Select, Value, name_of, plain
-from shown import counted, date, number_text, text_of
+from lib.libraries import DATA
+from lib.presentation import Field, Parser, Part, Select, Value, name_of, plain
+from lib.shown import counted, date, number_text, text_of
 
 PROTOCOLS = {"mls": ["mls", "mls_group", "mls_tree"], "tls": ["tls13", "ct"], "ct": ["ct"]}
 WIDTHS = {"opaque": 1, "uint8": 1, "uint16": 2, "uint24": 3, "uint32": 4, "uint64": 8}

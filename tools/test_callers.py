@@ -1,12 +1,13 @@
 #!/usr/bin/env python3
-"""test_callers [ARCHIVES]: tests what callers in C, C++, Rust and Python are given. It runs after `rt ci`, over what that proved.
+"""test_callers.py [ARCHIVES]: tests what callers in C, C++, Rust and Python are given. It runs after `rt ci`, over what that proved.
 
 The archives are built (archives.py), unless a folder with them is given. Then: the headers and declarations are those that
 exports.py writes; an archive exports just what its header has, and needs nothing that isn't listed; a C program, the Rust crate and the
-Python module answer the rows of `test_outcome`, of `test_places` and of c/tests/*.tsv, which name each call, and C those of captured messages
-too, and whatever bit of a row is turned; each request for memory is refused in turn; validators and decoders are compared for three seconds;
-the examples run, and the commands of the READMEs in c/, rust/ and python/; the C of docs/CALLERS.md is compiled, and python/vectors.py reads rows; archives of other headers are noticed.
-`cc`, `c++`, `nm` and `cargo` have to be there. CMake, pkg-config and valgrind are tried where they are. Last 'N passed, N failed'.
+Python module answer the rows of `test_outcome`, of `test_places` and of c/tests/*.tsv, which name each call, and C those of captured
+messages too, and whatever bit of a row is turned; each request for memory is refused in turn; validators and decoders are compared for
+three seconds; the examples run, and the commands of the READMEs in c/, rust/ and python/; the C of docs/CALLERS.md is compiled, and
+python/vectors.py reads rows; archives of other headers are noticed. `cc`, `c++`, `nm` and `cargo` have to be there. CMake, pkg-config and
+valgrind are tried where they are. Last 'N passed, N failed'.
 """
 from __future__ import annotations
 
@@ -15,18 +16,16 @@ import os
 import pathlib
 import re
 import shutil
-import subprocess
 import sys
 import tempfile
 
-sys.dont_write_bytecode = True
 import archives
-import exported
 import exports
-from caller_examples import border, hello, readmes, sender, stream
-from caller_inputs import PAGE, USED, answered, captured, hellos, listed_messages, statuses_of, vector, written_in_c
-from caller_room import ALL, C, COMMIT, DECODERS, PYTHON, SANITIZED, WARNINGS, Failed, Room
-from libraries import CRATES, ROWS, TOP, Libraries
+from lib import exported
+from lib.caller_examples import border, hello, readmes, sender, stream
+from lib.caller_inputs import PAGE, USED, answered, captured, hellos, listed_messages, statuses_of, vector, written_in_c
+from lib.caller_room import ALL, C, COMMIT, DECODERS, PYTHON, SANITIZED, WARNINGS, Failed, Room
+from lib.libraries import CRATES, ROWS, TOP, Libraries
 
 SIGNED = C / "tests" / "signed.tsv"
 PLACES = [CRATES / "test_places" / "stdout", C / "tests" / "lengths.tsv"]
@@ -193,7 +192,8 @@ def mix(room: Room) -> None:
     shutil.copytree(room.archives, folder)
     shutil.copy(shared_object(room), folder)
     call = [sys.executable, "-c", "import sys, tls_codec; tls_codec.Validators(sys.argv[1])", folder / "libtls_codec.so"]
-    env = {**os.environ, "TLS_CODEC_ARCHIVES": str(folder.resolve()), "CARGO_TARGET_DIR": str(room.folder / "mixed"), "PYTHONPATH": str(PYTHON)}
+    env = {**os.environ, "TLS_CODEC_ARCHIVES": str(folder.resolve()), "CARGO_TARGET_DIR": str(room.folder / "mixed")}
+    env["PYTHONPATH"] = str(PYTHON)
     room.run(call, env=env)
     (folder / exports.MARK).write_text("0.1.0 0\n")
     for words, status in ((call, 1), (["cargo", "check", "--offline", "--quiet"], 101)):
@@ -205,13 +205,15 @@ def mix(room: Room) -> None:
 
 def cmake(room: Room) -> None:
     build, installed = room.folder / "cmake", room.folder / "installed"
-    room.run(["cmake", "-S", C, "-B", build, f"-DTLS_CODEC_ARCHIVES={room.archives.resolve()}", f"-DCMAKE_INSTALL_PREFIX={installed.resolve()}"])
+    where = [f"-DTLS_CODEC_ARCHIVES={room.archives.resolve()}", f"-DCMAKE_INSTALL_PREFIX={installed.resolve()}"]
+    room.run(["cmake", "-S", C, "-B", build, *where])
     room.run(["cmake", "--build", build])
     room.run(["cmake", "--install", build])
     lacking = {*os.listdir(room.archives), "pkgconfig"} ^ set(os.listdir(installed / "lib"))
     if lacking or f"prefix={installed.resolve()}\n" not in (installed / "lib" / "pkgconfig" / "tls_codec.pc").read_text(encoding="utf-8"):
         raise Failed(f"of these files some aren't installed, or others are: {sorted(lacking)}")
-    room.run(["cc", "-I", installed / "include", "-o", room.folder / "installed_border", C / "examples" / "border.c", installed / "lib" / "libmls_c.a"])
+    program, archive = room.folder / "installed_border", installed / "lib" / "libmls_c.a"
+    room.run(["cc", "-I", installed / "include", "-o", program, C / "examples" / "border.c", archive])
     for example in ("border", "sender"):
         room.run([build / example], bytes.fromhex(COMMIT.read_text()))
     room.run([build / "hello"], hellos()[0][0])
@@ -259,8 +261,8 @@ def valgrind(room: Room) -> None:
         room.run(["valgrind", "--quiet", "--error-exitcode=9", "--leak-check=full", places, rows])
 
 
-TESTS = [declared, rows_name_each_call, rows_in_c, rows_with_sanitizers, places_in_c, numbers_in_c, signed_in_c, memory_refused, page_in_c, cplusplus]
-TESTS += [border, stream, hello, sender, readmes, rust, python, vectors, mix]
+TESTS = [declared, rows_name_each_call, rows_in_c, rows_with_sanitizers, places_in_c, numbers_in_c, signed_in_c, memory_refused]
+TESTS += [page_in_c, cplusplus, border, stream, hello, sender, readmes, rust, python, vectors, mix]
 
 
 def main() -> int:

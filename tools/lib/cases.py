@@ -11,7 +11,7 @@ import subprocess
 from collections.abc import Mapping
 from typing import NamedTuple
 
-from libraries import CRATES
+from lib.libraries import CRATES
 
 # The line of a case that ended, on standard error. One that faulted or hung has none.
 CASE = re.compile(r"^case=(\w+) run=ended status=(\d+) (.*)$", re.M)

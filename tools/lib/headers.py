@@ -41,8 +41,9 @@ static inline uint32_t tls_codec_whole_status(tls_codec_outcome outcome, size_t 
 # Before the calls that take one element of a list after another.
 LISTS = (
     "The elements of a list. `*left` is the place in `bytes` of the elements that are left: at first offset 0 and size `length`, if `bytes`"
-    " are the list without its length. If the first of them is accepted, its place is put into `*element`, and `*left` begins after it and ends"
-    " where it ended. If it is rejected, neither changes, and `at` counts from the first byte of `*left`. Go on until `left->size` is 0."
+    " are the list without its length. If the first of them is accepted, its place is put into `*element`, and `*left` begins after it and"
+    " ends where it ended. If it is rejected, neither changes, and `at` counts from the first byte of `*left`. Go on until `left->size`"
+    " is 0."
 )
 
 # At the end of lengths.h.

@@ -1,5 +1,5 @@
 #!/usr/bin/env python3
-"""beside_rust PATH [SECONDS]: compares libtls_codec_c.a with the Rust crate `tls_codec`, whose sources are at PATH, in one process.
+"""beside_rust.py PATH [SECONDS]: compares libtls_codec_c.a with the Rust crate `tls_codec`, whose sources are at PATH, in one process.
 
 Its sources aren't part of this repository. A cargo project in a temporary folder has the crate, with its feature `mls`, and rust/. For
 SECONDS, 10 if none are given, each makes what it makes of lengths and their contents, true, lying, too wide and cut short: the crate from a
@@ -13,7 +13,7 @@ import subprocess
 import sys
 import tempfile
 
-from libraries import TOP
+from lib.libraries import TOP
 
 MANIFEST = """[package]
 name = "beside_rust"
@@ -133,7 +133,7 @@ fn main() {
 
 def main() -> int:
     if not sys.argv[1:] or not (pathlib.Path(sys.argv[1]) / "Cargo.toml").is_file():
-        print("beside_rust PATH [SECONDS]: PATH is the folder with the Cargo.toml of the crate tls_codec")
+        print("beside_rust.py PATH [SECONDS]: PATH is the folder with the Cargo.toml of the crate tls_codec")
         return 2
     seconds = int(sys.argv[2]) if sys.argv[2:] else 10
     with tempfile.TemporaryDirectory(prefix="beside_rust-") as folder:
