@@ -1,6 +1,6 @@
 //! Encodings that are read where they lie: no value is made, and nothing is copied.
 //!
-//! Bytes are validated once. After that no call fails, and none asks for memory.
+//! Bytes are validated once. After that no call fails or asks for memory, but `to_value`, which decodes.
 //!
 //! - [`Encoded`]: bytes that are one encoding of a type. What it is made of is borrowed from the same bytes: `split` for
 //!   pairs and triples, `payload` for options and boxes, `content` for byte vectors, `as_str` for texts, `elements` for
