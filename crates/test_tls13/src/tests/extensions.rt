@@ -1,16 +1,19 @@
-//! Extensions, each opened as what RFC 8446 has for its type in its message (section 4.2).
+//! Extensions, each opened as what RFC 8446 has for its type in its message (section 4.2): docs/TLS13.md
+//! quotes some of it.
+use crate::tests::captured::{bytes, hrr, tls12};
 use std::alloc::Global;
 use std::process::Abort;
 use std::test::Fail;
 use test_support::each_call::round_trips;
 use test_support::in_context::{expect_does_not_fit, expect_refused_in, round_trips_in};
-use test_support::rows::same_at;
-use tls_codec::{Error, TlsByteVecU16};
+use test_support::rows::{done_at, same_at};
+use tls_codec::{DeserializeBytes, DeserializeBytesFor, Error, TlsByteVecU16};
 use tls13::{
     CertificateAuthoritiesExtension, Cookie, EarlyDataIndication, EmptyType, Extension,
     ExtensionType, Handshake, HandshakeType, KeyShareClientHello, KeyShareHelloRetryRequest,
-    KeyShareServerHello, NamedGroupList, OIDFilterExtension, PostHandshakeAuth,
-    PreSharedKeyExtension, PskKeyExchangeModes, Random, SignatureSchemeList, SupportedVersions,
+    KeyShareServerHello, NamedGroup, NamedGroupList, OIDFilterExtension, PostHandshakeAuth,
+    PreSharedKeyExtension, PskKeyExchangeModes, Random, ServerHello, SignatureSchemeList,
+    SupportedVersions,
 };
 
 // The random of a HelloRetryRequest, which is a ServerHello otherwise (section 4.1.3).
@@ -144,6 +147,67 @@ fn opens_key_share(
     } else {
         round_trips::<KeyShareClientHello>(alloc, row, bytes)
     }
+}
+
+// The data of the first extension of a type.
+fn extension_of(extensions: &[Extension], wanted: ExtensionType) -> Option<&[u8]> {
+    for extension in extensions {
+        if extension.extension_type == wanted {
+            return Some(extension.extension_data.as_slice());
+        }
+    }
+    None
+}
+
+// The version that a server chose.
+fn version_of(alloc: Global, hello: &ServerHello) -> Result<Option<u16>, Error> {
+    let wanted = ExtensionType::SUPPORTED_VERSIONS;
+    let Some(data) = extension_of(hello.extensions.as_slice(), wanted) else {
+        return Ok(None);
+    };
+    let kind = HandshakeType::ServerHello;
+    match SupportedVersions::tls_deserialize_exact_bytes_for(&kind, alloc, data)? {
+        SupportedVersions::ServerHello(version) => Ok(Some(version)),
+        _ => Ok(None),
+    }
+}
+
+// The group that a server chose, or asks for.
+fn group_of(alloc: Global, hello: &ServerHello) -> Result<Option<NamedGroup>, Error> {
+    let Some(data) = extension_of(hello.extensions.as_slice(), ExtensionType::KEY_SHARE) else {
+        return Ok(None);
+    };
+    if hello.random == RETRY {
+        let share = KeyShareHelloRetryRequest::tls_deserialize_exact_bytes(alloc, data)?;
+        return Ok(Some(share.selected_group));
+    }
+    let share = KeyShareServerHello::tls_deserialize_exact_bytes(alloc, data)?;
+    Ok(Some(share.server_share.group))
+}
+
+// A request to try again, and the hello after it; then a hello of TLS 1.2.
+#[test]
+fn hellos_of_servers(rt: HostRuntime) -> Result<(), Fail> {
+    let alloc = rt.alloc();
+    let secp384r1 = Some(NamedGroup(0x18));
+    for (row, version, group, retries) in [
+        (&hrr::ROWS[1], Some(0x0304), secp384r1, true),
+        (&hrr::ROWS[3], Some(0x0304), secp384r1, false),
+        (&tls12::ROWS[1], None, None, false),
+    ] {
+        let bytes = bytes(&rt, alloc, row.digits)?;
+        let message = done_at(
+            row.name,
+            Handshake::tls_deserialize_exact_bytes(alloc, &bytes),
+        )?;
+        same_at(row.name, is_retry(&message), retries)?;
+        let Handshake::ServerHello(hello) = message else {
+            panic!(rt; "no hello of a server at {}", row.name);
+        };
+        same_at(row.name, version_of(alloc, &hello), Ok(version))?;
+        same_at(row.name, group_of(alloc, &hello), Ok(group))?;
+    }
+    Ok(())
 }
 
 // Those that no capture has.

@@ -1,9 +1,16 @@
-//! What a record encrypts: content, its type, and zeros to the end (RFC 8446, sections 5.2 and 5.4).
+//! What a record encrypts: content, its type, and zeros to the end (RFC 8446, sections 5.2 and 5.4), as
+//! docs/TLS13.md reads it.
 use std::alloc::Global;
 use std::test::Fail;
 use test_support::rows::{done_at, same_at};
 use tls_codec::Error;
 use tls13::{ContentType, TLSInnerPlaintext};
+
+// What a record has encrypted, and its type.
+fn content_of(alloc: Global, plaintext: &[u8]) -> Result<(ContentType, Vec<u8>), Error> {
+    let inner = TLSInnerPlaintext::tls_deserialize_exact_bytes(alloc, plaintext)?;
+    Ok((inner.kind, inner.content))
+}
 
 const NO_TYPE: Error = Error::DecodingError("type is not there");
 
@@ -31,6 +38,8 @@ fn read_and_written(rt: HostRuntime) -> Result<(), Fail> {
         };
         let found = TLSInnerPlaintext::tls_deserialize_exact_bytes(alloc, bytes);
         same_at(row, &done_at(row, found)?, &expected)?;
+        let opened = done_at(row, content_of(alloc, bytes))?;
+        same_at(row, opened, (ContentType(number), content.to_vec(alloc)?))?;
         expect_written(alloc, row, &expected, bytes)?;
     }
     Ok(())
