@@ -169,9 +169,15 @@ def errors() -> set[str]:
     return set(re.findall(r"^    ([A-Z]\w+)", enum, re.M)) - {"DecodingError", "EncodingError"} | with_texts
 
 
+def without_text() -> set[str]:
+    """The error that comes to callers in other languages without its text: its name, and its status as outcome.h has it."""
+    header = (TOP / "c/include/tls_codec/outcome.h").read_text()
+    return {it for pair in re.findall(r'case (TLS_CODEC_DECODING_ERROR): return "(DecodingError)";', header) for it in pair}
+
+
 def sentence_findings() -> tuple[list[str], int]:
     """Which errors of the library have no sentence in docs/REFUSALS.md, which sentences have no error, and how many errors there are."""
-    made = errors()
+    made = errors() | without_text()
     named = {it.removesuffix("(n)") for cells in table("For a person to read") for it in re.findall(r"`([^`]*)`", cells[0])}
     found = [f"docs/REFUSALS.md: no sentence for {error}" for error in sorted(made - named)]
     return found + [f"docs/REFUSALS.md: a sentence for no error: {error}" for error in sorted(named - made)], len(made)

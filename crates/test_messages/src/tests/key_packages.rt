@@ -1,4 +1,4 @@
-//! Key packages as docs/MLS.md reads them.
+//! Key packages as docs/MLS.md reads them, and a message at a border as docs/API.md has it.
 use crate::tests::mls_messages::{KEY_PACKAGE, PRIVATE_MESSAGE};
 use crate::tests::same;
 use mls::{MLSMessage, MLSMessageBody};
@@ -15,6 +15,14 @@ fn key_package_of(alloc: Global, bytes: &[u8]) -> Result<Option<KeyPackage>, Err
     match message.body {
         MLSMessageBody::MlsKeyPackage(package) => Ok(Some(package)),
         _ => Ok(None),
+    }
+}
+
+// Why a message is rejected, and the position of the rejected field.
+fn check(bytes: &[u8]) -> Result<(), (Error, usize)> {
+    match MLSMessage::tls_validate(bytes) {
+        Ok(()) => Ok(()),
+        Err(rejected) => Err((rejected.error, rejected.at(bytes))),
     }
 }
 
@@ -49,4 +57,16 @@ fn a_key_in_place(rt: HostRuntime) {
     let short = init_key_of(&KEY_PACKAGE[4..78]);
     let place = short.err().map(|rejected| rejected.at(&KEY_PACKAGE[4..78]));
     same(&rt, place, Some(72));
+}
+
+// Its last field has one byte of two; then a byte comes after it.
+#[test]
+fn a_message_at_a_border(rt: HostRuntime) -> Result<(), Fail> {
+    same(&rt, check(&KEY_PACKAGE), Ok(()));
+    let not_there = Error::DecodingError("declared content is not there");
+    same(&rt, check(&KEY_PACKAGE[..78]), Err((not_there, 76)));
+    let mut longer = KEY_PACKAGE.to_vec(rt.alloc())?;
+    longer.push(0)?;
+    same(&rt, check(&longer), Err((Error::TrailingData, 79)));
+    Ok(())
 }
