@@ -5,7 +5,6 @@ pub mod GroupContextFields
 pub mod GroupInfoFields
 pub mod GroupSecretsFields
 pub mod KeyPackageFields
-pub mod Kind
 pub mod LeafNodeFields
 pub mod MLSMessageFields
 pub mod PrivateMessageFields
@@ -13,3 +12,4 @@ pub mod ProposalFields
 pub mod PublicMessageFields
 pub mod SenderDataFields
 pub mod WelcomeFields
+pub mod WireFormat

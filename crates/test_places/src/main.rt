@@ -1,10 +1,10 @@
 //! The places that calls from other languages report, as one stored run.
 //!
-//! They are those of the fields of messages of TLS 1.3 and of the elements of lists; and the kind
-//! of a message of MLS. Each row of standard input has a function's name in the static libraries
+//! They are those of the fields of messages of TLS 1.3 and of the elements of lists; and the
+//! wire format of a message of MLS. Each row of standard input has a function's name in the static libraries
 //! and the hex of some bytes, `-` for none, with a tab between. The program prints the row again.
 //! After it come what the call says, as `STATUS TAKEN AT DETAIL`, and what it fills: places as
-//! `OFFSET+SIZE`, a kind as a number, `-` for nothing. Of `NAME_next` the bytes are those of a list
+//! `OFFSET+SIZE`, a wire format as a number, `-` for nothing. Of `NAME_next` the bytes are those of a list
 //! after its length. It is called until none is left or one is rejected: the row has what the last
 //! call says, and where each element is.
 //!
@@ -14,7 +14,7 @@
 
 mod elements;
 mod fields;
-mod kinds;
+mod wire_formats;
 
 use std::alloc::{AllocError, Global};
 use std::io;
@@ -66,7 +66,7 @@ fn answer_of(alloc: Global, name: &str, bytes: &[u8]) -> Result<Option<Answer>, 
     if let Some(answer) = fields::answer_of(alloc, name, bytes)? {
         return Ok(Some(answer));
     }
-    kinds::answer_of(alloc, name, bytes)
+    wire_formats::answer_of(alloc, name, bytes)
 }
 
 // The bytes that hex digits stand for; `-` is none.

@@ -1,6 +1,7 @@
 // What no clause says: what is read and planned of worked texts, and where and why texts are
 // rejected.
-mod bad;
+mod bad_selects;
+mod bad_types;
 mod comments;
 mod crates;
 mod elsewhere;
@@ -68,6 +69,19 @@ fn refusal(rt: &impl Abort, alloc: Global, text: &str) -> Refusal {
         Ok(_) => panic!(rt; "not refused: {text}"),
         Err(Trouble::Refused(refusal)) => refusal,
         Err(Trouble::Memory) => panic!(rt; "out of memory"),
+    }
+}
+
+// A text that is rejected: the line, the column, what is there, and a word of what would be right.
+type Rejected = (&'static str, usize, usize, &'static str, &'static str);
+
+fn expect_rejected(rt: &impl Abort, alloc: Global, rows: &[Rejected]) {
+    for (text, line, column, found, word) in rows {
+        let refusal = refusal(rt, alloc, text);
+        same_at(rt, *text, refusal.found.as_str(), *found);
+        assert!(rt; refusal.expected.contains(*word), "{text}: {refusal}");
+        same_at(rt, *text, refusal.place.line, *line);
+        same_at(rt, *text, refusal.place.column, *column);
     }
 }
 

@@ -9,16 +9,17 @@
 //! that is rejected or can't be read, and a file that can't be written, end it with status 2. It
 //! writes nothing before it has read the whole text.
 //!
-//! - [`words`]: the command line.
+//! - [`command_line`]: the command line.
 //! - [`texts`]: the texts of a crate and of those that it is over.
 //! - [`files`]: printing, writing and comparing files.
 #![tactic(auto)]
 
+mod command_line;
 mod files;
 mod texts;
-mod words;
 
 use clap::ArgMatches;
+use command_line::command;
 use std::process::ExitCode;
 use std::rt::Files;
 use std::{env, fs};
@@ -27,7 +28,6 @@ use tlsgen_emit::file::files_of;
 use tlsgen_model::names::is_crate_name;
 use tlsgen_model::plan::Plan;
 use tlsgen_syntax::refusal::Trouble;
-use words::command;
 
 // The status after a text that is rejected, and after words that aren't understood.
 const REFUSED: u8 = 2;

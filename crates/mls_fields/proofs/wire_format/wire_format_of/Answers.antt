@@ -5,7 +5,7 @@ use Rattle.tls_codec_outcome.proofs.FieldPlaces.{first_begins}
 use Rattle.tls_codec_outcome.proofs.Tags.{tag_of_second}
 use Rattle.mls_group.specs.ProtocolVersionMls10.{protocol_version_mls10_format, protocol_version_mls10_meets}
 use Rattle.mls.specs.MLSMessageBody.{mls_message_body_format, mls_message_body_variants}
-use Rattle.mls_fields.proofs.kind.kind_of.Goals as goal
+use Rattle.mls_fields.proofs.wire_format.wire_format_of.Goals as goal
 
 pub returns : goal.returns
 returns c at =
