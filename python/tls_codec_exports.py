@@ -6,7 +6,7 @@ import enum
 VERSION = "0.2.0"
 
 # What archives of this version and these headers have beside them.
-MARK = "0.2.0 dfb50b0412051b5b"
+MARK = "0.2.0 4c96aeb88e44c2ea"
 
 # The names of the statuses, by their numbers.
 STATUSES = [
@@ -148,6 +148,31 @@ class MlsExtensionType(enum.IntEnum):
     EXTERNAL_SENDERS = 5
 
 
+class MlsCipherSuite(enum.IntEnum):
+    """The numbers of CipherSuite that have names."""
+
+    MLS_128_DHKEMX25519_AES128GCM_SHA256_ED25519 = 1
+    MLS_128_DHKEMP256_AES128GCM_SHA256_P256 = 2
+    MLS_128_DHKEMX25519_CHACHA20POLY1305_SHA256_ED25519 = 3
+    MLS_256_DHKEMX448_AES256GCM_SHA512_ED448 = 4
+    MLS_256_DHKEMP521_AES256GCM_SHA512_P521 = 5
+    MLS_256_DHKEMX448_CHACHA20POLY1305_SHA512_ED448 = 6
+    MLS_256_DHKEMP384_AES256GCM_SHA384_P384 = 7
+
+
+class MlsProtocolVersion(enum.IntEnum):
+    """The numbers of ProtocolVersion that have names."""
+
+    MLS10 = 1
+
+
+class MlsNodeType(enum.IntEnum):
+    """The numbers of NodeType that have names."""
+
+    LEAF = 1
+    PARENT = 2
+
+
 class Tls13HandshakeType(enum.IntEnum):
     """The numbers of HandshakeType that have names."""
 
@@ -238,3 +263,56 @@ class Tls13ExtensionType(enum.IntEnum):
     POST_HANDSHAKE_AUTH = 49
     SIGNATURE_ALGORITHMS_CERT = 50
     KEY_SHARE = 51
+
+
+class Tls13CipherSuite(enum.IntEnum):
+    """The numbers of CipherSuite that have names."""
+
+    TLS_AES_128_GCM_SHA256 = 4865
+    TLS_AES_256_GCM_SHA384 = 4866
+    TLS_CHACHA20_POLY1305_SHA256 = 4867
+    TLS_AES_128_CCM_SHA256 = 4868
+    TLS_AES_128_CCM_8_SHA256 = 4869
+
+
+class Tls13SignatureScheme(enum.IntEnum):
+    """The numbers of SignatureScheme that have names."""
+
+    RSA_PKCS1_SHA256 = 1025
+    RSA_PKCS1_SHA384 = 1281
+    RSA_PKCS1_SHA512 = 1537
+    ECDSA_SECP256R1_SHA256 = 1027
+    ECDSA_SECP384R1_SHA384 = 1283
+    ECDSA_SECP521R1_SHA512 = 1539
+    RSA_PSS_RSAE_SHA256 = 2052
+    RSA_PSS_RSAE_SHA384 = 2053
+    RSA_PSS_RSAE_SHA512 = 2054
+    ED25519 = 2055
+    ED448 = 2056
+    RSA_PSS_PSS_SHA256 = 2057
+    RSA_PSS_PSS_SHA384 = 2058
+    RSA_PSS_PSS_SHA512 = 2059
+    RSA_PKCS1_SHA1 = 513
+    ECDSA_SHA1 = 515
+
+
+class Tls13NamedGroup(enum.IntEnum):
+    """The numbers of NamedGroup that have names."""
+
+    SECP256R1 = 23
+    SECP384R1 = 24
+    SECP521R1 = 25
+    X25519 = 29
+    X448 = 30
+    FFDHE2048 = 256
+    FFDHE3072 = 257
+    FFDHE4096 = 258
+    FFDHE6144 = 259
+    FFDHE8192 = 260
+
+
+class Tls13KeyUpdateRequest(enum.IntEnum):
+    """The numbers of KeyUpdateRequest that have names."""
+
+    UPDATE_NOT_REQUESTED = 0
+    UPDATE_REQUESTED = 1

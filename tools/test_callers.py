@@ -23,9 +23,10 @@ import archives
 import exports
 from lib import exported
 from lib.caller_examples import border, hello, readmes, sender, stream
-from lib.caller_inputs import PAGE, USED, answered, captured, hellos, listed_messages, statuses_of, vector, written_in_c
+from lib.caller_inputs import PAGE, USED, answered, captured, hellos, listed_enums, listed_messages, statuses_of, vector, written_in_c
 from lib.caller_room import ALL, C, COMMIT, DECODERS, PYTHON, SANITIZED, WARNINGS, Failed, Room
 from lib.libraries import CRATES, ROWS, TOP, Libraries
+from lib.registries import ENUMS
 
 SIGNED = C / "tests" / "signed.tsv"
 PLACES = [CRATES / "test_places" / "stdout", C / "tests" / "lengths.tsv"]
@@ -71,6 +72,8 @@ def declared(room: Room) -> None:
     differ = listed_messages() ^ {it.subject for crate in DECODERS for it in exported.exports_of(crate)}
     if differ:
         raise Failed(f"{PAGE.name} lists other messages than the archives have: {sorted(differ)}")
+    if listed_enums() != {library: set(enums) for library, enums in ENUMS.items()}:
+        raise Failed(f"{PAGE.name} lists other enums than the headers have: {listed_enums()}")
 
 
 def rows_name_each_call(room: Room) -> None:

@@ -1,4 +1,5 @@
-/* numbers: what the readers of lengths.h say of the examples of RFC 9000, appendix A.1, of the ends of each width, and of other bytes.
+/* numbers: what the readers of lengths.h say of the examples of RFC 9000, appendix A.1, of the ends of each width, and of other bytes;
+ * and the numbers of a few names.
  *
  * Each number's bytes are in a block of their own size, so that a tool that watches memory sees a read past them. */
 #include "rows.h"
@@ -37,8 +38,17 @@ static int is_read(const struct number *it, int is_varint) {
   return value == it->value;
 }
 
+/* Numbers of registries: RFC 8446, appendices B.3.1.3, B.3.1.4 and B.4, and RFC 9420, section 17.1. */
+static int are_named(void) {
+  int is_well = TLS13_SIGNATURE_SCHEME_ED25519 == 0x0807 && TLS13_NAMED_GROUP_X25519 == 0x001d &&
+                TLS13_CIPHER_SUITE_TLS_CHACHA20_POLY1305_SHA256 == 0x1303 && MLS_PROTOCOL_VERSION_MLS10 == 1 &&
+                MLS_CIPHER_SUITE_MLS_256_DHKEMP384_AES256GCM_SHA384_P384 == 7;
+  if (!is_well) printf("a name of a registry has another number\n");
+  return is_well;
+}
+
 int main(void) {
-  int failed = 0;
+  int failed = !are_named();
   for (size_t i = 0; i < sizeof varints / sizeof *varints; i++) failed += !is_read(&varints[i], 1);
   for (size_t i = 0; i < sizeof numbers / sizeof *numbers; i++) failed += !is_read(&numbers[i], 0);
   return failed != 0;

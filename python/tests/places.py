@@ -7,7 +7,7 @@ import sys
 sys.dont_write_bytecode = True
 sys.path.insert(0, str(pathlib.Path(__file__).resolve().parent.parent))
 from tls_codec import Rejected, Validators
-from tls_codec_exports import MlsWireFormat, Tls13HandshakeType
+from tls_codec_exports import MlsWireFormat, Tls13HandshakeType, Tls13KeyUpdateRequest, Tls13SignatureScheme
 
 
 def found(validators: Validators, name: str, data: bytes) -> tuple[list[bytes] | int, tuple[int, int, int]]:
@@ -42,11 +42,14 @@ def wanted(name: str, data: bytes, expected: str, filled: str) -> tuple[list[byt
 
 
 def are_numbers_named(validators: Validators) -> bool:
-    """Whether the wire format of a private message and the type of a key update have their names."""
+    """Whether the wire format of a private message, a key update and the algorithm of a signature have their names."""
     message = bytes.fromhex("0001000201fa0000000000000007010001a102a2a3")
     handshake = validators.fields("tls13_handshake", bytes([24, 0, 0, 1, 1]))
+    request = validators.fields("tls13_key_update", handshake["body"][3:])["request_update"]
+    algorithm = validators.fields("tls13_certificate_verify", bytes.fromhex("0804000101"))["algorithm"]
     is_private = validators.message_wire_format(message) is MlsWireFormat.PRIVATE_MESSAGE
-    return is_private and handshake["msg_type"] == bytes([Tls13HandshakeType.KEY_UPDATE])
+    is_update = handshake["msg_type"] == bytes([Tls13HandshakeType.KEY_UPDATE]) and request == bytes([Tls13KeyUpdateRequest.UPDATE_REQUESTED])
+    return is_private and is_update and int.from_bytes(algorithm, "big") == Tls13SignatureScheme.RSA_PSS_RSAE_SHA256
 
 
 def main() -> int:

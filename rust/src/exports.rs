@@ -423,6 +423,88 @@ pub mod tls13 {
         pub const KEY_SHARE: u16 = 51;
     }
 
+    /// The numbers of `CipherSuite` that have names.
+    pub mod cipher_suite {
+        /// The number of `TLS_AES_128_GCM_SHA256`.
+        pub const TLS_AES_128_GCM_SHA256: u16 = 4865;
+        /// The number of `TLS_AES_256_GCM_SHA384`.
+        pub const TLS_AES_256_GCM_SHA384: u16 = 4866;
+        /// The number of `TLS_CHACHA20_POLY1305_SHA256`.
+        pub const TLS_CHACHA20_POLY1305_SHA256: u16 = 4867;
+        /// The number of `TLS_AES_128_CCM_SHA256`.
+        pub const TLS_AES_128_CCM_SHA256: u16 = 4868;
+        /// The number of `TLS_AES_128_CCM_8_SHA256`.
+        pub const TLS_AES_128_CCM_8_SHA256: u16 = 4869;
+    }
+
+    /// The numbers of `SignatureScheme` that have names.
+    pub mod signature_scheme {
+        /// The number of `rsa_pkcs1_sha256`.
+        pub const RSA_PKCS1_SHA256: u16 = 1025;
+        /// The number of `rsa_pkcs1_sha384`.
+        pub const RSA_PKCS1_SHA384: u16 = 1281;
+        /// The number of `rsa_pkcs1_sha512`.
+        pub const RSA_PKCS1_SHA512: u16 = 1537;
+        /// The number of `ecdsa_secp256r1_sha256`.
+        pub const ECDSA_SECP256R1_SHA256: u16 = 1027;
+        /// The number of `ecdsa_secp384r1_sha384`.
+        pub const ECDSA_SECP384R1_SHA384: u16 = 1283;
+        /// The number of `ecdsa_secp521r1_sha512`.
+        pub const ECDSA_SECP521R1_SHA512: u16 = 1539;
+        /// The number of `rsa_pss_rsae_sha256`.
+        pub const RSA_PSS_RSAE_SHA256: u16 = 2052;
+        /// The number of `rsa_pss_rsae_sha384`.
+        pub const RSA_PSS_RSAE_SHA384: u16 = 2053;
+        /// The number of `rsa_pss_rsae_sha512`.
+        pub const RSA_PSS_RSAE_SHA512: u16 = 2054;
+        /// The number of `ed25519`.
+        pub const ED25519: u16 = 2055;
+        /// The number of `ed448`.
+        pub const ED448: u16 = 2056;
+        /// The number of `rsa_pss_pss_sha256`.
+        pub const RSA_PSS_PSS_SHA256: u16 = 2057;
+        /// The number of `rsa_pss_pss_sha384`.
+        pub const RSA_PSS_PSS_SHA384: u16 = 2058;
+        /// The number of `rsa_pss_pss_sha512`.
+        pub const RSA_PSS_PSS_SHA512: u16 = 2059;
+        /// The number of `rsa_pkcs1_sha1`.
+        pub const RSA_PKCS1_SHA1: u16 = 513;
+        /// The number of `ecdsa_sha1`.
+        pub const ECDSA_SHA1: u16 = 515;
+    }
+
+    /// The numbers of `NamedGroup` that have names.
+    pub mod named_group {
+        /// The number of `secp256r1`.
+        pub const SECP256R1: u16 = 23;
+        /// The number of `secp384r1`.
+        pub const SECP384R1: u16 = 24;
+        /// The number of `secp521r1`.
+        pub const SECP521R1: u16 = 25;
+        /// The number of `x25519`.
+        pub const X25519: u16 = 29;
+        /// The number of `x448`.
+        pub const X448: u16 = 30;
+        /// The number of `ffdhe2048`.
+        pub const FFDHE2048: u16 = 256;
+        /// The number of `ffdhe3072`.
+        pub const FFDHE3072: u16 = 257;
+        /// The number of `ffdhe4096`.
+        pub const FFDHE4096: u16 = 258;
+        /// The number of `ffdhe6144`.
+        pub const FFDHE6144: u16 = 259;
+        /// The number of `ffdhe8192`.
+        pub const FFDHE8192: u16 = 260;
+    }
+
+    /// The numbers of `KeyUpdateRequest` that have names.
+    pub mod key_update_request {
+        /// The number of `update_not_requested`.
+        pub const UPDATE_NOT_REQUESTED: u8 = 0;
+        /// The number of `update_requested`.
+        pub const UPDATE_REQUESTED: u8 = 1;
+    }
+
     /// `TLSPlaintext` (RFC 8446, section 5.1): returns the bytes of the one that `bytes` begin with, and the rest.
     pub fn tls_plaintext(bytes: &[u8]) -> Result<(&[u8], &[u8]), Rejected> {
         split(bytes, foreign::tls13_tls_plaintext_validate_prefix)
@@ -1064,15 +1146,15 @@ pub mod mls {
 
     /// The numbers of `WireFormat` that have names.
     pub mod wire_format {
-        /// The number of `public_message`.
+        /// The number of `mls_public_message`.
         pub const PUBLIC_MESSAGE: u16 = 1;
-        /// The number of `private_message`.
+        /// The number of `mls_private_message`.
         pub const PRIVATE_MESSAGE: u16 = 2;
-        /// The number of `welcome`.
+        /// The number of `mls_welcome`.
         pub const WELCOME: u16 = 3;
-        /// The number of `group_info`.
+        /// The number of `mls_group_info`.
         pub const GROUP_INFO: u16 = 4;
-        /// The number of `key_package`.
+        /// The number of `mls_key_package`.
         pub const KEY_PACKAGE: u16 = 5;
     }
 
@@ -1154,6 +1236,38 @@ pub mod mls {
         pub const EXTERNAL_PUB: u16 = 4;
         /// The number of `external_senders`.
         pub const EXTERNAL_SENDERS: u16 = 5;
+    }
+
+    /// The numbers of `CipherSuite` that have names.
+    pub mod cipher_suite {
+        /// The number of `MLS_128_DHKEMX25519_AES128GCM_SHA256_Ed25519`.
+        pub const MLS_128_DHKEMX25519_AES128GCM_SHA256_ED25519: u16 = 1;
+        /// The number of `MLS_128_DHKEMP256_AES128GCM_SHA256_P256`.
+        pub const MLS_128_DHKEMP256_AES128GCM_SHA256_P256: u16 = 2;
+        /// The number of `MLS_128_DHKEMX25519_CHACHA20POLY1305_SHA256_Ed25519`.
+        pub const MLS_128_DHKEMX25519_CHACHA20POLY1305_SHA256_ED25519: u16 = 3;
+        /// The number of `MLS_256_DHKEMX448_AES256GCM_SHA512_Ed448`.
+        pub const MLS_256_DHKEMX448_AES256GCM_SHA512_ED448: u16 = 4;
+        /// The number of `MLS_256_DHKEMP521_AES256GCM_SHA512_P521`.
+        pub const MLS_256_DHKEMP521_AES256GCM_SHA512_P521: u16 = 5;
+        /// The number of `MLS_256_DHKEMX448_CHACHA20POLY1305_SHA512_Ed448`.
+        pub const MLS_256_DHKEMX448_CHACHA20POLY1305_SHA512_ED448: u16 = 6;
+        /// The number of `MLS_256_DHKEMP384_AES256GCM_SHA384_P384`.
+        pub const MLS_256_DHKEMP384_AES256GCM_SHA384_P384: u16 = 7;
+    }
+
+    /// The numbers of `ProtocolVersion` that have names.
+    pub mod protocol_version {
+        /// The number of `mls10`.
+        pub const MLS10: u16 = 1;
+    }
+
+    /// The numbers of `NodeType` that have names.
+    pub mod node_type {
+        /// The number of `leaf`.
+        pub const LEAF: u8 = 1;
+        /// The number of `parent`.
+        pub const PARENT: u8 = 2;
     }
 
     /// `MLSMessage` (RFC 9420, section 6): returns the bytes of the one that `bytes` begin with, and the rest.

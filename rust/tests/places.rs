@@ -182,6 +182,10 @@ fn numbers_have_names() {
     assert_eq!(mls::message_wire_format(&message), Ok((mls::wire_format::PRIVATE_MESSAGE, &[][..])));
     let (handshake, _) = tls13::handshake_locate(&[24, 0, 0, 1, 1]).expect("a key update");
     assert_eq!(handshake.msg_type, [tls13::handshake_type::KEY_UPDATE]);
+    let (update, _) = tls13::key_update_locate(&handshake.body[3..]).expect("its body");
+    assert_eq!(update.request_update, [tls13::key_update_request::UPDATE_REQUESTED]);
+    let (verify, _) = tls13::certificate_verify_locate(&[8, 4, 0, 1, 1]).expect("a signature");
+    assert_eq!(verify.algorithm, tls13::signature_scheme::RSA_PSS_RSAE_SHA256.to_be_bytes());
 }
 
 #[test]

@@ -134,3 +134,9 @@ def listed_messages() -> set[str]:
         prefix = word if word in ("mls_", "tls13_") else ""
         found |= {f"{prefix}{it}" for it in names} if prefix else set()
     return found
+
+
+def listed_enums() -> dict[str, set[str]]:
+    """The enums that docs/CALLERS.md lists, by library: words after `enums of LIBRARY`."""
+    found = re.findall(r"^enums of (\w+)((?:\s+[A-Z]\w+)+)", PAGE.read_text(encoding="utf-8"), re.M)
+    return {library: set(names.split()) for library, names in found}

@@ -18,6 +18,9 @@ ENUMS = {
         "LeafNodeSource": "u8",
         "CredentialType": "u16",
         "ExtensionType": "u16",
+        "CipherSuite": "u16",
+        "ProtocolVersion": "u16",
+        "NodeType": "u8",
     },
     "tls13": {
         "HandshakeType": "u8",
@@ -25,6 +28,20 @@ ENUMS = {
         "AlertLevel": "u8",
         "AlertDescription": "u8",
         "ExtensionType": "u16",
+        "CipherSuite": "u16",
+        "SignatureScheme": "u16",
+        "NamedGroup": "u16",
+        "KeyUpdateRequest": "u8",
+    },
+}
+# Numbers that neither a text nor its notes have, as RFC 8446, appendix B.4, lists them.
+LISTED = {
+    ("tls13", "CipherSuite"): {
+        "TLS_AES_128_GCM_SHA256": 0x1301,
+        "TLS_AES_256_GCM_SHA384": 0x1302,
+        "TLS_CHACHA20_POLY1305_SHA256": 0x1303,
+        "TLS_AES_128_CCM_SHA256": 0x1304,
+        "TLS_AES_128_CCM_8_SHA256": 0x1305,
     },
 }
 # The texts that have a library's messages, if they have other names than it.
@@ -33,20 +50,31 @@ UNUSED = re.compile(r"reserved|RESERVED|invalid|.*_RESERVED")
 
 
 def numbers(text: str, enum: str) -> dict[str, int]:
-    """The numbers of an enum by their names, or of a registry as the notes have them."""
+    """The numbers of an enum by their names, without ranges, or of a registry as the notes have them."""
     for it in Parser((DATA / f"{text}.tls").read_text(encoding="utf-8")).all():
         if it[0] == "enum" and name_of(it) == enum:
-            return {value[0]: value[1] for value in it[2] if value[0] and not UNUSED.fullmatch(value[0])}
+            return {value[0]: value[1] for value in it[2] if value[0] and len(value) == 2 and not UNUSED.fullmatch(value[0])}
     pairs = [it[1:] for it in Parser((DATA / f"{text}.notes").read_text(encoding="utf-8")).notes() if it[0] == "Equals"]
     return {path.removeprefix(f"{enum}."): number for path, number in pairs if path.startswith(f"{enum}.")}
 
 
-def named(library: str, enum: str) -> dict[str, int]:
-    """The same for callers: mls_public_message of the text is PUBLIC_MESSAGE."""
+def named_in_the_rfc(library: str, enum: str) -> dict[str, int]:
+    """The same of a library's enum."""
     texts = [found for text in TEXTS.get(library, [library]) if (found := numbers(text, enum))]
+    texts += [LISTED[library, enum]] if (library, enum) in LISTED else []
     if len(texts) != 1:
         raise LookupError(f"{len(texts)} texts of {library} have numbers of {enum}")
-    return {it.removeprefix(f"{library}_").upper(): number for it, number in texts[0].items()}
+    return texts[0]
+
+
+def name_for_callers(library: str, name: str) -> str:
+    """`mls_public_message` of MLS as PUBLIC_MESSAGE."""
+    return name.removeprefix(f"{library}_").upper()
+
+
+def named(library: str, enum: str) -> dict[str, int]:
+    """The same by the names that callers have."""
+    return {name_for_callers(library, it): number for it, number in named_in_the_rfc(library, enum).items()}
 
 
 def snake(enum: str) -> str:
@@ -69,8 +97,8 @@ def enums_in_rust(library: str) -> list[str]:
     lines = []
     for enum, kind in ENUMS.get(library, {}).items():
         lines += ["", f"    /// The numbers of `{enum}` that have names.", f"    pub mod {snake(enum)} {{"]
-        for it, number in named(library, enum).items():
-            lines += [f"        /// The number of `{it.lower()}`.", f"        pub const {it}: {kind} = {number};"]
+        for it, number in named_in_the_rfc(library, enum).items():
+            lines += [f"        /// The number of `{it}`.", f"        pub const {name_for_callers(library, it)}: {kind} = {number};"]
         lines.append("    }")
     return lines
 

@@ -74,6 +74,28 @@ enum mls_extension_type {
   MLS_EXTENSION_TYPE_EXTERNAL_SENDERS = 5
 };
 
+/* The numbers of CipherSuite that have names. */
+enum mls_cipher_suite {
+  MLS_CIPHER_SUITE_MLS_128_DHKEMX25519_AES128GCM_SHA256_ED25519 = 1,
+  MLS_CIPHER_SUITE_MLS_128_DHKEMP256_AES128GCM_SHA256_P256 = 2,
+  MLS_CIPHER_SUITE_MLS_128_DHKEMX25519_CHACHA20POLY1305_SHA256_ED25519 = 3,
+  MLS_CIPHER_SUITE_MLS_256_DHKEMX448_AES256GCM_SHA512_ED448 = 4,
+  MLS_CIPHER_SUITE_MLS_256_DHKEMP521_AES256GCM_SHA512_P521 = 5,
+  MLS_CIPHER_SUITE_MLS_256_DHKEMX448_CHACHA20POLY1305_SHA512_ED448 = 6,
+  MLS_CIPHER_SUITE_MLS_256_DHKEMP384_AES256GCM_SHA384_P384 = 7
+};
+
+/* The numbers of ProtocolVersion that have names. */
+enum mls_protocol_version {
+  MLS_PROTOCOL_VERSION_MLS10 = 1
+};
+
+/* The numbers of NodeType that have names. */
+enum mls_node_type {
+  MLS_NODE_TYPE_LEAF = 1,
+  MLS_NODE_TYPE_PARENT = 2
+};
+
 /* `MLSMessage` (RFC 9420, section 6): whether the bytes begin with one. */
 tls_codec_outcome mls_message_validate_prefix(const uint8_t *bytes, size_t length);
 
