@@ -1,10 +1,7 @@
-"""Validates messages of TLS 1.3 and MLS by the static libraries of this repository, linked as one shared object.
+"""Validates messages of TLS 1.3 and MLS by the static libraries of this repository, linked as one shared object: `tools/archives.py --shared`
+puts it into c/out.
 
-    cc -shared -o libtls_codec.so -Wl,--whole-archive libmls_c.a libtls13_c.a libtls_codec_c.a -Wl,--no-whole-archive
-
-The decoders need libmls_check_c.a, libtls13_check_c.a and libtls_codec_heap.a in it too.
-
-    validators = Validators("./libtls_codec.so")
+    validators = Validators("c/out/libtls_codec.so")
     message = validators.whole("mls_key_package", data)
     extensions = validators.fields("mls_key_package", message)["extensions"]
     content = validators.fields("tls_codec_opaque_v", extensions)["content"]

@@ -6,7 +6,7 @@ import enum
 VERSION = "0.2.0"
 
 # What archives of this version and these headers have beside them.
-MARK = "0.2.0 4c96aeb88e44c2ea"
+MARK = "0.2.0 7b1c67d69e0e8e7a"
 
 # The names of the statuses, by their numbers.
 STATUSES = [

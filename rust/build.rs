@@ -8,9 +8,9 @@ fn main() {
     println!("cargo::rerun-if-env-changed=TLS_CODEC_ARCHIVES");
     let here = PathBuf::from(env::var_os("CARGO_MANIFEST_DIR").expect("cargo names the folder"));
     let folder = env::var_os("TLS_CODEC_ARCHIVES").map_or(here.join("../c/out"), PathBuf::from);
-    let mut names = vec!["libmls_c.a", "libtls13_c.a", "libtls_codec_c.a"];
+    let mut names = vec!["libtls_codec_mls.a", "libtls_codec_tls13.a", "libtls_codec_lengths.a"];
     if env::var_os("CARGO_FEATURE_CHECK").is_some() {
-        names.extend(["libmls_check_c.a", "libtls13_check_c.a", "libtls_codec_heap.a"]);
+        names.extend(["libtls_codec_mls_check.a", "libtls_codec_tls13_check.a", "libtls_codec_heap.a"]);
         println!("cargo::rustc-link-lib=static=tls_codec_heap");
     }
     for name in names {

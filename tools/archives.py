@@ -1,10 +1,11 @@
 #!/usr/bin/env python3
-"""archives.py [FOLDER [TARGET]]: proves the static libraries and puts their archives into a folder, c/out if none is given.
+"""archives.py [--shared] [FOLDER [TARGET]]: proves the static libraries and puts their archives into a folder, c/out if none is given.
 
 They are built over the libraries that `rt ci` left in crates/*/out/rlib. Where some aren't there, `rt lib` first proves and builds all
 those below an archive, which takes longer. Beside them is libtls_codec_heap.a, which decoders need: malloc and free by Rattle's names for
-them. And tls_codec.version has the version of the headers, so that a mix with those of another commit is noticed. TARGET is
-x86_64-unknown-linux-gnu if none is given. For aarch64-unknown-linux-gnu the kit has no such heap.
+them. And tls_codec.version has the version of the headers, so that a mix with those of another commit is noticed. With --shared the C
+compiler links all of them to libtls_codec.so, for Python. TARGET is x86_64-unknown-linux-gnu if none is given. For
+aarch64-unknown-linux-gnu the kit has no such heap, and there is no --shared.
 """
 from __future__ import annotations
 
@@ -15,8 +16,9 @@ import sys
 import tempfile
 
 import exports
-from lib.exported import HEAP
+from lib.exported import HEAP, archive_of
 from lib.libraries import CRATES, TOP, Libraries
+from lib.shared_object import NotLinked, put_shared
 
 TARGET = "x86_64-unknown-linux-gnu"
 # Up to which cost LLVM copies a function into its callers; its own bound is 225. Messages of one archive share the validators of their
@@ -65,13 +67,14 @@ def build_below(libraries: Libraries, crate: str) -> None:
 
 
 def build(libraries: Libraries, crate: str, folder: pathlib.Path, target: str = TARGET) -> None:
-    """Proves a static library, and puts its archive into the folder."""
-    archive = folder / f"lib{crate}.a"
+    """Proves a static library, and puts its archive into the folder, by its name for callers."""
     if not is_left_by_ci(libraries, crate):
         build_below(libraries, crate)
     with tempfile.TemporaryDirectory(prefix="toolchain-") as made:
-        compiled = ["--toolchain", str(toolchain(libraries.kit, pathlib.Path(made))), "-o", str(archive.resolve())]
+        archive = pathlib.Path(made) / f"lib{crate}.a"
+        compiled = ["--toolchain", str(toolchain(libraries.kit, pathlib.Path(made))), "-o", str(archive)]
         ran([f"{libraries.kit}/bin/rattle", "build", *libraries.words(crate), "--target", target, *compiled], crate)
+        shutil.copyfile(archive, folder / archive_of(crate))
 
 
 def put_heap(libraries: Libraries, folder: pathlib.Path) -> None:
@@ -83,9 +86,13 @@ def put_mark(folder: pathlib.Path) -> None:
 
 
 def main() -> int:
-    folder = pathlib.Path(sys.argv[1]) if sys.argv[1:] else TOP / "c" / "out"
+    words = [it for it in sys.argv[1:] if it != "--shared"]
+    folder = pathlib.Path(words[0]) if words else TOP / "c" / "out"
+    target, is_shared = words[1] if words[1:] else TARGET, "--shared" in sys.argv[1:]
+    if is_shared and target != TARGET:
+        print(f"--shared links for {TARGET} alone")
+        return 1
     folder.mkdir(parents=True, exist_ok=True)
-    target = sys.argv[2] if sys.argv[2:] else TARGET
     libraries = Libraries()
     (folder / exports.MARK).unlink(missing_ok=True)
     try:
@@ -93,9 +100,11 @@ def main() -> int:
             put_heap(libraries, folder)
         for crate in libraries.static:
             build(libraries, crate, folder, target)
-            print(folder / f"lib{crate}.a", flush=True)
+            print(folder / archive_of(crate), flush=True)
+        if is_shared:
+            print(put_shared(folder, folder), flush=True)
         put_mark(folder)
-    except (NotBuilt, OSError) as error:
+    except (NotBuilt, NotLinked, OSError) as error:
         print(error)
         return 1
     return 0

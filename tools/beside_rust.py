@@ -1,5 +1,5 @@
 #!/usr/bin/env python3
-"""beside_rust.py PATH [SECONDS]: compares libtls_codec_c.a with the Rust crate `tls_codec`, whose sources are at PATH, in one process.
+"""beside_rust.py PATH [SECONDS]: compares libtls_codec_lengths.a with the Rust crate `tls_codec`, whose sources are at PATH, in one process.
 
 Its sources aren't part of this repository. A cargo project in a temporary folder has the crate, with its feature `mls`, and rust/. For
 SECONDS, 10 if none are given, each makes what it makes of lengths and their contents, true, lying, too wide and cut short: the crate from a
@@ -22,12 +22,12 @@ edition = "2024"
 
 [dependencies]
 tls_codec = {{ path = "{crate}", features = ["mls"] }}
-tls-codec-border = {{ path = "{border}" }}
+tls-codec-validators = {{ path = "{rust}" }}
 """
 PROGRAM = r"""
 use std::time::{Duration, Instant};
 use tls_codec::{Deserialize, DeserializeBytes, Serialize, TlsByteVecU8, TlsByteVecU16, TlsByteVecU24, VLBytes};
-use tls_codec_border::{Rejected, lengths as proved};
+use tls_codec_validators::{Rejected, lengths as proved};
 
 type Locate = fn(&[u8]) -> Result<(&[u8], &[u8]), Rejected>;
 
@@ -119,10 +119,10 @@ fn compare<T: Bytes>(name: &str, locate: Locate, width: usize, time: Duration) -
 fn main() {
     let time = Duration::from_secs(SECONDS) / 4;
     let results = [
-        compare::<VLBytes>("VLBytes", proved::opaque_v_locate, 0, time),
-        compare::<TlsByteVecU8>("TlsByteVecU8", proved::opaque_u8_locate, 1, time),
-        compare::<TlsByteVecU16>("TlsByteVecU16", proved::opaque_u16_locate, 2, time),
-        compare::<TlsByteVecU24>("TlsByteVecU24", proved::opaque_u24_locate, 3, time),
+        compare::<VLBytes>("VLBytes", proved::locate_opaque_v, 0, time),
+        compare::<TlsByteVecU8>("TlsByteVecU8", proved::locate_opaque_u8, 1, time),
+        compare::<TlsByteVecU16>("TlsByteVecU16", proved::locate_opaque_u16, 2, time),
+        compare::<TlsByteVecU24>("TlsByteVecU24", proved::locate_opaque_u24, 3, time),
     ];
     let passed = results.iter().filter(|it| **it).count();
     println!("{passed} passed, {} failed", results.len() - passed);
@@ -139,7 +139,7 @@ def main() -> int:
     with tempfile.TemporaryDirectory(prefix="beside_rust-") as folder:
         room = pathlib.Path(folder)
         (room / "src").mkdir()
-        (room / "Cargo.toml").write_text(MANIFEST.format(crate=pathlib.Path(sys.argv[1]).resolve(), border=TOP / "rust"))
+        (room / "Cargo.toml").write_text(MANIFEST.format(crate=pathlib.Path(sys.argv[1]).resolve(), rust=TOP / "rust"))
         (room / "src" / "main.rs").write_text(PROGRAM.replace("SECONDS", str(seconds)))
         return subprocess.run(["cargo", "run", "--release", "--quiet"], cwd=room).returncode
 

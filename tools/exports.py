@@ -16,9 +16,9 @@ import pathlib
 import re
 import sys
 
-from lib.exported import CALLS, MEANINGS, WHOLE, WRITTEN, Export, Unread
-from lib.exported import about, exports_of, libraries, named_as_in_the_rfc, numbers, structs, taken_by, type_in_c
-from lib.exports_rust import MODULES, exports_rust
+from lib.exported import CALLS, MEANINGS, MODULES, WHOLE, WRITTEN, Export, Unread
+from lib.exported import about, exports_of, libraries, module_of, named_as_in_the_rfc, numbers, structs, taken_by, type_in_c
+from lib.exports_rust import exports_rust
 from lib.headers import CONTRACT, LISTS, READERS, UMBRELLA, WHOLE_OUTCOME
 from lib.libraries import TOP
 from lib.registries import enums_in_c, enums_in_python
@@ -124,7 +124,7 @@ def header(crate: str) -> str:
         body += ["", *comment(LISTS)] if call == "_next" and calls else []
         body += [line for it in calls for line in declared(it)]
     body += ["", "#ifdef __cplusplus", "}", "#endif", *(["", *READERS] if name in MODULES else [])]
-    return guarded(MODULES.get(name, name), crate, body)
+    return guarded(module_of(crate), crate, body)
 
 
 def table() -> str:
@@ -176,9 +176,8 @@ def exports_python() -> str:
 def headers(of_headers: str) -> dict[pathlib.Path, str]:
     """The headers. outcome.h has this mark: that of all of them, or an empty one, while that is made."""
     include = TOP / "c" / "include" / "tls_codec"
-    names = {it: it.removesuffix("_c") for it in libraries()}
-    found = {include / f"{MODULES.get(name, name)}.h": header(it) for it, name in names.items()}
-    return {include / "outcome.h": outcome_header(of_headers), include / "tls_codec.h": UMBRELLA, **found}
+    found = {include / f"{module_of(it)}.h": header(it) for it in libraries()}
+    return {include / "outcome.h": outcome_header(of_headers), include / "all.h": UMBRELLA, **found}
 
 
 @functools.cache

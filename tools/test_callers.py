@@ -22,11 +22,12 @@ import tempfile
 import archives
 import exports
 from lib import exported
-from lib.caller_examples import border, hello, readmes, sender, stream
+from lib.caller_examples import boundary, hello, readmes, sender, stream
 from lib.caller_inputs import PAGE, USED, answered, captured, hellos, listed_enums, listed_messages, statuses_of, vector, written_in_c
 from lib.caller_room import ALL, C, COMMIT, DECODERS, PYTHON, SANITIZED, WARNINGS, Failed, Room
 from lib.libraries import CRATES, ROWS, TOP, Libraries
 from lib.registries import ENUMS
+from lib.shared_object import SHARED
 
 SIGNED = C / "tests" / "signed.tsv"
 PLACES = [CRATES / "test_places" / "stdout", C / "tests" / "lengths.tsv"]
@@ -38,7 +39,7 @@ ONE = """\
 cmake_minimum_required(VERSION 3.16)
 project(one LANGUAGES C)
 add_subdirectory({C} tls_codec)
-add_executable(one {C}/examples/border.c)
+add_executable(one {C}/examples/boundary.c)
 target_link_libraries(one PRIVATE tls_codec::mls)
 """
 # The files of rust/tests, and those that test nothing without the feature `check`.
@@ -48,7 +49,7 @@ RUST_TESTS_OF_DECODERS = ["decoders"]
 
 def names(room: Room, crate: str, which: str) -> set[str]:
     """The names that an archive defines for others, or needs."""
-    output = room.run(["nm", which, "--format=posix", room.archives / f"lib{crate}.a"]).decode()
+    output = room.run(["nm", which, "--format=posix", room.archives / exported.archive_of(crate)]).decode()
     return {line.split()[0] for line in output.splitlines() if len(line.split()) > 1}
 
 
@@ -161,17 +162,9 @@ def rust(room: Room) -> None:
         room.run(["cargo", "fmt", "--check"], cwd=TOP / "rust")
 
 
-def shared_object(room: Room) -> pathlib.Path:
-    """All archives in one."""
-    shared = room.folder / "libtls_codec.so"
-    if not shared.is_file():
-        room.run(["cc", "-shared", "-o", shared, "-Wl,--whole-archive", *room.linked(ALL), "-Wl,--no-whole-archive"])
-    return shared
-
-
 def python(room: Room) -> None:
     """The rows by the Python module."""
-    shared = shared_object(room)
+    shared = room.shared_object()
     for script, files in (("rows", ROWS), ("places", PLACES), ("signed", [SIGNED])):
         for rows in files:
             room.run([sys.executable, PYTHON / "tests" / f"{script}.py", shared, rows])
@@ -180,7 +173,7 @@ def python(room: Room) -> None:
 def vectors(room: Room) -> None:
     """Rows as the MLS working group's test vectors have them; in a second vector a commit has a proposal whose type has no case."""
     path, whole = room.folder / "vectors.json", vector()
-    words = [sys.executable, PYTHON / "vectors.py", shared_object(room), path]
+    words = [sys.executable, PYTHON / "vectors.py", room.shared_object(), path]
     path.write_text(json.dumps([whole]))
     if room.run(words) != b"11 passed, 0 failed\n":
         raise Failed("messages that rows accept have another outcome")
@@ -193,8 +186,8 @@ def mix(room: Room) -> None:
     """Archives of other headers: Rust and Python fail, and CMake warns."""
     folder = room.folder / "mix"
     shutil.copytree(room.archives, folder)
-    shutil.copy(shared_object(room), folder)
-    call = [sys.executable, "-c", "import sys, tls_codec; tls_codec.Validators(sys.argv[1])", folder / "libtls_codec.so"]
+    shutil.copy(room.shared_object(), folder)
+    call = [sys.executable, "-c", "import sys, tls_codec; tls_codec.Validators(sys.argv[1])", folder / SHARED]
     env = {**os.environ, "TLS_CODEC_ARCHIVES": str(folder.resolve()), "CARGO_TARGET_DIR": str(room.folder / "mixed")}
     env["PYTHONPATH"] = str(PYTHON)
     room.run(call, env=env)
@@ -215,9 +208,9 @@ def cmake(room: Room) -> None:
     lacking = {*os.listdir(room.archives), "pkgconfig"} ^ set(os.listdir(installed / "lib"))
     if lacking or f"prefix={installed.resolve()}\n" not in (installed / "lib" / "pkgconfig" / "tls_codec.pc").read_text(encoding="utf-8"):
         raise Failed(f"of these files some aren't installed, or others are: {sorted(lacking)}")
-    program, archive = room.folder / "installed_border", installed / "lib" / "libmls_c.a"
-    room.run(["cc", "-I", installed / "include", "-o", program, C / "examples" / "border.c", archive])
-    for example in ("border", "sender"):
+    program, archive = room.folder / "installed_boundary", installed / "lib" / exported.archive_of("mls_c")
+    room.run(["cc", "-I", installed / "include", "-o", program, C / "examples" / "boundary.c", archive])
+    for example in ("boundary", "sender"):
         room.run([build / example], bytes.fromhex(COMMIT.read_text()))
     room.run([build / "hello"], hellos()[0][0])
     room.run([build / "rows", ROWS[1]])
@@ -227,7 +220,7 @@ def cmake_of_one(room: Room) -> None:
     """A project that links one archive, where the others aren't there; and c/ with that one."""
     folder = room.folder / "one"
     folder.mkdir()
-    for it in ("libmls_c.a", exports.MARK):
+    for it in (exported.archive_of("mls_c"), exports.MARK):
         shutil.copy(room.archives / it, folder)
     (folder / "CMakeLists.txt").write_text(ONE.format(C=C))
     room.run(["cmake", "-S", folder, "-B", folder / "build", f"-DTLS_CODEC_ARCHIVES={folder.resolve()}"])
@@ -244,7 +237,7 @@ def pkg_config(room: Room) -> None:
         (prefix / path.stem).write_text(path.read_text(encoding="utf-8").replace("@PREFIX@", str(prefix.resolve())))
     env = {**os.environ, "PKG_CONFIG_PATH": str(prefix)}
     for name, source, words, stdin in (
-        ("tls_codec", "examples/border.c", [], bytes.fromhex(COMMIT.read_text())),
+        ("tls_codec", "examples/boundary.c", [], bytes.fromhex(COMMIT.read_text())),
         ("tls_codec_check", "tests/rows.c", [ROWS[1]], b""),
     ):
         flags = room.run(["pkg-config", "--cflags", "--libs", name], env=env).decode().split()
@@ -265,7 +258,7 @@ def valgrind(room: Room) -> None:
 
 
 TESTS = [declared, rows_name_each_call, rows_in_c, rows_with_sanitizers, places_in_c, numbers_in_c, signed_in_c, memory_refused]
-TESTS += [page_in_c, cplusplus, border, stream, hello, sender, readmes, rust, python, vectors, mix]
+TESTS += [page_in_c, cplusplus, boundary, stream, hello, sender, readmes, rust, python, vectors, mix]
 
 
 def main() -> int:
@@ -284,7 +277,7 @@ def main() -> int:
             except (archives.NotBuilt, OSError) as error:
                 print(f"no archive: {error}\n0 passed, 1 failed")
                 return 1
-        tests = {f"lib{it}.a": lambda room, it=it: archive_has_its_exports(room, it) for it in libraries.static}
+        tests = {exported.archive_of(it): lambda room, it=it: archive_has_its_exports(room, it) for it in libraries.static}
         for it in TESTS:
             tests[it.__name__] = it
         for it, command in ((cmake, "cmake"), (cmake_of_one, "cmake"), (pkg_config, "pkg-config"), (valgrind, "valgrind")):

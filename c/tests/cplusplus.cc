@@ -1,5 +1,5 @@
 // The headers in C++: each in any order, and called, also with NULL for no bytes.
-#include <tls_codec/tls_codec.h>
+#include <tls_codec/all.h>
 #include <tls_codec/lengths.h>
 #include <tls_codec/tls13_check.h>
 #include <tls_codec/mls_check.h>

@@ -8,7 +8,7 @@
 #include <string.h>
 #include <tls_codec/mls_check.h>
 #include <tls_codec/tls13_check.h>
-#include <tls_codec/tls_codec.h>
+#include <tls_codec/all.h>
 
 typedef tls_codec_outcome message_call(const uint8_t *bytes, size_t length);
 

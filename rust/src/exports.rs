@@ -66,12 +66,12 @@ pub struct Span {
 
 /// Checks without allocation whether bytes begin with a variable-length integer, or with bytes after a length.
 pub mod lengths {
-    use crate::{Rejected, Span, split, split_as};
+    use crate::{Rejected, Span, split, split_as, whole};
 
     mod foreign {
         use crate::{Outcome, Span};
 
-        #[link(name = "tls_codec_c", kind = "static")]
+        #[link(name = "tls_codec_lengths", kind = "static")]
         unsafe extern "C" {
             pub fn tls_codec_varint_validate_prefix(bytes: *const u8, length: usize) -> Outcome;
             pub fn tls_codec_opaque_v_locate(bytes: *const u8, length: usize, content: &mut Span) -> Outcome;
@@ -81,13 +81,18 @@ pub mod lengths {
         }
     }
 
+    /// A variable-length integer (RFC 9000, section 16) in its least width: whether `bytes` are one, with nothing after it.
+    pub fn validate_varint(bytes: &[u8]) -> Result<(), Rejected> {
+        whole(bytes, foreign::tls_codec_varint_validate_prefix)
+    }
+
     /// A variable-length integer (RFC 9000, section 16) in its least width: returns the bytes of the one that `bytes` begin with, and the rest.
-    pub fn varint(bytes: &[u8]) -> Result<(&[u8], &[u8]), Rejected> {
+    pub fn validate_varint_prefix(bytes: &[u8]) -> Result<(&[u8], &[u8]), Rejected> {
         split(bytes, foreign::tls_codec_varint_validate_prefix)
     }
 
     /// `opaque content<V>` (RFC 9420, section 2.1.2), and where its content is. A list `<V>` has its elements there. Returns that content, and the rest of the bytes.
-    pub fn opaque_v_locate(bytes: &[u8]) -> Result<(&[u8], &[u8]), Rejected> {
+    pub fn locate_opaque_v(bytes: &[u8]) -> Result<(&[u8], &[u8]), Rejected> {
         let mut found = Span::default();
         // SAFETY: the pointer and the length are of one slice, nothing changes it during the call, and the call keeps no pointer.
         let outcome = unsafe { foreign::tls_codec_opaque_v_locate(bytes.as_ptr(), bytes.len(), &mut found) };
@@ -96,7 +101,7 @@ pub mod lengths {
     }
 
     /// `opaque content<0..2^8-1>` (RFC 8446, section 3.4), and where its content is. Returns that content, and the rest of the bytes.
-    pub fn opaque_u8_locate(bytes: &[u8]) -> Result<(&[u8], &[u8]), Rejected> {
+    pub fn locate_opaque_u8(bytes: &[u8]) -> Result<(&[u8], &[u8]), Rejected> {
         let mut found = Span::default();
         // SAFETY: the pointer and the length are of one slice, nothing changes it during the call, and the call keeps no pointer.
         let outcome = unsafe { foreign::tls_codec_opaque_u8_locate(bytes.as_ptr(), bytes.len(), &mut found) };
@@ -105,7 +110,7 @@ pub mod lengths {
     }
 
     /// `opaque content<0..2^16-1>`, and where its content is. Returns that content, and the rest of the bytes.
-    pub fn opaque_u16_locate(bytes: &[u8]) -> Result<(&[u8], &[u8]), Rejected> {
+    pub fn locate_opaque_u16(bytes: &[u8]) -> Result<(&[u8], &[u8]), Rejected> {
         let mut found = Span::default();
         // SAFETY: the pointer and the length are of one slice, nothing changes it during the call, and the call keeps no pointer.
         let outcome = unsafe { foreign::tls_codec_opaque_u16_locate(bytes.as_ptr(), bytes.len(), &mut found) };
@@ -114,7 +119,7 @@ pub mod lengths {
     }
 
     /// `opaque content<0..2^24-1>`, and where its content is. Returns that content, and the rest of the bytes.
-    pub fn opaque_u24_locate(bytes: &[u8]) -> Result<(&[u8], &[u8]), Rejected> {
+    pub fn locate_opaque_u24(bytes: &[u8]) -> Result<(&[u8], &[u8]), Rejected> {
         let mut found = Span::default();
         // SAFETY: the pointer and the length are of one slice, nothing changes it during the call, and the call keeps no pointer.
         let outcome = unsafe { foreign::tls_codec_opaque_u24_locate(bytes.as_ptr(), bytes.len(), &mut found) };
@@ -125,7 +130,7 @@ pub mod lengths {
 
 /// Checks without allocation whether bytes begin with a message of TLS 1.3.
 pub mod tls13 {
-    use crate::{Elements, Rejected, split, split_as};
+    use crate::{Elements, Rejected, split, split_as, whole};
 
     mod foreign {
         use crate::{Outcome, Span};
@@ -237,7 +242,7 @@ pub mod tls13 {
             pub description: Span,
         }
 
-        #[link(name = "tls13_c", kind = "static")]
+        #[link(name = "tls_codec_tls13", kind = "static")]
         unsafe extern "C" {
             pub fn tls13_extension_next(bytes: *const u8, length: usize, left: &mut Span, element: &mut Span) -> Outcome;
             pub fn tls13_key_share_entry_next(bytes: *const u8, length: usize, left: &mut Span, element: &mut Span) -> Outcome;
@@ -505,63 +510,123 @@ pub mod tls13 {
         pub const UPDATE_REQUESTED: u8 = 1;
     }
 
+    /// `TLSPlaintext` (RFC 8446, section 5.1): whether `bytes` are one, with nothing after it.
+    pub fn validate_tls_plaintext(bytes: &[u8]) -> Result<(), Rejected> {
+        whole(bytes, foreign::tls13_tls_plaintext_validate_prefix)
+    }
+
     /// `TLSPlaintext` (RFC 8446, section 5.1): returns the bytes of the one that `bytes` begin with, and the rest.
-    pub fn tls_plaintext(bytes: &[u8]) -> Result<(&[u8], &[u8]), Rejected> {
+    pub fn validate_tls_plaintext_prefix(bytes: &[u8]) -> Result<(&[u8], &[u8]), Rejected> {
         split(bytes, foreign::tls13_tls_plaintext_validate_prefix)
     }
 
+    /// `TLSCiphertext` (RFC 8446, section 5.2): whether `bytes` are one, with nothing after it.
+    pub fn validate_tls_ciphertext(bytes: &[u8]) -> Result<(), Rejected> {
+        whole(bytes, foreign::tls13_tls_ciphertext_validate_prefix)
+    }
+
     /// `TLSCiphertext` (RFC 8446, section 5.2): returns the bytes of the one that `bytes` begin with, and the rest.
-    pub fn tls_ciphertext(bytes: &[u8]) -> Result<(&[u8], &[u8]), Rejected> {
+    pub fn validate_tls_ciphertext_prefix(bytes: &[u8]) -> Result<(&[u8], &[u8]), Rejected> {
         split(bytes, foreign::tls13_tls_ciphertext_validate_prefix)
     }
 
+    /// `Alert` (RFC 8446, section 6): whether `bytes` are one, with nothing after it.
+    pub fn validate_alert(bytes: &[u8]) -> Result<(), Rejected> {
+        whole(bytes, foreign::tls13_alert_validate_prefix)
+    }
+
     /// `Alert` (RFC 8446, section 6): returns the bytes of the one that `bytes` begin with, and the rest.
-    pub fn alert(bytes: &[u8]) -> Result<(&[u8], &[u8]), Rejected> {
+    pub fn validate_alert_prefix(bytes: &[u8]) -> Result<(&[u8], &[u8]), Rejected> {
         split(bytes, foreign::tls13_alert_validate_prefix)
     }
 
+    /// `Handshake` (RFC 8446, section 4): whether `bytes` are one, with nothing after it.
+    pub fn validate_handshake(bytes: &[u8]) -> Result<(), Rejected> {
+        whole(bytes, foreign::tls13_handshake_validate_prefix)
+    }
+
     /// `Handshake` (RFC 8446, section 4): returns the bytes of the one that `bytes` begin with, and the rest.
-    pub fn handshake(bytes: &[u8]) -> Result<(&[u8], &[u8]), Rejected> {
+    pub fn validate_handshake_prefix(bytes: &[u8]) -> Result<(&[u8], &[u8]), Rejected> {
         split(bytes, foreign::tls13_handshake_validate_prefix)
     }
 
+    /// `ClientHello` (RFC 8446, section 4.1.2): whether `bytes` are one, with nothing after it.
+    pub fn validate_client_hello(bytes: &[u8]) -> Result<(), Rejected> {
+        whole(bytes, foreign::tls13_client_hello_validate_prefix)
+    }
+
     /// `ClientHello` (RFC 8446, section 4.1.2): returns the bytes of the one that `bytes` begin with, and the rest.
-    pub fn client_hello(bytes: &[u8]) -> Result<(&[u8], &[u8]), Rejected> {
+    pub fn validate_client_hello_prefix(bytes: &[u8]) -> Result<(&[u8], &[u8]), Rejected> {
         split(bytes, foreign::tls13_client_hello_validate_prefix)
     }
 
+    /// `ServerHello` (RFC 8446, section 4.1.3): whether `bytes` are one, with nothing after it.
+    pub fn validate_server_hello(bytes: &[u8]) -> Result<(), Rejected> {
+        whole(bytes, foreign::tls13_server_hello_validate_prefix)
+    }
+
     /// `ServerHello` (RFC 8446, section 4.1.3): returns the bytes of the one that `bytes` begin with, and the rest.
-    pub fn server_hello(bytes: &[u8]) -> Result<(&[u8], &[u8]), Rejected> {
+    pub fn validate_server_hello_prefix(bytes: &[u8]) -> Result<(&[u8], &[u8]), Rejected> {
         split(bytes, foreign::tls13_server_hello_validate_prefix)
     }
 
+    /// `EncryptedExtensions` (RFC 8446, section 4.3.1): whether `bytes` are one, with nothing after it.
+    pub fn validate_encrypted_extensions(bytes: &[u8]) -> Result<(), Rejected> {
+        whole(bytes, foreign::tls13_encrypted_extensions_validate_prefix)
+    }
+
     /// `EncryptedExtensions` (RFC 8446, section 4.3.1): returns the bytes of the one that `bytes` begin with, and the rest.
-    pub fn encrypted_extensions(bytes: &[u8]) -> Result<(&[u8], &[u8]), Rejected> {
+    pub fn validate_encrypted_extensions_prefix(bytes: &[u8]) -> Result<(&[u8], &[u8]), Rejected> {
         split(bytes, foreign::tls13_encrypted_extensions_validate_prefix)
     }
 
+    /// `CertificateRequest` (RFC 8446, section 4.3.2): whether `bytes` are one, with nothing after it.
+    pub fn validate_certificate_request(bytes: &[u8]) -> Result<(), Rejected> {
+        whole(bytes, foreign::tls13_certificate_request_validate_prefix)
+    }
+
     /// `CertificateRequest` (RFC 8446, section 4.3.2): returns the bytes of the one that `bytes` begin with, and the rest.
-    pub fn certificate_request(bytes: &[u8]) -> Result<(&[u8], &[u8]), Rejected> {
+    pub fn validate_certificate_request_prefix(bytes: &[u8]) -> Result<(&[u8], &[u8]), Rejected> {
         split(bytes, foreign::tls13_certificate_request_validate_prefix)
     }
 
+    /// `Certificate` (RFC 8446, section 4.4.2): whether `bytes` are one, with nothing after it.
+    pub fn validate_certificate(bytes: &[u8]) -> Result<(), Rejected> {
+        whole(bytes, foreign::tls13_certificate_validate_prefix)
+    }
+
     /// `Certificate` (RFC 8446, section 4.4.2): returns the bytes of the one that `bytes` begin with, and the rest.
-    pub fn certificate(bytes: &[u8]) -> Result<(&[u8], &[u8]), Rejected> {
+    pub fn validate_certificate_prefix(bytes: &[u8]) -> Result<(&[u8], &[u8]), Rejected> {
         split(bytes, foreign::tls13_certificate_validate_prefix)
     }
 
+    /// `CertificateVerify` (RFC 8446, section 4.4.3): whether `bytes` are one, with nothing after it.
+    pub fn validate_certificate_verify(bytes: &[u8]) -> Result<(), Rejected> {
+        whole(bytes, foreign::tls13_certificate_verify_validate_prefix)
+    }
+
     /// `CertificateVerify` (RFC 8446, section 4.4.3): returns the bytes of the one that `bytes` begin with, and the rest.
-    pub fn certificate_verify(bytes: &[u8]) -> Result<(&[u8], &[u8]), Rejected> {
+    pub fn validate_certificate_verify_prefix(bytes: &[u8]) -> Result<(&[u8], &[u8]), Rejected> {
         split(bytes, foreign::tls13_certificate_verify_validate_prefix)
     }
 
+    /// `NewSessionTicket` (RFC 8446, section 4.6.1): whether `bytes` are one, with nothing after it.
+    pub fn validate_new_session_ticket(bytes: &[u8]) -> Result<(), Rejected> {
+        whole(bytes, foreign::tls13_new_session_ticket_validate_prefix)
+    }
+
     /// `NewSessionTicket` (RFC 8446, section 4.6.1): returns the bytes of the one that `bytes` begin with, and the rest.
-    pub fn new_session_ticket(bytes: &[u8]) -> Result<(&[u8], &[u8]), Rejected> {
+    pub fn validate_new_session_ticket_prefix(bytes: &[u8]) -> Result<(&[u8], &[u8]), Rejected> {
         split(bytes, foreign::tls13_new_session_ticket_validate_prefix)
     }
 
+    /// `KeyUpdate` (RFC 8446, section 4.6.3): whether `bytes` are one, with nothing after it.
+    pub fn validate_key_update(bytes: &[u8]) -> Result<(), Rejected> {
+        whole(bytes, foreign::tls13_key_update_validate_prefix)
+    }
+
     /// `KeyUpdate` (RFC 8446, section 4.6.3): returns the bytes of the one that `bytes` begin with, and the rest.
-    pub fn key_update(bytes: &[u8]) -> Result<(&[u8], &[u8]), Rejected> {
+    pub fn validate_key_update_prefix(bytes: &[u8]) -> Result<(&[u8], &[u8]), Rejected> {
         split(bytes, foreign::tls13_key_update_validate_prefix)
     }
 
@@ -575,7 +640,7 @@ pub mod tls13 {
     }
 
     /// `Handshake` (RFC 8446, section 4): returns the fields of the one that `bytes` begin with, and the rest.
-    pub fn handshake_locate(bytes: &[u8]) -> Result<(HandshakeFields<'_>, &[u8]), Rejected> {
+    pub fn locate_handshake(bytes: &[u8]) -> Result<(HandshakeFields<'_>, &[u8]), Rejected> {
         let mut found = foreign::HandshakeFields::default();
         // SAFETY: the pointer and the length are of one slice, nothing changes it during the call, and the call keeps no pointer.
         let outcome = unsafe { foreign::tls13_handshake_locate(bytes.as_ptr(), bytes.len(), &mut found) };
@@ -605,7 +670,7 @@ pub mod tls13 {
     }
 
     /// `ClientHello` (RFC 8446, section 4.1.2): returns the fields of the one that `bytes` begin with, and the rest.
-    pub fn client_hello_locate(bytes: &[u8]) -> Result<(ClientHelloFields<'_>, &[u8]), Rejected> {
+    pub fn locate_client_hello(bytes: &[u8]) -> Result<(ClientHelloFields<'_>, &[u8]), Rejected> {
         let mut found = foreign::ClientHelloFields::default();
         // SAFETY: the pointer and the length are of one slice, nothing changes it during the call, and the call keeps no pointer.
         let outcome = unsafe { foreign::tls13_client_hello_locate(bytes.as_ptr(), bytes.len(), &mut found) };
@@ -639,7 +704,7 @@ pub mod tls13 {
     }
 
     /// `ServerHello` (RFC 8446, section 4.1.3): returns the fields of the one that `bytes` begin with, and the rest.
-    pub fn server_hello_locate(bytes: &[u8]) -> Result<(ServerHelloFields<'_>, &[u8]), Rejected> {
+    pub fn locate_server_hello(bytes: &[u8]) -> Result<(ServerHelloFields<'_>, &[u8]), Rejected> {
         let mut found = foreign::ServerHelloFields::default();
         // SAFETY: the pointer and the length are of one slice, nothing changes it during the call, and the call keeps no pointer.
         let outcome = unsafe { foreign::tls13_server_hello_locate(bytes.as_ptr(), bytes.len(), &mut found) };
@@ -663,7 +728,7 @@ pub mod tls13 {
     }
 
     /// `EncryptedExtensions` (RFC 8446, section 4.3.1): returns the fields of the one that `bytes` begin with, and the rest.
-    pub fn encrypted_extensions_locate(bytes: &[u8]) -> Result<(EncryptedExtensionsFields<'_>, &[u8]), Rejected> {
+    pub fn locate_encrypted_extensions(bytes: &[u8]) -> Result<(EncryptedExtensionsFields<'_>, &[u8]), Rejected> {
         let mut found = foreign::EncryptedExtensionsFields::default();
         // SAFETY: the pointer and the length are of one slice, nothing changes it during the call, and the call keeps no pointer.
         let outcome = unsafe { foreign::tls13_encrypted_extensions_locate(bytes.as_ptr(), bytes.len(), &mut found) };
@@ -684,7 +749,7 @@ pub mod tls13 {
     }
 
     /// `CertificateRequest` (RFC 8446, section 4.3.2): returns the fields of the one that `bytes` begin with, and the rest.
-    pub fn certificate_request_locate(bytes: &[u8]) -> Result<(CertificateRequestFields<'_>, &[u8]), Rejected> {
+    pub fn locate_certificate_request(bytes: &[u8]) -> Result<(CertificateRequestFields<'_>, &[u8]), Rejected> {
         let mut found = foreign::CertificateRequestFields::default();
         // SAFETY: the pointer and the length are of one slice, nothing changes it during the call, and the call keeps no pointer.
         let outcome = unsafe { foreign::tls13_certificate_request_locate(bytes.as_ptr(), bytes.len(), &mut found) };
@@ -706,7 +771,7 @@ pub mod tls13 {
     }
 
     /// `Certificate` (RFC 8446, section 4.4.2): returns the fields of the one that `bytes` begin with, and the rest.
-    pub fn certificate_locate(bytes: &[u8]) -> Result<(CertificateFields<'_>, &[u8]), Rejected> {
+    pub fn locate_certificate(bytes: &[u8]) -> Result<(CertificateFields<'_>, &[u8]), Rejected> {
         let mut found = foreign::CertificateFields::default();
         // SAFETY: the pointer and the length are of one slice, nothing changes it during the call, and the call keeps no pointer.
         let outcome = unsafe { foreign::tls13_certificate_locate(bytes.as_ptr(), bytes.len(), &mut found) };
@@ -728,7 +793,7 @@ pub mod tls13 {
     }
 
     /// `CertificateVerify` (RFC 8446, section 4.4.3): returns the fields of the one that `bytes` begin with, and the rest.
-    pub fn certificate_verify_locate(bytes: &[u8]) -> Result<(CertificateVerifyFields<'_>, &[u8]), Rejected> {
+    pub fn locate_certificate_verify(bytes: &[u8]) -> Result<(CertificateVerifyFields<'_>, &[u8]), Rejected> {
         let mut found = foreign::CertificateVerifyFields::default();
         // SAFETY: the pointer and the length are of one slice, nothing changes it during the call, and the call keeps no pointer.
         let outcome = unsafe { foreign::tls13_certificate_verify_locate(bytes.as_ptr(), bytes.len(), &mut found) };
@@ -756,7 +821,7 @@ pub mod tls13 {
     }
 
     /// `NewSessionTicket` (RFC 8446, section 4.6.1): returns the fields of the one that `bytes` begin with, and the rest.
-    pub fn new_session_ticket_locate(bytes: &[u8]) -> Result<(NewSessionTicketFields<'_>, &[u8]), Rejected> {
+    pub fn locate_new_session_ticket(bytes: &[u8]) -> Result<(NewSessionTicketFields<'_>, &[u8]), Rejected> {
         let mut found = foreign::NewSessionTicketFields::default();
         // SAFETY: the pointer and the length are of one slice, nothing changes it during the call, and the call keeps no pointer.
         let outcome = unsafe { foreign::tls13_new_session_ticket_locate(bytes.as_ptr(), bytes.len(), &mut found) };
@@ -779,7 +844,7 @@ pub mod tls13 {
     }
 
     /// `KeyUpdate` (RFC 8446, section 4.6.3): returns the fields of the one that `bytes` begin with, and the rest.
-    pub fn key_update_locate(bytes: &[u8]) -> Result<(KeyUpdateFields<'_>, &[u8]), Rejected> {
+    pub fn locate_key_update(bytes: &[u8]) -> Result<(KeyUpdateFields<'_>, &[u8]), Rejected> {
         let mut found = foreign::KeyUpdateFields::default();
         // SAFETY: the pointer and the length are of one slice, nothing changes it during the call, and the call keeps no pointer.
         let outcome = unsafe { foreign::tls13_key_update_locate(bytes.as_ptr(), bytes.len(), &mut found) };
@@ -802,7 +867,7 @@ pub mod tls13 {
     }
 
     /// `TLSPlaintext` (RFC 8446, section 5.1): returns the fields of the one that `bytes` begin with, and the rest.
-    pub fn tls_plaintext_locate(bytes: &[u8]) -> Result<(TLSPlaintextFields<'_>, &[u8]), Rejected> {
+    pub fn locate_tls_plaintext(bytes: &[u8]) -> Result<(TLSPlaintextFields<'_>, &[u8]), Rejected> {
         let mut found = foreign::TLSPlaintextFields::default();
         // SAFETY: the pointer and the length are of one slice, nothing changes it during the call, and the call keeps no pointer.
         let outcome = unsafe { foreign::tls13_tls_plaintext_locate(bytes.as_ptr(), bytes.len(), &mut found) };
@@ -827,7 +892,7 @@ pub mod tls13 {
     }
 
     /// `TLSCiphertext` (RFC 8446, section 5.2): returns the fields of the one that `bytes` begin with, and the rest.
-    pub fn tls_ciphertext_locate(bytes: &[u8]) -> Result<(TLSCiphertextFields<'_>, &[u8]), Rejected> {
+    pub fn locate_tls_ciphertext(bytes: &[u8]) -> Result<(TLSCiphertextFields<'_>, &[u8]), Rejected> {
         let mut found = foreign::TLSCiphertextFields::default();
         // SAFETY: the pointer and the length are of one slice, nothing changes it during the call, and the call keeps no pointer.
         let outcome = unsafe { foreign::tls13_tls_ciphertext_locate(bytes.as_ptr(), bytes.len(), &mut found) };
@@ -850,7 +915,7 @@ pub mod tls13 {
     }
 
     /// `Alert` (RFC 8446, section 6): returns the fields of the one that `bytes` begin with, and the rest.
-    pub fn alert_locate(bytes: &[u8]) -> Result<(AlertFields<'_>, &[u8]), Rejected> {
+    pub fn locate_alert(bytes: &[u8]) -> Result<(AlertFields<'_>, &[u8]), Rejected> {
         let mut found = foreign::AlertFields::default();
         // SAFETY: the pointer and the length are of one slice, nothing changes it during the call, and the call keeps no pointer.
         let outcome = unsafe { foreign::tls13_alert_locate(bytes.as_ptr(), bytes.len(), &mut found) };
@@ -881,12 +946,12 @@ pub mod tls13 {
 /// Checks whether bytes begin with a message of TLS 1.3: its decoder makes the value and drops it. `OutOfMemory`: memory was refused, and nothing is said about the bytes. No position is reported.
 #[cfg(feature = "check")]
 pub mod tls13_check {
-    use crate::{Error, decode};
+    use crate::{Error, split, whole};
 
     mod foreign {
         use crate::Outcome;
 
-        #[link(name = "tls13_check_c", kind = "static")]
+        #[link(name = "tls_codec_tls13_check", kind = "static")]
         unsafe extern "C" {
             pub fn tls13_tls_plaintext_decode_check(bytes: *const u8, length: usize) -> Outcome;
             pub fn tls13_tls_ciphertext_decode_check(bytes: *const u8, length: usize) -> Outcome;
@@ -903,70 +968,130 @@ pub mod tls13_check {
         }
     }
 
+    /// `TLSPlaintext` (RFC 8446, section 5.1): whether `bytes` are one, with nothing after it, by the decoder.
+    pub fn decode_check_tls_plaintext(bytes: &[u8]) -> Result<(), Error> {
+        whole(bytes, foreign::tls13_tls_plaintext_decode_check).map_err(|it| it.error)
+    }
+
     /// `TLSPlaintext` (RFC 8446, section 5.1): returns the bytes of the one that `bytes` begin with, and the rest, by the decoder.
-    pub fn tls_plaintext(bytes: &[u8]) -> Result<(&[u8], &[u8]), Error> {
-        decode(bytes, foreign::tls13_tls_plaintext_decode_check)
+    pub fn decode_check_tls_plaintext_prefix(bytes: &[u8]) -> Result<(&[u8], &[u8]), Error> {
+        split(bytes, foreign::tls13_tls_plaintext_decode_check).map_err(|it| it.error)
+    }
+
+    /// `TLSCiphertext` (RFC 8446, section 5.2): whether `bytes` are one, with nothing after it, by the decoder.
+    pub fn decode_check_tls_ciphertext(bytes: &[u8]) -> Result<(), Error> {
+        whole(bytes, foreign::tls13_tls_ciphertext_decode_check).map_err(|it| it.error)
     }
 
     /// `TLSCiphertext` (RFC 8446, section 5.2): returns the bytes of the one that `bytes` begin with, and the rest, by the decoder.
-    pub fn tls_ciphertext(bytes: &[u8]) -> Result<(&[u8], &[u8]), Error> {
-        decode(bytes, foreign::tls13_tls_ciphertext_decode_check)
+    pub fn decode_check_tls_ciphertext_prefix(bytes: &[u8]) -> Result<(&[u8], &[u8]), Error> {
+        split(bytes, foreign::tls13_tls_ciphertext_decode_check).map_err(|it| it.error)
+    }
+
+    /// `Alert` (RFC 8446, section 6): whether `bytes` are one, with nothing after it, by the decoder.
+    pub fn decode_check_alert(bytes: &[u8]) -> Result<(), Error> {
+        whole(bytes, foreign::tls13_alert_decode_check).map_err(|it| it.error)
     }
 
     /// `Alert` (RFC 8446, section 6): returns the bytes of the one that `bytes` begin with, and the rest, by the decoder.
-    pub fn alert(bytes: &[u8]) -> Result<(&[u8], &[u8]), Error> {
-        decode(bytes, foreign::tls13_alert_decode_check)
+    pub fn decode_check_alert_prefix(bytes: &[u8]) -> Result<(&[u8], &[u8]), Error> {
+        split(bytes, foreign::tls13_alert_decode_check).map_err(|it| it.error)
+    }
+
+    /// `Handshake` (RFC 8446, section 4): whether `bytes` are one, with nothing after it, by the decoder.
+    pub fn decode_check_handshake(bytes: &[u8]) -> Result<(), Error> {
+        whole(bytes, foreign::tls13_handshake_decode_check).map_err(|it| it.error)
     }
 
     /// `Handshake` (RFC 8446, section 4): returns the bytes of the one that `bytes` begin with, and the rest, by the decoder.
-    pub fn handshake(bytes: &[u8]) -> Result<(&[u8], &[u8]), Error> {
-        decode(bytes, foreign::tls13_handshake_decode_check)
+    pub fn decode_check_handshake_prefix(bytes: &[u8]) -> Result<(&[u8], &[u8]), Error> {
+        split(bytes, foreign::tls13_handshake_decode_check).map_err(|it| it.error)
+    }
+
+    /// `ClientHello` (RFC 8446, section 4.1.2): whether `bytes` are one, with nothing after it, by the decoder.
+    pub fn decode_check_client_hello(bytes: &[u8]) -> Result<(), Error> {
+        whole(bytes, foreign::tls13_client_hello_decode_check).map_err(|it| it.error)
     }
 
     /// `ClientHello` (RFC 8446, section 4.1.2): returns the bytes of the one that `bytes` begin with, and the rest, by the decoder.
-    pub fn client_hello(bytes: &[u8]) -> Result<(&[u8], &[u8]), Error> {
-        decode(bytes, foreign::tls13_client_hello_decode_check)
+    pub fn decode_check_client_hello_prefix(bytes: &[u8]) -> Result<(&[u8], &[u8]), Error> {
+        split(bytes, foreign::tls13_client_hello_decode_check).map_err(|it| it.error)
+    }
+
+    /// `ServerHello` (RFC 8446, section 4.1.3): whether `bytes` are one, with nothing after it, by the decoder.
+    pub fn decode_check_server_hello(bytes: &[u8]) -> Result<(), Error> {
+        whole(bytes, foreign::tls13_server_hello_decode_check).map_err(|it| it.error)
     }
 
     /// `ServerHello` (RFC 8446, section 4.1.3): returns the bytes of the one that `bytes` begin with, and the rest, by the decoder.
-    pub fn server_hello(bytes: &[u8]) -> Result<(&[u8], &[u8]), Error> {
-        decode(bytes, foreign::tls13_server_hello_decode_check)
+    pub fn decode_check_server_hello_prefix(bytes: &[u8]) -> Result<(&[u8], &[u8]), Error> {
+        split(bytes, foreign::tls13_server_hello_decode_check).map_err(|it| it.error)
+    }
+
+    /// `EncryptedExtensions` (RFC 8446, section 4.3.1): whether `bytes` are one, with nothing after it, by the decoder.
+    pub fn decode_check_encrypted_extensions(bytes: &[u8]) -> Result<(), Error> {
+        whole(bytes, foreign::tls13_encrypted_extensions_decode_check).map_err(|it| it.error)
     }
 
     /// `EncryptedExtensions` (RFC 8446, section 4.3.1): returns the bytes of the one that `bytes` begin with, and the rest, by the decoder.
-    pub fn encrypted_extensions(bytes: &[u8]) -> Result<(&[u8], &[u8]), Error> {
-        decode(bytes, foreign::tls13_encrypted_extensions_decode_check)
+    pub fn decode_check_encrypted_extensions_prefix(bytes: &[u8]) -> Result<(&[u8], &[u8]), Error> {
+        split(bytes, foreign::tls13_encrypted_extensions_decode_check).map_err(|it| it.error)
+    }
+
+    /// `CertificateRequest` (RFC 8446, section 4.3.2): whether `bytes` are one, with nothing after it, by the decoder.
+    pub fn decode_check_certificate_request(bytes: &[u8]) -> Result<(), Error> {
+        whole(bytes, foreign::tls13_certificate_request_decode_check).map_err(|it| it.error)
     }
 
     /// `CertificateRequest` (RFC 8446, section 4.3.2): returns the bytes of the one that `bytes` begin with, and the rest, by the decoder.
-    pub fn certificate_request(bytes: &[u8]) -> Result<(&[u8], &[u8]), Error> {
-        decode(bytes, foreign::tls13_certificate_request_decode_check)
+    pub fn decode_check_certificate_request_prefix(bytes: &[u8]) -> Result<(&[u8], &[u8]), Error> {
+        split(bytes, foreign::tls13_certificate_request_decode_check).map_err(|it| it.error)
+    }
+
+    /// `Certificate` (RFC 8446, section 4.4.2): whether `bytes` are one, with nothing after it, by the decoder.
+    pub fn decode_check_certificate(bytes: &[u8]) -> Result<(), Error> {
+        whole(bytes, foreign::tls13_certificate_decode_check).map_err(|it| it.error)
     }
 
     /// `Certificate` (RFC 8446, section 4.4.2): returns the bytes of the one that `bytes` begin with, and the rest, by the decoder.
-    pub fn certificate(bytes: &[u8]) -> Result<(&[u8], &[u8]), Error> {
-        decode(bytes, foreign::tls13_certificate_decode_check)
+    pub fn decode_check_certificate_prefix(bytes: &[u8]) -> Result<(&[u8], &[u8]), Error> {
+        split(bytes, foreign::tls13_certificate_decode_check).map_err(|it| it.error)
+    }
+
+    /// `CertificateVerify` (RFC 8446, section 4.4.3): whether `bytes` are one, with nothing after it, by the decoder.
+    pub fn decode_check_certificate_verify(bytes: &[u8]) -> Result<(), Error> {
+        whole(bytes, foreign::tls13_certificate_verify_decode_check).map_err(|it| it.error)
     }
 
     /// `CertificateVerify` (RFC 8446, section 4.4.3): returns the bytes of the one that `bytes` begin with, and the rest, by the decoder.
-    pub fn certificate_verify(bytes: &[u8]) -> Result<(&[u8], &[u8]), Error> {
-        decode(bytes, foreign::tls13_certificate_verify_decode_check)
+    pub fn decode_check_certificate_verify_prefix(bytes: &[u8]) -> Result<(&[u8], &[u8]), Error> {
+        split(bytes, foreign::tls13_certificate_verify_decode_check).map_err(|it| it.error)
+    }
+
+    /// `NewSessionTicket` (RFC 8446, section 4.6.1): whether `bytes` are one, with nothing after it, by the decoder.
+    pub fn decode_check_new_session_ticket(bytes: &[u8]) -> Result<(), Error> {
+        whole(bytes, foreign::tls13_new_session_ticket_decode_check).map_err(|it| it.error)
     }
 
     /// `NewSessionTicket` (RFC 8446, section 4.6.1): returns the bytes of the one that `bytes` begin with, and the rest, by the decoder.
-    pub fn new_session_ticket(bytes: &[u8]) -> Result<(&[u8], &[u8]), Error> {
-        decode(bytes, foreign::tls13_new_session_ticket_decode_check)
+    pub fn decode_check_new_session_ticket_prefix(bytes: &[u8]) -> Result<(&[u8], &[u8]), Error> {
+        split(bytes, foreign::tls13_new_session_ticket_decode_check).map_err(|it| it.error)
+    }
+
+    /// `KeyUpdate` (RFC 8446, section 4.6.3): whether `bytes` are one, with nothing after it, by the decoder.
+    pub fn decode_check_key_update(bytes: &[u8]) -> Result<(), Error> {
+        whole(bytes, foreign::tls13_key_update_decode_check).map_err(|it| it.error)
     }
 
     /// `KeyUpdate` (RFC 8446, section 4.6.3): returns the bytes of the one that `bytes` begin with, and the rest, by the decoder.
-    pub fn key_update(bytes: &[u8]) -> Result<(&[u8], &[u8]), Error> {
-        decode(bytes, foreign::tls13_key_update_decode_check)
+    pub fn decode_check_key_update_prefix(bytes: &[u8]) -> Result<(&[u8], &[u8]), Error> {
+        split(bytes, foreign::tls13_key_update_decode_check).map_err(|it| it.error)
     }
 }
 
 /// Checks without allocation whether bytes begin with a message of MLS.
 pub mod mls {
-    use crate::{Elements, Rejected, split, split_as, written_as};
+    use crate::{Elements, Rejected, split, split_as, whole, written_as};
 
     mod foreign {
         use crate::{Outcome, Span};
@@ -1106,7 +1231,7 @@ pub mod mls {
             pub body: Span,
         }
 
-        #[link(name = "mls_c", kind = "static")]
+        #[link(name = "tls_codec_mls", kind = "static")]
         unsafe extern "C" {
             pub fn mls_extension_next(bytes: *const u8, length: usize, left: &mut Span, element: &mut Span) -> Outcome;
             pub fn mls_optional_node_next(bytes: *const u8, length: usize, left: &mut Span, element: &mut Span) -> Outcome;
@@ -1270,73 +1395,143 @@ pub mod mls {
         pub const PARENT: u8 = 2;
     }
 
+    /// `MLSMessage` (RFC 9420, section 6): whether `bytes` are one, with nothing after it.
+    pub fn validate_message(bytes: &[u8]) -> Result<(), Rejected> {
+        whole(bytes, foreign::mls_message_validate_prefix)
+    }
+
     /// `MLSMessage` (RFC 9420, section 6): returns the bytes of the one that `bytes` begin with, and the rest.
-    pub fn message(bytes: &[u8]) -> Result<(&[u8], &[u8]), Rejected> {
+    pub fn validate_message_prefix(bytes: &[u8]) -> Result<(&[u8], &[u8]), Rejected> {
         split(bytes, foreign::mls_message_validate_prefix)
     }
 
+    /// `PublicMessage` (RFC 9420, section 6.2): whether `bytes` are one, with nothing after it.
+    pub fn validate_public_message(bytes: &[u8]) -> Result<(), Rejected> {
+        whole(bytes, foreign::mls_public_message_validate_prefix)
+    }
+
     /// `PublicMessage` (RFC 9420, section 6.2): returns the bytes of the one that `bytes` begin with, and the rest.
-    pub fn public_message(bytes: &[u8]) -> Result<(&[u8], &[u8]), Rejected> {
+    pub fn validate_public_message_prefix(bytes: &[u8]) -> Result<(&[u8], &[u8]), Rejected> {
         split(bytes, foreign::mls_public_message_validate_prefix)
     }
 
+    /// `PrivateMessage` (RFC 9420, section 6.3): whether `bytes` are one, with nothing after it.
+    pub fn validate_private_message(bytes: &[u8]) -> Result<(), Rejected> {
+        whole(bytes, foreign::mls_private_message_validate_prefix)
+    }
+
     /// `PrivateMessage` (RFC 9420, section 6.3): returns the bytes of the one that `bytes` begin with, and the rest.
-    pub fn private_message(bytes: &[u8]) -> Result<(&[u8], &[u8]), Rejected> {
+    pub fn validate_private_message_prefix(bytes: &[u8]) -> Result<(&[u8], &[u8]), Rejected> {
         split(bytes, foreign::mls_private_message_validate_prefix)
     }
 
+    /// `FramedContent` (RFC 9420, section 6): whether `bytes` are one, with nothing after it.
+    pub fn validate_framed_content(bytes: &[u8]) -> Result<(), Rejected> {
+        whole(bytes, foreign::mls_framed_content_validate_prefix)
+    }
+
     /// `FramedContent` (RFC 9420, section 6): returns the bytes of the one that `bytes` begin with, and the rest.
-    pub fn framed_content(bytes: &[u8]) -> Result<(&[u8], &[u8]), Rejected> {
+    pub fn validate_framed_content_prefix(bytes: &[u8]) -> Result<(&[u8], &[u8]), Rejected> {
         split(bytes, foreign::mls_framed_content_validate_prefix)
     }
 
+    /// `SenderData` (RFC 9420, section 6.3.2): whether `bytes` are one, with nothing after it.
+    pub fn validate_sender_data(bytes: &[u8]) -> Result<(), Rejected> {
+        whole(bytes, foreign::mls_sender_data_validate_prefix)
+    }
+
     /// `SenderData` (RFC 9420, section 6.3.2): returns the bytes of the one that `bytes` begin with, and the rest.
-    pub fn sender_data(bytes: &[u8]) -> Result<(&[u8], &[u8]), Rejected> {
+    pub fn validate_sender_data_prefix(bytes: &[u8]) -> Result<(&[u8], &[u8]), Rejected> {
         split(bytes, foreign::mls_sender_data_validate_prefix)
     }
 
+    /// `Welcome` (RFC 9420, section 12.4.3.1): whether `bytes` are one, with nothing after it.
+    pub fn validate_welcome(bytes: &[u8]) -> Result<(), Rejected> {
+        whole(bytes, foreign::mls_welcome_validate_prefix)
+    }
+
     /// `Welcome` (RFC 9420, section 12.4.3.1): returns the bytes of the one that `bytes` begin with, and the rest.
-    pub fn welcome(bytes: &[u8]) -> Result<(&[u8], &[u8]), Rejected> {
+    pub fn validate_welcome_prefix(bytes: &[u8]) -> Result<(&[u8], &[u8]), Rejected> {
         split(bytes, foreign::mls_welcome_validate_prefix)
     }
 
+    /// `GroupSecrets` (RFC 9420, section 12.4.3.1): whether `bytes` are one, with nothing after it.
+    pub fn validate_group_secrets(bytes: &[u8]) -> Result<(), Rejected> {
+        whole(bytes, foreign::mls_group_secrets_validate_prefix)
+    }
+
     /// `GroupSecrets` (RFC 9420, section 12.4.3.1): returns the bytes of the one that `bytes` begin with, and the rest.
-    pub fn group_secrets(bytes: &[u8]) -> Result<(&[u8], &[u8]), Rejected> {
+    pub fn validate_group_secrets_prefix(bytes: &[u8]) -> Result<(&[u8], &[u8]), Rejected> {
         split(bytes, foreign::mls_group_secrets_validate_prefix)
     }
 
+    /// `GroupInfo` (RFC 9420, section 12.4.3): whether `bytes` are one, with nothing after it.
+    pub fn validate_group_info(bytes: &[u8]) -> Result<(), Rejected> {
+        whole(bytes, foreign::mls_group_info_validate_prefix)
+    }
+
     /// `GroupInfo` (RFC 9420, section 12.4.3): returns the bytes of the one that `bytes` begin with, and the rest.
-    pub fn group_info(bytes: &[u8]) -> Result<(&[u8], &[u8]), Rejected> {
+    pub fn validate_group_info_prefix(bytes: &[u8]) -> Result<(&[u8], &[u8]), Rejected> {
         split(bytes, foreign::mls_group_info_validate_prefix)
     }
 
+    /// `GroupContext` (RFC 9420, section 8.1): whether `bytes` are one, with nothing after it.
+    pub fn validate_group_context(bytes: &[u8]) -> Result<(), Rejected> {
+        whole(bytes, foreign::mls_group_context_validate_prefix)
+    }
+
     /// `GroupContext` (RFC 9420, section 8.1): returns the bytes of the one that `bytes` begin with, and the rest.
-    pub fn group_context(bytes: &[u8]) -> Result<(&[u8], &[u8]), Rejected> {
+    pub fn validate_group_context_prefix(bytes: &[u8]) -> Result<(&[u8], &[u8]), Rejected> {
         split(bytes, foreign::mls_group_context_validate_prefix)
     }
 
+    /// `Commit` (RFC 9420, section 12.4): whether `bytes` are one, with nothing after it.
+    pub fn validate_commit(bytes: &[u8]) -> Result<(), Rejected> {
+        whole(bytes, foreign::mls_commit_validate_prefix)
+    }
+
     /// `Commit` (RFC 9420, section 12.4): returns the bytes of the one that `bytes` begin with, and the rest.
-    pub fn commit(bytes: &[u8]) -> Result<(&[u8], &[u8]), Rejected> {
+    pub fn validate_commit_prefix(bytes: &[u8]) -> Result<(&[u8], &[u8]), Rejected> {
         split(bytes, foreign::mls_commit_validate_prefix)
     }
 
+    /// `Proposal` (RFC 9420, section 12.1): whether `bytes` are one, with nothing after it.
+    pub fn validate_proposal(bytes: &[u8]) -> Result<(), Rejected> {
+        whole(bytes, foreign::mls_proposal_validate_prefix)
+    }
+
     /// `Proposal` (RFC 9420, section 12.1): returns the bytes of the one that `bytes` begin with, and the rest.
-    pub fn proposal(bytes: &[u8]) -> Result<(&[u8], &[u8]), Rejected> {
+    pub fn validate_proposal_prefix(bytes: &[u8]) -> Result<(&[u8], &[u8]), Rejected> {
         split(bytes, foreign::mls_proposal_validate_prefix)
     }
 
+    /// `KeyPackage` (RFC 9420, section 10): whether `bytes` are one, with nothing after it.
+    pub fn validate_key_package(bytes: &[u8]) -> Result<(), Rejected> {
+        whole(bytes, foreign::mls_key_package_validate_prefix)
+    }
+
     /// `KeyPackage` (RFC 9420, section 10): returns the bytes of the one that `bytes` begin with, and the rest.
-    pub fn key_package(bytes: &[u8]) -> Result<(&[u8], &[u8]), Rejected> {
+    pub fn validate_key_package_prefix(bytes: &[u8]) -> Result<(&[u8], &[u8]), Rejected> {
         split(bytes, foreign::mls_key_package_validate_prefix)
     }
 
+    /// `LeafNode` (RFC 9420, section 7.2): whether `bytes` are one, with nothing after it.
+    pub fn validate_leaf_node(bytes: &[u8]) -> Result<(), Rejected> {
+        whole(bytes, foreign::mls_leaf_node_validate_prefix)
+    }
+
     /// `LeafNode` (RFC 9420, section 7.2): returns the bytes of the one that `bytes` begin with, and the rest.
-    pub fn leaf_node(bytes: &[u8]) -> Result<(&[u8], &[u8]), Rejected> {
+    pub fn validate_leaf_node_prefix(bytes: &[u8]) -> Result<(&[u8], &[u8]), Rejected> {
         split(bytes, foreign::mls_leaf_node_validate_prefix)
     }
 
+    /// `RatchetTree` (RFC 9420, section 12.4.3.3): whether `bytes` are one, with nothing after it.
+    pub fn validate_ratchet_tree(bytes: &[u8]) -> Result<(), Rejected> {
+        whole(bytes, foreign::mls_ratchet_tree_validate_prefix)
+    }
+
     /// `RatchetTree` (RFC 9420, section 12.4.3.3): returns the bytes of the one that `bytes` begin with, and the rest.
-    pub fn ratchet_tree(bytes: &[u8]) -> Result<(&[u8], &[u8]), Rejected> {
+    pub fn validate_ratchet_tree_prefix(bytes: &[u8]) -> Result<(&[u8], &[u8]), Rejected> {
         split(bytes, foreign::mls_ratchet_tree_validate_prefix)
     }
 
@@ -1352,7 +1547,7 @@ pub mod mls {
     }
 
     /// `MLSMessage` (RFC 9420, section 6): returns the fields of the one that `bytes` begin with, and the rest.
-    pub fn message_locate(bytes: &[u8]) -> Result<(MLSMessageFields<'_>, &[u8]), Rejected> {
+    pub fn locate_message(bytes: &[u8]) -> Result<(MLSMessageFields<'_>, &[u8]), Rejected> {
         let mut found = foreign::MLSMessageFields::default();
         // SAFETY: the pointer and the length are of one slice, nothing changes it during the call, and the call keeps no pointer.
         let outcome = unsafe { foreign::mls_message_locate(bytes.as_ptr(), bytes.len(), &mut found) };
@@ -1377,7 +1572,7 @@ pub mod mls {
     }
 
     /// `PublicMessage` (RFC 9420, section 6.2): returns the fields of the one that `bytes` begin with, and the rest.
-    pub fn public_message_locate(bytes: &[u8]) -> Result<(PublicMessageFields<'_>, &[u8]), Rejected> {
+    pub fn locate_public_message(bytes: &[u8]) -> Result<(PublicMessageFields<'_>, &[u8]), Rejected> {
         let mut found = foreign::PublicMessageFields::default();
         // SAFETY: the pointer and the length are of one slice, nothing changes it during the call, and the call keeps no pointer.
         let outcome = unsafe { foreign::mls_public_message_locate(bytes.as_ptr(), bytes.len(), &mut found) };
@@ -1408,7 +1603,7 @@ pub mod mls {
     }
 
     /// `PrivateMessage` (RFC 9420, section 6.3): returns the fields of the one that `bytes` begin with, and the rest.
-    pub fn private_message_locate(bytes: &[u8]) -> Result<(PrivateMessageFields<'_>, &[u8]), Rejected> {
+    pub fn locate_private_message(bytes: &[u8]) -> Result<(PrivateMessageFields<'_>, &[u8]), Rejected> {
         let mut found = foreign::PrivateMessageFields::default();
         // SAFETY: the pointer and the length are of one slice, nothing changes it during the call, and the call keeps no pointer.
         let outcome = unsafe { foreign::mls_private_message_locate(bytes.as_ptr(), bytes.len(), &mut found) };
@@ -1442,7 +1637,7 @@ pub mod mls {
     }
 
     /// `FramedContent` (RFC 9420, section 6), with which a `PublicMessage` begins: returns the fields of the one that `bytes` begin with, and the rest.
-    pub fn framed_content_locate(bytes: &[u8]) -> Result<(FramedContentFields<'_>, &[u8]), Rejected> {
+    pub fn locate_framed_content(bytes: &[u8]) -> Result<(FramedContentFields<'_>, &[u8]), Rejected> {
         let mut found = foreign::FramedContentFields::default();
         // SAFETY: the pointer and the length are of one slice, nothing changes it during the call, and the call keeps no pointer.
         let outcome = unsafe { foreign::mls_framed_content_locate(bytes.as_ptr(), bytes.len(), &mut found) };
@@ -1470,7 +1665,7 @@ pub mod mls {
     }
 
     /// `SenderData` (RFC 9420, section 6.3.2): returns the fields of the one that `bytes` begin with, and the rest.
-    pub fn sender_data_locate(bytes: &[u8]) -> Result<(SenderDataFields<'_>, &[u8]), Rejected> {
+    pub fn locate_sender_data(bytes: &[u8]) -> Result<(SenderDataFields<'_>, &[u8]), Rejected> {
         let mut found = foreign::SenderDataFields::default();
         // SAFETY: the pointer and the length are of one slice, nothing changes it during the call, and the call keeps no pointer.
         let outcome = unsafe { foreign::mls_sender_data_locate(bytes.as_ptr(), bytes.len(), &mut found) };
@@ -1501,7 +1696,7 @@ pub mod mls {
     }
 
     /// `KeyPackage` (RFC 9420, section 10): returns the fields of the one that `bytes` begin with, and the rest.
-    pub fn key_package_locate(bytes: &[u8]) -> Result<(KeyPackageFields<'_>, &[u8]), Rejected> {
+    pub fn locate_key_package(bytes: &[u8]) -> Result<(KeyPackageFields<'_>, &[u8]), Rejected> {
         let mut found = foreign::KeyPackageFields::default();
         // SAFETY: the pointer and the length are of one slice, nothing changes it during the call, and the call keeps no pointer.
         let outcome = unsafe { foreign::mls_key_package_locate(bytes.as_ptr(), bytes.len(), &mut found) };
@@ -1539,7 +1734,7 @@ pub mod mls {
     }
 
     /// `LeafNode` (RFC 9420, section 7.2): returns the fields of the one that `bytes` begin with, and the rest.
-    pub fn leaf_node_locate(bytes: &[u8]) -> Result<(LeafNodeFields<'_>, &[u8]), Rejected> {
+    pub fn locate_leaf_node(bytes: &[u8]) -> Result<(LeafNodeFields<'_>, &[u8]), Rejected> {
         let mut found = foreign::LeafNodeFields::default();
         // SAFETY: the pointer and the length are of one slice, nothing changes it during the call, and the call keeps no pointer.
         let outcome = unsafe { foreign::mls_leaf_node_locate(bytes.as_ptr(), bytes.len(), &mut found) };
@@ -1569,7 +1764,7 @@ pub mod mls {
     }
 
     /// `Welcome` (RFC 9420, section 12.4.3.1): returns the fields of the one that `bytes` begin with, and the rest.
-    pub fn welcome_locate(bytes: &[u8]) -> Result<(WelcomeFields<'_>, &[u8]), Rejected> {
+    pub fn locate_welcome(bytes: &[u8]) -> Result<(WelcomeFields<'_>, &[u8]), Rejected> {
         let mut found = foreign::WelcomeFields::default();
         // SAFETY: the pointer and the length are of one slice, nothing changes it during the call, and the call keeps no pointer.
         let outcome = unsafe { foreign::mls_welcome_locate(bytes.as_ptr(), bytes.len(), &mut found) };
@@ -1594,7 +1789,7 @@ pub mod mls {
     }
 
     /// `GroupSecrets` (RFC 9420, section 12.4.3.1): returns the fields of the one that `bytes` begin with, and the rest.
-    pub fn group_secrets_locate(bytes: &[u8]) -> Result<(GroupSecretsFields<'_>, &[u8]), Rejected> {
+    pub fn locate_group_secrets(bytes: &[u8]) -> Result<(GroupSecretsFields<'_>, &[u8]), Rejected> {
         let mut found = foreign::GroupSecretsFields::default();
         // SAFETY: the pointer and the length are of one slice, nothing changes it during the call, and the call keeps no pointer.
         let outcome = unsafe { foreign::mls_group_secrets_locate(bytes.as_ptr(), bytes.len(), &mut found) };
@@ -1623,7 +1818,7 @@ pub mod mls {
     }
 
     /// `GroupInfo` (RFC 9420, section 12.4.3): returns the fields of the one that `bytes` begin with, and the rest.
-    pub fn group_info_locate(bytes: &[u8]) -> Result<(GroupInfoFields<'_>, &[u8]), Rejected> {
+    pub fn locate_group_info(bytes: &[u8]) -> Result<(GroupInfoFields<'_>, &[u8]), Rejected> {
         let mut found = foreign::GroupInfoFields::default();
         // SAFETY: the pointer and the length are of one slice, nothing changes it during the call, and the call keeps no pointer.
         let outcome = unsafe { foreign::mls_group_info_locate(bytes.as_ptr(), bytes.len(), &mut found) };
@@ -1658,7 +1853,7 @@ pub mod mls {
     }
 
     /// `GroupContext` (RFC 9420, section 8.1): returns the fields of the one that `bytes` begin with, and the rest.
-    pub fn group_context_locate(bytes: &[u8]) -> Result<(GroupContextFields<'_>, &[u8]), Rejected> {
+    pub fn locate_group_context(bytes: &[u8]) -> Result<(GroupContextFields<'_>, &[u8]), Rejected> {
         let mut found = foreign::GroupContextFields::default();
         // SAFETY: the pointer and the length are of one slice, nothing changes it during the call, and the call keeps no pointer.
         let outcome = unsafe { foreign::mls_group_context_locate(bytes.as_ptr(), bytes.len(), &mut found) };
@@ -1685,7 +1880,7 @@ pub mod mls {
     }
 
     /// `Commit` (RFC 9420, section 12.4): returns the fields of the one that `bytes` begin with, and the rest.
-    pub fn commit_locate(bytes: &[u8]) -> Result<(CommitFields<'_>, &[u8]), Rejected> {
+    pub fn locate_commit(bytes: &[u8]) -> Result<(CommitFields<'_>, &[u8]), Rejected> {
         let mut found = foreign::CommitFields::default();
         // SAFETY: the pointer and the length are of one slice, nothing changes it during the call, and the call keeps no pointer.
         let outcome = unsafe { foreign::mls_commit_locate(bytes.as_ptr(), bytes.len(), &mut found) };
@@ -1707,7 +1902,7 @@ pub mod mls {
     }
 
     /// `Proposal` (RFC 9420, section 12.1): returns the fields of the one that `bytes` begin with, and the rest.
-    pub fn proposal_locate(bytes: &[u8]) -> Result<(ProposalFields<'_>, &[u8]), Rejected> {
+    pub fn locate_proposal(bytes: &[u8]) -> Result<(ProposalFields<'_>, &[u8]), Rejected> {
         let mut found = foreign::ProposalFields::default();
         // SAFETY: the pointer and the length are of one slice, nothing changes it during the call, and the call keeps no pointer.
         let outcome = unsafe { foreign::mls_proposal_locate(bytes.as_ptr(), bytes.len(), &mut found) };
@@ -1759,12 +1954,12 @@ pub mod mls {
 /// Checks whether bytes begin with a message of MLS: its decoder makes the value and drops it. `OutOfMemory`: memory was refused, and nothing is said about the bytes. No position is reported.
 #[cfg(feature = "check")]
 pub mod mls_check {
-    use crate::{Error, decode};
+    use crate::{Error, split, whole};
 
     mod foreign {
         use crate::Outcome;
 
-        #[link(name = "mls_check_c", kind = "static")]
+        #[link(name = "tls_codec_mls_check", kind = "static")]
         unsafe extern "C" {
             pub fn mls_message_decode_check(bytes: *const u8, length: usize) -> Outcome;
             pub fn mls_public_message_decode_check(bytes: *const u8, length: usize) -> Outcome;
@@ -1783,73 +1978,143 @@ pub mod mls_check {
         }
     }
 
+    /// `MLSMessage` (RFC 9420, section 6): whether `bytes` are one, with nothing after it, by the decoder.
+    pub fn decode_check_message(bytes: &[u8]) -> Result<(), Error> {
+        whole(bytes, foreign::mls_message_decode_check).map_err(|it| it.error)
+    }
+
     /// `MLSMessage` (RFC 9420, section 6): returns the bytes of the one that `bytes` begin with, and the rest, by the decoder.
-    pub fn message(bytes: &[u8]) -> Result<(&[u8], &[u8]), Error> {
-        decode(bytes, foreign::mls_message_decode_check)
+    pub fn decode_check_message_prefix(bytes: &[u8]) -> Result<(&[u8], &[u8]), Error> {
+        split(bytes, foreign::mls_message_decode_check).map_err(|it| it.error)
+    }
+
+    /// `PublicMessage` (RFC 9420, section 6.2): whether `bytes` are one, with nothing after it, by the decoder.
+    pub fn decode_check_public_message(bytes: &[u8]) -> Result<(), Error> {
+        whole(bytes, foreign::mls_public_message_decode_check).map_err(|it| it.error)
     }
 
     /// `PublicMessage` (RFC 9420, section 6.2): returns the bytes of the one that `bytes` begin with, and the rest, by the decoder.
-    pub fn public_message(bytes: &[u8]) -> Result<(&[u8], &[u8]), Error> {
-        decode(bytes, foreign::mls_public_message_decode_check)
+    pub fn decode_check_public_message_prefix(bytes: &[u8]) -> Result<(&[u8], &[u8]), Error> {
+        split(bytes, foreign::mls_public_message_decode_check).map_err(|it| it.error)
+    }
+
+    /// `PrivateMessage` (RFC 9420, section 6.3): whether `bytes` are one, with nothing after it, by the decoder.
+    pub fn decode_check_private_message(bytes: &[u8]) -> Result<(), Error> {
+        whole(bytes, foreign::mls_private_message_decode_check).map_err(|it| it.error)
     }
 
     /// `PrivateMessage` (RFC 9420, section 6.3): returns the bytes of the one that `bytes` begin with, and the rest, by the decoder.
-    pub fn private_message(bytes: &[u8]) -> Result<(&[u8], &[u8]), Error> {
-        decode(bytes, foreign::mls_private_message_decode_check)
+    pub fn decode_check_private_message_prefix(bytes: &[u8]) -> Result<(&[u8], &[u8]), Error> {
+        split(bytes, foreign::mls_private_message_decode_check).map_err(|it| it.error)
+    }
+
+    /// `FramedContent` (RFC 9420, section 6): whether `bytes` are one, with nothing after it, by the decoder.
+    pub fn decode_check_framed_content(bytes: &[u8]) -> Result<(), Error> {
+        whole(bytes, foreign::mls_framed_content_decode_check).map_err(|it| it.error)
     }
 
     /// `FramedContent` (RFC 9420, section 6): returns the bytes of the one that `bytes` begin with, and the rest, by the decoder.
-    pub fn framed_content(bytes: &[u8]) -> Result<(&[u8], &[u8]), Error> {
-        decode(bytes, foreign::mls_framed_content_decode_check)
+    pub fn decode_check_framed_content_prefix(bytes: &[u8]) -> Result<(&[u8], &[u8]), Error> {
+        split(bytes, foreign::mls_framed_content_decode_check).map_err(|it| it.error)
+    }
+
+    /// `SenderData` (RFC 9420, section 6.3.2): whether `bytes` are one, with nothing after it, by the decoder.
+    pub fn decode_check_sender_data(bytes: &[u8]) -> Result<(), Error> {
+        whole(bytes, foreign::mls_sender_data_decode_check).map_err(|it| it.error)
     }
 
     /// `SenderData` (RFC 9420, section 6.3.2): returns the bytes of the one that `bytes` begin with, and the rest, by the decoder.
-    pub fn sender_data(bytes: &[u8]) -> Result<(&[u8], &[u8]), Error> {
-        decode(bytes, foreign::mls_sender_data_decode_check)
+    pub fn decode_check_sender_data_prefix(bytes: &[u8]) -> Result<(&[u8], &[u8]), Error> {
+        split(bytes, foreign::mls_sender_data_decode_check).map_err(|it| it.error)
+    }
+
+    /// `Welcome` (RFC 9420, section 12.4.3.1): whether `bytes` are one, with nothing after it, by the decoder.
+    pub fn decode_check_welcome(bytes: &[u8]) -> Result<(), Error> {
+        whole(bytes, foreign::mls_welcome_decode_check).map_err(|it| it.error)
     }
 
     /// `Welcome` (RFC 9420, section 12.4.3.1): returns the bytes of the one that `bytes` begin with, and the rest, by the decoder.
-    pub fn welcome(bytes: &[u8]) -> Result<(&[u8], &[u8]), Error> {
-        decode(bytes, foreign::mls_welcome_decode_check)
+    pub fn decode_check_welcome_prefix(bytes: &[u8]) -> Result<(&[u8], &[u8]), Error> {
+        split(bytes, foreign::mls_welcome_decode_check).map_err(|it| it.error)
+    }
+
+    /// `GroupSecrets` (RFC 9420, section 12.4.3.1): whether `bytes` are one, with nothing after it, by the decoder.
+    pub fn decode_check_group_secrets(bytes: &[u8]) -> Result<(), Error> {
+        whole(bytes, foreign::mls_group_secrets_decode_check).map_err(|it| it.error)
     }
 
     /// `GroupSecrets` (RFC 9420, section 12.4.3.1): returns the bytes of the one that `bytes` begin with, and the rest, by the decoder.
-    pub fn group_secrets(bytes: &[u8]) -> Result<(&[u8], &[u8]), Error> {
-        decode(bytes, foreign::mls_group_secrets_decode_check)
+    pub fn decode_check_group_secrets_prefix(bytes: &[u8]) -> Result<(&[u8], &[u8]), Error> {
+        split(bytes, foreign::mls_group_secrets_decode_check).map_err(|it| it.error)
+    }
+
+    /// `GroupInfo` (RFC 9420, section 12.4.3): whether `bytes` are one, with nothing after it, by the decoder.
+    pub fn decode_check_group_info(bytes: &[u8]) -> Result<(), Error> {
+        whole(bytes, foreign::mls_group_info_decode_check).map_err(|it| it.error)
     }
 
     /// `GroupInfo` (RFC 9420, section 12.4.3): returns the bytes of the one that `bytes` begin with, and the rest, by the decoder.
-    pub fn group_info(bytes: &[u8]) -> Result<(&[u8], &[u8]), Error> {
-        decode(bytes, foreign::mls_group_info_decode_check)
+    pub fn decode_check_group_info_prefix(bytes: &[u8]) -> Result<(&[u8], &[u8]), Error> {
+        split(bytes, foreign::mls_group_info_decode_check).map_err(|it| it.error)
+    }
+
+    /// `GroupContext` (RFC 9420, section 8.1): whether `bytes` are one, with nothing after it, by the decoder.
+    pub fn decode_check_group_context(bytes: &[u8]) -> Result<(), Error> {
+        whole(bytes, foreign::mls_group_context_decode_check).map_err(|it| it.error)
     }
 
     /// `GroupContext` (RFC 9420, section 8.1): returns the bytes of the one that `bytes` begin with, and the rest, by the decoder.
-    pub fn group_context(bytes: &[u8]) -> Result<(&[u8], &[u8]), Error> {
-        decode(bytes, foreign::mls_group_context_decode_check)
+    pub fn decode_check_group_context_prefix(bytes: &[u8]) -> Result<(&[u8], &[u8]), Error> {
+        split(bytes, foreign::mls_group_context_decode_check).map_err(|it| it.error)
+    }
+
+    /// `Commit` (RFC 9420, section 12.4): whether `bytes` are one, with nothing after it, by the decoder.
+    pub fn decode_check_commit(bytes: &[u8]) -> Result<(), Error> {
+        whole(bytes, foreign::mls_commit_decode_check).map_err(|it| it.error)
     }
 
     /// `Commit` (RFC 9420, section 12.4): returns the bytes of the one that `bytes` begin with, and the rest, by the decoder.
-    pub fn commit(bytes: &[u8]) -> Result<(&[u8], &[u8]), Error> {
-        decode(bytes, foreign::mls_commit_decode_check)
+    pub fn decode_check_commit_prefix(bytes: &[u8]) -> Result<(&[u8], &[u8]), Error> {
+        split(bytes, foreign::mls_commit_decode_check).map_err(|it| it.error)
+    }
+
+    /// `Proposal` (RFC 9420, section 12.1): whether `bytes` are one, with nothing after it, by the decoder.
+    pub fn decode_check_proposal(bytes: &[u8]) -> Result<(), Error> {
+        whole(bytes, foreign::mls_proposal_decode_check).map_err(|it| it.error)
     }
 
     /// `Proposal` (RFC 9420, section 12.1): returns the bytes of the one that `bytes` begin with, and the rest, by the decoder.
-    pub fn proposal(bytes: &[u8]) -> Result<(&[u8], &[u8]), Error> {
-        decode(bytes, foreign::mls_proposal_decode_check)
+    pub fn decode_check_proposal_prefix(bytes: &[u8]) -> Result<(&[u8], &[u8]), Error> {
+        split(bytes, foreign::mls_proposal_decode_check).map_err(|it| it.error)
+    }
+
+    /// `KeyPackage` (RFC 9420, section 10): whether `bytes` are one, with nothing after it, by the decoder.
+    pub fn decode_check_key_package(bytes: &[u8]) -> Result<(), Error> {
+        whole(bytes, foreign::mls_key_package_decode_check).map_err(|it| it.error)
     }
 
     /// `KeyPackage` (RFC 9420, section 10): returns the bytes of the one that `bytes` begin with, and the rest, by the decoder.
-    pub fn key_package(bytes: &[u8]) -> Result<(&[u8], &[u8]), Error> {
-        decode(bytes, foreign::mls_key_package_decode_check)
+    pub fn decode_check_key_package_prefix(bytes: &[u8]) -> Result<(&[u8], &[u8]), Error> {
+        split(bytes, foreign::mls_key_package_decode_check).map_err(|it| it.error)
+    }
+
+    /// `LeafNode` (RFC 9420, section 7.2): whether `bytes` are one, with nothing after it, by the decoder.
+    pub fn decode_check_leaf_node(bytes: &[u8]) -> Result<(), Error> {
+        whole(bytes, foreign::mls_leaf_node_decode_check).map_err(|it| it.error)
     }
 
     /// `LeafNode` (RFC 9420, section 7.2): returns the bytes of the one that `bytes` begin with, and the rest, by the decoder.
-    pub fn leaf_node(bytes: &[u8]) -> Result<(&[u8], &[u8]), Error> {
-        decode(bytes, foreign::mls_leaf_node_decode_check)
+    pub fn decode_check_leaf_node_prefix(bytes: &[u8]) -> Result<(&[u8], &[u8]), Error> {
+        split(bytes, foreign::mls_leaf_node_decode_check).map_err(|it| it.error)
+    }
+
+    /// `RatchetTree` (RFC 9420, section 12.4.3.3): whether `bytes` are one, with nothing after it, by the decoder.
+    pub fn decode_check_ratchet_tree(bytes: &[u8]) -> Result<(), Error> {
+        whole(bytes, foreign::mls_ratchet_tree_decode_check).map_err(|it| it.error)
     }
 
     /// `RatchetTree` (RFC 9420, section 12.4.3.3): returns the bytes of the one that `bytes` begin with, and the rest, by the decoder.
-    pub fn ratchet_tree(bytes: &[u8]) -> Result<(&[u8], &[u8]), Error> {
-        decode(bytes, foreign::mls_ratchet_tree_decode_check)
+    pub fn decode_check_ratchet_tree_prefix(bytes: &[u8]) -> Result<(&[u8], &[u8]), Error> {
+        split(bytes, foreign::mls_ratchet_tree_decode_check).map_err(|it| it.error)
     }
 }

@@ -5,20 +5,23 @@
 //! proved and what is trusted. The feature `check` adds the decoders, which make the value and drop it, and so allocate.
 //!
 //! ```
-//! use tls_codec_border::{Error, Rejected, tls13, whole};
+//! use tls_codec_validators::{Error, Rejected, tls13};
 //!
-//! // an alert of two bytes, and what comes after it
-//! assert_eq!(tls13::alert(&[2, 42, 0xee]), Ok((&[2, 42][..], &[0xee][..])));
-//!
-//! // nothing may come after it
-//! assert_eq!(whole(tls13::alert(&[2, 42])), Ok(&[2, 42][..]));
+//! // an alert, and nothing after it
+//! assert_eq!(tls13::validate_alert(&[2, 42]), Ok(()));
 //! let left = Rejected { error: Error::TrailingData, at: 2 };
-//! assert_eq!(whole(tls13::alert(&[2, 42, 0xee])), Err(left));
+//! assert_eq!(tls13::validate_alert(&[2, 42, 0xee]), Err(left));
+//!
+//! // an alert, and what comes after it
+//! assert_eq!(tls13::validate_alert_prefix(&[2, 42, 0xee]), Ok((&[2, 42][..], &[0xee][..])));
 //!
 //! // why, and which field: the description isn't there
 //! let cut = Rejected { error: Error::EndOfStream, at: 1 };
-//! assert_eq!(tls13::alert(&[2]), Err(cut));
+//! assert_eq!(tls13::validate_alert(&[2]), Err(cut));
 //! ```
+//!
+//! `validate_NAME` and `decode_check_NAME` need all of the bytes to be one message. Each other function accepts bytes that come after it:
+//! `validate_NAME_prefix`, `locate_NAME` and `message_wire_format` return them.
 #![no_std]
 #![deny(missing_docs)]
 
@@ -66,17 +69,17 @@ impl core::error::Error for Error {}
 /// The number that a field of at most eight bytes has, such as an epoch; `None` of more bytes.
 ///
 /// ```
-/// assert_eq!(tls_codec_border::number(&[1, 0]), Some(256));
+/// assert_eq!(tls_codec_validators::number(&[1, 0]), Some(256));
 /// ```
 pub fn number(field: &[u8]) -> Option<u64> {
     (field.len() <= 8).then(|| field.iter().fold(0, |value, byte| value << 8 | u64::from(*byte)))
 }
 
-/// The value of a variable-length integer, as [`lengths::varint`] finds one; `None` if the width that it begins with isn't that of the
+/// The value of a variable-length integer, as [`lengths::validate_varint_prefix`] returns one; `None` if the width that it begins with isn't that of the
 /// slice.
 ///
 /// ```
-/// assert_eq!(tls_codec_border::varint_value(&[0x7b, 0xbd]), Some(15_293));
+/// assert_eq!(tls_codec_validators::varint_value(&[0x7b, 0xbd]), Some(15_293));
 /// ```
 pub fn varint_value(varint: &[u8]) -> Option<u64> {
     let width = 1usize << (varint.first()? >> 6);
@@ -84,9 +87,16 @@ pub fn varint_value(varint: &[u8]) -> Option<u64> {
     Some(value & (u64::MAX >> (66 - 8 * width)))
 }
 
+/// A validator or a decoder.
+type Call = unsafe extern "C" fn(*const u8, usize) -> Outcome;
+
+/// Whether a call accepts all of the bytes.
+fn whole(bytes: &[u8], call: Call) -> Result<(), Rejected> {
+    nothing_left(split(bytes, call)?).map(|_| ())
+}
+
 /// The message, if nothing comes after it.
-pub fn whole<'a>(found: Result<(&'a [u8], &'a [u8]), Rejected>) -> Result<&'a [u8], Rejected> {
-    let (message, rest) = found?;
+fn nothing_left<'a>((message, rest): (&'a [u8], &'a [u8])) -> Result<&'a [u8], Rejected> {
     if !rest.is_empty() {
         return Err(Rejected { error: Error::TrailingData, at: message.len() });
     }
@@ -94,16 +104,10 @@ pub fn whole<'a>(found: Result<(&'a [u8], &'a [u8]), Rejected>) -> Result<&'a [u
 }
 
 /// What a call says of bytes.
-fn split(bytes: &[u8], call: unsafe extern "C" fn(*const u8, usize) -> Outcome) -> Result<(&[u8], &[u8]), Rejected> {
+fn split(bytes: &[u8], call: Call) -> Result<(&[u8], &[u8]), Rejected> {
     // SAFETY: the pointer and the length are of one slice, nothing changes it during the call, and the call keeps no pointer.
     let outcome = unsafe { call(bytes.as_ptr(), bytes.len()) };
     split_as(bytes, outcome)
-}
-
-/// What a decoder says of bytes, without a position.
-#[cfg(feature = "check")]
-fn decode(bytes: &[u8], check: unsafe extern "C" fn(*const u8, usize) -> Outcome) -> Result<(&[u8], &[u8]), Error> {
-    split(bytes, check).map_err(|it| it.error)
 }
 
 /// The bytes as a call says that they are to be split.
@@ -117,7 +121,7 @@ fn split_as(bytes: &[u8], outcome: Outcome) -> Result<(&[u8], &[u8]), Rejected> 
 /// The bytes that a call wrote, if all of them are accepted.
 fn written_as(out: &mut [u8], size: usize, outcome: Outcome) -> Result<&[u8], Rejected> {
     let out: &[u8] = out;
-    whole(split_as(out.get(..size).unwrap_or(out), outcome))
+    nothing_left(split_as(out.get(..size).unwrap_or(out), outcome)?)
 }
 
 type Next = unsafe extern "C" fn(*const u8, usize, &mut Span, &mut Span) -> Outcome;
@@ -125,7 +129,7 @@ type Next = unsafe extern "C" fn(*const u8, usize, &mut Span, &mut Span) -> Outc
 /// The elements of a list, one after another. After one that is rejected there are no more.
 ///
 /// ```
-/// use tls_codec_border::{Error, Rejected, tls13};
+/// use tls_codec_validators::{Error, Rejected, tls13};
 ///
 /// // two extensions, of which the second one's length says more than there is
 /// let mut list = tls13::extension_elements(&[0, 10, 0, 0, 0, 43, 0, 1]);

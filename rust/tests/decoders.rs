@@ -6,29 +6,57 @@ mod common;
 use common::{bytes_of, error_of};
 use std::time::{Duration, Instant};
 use std::{env, fs};
-use tls_codec_border::{Error, Rejected, mls, mls_check, tls13, tls13_check};
+use tls_codec_validators::{Error, Rejected, mls, mls_check, tls13, tls13_check};
 
 struct Message {
     name: &'static str,
-    validate: fn(&[u8]) -> Result<(&[u8], &[u8]), Rejected>,
-    decode: fn(&[u8]) -> Result<(&[u8], &[u8]), Error>,
+    validate_prefix: fn(&[u8]) -> Result<(&[u8], &[u8]), Rejected>,
+    decode_prefix: fn(&[u8]) -> Result<(&[u8], &[u8]), Error>,
+    decode: fn(&[u8]) -> Result<(), Error>,
 }
 
 macro_rules! messages {
-    ($($validators:ident $decoders:ident: $($name:ident)*;)*) => {
+    ($($validators:ident $decoders:ident { $($name:ident: $validate:ident $decode_prefix:ident $decode:ident;)* })*) => {
         &[$($(Message {
             name: concat!(stringify!($validators), "_", stringify!($name)),
-            validate: $validators::$name,
-            decode: $decoders::$name,
+            validate_prefix: $validators::$validate,
+            decode_prefix: $decoders::$decode_prefix,
+            decode: $decoders::$decode,
         },)*)*]
     };
 }
 
 const MESSAGES: &[Message] = messages! {
-    mls mls_check: message public_message private_message framed_content sender_data welcome group_secrets group_info
-        group_context commit proposal key_package leaf_node ratchet_tree;
-    tls13 tls13_check: tls_plaintext tls_ciphertext alert handshake client_hello server_hello encrypted_extensions
-        certificate_request certificate certificate_verify new_session_ticket key_update;
+    mls mls_check {
+        message: validate_message_prefix decode_check_message_prefix decode_check_message;
+        public_message: validate_public_message_prefix decode_check_public_message_prefix decode_check_public_message;
+        private_message: validate_private_message_prefix decode_check_private_message_prefix decode_check_private_message;
+        framed_content: validate_framed_content_prefix decode_check_framed_content_prefix decode_check_framed_content;
+        sender_data: validate_sender_data_prefix decode_check_sender_data_prefix decode_check_sender_data;
+        welcome: validate_welcome_prefix decode_check_welcome_prefix decode_check_welcome;
+        group_secrets: validate_group_secrets_prefix decode_check_group_secrets_prefix decode_check_group_secrets;
+        group_info: validate_group_info_prefix decode_check_group_info_prefix decode_check_group_info;
+        group_context: validate_group_context_prefix decode_check_group_context_prefix decode_check_group_context;
+        commit: validate_commit_prefix decode_check_commit_prefix decode_check_commit;
+        proposal: validate_proposal_prefix decode_check_proposal_prefix decode_check_proposal;
+        key_package: validate_key_package_prefix decode_check_key_package_prefix decode_check_key_package;
+        leaf_node: validate_leaf_node_prefix decode_check_leaf_node_prefix decode_check_leaf_node;
+        ratchet_tree: validate_ratchet_tree_prefix decode_check_ratchet_tree_prefix decode_check_ratchet_tree;
+    }
+    tls13 tls13_check {
+        tls_plaintext: validate_tls_plaintext_prefix decode_check_tls_plaintext_prefix decode_check_tls_plaintext;
+        tls_ciphertext: validate_tls_ciphertext_prefix decode_check_tls_ciphertext_prefix decode_check_tls_ciphertext;
+        alert: validate_alert_prefix decode_check_alert_prefix decode_check_alert;
+        handshake: validate_handshake_prefix decode_check_handshake_prefix decode_check_handshake;
+        client_hello: validate_client_hello_prefix decode_check_client_hello_prefix decode_check_client_hello;
+        server_hello: validate_server_hello_prefix decode_check_server_hello_prefix decode_check_server_hello;
+        encrypted_extensions: validate_encrypted_extensions_prefix decode_check_encrypted_extensions_prefix decode_check_encrypted_extensions;
+        certificate_request: validate_certificate_request_prefix decode_check_certificate_request_prefix decode_check_certificate_request;
+        certificate: validate_certificate_prefix decode_check_certificate_prefix decode_check_certificate;
+        certificate_verify: validate_certificate_verify_prefix decode_check_certificate_verify_prefix decode_check_certificate_verify;
+        new_session_ticket: validate_new_session_ticket_prefix decode_check_new_session_ticket_prefix decode_check_new_session_ticket;
+        key_update: validate_key_update_prefix decode_check_key_update_prefix decode_check_key_update;
+    }
 };
 
 struct Row {
@@ -126,7 +154,9 @@ fn each_row_is_decoded() {
     let rows = rows();
     for row in &rows {
         let wanted = row.decoded.map(|taken| row.bytes.split_at(taken));
-        assert_eq!((row.message.decode)(&row.bytes), wanted, "{} {:02x?}", row.message.name, row.bytes);
+        assert_eq!((row.message.decode_prefix)(&row.bytes), wanted, "{} {:02x?}", row.message.name, row.bytes);
+        let all = wanted.and_then(|(_, rest)| if rest.is_empty() { Ok(()) } else { Err(Error::TrailingData) });
+        assert_eq!((row.message.decode)(&row.bytes), all, "{} {:02x?}", row.message.name, row.bytes);
     }
     assert!(MESSAGES.iter().all(|it| rows.iter().any(|row| row.message.name == it.name && row.decoded.is_ok())));
 }
@@ -139,8 +169,8 @@ fn validators_and_decoders_agree() {
     let (mut random, mut accepted, mut rejected) = (Random(0x9e37_79b9_7f4a_7c15), 0u64, 0u64);
     while Instant::now() < end {
         let (message, bytes) = input(&mut random, &rows);
-        let validated = (message.validate)(&bytes).map_err(|it| it.error);
-        assert_eq!((message.decode)(&bytes), validated, "{} {bytes:02x?}", message.name);
+        let validated = (message.validate_prefix)(&bytes).map_err(|it| it.error);
+        assert_eq!((message.decode_prefix)(&bytes), validated, "{} {bytes:02x?}", message.name);
         *if validated.is_ok() { &mut accepted } else { &mut rejected } += 1;
     }
     println!("{accepted} inputs accepted, {rejected} rejected");

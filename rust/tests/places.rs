@@ -4,7 +4,7 @@ mod common;
 
 use common::{bytes_of, error_of};
 use std::fs;
-use tls_codec_border::{Elements, Rejected, lengths, mls, tls13};
+use tls_codec_validators::{Elements, Rejected, lengths, mls, tls13};
 
 /// What is found, in order, and the rest of the bytes.
 type Found<'a> = Result<(Vec<&'a [u8]>, &'a [u8]), Rejected>;
@@ -22,11 +22,12 @@ fn elements<'a>(name: &str, content: &'a [u8]) -> Option<Elements<'a>> {
     })
 }
 
-/// Writes `fields`: the function of a name finds its message's fields. Each line has a function, and the fields of its struct in order.
+/// Writes `fields`: the function of a name finds its message's fields. Each line has C's name for the function without its module and
+/// `_locate`, the function, and the fields of its struct in order.
 macro_rules! fields {
-    ($($module:ident { $($call:ident: $($field:ident)*;)* })*) => {
+    ($($module:ident { $($name:ident $call:ident: $($field:ident)*;)* })*) => {
         fn fields<'a>(name: &str, bytes: &'a [u8]) -> Option<Found<'a>> {
-            $($(if name == concat!(stringify!($module), "_", stringify!($call)) {
+            $($(if name == concat!(stringify!($module), "_", stringify!($name), "_locate") {
                 return Some($module::$call(bytes).map(|(it, rest)| (vec![$(it.$field),*], rest)));
             })*)*
             None
@@ -36,44 +37,44 @@ macro_rules! fields {
 
 fields! {
     tls13 {
-        handshake_locate: msg_type body;
-        client_hello_locate: legacy_version random legacy_session_id cipher_suites legacy_compression_methods extensions;
-        server_hello_locate: legacy_version random legacy_session_id_echo cipher_suite legacy_compression_method extensions;
-        encrypted_extensions_locate: extensions;
-        certificate_request_locate: certificate_request_context extensions;
-        certificate_locate: certificate_request_context certificate_list;
-        certificate_verify_locate: algorithm signature;
-        new_session_ticket_locate: ticket_lifetime ticket_age_add ticket_nonce ticket extensions;
-        key_update_locate: request_update;
-        tls_plaintext_locate: kind legacy_record_version fragment;
-        tls_ciphertext_locate: opaque_type legacy_record_version encrypted_record;
-        alert_locate: level description;
+        handshake locate_handshake: msg_type body;
+        client_hello locate_client_hello: legacy_version random legacy_session_id cipher_suites legacy_compression_methods extensions;
+        server_hello locate_server_hello: legacy_version random legacy_session_id_echo cipher_suite legacy_compression_method extensions;
+        encrypted_extensions locate_encrypted_extensions: extensions;
+        certificate_request locate_certificate_request: certificate_request_context extensions;
+        certificate locate_certificate: certificate_request_context certificate_list;
+        certificate_verify locate_certificate_verify: algorithm signature;
+        new_session_ticket locate_new_session_ticket: ticket_lifetime ticket_age_add ticket_nonce ticket extensions;
+        key_update locate_key_update: request_update;
+        tls_plaintext locate_tls_plaintext: kind legacy_record_version fragment;
+        tls_ciphertext locate_tls_ciphertext: opaque_type legacy_record_version encrypted_record;
+        alert locate_alert: level description;
     }
     mls {
-        message_locate: version wire_format message;
-        public_message_locate: content auth membership_tag;
-        private_message_locate: group_id epoch content_type authenticated_data encrypted_sender_data ciphertext;
-        framed_content_locate: group_id epoch sender authenticated_data content_type content;
-        sender_data_locate: leaf_index generation reuse_guard;
-        key_package_locate: version cipher_suite init_key leaf_node extensions signature;
-        leaf_node_locate: encryption_key signature_key credential capabilities leaf_node_source origin extensions signature;
-        welcome_locate: cipher_suite secrets encrypted_group_info;
-        group_secrets_locate: joiner_secret path_secret psks;
-        group_info_locate: group_context extensions confirmation_tag signer signature;
-        group_context_locate: version cipher_suite group_id epoch tree_hash confirmed_transcript_hash extensions;
-        commit_locate: proposals path;
-        proposal_locate: proposal_type body;
+        message locate_message: version wire_format message;
+        public_message locate_public_message: content auth membership_tag;
+        private_message locate_private_message: group_id epoch content_type authenticated_data encrypted_sender_data ciphertext;
+        framed_content locate_framed_content: group_id epoch sender authenticated_data content_type content;
+        sender_data locate_sender_data: leaf_index generation reuse_guard;
+        key_package locate_key_package: version cipher_suite init_key leaf_node extensions signature;
+        leaf_node locate_leaf_node: encryption_key signature_key credential capabilities leaf_node_source origin extensions signature;
+        welcome locate_welcome: cipher_suite secrets encrypted_group_info;
+        group_secrets locate_group_secrets: joiner_secret path_secret psks;
+        group_info locate_group_info: group_context extensions confirmation_tag signer signature;
+        group_context locate_group_context: version cipher_suite group_id epoch tree_hash confirmed_transcript_hash extensions;
+        commit locate_commit: proposals path;
+        proposal locate_proposal: proposal_type body;
     }
 }
 
 /// The content after a length; nothing is filled of a variable-length integer.
 fn content<'a>(name: &str, bytes: &'a [u8]) -> Option<Found<'a>> {
     let locate = match name {
-        "tls_codec_varint_validate_prefix" => return Some(lengths::varint(bytes).map(|(_, rest)| (Vec::new(), rest))),
-        "tls_codec_opaque_v_locate" => lengths::opaque_v_locate,
-        "tls_codec_opaque_u8_locate" => lengths::opaque_u8_locate,
-        "tls_codec_opaque_u16_locate" => lengths::opaque_u16_locate,
-        "tls_codec_opaque_u24_locate" => lengths::opaque_u24_locate,
+        "tls_codec_varint_validate_prefix" => return Some(lengths::validate_varint_prefix(bytes).map(|(_, rest)| (Vec::new(), rest))),
+        "tls_codec_opaque_v_locate" => lengths::locate_opaque_v,
+        "tls_codec_opaque_u8_locate" => lengths::locate_opaque_u8,
+        "tls_codec_opaque_u16_locate" => lengths::locate_opaque_u16,
+        "tls_codec_opaque_u24_locate" => lengths::locate_opaque_u24,
         _ => return None,
     };
     Some(locate(bytes).map(|(content, rest)| (vec![content], rest)))
@@ -180,11 +181,11 @@ fn each_field_of_mls_is_found() {
 fn numbers_have_names() {
     let message = bytes_of("0001000201fa0000000000000007010001a102a2a3");
     assert_eq!(mls::message_wire_format(&message), Ok((mls::wire_format::PRIVATE_MESSAGE, &[][..])));
-    let (handshake, _) = tls13::handshake_locate(&[24, 0, 0, 1, 1]).expect("a key update");
+    let (handshake, _) = tls13::locate_handshake(&[24, 0, 0, 1, 1]).expect("a key update");
     assert_eq!(handshake.msg_type, [tls13::handshake_type::KEY_UPDATE]);
-    let (update, _) = tls13::key_update_locate(&handshake.body[3..]).expect("its body");
+    let (update, _) = tls13::locate_key_update(&handshake.body[3..]).expect("its body");
     assert_eq!(update.request_update, [tls13::key_update_request::UPDATE_REQUESTED]);
-    let (verify, _) = tls13::certificate_verify_locate(&[8, 4, 0, 1, 1]).expect("a signature");
+    let (verify, _) = tls13::locate_certificate_verify(&[8, 4, 0, 1, 1]).expect("a signature");
     assert_eq!(verify.algorithm, tls13::signature_scheme::RSA_PSS_RSAE_SHA256.to_be_bytes());
 }
 

@@ -3,41 +3,42 @@ mod common;
 
 use common::{bytes_of, error_of};
 use std::fs;
-use tls_codec_border::{Error, Rejected, mls, number, tls13, varint_value, whole};
+use tls_codec_validators::{Error, Rejected, lengths, mls, number, tls13, varint_value};
 
-type Split<'a> = Result<(&'a [u8], &'a [u8]), Rejected>;
+type Whole = fn(&[u8]) -> Result<(), Rejected>;
+type Prefix = fn(&[u8]) -> Result<(&[u8], &[u8]), Rejected>;
 
-fn split<'a>(name: &str, bytes: &'a [u8]) -> Split<'a> {
-    let call = match name {
-        "mls_message" => mls::message,
-        "mls_public_message" => mls::public_message,
-        "mls_private_message" => mls::private_message,
-        "mls_framed_content" => mls::framed_content,
-        "mls_sender_data" => mls::sender_data,
-        "mls_welcome" => mls::welcome,
-        "mls_group_secrets" => mls::group_secrets,
-        "mls_group_info" => mls::group_info,
-        "mls_group_context" => mls::group_context,
-        "mls_commit" => mls::commit,
-        "mls_proposal" => mls::proposal,
-        "mls_key_package" => mls::key_package,
-        "mls_leaf_node" => mls::leaf_node,
-        "mls_ratchet_tree" => mls::ratchet_tree,
-        "tls13_tls_plaintext" => tls13::tls_plaintext,
-        "tls13_tls_ciphertext" => tls13::tls_ciphertext,
-        "tls13_alert" => tls13::alert,
-        "tls13_handshake" => tls13::handshake,
-        "tls13_client_hello" => tls13::client_hello,
-        "tls13_server_hello" => tls13::server_hello,
-        "tls13_encrypted_extensions" => tls13::encrypted_extensions,
-        "tls13_certificate_request" => tls13::certificate_request,
-        "tls13_certificate" => tls13::certificate,
-        "tls13_certificate_verify" => tls13::certificate_verify,
-        "tls13_new_session_ticket" => tls13::new_session_ticket,
-        "tls13_key_update" => tls13::key_update,
+/// The two functions of a message: of all of the bytes, and of those that they begin with.
+fn calls(name: &str) -> (Whole, Prefix) {
+    match name {
+        "mls_message" => (mls::validate_message, mls::validate_message_prefix),
+        "mls_public_message" => (mls::validate_public_message, mls::validate_public_message_prefix),
+        "mls_private_message" => (mls::validate_private_message, mls::validate_private_message_prefix),
+        "mls_framed_content" => (mls::validate_framed_content, mls::validate_framed_content_prefix),
+        "mls_sender_data" => (mls::validate_sender_data, mls::validate_sender_data_prefix),
+        "mls_welcome" => (mls::validate_welcome, mls::validate_welcome_prefix),
+        "mls_group_secrets" => (mls::validate_group_secrets, mls::validate_group_secrets_prefix),
+        "mls_group_info" => (mls::validate_group_info, mls::validate_group_info_prefix),
+        "mls_group_context" => (mls::validate_group_context, mls::validate_group_context_prefix),
+        "mls_commit" => (mls::validate_commit, mls::validate_commit_prefix),
+        "mls_proposal" => (mls::validate_proposal, mls::validate_proposal_prefix),
+        "mls_key_package" => (mls::validate_key_package, mls::validate_key_package_prefix),
+        "mls_leaf_node" => (mls::validate_leaf_node, mls::validate_leaf_node_prefix),
+        "mls_ratchet_tree" => (mls::validate_ratchet_tree, mls::validate_ratchet_tree_prefix),
+        "tls13_tls_plaintext" => (tls13::validate_tls_plaintext, tls13::validate_tls_plaintext_prefix),
+        "tls13_tls_ciphertext" => (tls13::validate_tls_ciphertext, tls13::validate_tls_ciphertext_prefix),
+        "tls13_alert" => (tls13::validate_alert, tls13::validate_alert_prefix),
+        "tls13_handshake" => (tls13::validate_handshake, tls13::validate_handshake_prefix),
+        "tls13_client_hello" => (tls13::validate_client_hello, tls13::validate_client_hello_prefix),
+        "tls13_server_hello" => (tls13::validate_server_hello, tls13::validate_server_hello_prefix),
+        "tls13_encrypted_extensions" => (tls13::validate_encrypted_extensions, tls13::validate_encrypted_extensions_prefix),
+        "tls13_certificate_request" => (tls13::validate_certificate_request, tls13::validate_certificate_request_prefix),
+        "tls13_certificate" => (tls13::validate_certificate, tls13::validate_certificate_prefix),
+        "tls13_certificate_verify" => (tls13::validate_certificate_verify, tls13::validate_certificate_verify_prefix),
+        "tls13_new_session_ticket" => (tls13::validate_new_session_ticket, tls13::validate_new_session_ticket_prefix),
+        "tls13_key_update" => (tls13::validate_key_update, tls13::validate_key_update_prefix),
         other => panic!("no message {other}"),
-    };
-    call(bytes)
+    }
 }
 
 #[test]
@@ -60,7 +61,13 @@ fn rows_have_their_outcomes(file: &str) {
             0 => Ok(bytes.split_at(numbers[1] as usize)),
             status => Err(Rejected { error: error_of(status, numbers[3]), at: numbers[2] as usize }),
         };
-        assert_eq!(split(columns[0], &bytes), wanted, "{row}");
+        let (whole, prefix) = calls(columns[0]);
+        assert_eq!(prefix(&bytes), wanted, "{row}");
+        let all = wanted.and_then(|(message, rest)| {
+            let left = Rejected { error: Error::TrailingData, at: message.len() };
+            if rest.is_empty() { Ok(()) } else { Err(left) }
+        });
+        assert_eq!(whole(&bytes), all, "{row}");
     }
     assert!(text.lines().count() > 100);
 }
@@ -68,7 +75,7 @@ fn rows_have_their_outcomes(file: &str) {
 #[test]
 fn fields_are_slices() {
     let message = bytes_of("01fa0000000000000007010001a102a2a3ee");
-    let (found, rest) = mls::private_message_locate(&message).expect("a message");
+    let (found, rest) = mls::locate_private_message(&message).expect("a message");
     assert_eq!(found.group_id, [0xfa]);
     assert_eq!(number(found.epoch), Some(7));
     assert_eq!(found.content_type, [mls::content_type::APPLICATION]);
@@ -76,20 +83,22 @@ fn fields_are_slices() {
     assert_eq!(found.encrypted_sender_data, [0xa1]);
     assert_eq!(found.ciphertext, [0xa2, 0xa3]);
     assert_eq!(rest, [0xee]);
-    let cut = mls::private_message_locate(&message[..16]);
+    let cut = mls::locate_private_message(&message[..16]);
     assert_eq!(cut.map(|_| ()), Err(Rejected { error: Error::DecodingError, at: 14 }));
 }
 
 #[test]
 fn nothing_may_be_left() {
-    assert_eq!(whole(tls13::alert(&[1, 0])), Ok(&[1, 0][..]));
+    assert_eq!(tls13::validate_alert(&[1, 0]), Ok(()));
     let left = Rejected { error: Error::TrailingData, at: 2 };
-    assert_eq!(whole(tls13::alert(&[1, 0, 7])), Err(left));
+    assert_eq!(tls13::validate_alert(&[1, 0, 7]), Err(left));
     assert_eq!(left.to_string(), "TrailingData at byte 2");
-    let unknown = whole(tls13::key_update(&[192])).map_err(|it| it.to_string());
+    let unknown = tls13::validate_key_update(&[192]).map_err(|it| it.to_string());
     assert_eq!(unknown, Err("UnknownValue (192) at byte 0".to_string()));
     let none = Rejected { error: Error::EndOfStream, at: 0 };
-    assert_eq!(whole(mls::message(&[])), Err(none));
+    assert_eq!(mls::validate_message(&[]), Err(none));
+    assert_eq!(lengths::validate_varint(&[0x40, 0x40]), Ok(()));
+    assert_eq!(lengths::validate_varint(&[0x40, 0x40, 7]), Err(left));
 }
 
 /// The numbers of RFC 9000, appendix A.1, and the ends of the widths.
@@ -108,8 +117,8 @@ fn numbers_are_read() {
 
 #[test]
 fn calls_from_threads_agree() {
-    let wanted = tls13::alert(&[2, 42]);
-    let calls = || (0..10_000).all(|_| tls13::alert(&[2, 42]) == wanted);
+    let wanted = tls13::validate_alert_prefix(&[2, 42]);
+    let calls = || (0..10_000).all(|_| tls13::validate_alert_prefix(&[2, 42]) == wanted);
     std::thread::scope(|scope| {
         let threads: Vec<_> = (0..4).map(|_| scope.spawn(calls)).collect();
         assert!(threads.into_iter().all(|it| it.join().expect("a thread ends")));

@@ -3,7 +3,7 @@ mod common;
 
 use common::{bytes_of, error_of};
 use std::fs;
-use tls_codec_border::{Error, Rejected, mls};
+use tls_codec_validators::{Error, Rejected, mls};
 
 /// What the function returns where the row has these numbers: the status, how many bytes are taken, the place and the value.
 fn expected<'a>(numbers: &[u64], written: &'a [u8]) -> Result<&'a [u8], Rejected> {

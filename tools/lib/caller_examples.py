@@ -12,11 +12,11 @@ from lib.caller_room import COMMIT, SANITIZED, WARNINGS, Failed, Room
 from lib.page_commands import copy_of_clone, difference, script_of
 
 # The pages whose commands are run, and how many each has at least, without those of CMake.
-READMES = {"c/README.md": 6, "rust/README.md": 3, "python/README.md": 3}
+READMES = {"c/README.md": 6, "rust/README.md": 3, "python/README.md": 2}
 
 
-def border(room: Room) -> None:
-    program = room.program("examples/border.c", ["mls_c"])
+def boundary(room: Room) -> None:
+    program = room.program("examples/boundary.c", ["mls_c"])
     message = bytes.fromhex(COMMIT.read_text())
     if room.run([program], message) != message:
         raise Failed("a message isn't let through as it is")
@@ -106,6 +106,7 @@ def readmes(room: Room) -> None:
         clone, answers = folder / "tls_codec", folder / "answers"
         clone.mkdir(parents=True), answers.mkdir()
         shutil.copytree(room.archives, copy_of_clone(clone) / "c" / "out")
+        shutil.copy(room.shared_object(), clone / "c" / "out")
         script, wanted = script_of(page, Built(), clone, answers)
         subprocess.run(["timeout", "600", "bash", "-c", script], stdin=subprocess.DEVNULL, check=False)
         found = [(what, difference(answers, at, lines)) for at, (what, lines) in enumerate(wanted)]

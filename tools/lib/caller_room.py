@@ -7,6 +7,7 @@ import subprocess
 
 from lib import exported
 from lib.libraries import CRATES, TOP
+from lib.shared_object import SHARED, NotLinked, put_shared
 
 C = TOP / "c"
 PYTHON = TOP / "python"
@@ -41,7 +42,16 @@ class Room:
 
     def linked(self, crates: list[str]) -> list[object]:
         heap = [exported.HEAP] if set(crates) & set(DECODERS) else []
-        return [self.archives / it for it in [*(f"lib{it}.a" for it in crates), *heap]]
+        return [self.archives / it for it in [*map(exported.archive_of, crates), *heap]]
+
+    def shared_object(self) -> pathlib.Path:
+        """All archives in one, as `archives.py --shared` makes it."""
+        if not (self.folder / SHARED).is_file():
+            try:
+                put_shared(self.archives, self.folder)
+            except NotLinked as error:
+                raise Failed(str(error)) from error
+        return self.folder / SHARED
 
     def program(self, source: str, crates: list[str], *more: str, compiler: str = "cc", flags: list[str] = WARNINGS) -> pathlib.Path:
         """Compiles a file of c/ and links it with archives."""

@@ -10,6 +10,9 @@ from lib.libraries import TOP, Libraries
 WRITTEN = "Written by tools/exports.py"
 # The archive beside the others, for decoders: malloc and free by Rattle's names for them.
 HEAP = "libtls_codec_heap.a"
+# Archives, headers of C and modules of the Rust crate that have another name than their library: it is no main header, and a caller may use
+# the crate `tls_codec` of crates.io too.
+MODULES = {"tls_codec": "lengths"}
 EXPORT = re.compile(r'((?:^///.*\n)+)#\[unsafe\(no_mangle\)\]\npub extern "C" fn (\w+)\(([^)]*)\) -> (\w+)', re.M)
 STRUCT = re.compile(r"((?:^///.*\n)+)#\[repr\(C\)\]\n(?:#.*\n)*pub struct (\w+) \{\n((?:    .*\n)*)\}", re.M)
 FIELD = re.compile(r"((?:^    ///.*\n)+)    pub (\w+): (\w+),", re.M)
@@ -195,6 +198,17 @@ def libraries() -> list[str]:
 def decoders() -> list[str]:
     """Those that need a heap."""
     return [it for it in libraries() if it.endswith("_check_c")]
+
+
+def module_of(crate: str) -> str:
+    """What callers name a static library by: its header, and its module in Rust."""
+    name = crate.removesuffix("_c")
+    return MODULES.get(name, name)
+
+
+def archive_of(crate: str) -> str:
+    """The file of its archive."""
+    return f"libtls_codec_{module_of(crate)}.a"
 
 
 def source_of(crate: str, file: str = "lib.rt") -> str:

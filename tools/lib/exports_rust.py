@@ -1,12 +1,10 @@
 """rust/src/exports.rs: what the Rust crate declares of the static libraries, and the functions over it. exports.py writes it."""
 from __future__ import annotations
 
-from lib.exported import CALLS, MEANINGS, WRITTEN, Export, Unread, about, decoders, exports_of, libraries, numbers, structs, taken_by
+from lib.exported import CALLS, MEANINGS, WRITTEN, Export, Unread
+from lib.exported import about, archive_of, decoders, exports_of, libraries, module_of, numbers, structs, taken_by
 from lib.registries import enums_in_rust
 
-# Headers of C and modules of the Rust crate that have another name than their library: it is no main header, and a caller may use the crate
-# `tls_codec` of crates.io too.
-MODULES = {"tls_codec": "lengths"}
 SAFE = "the pointer and the length are of one slice, nothing changes it during the call, and the call keeps no pointer."
 SAFE_TO_WRITE = (
     "each pointer and its length are of one slice, nothing else changes or reads it during the call, and the call keeps no pointer."
@@ -21,6 +19,11 @@ REWORDED = {
 }
 # How many bytes an encoder writes beside its parts: of a FramedContentTBS the version and the wire format.
 BESIDE = {"mls_framed_content_tbs_encode": 4}
+
+
+def linked(crate: str) -> str:
+    """A static library's name for the linker."""
+    return archive_of(crate).removeprefix("lib").removesuffix(".a")
 
 
 def struct_in_rust(kind: str) -> list[str]:
@@ -57,7 +60,7 @@ def elements_in_rust(export: Export, name: str) -> list[str]:
 
 def located_in_rust(module: str, export: Export) -> list[str]:
     """A struct of slices, and the function that finds them."""
-    kind, name = taken_by(export), export.name.removeprefix(f"{module}_")
+    kind, name = taken_by(export), f"locate_{export.subject.removeprefix(f'{module}_')}"
     if kind == "Span":
         return content_in_rust(export, name)
     it = structs()[kind]
@@ -98,20 +101,29 @@ def encoder_in_rust(export: Export, name: str) -> list[str]:
     return [*lines, f"        written_as(out, {' + '.join(sizes)}, outcome)", "    }"]
 
 
+def asked_in_rust(export: Export, name: str, error: str, ends: tuple[str, str]) -> list[str]:
+    """The two functions of a validator or a decoder: all of the bytes, and the bytes that it begins with. `ends` are of texts and calls."""
+    said, mapped = ends
+    lines = ["", f"    /// {export.message()}: whether `bytes` are one, with nothing after it{said}."]
+    lines += [f"    pub fn {name}(bytes: &[u8]) -> Result<(), {error}> {{"]
+    lines += [f"        whole(bytes, foreign::{export.name}){mapped}", "    }", ""]
+    lines += [f"    /// {export.message()}: returns the bytes of the one that `bytes` begin with, and the rest{said}."]
+    lines += [f"    pub fn {name}_prefix(bytes: &[u8]) -> Result<(&[u8], &[u8]), {error}> {{"]
+    return [*lines, f"        split(bytes, foreign::{export.name}){mapped}", "    }"]
+
+
 def decoders_in_rust(crate: str) -> list[str]:
-    """The functions of a static library of decoders, as those of a module that a feature adds."""
+    """The functions of a static library of decoders, as those of a module that a feature adds. A decoder says no place."""
     name, exports = crate.removesuffix("_c"), exports_of(crate)
     text = about(crate).removesuffix(": `at` is 0.")
     if text == about(crate):
         raise Unread(f"{crate}: its text ends in other words")
-    body = ["", f"/// {text}.", '#[cfg(feature = "check")]', f"pub mod {name} {{", "    use crate::{Error, decode};", ""]
-    body += ["    mod foreign {", "        use crate::Outcome;", "", f'        #[link(name = "{crate}", kind = "static")]']
+    body = ["", f"/// {text}.", '#[cfg(feature = "check")]', f"pub mod {name} {{", "    use crate::{Error, split, whole};", ""]
+    body += ["    mod foreign {", "        use crate::Outcome;", "", f'        #[link(name = "{linked(crate)}", kind = "static")]']
     body += ['        unsafe extern "C" {', *[f"            {it.declaration()}" for it in exports], "        }", "    }"]
     for it in exports:
         short = it.subject.removeprefix(f"{name.removesuffix('_check')}_")
-        body += ["", f"    /// {it.message()}: returns the bytes of the one that `bytes` begin with, and the rest, by the decoder."]
-        body += [f"    pub fn {short}(bytes: &[u8]) -> Result<(&[u8], &[u8]), Error> {{"]
-        body += [f"        decode(bytes, foreign::{it.name})", "    }"]
+        body += asked_in_rust(it, f"decode_check_{short}", "Error", (", by the decoder", ".map_err(|it| it.error)"))
     return [*body, "}"]
 
 
@@ -123,26 +135,23 @@ def module_in_rust(crate: str) -> list[str]:
     taken = dict.fromkeys(taken_by(it) for it in located if taken_by(it) != "Span")
     if by_call["_decode_check"]:
         raise Unread(f"{crate}: an export of no kind that Rust has a function for")
-    used = ["Rejected", "split", *(["split_as"] if located else [])]
+    used = ["Rejected", "split", *(["split_as"] if located else []), "whole"]
     if len(taken) < len(located) and not taken:
         used.insert(1, "Span")
     if lists:
         used.insert(0, "Elements")
     if encoders:
         used.append("written_as")
-    body = ["", f"/// {about(crate)}", f"pub mod {MODULES.get(name, name)} {{", f"    use crate::{{{', '.join(used)}}};", ""]
+    body = ["", f"/// {about(crate)}", f"pub mod {module_of(crate)} {{", f"    use crate::{{{', '.join(used)}}};", ""]
     body += ["    mod foreign {"]
     body += [f"        use crate::{{Outcome{', Span' if located else ''}}};" if located else "        use crate::Outcome;", ""]
     for it in taken:
         body += [f"        {line}" for line in struct_in_rust(it)] + [""]
-    body += [f'        #[link(name = "{crate}", kind = "static")]', '        unsafe extern "C" {']
+    body += [f'        #[link(name = "{linked(crate)}", kind = "static")]', '        unsafe extern "C" {']
     body += [f"            {it.declaration()}" for it in exports]
     body += ["        }", "    }", *enums_in_rust(name)]
     for it in by_call["_validate_prefix"]:
-        short = it.subject.removeprefix(f"{name}_")
-        body += ["", f"    /// {it.message()}: returns the bytes of the one that `bytes` begin with, and the rest."]
-        body += [f"    pub fn {short}(bytes: &[u8]) -> Result<(&[u8], &[u8]), Rejected> {{"]
-        body += [f"        split(bytes, foreign::{it.name})", "    }"]
+        body += asked_in_rust(it, f"validate_{it.subject.removeprefix(f'{name}_')}", "Rejected", ("", ""))
     for it in located:
         body += located_in_rust(name, it)
     for it in by_call["_wire_format"]:

@@ -75,14 +75,14 @@ static inline uint64_t tls_codec_varint_value(const uint8_t *bytes) {
   }
 }""".split("\n")
 
-# tls_codec.h.
+# all.h.
 UMBRELLA = """\
 /* Written by tools/exports.py. Don't edit. */
-#ifndef TLS_CODEC_TLS_CODEC_H
-#define TLS_CODEC_TLS_CODEC_H
+#ifndef TLS_CODEC_ALL_H
+#define TLS_CODEC_ALL_H
 
-/* The headers of the archives that don't allocate. Link those whose calls you use: libmls_c.a,
-   libtls13_c.a, and for lengths.h libtls_codec_c.a. */
+/* The headers of the archives that don't allocate. Link those whose calls you use:
+   libtls_codec_mls.a, libtls_codec_tls13.a and libtls_codec_lengths.a. */
 
 #include "lengths.h"
 #include "mls.h"

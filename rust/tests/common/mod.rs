@@ -1,5 +1,5 @@
 //! What a row's columns stand for.
-use tls_codec_border::Error;
+use tls_codec_validators::Error;
 
 pub fn bytes_of(digits: &str) -> Vec<u8> {
     if digits == "-" {

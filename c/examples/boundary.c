@@ -1,4 +1,4 @@
-/* border: copies standard input to standard output, if it is one MLSMessage; otherwise prints why not.
+/* boundary: copies standard input to standard output, if it is one MLSMessage; otherwise prints why not.
  *
  * Put such a check before your existing parser: what comes through is the canonical encoding of a message. */
 #include <inttypes.h>
